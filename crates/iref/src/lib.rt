@@ -1,0 +1,2 @@
+//! URIs and IRIs (RFC 3986, RFC 3987).
+#![tactic(auto)]

@@ -1,0 +1,2 @@
+pub mod HostNumbers
+pub mod AuthoritySteps

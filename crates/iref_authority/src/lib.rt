@@ -1,0 +1,2 @@
+//! Authorities of URIs and IRIs (RFC 3986 section 3.2).
+#![tactic(auto)]

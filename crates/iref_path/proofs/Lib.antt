@@ -1,0 +1,13 @@
+pub mod GuardLemmas
+pub mod NormalLemmas
+pub mod StayingLemmas
+pub mod NormalPathLemmas
+pub mod BackLemmas
+pub mod ComparisonLemmas
+pub mod CountedLemmas
+pub mod FitsLemmas
+pub mod StepSegmentLemmas
+pub mod RewritingLemmas
+pub mod BothEndsLemmas
+pub mod JoinedLemmas
+pub mod SettledLemmas

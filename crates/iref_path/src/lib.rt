@@ -1,0 +1,4 @@
+//! Paths of URIs and IRIs as lists of segments (RFC 3986 section 3.3).
+#![tactic(auto)]
+
+pub mod path_laws;

@@ -1,0 +1,6 @@
+pub mod LeadingLemmas
+pub mod KeyLemmas
+pub mod RelativeLemmas
+pub mod AnswerLemmas
+pub mod ResolvedLemmas
+pub mod ReferenceStepLemmas

@@ -1,0 +1,199 @@
+-- Each step of a reference keeps it readable.
+use Rattle.std.proofs.Common.{◌≡◌, Bool, true, false, ◌&&◌, List, [], refl, sym}
+use Rattle.std.specs.Prelude.{Option, Some, None, is_some, is_none}
+use Rattle.std.specs.List.{list_all}
+use Rattle.std.specs.Str.{is_utf8, chars}
+use Rattle.std.specs.Char.{encode_utf8}
+use mathlib.Core.Bool.{true≢false}
+use Rattle.iref_text.specs.declared.common.PathContext.{PathContext}
+use Rattle.iref_text.specs.Characters.{CharTests}
+use Rattle.iref_text.specs.Rules.{Text}
+use Rattle.iref_text.specs.Grammar.{is_reg_name_char, is_user_info_char, is_path_char}
+use Rattle.iref_text.specs.Tests.{owed_after, is_scheme, is_segment, is_query, is_fragment, none_or}
+use Rattle.iref_text.specs.Authority.{AuthorityValue, has_authority_parts}
+use Rattle.iref_text.specs.PathValue.{PathValue, shows_its_list, spell_path}
+use Rattle.iref_text.specs.Contexts.{follows_authority, reads_as_path, is_no_authority, is_no_scheme}
+use Rattle.iref_path.specs.PathSteps.{lazy_pushed, popped, pushed, appended, lazy_appended, replaced, joined, normalized, cleared}
+use Rattle.iref_text.specs.Reference.{ReferenceValue, context_of, is_readable}
+use Rattle.iref_refs.specs.ComponentSteps.{guarded_reference, with_scheme, path_after_new_authority, with_authority, with_path, with_query, with_fragment, with_path_step, with_normal_path, with_new_normal_path}
+use Rattle.iref_refs.specs.Key.{key}
+use Rattle.iref_text.proofs.TextLemmas.{both, first_of_both, second_of_both}
+use Rattle.iref_path.proofs.GuardLemmas.{fits, guarded-fits}
+use Rattle.iref_path.proofs.RewritingLemmas.{path_removes_dot_segments}
+use Rattle.iref_path.specs.DotSegments.{RemovesDotSegments}
+use Rattle.iref_text.specs.Grammar.{slash}
+use Rattle.iref_text.specs.Texts.{lacks}
+use Rattle.iref_path.proofs.NormalPathLemmas.{normalized-normalized, path_key-normalized}
+use Rattle.iref_path.proofs.FitsLemmas.{lazy_pushed-fits, popped-fits, pushed-fits, appended-fits, lazy_appended-fits, replaced-fits, joined-fits, normalized-fits, cleared-fits}
+use Rattle.iref_path.proofs.StepSegmentLemmas.{TakesDots, all_in, in-cond, guarded-in, lazy_pushed-in, popped-in, pushed-in, appended-in, lazy_appended-in, joined-in, normalized-in}
+
+-- the conditions of a readable reference, one by one
+pub record HasReadableParts (set : CharTests) (r : ReferenceValue) : Type 0 where
+  pub scheme : none_or is_scheme r.scheme ≡ true
+  pub authority : none_or (has_authority_parts set) r.authority ≡ true
+  pub segments : all_in (is_segment set) r.path ≡ true
+  pub query : none_or (is_query set) r.query ≡ true
+  pub fragment : none_or (is_fragment set) r.fragment ≡ true
+  pub fits : fits (context_of r) r.path ≡ true
+
+readable_by : (a b c d e f g : Bool) → a ≡ true → b ≡ true → c ≡ true → d ≡ true → e ≡ true → (f && g) ≡ true → (a && b && c && d && e && f && g) ≡ true
+readable_by a b c d e f g i j k l m n =
+    both _ _ (both _ _ (both _ _ (both _ _ (both _ _ (both _ _ i j) k) l) m) (first_of_both f g n)) (second_of_both f g n)
+
+pub readable_from : (set : CharTests) (r : ReferenceValue) → HasReadableParts set r → is_readable set r ≡ true
+readable_from set r h = readable_by _ _ _ _ _ (follows_authority (context_of r) r.path) (reads_as_path (context_of r) r.path) h.scheme h.authority h.segments h.query h.fragment h.fits
+
+pub readable_parts : (set : CharTests) (r : ReferenceValue) → is_readable set r ≡ true → HasReadableParts set r
+readable_parts set r h =
+    let a = none_or is_scheme r.scheme in
+    let b = none_or (has_authority_parts set) r.authority in
+    let c = all_in (is_segment set) r.path in
+    let d = none_or (is_query set) r.query in
+    let e = none_or (is_fragment set) r.fragment in
+    let f = follows_authority (context_of r) r.path in
+    let g = reads_as_path (context_of r) r.path in
+    let h6 = first_of_both (a && b && c && d && e && f) g h in
+    let h5 = first_of_both (a && b && c && d && e) f h6 in
+    let h4 = first_of_both (a && b && c && d) e h5 in
+    let h3 = first_of_both (a && b && c) d h4 in
+    let h2 = first_of_both (a && b) c h3 in
+    record {
+      scheme = first_of_both a b h2;
+      authority = second_of_both a b h2;
+      segments = second_of_both (a && b) c h3;
+      query = second_of_both (a && b && c) d h4;
+      fragment = second_of_both (a && b && c && d) e h5;
+      fits = both f g (second_of_both (a && b && c && d && e) f h6) (second_of_both (a && b && c && d && e && f) g h);
+    }
+
+-- the segments `.`, `..` and the empty one are in their rule
+pub is_segment-dots : (set : CharTests) → TakesDots (is_segment set)
+unfolding is_utf8 chars encode_utf8 owed_after is_reg_name_char is_user_info_char is_path_char
+is_segment-dots set = record { empty = refl; dot = refl; parent = refl }
+
+-- ---- path steps
+
+-- a step that keeps the path readable where it stands keeps the reference readable
+pub with_path_step-readable : (set : CharTests) (step : PathContext → PathValue → PathValue) (r : ReferenceValue)
+    → (fits (context_of r) r.path ≡ true → fits (context_of r) (step (context_of r) r.path) ≡ true)
+    → (all_in (is_segment set) r.path ≡ true → all_in (is_segment set) (step (context_of r) r.path) ≡ true)
+    → is_readable set r ≡ true → is_readable set (with_path_step step r) ≡ true
+with_path_step-readable set step r keeps_fit keeps_in h =
+    let parts = readable_parts set r h in
+    readable_from set (with_path_step step r) (record {
+      scheme = parts.scheme;
+      authority = parts.authority;
+      segments = keeps_in parts.segments;
+      query = parts.query;
+      fragment = parts.fragment;
+      fits = keeps_fit parts.fits;
+    })
+
+pub lazy_pushed-readable : (set : CharTests) (s : Text) (r : ReferenceValue) → is_segment set s ≡ true → is_readable set r ≡ true → is_readable set (with_path_step (λ context. lazy_pushed context s) r) ≡ true
+lazy_pushed-readable set s r k = with_path_step-readable set (λ context. lazy_pushed context s) r (lazy_pushed-fits (context_of r) s r.path) (lazy_pushed-in (is_segment set) (is_segment-dots set) (context_of r) s r.path k)
+
+pub pushed-readable : (set : CharTests) (s : Text) (r : ReferenceValue) → is_segment set s ≡ true → is_readable set r ≡ true → is_readable set (with_path_step (λ context. pushed context s) r) ≡ true
+pushed-readable set s r k = with_path_step-readable set (λ context. pushed context s) r (pushed-fits (context_of r) s r.path) (pushed-in (is_segment set) (is_segment-dots set) (context_of r) s r.path k)
+
+pub popped-readable : (set : CharTests) (r : ReferenceValue) → is_readable set r ≡ true → is_readable set (with_path_step popped r) ≡ true
+popped-readable set r = with_path_step-readable set popped r (popped-fits (context_of r) r.path) (popped-in (is_segment set) (is_segment-dots set) (context_of r) r.path)
+
+pub appended-readable : (set : CharTests) (items : List Text) (r : ReferenceValue) → list_all (is_segment set) items ≡ true → is_readable set r ≡ true → is_readable set (with_path_step (λ context. appended context items) r) ≡ true
+appended-readable set items r k = with_path_step-readable set (λ context. appended context items) r (appended-fits (context_of r) items r.path) (appended-in (is_segment set) (is_segment-dots set) (context_of r) items r.path k)
+
+pub lazy_appended-readable : (set : CharTests) (items : List Text) (r : ReferenceValue) → list_all (is_segment set) items ≡ true → is_readable set r ≡ true → is_readable set (with_path_step (λ context. lazy_appended context items) r) ≡ true
+lazy_appended-readable set items r k = with_path_step-readable set (λ context. lazy_appended context items) r (lazy_appended-fits (context_of r) items r.path) (lazy_appended-in (is_segment set) (is_segment-dots set) (context_of r) items r.path k)
+
+pub joined-readable : (set : CharTests) (new : PathValue) (r : ReferenceValue) → all_in (is_segment set) new ≡ true → is_readable set r ≡ true → is_readable set (with_path_step (λ context. joined context new) r) ≡ true
+joined-readable set new r k = with_path_step-readable set (λ context. joined context new) r (joined-fits (context_of r) new r.path) (joined-in (is_segment set) (is_segment-dots set) (context_of r) new r.path k)
+
+pub replaced-readable : (set : CharTests) (new : PathValue) (r : ReferenceValue) → all_in (is_segment set) new ≡ true → is_readable set r ≡ true → is_readable set (with_path_step (λ context. replaced context new) r) ≡ true
+replaced-readable set new r k = with_path_step-readable set (λ context. replaced context new) r (λ h. replaced-fits (context_of r) new r.path) (λ h. guarded-in (is_segment set) (is_segment-dots set) (context_of r) new k)
+
+pub normalized-readable : (set : CharTests) (r : ReferenceValue) → is_readable set r ≡ true → is_readable set (with_path_step normalized r) ≡ true
+normalized-readable set r = with_path_step-readable set normalized r (λ h. normalized-fits (context_of r) r.path) (normalized-in (is_segment set) (is_segment-dots set) (context_of r) r.path)
+
+pub cleared-readable : (set : CharTests) (r : ReferenceValue) → is_readable set r ≡ true → is_readable set (with_path_step (λ context. cleared) r) ≡ true
+cleared-readable set r = with_path_step-readable set (λ context. cleared) r (λ h. cleared-fits (context_of r) r.path) (λ h. refl)
+
+-- ---- component steps
+
+-- a guard makes any reference of components in their rules readable
+pub guarded_reference-readable : (set : CharTests) (r : ReferenceValue) → none_or is_scheme r.scheme ≡ true → none_or (has_authority_parts set) r.authority ≡ true → all_in (is_segment set) r.path ≡ true → none_or (is_query set) r.query ≡ true → none_or (is_fragment set) r.fragment ≡ true
+    → is_readable set (guarded_reference r) ≡ true
+guarded_reference-readable set r scheme authority segments query fragment =
+    readable_from set (guarded_reference r) (record {
+      scheme = scheme;
+      authority = authority;
+      segments = guarded-in (is_segment set) (is_segment-dots set) (context_of r) r.path segments;
+      query = query;
+      fragment = fragment;
+      fits = guarded-fits (context_of r) r.path;
+    })
+
+-- what fits anywhere fits after a scheme
+fits-after_scheme : (follows shown no_authority no_scheme : Bool) → (follows && (shown && no_authority && no_scheme)) ≡ true → (follows && (shown && no_authority && true)) ≡ true
+fits-after_scheme follows shown no_authority true h = h
+fits-after_scheme true true true false h = absurd (true≢false (sym h))
+fits-after_scheme true true false false h = absurd (true≢false (sym h))
+fits-after_scheme true false no_authority false h = absurd (true≢false (sym h))
+fits-after_scheme false shown no_authority false h = absurd (true≢false (sym h))
+
+pub with_scheme-readable : (set : CharTests) (scheme : Option Text) (r : ReferenceValue) → none_or is_scheme scheme ≡ true → is_readable set r ≡ true → is_readable set (with_scheme scheme r) ≡ true
+with_scheme-readable set None r k h =
+    let parts = readable_parts set r h in
+    guarded_reference-readable set (record r { scheme = None }) refl parts.authority parts.segments parts.query parts.fragment
+with_scheme-readable set (Some s) r k h =
+    let parts = readable_parts set r h in
+    readable_from set (record r { scheme = Some s }) (record {
+      scheme = k;
+      authority = parts.authority;
+      segments = parts.segments;
+      query = parts.query;
+      fragment = parts.fragment;
+      fits = fits-after_scheme (follows_authority (context_of r) r.path) (shows_its_list r.path) (is_no_authority (context_of r) r.path) (is_no_scheme (context_of r) r.path) parts.fits;
+    })
+
+pub with_authority-readable : (set : CharTests) (authority : Option AuthorityValue) (r : ReferenceValue) → none_or (has_authority_parts set) authority ≡ true → is_readable set r ≡ true → is_readable set (with_authority authority r) ≡ true
+with_authority-readable set authority r k h =
+    let parts = readable_parts set r h in
+    guarded_reference-readable set (record r { authority = authority; path = path_after_new_authority authority r }) parts.scheme k
+    (in-cond (is_segment set) (is_some authority) _ _ (in-cond (is_segment set) (is_none r.authority) _ _ parts.segments parts.segments) parts.segments)
+    parts.query parts.fragment
+
+pub with_path-readable : (set : CharTests) (p : PathValue) (r : ReferenceValue) → all_in (is_segment set) p ≡ true → is_readable set r ≡ true → is_readable set (with_path p r) ≡ true
+with_path-readable set p r k h =
+    let parts = readable_parts set r h in
+    guarded_reference-readable set (record r { path = p }) parts.scheme parts.authority k parts.query parts.fragment
+
+pub with_query-readable : (set : CharTests) (query : Option Text) (r : ReferenceValue) → none_or (is_query set) query ≡ true → is_readable set r ≡ true → is_readable set (with_query query r) ≡ true
+with_query-readable set query r k h =
+    let parts = readable_parts set r h in
+    readable_from set (with_query query r) (record { scheme = parts.scheme; authority = parts.authority; segments = parts.segments; query = k; fragment = parts.fragment; fits = parts.fits })
+
+pub with_fragment-readable : (set : CharTests) (fragment : Option Text) (r : ReferenceValue) → none_or (is_fragment set) fragment ≡ true → is_readable set r ≡ true → is_readable set (with_fragment fragment r) ≡ true
+with_fragment-readable set fragment r k h =
+    let parts = readable_parts set r h in
+    readable_from set (with_fragment fragment r) (record { scheme = parts.scheme; authority = parts.authority; segments = parts.segments; query = parts.query; fragment = k; fits = parts.fits })
+
+pub with_normal_path-readable : (set : CharTests) (r : ReferenceValue) → is_readable set r ≡ true → is_readable set (with_normal_path r) ≡ true
+with_normal_path-readable set r h = normalized-readable set r h
+
+pub with_new_normal_path-readable : (set : CharTests) (p : PathValue) (r : ReferenceValue) → all_in (is_segment set) p ≡ true → is_readable set r ≡ true → is_readable set (with_new_normal_path p r) ≡ true
+with_new_normal_path-readable set p r k h = with_normal_path-readable set (with_path p r) (with_path-readable set p r k h)
+
+-- ---- normalising a reference
+
+pub with_normal_path-again : (set : CharTests) (r : ReferenceValue) → is_readable set r ≡ true → with_normal_path (with_normal_path r) ≡ with_normal_path r
+with_normal_path-again set r h =
+    let fits = (readable_parts set r h).fits in
+    λ i. record r { path = normalized-normalized (context_of r) r.path (first_of_both (follows_authority (context_of r) r.path) (reads_as_path (context_of r) r.path) fits) i }
+
+pub key-with_normal_path : (set : CharTests) (r : ReferenceValue) → is_readable set r ≡ true → key (with_normal_path r) ≡ key r
+key-with_normal_path set r h =
+    let fits = (readable_parts set r h).fits in
+    λ i. record (key r) { path = path_key-normalized (context_of r) r.path (first_of_both (follows_authority (context_of r) r.path) (reads_as_path (context_of r) r.path) fits) i }
+
+-- normalising an absolute path under an authority leaves what the rewriting leaves of its text
+pub with_normal_path-removes : (r : ReferenceValue) → is_some r.authority ≡ true → r.path.absolute ≡ true → list_all (lacks slash) r.path.segments ≡ true → RemovesDotSegments (spell_path r.path) [] (spell_path (with_normal_path r).path)
+with_normal_path-removes r = path_removes_dot_segments (context_of r) r.path

@@ -1,0 +1,47 @@
+-- What references are compared by (RFC 3986 section 6.2.2).
+use Rattle.std.specs.Prelude.{◌≡◌, Bool, map, option_map}
+use Rattle.std.specs.Option.{option_cmp}
+use Rattle.std.specs.Str.{str_to_ascii_lowercase}
+use Rattle.std.specs.declared.cmp.Ordering.{Ordering}
+use Rattle.std.specs.Ordering.{nat_cmp, bool_cmp, ordering_then, is_eq}
+use Rattle.std.specs.Cmp.Lexicographic.{slice_cmp}
+use Rattle.percent_encoding.specs.Percent.{percent_decode}
+use Rattle.iref_text.specs.Rules.{Text}
+use Rattle.iref_text.specs.Authority.{AuthorityValue}
+use Rattle.iref_text.specs.PathValue.{PathValue}
+use Rattle.iref_path.specs.PathKey.{text_cmp, path_key, path_key_cmp}
+use Rattle.iref_text.specs.Reference.{ReferenceValue}
+
+-- user info and host stand as decoded bytes, the port as text
+abbrev pub authority_key : AuthorityValue → AuthorityValue
+authority_key a = record { user_info = option_map percent_decode a.user_info; host = percent_decode a.host; port = a.port }
+
+-- scheme in lower case, normal path; user info, host, segments, query and fragment as decoded bytes
+abbrev pub key : ReferenceValue → ReferenceValue
+key r =
+    record {
+      scheme = option_map str_to_ascii_lowercase r.scheme;
+      authority = option_map authority_key r.authority;
+      path = path_key r.path;
+      query = option_map percent_decode r.query;
+      fragment = option_map percent_decode r.fragment;
+    }
+
+-- the order of keys, component by component
+abbrev pub authority_key_cmp : AuthorityValue → AuthorityValue → Ordering
+authority_key_cmp a b =
+    ordering_then (option_cmp text_cmp a.user_info b.user_info) (ordering_then (text_cmp a.host b.host) (option_cmp text_cmp a.port b.port))
+
+abbrev pub key_cmp : ReferenceValue → ReferenceValue → Ordering
+key_cmp r s =
+    ordering_then (option_cmp text_cmp r.scheme s.scheme)
+    (ordering_then (option_cmp authority_key_cmp r.authority s.authority)
+    (ordering_then (path_key_cmp r.path s.path)
+    (ordering_then (option_cmp text_cmp r.query s.query) (option_cmp text_cmp r.fragment s.fragment))))
+
+-- `==`, as a fact and as a test
+abbrev pub AreAlike : ReferenceValue → ReferenceValue → Type 0
+AreAlike r s = key r ≡ key s
+
+abbrev pub are_alike : ReferenceValue → ReferenceValue → Bool
+are_alike r s = is_eq (key_cmp (key r) (key s))

@@ -1,0 +1,6 @@
+pub mod ComponentSteps
+pub mod Resolution
+pub mod Key
+pub mod Relative
+pub mod RelativeLaws
+pub mod ReferenceSuffix

@@ -1,0 +1,38 @@
+-- Resolution against a base, strict (RFC 3986 sections 5.2.2 and 5.2.3).
+use Rattle.std.specs.Prelude.{Bool, true, not, ◌&&◌, ◌++◌, is_some, if◌then◌else◌}
+use Rattle.std.specs.Option.{option_or}
+use Rattle.iref_text.specs.Texts.{is_empty, all_but_last}
+use Rattle.iref_text.specs.PathValue.{PathValue}
+use Rattle.iref_path.specs.NormalList.{normal}
+use Rattle.iref_text.specs.Reference.{ReferenceValue}
+use Rattle.iref_refs.specs.ComponentSteps.{guarded_reference}
+
+-- section 5.2.3: the base's path without its last segment, then the reference's
+abbrev pub merged : ReferenceValue → PathValue → PathValue
+merged base p =
+    if is_some base.authority && is_empty base.path.segments
+    then record { absolute = true; segments = p.segments }
+    else record { absolute = base.path.absolute; segments = all_but_last base.path.segments ++ p.segments }
+
+-- the path has no bytes
+abbrev pub is_no_path : PathValue → Bool
+is_no_path p = not p.absolute && is_empty p.segments
+
+-- the base's path as it stands, or the merged or own path made normal
+abbrev pub target_path : ReferenceValue → PathValue → PathValue
+target_path base p = if is_no_path p then base.path else normal (if p.absolute then p else merged base p)
+
+-- section 5.2.2, before the guard
+abbrev pub target : ReferenceValue → ReferenceValue → ReferenceValue
+target base r =
+    if is_some r.scheme then record r { path = normal r.path }
+    else (if is_some r.authority then record r { scheme = base.scheme; path = normal r.path }
+    else record r {
+      scheme = base.scheme;
+      authority = base.authority;
+      path = target_path base r.path;
+      query = if is_no_path r.path then option_or r.query base.query else r.query;
+    })
+
+abbrev pub resolved : ReferenceValue → ReferenceValue → ReferenceValue
+resolved base r = guarded_reference (target base r)

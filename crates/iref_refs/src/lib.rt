@@ -1,0 +1,7 @@
+//! References of URIs and IRIs (RFC 3986 sections 4 and 5).
+#![tactic(auto)]
+
+pub mod key_laws;
+pub mod relative_laws;
+pub mod resolution_laws;
+pub mod step_laws;

@@ -1,0 +1,26 @@
+//! Laws of authorities: each is the contract of a function that does nothing.
+#![tactic(auto)]
+
+ghost use Rattle.std.specs.Prelude.{◌≡◌};
+ghost use Rattle.std.specs.Bool.{Decides};
+ghost use Rattle.iref_text.specs.Rules.{Text, InUtf8};
+ghost use Rattle.iref_text.specs.Grammar.{IsAuthority};
+ghost use Rattle.iref_text.specs.Authority.{AuthorityValue, HasAuthorityParts, has_authority_parts, spell_authority, read_authority, is_authority};
+ghost use Rattle.iref_text.specs.Reference.{spell};
+
+use crate::chars::CharSet;
+
+/// The test of authorities decides their rule.
+pub fn authority_grammar<S: CharSet>()
+    ensures { (bytes : Text) → Decides (is_authority S.tests bytes) (InUtf8 (IsAuthority S.tests) bytes) }
+{}
+
+/// The test of an authority's parts decides that each is in its rule.
+pub fn authority_parts_tested<S: CharSet>()
+    ensures { (a : AuthorityValue) → Decides (has_authority_parts S.tests a) (HasAuthorityParts S.tests a) }
+{}
+
+/// The parts that spell a text are those that are read from it, so no text has two divisions.
+pub fn authority_read_back<S: CharSet>()
+    ensures { (a : AuthorityValue) → HasAuthorityParts S.tests a → read_authority (spell_authority a) ≡ a }
+{}

@@ -1,0 +1,9 @@
+//! The texts of URIs and IRIs (RFC 3986, RFC 3987): characters, grammar and the reading of references.
+#![tactic(auto)]
+
+pub mod authority_laws;
+pub mod chars;
+pub mod common;
+pub mod path_laws;
+pub mod reference_laws;
+pub mod text_laws;

@@ -1,0 +1,38 @@
+//! Laws of paths: each is the contract of a function that does nothing.
+#![tactic(auto)]
+
+ghost use Rattle.std.specs.Prelude.{◌≡◌, ◌↔◌, Bool, true, false};
+ghost use Rattle.std.specs.List.{list_all};
+ghost use Rattle.std.specs.Bool.{Decides};
+ghost use Rattle.iref_text.specs.Rules.{Text, ◌or◌, Empty, InUtf8};
+ghost use Rattle.iref_text.specs.Grammar.{IsAbEmptyPath, IsAbsolutePath, IsRootlessPath, IsNoSchemePath};
+ghost use Rattle.iref_text.specs.Tests.{is_segment, is_path};
+ghost use Rattle.iref_text.specs.PathValue.{PathValue, IsReadAs, read_path};
+ghost use Rattle.iref_text.specs.Contexts.{is_path_in, alone};
+
+use crate::chars::CharSet;
+
+/// It is a test of the segments that are read.
+pub fn path_segments_tested<S: CharSet>()
+    ensures { (bytes : Text) → is_path S.tests bytes ≡ list_all (is_segment S.tests) (read_path bytes).segments }
+{}
+
+/// What a text is read as: the path that is computed.
+pub fn path_reading()
+    ensures { (text : Text) (p : PathValue) → IsReadAs text p ↔ (read_path text ≡ p) }
+{}
+
+/// A path that may follow an authority is one of the rule `path-abempty`.
+pub fn path_after_authority_grammar<S: CharSet>()
+    ensures { (has_scheme : Bool) (bytes : Text) → Decides (is_path_in S.tests (record { has_scheme = has_scheme; has_authority = true }) bytes) (InUtf8 (IsAbEmptyPath S.tests) bytes) }
+{}
+
+/// A path that may follow a scheme is one of the rules `path-absolute`, `path-rootless` and `path-empty`.
+pub fn path_after_scheme_grammar<S: CharSet>()
+    ensures { (bytes : Text) → Decides (is_path_in S.tests (record { has_scheme = true; has_authority = false }) bytes) (InUtf8 (IsAbsolutePath S.tests or IsRootlessPath S.tests or Empty) bytes) }
+{}
+
+/// A path that may stand alone is one of the rules `path-absolute`, `path-noscheme` and `path-empty`.
+pub fn path_alone_grammar<S: CharSet>()
+    ensures { (bytes : Text) → Decides (is_path_in S.tests alone bytes) (InUtf8 (IsAbsolutePath S.tests or IsNoSchemePath S.tests or Empty) bytes) }
+{}

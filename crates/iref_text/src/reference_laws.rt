@@ -1,0 +1,56 @@
+//! Laws of references: each is the contract of a function that does nothing.
+#![tactic(auto)]
+
+ghost use Rattle.std.specs.Prelude.{◌≡◌, ◌↔◌, IsTrue};
+ghost use Rattle.std.specs.Bool.{Decides};
+ghost use Rattle.iref_text.specs.Characters.{uri_chars};
+ghost use Rattle.iref_text.specs.Rules.{Text, InUtf8};
+ghost use Rattle.iref_text.specs.Grammar.{IsUri, IsUriReference};
+ghost use Rattle.iref_text.specs.Reference.{ReferenceValue, IsReadable, IsReadAsReference, is_readable, spell, read_reference, is_reference, is_full_reference};
+
+use crate::chars::CharSet;
+
+/// The test of references with a scheme decides the rule `URI`.
+pub fn uri_grammar<S: CharSet>()
+    ensures { (bytes : Text) → Decides (is_full_reference S.tests bytes) (InUtf8 (IsUri S.tests) bytes) }
+{}
+
+/// The test of references decides the rule `URI-reference`.
+pub fn reference_grammar<S: CharSet>()
+    ensures { (bytes : Text) → Decides (is_reference S.tests bytes) (InUtf8 (IsUriReference S.tests) bytes) }
+{}
+
+/// The test of readable references decides what it is to be readable.
+pub fn readable_tested<S: CharSet>()
+    ensures { (r : ReferenceValue) → Decides (is_readable S.tests r) (IsReadable S.tests r) }
+{}
+
+/// The reference that spells a text is the one that is read from it.
+pub fn reference_read_back<S: CharSet>()
+    ensures { (r : ReferenceValue) → IsReadable S.tests r → read_reference (spell r) ≡ r }
+{}
+
+/// No two readable references spell one text.
+pub fn one_reference_a_text<S: CharSet>()
+    ensures { (q r : ReferenceValue) → IsReadable S.tests q → IsReadable S.tests r → spell q ≡ spell r → q ≡ r }
+{}
+
+/// What a text is read as: the reference that is computed, where the text is in the grammar.
+pub fn reference_reading<S: CharSet>()
+    ensures { (text : Text) (r : ReferenceValue) → IsReadAsReference S.tests text r ↔ (IsTrue (is_reference S.tests text) × (read_reference text ≡ r)) }
+{}
+
+/// A text is in the grammar exactly if a readable reference spells it.
+pub fn references_spelled<S: CharSet>()
+    ensures { (bytes : Text) → InUtf8 (IsUriReference S.tests) bytes ↔ ((r : ReferenceValue) × IsReadable S.tests r × (spell r ≡ bytes)) }
+{}
+
+/// What is readable as a URI is so in each grammar, by the same components.
+pub fn uri_readable<S: CharSet>()
+    ensures { (r : ReferenceValue) → IsReadable uri_chars r → IsReadable S.tests r }
+{}
+
+/// A URI reference is in each grammar.
+pub fn uri_reference_in_each_grammar<S: CharSet>()
+    ensures { (bytes : Text) → IsTrue (is_reference uri_chars bytes) → IsTrue (is_reference S.tests bytes) }
+{}
