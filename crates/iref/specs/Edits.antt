@@ -32,7 +32,7 @@ abbrev pub with_authority_part : (AuthorityValue → AuthorityValue) → Referen
 with_authority_part step r = option_map (λ a. record r { authority = Some (step a) }) r.authority
 
 -- the reference after the edit; nothing where an authority is wanted
-abbrev pub edited : EditStep → ReferenceValue → Option ReferenceValue
+unfoldable pub edited : EditStep → ReferenceValue → Option ReferenceValue
 edited (SetScheme scheme) r = Some (with_scheme scheme r)
 edited (SetAuthority authority) r = Some (with_authority (option_map read_authority authority) r)
 edited (ReplaceAuthority authority) r = with_authority_part (λ a. read_authority authority) r
@@ -55,6 +55,6 @@ abbrev pub next_edit : (ReferenceValue → Result ReferenceValue (ℕ × Referen
 next_edit others r i None = Err (i, r)
 next_edit others r i (Some after) = others after
 
-abbrev pub edited_all : ℕ → List EditStep → ReferenceValue → Result ReferenceValue (ℕ × ReferenceValue)
+unfoldable pub edited_all : ℕ → List EditStep → ReferenceValue → Result ReferenceValue (ℕ × ReferenceValue)
 edited_all i [] r = Ok r
 edited_all i (e ∷ es) r = next_edit (edited_all (i + 1) es) r i (edited e r)

@@ -84,7 +84,7 @@ abbrev pub read_fields : List Text → Option Request
 read_fields [] = None
 read_fields (verb ∷ fields) = option_and_then (λ v. v.1 fields) (find (λ v. bytes_eq v.0 verb) verbs)
 
-abbrev pub read_line : Text → Option Request
+unfoldable pub read_line : Text → Option Request
 read_line line = read_fields (pieces_at tab line)
 
 -- each text of the request is in its grammar
@@ -106,7 +106,7 @@ is_valid_edit Pop = true
 is_valid_edit Clear = true
 is_valid_edit Normalize = true
 
-abbrev pub is_valid : Request → Bool
+unfoldable pub is_valid : Request → Bool
 is_valid (Parts r) = is_reference uri_chars r
 is_valid (Resolve r base) = is_reference uri_chars r && is_full_reference uri_chars base
 is_valid (Relative target base) = is_reference uri_chars target && is_reference uri_chars base
@@ -129,7 +129,7 @@ abbrev pub edits_answer : Result ReferenceValue (ℕ × ReferenceValue) → Line
 edits_answer (Ok r) = Answered (spell r)
 edits_answer (Err refused) = RefusedEdit
 
-abbrev pub answer_to : Request → LineAnswer
+unfoldable pub answer_to : Request → LineAnswer
 answer_to (Parts r) = Answered (part_fields (read_reference r))
 answer_to (Resolve r base) = Answered (spell (resolved (read_reference base) (read_reference r)))
 answer_to (Relative target base) = Answered (spell (relative_to (read_reference target) (read_reference base)))
@@ -141,7 +141,7 @@ answer_to (Edit r edits) = edits_answer (edited_all 0 edits (read_reference r))
 abbrev pub answer_if_valid : Request → LineAnswer
 answer_if_valid request = elim (is_valid request) [ true ↦ answer_to request | false ↦ InvalidText ]
 
-abbrev pub answer : Text → LineAnswer
+unfoldable pub answer : Text → LineAnswer
 answer line = elim (read_line line) [ None ↦ BadCommand | Some request ↦ answer_if_valid request ]
 
 abbrev pub answer_text : LineAnswer → Text
@@ -160,5 +160,5 @@ abbrev pub lines_of : Text → List Text
 lines_of input = without_empty_last (pieces_at newline input)
 
 -- what the program writes for what it reads
-abbrev pub output : Text → Text
+unfoldable pub output : Text → Text
 output input = flat_map (λ line. answer_text (answer line) ++ newline ∷ []) (lines_of input)

@@ -105,6 +105,7 @@ lone-reverse (s ∷ t ∷ list) =
 
 -- the items of a path, read from the back, are its normal list
 pub all_items_read-is : (absolute : Bool) (back : List Text) → without_lone_empty (map item_of (all_items_read absolute back)) ≡ reverse (normal_segments (record { absolute = absolute; segments = reverse back }))
+unfolding normal_segments Rattle.iref_path.specs.NormalList.excess Rattle.iref_path.specs.NormalList.staying_names
 all_items_read-is true [] = refl
 all_items_read-is false [] = refl
 all_items_read-is absolute (s ∷ before) =

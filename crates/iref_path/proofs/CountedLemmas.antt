@@ -60,6 +60,7 @@ seen_back segments seen left other e h =
     )
 
 found : (p q : PathValue) (left right : List Text) → AreToldApart (read_items p.absolute) (read_items q.absolute) (reverse p.segments) (reverse q.segments) left right → AreFoundApart p q (length p.segments - length left + (length q.segments - length right))
+unfolding path_key normal_segments
 found p q left right told =
     let p_size : length p.segments ≡ length told.seen_left + length left = sym (length-reverse p.segments) ∙ ap length told.split_left ∙ length-append told.seen_left left in
     let q_size : length q.segments ≡ length told.seen_right + length right = sym (length-reverse q.segments) ∙ ap length told.split_right ∙ length-append told.seen_right right in
@@ -81,6 +82,7 @@ found p q left right told =
 -- paths with the same flag
 pub compared_same : (p q : PathValue) → p.absolute ≡ q.absolute → (c : Comparison) → c ≡ items_compared (all_items_read p.absolute (reverse p.segments)) (all_items_read q.absolute (reverse q.segments))
     → IsCountedAnswer p q c.equal (length p.segments - length c.left + (length q.segments - length c.right))
+unfolding path_key
 compared_same p q flags c e = by c.equal refl
   where
     by : (equal : Bool) → c.equal ≡ equal → IsCountedAnswer p q equal (length p.segments - length c.left + (length q.segments - length c.right))
@@ -108,6 +110,7 @@ comparison p q same =
 
 -- the comparison gives the answer that is promised
 pub counted_answer : (p q : PathValue) → IsCountedAnswer p q (paths_compared p q).equal (segments_read p q)
+unfolding path_key
 counted_answer p q = by (beq p.absolute q.absolute) refl
   where
     by : (b : Bool) → beq p.absolute q.absolute ≡ b

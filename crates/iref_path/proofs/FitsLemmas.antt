@@ -76,6 +76,7 @@ fits-nil context absolute = by context.has_scheme context.has_authority absolute
 
 -- the same first segment, and other segments after it
 fits-rest : (context : PathContext) (absolute : Bool) (s : Text) (rest other : List Text) → fits context (record { absolute = absolute; segments = s ∷ rest }) ≡ true → fits context (guarded_list (record { absolute = absolute; segments = s ∷ other })) ≡ true
+unfolding guarded_list
 fits-rest context absolute s rest other h = by (shows_its_list (record { absolute = absolute; segments = s ∷ other })) refl
   where
     by : (shown : Bool) → shows_its_list (record { absolute = absolute; segments = s ∷ other }) ≡ shown → fits context (cond shown (record { absolute = absolute; segments = s ∷ other }) (with_dot (record { absolute = absolute; segments = s ∷ other }))) ≡ true
@@ -89,6 +90,7 @@ fits-cond context false p q h k = k
 -- ---- the steps
 
 lazy_pushed_on : (context : PathContext) (s : Text) (absolute : Bool) (segments : List Text) → let p : PathValue = record { absolute = absolute; segments = segments } in fits context p ≡ true → fits context (lazy_pushed context s p) ≡ true
+unfolding lazy_pushed Rattle.iref_path.specs.Guard.guarded
 lazy_pushed_on context s absolute [] h = guarded-fits context (record { absolute = absolute || context.has_authority; segments = s ∷ [] })
 lazy_pushed_on context s absolute (t ∷ ts) h = fits-snoc context absolute t ts s h
 
@@ -96,6 +98,7 @@ pub lazy_pushed-fits : (context : PathContext) (s : Text) (p : PathValue) → fi
 lazy_pushed-fits context s p h = lazy_pushed_on context s p.absolute p.segments h
 
 shortened_on : (context : PathContext) (absolute : Bool) (segments : List Text) → let p : PathValue = record { absolute = absolute; segments = segments } in fits context p ≡ true → fits context (guarded_list (record { absolute = absolute; segments = all_but_last segments })) ≡ true
+unfolding guarded_list
 shortened_on context true [] h = h
 shortened_on context false [] h = h
 shortened_on context true (s ∷ []) h = fits-nil context true
@@ -106,6 +109,7 @@ pub shortened-fits : (context : PathContext) (p : PathValue) → fits context p 
 shortened-fits context p h = shortened_on context p.absolute p.segments h
 
 pub popped-fits : (context : PathContext) (p : PathValue) → fits context p ≡ true → fits context (popped context p) ≡ true
+unfolding popped
 popped-fits context p h =
     fits-cond context (ends_in_parent p.segments || is_empty p.segments && not p.absolute) _ _ (lazy_pushed-fits context (codes "..") p h)
     (fits-cond context (is_empty p.segments) _ _ h (shortened-fits context p h))
@@ -118,6 +122,7 @@ followed-fits context p s h =
     fits-cond context (is_dot s) _ _ h (fits-cond context (is_dot_dot s) _ _ (popped-fits context p h) (lazy_pushed-fits context s p h))
 
 pub pushed-fits : (context : PathContext) (s : Text) (p : PathValue) → fits context p ≡ true → fits context (pushed context s p) ≡ true
+unfolding pushed
 pushed-fits context s p h =
     fits-cond context (is_name s) _ _ (lazy_pushed-fits context s p h) (closed_path-fits context (followed context p s) (followed-fits context p s h))
 
@@ -126,11 +131,13 @@ all_followed-fits context [] p h = h
 all_followed-fits context (s ∷ items) p h = all_followed-fits context items (followed context p s) (followed-fits context p s h)
 
 pub appended-fits : (context : PathContext) (items : List Text) (p : PathValue) → fits context p ≡ true → fits context (appended context items p) ≡ true
+unfolding appended
 appended-fits context items p h =
     let all = all_followed-fits context items p h in
     fits-cond context (ends_in_dots items) _ _ (closed_path-fits context (fold (followed context) p items) all) all
 
 pub lazy_appended-fits : (context : PathContext) (items : List Text) (p : PathValue) → fits context p ≡ true → fits context (lazy_appended context items p) ≡ true
+unfolding lazy_appended
 lazy_appended-fits context [] p h = h
 lazy_appended-fits context (s ∷ items) p h = lazy_appended-fits context items (lazy_pushed context s p) (lazy_pushed-fits context s p h)
 
@@ -138,6 +145,7 @@ pub replaced-fits : (context : PathContext) (new p : PathValue) → fits context
 replaced-fits context new p = guarded-fits context new
 
 pub joined-fits : (context : PathContext) (new p : PathValue) → fits context p ≡ true → fits context (joined context new p) ≡ true
+unfolding joined
 joined-fits context new p h = fits-cond context new.absolute _ _ (replaced-fits context new p) (appended-fits context new.segments p h)
 
 pub normalized-fits : (context : PathContext) (p : PathValue) → fits context (normalized context p) ≡ true

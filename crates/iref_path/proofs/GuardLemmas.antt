@@ -13,6 +13,7 @@ abbrev pub fits : PathContext → PathValue → Bool
 fits context p = follows_authority context p && reads_as_path context p
 
 at : (has_scheme has_authority absolute : Bool) (segments : List Text) → let context : PathContext = record { has_scheme = has_scheme; has_authority = has_authority } in let p : PathValue = record { absolute = absolute; segments = segments } in fits context (guarded context p) ≡ true
+unfolding guarded
 at true true true [] = refl
 at true true true ([] ∷ []) = refl
 at true true true ([] ∷ t ∷ ss) = refl
@@ -54,6 +55,7 @@ pub guarded-fits : (context : PathContext) (p : PathValue) → fits context (gua
 guarded-fits context p = at context.has_scheme context.has_authority p.absolute p.segments
 
 shown_at : (absolute : Bool) (segments : List Text) → shows_its_list (guarded_list (record { absolute = absolute; segments = segments })) ≡ true
+unfolding guarded_list
 shown_at true [] = refl
 shown_at true ([] ∷ []) = refl
 shown_at true ([] ∷ t ∷ ss) = refl

@@ -19,6 +19,7 @@ abbrev names_with : Bool → ℕ → Text → List Text → List Text
 names_with name n s names = cond (name && (n == 0)) (s ∷ names) names
 
 pub staying-cons : (s : Text) (rest : List Text) → staying_names (s ∷ rest) ≡ names_with (is_name s) (open_parents rest) s (staying_names rest)
+unfolding staying_names
 staying-cons s rest = λ i. cond (is_name s && stays_before-is rest i) (s ∷ staying_names rest) (staying_names rest)
 
 open_step : (parent dot : Bool) (k m : ℕ) (s : Text) (names : List Text) →
@@ -39,6 +40,7 @@ open_step false false k m s names = elim (eqb_tells k 0) [
 
 -- each `..` that is open at the front of ys takes a name of xs, if there is one
 pub open-append : (xs ys : List Text) → open_parents (xs ++ ys) ≡ open_parents xs + (open_parents ys - length (staying_names xs))
+unfolding staying_names
 open-append [] ys = omega arith
 open-append (s ∷ rest) ys =
     ap (counted (is_dot_dot s) (is_name s)) (open-append rest ys)
@@ -84,6 +86,7 @@ stay_step false false k m s names tail = elim (eqb_tells k 0) [
 
 -- what stays of xs is what stays of it alone, less one name for each open `..` of ys
 pub staying-append : (xs ys : List Text) → staying_names (xs ++ ys) ≡ without_last (open_parents ys) (staying_names xs) ++ staying_names ys
+unfolding staying_names
 staying-append [] ys = (let e : 0 - open_parents ys ≡ 0 = omega arith in λ i. take (sym e i) [] ++ staying_names ys)
 staying-append (s ∷ rest) ys =
     staying-cons s (rest ++ ys)
@@ -119,6 +122,7 @@ open-names [] h = refl
 open-names (s ∷ rest) h = let both = names_first s rest h in counted_name (is_dot_dot s) (is_dot s) (open_parents rest) both.0 (open-names rest both.1)
 
 pub staying-names : (list : List Text) → are_names list ≡ true → staying_names list ≡ list
+unfolding staying_names
 staying-names [] h = refl
 staying-names (s ∷ rest) h =
     let both = names_first s rest h in
@@ -128,6 +132,7 @@ staying-names (s ∷ rest) h =
 
 -- what stays is a name
 pub are_names-staying : (list : List Text) → are_names (staying_names list) ≡ true
+unfolding staying_names
 are_names-staying [] = refl
 are_names-staying (s ∷ rest) = by (is_name s) (stays_before rest) (are_names-staying rest) refl
   where
@@ -144,6 +149,7 @@ open-climbs zero = refl
 open-climbs (suc n) = (λ i. open-climbs n i + 1) ∙ omega arith
 
 pub staying-climbs : (n : ℕ) → staying_names (climbs n) ≡ []
+unfolding staying_names
 staying-climbs zero = refl
 staying-climbs (suc n) = staying-climbs n
 

@@ -67,6 +67,7 @@ greatest_lead k m (s ∷ rest) =
 
 -- the excess is what the count leaves
 pub excess-is : (segments : List Text) → excess segments ≡ open_parents segments
+unfolding excess
 excess-is segments =
     let same : (f : List Text) → count_parents f - count_names f ≡ lead 0 0 f = λ f. omega arith in
     let all = greatest_lead 0 0 segments in

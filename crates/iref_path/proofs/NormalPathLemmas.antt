@@ -31,6 +31,7 @@ closed-lone (s ∷ kept) = refl
 
 -- the normal list is the items, unless they are one empty segment
 pub normal_segments-is : (p : PathValue) → normal_segments p ≡ without_lone_empty (items p)
+unfolding normal_segments
 normal_segments-is p =
     (λ i. without_lone_empty (cond (ends_in_dots p.segments) (closed (kept-is p.absolute p.segments i)) (kept-is p.absolute p.segments i)))
     ∙ by (ends_in_dots p.segments) (leading_parents p.absolute (open_before p.segments 0)) (staying_before p.segments 0)
@@ -100,6 +101,7 @@ lone_aside f e (s ∷ list) h = by (is_one_empty (s ∷ list)) h
     by false h = h
 
 none_of_none : (absolute : Bool) → normal_segments (record { absolute = absolute; segments = [] }) ≡ []
+unfolding normal_segments Rattle.iref_path.specs.NormalList.excess Rattle.iref_path.specs.NormalList.staying_names
 none_of_none true = refl
 none_of_none false = refl
 
@@ -115,6 +117,7 @@ normal-normal p = λ i. record { absolute = p.absolute; segments = normal_segmen
 
 -- the segment `.` put first changes no normal list
 pub normal_segments-with_dot : (absolute : Bool) (list : List Text) → normal_segments (record { absolute = absolute; segments = codes "." ∷ list }) ≡ normal_segments (record { absolute = absolute; segments = list })
+unfolding normal_segments Rattle.iref_path.specs.NormalList.excess Rattle.iref_path.specs.NormalList.staying_names
 normal_segments-with_dot true [] = refl
 normal_segments-with_dot false [] = refl
 normal_segments-with_dot true (s ∷ list) = refl
@@ -150,9 +153,11 @@ made_absolute-same context p h = by context.has_authority p.absolute p.segments 
 
 -- a guard changes no normal path
 pub normal-guarded : (context : PathContext) (p : PathValue) → follows_authority context p ≡ true → normal (guarded context p) ≡ normal p
+unfolding guarded
 normal-guarded context p h = ap (λ q. normal (dot_where_needed context q)) (made_absolute-same context p h) ∙ normal-dotted context p
 
 follows-normal : (context : PathContext) (p : PathValue) → follows_authority context p ≡ true → follows_authority context (normal p) ≡ true
+unfolding normal_segments Rattle.iref_path.specs.NormalList.excess Rattle.iref_path.specs.NormalList.staying_names
 follows-normal context p h = by context.has_authority p.absolute p.segments h
   where
     by : (authority absolute : Bool) (segments : List Text) → (not authority || absolute || is_empty segments) ≡ true → (not authority || absolute || is_empty (normal_segments (record { absolute = absolute; segments = segments }))) ≡ true
@@ -171,6 +176,7 @@ normalized-normalized context p h = ap (guarded context) (normal-normalized cont
 
 -- a normalised path is equal to the path
 pub path_key-normalized : (context : PathContext) (p : PathValue) → follows_authority context p ≡ true → path_key (normalized context p) ≡ path_key p
+unfolding path_key
 path_key-normalized context p h =
     λ i. record { absolute = (normal-normalized context p h i).absolute; segments = map percent_decode (normal-normalized context p h i).segments }
 

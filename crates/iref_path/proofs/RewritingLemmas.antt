@@ -310,12 +310,14 @@ uses_up front s (t ∷ rest) h k =
 -- ---- the whole path
 
 spelled_items : (list : List Text) → is_empty list ≡ false → slashed list ≡ spell_path (record { absolute = true; segments = without_lone_empty list })
+unfolding spell_path
 spelled_items [] h = absurd (true≢false h)
 spelled_items ([] ∷ []) h = refl
 spelled_items ([] ∷ t ∷ list) h = sym (slashed-joined [] (t ∷ list))
 spelled_items ((c ∷ s) ∷ list) h = sym (slashed-joined (c ∷ s) list)
 
 pub path_uses_up : (segments : List Text) → list_all (lacks slash) segments ≡ true → let p : PathValue = record { absolute = true; segments = segments } in UsesUp (spell_path p) [] (spell_path (normal p))
+unfolding spell_path normal_segments Rattle.iref_path.specs.NormalList.staying_names
 path_uses_up [] h = record { steps = 1; within = omega arith; leaves = refl }
 path_uses_up (s ∷ rest) h =
     let p : PathValue = record { absolute = true; segments = s ∷ rest } in
@@ -348,6 +350,7 @@ not_lone (s ∷ list) = by (is_one_empty (s ∷ list)) refl
 
 -- under an authority an absolute normal path needs no guard
 pub normalized-under_authority : (scheme : Bool) (segments : List Text) → let p : PathValue = record { absolute = true; segments = segments } in normalized (record { has_scheme = scheme; has_authority = true }) p ≡ normal p
+unfolding guarded
 normalized-under_authority scheme segments = by scheme (normal_segments (record { absolute = true; segments = segments })) (ap is_one_empty (normal_segments-is (record { absolute = true; segments = segments })) ∙ not_lone (items (record { absolute = true; segments = segments })))
   where
     by : (scheme : Bool) (list : List Text) → is_one_empty list ≡ false → guarded (record { has_scheme = scheme; has_authority = true }) (record { absolute = true; segments = list }) ≡ record { absolute = true; segments = list }

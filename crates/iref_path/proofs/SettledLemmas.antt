@@ -26,6 +26,7 @@ ends-names (s ∷ t ∷ rest) h = ends-names (t ∷ rest) (names_first s (t ∷ 
 
 -- a last name stays
 pub last_stays : (s : Text) (rest : List Text) → ends_in_dots (s ∷ rest) ≡ false → is_empty (staying_names (s ∷ rest)) ≡ false
+unfolding staying_names
 last_stays s [] h = by (is_name s) h
   where
     by : (b : Bool) → not b ≡ false → is_empty (cond (b && true) (s ∷ []) []) ≡ false
@@ -74,6 +75,7 @@ kept_at true segments n names relative rooted stay = λ i. climbs (rooted refl i
 kept_at false segments n names relative rooted stay = λ i. climbs ((excess-is segments ∙ relative refl) i) ++ stay i
 
 pub normal_from : (p : PathValue) (ends : Bool) (list : List Text) → ends_in_dots p.segments ≡ ends → kept_segments p ≡ list → normal_segments p ≡ without_lone_empty (cond ends (closed list) list)
+unfolding normal_segments
 normal_from p ends list e k = λ i. without_lone_empty (cond (e i) (closed (k i)) (k i))
 
 settled-normal : (absolute : Bool) (n : ℕ) (names : List Text) → are_names names ≡ true → (absolute ≡ true → n ≡ 0) → (is_empty names ≡ true → n ≡ 0) → let p : PathValue = record { absolute = absolute; segments = climbs n ++ names } in normal_segments p ≡ without_lone_empty (climbs n ++ names)
@@ -187,11 +189,13 @@ names-normal segments = ap are_names (normal-is true segments) ∙ names_of_sett
 
 -- and is not one empty segment
 pub lone-normal : (p : PathValue) → without_lone_empty (normal_segments p) ≡ normal_segments p
+unfolding normal_segments
 lone-normal p = without_lone-again (cond (ends_in_dots p.segments) (closed (kept_segments p)) (kept_segments p))
 
 -- ---- the guard
 
 dot_harmless : (absolute : Bool) (segments : List Text) → let p : PathValue = record { absolute = absolute; segments = segments } in normal_segments (with_dot p) ≡ normal_segments p
+unfolding normal_segments excess staying_names
 dot_harmless true [] = refl
 dot_harmless false [] = refl
 dot_harmless true (s ∷ rest) = refl
@@ -220,4 +224,5 @@ made_absolute-same context p h = λ i. record { absolute = stays_relative p.abso
 
 -- a guard changes no normal path
 pub normal-guarded : (context : PathContext) (p : PathValue) → follows_authority context p ≡ true → normal (guarded context p) ≡ normal p
+unfolding guarded
 normal-guarded context p h = normal-dot_where_needed context (made_absolute context p) ∙ ap normal (made_absolute-same context p h)

@@ -16,6 +16,7 @@ open_parents-is [] = refl
 open_parents-is (s ∷ rest) = ap (counted (is_dot_dot s) (is_name s)) (open_parents-is rest)
 
 pub staying_names-is : (segments : List Text) → staying_names segments ≡ staying_before segments 0
+unfolding staying_names
 staying_names-is [] = refl
 staying_names-is (s ∷ rest) =
     let stays : stays_before rest ≡ (open_before rest 0 == 0) = stays_before-is rest ∙ ap (λ n. n == 0) (open_parents-is rest) in

@@ -32,12 +32,15 @@ pub in-snoc : (test : Text → Bool) (list : List Text) (s : Text) → list_all 
 in-snoc test list s h k = list_all-append test list (s ∷ []) ∙ both _ _ h (both _ _ k refl)
 
 pub guarded-in : (test : Text → Bool) → TakesDots test → (context : PathContext) (p : PathValue) → all_in test p ≡ true → all_in test (guarded context p) ≡ true
+unfolding guarded
 guarded-in test takes context p h = in-cond test (reads_as_path context (made_absolute context p)) (made_absolute context p) (with_dot (made_absolute context p)) h (both _ _ takes.dot h)
 
 pub guarded_list-in : (test : Text → Bool) → TakesDots test → (p : PathValue) → all_in test p ≡ true → all_in test (guarded_list p) ≡ true
+unfolding guarded_list
 guarded_list-in test takes p h = in-cond test (shows_its_list p) p (with_dot p) h (both _ _ takes.dot h)
 
 pub lazy_pushed-in : (test : Text → Bool) → TakesDots test → (context : PathContext) (s : Text) (p : PathValue) → test s ≡ true → all_in test p ≡ true → all_in test (lazy_pushed context s p) ≡ true
+unfolding lazy_pushed
 lazy_pushed-in test takes context s p k h =
     in-cond test (is_empty p.segments) (guarded context (record { absolute = p.absolute || context.has_authority; segments = s ∷ [] })) (record { absolute = p.absolute; segments = p.segments ++ s ∷ [] })
     (guarded-in test takes context (record { absolute = p.absolute || context.has_authority; segments = s ∷ [] }) (both _ _ k refl))
@@ -50,6 +53,7 @@ in-shortened test (s ∷ t ∷ list) h =
     both _ _ (first_of_both (test s) (list_all test (t ∷ list)) h) (in-shortened test (t ∷ list) (second_of_both (test s) (list_all test (t ∷ list)) h))
 
 pub popped-in : (test : Text → Bool) → TakesDots test → (context : PathContext) (p : PathValue) → all_in test p ≡ true → all_in test (popped context p) ≡ true
+unfolding popped
 popped-in test takes context p h =
     in-cond test (ends_in_parent p.segments || is_empty p.segments && not p.absolute) _ _ (lazy_pushed-in test takes context (codes "..") p takes.parent h)
     (in-cond test (is_empty p.segments) _ _ h
@@ -63,6 +67,7 @@ followed-in test takes context p s k h =
     in-cond test (is_dot s) _ _ h (in-cond test (is_dot_dot s) _ _ (popped-in test takes context p h) (lazy_pushed-in test takes context s p k h))
 
 pub pushed-in : (test : Text → Bool) → TakesDots test → (context : PathContext) (s : Text) (p : PathValue) → test s ≡ true → all_in test p ≡ true → all_in test (pushed context s p) ≡ true
+unfolding pushed
 pushed-in test takes context s p k h =
     in-cond test (is_name s) _ _ (lazy_pushed-in test takes context s p k h) (closed_path-in test takes context (followed context p s) (followed-in test takes context p s k h))
 
@@ -73,17 +78,20 @@ all_followed-in test takes context (s ∷ items) p k h =
     (followed-in test takes context p s (first_of_both (test s) (list_all test items) k) h)
 
 pub appended-in : (test : Text → Bool) → TakesDots test → (context : PathContext) (items : List Text) (p : PathValue) → list_all test items ≡ true → all_in test p ≡ true → all_in test (appended context items p) ≡ true
+unfolding appended
 appended-in test takes context items p k h =
     let all = all_followed-in test takes context items p k h in
     in-cond test (ends_in_dots items) _ _ (closed_path-in test takes context (fold (followed context) p items) all) all
 
 pub lazy_appended-in : (test : Text → Bool) → TakesDots test → (context : PathContext) (items : List Text) (p : PathValue) → list_all test items ≡ true → all_in test p ≡ true → all_in test (lazy_appended context items p) ≡ true
+unfolding lazy_appended
 lazy_appended-in test takes context [] p k h = h
 lazy_appended-in test takes context (s ∷ items) p k h =
     lazy_appended-in test takes context items (lazy_pushed context s p) (second_of_both (test s) (list_all test items) k)
     (lazy_pushed-in test takes context s p (first_of_both (test s) (list_all test items) k) h)
 
 pub joined-in : (test : Text → Bool) → TakesDots test → (context : PathContext) (new p : PathValue) → all_in test new ≡ true → all_in test p ≡ true → all_in test (joined context new p) ≡ true
+unfolding joined
 joined-in test takes context new p k h =
     in-cond test new.absolute _ _ (guarded-in test takes context new k) (appended-in test takes context new.segments p k h)
 

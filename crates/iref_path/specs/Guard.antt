@@ -15,9 +15,9 @@ made_absolute context p = record p { absolute = p.absolute || context.has_author
 abbrev pub dot_where_needed : PathContext → PathValue → PathValue
 dot_where_needed context p = if reads_as_path context p then p else with_dot p
 
-abbrev pub guarded : PathContext → PathValue → PathValue
+unfoldable pub guarded : PathContext → PathValue → PathValue
 guarded context p = dot_where_needed context (made_absolute context p)
 
 -- the same for the list alone, wherever the path stands
-abbrev pub guarded_list : PathValue → PathValue
+unfoldable pub guarded_list : PathValue → PathValue
 guarded_list p = if shows_its_list p then p else with_dot p

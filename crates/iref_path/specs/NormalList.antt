@@ -29,12 +29,12 @@ abbrev pub stays_before : List Text → Bool
 stays_before rest = not (list_any takes_one_name (beginnings rest))
 
 -- the names that stay, in order
-abbrev pub staying_names : List Text → List Text
+unfoldable pub staying_names : List Text → List Text
 staying_names [] = []
 staying_names (s ∷ rest) = if is_name s && stays_before rest then s ∷ staying_names rest else staying_names rest
 
 -- the greatest number of `..` less names over all beginnings, at least 0
-abbrev pub excess : List Text → ℕ
+unfoldable pub excess : List Text → ℕ
 excess segments = greatest (map (λ front. count_parents front - count_names front) (beginnings segments))
 
 -- the last segment is `.` or `..`
@@ -54,7 +54,7 @@ without_lone_empty list = if is_one_empty list then [] else list
 abbrev pub kept_segments : PathValue → List Text
 kept_segments p = (if p.absolute then [] else replicate (excess p.segments) (codes "..")) ++ staying_names p.segments
 
-abbrev pub normal_segments : PathValue → List Text
+unfoldable pub normal_segments : PathValue → List Text
 normal_segments p = without_lone_empty (if ends_in_dots p.segments then closed (kept_segments p) else kept_segments p)
 
 abbrev pub normal : PathValue → PathValue

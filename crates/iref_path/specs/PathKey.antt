@@ -9,7 +9,7 @@ use Rattle.iref_text.specs.PathValue.{PathValue}
 use Rattle.iref_path.specs.NormalList.{normal_segments}
 
 -- the flag, and the normal segments as decoded bytes
-abbrev pub path_key : PathValue → PathValue
+unfoldable pub path_key : PathValue → PathValue
 path_key p = record { absolute = p.absolute; segments = map percent_decode (normal_segments p) }
 
 -- texts in the order of their bytes

@@ -8,7 +8,7 @@ use Rattle.iref_path.specs.Guard.{guarded, guarded_list}
 use Rattle.iref_path.specs.NormalList.{is_dot, is_dot_dot, is_name, ends_in_dots, normal}
 
 -- on the empty list the guarded list of the segment; else the segment at the end
-abbrev pub lazy_pushed : PathContext → Text → PathValue → PathValue
+unfoldable pub lazy_pushed : PathContext → Text → PathValue → PathValue
 lazy_pushed context s p =
     if is_empty p.segments
     then guarded context (record { absolute = p.absolute || context.has_authority; segments = s ∷ [] })
@@ -20,7 +20,7 @@ ends_in_parent [] = false
 ends_in_parent (s ∷ rest) = if is_empty rest then is_dot_dot s else ends_in_parent rest
 
 -- without the last segment, where `..` has to be written for that
-abbrev pub popped : PathContext → PathValue → PathValue
+unfoldable pub popped : PathContext → PathValue → PathValue
 popped context p =
     if ends_in_parent p.segments || is_empty p.segments && not p.absolute
     then lazy_pushed context (codes "..") p
@@ -34,20 +34,20 @@ closed_path context p = if is_empty p.segments then p else lazy_pushed context [
 abbrev pub followed : PathContext → PathValue → Text → PathValue
 followed context p s = if is_dot s then p else (if is_dot_dot s then popped context p else lazy_pushed context s p)
 
-abbrev pub pushed : PathContext → Text → PathValue → PathValue
+unfoldable pub pushed : PathContext → Text → PathValue → PathValue
 pushed context s p = if is_name s then lazy_pushed context s p else closed_path context (followed context p s)
 
-abbrev pub appended : PathContext → List Text → PathValue → PathValue
+unfoldable pub appended : PathContext → List Text → PathValue → PathValue
 appended context items p =
     if ends_in_dots items then closed_path context (fold (followed context) p items) else fold (followed context) p items
 
-abbrev pub lazy_appended : PathContext → List Text → PathValue → PathValue
+unfoldable pub lazy_appended : PathContext → List Text → PathValue → PathValue
 lazy_appended context items p = fold (λ q s. lazy_pushed context s q) p items
 
 abbrev pub replaced : PathContext → PathValue → PathValue → PathValue
 replaced context new p = guarded context new
 
-abbrev pub joined : PathContext → PathValue → PathValue → PathValue
+unfoldable pub joined : PathContext → PathValue → PathValue → PathValue
 joined context new p = if new.absolute then replaced context new p else appended context new.segments p
 
 abbrev pub normalized : PathContext → PathValue → PathValue
@@ -57,12 +57,12 @@ abbrev pub cleared : PathValue → PathValue
 cleared p = record p { segments = [] }
 
 -- `Path::parent`: without the last segment
-abbrev pub parent : PathValue → PathValue
+unfoldable pub parent : PathValue → PathValue
 parent p = guarded_list (record p { segments = all_but_last p.segments })
 
 abbrev pub has_parent : PathValue → Bool
 has_parent p = not (is_empty p.segments) && (p.absolute || not (is_empty (all_but_last p.segments)))
 
 -- `PathBuf::from_segments`: repeated push
-abbrev pub from_segments : Bool → List Text → PathValue
+unfoldable pub from_segments : Bool → List Text → PathValue
 from_segments absolute items = fold (λ q s. pushed (record { has_scheme = false; has_authority = false }) s q) (record { absolute = absolute; segments = [] }) items

@@ -17,7 +17,7 @@ same_decoded s t = bytes_eq (percent_decode s) (percent_decode t)
 abbrev pub is_decoded_beginning : List Text → List Text → Bool
 is_decoded_beginning prefix list = pointwise same_decoded prefix (take (length prefix) list)
 
-abbrev pub path_suffix : PathValue → PathValue → Option PathValue
+unfoldable pub path_suffix : PathValue → PathValue → Option PathValue
 path_suffix prefix p =
     if beq prefix.absolute p.absolute && is_decoded_beginning (normal_segments prefix) (normal_segments p)
     then Some (guarded alone (record { absolute = false; segments = drop (length (normal_segments prefix)) (normal_segments p) }))

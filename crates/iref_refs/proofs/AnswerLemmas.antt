@@ -38,6 +38,7 @@ module _ (test : Text → Bool) (dots : PassesDots test) where
   both_lists xs ys h k = list_all-append test xs ys ∙ (λ i. h i && k i)
 
   all_staying : (list : List Text) → list_all test list ≡ true → list_all test (staying_names list) ≡ true
+  unfolding staying_names
   all_staying [] h = refl
   all_staying (s ∷ rest) h = by (is_name s && stays_before rest) (all_first test s rest h).0 (all_staying rest (all_first test s rest h).1)
     where
@@ -61,6 +62,7 @@ module _ (test : Text → Bool) (dots : PassesDots test) where
   all_kept false segments h = both_lists (climbs (excess segments)) (staying_names segments) (all_climbs (excess segments)) (all_staying segments h)
 
   pub all_normal : (p : PathValue) → list_all test p.segments ≡ true → list_all test (normal_segments p) ≡ true
+  unfolding normal_segments
   all_normal p h = all_without_lone _ (by (ends_in_dots p.segments) (all_kept p.absolute p.segments h))
     where
       by : (b : Bool) → list_all test (kept_segments p) ≡ true → list_all test (cond b (closed (kept_segments p)) (kept_segments p)) ≡ true
@@ -68,6 +70,7 @@ module _ (test : Text → Bool) (dots : PassesDots test) where
       by false k = k
 
   pub all_guarded : (context : PathContext) (p : PathValue) → list_all test p.segments ≡ true → list_all test (guarded context p).segments ≡ true
+  unfolding guarded
   all_guarded context p h = by (reads_as_path context (made_absolute context p))
     where
       by : (b : Bool) → let q = made_absolute context p in list_all test (cond b q (with_dot q)).segments ≡ true
@@ -88,7 +91,7 @@ module _ (test : Text → Bool) (dots : PassesDots test) where
 
 -- `.`, `..` and the empty segment are segments
 pub segment_passes_dots : (set : CharTests) → PassesDots (is_segment set)
-unfolding owed_after is_path_char is_user_info_char is_reg_name_char chars is_utf8 lib.Utf8.encode
+unfolding owed_after is_path_char is_user_info_char is_reg_name_char chars is_utf8 lib.Utf8.encode is_segment
 segment_passes_dots set = record { empty = refl; dot = refl; dot_dot = refl }
 
 -- ---- the answer
@@ -104,6 +107,7 @@ pub record HasReadableParts (set : CharTests) (r : ReferenceValue) : Type 0 wher
   pub reads : reads_as_path (context_of r) r.path ≡ true
 
 pub readable_parts : (set : CharTests) (r : ReferenceValue) → is_readable set r ≡ true → HasReadableParts set r
+unfolding is_readable
 readable_parts set r readable =
     let six = both_true _ _ readable in
     let five = both_true _ _ six.0 in
@@ -117,6 +121,7 @@ pub readable-stands : (set : CharTests) (r : ReferenceValue) → is_readable set
 readable-stands set r readable = (readable_parts set r readable).stands
 
 only_path-readable : (set : CharTests) (target : ReferenceValue) (p : PathValue) → is_readable set target ≡ true → list_all (is_segment set) p.segments ≡ true → (follows_authority alone p && reads_as_path alone p) ≡ true → is_readable set (with_only_path p target) ≡ true
+unfolding is_readable
 only_path-readable set target p readable segments fits =
     let own = readable_parts set target readable in
     let end = both_true (follows_authority alone p) (reads_as_path alone p) fits in
@@ -127,6 +132,7 @@ leading_path-fits target base = guarded-fits alone (cond base.path.absolute (at_
 
 -- the answer is readable where the target is
 pub relative_to-readable : (set : CharTests) (target base : ReferenceValue) → is_readable set target ≡ true → is_readable set (relative_to target base) ≡ true
+unfolding relative_to Rattle.iref_refs.specs.Key.key
 relative_to-readable set target base readable = by (schemes_agree target base && have_same_authority target base) (is_same_place target base) target.path.absolute
   where
     by : (agree place root : Bool) → is_readable set (cond agree (cond place (with_only_path (at_no_root []) target) (cond root (with_only_path (leading_path target base) target) target)) target) ≡ true
@@ -146,6 +152,7 @@ all_pass test P decides [] h = refl
 all_pass test P decides (x ∷ rest) h = let here = (decides x).1 h.0 in let later = all_pass test P decides rest h.1 in λ i. here i && later i
 
 pub relative_to-IsReadable : (set : CharTests) → AreAboveAscii set → (target base : ReferenceValue) → IsReadable set target → IsReadable set (relative_to target base)
+unfolding relative_to Rattle.iref_refs.specs.Key.key
 relative_to-IsReadable set above target base readable = by (schemes_agree target base && have_same_authority target base) (is_same_place target base) target.path.absolute
   where
     own : list_all (is_segment set) target.path.segments ≡ true

@@ -100,6 +100,7 @@ pub Ties-path : Ties path_key_cmp
 Ties-path p = tie_of_both _ _ (Ties-bool p.absolute) (Ties-list text_cmp Ties-text p.segments)
 
 pub Ties-key : Ties key_cmp
+unfolding key_cmp
 Ties-key r =
     tie_of_both _ _ (Ties-option text_cmp Ties-text r.scheme)
     (tie_of_both _ _ (Ties-option authority_key_cmp Ties-authority r.authority)
@@ -107,6 +108,7 @@ Ties-key r =
     (tie_of_both _ _ (Ties-option text_cmp Ties-text r.query) (Ties-option text_cmp Ties-text r.fragment))))
 
 pub Tells-key : Tells key_cmp
+unfolding key_cmp
 Tells-key r s h =
     let one = both_tie (option_cmp text_cmp r.scheme s.scheme) _ h in
     let two = both_tie (option_cmp authority_key_cmp r.authority s.authority) _ one.1 in

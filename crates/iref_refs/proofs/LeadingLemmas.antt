@@ -191,6 +191,7 @@ steps_lead front list h lone =
 
 pub dotted_steps_lead : (front list : List Text) → are_names list ≡ true → without_lone_empty list ≡ list
     → let p : PathValue = record { absolute = true; segments = front ++ codes "." ∷ steps_between (staying_names front) list } in decoded (normal_segments p) ≡ decoded list
+unfolding staying_names
 dotted_steps_lead front list h lone =
     let directory = staying_names front in
     leads_as front list (codes "." ∷ steps_between directory list) (codes "." ∷ before_last directory list) h lone (staying-steps directory list h) (open-steps directory list h) refl

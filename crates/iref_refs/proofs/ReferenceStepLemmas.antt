@@ -41,9 +41,11 @@ readable_by a b c d e f g i j k l m n =
     both _ _ (both _ _ (both _ _ (both _ _ (both _ _ (both _ _ i j) k) l) m) (first_of_both f g n)) (second_of_both f g n)
 
 pub readable_from : (set : CharTests) (r : ReferenceValue) → HasReadableParts set r → is_readable set r ≡ true
+unfolding is_readable
 readable_from set r h = readable_by _ _ _ _ _ (follows_authority (context_of r) r.path) (reads_as_path (context_of r) r.path) h.scheme h.authority h.segments h.query h.fragment h.fits
 
 pub readable_parts : (set : CharTests) (r : ReferenceValue) → is_readable set r ≡ true → HasReadableParts set r
+unfolding is_readable
 readable_parts set r h =
     let a = none_or is_scheme r.scheme in
     let b = none_or (has_authority_parts set) r.authority in
@@ -68,7 +70,7 @@ readable_parts set r h =
 
 -- the segments `.`, `..` and the empty one are in their rule
 pub is_segment-dots : (set : CharTests) → TakesDots (is_segment set)
-unfolding is_utf8 chars encode_utf8 owed_after is_reg_name_char is_user_info_char is_path_char
+unfolding is_utf8 chars encode_utf8 owed_after is_reg_name_char is_user_info_char is_path_char is_segment
 is_segment-dots set = record { empty = refl; dot = refl; parent = refl }
 
 -- ---- path steps
@@ -140,6 +142,7 @@ fits-after_scheme true false no_authority false h = absurd (true≢false (sym h)
 fits-after_scheme false shown no_authority false h = absurd (true≢false (sym h))
 
 pub with_scheme-readable : (set : CharTests) (scheme : Option Text) (r : ReferenceValue) → none_or is_scheme scheme ≡ true → is_readable set r ≡ true → is_readable set (with_scheme scheme r) ≡ true
+unfolding with_scheme
 with_scheme-readable set None r k h =
     let parts = readable_parts set r h in
     guarded_reference-readable set (record r { scheme = None }) refl parts.authority parts.segments parts.query parts.fragment
@@ -155,6 +158,7 @@ with_scheme-readable set (Some s) r k h =
     })
 
 pub with_authority-readable : (set : CharTests) (authority : Option AuthorityValue) (r : ReferenceValue) → none_or (has_authority_parts set) authority ≡ true → is_readable set r ≡ true → is_readable set (with_authority authority r) ≡ true
+unfolding with_authority
 with_authority-readable set authority r k h =
     let parts = readable_parts set r h in
     guarded_reference-readable set (record r { authority = authority; path = path_after_new_authority authority r }) parts.scheme k
@@ -162,6 +166,7 @@ with_authority-readable set authority r k h =
     parts.query parts.fragment
 
 pub with_path-readable : (set : CharTests) (p : PathValue) (r : ReferenceValue) → all_in (is_segment set) p ≡ true → is_readable set r ≡ true → is_readable set (with_path p r) ≡ true
+unfolding with_path
 with_path-readable set p r k h =
     let parts = readable_parts set r h in
     guarded_reference-readable set (record r { path = p }) parts.scheme parts.authority k parts.query parts.fragment
@@ -190,6 +195,7 @@ with_normal_path-again set r h =
     λ i. record r { path = normalized-normalized (context_of r) r.path (first_of_both (follows_authority (context_of r) r.path) (reads_as_path (context_of r) r.path) fits) i }
 
 pub key-with_normal_path : (set : CharTests) (r : ReferenceValue) → is_readable set r ≡ true → key (with_normal_path r) ≡ key r
+unfolding key
 key-with_normal_path set r h =
     let fits = (readable_parts set r h).fits in
     λ i. record (key r) { path = path_key-normalized (context_of r) r.path (first_of_both (follows_authority (context_of r) r.path) (reads_as_path (context_of r) r.path) fits) i }

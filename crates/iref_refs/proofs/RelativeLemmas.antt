@@ -11,7 +11,7 @@ use Rattle.iref_text.specs.Authority.{AuthorityValue}
 use Rattle.iref_text.specs.PathValue.{PathValue}
 use Rattle.iref_path.specs.Guard.{guarded, with_dot}
 use Rattle.iref_text.specs.Contexts.{alone, follows_authority, reads_as_path}
-use Rattle.iref_path.specs.NormalList.{count_parents, normal, normal_segments}
+use Rattle.iref_path.specs.NormalList.{count_parents, excess, normal, normal_segments, staying_names}
 use Rattle.iref_text.specs.Reference.{ReferenceValue, context_of}
 use Rattle.iref_refs.specs.Resolution.{resolved}
 use Rattle.iref_refs.specs.Key.{key, authority_key}
@@ -42,13 +42,16 @@ abbrev decoded_path : PathValue → PathValue
 decoded_path p = record { absolute = p.absolute; segments = decoded p.segments }
 
 pub path_key-guarded : (context : PathContext) (p : PathValue) → follows_authority context p ≡ true → path_key (guarded context p) ≡ path_key p
+unfolding path_key
 path_key-guarded context p h = ap decoded_path (normal-guarded context p h)
 
 pub path_key-normal : (p : PathValue) → path_key (normal p) ≡ path_key p
+unfolding path_key
 path_key-normal p = ap decoded_path (normal_again p)
 
 -- a normal path stands where the path does
 normal_follows : (has_scheme has_authority absolute : Bool) (segments : List Text) → let context : PathContext = record { has_scheme = has_scheme; has_authority = has_authority } in let p : PathValue = record { absolute = absolute; segments = segments } in follows_authority context p ≡ true → follows_authority context (normal p) ≡ true
+unfolding normal_segments excess staying_names
 normal_follows has_scheme true true segments h = refl
 normal_follows has_scheme true false [] h = refl
 normal_follows has_scheme true false (s ∷ rest) h = absurd (true≢false (sym h))
@@ -77,6 +80,7 @@ key_under base path query fragment = key_of (key base).scheme (key base).authori
 
 -- a reference with a scheme, to itself
 pub resolved-full : (base r : ReferenceValue) → is_some r.scheme ≡ true → stands r → key (resolved base r) ≡ key r
+unfolding key resolved guarded
 resolved-full base r full stand = by r.scheme r.authority r.path r.query r.fragment full stand
   where
     by : (scheme : Option Text) (authority : Option AuthorityValue) (path : PathValue) (query fragment : Option Text) → is_some scheme ≡ true → let r = parts scheme authority path query fragment in stands r → key (resolved base r) ≡ key r
@@ -87,22 +91,26 @@ resolved-full base r full stand = by r.scheme r.authority r.path r.query r.fragm
 
 -- a path from the root, to that path
 pub resolved-rooted : (base : ReferenceValue) (segments : List Text) (query fragment : Option Text) → key (resolved base (parts None None (at_root segments) query fragment)) ≡ key_under base (path_key (at_root segments)) query fragment
+unfolding key resolved guarded
 resolved-rooted base segments query fragment = ap (λ p. key_under base p query fragment) (path_key-rooted (context_of base) segments)
 
 -- a reference with an authority, to itself under the base's scheme
 resolved-authority : (base : ReferenceValue) (authority : AuthorityValue) (path : PathValue) (query fragment : Option Text) → let r = parts None (Some authority) path query fragment in
     stands r → key (resolved base r) ≡ key_of (key base).scheme (Some (authority_key authority)) (path_key path) query fragment
+unfolding key resolved guarded
 resolved-authority base authority path query fragment stand =
     ap (λ p. key_of (key base).scheme (Some (authority_key authority)) p query fragment)
     (path_key-resolved (record { has_scheme = is_some base.scheme; has_authority = true }) path stand)
 
 -- the empty path, to the base's path
 pub resolved-empty : (base : ReferenceValue) (query fragment : Option Text) → stands base → key (resolved base (parts None None (at_no_root []) query fragment)) ≡ key_under base (path_key base.path) (option_or query base.query) fragment
+unfolding key resolved guarded
 resolved-empty base query fragment stand = ap (λ p. key_under base p (option_or query base.query) fragment) (path_key-guarded (context_of base) base.path stand)
 
 -- another relative path, to that path after the base's directory
 pub resolved-relative : (base : ReferenceValue) (segments : List Text) (query fragment : Option Text) → base.path.absolute ≡ true → is_empty segments ≡ false
     → key (resolved base (parts None None (at_no_root segments) query fragment)) ≡ key_under base (path_key (at_root (all_but_last base.path.segments ++ segments))) query fragment
+unfolding key resolved guarded
 resolved-relative base [] query fragment root some = absurd (true≢false some)
 resolved-relative base (s ∷ rest) query fragment root some = by base.authority base.path.segments base.path.absolute root
   where
@@ -124,6 +132,7 @@ some_of_key f (Some x) (Some y) e h = refl
 
 -- a target that takes its scheme from the base has an authority or begins at the root
 pub takes_scheme : (target base : ReferenceValue) → is_some base.scheme ≡ true → schemes_agree target base ≡ true → (is_some target.scheme || is_some target.authority || target.path.absolute) ≡ true
+unfolding key
 takes_scheme target base full agree = by (have_same_scheme target base) refl target.scheme refl (is_some target.authority) target.path.absolute agree
   where
     by : (same : Bool) → have_same_scheme target base ≡ same → (scheme : Option Text) → target.scheme ≡ scheme → (authority absolute : Bool) → (same || is_none scheme && (authority || absolute)) ≡ true → (is_some scheme || authority || absolute) ≡ true
@@ -146,6 +155,7 @@ scheme_of_full target base full agree = by target.scheme (have_same_scheme targe
 -- a target that agrees with the base resolves to its own path, query and fragment under the base
 pub resolved-agreeing : (target base : ReferenceValue) → is_some base.scheme ≡ true → schemes_agree target base ≡ true → have_same_authority target base ≡ true → stands target
     → key (resolved base target) ≡ key_under base (path_key target.path) target.query target.fragment
+unfolding key
 resolved-agreeing target base full agree same stand = by target.scheme target.authority target.path target.query target.fragment agree same stand
   where
     rooted : (absolute : Bool) (segments : List Text) (query fragment : Option Text) → (false || false || absolute) ≡ true → let path : PathValue = record { absolute = absolute; segments = segments } in
@@ -201,6 +211,7 @@ path_down base list = steps_between (directory_names base) list
 -- the steps lead down from the base's directory, behind a guard or not
 pub steps-lead : (base : ReferenceValue) (segments : List Text) (query fragment : Option Text) → base.path.absolute ≡ true
     → key (resolved base (parts None None (guarded alone (at_no_root (path_down base.path (normal_segments (at_root segments))))) query fragment)) ≡ key_under base (path_key (at_root segments)) query fragment
+unfolding path_key guarded staying_names
 steps-lead base segments query fragment root = by (reads_as_path alone (at_no_root steps))
   where
     list : List Text
@@ -220,6 +231,7 @@ steps-lead base segments query fragment root = by (reads_as_path alone (at_no_ro
 -- the whole path leads there from a base with no root
 pub path-leads : (base : ReferenceValue) (segments : List Text) (query fragment : Option Text)
     → key (resolved base (parts None None (guarded alone (normal (at_root segments))) query fragment)) ≡ key_under base (path_key (at_root segments)) query fragment
+unfolding path_key guarded normal_segments
 path-leads base segments query fragment = by (reads_as_path alone (normal (at_root segments)))
   where
     by : (b : Bool) → key (resolved base (parts None None (cond b (normal (at_root segments)) (with_dot (normal (at_root segments)))) query fragment)) ≡ key_under base (path_key (at_root segments)) query fragment
@@ -243,6 +255,7 @@ leading_path-leads target base root = by target.path.absolute target.path.segmen
 
 -- the relative reference leads where the target does
 pub relative_to-leads : (target base : ReferenceValue) → is_some base.scheme ≡ true → stands target → stands base → key (resolved base (relative_to target base)) ≡ key (resolved base target)
+unfolding relative_to key
 relative_to-leads target base full stand own =
     by (schemes_agree target base) (have_same_authority target base) (is_same_place target base) target.path.absolute refl refl refl refl
   where
@@ -259,6 +272,7 @@ pub relative_to-leads_full : (target base : ReferenceValue) → is_some target.s
 relative_to-leads_full target base own full stand base_stand = relative_to-leads target base full stand base_stand ∙ resolved-full base target own stand
 
 relative_guarded : (segments : List Text) → (guarded alone (at_no_root segments)).absolute ≡ false
+unfolding guarded
 relative_guarded segments = by (reads_as_path alone (at_no_root segments))
   where
     by : (b : Bool) → (cond b (at_no_root segments) (with_dot (at_no_root segments))).absolute ≡ false
@@ -267,6 +281,7 @@ relative_guarded segments = by (reads_as_path alone (at_no_root segments))
 
 -- where scheme and authority agree and the target begins at the root, neither is written
 pub relative_to-only_path : (target base : ReferenceValue) → schemes_agree target base ≡ true → have_same_authority target base ≡ true → target.path.absolute ≡ true → IsOnlyPath (relative_to target base)
+unfolding relative_to key
 relative_to-only_path target base agree same root = by (schemes_agree target base) (have_same_authority target base) (is_same_place target base) target.path.absolute agree same root
   where
     by : (agree same place root : Bool) → agree ≡ true → same ≡ true → root ≡ true
@@ -279,6 +294,7 @@ relative_to-only_path target base agree same root = by (schemes_agree target bas
 
 -- where the base begins there too, the answer does not
 pub relative_to-no_root : (target base : ReferenceValue) → schemes_agree target base ≡ true → have_same_authority target base ≡ true → target.path.absolute ≡ true → base.path.absolute ≡ true → (relative_to target base).path.absolute ≡ false
+unfolding relative_to key
 relative_to-no_root target base agree same root base_root =
     by (schemes_agree target base) (have_same_authority target base) (is_same_place target base) target.path.absolute base.path.absolute agree same root base_root
   where
@@ -293,6 +309,7 @@ relative_to-no_root target base agree same root base_root =
 
 -- how many `..` the answer has, at most
 parents_guarded : (directory list : List Text) → are_names list ≡ true → count_parents (guarded alone (at_no_root (steps_between directory list))).segments ≡ climb_between directory list
+unfolding guarded
 parents_guarded directory list h = by (reads_as_path alone (at_no_root (steps_between directory list)))
   where
     by : (b : Bool) → count_parents (cond b (at_no_root (steps_between directory list)) (with_dot (at_no_root (steps_between directory list)))).segments ≡ climb_between directory list
@@ -301,6 +318,7 @@ parents_guarded directory list h = by (reads_as_path alone (at_no_root (steps_be
 
 answer_parents : (target base : ReferenceValue) → schemes_agree target base ≡ true → have_same_authority target base ≡ true → target.path.absolute ≡ true → base.path.absolute ≡ true
     → count_parents (relative_to target base).path.segments ≤ climb_between (directory_names base.path) (normal_segments target.path)
+unfolding relative_to key
 answer_parents target base agree same root base_root =
     by (schemes_agree target base) (have_same_authority target base) (is_same_place target base) target.path.absolute base.path.absolute agree same root base_root (normal_segments target.path) (names target.path.absolute target.path.segments root)
   where
@@ -321,6 +339,7 @@ answer_parents target base agree same root base_root =
 pub relative_to-least : (target base : ReferenceValue) → is_some base.scheme ≡ true → stands target → schemes_agree target base ≡ true → have_same_authority target base ≡ true → target.path.absolute ≡ true → base.path.absolute ≡ true
     → (segments : List Text) → is_empty segments ≡ false → key (resolved base (with_only_path (at_no_root segments) target)) ≡ key (resolved base target)
     → count_parents (relative_to target base).path.segments ≤ count_parents segments
+unfolding normal_segments path_key
 relative_to-least target base full stand agree same root base_root [] some leads = absurd (true≢false some)
 relative_to-least target base full stand agree same root base_root (s ∷ rest) some leads =
     let there = sym (resolved-relative base (s ∷ rest) target.query target.fragment base_root some) ∙ leads ∙ resolved-agreeing target base full agree same stand in

@@ -35,6 +35,7 @@ readable_components set r readable =
 
 -- a guard makes them a readable reference
 pub guarded-readable : (set : CharTests) (r : ReferenceValue) → HasComponents set r → is_readable set (guarded_reference r) ≡ true
+unfolding is_readable
 guarded-readable set r own =
     let segments = all_guarded (is_segment set) (segment_passes_dots set) (context_of r) r.path own.segments in
     let fits = both_true (follows_authority (context_of r) (guarded (context_of r) r.path)) (reads_as_path (context_of r) (guarded (context_of r) r.path)) (guarded-fits (context_of r) r.path) in
@@ -93,4 +94,5 @@ module _ (set : CharTests) (base r : ReferenceValue) (own_base : HasComponents s
       by false false = record { scheme = own_base.scheme; authority = own_base.authority; segments = path-components; query = query-components; fragment = own.fragment }
 
 pub resolved-readable : (set : CharTests) (base r : ReferenceValue) → is_readable set base ≡ true → is_readable set r ≡ true → is_readable set (resolved base r) ≡ true
+unfolding resolved
 resolved-readable set base r readable_base readable = guarded-readable set (target base r) (target-components set base r (readable_components set base readable_base) (readable_components set r readable))

@@ -12,7 +12,7 @@ use Rattle.iref_text.specs.Reference.{ReferenceValue, context_of}
 abbrev pub guarded_reference : ReferenceValue → ReferenceValue
 guarded_reference r = record r { path = guarded (context_of r) r.path }
 
-abbrev pub with_scheme : Option Text → ReferenceValue → ReferenceValue
+unfoldable pub with_scheme : Option Text → ReferenceValue → ReferenceValue
 with_scheme None r = guarded_reference (record r { scheme = None })
 with_scheme (Some s) r = record r { scheme = Some s }
 
@@ -21,10 +21,10 @@ abbrev pub path_after_new_authority : Option AuthorityValue → ReferenceValue �
 path_after_new_authority authority r =
     if is_some authority then (if is_none r.authority then record r.path { absolute = true } else r.path) else r.path
 
-abbrev pub with_authority : Option AuthorityValue → ReferenceValue → ReferenceValue
+unfoldable pub with_authority : Option AuthorityValue → ReferenceValue → ReferenceValue
 with_authority authority r = guarded_reference (record r { authority = authority; path = path_after_new_authority authority r })
 
-abbrev pub with_path : PathValue → ReferenceValue → ReferenceValue
+unfoldable pub with_path : PathValue → ReferenceValue → ReferenceValue
 with_path p r = guarded_reference (record r { path = p })
 
 abbrev pub with_query : Option Text → ReferenceValue → ReferenceValue

@@ -17,7 +17,7 @@ abbrev pub authority_key : AuthorityValue → AuthorityValue
 authority_key a = record { user_info = option_map percent_decode a.user_info; host = percent_decode a.host; port = a.port }
 
 -- scheme in lower case, normal path; user info, host, segments, query and fragment as decoded bytes
-abbrev pub key : ReferenceValue → ReferenceValue
+unfoldable pub key : ReferenceValue → ReferenceValue
 key r =
     record {
       scheme = option_map str_to_ascii_lowercase r.scheme;
@@ -32,7 +32,7 @@ abbrev pub authority_key_cmp : AuthorityValue → AuthorityValue → Ordering
 authority_key_cmp a b =
     ordering_then (option_cmp text_cmp a.user_info b.user_info) (ordering_then (text_cmp a.host b.host) (option_cmp text_cmp a.port b.port))
 
-abbrev pub key_cmp : ReferenceValue → ReferenceValue → Ordering
+unfoldable pub key_cmp : ReferenceValue → ReferenceValue → Ordering
 key_cmp r s =
     ordering_then (option_cmp text_cmp r.scheme s.scheme)
     (ordering_then (option_cmp authority_key_cmp r.authority s.authority)

@@ -7,7 +7,7 @@ use Rattle.iref_text.specs.Reference.{ReferenceValue}
 use Rattle.iref_refs.specs.Relative.{have_same_scheme, have_same_authority}
 
 -- a path, with the query and fragment of the whole
-abbrev pub reference_suffix : ReferenceValue → ReferenceValue → Option (PathValue × Option Text × Option Text)
+unfoldable pub reference_suffix : ReferenceValue → ReferenceValue → Option (PathValue × Option Text × Option Text)
 reference_suffix prefix r =
     if have_same_scheme prefix r && have_same_authority prefix r
     then option_map (λ p. (p, r.query, r.fragment)) (path_suffix prefix.path r.path)

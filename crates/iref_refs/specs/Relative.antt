@@ -60,7 +60,7 @@ leading_path target base =
 abbrev pub with_only_path : PathValue → ReferenceValue → ReferenceValue
 with_only_path p target = record target { scheme = None; authority = None; path = p }
 
-abbrev pub relative_to : ReferenceValue → ReferenceValue → ReferenceValue
+unfoldable pub relative_to : ReferenceValue → ReferenceValue → ReferenceValue
 relative_to target base =
     if schemes_agree target base && have_same_authority target base
     then (if is_same_place target base then with_only_path (record { absolute = false; segments = [] }) target

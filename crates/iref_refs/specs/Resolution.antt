@@ -34,5 +34,5 @@ target base r =
       query = if is_no_path r.path then option_or r.query base.query else r.query;
     })
 
-abbrev pub resolved : ReferenceValue → ReferenceValue → ReferenceValue
+unfoldable pub resolved : ReferenceValue → ReferenceValue → ReferenceValue
 resolved base r = guarded_reference (target base r)

@@ -20,6 +20,7 @@ bracketed-joins text = by (begins_with (left_bracket ∷ []) text)
     by false = refl
 
 host_and_port-joins : (user : Option Text) (text : Text) → spell_authority (read_host_and_port user text) ≡ part_then (at_sign ∷ []) user ++ text
+unfolding spell_authority
 host_and_port-joins user text =
     let rest = after_bracketed text in
     append_assoc (part_then (at_sign ∷ []) user) (bracketed text ++ before (colon ∷ []) rest) (then_part (colon ∷ []) (after colon rest))
@@ -29,6 +30,7 @@ host_and_port-joins user text =
 
 -- the authority's parts spell its text
 pub read_authority-spelled : (text : Text) → spell_authority (read_authority text) ≡ text
+unfolding read_authority
 read_authority-spelled text = by (after at_sign text) (cut at_sign text)
   where
     by : (o : Option Text) → before (at_sign ∷ []) text ++ then_part (at_sign ∷ []) o ≡ text → spell_authority (elim o as (λ p. AuthorityValue) [ None ↦ read_host_and_port None text | Some rest ↦ read_host_and_port (Some (before (at_sign ∷ []) text)) rest ]) ≡ text
@@ -71,7 +73,7 @@ read_with_user : Option Text → Text → AuthorityValue
 read_with_user o text = elim o as (λ p. AuthorityValue) [ None ↦ read_host_and_port None text | Some rest ↦ read_host_and_port (Some (before (at_sign ∷ []) text)) rest ]
 
 pub read_authority-back : (a : AuthorityValue) → IsDelimitedAuthority a → read_authority (spell_authority a) ≡ a
-unfolding read_with_user
+unfolding read_with_user read_authority spell_authority
 read_authority-back a d = by a.user_info d.user_info d.without_user_info
   where
     tail : Text
@@ -99,6 +101,7 @@ module _ (set : CharTests) (above : AreAboveAscii set) where
 
 module _ (set : CharTests) (above : AreAboveAscii set) where
   host_shape : (h : Text) → is_host set h ≡ true → IsPlainHost h ⊎ IsBracketedHost h
+  unfolding is_ip_literal is_host
   host_shape h k = by (is_ip_literal h) refl k
     where
       by : (b : Bool) → is_ip_literal h ≡ b → (b || is_reg_name set h) ≡ true → IsPlainHost h ⊎ IsBracketedHost h
@@ -110,6 +113,7 @@ module _ (set : CharTests) (above : AreAboveAscii set) where
       lacks-append mark h (then_part (colon ∷ []) port) (host_lacks set above mark m h k) (then_part_lacks mark colon m.colon_not port (option_lacks mark is_port (port_lacks mark m) port l))
 
   pub delimited_authority : (a : AuthorityValue) → has_authority_parts set a ≡ true → IsDelimitedAuthority a
+  unfolding has_authority_parts
   delimited_authority a h =
       let front = first_of_both (none_or (is_user_info set) a.user_info && is_host set a.host) (none_or is_port a.port) h in
       let port = second_of_both (none_or (is_user_info set) a.user_info && is_host set a.host) (none_or is_port a.port) h in
@@ -122,6 +126,7 @@ module _ (set : CharTests) (above : AreAboveAscii set) where
       }
 
   pub whole_authority_lacks : (mark : ℕ) → IsCut mark → (at_sign == mark) ≡ false → (a : AuthorityValue) → has_authority_parts set a ≡ true → lacks mark (spell_authority a) ≡ true
+  unfolding has_authority_parts spell_authority
   whole_authority_lacks mark m n a h =
       let front = first_of_both (none_or (is_user_info set) a.user_info && is_host set a.host) (none_or is_port a.port) h in
       let port = second_of_both (none_or (is_user_info set) a.user_info && is_host set a.host) (none_or is_port a.port) h in

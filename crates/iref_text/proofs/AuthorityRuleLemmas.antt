@@ -19,6 +19,7 @@ module _ (set : CharTests) (above : AreAboveAscii set) where
   -- ---- the parts
 
   pub Decides-has_authority_parts : (a : AuthorityValue) → Decides (has_authority_parts set a) (HasAuthorityParts set a)
+  unfolding has_authority_parts
   Decides-has_authority_parts a =
       let user = none_or (is_user_info set) a.user_info in
       let host = is_host set a.host in
@@ -35,6 +36,7 @@ module _ (set : CharTests) (above : AreAboveAscii set) where
   IsSpelledAuthority bytes = (a : AuthorityValue) × HasAuthorityParts set a × (spell_authority a ≡ bytes)
 
   pub in_utf8-authority : (bytes : Text) → InUtf8 (IsAuthority set) bytes ↔ IsSpelledAuthority bytes
+  unfolding spell_authority
   in_utf8-authority bytes = (there, back)
     where
       there : InUtf8 (IsAuthority set) bytes → IsSpelledAuthority bytes
@@ -66,6 +68,7 @@ module _ (set : CharTests) (above : AreAboveAscii set) where
   one_authority a b p q e = sym (authority_read a p) ∙ ap read_authority e ∙ authority_read b q
 
   pub Decides-is_authority : (bytes : Text) → Decides (is_authority set bytes) (InUtf8 (IsAuthority set) bytes)
+  unfolding has_authority_parts is_authority
   Decides-is_authority bytes = (
     λ h. (in_utf8-authority bytes).1 (read_authority bytes, (Decides-has_authority_parts (read_authority bytes)).0 h, read_authority-spelled bytes),
     λ z. let s = (in_utf8-authority bytes).0 z in

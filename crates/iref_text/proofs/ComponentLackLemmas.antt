@@ -61,9 +61,11 @@ module _ (set : CharTests) (above : AreAboveAscii set) where
   query_refuses = λ i. ((path_refuses hash_sign hash_cuts refl i || false) || false) || above.private hash_sign (lit< tt) i
 
   pub user_info_lacks : (mark : ℕ) → IsCut mark → (u : Text) → is_user_info set u ≡ true → lacks mark u ≡ true
+  unfolding is_user_info
   user_info_lacks mark m u h = in_utf8_lacks (is_user_info_char set) mark (record { ascii = m.ascii; alone = user_info_refuses mark m; percent = m.percent; digit = m.outside.hex }) u h
 
   segment_lacks : (mark : ℕ) → IsCut mark → (mark == at_sign) ≡ false → (s : Text) → is_segment set s ≡ true → lacks mark s ≡ true
+  unfolding is_segment
   segment_lacks mark m a s h = in_utf8_lacks (is_path_char set) mark (record { ascii = m.ascii; alone = path_refuses mark m a; percent = m.percent; digit = m.outside.hex }) s h
 
   pub segments_lack : (mark : ℕ) → IsCut mark → (mark == at_sign) ≡ false → (ss : List Text) → list_all (is_segment set) ss ≡ true → list_all (lacks mark) ss ≡ true
@@ -71,10 +73,12 @@ module _ (set : CharTests) (above : AreAboveAscii set) where
   segments_lack mark m a (s ∷ ss) h = both (lacks mark s) (list_all (lacks mark) ss) (segment_lacks mark m a s (first_of_both (is_segment set s) (list_all (is_segment set) ss) h)) (segments_lack mark m a ss (second_of_both (is_segment set s) (list_all (is_segment set) ss) h))
 
   pub query_lacks : (q : Text) → is_query set q ≡ true → lacks hash_sign q ≡ true
+  unfolding is_query
   query_lacks q h = in_utf8_lacks (is_query_char set) hash_sign (record { ascii = lit< tt; alone = query_refuses; percent = refl; digit = refl }) q h
 
   -- a reg-name also lacks `:` and `[`
   pub reg_name_lacks : (mark : ℕ) → IsRefused (is_reg_name_char set) mark → (h : Text) → is_reg_name set h ≡ true → lacks mark h ≡ true
+  unfolding is_reg_name
   reg_name_lacks mark r h k = in_utf8_lacks (is_reg_name_char set) mark r h k
 
 -- brackets with what stands between
@@ -94,6 +98,7 @@ bracket_parts (c ∷ cs) inside h = by (c == left_bracket) refl (after right_bra
         )
 
 pub literal_parts : (h : Text) → is_ip_literal h ≡ true → (inside : Text) × (is_ip_address inside ≡ true) × (lacks right_bracket inside ≡ true) × (left_bracket ∷ inside ++ right_bracket ∷ [] ≡ h)
+unfolding is_ip_literal
 literal_parts h k = by (in_brackets h) refl k
   where
     by : (o : Option Text) → in_brackets h ≡ o → some_and is_ip_address o ≡ true → (inside : Text) × (is_ip_address inside ≡ true) × (lacks right_bracket inside ≡ true) × (left_bracket ∷ inside ++ right_bracket ∷ [] ≡ h)
@@ -107,6 +112,7 @@ literal_lacks mark m h k =
     (lacks-append mark (left_bracket ∷ p.0) (right_bracket ∷ []) (lacks_more mark left_bracket p.0 m.not_left (address_lacks mark m.outside m.version p.0 p.1)) (lacks_more mark right_bracket [] m.not_right refl))
 
 pub port_lacks : (mark : ℕ) → IsCut mark → (p : Text) → is_port p ≡ true → lacks mark p ≡ true
+unfolding is_port
 port_lacks mark m p h = all_lacks is_ascii_digit mark m.digit p h
 
 -- an option's part, with a mark after it or before it
@@ -123,6 +129,7 @@ option_lacks mark test f None h = tt
 option_lacks mark test f (Some t) h = f t h
 
 pub scheme_lacks : (mark : ℕ) → is_ascii_alphabetic mark ≡ false → is_scheme_char mark ≡ false → (s : Text) → is_scheme s ≡ true → lacks mark s ≡ true
+unfolding is_scheme
 scheme_lacks mark a b [] h = refl
 scheme_lacks mark a b (c ∷ cs) h =
     elim (eqb_tells c mark) [
@@ -132,6 +139,7 @@ scheme_lacks mark a b (c ∷ cs) h =
 
 module _ (set : CharTests) (above : AreAboveAscii set) where
   pub host_lacks : (mark : ℕ) → IsCut mark → (h : Text) → is_host set h ≡ true → lacks mark h ≡ true
+  unfolding is_ip_literal is_host
   host_lacks mark m h k = by (is_ip_literal h) refl k
     where
       by : (b : Bool) → is_ip_literal h ≡ b → (b || is_reg_name set h) ≡ true → lacks mark h ≡ true

@@ -26,13 +26,13 @@ unfolding is_reg_name_char is_user_info_char is_path_char owed_after
 slash_a = one_more (Mark 47 ⨾ IsSegment uri_chars) (codes "/a") [] (joined {B = IsSegment uri_chars} (codes "/") (codes "a") refl (segment (codes "a") refl)) (none_of (Mark 47 ⨾ IsSegment uri_chars))
 
 authority : IsAuthority uri_chars (codes "u@h:8")
-unfolding is_reg_name_char is_user_info_char is_path_char owed_after
+unfolding is_reg_name_char is_user_info_char is_path_char owed_after Rattle.iref_text.specs.Tests.is_port
 authority =
     joined (codes "u@") (codes "h:8") (inr (joined (codes "u") (codes "@") (encoded (is_user_info_char uri_chars) (codes "u") refl refl) refl))
     (joined (codes "h") (codes ":8") (inr (inr (encoded (is_reg_name_char uri_chars) (codes "h") refl refl))) (inr (joined (codes ":") (codes "8") refl ((Decides-is_port (codes "8")).0 refl))))
 
 whole : IsUri uri_chars (codes "s://u@h:8/a?q#f")
-unfolding is_reg_name_char is_user_info_char is_path_char is_fragment_char is_query_char owed_after
+unfolding is_reg_name_char is_user_info_char is_path_char is_fragment_char is_query_char owed_after Rattle.iref_text.specs.Tests.is_scheme
 whole =
     joined (codes "s") (codes "://u@h:8/a?q#f") ((Decides-is_scheme (codes "s")).0 refl)
     (joined (codes ":") (codes "//u@h:8/a?q#f") refl

@@ -81,6 +81,7 @@ ipv6_lacks mark m text groups (inr z) =
     (last_groups_lack mark m z.after z.right z.right_groups))
 
 future_lacks : (mark : ℕ) → IsOutside mark → (char_set_contains (codes "vV") mark ≡ false) → (text : Text) → is_ipvfuture text ≡ true → lacks mark text ≡ true
+unfolding is_ipvfuture
 future_lacks mark m v [] h = refl
 future_lacks mark m v (c ∷ cs) h =
     let ab = first_of_both (char_set_contains (codes "vV") c && is_future_version (before (full_stop ∷ []) cs)) (is_future_address (after full_stop cs)) h in

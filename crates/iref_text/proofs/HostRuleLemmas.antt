@@ -42,6 +42,7 @@ Decides-one_or_more test text = (there text, λ z. subst (λ t. (not (is_empty t
 -- ---- IPvFuture
 
 future_there : (text : Text) → is_ipvfuture text ≡ true → IsIpvFuture text
+unfolding is_ipvfuture
 future_there [] h = absurd (true≢false (sym h))
 future_there (c ∷ cs) h =
     let v = char_set_contains (codes "vV") c in
@@ -56,6 +57,7 @@ future_there (c ∷ cs) h =
         (c ∷ [], cs, (c, letter, refl), (before (full_stop ∷ []) cs, full_stop ∷ rest, version, (full_stop ∷ [], rest, refl, (Decides-one_or_more is_future_char rest).0 k, refl), e), refl)
 
 future_parts : (c : ℕ) (version address : Text) → char_set_contains (codes "vV") c ≡ true → is_future_version version ≡ true → is_future_address (Some address) ≡ true → is_ipvfuture (c ∷ (version ++ full_stop ∷ address)) ≡ true
+unfolding is_ipvfuture
 future_parts c version address h k l =
     let stop = all_lacks is_ascii_hexdigit full_stop refl version (second_of_both (not (is_empty version)) (list_all is_ascii_hexdigit version) k) in
     let cs = version ++ full_stop ∷ address in
@@ -95,6 +97,7 @@ brackets-read inside h =
     λ i. cond (ends_here (after-part right_bracket inside (Some []) h i)) (Some (before-part right_bracket inside (Some []) h i)) None
 
 literal_back : (text : Text) → IsIpLiteral text → is_ip_literal text ≡ true
+unfolding is_ip_literal
 literal_back text z =
     let m = z.3 in
     let inside = m.0 in
@@ -179,6 +182,7 @@ module _ (set : CharTests) (above : AreAboveAscii set) where
   -- ---- hosts
 
   pub Decides-is_host : (bytes : Text) → Decides (is_host set bytes) (InUtf8 (IsHost set) bytes)
+  unfolding is_host is_ip_literal
   Decides-is_host bytes = Decides-like (is_host set bytes) there (λ z. back z.0 z.1 z.2 z.3) (Decides-or (is_ip_literal bytes) (is_reg_name set bytes) (Decides-is_ip_literal bytes) (Decides-is_reg_name set above bytes))
     where
       there : IsIpLiteral bytes ⊎ InUtf8 (IsRegName set) bytes → InUtf8 (IsHost set) bytes

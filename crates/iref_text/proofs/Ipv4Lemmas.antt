@@ -49,6 +49,7 @@ too_many : (n : ℕ) → (suc (suc (suc (suc (suc n)))) == 4) ≡ false
 too_many n = grind (arith, nat_tests)
 
 pub ipv4_value-sound : (text : Text) (n : ℕ) → ipv4_value text ≡ Some n → IsIpv4 text n
+unfolding ipv4_value
 ipv4_value-sound text n h = by (all_some (map octet_value (pieces_at 46 text))) refl h
   where
     four : (pieces : List Text) (octets : List ℕ) → join_with_byte 46 pieces ≡ text → AllZip WritesOctet pieces octets → four_octets octets ≡ Some n → IsIpv4 text n
@@ -104,6 +105,7 @@ octet_of_decimal n h =
     (λ i. cond (nat_lt (value i) 256 && bytes_eq (decimal n) (decimal (value i))) (Some (value i)) None) ∙ (λ i. cond (less i && same i) (Some n) None)
 
 pub ipv4_value-complete : (text : Text) (n : ℕ) → IsIpv4 text n → ipv4_value text ≡ Some n
+unfolding ipv4_value
 ipv4_value-complete text n v =
     let la = decimal_lacks_stop v.a v.in_range.0 in
     let lb = decimal_lacks_stop v.b v.in_range.1 in

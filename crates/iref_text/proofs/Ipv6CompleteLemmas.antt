@@ -234,6 +234,7 @@ short-complete text groups h =
     fits n e = grind (arith, nat_tests)
 
 pub ipv6_value-complete : (text : Text) (n : ℕ) → IsIpv6 text n → ipv6_value text ≡ Some n
+unfolding ipv6_value
 ipv6_value-complete text n h = ap (option_map (number_of 65536)) (by h.1) ∙ ap (λ m. Some m) (sym h.2)
   where
     by : IsFullIpv6 text h.0 ⊎ IsShortIpv6 text h.0 → ipv6_groups text ≡ Some h.0

@@ -191,6 +191,7 @@ groups-sound text groups h = by (around_double_colon text) refl (last_groups_of 
 
 -- what is computed is an address of that number
 pub ipv6_value-sound : (text : Text) (n : ℕ) → ipv6_value text ≡ Some n → IsIpv6 text n
+unfolding ipv6_value
 ipv6_value-sound text n h = by (ipv6_groups text) refl h
   where
     by : (o : Option (List ℕ)) → ipv6_groups text ≡ o → option_map (number_of 65536) o ≡ Some n → IsIpv6 text n

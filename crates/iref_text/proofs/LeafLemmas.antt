@@ -57,22 +57,28 @@ unfolding is_query_char
 query_refuses set above = λ i. fragment_refuses set above i || above.private percent_sign (lit< tt) i
 
 pub Decides-is_user_info : (set : CharTests) → AreAboveAscii set → (bytes : Text) → Decides (is_user_info set bytes) (InUtf8 (IsUserInfo set) bytes)
+unfolding is_user_info is_utf8
 Decides-is_user_info set above = Decides-in_utf8 _ _ (Decides-is_encoded (is_user_info_char set) (user_info_refuses set above))
 
 pub Decides-is_reg_name : (set : CharTests) → AreAboveAscii set → (bytes : Text) → Decides (is_reg_name set bytes) (InUtf8 (IsRegName set) bytes)
+unfolding is_reg_name is_utf8
 Decides-is_reg_name set above = Decides-in_utf8 _ _ (Decides-is_encoded (is_reg_name_char set) (percent_refused set above))
 
 pub Decides-is_segment : (set : CharTests) → AreAboveAscii set → (bytes : Text) → Decides (is_segment set bytes) (InUtf8 (IsSegment set) bytes)
+unfolding is_segment is_utf8
 Decides-is_segment set above = Decides-in_utf8 _ _ (Decides-is_encoded (is_path_char set) (path_refuses set above))
 
 pub Decides-is_query : (set : CharTests) → AreAboveAscii set → (bytes : Text) → Decides (is_query set bytes) (InUtf8 (IsQuery set) bytes)
+unfolding is_query is_utf8
 Decides-is_query set above = Decides-in_utf8 _ _ (Decides-is_encoded (is_query_char set) (query_refuses set above))
 
 pub Decides-is_fragment : (set : CharTests) → AreAboveAscii set → (bytes : Text) → Decides (is_fragment set bytes) (InUtf8 (IsFragment set) bytes)
+unfolding is_fragment is_utf8
 Decides-is_fragment set above = Decides-in_utf8 _ _ (Decides-is_encoded (is_fragment_char set) (fragment_refuses set above))
 
 -- of a text; a scheme and a port are ASCII
 pub Decides-is_scheme : (text : Text) → Decides (is_scheme text) (IsScheme text)
+unfolding is_scheme
 Decides-is_scheme text = (there text, λ z. subst (λ t. is_scheme t ≡ true) z.4 (back z.0 z.1 z.2 z.3))
   where
     there : (t : Text) → is_scheme t ≡ true → IsScheme t
@@ -90,4 +96,5 @@ Decides-is_scheme text = (there text, λ z. subst (λ t. is_scheme t ≡ true) z
         ap (λ f. is_scheme (f ++ rest)) one.2 ∙ both (is_ascii_alphabetic one.0) (list_all is_scheme_char rest) one.1 ((Decides-ones is_scheme_char rest).1 more)
 
 pub Decides-is_port : (text : Text) → Decides (is_port text) (IsPort text)
+unfolding is_port
 Decides-is_port text = Decides-ones is_ascii_digit text

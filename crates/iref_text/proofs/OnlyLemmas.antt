@@ -52,6 +52,7 @@ no_scheme s rest h = hidden (before (colon ∷ []) (s ++ slash ∷ rest)) (after
 
 -- a path with no scheme before it
 path_no_scheme : (absolute : Bool) (segments : List Text) → let p : PathValue = record { absolute = absolute; segments = segments } in (absolute || not (begins_with_colon_segment segments)) ≡ true → split_scheme (spell_path p) ≡ (None, spell_path p)
+unfolding spell_path
 path_no_scheme true segments h = no_scheme [] (join_with_byte slash segments) refl
 path_no_scheme false [] h = refl
 path_no_scheme false (s ∷ []) h = no_colon s h
@@ -77,6 +78,7 @@ no_slashes text h = ap (λ b. cond b (Some (before (slash ∷ []) (drop 2 text))
 
 -- a path that is read as one begins with no authority, or may follow one
 path_no_slashes : (absolute : Bool) (segments : List Text) → list_all (lacks slash) segments ≡ true → not (begins_empty segments) ≡ true → begins_with (codes "//") (spell_path (record { absolute = absolute; segments = segments })) ≡ false
+unfolding spell_path
 path_no_slashes true [] h k = refl
 path_no_slashes true ([] ∷ ss) h k = absurd (true≢false (sym k))
 path_no_slashes true ((c ∷ s) ∷ []) h k = λ i. first_lacks slash c s (first_of_both (lacks slash (c ∷ s)) true h) i && true
@@ -95,6 +97,7 @@ path_no_slashes false ((c ∷ s) ∷ t ∷ ss) h k = other_first c (s ++ slash �
     other_first d (f ∷ t) e = λ i. e i && ((slash == f) && true)
 
 path_ends_authority : (absolute : Bool) (segments : List Text) → (absolute || is_empty segments) ≡ true → ends_authority (spell_path (record { absolute = absolute; segments = segments })) ≡ true
+unfolding spell_path
 path_ends_authority true segments h = refl
 path_ends_authority false [] h = refl
 path_ends_authority false (s ∷ ss) h = absurd (true≢false (sym h))
@@ -159,7 +162,7 @@ assembled-middle scheme m query fragment = record { scheme = scheme; authority =
 
 -- the reference that is spelled is the one that is read
 pub read_reference-back : (r : ReferenceValue) → IsDelimited r → read_reference (spell r) ≡ r
-unfolding assembled assembled-middle
+unfolding assembled assembled-middle spell read_reference
 read_reference-back r d =
     let query = then_part (question_mark ∷ []) r.query in
     let whole : spell r ≡ (front_of r ++ query) ++ then_part (hash_sign ∷ []) r.fragment =

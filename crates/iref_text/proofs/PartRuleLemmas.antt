@@ -38,6 +38,7 @@ scheme_ascii : (text : Text) → IsScheme text → list_all is_ascii text ≡ tr
 scheme_ascii text z = ascii_from_lacks text (λ m h. scheme_lacks m (no_letter m h) (no_scheme_char m h) text ((Decides-is_scheme text).1 z))
 
 port_ascii : (text : Text) → IsPort text → list_all is_ascii text ≡ true
+unfolding is_port
 port_ascii text z = ascii_from_lacks text (λ m h. all_lacks is_ascii_digit m (no_digit m h) text ((Decides-is_port text).1 z))
 
 pub Decides-is_scheme_bytes : (bytes : Text) → Decides (is_scheme bytes) (InUtf8 IsScheme bytes)

@@ -51,6 +51,7 @@ relative_shown c cs h = ap (λ b. not (begins_empty (cond b ([] ∷ pieces_at sl
     by (p ∷ pieces) = refl
 
 pub read_path-reads : (text : Text) → IsReadAs text (read_path text)
+unfolding read_path spell_path
 read_path-reads [] = record { segments = refl; shown = refl; spelled = refl }
 read_path-reads (c ∷ cs) = elim (eqb_tells c slash) [
   | inl e ↦
@@ -78,13 +79,16 @@ lacks_first c s h = elim (eqb_tells c slash) [
 
 -- the text of a relative list begins with a character other than `/`
 read_relative : (c : ℕ) (text : Text) (segments : List Text) → (c == slash) ≡ false → segments_of (c ∷ text) ≡ segments → read_path (c ∷ text) ≡ record { absolute = false; segments = segments }
+unfolding read_path
 read_relative c text segments h e =
     (λ i. cond (h i) (record { absolute = true; segments = segments_of text }) (record { absolute = false; segments = segments_of (c ∷ text) })) ∙ (λ i. record { absolute = false; segments = e i })
 
 read_absolute : (text : Text) (segments : List Text) → segments_of text ≡ segments → read_path (slash ∷ text) ≡ record { absolute = true; segments = segments }
+unfolding read_path
 read_absolute text segments e = λ i. record { absolute = true; segments = e i }
 
 pub read-spelled : (absolute : Bool) (segments : List Text) → let p : PathValue = record { absolute = absolute; segments = segments } in list_all (lacks slash) segments ≡ true → shows_its_list p ≡ true → read_path (spell_path p) ≡ p
+unfolding read_path spell_path
 read-spelled true [] h k = refl
 read-spelled true (s ∷ ss) h k = read_absolute (join_with_byte slash (s ∷ ss)) (s ∷ ss) (segments_of-join s ss h k)
 read-spelled false [] h k = refl

@@ -156,6 +156,7 @@ module _ (set : CharTests) (above : AreAboveAscii set) where
   empty_segment = ([], refl, refl, none_of (IsPathChar set))
 
   pub in_utf8-after_authority : (b : Bool) (bytes : Text) → InUtf8 (IsAbEmptyPath set) bytes ↔ IsPathIn set (record { has_scheme = b; has_authority = true }) bytes
+  unfolding spell_path
   in_utf8-after_authority b bytes = (
     λ z. let s = (in_utf8-ab_empty bytes).0 z in there s.0 s.1 s.2,
     λ p. (in_utf8-ab_empty bytes).1 (back p.path.absolute p.path.segments p.segments p.follows p.spelled),
@@ -179,6 +180,7 @@ module _ (set : CharTests) (above : AreAboveAscii set) where
   IsAlonePath b = IsAbsolutePath set or IsStart set b or Empty
 
   pub in_utf8-alone : (b : Bool) (bytes : Text) → InUtf8 (IsAlonePath b) bytes ↔ IsPathIn set (record { has_scheme = b; has_authority = false }) bytes
+  unfolding spell_path in_utf8-start
   in_utf8-alone b bytes = (
     λ z. there ((in_utf8-or (IsAbsolutePath set) (IsStart set b or Empty) bytes).0 z),
     λ p. (in_utf8-or (IsAbsolutePath set) (IsStart set b or Empty) bytes).1 (back p.path.absolute p.path.segments p.segments p.reads p.spelled),

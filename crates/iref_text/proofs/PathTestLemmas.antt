@@ -64,6 +64,7 @@ module _ (set : CharTests) (above : AreAboveAscii set) where
   segments_of-are (c ∷ cs) all = all
 
   read_segments : (bytes : Text) → AreSegments set (pieces_at slash bytes) → AreSegments set (read_path bytes).segments
+  unfolding read_path
   read_segments [] all = tt
   read_segments (c ∷ cs) all = by (c == slash) all
     where
@@ -87,6 +88,7 @@ module _ (set : CharTests) (above : AreAboveAscii set) where
       more-append (InUtf8 (PathPiece set)) s (slash ∷ rest) (segment_pieces s all.0) (one_more (InUtf8 (PathPiece set)) (slash ∷ []) rest slash_piece (join_pieces (t ∷ ss) all.1))
 
   spelled_pieces : (absolute : Bool) (ss : List Text) → AreSegments set ss → ZeroOrMore (InUtf8 (PathPiece set)) (spell_path (record { absolute = absolute; segments = ss }))
+  unfolding spell_path
   spelled_pieces true ss all = one_more (InUtf8 (PathPiece set)) (slash ∷ []) (join_with_byte slash ss) slash_piece (join_pieces ss all)
   spelled_pieces false ss all = join_pieces ss all
 

@@ -37,6 +37,7 @@ from_path_piece set p (inr mark) = inl (slash, or_true (is_path_char set slash),
 
 module _ (set : CharTests) (above : AreAboveAscii set) where
   pub Decides-is_path : (bytes : Text) → Decides (is_path set bytes) (InUtf8 (IsPath set) bytes)
+  unfolding is_path
   Decides-is_path bytes = Decides-in_utf8 (is_encoded (path_or_slash set)) (IsPath set) of_text bytes
     where
       of_text : (text : Text) → Decides (is_encoded (path_or_slash set) text) (IsPath set text)

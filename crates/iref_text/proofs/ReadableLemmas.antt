@@ -22,6 +22,7 @@ use Rattle.iref_text.proofs.AuthorityLemmas.{IsDelimitedAuthority, delimited_aut
 use Rattle.iref_text.proofs.ComponentLackLemmas.{scheme_lacks, IsCut, slash_cuts, question_cuts, hash_cuts, segments_lack, query_lacks, part_then_lacks, then_part_lacks, option_lacks}
 
 path_lacks : (mark : ℕ) → (slash == mark) ≡ false → (absolute : Bool) (segments : List Text) → list_all (lacks mark) segments ≡ true → lacks mark (spell_path (record { absolute = absolute; segments = segments })) ≡ true
+unfolding spell_path
 path_lacks mark h true segments k = lacks_more mark slash (join_with_byte slash segments) h (join_lacks mark slash h segments k)
 path_lacks mark h false segments k = join_lacks mark slash h segments k
 
@@ -48,6 +49,7 @@ module _ (set : CharTests) (above : AreAboveAscii set) where
 
   -- a readable reference is delimited
   pub readable_delimited : (r : ReferenceValue) → is_readable set r ≡ true → IsDelimited r
+  unfolding is_readable
   readable_delimited r h =
       let s = none_or is_scheme r.scheme in
       let a = none_or (has_authority_parts set) r.authority in
@@ -90,6 +92,7 @@ module _ (set : CharTests) (above : AreAboveAscii set) where
 
   -- a text is taken exactly if some readable reference spells it
   pub Decides-is_reference : (text : Text) → Decides (is_reference set text) ((r : ReferenceValue) × (is_readable set r ≡ true) × (spell r ≡ text))
+  unfolding is_readable is_reference
   Decides-is_reference text = (
     λ h. (read_reference text, h, read_reference-spelled text),
     λ z. ap (λ t. is_readable set (read_reference t)) (sym z.2) ∙ ap (is_readable set) (readable_read z.0 z.1) ∙ z.1,

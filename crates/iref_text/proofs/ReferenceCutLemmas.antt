@@ -60,6 +60,7 @@ regroup a b c d e = append_assoc (a ++ b ++ c) d e ∙ ap (λ t. t ++ (d ++ e)) 
 
 -- every text is spelled by the reference that is read from it
 pub read_reference-spelled : (text : Text) → spell (read_reference text) ≡ text
+unfolding spell read_reference
 read_reference-spelled text =
     let front = split_scheme (hierarchy text) in
     let middle = split_authority front.1 in

@@ -61,6 +61,7 @@ module _ (set : CharTests) (above : AreAboveAscii set) where
   -- ---- the test of the value
 
   pub Decides-is_readable : (r : ReferenceValue) → Decides (is_readable set r) (IsReadable set r)
+  unfolding is_readable
   Decides-is_readable r =
       let s = none_or is_scheme r.scheme in
       let a = none_or (has_authority_parts set) r.authority in
@@ -94,6 +95,7 @@ module _ (set : CharTests) (above : AreAboveAscii set) where
 
   -- what a text is read as
   pub reading : (text : Text) (r : ReferenceValue) → IsReadAsReference set text r ↔ ((is_reference set text ≡ true) × (read_reference text ≡ r))
+  unfolding is_reference is_readable
   reading text r = (
     λ v. let read : read_reference text ≡ r = ap read_reference (sym v.spelled) ∙ reference_read r v.readable in (ap (is_readable set) read ∙ (Decides-is_readable r).1 v.readable, read),
     λ z. record { readable = subst (IsReadable set) z.1 ((Decides-is_readable (read_reference text)).0 z.0); spelled = ap spell (sym z.1) ∙ read_reference-spelled text },
@@ -184,6 +186,7 @@ module _ (set : CharTests) (above : AreAboveAscii set) where
 
   -- a reference from its components
   assembled : (scheme : Option Text) → IfSome scheme (InUtf8 IsScheme) → (front tail bytes : Text) → IsFront set (is_some scheme) front → IsTail set tail → part_then (colon ∷ []) scheme ++ (front ++ tail) ≡ bytes → IsSpelledReference set (is_some scheme) bytes
+  unfolding spell
   assembled scheme s front tail bytes f t e = record {
     reference = record { scheme = scheme; authority = f.authority; path = f.path; query = t.query; fragment = t.fragment };
     readable = record { scheme = s; authority = f.parts; segments = f.segments; query = t.in_query; fragment = t.in_fragment; follows_authority = f.follows; reads_as_path = f.reads };
@@ -194,6 +197,7 @@ module _ (set : CharTests) (above : AreAboveAscii set) where
   }
 
   pub in_utf8-uri : (bytes : Text) → InUtf8 (IsUri set) bytes ↔ IsSpelledReference set true bytes
+  unfolding spell
   in_utf8-uri bytes = (there, λ z. back z.reference z.reference.scheme refl z.readable z.scheme z.spelled)
     where
       there : InUtf8 (IsUri set) bytes → IsSpelledReference set true bytes
@@ -218,6 +222,7 @@ module _ (set : CharTests) (above : AreAboveAscii set) where
           (in_utf8-joined IsScheme (Mark colon ⨾ IsHierPart set ⨾ IsQueryAndFragment set) bytes).1 (s, colon ∷ (front ++ tail), scheme, marked, spelled)
 
   pub in_utf8-relative : (bytes : Text) → InUtf8 (IsRelativePart set ⨾ IsQueryAndFragment set) bytes ↔ IsSpelledReference set false bytes
+  unfolding spell
   in_utf8-relative bytes = (there, λ z. back z.reference z.reference.scheme refl z.readable z.scheme z.spelled)
     where
       there : InUtf8 (IsRelativePart set ⨾ IsQueryAndFragment set) bytes → IsSpelledReference set false bytes
@@ -237,9 +242,11 @@ module _ (set : CharTests) (above : AreAboveAscii set) where
 
   -- a text that a readable reference spells is taken
   spelled_taken : (r : ReferenceValue) (bytes : Text) → IsReadable set r → spell r ≡ bytes → is_reference set bytes ≡ true
+  unfolding is_reference is_readable
   spelled_taken r bytes v e = ap (λ t. is_readable set (read_reference t)) (sym e) ∙ ap (is_readable set) (reference_read r v) ∙ (Decides-is_readable r).1 v
 
   pub Decides-is_uri_reference : (bytes : Text) → Decides (is_reference set bytes) (InUtf8 (IsUriReference set) bytes)
+  unfolding is_readable is_reference
   Decides-is_uri_reference bytes = (there, λ z. back ((in_utf8-or (IsUri set) (IsRelativePart set ⨾ IsQueryAndFragment set) bytes).0 z))
     where
       by : (r : ReferenceValue) → IsReadable set r → spell r ≡ bytes → (b : Bool) → is_some r.scheme ≡ b → (InUtf8 (IsUri set) or InUtf8 (IsRelativePart set ⨾ IsQueryAndFragment set)) bytes
@@ -257,12 +264,14 @@ module _ (set : CharTests) (above : AreAboveAscii set) where
 
   -- the rule is the spelling of readable references
   pub in_utf8-reference : (bytes : Text) → InUtf8 (IsUriReference set) bytes ↔ ((r : ReferenceValue) × IsReadable set r × (spell r ≡ bytes))
+  unfolding is_readable is_reference
   in_utf8-reference bytes = (
     λ z. let r = read_reference bytes in (r, (Decides-is_readable r).0 ((Decides-is_uri_reference bytes).1 z), read_reference-spelled bytes),
     λ z. (Decides-is_uri_reference bytes).0 (spelled_taken z.0 bytes z.1 z.2),
   )
 
   pub Decides-is_uri : (bytes : Text) → Decides (is_full_reference set bytes) (InUtf8 (IsUri set) bytes)
+  unfolding read_reference is_full_reference is_readable is_reference
   Decides-is_uri bytes = (there, back)
     where
       there : is_full_reference set bytes ≡ true → InUtf8 (IsUri set) bytes

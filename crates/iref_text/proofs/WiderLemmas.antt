@@ -97,6 +97,7 @@ module _ (small large : CharTests) (w : IsWider small large) where
   }
 
   pub reference_wider : AreAboveAscii small → AreAboveAscii large → (bytes : Text) → is_reference small bytes ≡ true → is_reference large bytes ≡ true
+  unfolding Rattle.iref_text.specs.Reference.is_readable is_reference
   reference_wider low high bytes h = (Decides-is_readable large high (read_reference bytes)).1 (readable_wider (read_reference bytes) ((Decides-is_readable small low (read_reference bytes)).0 h))
 
 -- every set is wider than that of URIs

@@ -12,7 +12,7 @@ pub record AuthorityValue : Type 0 where
   pub port : Option Text
 
 -- section 3.2
-abbrev pub spell_authority : AuthorityValue → Text
+unfoldable pub spell_authority : AuthorityValue → Text
 spell_authority a = part_then (at_sign ∷ []) a.user_info ++ a.host ++ then_part (colon ∷ []) a.port
 
 -- each part is in its rule
@@ -23,7 +23,7 @@ pub record HasAuthorityParts (set : CharTests) (a : AuthorityValue) : Type 0 whe
 
 -- ---- the same, computed
 
-abbrev pub has_authority_parts : CharTests → AuthorityValue → Bool
+unfoldable pub has_authority_parts : CharTests → AuthorityValue → Bool
 has_authority_parts set a = none_or (is_user_info set) a.user_info && is_host set a.host && none_or is_port a.port
 
 -- of host and port: in brackets no `:` ends the host
@@ -39,11 +39,11 @@ read_host text = bracketed text ++ before (colon ∷ []) (after_bracketed text)
 abbrev pub read_host_and_port : Option Text → Text → AuthorityValue
 read_host_and_port user text = record { user_info = user; host = read_host text; port = after colon (after_bracketed text) }
 
-abbrev pub read_authority : Text → AuthorityValue
+unfoldable pub read_authority : Text → AuthorityValue
 read_authority text = elim (after at_sign text) [
   | None ↦ read_host_and_port None text
   | Some rest ↦ read_host_and_port (Some (before (at_sign ∷ []) text)) rest
 ]
 
-abbrev pub is_authority : CharTests → Text → Bool
+unfoldable pub is_authority : CharTests → Text → Bool
 is_authority set text = has_authority_parts set (read_authority text)

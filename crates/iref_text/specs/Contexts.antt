@@ -23,7 +23,7 @@ abbrev pub has_slashes : Text → Bool
 has_slashes bytes = begins_with (cond (begins_with_scheme bytes) (codes "://") (codes "//")) (cond (begins_with_scheme bytes) (from_first (colon ∷ []) bytes) bytes)
 
 -- `PathContext::from_bytes`
-abbrev pub context_from : Text → PathContext
+unfoldable pub context_from : Text → PathContext
 context_from bytes = record { has_scheme = begins_with_scheme bytes; has_authority = has_slashes bytes }
 
 -- the first segment holds a `:`

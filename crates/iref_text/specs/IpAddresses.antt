@@ -89,7 +89,7 @@ octet_value text = if nat_lt (digits_value 10 text) 256 && bytes_eq text (decima
 abbrev pub four_octets : List ℕ → Option ℕ
 four_octets octets = if length octets == 4 then Some (number_of 256 octets) else None
 
-abbrev pub ipv4_value : Text → Option ℕ
+unfoldable pub ipv4_value : Text → Option ℕ
 ipv4_value text = option_and_then four_octets (all_some (map octet_value (pieces_at 46 text)))
 
 abbrev pub group_value : Text → Option ℕ
@@ -134,5 +134,5 @@ ipv6_groups text = elim (around_double_colon text) [
   | Some parts ↦ short_ipv6_groups parts
 ]
 
-abbrev pub ipv6_value : Text → Option ℕ
+unfoldable pub ipv6_value : Text → Option ℕ
 ipv6_value text = option_map (number_of 65536) (ipv6_groups text)

@@ -11,7 +11,7 @@ pub record PathValue : Type 0 where
   pub segments : List Text
 
 -- `/` if the path is absolute, then the segments with `/` between
-abbrev pub spell_path : PathValue → Text
+unfoldable pub spell_path : PathValue → Text
 spell_path p = (if p.absolute then slash ∷ [] else []) ++ join_with_byte slash p.segments
 
 -- there is a first segment, and it is empty
@@ -40,7 +40,7 @@ pub record IsReadAs (text : Text) (p : PathValue) : Type 0 where
 abbrev pub segments_of : Text → List Text
 segments_of text = if is_empty text then [] else pieces_at slash text
 
-abbrev pub read_path : Text → PathValue
+unfoldable pub read_path : Text → PathValue
 read_path [] = record { absolute = false; segments = [] }
 read_path (c ∷ cs) =
     if c == slash

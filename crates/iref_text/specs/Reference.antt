@@ -24,7 +24,7 @@ abbrev pub context_of : ReferenceValue → PathContext
 context_of r = record { has_scheme = is_some r.scheme; has_authority = is_some r.authority }
 
 -- section 5.3
-abbrev pub spell : ReferenceValue → Text
+unfoldable pub spell : ReferenceValue → Text
 spell r =
     part_then (colon ∷ []) r.scheme ++ then_part (codes "//") (option_map spell_authority r.authority) ++ spell_path r.path
     ++ then_part (question_mark ∷ []) r.query ++ then_part (hash_sign ∷ []) r.fragment
@@ -46,7 +46,7 @@ pub record IsReadAsReference (set : CharTests) (text : Text) (r : ReferenceValue
 
 -- ---- the same, computed
 
-abbrev pub is_readable : CharTests → ReferenceValue → Bool
+unfoldable pub is_readable : CharTests → ReferenceValue → Bool
 is_readable set r =
     none_or is_scheme r.scheme && none_or (has_authority_parts set) r.authority && list_all (is_segment set) r.path.segments
     && none_or (is_query set) r.query && none_or (is_fragment set) r.fragment
@@ -71,7 +71,7 @@ split_authority text =
 abbrev pub hierarchy : Text → Text
 hierarchy text = before (question_mark ∷ []) (before (hash_sign ∷ []) text)
 
-abbrev pub read_reference : Text → ReferenceValue
+unfoldable pub read_reference : Text → ReferenceValue
 read_reference text =
     let front = split_scheme (hierarchy text) in
     let middle = split_authority front.1 in
@@ -83,9 +83,9 @@ read_reference text =
       fragment = after hash_sign text;
     }
 
-abbrev pub is_reference : CharTests → Text → Bool
+unfoldable pub is_reference : CharTests → Text → Bool
 is_reference set text = is_readable set (read_reference text)
 
 -- a reference with a scheme
-abbrev pub is_full_reference : CharTests → Text → Bool
+unfoldable pub is_full_reference : CharTests → Text → Bool
 is_full_reference set text = is_some (split_scheme (hierarchy text)).0 && is_reference set text

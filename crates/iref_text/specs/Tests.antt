@@ -30,20 +30,20 @@ abbrev pub in_utf8 : (Text → Bool) → Text → Bool
 in_utf8 test bytes = is_utf8 bytes && test (chars bytes)
 
 -- the first character passes one test and the others pass the other; of any text
-abbrev pub is_scheme : Text → Bool
+unfoldable pub is_scheme : Text → Bool
 is_scheme [] = false
 is_scheme (c ∷ cs) = is_ascii_alphabetic c && list_all is_scheme_char cs
 
-abbrev pub is_port : Text → Bool
+unfoldable pub is_port : Text → Bool
 is_port text = list_all is_ascii_digit text
 
-abbrev pub is_user_info : CharTests → Text → Bool
+unfoldable pub is_user_info : CharTests → Text → Bool
 is_user_info set bytes = in_utf8 (is_encoded (is_user_info_char set)) bytes
 
-abbrev pub is_reg_name : CharTests → Text → Bool
+unfoldable pub is_reg_name : CharTests → Text → Bool
 is_reg_name set bytes = in_utf8 (is_encoded (is_reg_name_char set)) bytes
 
-abbrev pub is_ipv4 : Text → Bool
+unfoldable pub is_ipv4 : Text → Bool
 is_ipv4 text = is_some (ipv4_value text)
 
 abbrev pub is_future_version : Text → Bool
@@ -53,7 +53,7 @@ abbrev pub is_future_address : Option Text → Bool
 is_future_address None = false
 is_future_address (Some address) = not (is_empty address) && list_all is_future_char address
 
-abbrev pub is_ipvfuture : Text → Bool
+unfoldable pub is_ipvfuture : Text → Bool
 is_ipvfuture [] = false
 is_ipvfuture (c ∷ cs) =
     char_set_contains (codes "vV") c && is_future_version (before (full_stop ∷ []) cs) && is_future_address (after full_stop cs)
@@ -79,20 +79,20 @@ in_brackets (c ∷ cs) = if c == left_bracket && ends_here (after right_bracket 
 abbrev pub is_ip_address : Text → Bool
 is_ip_address address = is_some (ipv6_value address) || is_ipvfuture address
 
-abbrev pub is_ip_literal : Text → Bool
+unfoldable pub is_ip_literal : Text → Bool
 is_ip_literal text = some_and is_ip_address (in_brackets text)
 
-abbrev pub is_host : CharTests → Text → Bool
+unfoldable pub is_host : CharTests → Text → Bool
 is_host set bytes = is_ip_literal bytes || is_reg_name set bytes
 
-abbrev pub is_segment : CharTests → Text → Bool
+unfoldable pub is_segment : CharTests → Text → Bool
 is_segment set bytes = in_utf8 (is_encoded (is_path_char set)) bytes
 
-abbrev pub is_path : CharTests → Text → Bool
+unfoldable pub is_path : CharTests → Text → Bool
 is_path set bytes = in_utf8 (is_encoded (λ c. is_path_char set c || c == slash)) bytes
 
-abbrev pub is_query : CharTests → Text → Bool
+unfoldable pub is_query : CharTests → Text → Bool
 is_query set bytes = in_utf8 (is_encoded (is_query_char set)) bytes
 
-abbrev pub is_fragment : CharTests → Text → Bool
+unfoldable pub is_fragment : CharTests → Text → Bool
 is_fragment set bytes = in_utf8 (is_encoded (is_fragment_char set)) bytes
