@@ -75,17 +75,24 @@ abbrev pub text_and_edits : List Text → Option Request
 text_and_edits [] = None
 text_and_edits (r ∷ fields) = option_map (Edit r) (all_some (map read_edit fields))
 
-abbrev pub verbs : List (Text × (List Text → Option Request))
-verbs =
+abbrev pub Verbs : Type 0
+Verbs = List (Text × (List Text → Option Request))
+
+abbrev pub all_verbs : Verbs
+all_verbs =
     (codes "parts", one_text Parts) ∷ (codes "resolve", two_texts Resolve) ∷ (codes "relative", two_texts Relative)
     ∷ (codes "normal", one_text Normal) ∷ (codes "equal", two_texts Equal) ∷ (codes "edit", text_and_edits) ∷ []
 
-abbrev pub read_fields : List Text → Option Request
-read_fields [] = None
-read_fields (verb ∷ fields) = option_and_then (λ v. v.1 fields) (find (λ v. bytes_eq v.0 verb) verbs)
+-- the verbs that the program has so far
+abbrev pub program_verbs : Verbs
+program_verbs = (codes "parts", one_text Parts) ∷ []
 
-unfoldable pub read_line : Text → Option Request
-read_line line = read_fields (pieces_at tab line)
+abbrev pub read_fields : Verbs → List Text → Option Request
+read_fields verbs [] = None
+read_fields verbs (verb ∷ fields) = option_and_then (λ v. v.1 fields) (find (λ v. bytes_eq v.0 verb) verbs)
+
+unfoldable pub read_line : Verbs → Text → Option Request
+read_line verbs line = read_fields verbs (pieces_at tab line)
 
 -- each text of the request is in its grammar
 abbrev pub is_valid_edit : EditStep → Bool
@@ -141,8 +148,8 @@ answer_to (Edit r edits) = edits_answer (edited_all 0 edits (read_reference r))
 abbrev pub answer_if_valid : Request → LineAnswer
 answer_if_valid request = elim (is_valid request) [ true ↦ answer_to request | false ↦ InvalidText ]
 
-unfoldable pub answer : Text → LineAnswer
-answer line = elim (read_line line) [ None ↦ BadCommand | Some request ↦ answer_if_valid request ]
+unfoldable pub answer : Verbs → Text → LineAnswer
+answer verbs line = elim (read_line verbs line) [ None ↦ BadCommand | Some request ↦ answer_if_valid request ]
 
 abbrev pub answer_text : LineAnswer → Text
 answer_text (Answered text) = codes "ok" ++ tab ∷ text
@@ -159,6 +166,6 @@ without_empty_last (line ∷ lines) =
 abbrev pub lines_of : Text → List Text
 lines_of input = without_empty_last (pieces_at newline input)
 
--- what the program writes for what it reads
-unfoldable pub output : Text → Text
-output input = flat_map (λ line. answer_text (answer line) ++ newline ∷ []) (lines_of input)
+-- what a program with these verbs writes for what it reads, where memory is found
+unfoldable pub output : Verbs → Text → Text
+output verbs input = flat_map (λ line. answer_text (answer verbs line) ++ newline ∷ []) (lines_of input)
