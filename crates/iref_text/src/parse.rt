@@ -1,0 +1,3 @@
+//! Whether a text is in a rule of the grammar, and where its parts stand.
+
+pub mod scan;
