@@ -4,3 +4,4 @@ pub mod Key
 pub mod Relative
 pub mod RelativeLaws
 pub mod ReferenceSuffix
+pub mod ReferenceParts
