@@ -1,6 +1,7 @@
 pub mod Guard
 pub mod NormalList
 pub mod NormalReading
+pub mod PathFunctions
 pub mod PathSteps
 pub mod PathSuffix
 pub mod DotSegments

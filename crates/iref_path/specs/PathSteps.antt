@@ -2,9 +2,10 @@
 use Rattle.std.specs.Prelude.{Bool, false, not, ◌&&◌, ◌||◌, List, [], ◌∷◌, ◌++◌, fold, codes, if◌then◌else◌}
 use Rattle.iref_text.specs.declared.common.PathContext.{PathContext}
 use Rattle.iref_text.specs.Rules.{Text}
-use Rattle.iref_text.specs.Texts.{is_empty, all_but_last}
+use Rattle.iref_text.specs.Texts.{is_empty}
 use Rattle.iref_text.specs.PathValue.{PathValue}
-use Rattle.iref_path.specs.Guard.{guarded, guarded_list}
+use Rattle.iref_path.specs.Guard.{guarded}
+use Rattle.iref_path.specs.PathFunctions.{without_last}
 use Rattle.iref_path.specs.NormalList.{is_dot, is_dot_dot, is_name, ends_in_dots, normal}
 
 -- on the empty list the guarded list of the segment; else the segment at the end
@@ -24,7 +25,7 @@ unfoldable pub popped : PathContext → PathValue → PathValue
 popped context p =
     if ends_in_parent p.segments || is_empty p.segments && not p.absolute
     then lazy_pushed context (codes "..") p
-    else (if is_empty p.segments then p else guarded_list (record p { segments = all_but_last p.segments }))
+    else (if is_empty p.segments then p else without_last p)
 
 -- an empty segment at the end of a list that is not empty
 abbrev pub closed_path : PathContext → PathValue → PathValue
@@ -55,13 +56,6 @@ normalized context p = guarded context (normal p)
 
 abbrev pub cleared : PathValue → PathValue
 cleared p = record p { segments = [] }
-
--- `Path::parent`: without the last segment
-unfoldable pub parent : PathValue → PathValue
-parent p = guarded_list (record p { segments = all_but_last p.segments })
-
-abbrev pub has_parent : PathValue → Bool
-has_parent p = not (is_empty p.segments) && (p.absolute || not (is_empty (all_but_last p.segments)))
 
 -- `PathBuf::from_segments`: repeated push
 unfoldable pub from_segments : Bool → List Text → PathValue
