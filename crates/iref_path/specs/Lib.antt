@@ -7,4 +7,3 @@ pub mod PathSuffix
 pub mod DotSegments
 pub mod CountedEquality
 pub mod PathKey
-pub mod PathParts

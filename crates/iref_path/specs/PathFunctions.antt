@@ -9,6 +9,7 @@ use Rattle.iref_text.specs.Texts.{before, is_empty, all_but_last}
 use Rattle.iref_text.specs.Tests.{is_scheme}
 use Rattle.iref_text.specs.PathValue.{PathValue}
 use Rattle.iref_path.specs.Guard.{guarded_list}
+use Rattle.iref_path.specs.NormalList.{closed}
 
 -- how many segments the path has
 abbrev pub segment_count : PathValue → ℕ
@@ -29,9 +30,13 @@ unless_empty s = if is_empty s then None else Some s
 unfoldable pub file_name : PathValue → Option Text
 file_name p = option_and_then unless_empty (last p)
 
--- of a path's text: all up to and with the last `/`, so nothing where there is none
-unfoldable pub directory : Text → Text
-directory text = take (length text - suffix_len (λ c. not (c == slash)) text) text
+-- the path without its last segment, but with the `/` before that: where the list is not empty, it ends in an empty segment
+unfoldable pub directory : PathValue → PathValue
+directory p = record p { segments = closed (all_but_last p.segments) }
+
+-- the same of a path's text: all up to and with the last `/`, so nothing where there is none
+unfoldable pub directory_text : Text → Text
+directory_text text = take (length text - suffix_len (λ c. not (c == slash)) text) text
 
 -- the path without its last segment, guarded as a list
 abbrev pub without_last : PathValue → PathValue

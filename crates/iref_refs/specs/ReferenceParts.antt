@@ -1,6 +1,6 @@
 -- A reference without its last components.
 use Rattle.std.specs.Prelude.{None}
-use Rattle.iref_path.specs.PathParts.{directory}
+use Rattle.iref_path.specs.PathFunctions.{directory}
 use Rattle.iref_text.specs.Reference.{ReferenceValue}
 
 -- `UriRef::without_fragment`
