@@ -1,5 +1,6 @@
 pub mod TextLemmas
 pub mod ScanLemmas
+pub mod DecodedLemmas
 pub mod RuleLemmas
 pub mod EncodedLemmas
 pub mod LackLemmas

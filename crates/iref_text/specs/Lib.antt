@@ -8,3 +8,4 @@ pub mod Contexts
 pub mod Authority
 pub mod PathValue
 pub mod Reference
+pub mod Decoded

@@ -6,5 +6,6 @@ pub mod chars;
 pub mod common;
 pub mod parse;
 pub mod path_laws;
+pub mod pct;
 pub mod reference_laws;
 pub mod text_laws;
