@@ -4,3 +4,6 @@ pub mod RelativeLemmas
 pub mod AnswerLemmas
 pub mod ResolvedLemmas
 pub mod ReferenceStepLemmas
+mod ResolutionRows
+mod RelativeRows
+mod ReferenceRows

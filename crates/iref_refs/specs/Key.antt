@@ -1,14 +1,11 @@
 -- What references are compared by (RFC 3986 section 6.2.2).
-use Rattle.std.specs.Prelude.{◌≡◌, Bool, map, option_map}
+use Rattle.std.specs.Prelude.{◌≡◌, Bool, option_map}
 use Rattle.std.specs.Option.{option_cmp}
 use Rattle.std.specs.Str.{str_to_ascii_lowercase}
 use Rattle.std.specs.declared.cmp.Ordering.{Ordering}
-use Rattle.std.specs.Ordering.{nat_cmp, bool_cmp, ordering_then, is_eq}
-use Rattle.std.specs.Cmp.Lexicographic.{slice_cmp}
+use Rattle.std.specs.Ordering.{ordering_then, is_eq}
 use Rattle.percent_encoding.specs.Percent.{percent_decode}
-use Rattle.iref_text.specs.Rules.{Text}
 use Rattle.iref_text.specs.Authority.{AuthorityValue}
-use Rattle.iref_text.specs.PathValue.{PathValue}
 use Rattle.iref_path.specs.PathKey.{text_cmp, path_key, path_key_cmp}
 use Rattle.iref_text.specs.Reference.{ReferenceValue}
 
