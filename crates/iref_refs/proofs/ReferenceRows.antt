@@ -10,7 +10,7 @@ use Rattle.iref_text.specs.Reference.{ReferenceValue, spell, read_reference}
 use Rattle.iref_path.specs.Guard.{guarded}
 use Rattle.iref_path.specs.NormalList.{normal_segments, excess, staying_names}
 use Rattle.iref_path.specs.PathKey.{path_key}
-use Rattle.iref_path.specs.PathParts.{directory}
+use Rattle.iref_path.specs.PathFunctions.{directory}
 use Rattle.iref_path.specs.PathSuffix.{path_suffix}
 use Rattle.iref_refs.specs.Key.{key, key_cmp, are_alike}
 use Rattle.iref_refs.specs.ReferenceParts.{base_of, without_fragment, without_query_and_fragment}
