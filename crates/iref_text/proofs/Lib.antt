@@ -1,6 +1,5 @@
 pub mod TextLemmas
 pub mod ScanLemmas
-pub mod DecodedLemmas
 pub mod RuleLemmas
 pub mod EncodedLemmas
 pub mod LackLemmas
@@ -27,3 +26,4 @@ pub mod ReadableLemmas
 pub mod ReferenceRuleLemmas
 pub mod WiderLemmas
 pub mod GrammarSamples
+pub mod KeyLemmas

@@ -8,4 +8,6 @@ pub mod Contexts
 pub mod Authority
 pub mod PathValue
 pub mod Reference
-pub mod Decoded
+pub mod Keys
+pub mod Makers
+pub mod Views

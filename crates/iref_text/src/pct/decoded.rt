@@ -1,10 +1,8 @@
 //! Comparison and hash of the bytes that texts decode to. No decoded copy is made.
 
-ghost use Rattle.std.specs.Prelude.{◌≡◌, ◌==◌, fold};
-ghost use Rattle.std.specs.Cmp.Lexicographic.{pointwise, slice_cmp};
-ghost use Rattle.std.specs.Ordering.{nat_cmp};
+ghost use Rattle.std.specs.Prelude.{◌≡◌, fold};
 ghost use Rattle.percent_encoding.specs.Percent.{percent_decode};
-ghost use Rattle.iref_text.specs.Decoded.{fed_bytes};
+ghost use Rattle.iref_text.specs.Keys.{is_same_text, text_order, fed_bytes};
 
 use percent_encoding::percent_decode_str;
 use std::cmp::Ordering;
@@ -12,20 +10,20 @@ use std::hash::Hasher;
 
 /// The order of the bytes that two texts decode to.
 pub fn decoded_cmp(a: &str, b: &str) -> Ordering
-    ensures { result ≡ slice_cmp nat_cmp (percent_decode a.now) (percent_decode b.now) }
+    ensures { result ≡ text_order (percent_decode a.now) (percent_decode b.now) }
 {
     percent_decode_str(a).cmp(percent_decode_str(b))
 }
 
-#[tactic(auto, using(crate::proofs::DecodedLemmas::pointwise_ties))]
+#[tactic(auto, using(crate::proofs::KeyLemmas::same_where_tied))]
 /// Whether two texts decode to the same bytes.
 pub fn decoded_eq(a: &str, b: &str) -> bool
-    ensures { result ≡ pointwise ◌==◌ (percent_decode a.now) (percent_decode b.now) }
+    ensures { result ≡ is_same_text (percent_decode a.now) (percent_decode b.now) }
 {
     a == b || decoded_cmp(a, b).is_eq()
 }
 
-#[tactic(auto, unfolding(crate::specs::Decoded::fed_bytes))]
+#[tactic(auto, unfolding(crate::specs::Keys::fed_bytes))]
 /// Feeds the hasher each byte that the text decodes to, and then 255, which ends the text.
 pub fn hash_decoded<H: Hasher>(text: &str, state: &mut H)
     ensures { state.new ≡ fold H.write state.old (fed_bytes (percent_decode text.now)) }

@@ -1,0 +1,141 @@
+//! Owned texts of a rule: what the owners share that are not edited in place.
+ghost use Rattle.std.specs.Prelude.{◌≡◌, true, OnOk, IfOk};
+ghost use Rattle.std.specs.String.{string_bytes, string_vec};
+ghost use Rattle.std.specs.Ordering.{on, as_partial_cmp};
+ghost use Rattle.std.specs.Cmp.{partial_order_from_own_ties};
+ghost use Rattle.std.specs.Cmp.Rules.{comparing, hashing};
+ghost use Rattle.std.proofs.Common.{rules};
+ghost use Rattle.iref_text.specs.Rules.{InUtf8};
+ghost use Rattle.iref_text.specs.Keys.{is_same_text, text_order, fed_bytes};
+ghost use Rattle.iref_text.specs.Makers.{Parses};
+
+use crate::parse::view::{Rule, View};
+use std::alloc::{AllocError, Global};
+use std::cmp::Ordering;
+use std::fmt;
+use std::hash::{Hash, Hasher};
+use std::marker::PhantomData;
+
+/// An owned text of a rule.
+#[derive(Drop)]
+pub struct TextBuf<R: Rule> {
+    text: String,
+    rule: PhantomData<R>,
+    ghost in_rule: { R.test (string_bytes text) ≡ true },
+}
+
+impl<R: Rule> TextBuf<R> {
+    ghost use Rattle.iref_text.specs.Views.{view_text, owned_text};
+
+    /// The owner of a text that is in the rule, or the text.
+    pub fn new(text: String) -> Result<Self, String>
+        ensures { Parses (InUtf8 R.rule) (string_bytes text) owned_text (λ input. input ≡ text) result }
+    {
+        R::decided();
+        if R::accepts(text.as_str()) {
+            Ok(TextBuf {
+                text,
+                rule: PhantomData,
+            })
+        } else {
+            Err(text)
+        }
+    }
+
+    /// The owner of the UTF-8 of a text that is in the rule, or the bytes.
+    pub fn from_bytes(bytes: Vec<u8>) -> Result<Self, Vec<u8>>
+        ensures { Parses (InUtf8 R.rule) bytes.items owned_text (λ input. input ≡ bytes) result }
+    {
+        match String::from_utf8(bytes) {
+            Ok(text) => TextBuf::new(text).map_err(|text| text.into_bytes()),
+            Err(fault) => Err(fault.into_bytes()),
+        }
+    }
+
+    /// A copy of the view's text.
+    pub fn copy_of(text: View<'_, R>, alloc: Global) -> Result<Self, AllocError>
+        ensures { IfOk result (λ copy. owned_text copy ≡ view_text text.entry) }
+    {
+        Ok(TextBuf {
+            text: String::from_str(alloc, text.as_str())?,
+            rule: PhantomData,
+        })
+    }
+
+    /// The view.
+    pub fn as_view(&self) -> View<'_, R>
+        ensures { view_text result ≡ owned_text self.now }
+    {
+        View::new_unchecked(self.text.as_str())
+    }
+
+    /// The text, with no copy.
+    pub fn into_string(self) -> String
+        ensures { string_bytes result ≡ owned_text self }
+    {
+        let TextBuf { text, rule: _ } = self;
+        text
+    }
+}
+
+impl<R: Rule> Ord for TextBuf<R> {
+    ghost use Rattle.iref_text.specs.Views.{owned_text};
+
+    ghost cmp = { on (λ t. R.key (owned_text t)) text_order };
+
+    ghost total = { Prim.search (comparing, rules) };
+
+    ghost matches_partial_cmp = { Prim.search (comparing, rules) };
+
+    ghost matches_eq = { Prim.search (comparing, rules) };
+
+    fn cmp(&self, other: &Self) -> Ordering {
+        self.as_view().cmp(&other.as_view())
+    }
+}
+
+impl<R: Rule> PartialOrd for TextBuf<R> {
+    ghost use Rattle.iref_text.specs.Views.{owned_text};
+
+    ghost partial_cmp = { as_partial_cmp (on (λ t. R.key (owned_text t)) text_order) };
+
+    ghost laws = { partial_order_from_own_ties (Prim.search (comparing, rules)) (Prim.search (comparing, rules)) };
+
+    fn partial_cmp(&self, other: &Self) -> Option<Ordering> {
+        Some(self.cmp(other))
+    }
+}
+
+impl<R: Rule> PartialEq for TextBuf<R> {
+    ghost use Rattle.iref_text.specs.Views.{owned_text};
+
+    ghost eq = { on (λ t. R.key (owned_text t)) is_same_text };
+
+    ghost laws = { Prim.search (comparing, rules) };
+
+    fn eq(&self, other: &Self) -> bool {
+        self.as_view() == other.as_view()
+    }
+}
+
+impl<R: Rule> Eq for TextBuf<R> {
+    ghost laws = { Prim.search (comparing, rules) };
+}
+
+impl<R: Rule> Hash for TextBuf<R> {
+    ghost use Rattle.iref_text.specs.Views.{owned_text};
+
+    ghost hash_input = { λ t. fed_bytes (R.key (owned_text t)) };
+
+    ghost respects_eq = { Prim.search (hashing, rules) };
+
+    fn hash<H: Hasher>(&self, state: &mut H) {
+        self.as_view().hash(state);
+    }
+}
+
+impl<R: Rule> fmt::Debug for TextBuf<R> {
+    fn fmt<W: fmt::Write>(&self, f: &mut fmt::Formatter<W>) -> fmt::Result {
+        fmt::Debug::fmt(&self.text.as_str(), f)
+    }
+}
