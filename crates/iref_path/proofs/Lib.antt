@@ -11,3 +11,4 @@ pub mod RewritingLemmas
 pub mod BothEndsLemmas
 pub mod JoinedLemmas
 pub mod SettledLemmas
+mod PieceLemmas

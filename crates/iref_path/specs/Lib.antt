@@ -1,3 +1,4 @@
+pub mod Pieces
 pub mod Guard
 pub mod NormalList
 pub mod NormalReading

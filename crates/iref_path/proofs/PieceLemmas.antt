@@ -1,0 +1,92 @@
+-- The pieces of a text that is cut at its first or its last slash.
+use Rattle.std.proofs.Common.{◌≡◌, ℕ, Bool, true, false, cond, List, [], ◌∷◌, ◌++◌, Option, length, get_or, take, drop, refl, sym, ◌∙◌, ap, subst, arith, inl, inr}
+use Rattle.std.specs.Prelude.{◌==◌, ◌≢◌, ◌<◌}
+use Rattle.std.specs.Borrow.{Bor}
+use Rattle.std.specs.List.{All, onto_first}
+use Rattle.std.specs.Str.{NoCharPasses}
+use Rattle.std.specs.Str.Pattern.{RFindsChar, SplitsAroundMatch}
+use Rattle.std.proofs.lemmas.Bool.Decides.{nat_tests, eqb_tells}
+use Rattle.std.proofs.lemmas.List.{take-append-drop}
+use Rattle.std.proofs.lemmas.List.Elements.{All-from_get_or}
+use Rattle.std.proofs.lemmas.List.Splits.{slice_split_none, slice_split_at, length-slice_split}
+use Rattle.std.proofs.lemmas.List.Sums.{count_by-le-length}
+use Rattle.std.proofs.lemmas.Str.Pattern.{NoCharPasses-char, drop_at_char, IsSplitOnceResult, split_parts}
+use Rattle.iref_text.specs.Rules.{Text}
+use Rattle.iref_text.specs.Grammar.{slash}
+use Rattle.iref_text.specs.Texts.{pieces_at}
+use Rattle.iref_text.specs.PathValue.{segments_of, read_path}
+
+-- no character of the text is a slash
+abbrev LacksSlash : Text → Type 0
+LacksSlash text = All (λ c. (c == slash) ≡ false) text
+
+lacks_by_index : (text : Text) → ((i : ℕ) → i < length text → get_or text i 0 ≢ slash) → LacksSlash text
+lacks_by_index text h = All-from_get_or (λ c. (c == slash) ≡ false) text 0 (λ i within. let differs = h i within in grind (arith, nat_tests))
+
+lacks_if_none : (text : Text) → NoCharPasses (λ c. c == slash) text → LacksSlash text
+lacks_if_none text h = lacks_by_index text (λ i within. NoCharPasses-char slash text i h (omega arith) within)
+
+-- a text without a slash is one piece
+pub pieces-whole : (text : Text) → LacksSlash text → pieces_at slash text ≡ text ∷ []
+pieces-whole text h = slice_split_none (λ c. c == slash) text h
+
+-- the pieces around a slash
+pieces-front : (front back : Text) → LacksSlash front → pieces_at slash (front ++ slash ∷ back) ≡ front ∷ pieces_at slash back
+pieces-front front back h = slice_split_at (λ c. c == slash) front slash back h refl
+
+-- one piece at least
+some_piece : (text : Text) → (p : Text) × (ps : List Text) × (pieces_at slash text ≡ p ∷ ps)
+some_piece [] = ([], [], refl)
+some_piece (c ∷ text) = by (c == slash) (some_piece text)
+  where
+    by : (b : Bool) → (p : Text) × (ps : List Text) × (pieces_at slash text ≡ p ∷ ps)
+        → (p : Text) × (ps : List Text) × (cond b ([] ∷ pieces_at slash text) (onto_first c (pieces_at slash text)) ≡ p ∷ ps)
+    by true some = ([], pieces_at slash text, refl)
+    by false some = (c ∷ some.0, some.1, ap (onto_first c) some.2)
+
+pub pieces-append : (front back : Text) → pieces_at slash (front ++ slash ∷ back) ≡ pieces_at slash front ++ pieces_at slash back
+pieces-append [] back = refl
+pieces-append (c ∷ front) back = by (c == slash) (some_piece front) (pieces-append front back)
+  where
+    by : (b : Bool) → (p : Text) × (ps : List Text) × (pieces_at slash front ≡ p ∷ ps) → pieces_at slash (front ++ slash ∷ back) ≡ pieces_at slash front ++ pieces_at slash back
+        → cond b ([] ∷ pieces_at slash (front ++ slash ∷ back)) (onto_first c (pieces_at slash (front ++ slash ∷ back)))
+        ≡ cond b ([] ∷ pieces_at slash front) (onto_first c (pieces_at slash front)) ++ pieces_at slash back
+    by true some h = ap (λ ps. [] ∷ ps) h
+    by false some h =
+        ap (onto_first c) (h ∙ ap (λ ps. ps ++ pieces_at slash back) some.2) ∙ sym (ap (λ ps. onto_first c ps ++ pieces_at slash back) some.2)
+
+-- what `split_once` gives at a slash
+pub pieces-cut : (text front back : Text) → (text ≡ front ++ slash ∷ back) × ((i : ℕ) → i < length front → get_or front i 0 ≢ slash) → pieces_at slash text ≡ front ∷ pieces_at slash back
+pieces-cut text front back h = ap (pieces_at slash) h.0 ∙ pieces-front front back (lacks_by_index front h.1)
+
+pub pieces-uncut : (text : Text) → ((i : ℕ) → i < length text → get_or text i 0 ≢ slash) → pieces_at slash text ≡ text ∷ []
+pieces-uncut text h = pieces-whole text (lacks_by_index text h)
+
+-- what `rsplit_once` gives at a slash
+pub pieces-cut_last : (text front back : Text) → SplitsAroundMatch (RFindsChar slash) text front back → pieces_at slash text ≡ pieces_at slash front ++ back ∷ []
+pieces-cut_last text front back h =
+    let i : ℕ = h.0 in
+    let j : ℕ = h.1 in
+    let found : drop i text ≡ slash ∷ drop j text = drop_at_char slash text i j h.2.1 (omega arith) in
+    let whole : text ≡ front ++ slash ∷ back = sym (take-append-drop i text) ∙ (λ k. sym h.3 k ++ found k) ∙ ap (λ b. front ++ slash ∷ b) (sym h.4) in
+    let last : LacksSlash back = subst LacksSlash (sym h.4) (lacks_if_none (drop j text) h.2.0) in
+    ap (pieces_at slash) whole ∙ pieces-append front back ∙ ap (λ ps. pieces_at slash front ++ ps) (pieces-whole back last)
+
+pub pieces-uncut_last : (text : Text) → NoCharPasses (λ c. c == slash) text → pieces_at slash text ≡ text ∷ []
+pieces-uncut_last text h = pieces-whole text (lacks_if_none text h)
+
+-- ---- a path's text
+
+pub ruleset counts = (length-slice_split, count_by-le-length)
+
+pub read-absolute : (path rest : Text) (segments : List Text) → path ≡ slash ∷ rest → segments ≡ segments_of rest → read_path path ≡ record { absolute = true; segments = segments }
+unfolding read_path
+read-absolute path rest segments e h = ap read_path e ∙ (λ i. record { absolute = true; segments = sym h i })
+
+pub read-relative : (path : Text) (segments : List Text) → ((rest : Text) → path ≢ slash ∷ rest) → segments ≡ segments_of path → read_path path ≡ record { absolute = false; segments = segments }
+unfolding read_path
+read-relative [] segments e h = λ i. record { absolute = false; segments = sym h i }
+read-relative (c ∷ path) segments e h =
+    let other : (c == slash) ≡ false = elim (eqb_tells c slash) [ inl k ↦ absurd (e path (ap (λ d. d ∷ path) k.1)) | inr k ↦ k.0 ] in
+    (λ i. cond (other i) (record { absolute = true; segments = segments_of path }) (record { absolute = false; segments = segments_of (c ∷ path) }))
+    ∙ (λ i. record { absolute = false; segments = sym h i })
