@@ -7,6 +7,7 @@ pub mod Tests
 pub mod Contexts
 pub mod Authority
 pub mod PathValue
+pub mod Places
 pub mod Reference
 pub mod Keys
 pub mod Makers
