@@ -1,5 +1,5 @@
 -- The program's answers to lines.
-use Rattle.std.specs.Prelude.{ℕ, Bool, true, false, ◌&&◌, List, [], ◌∷◌, ◌++◌, map, bytes_eq, codes, Option, Some, None, Result, Ok, Err, option_map, option_and_then, if◌then◌else◌}
+use Rattle.std.specs.Prelude.{ℕ, Bool, true, false, ◌&&◌, List, [], ◌∷◌, ◌++◌, map, bytes_eq, codes, Option, Some, None, Ok, Err, option_map, option_and_then, if◌then◌else◌}
 use Rattle.std.specs.List.{list_all, find, flat_map, join_with_byte}
 use Rattle.iref_text.specs.Rules.{Text}
 use Rattle.iref_text.specs.Characters.{uri_chars}
@@ -15,7 +15,7 @@ use Rattle.iref_text.specs.Reference.{ReferenceValue, spell, read_reference, is_
 use Rattle.iref_refs.specs.Resolution.{resolved}
 use Rattle.iref_refs.specs.Key.{are_alike}
 use Rattle.iref_refs.specs.Relative.{relative_to}
-use Rattle.iref.specs.Edits.{EditStep, SetScheme, SetAuthority, ReplaceAuthority, SetUserInfo, SetHost, SetPort, SetPath, SetAndNormalizePath, SetQuery, SetFragment, LazyPush, Push, JoinPath, Pop, Clear, Normalize, edited_all}
+use Rattle.iref.specs.Edits.{EditStep, SetScheme, SetAuthority, ReplaceAuthority, SetUserInfo, SetHost, SetPort, SetPortU32, SetPath, SetAndNormalizePath, SetQuery, SetFragment, LazyPush, Push, JoinPath, Pop, Clear, Normalize, EditsOutcome, edited_all}
 
 abbrev pub tab : ℕ
 tab = 9
@@ -102,6 +102,7 @@ is_valid_edit (ReplaceAuthority authority) = is_authority uri_chars authority
 is_valid_edit (SetUserInfo user_info) = none_or (is_user_info uri_chars) user_info
 is_valid_edit (SetHost host) = is_host uri_chars host
 is_valid_edit (SetPort port) = none_or is_port port
+is_valid_edit (SetPortU32 number) = true
 is_valid_edit (SetPath p) = is_path uri_chars p
 is_valid_edit (SetAndNormalizePath p) = is_path uri_chars p
 is_valid_edit (SetQuery query) = none_or (is_query uri_chars) query
@@ -132,7 +133,7 @@ part_fields r =
     (part_field r.scheme ∷ part_field (option_map spell_authority r.authority) ∷ part_field (Some (spell_path r.path))
     ∷ part_field r.query ∷ part_field r.fragment ∷ [])
 
-abbrev pub edits_answer : Result ReferenceValue (ℕ × ReferenceValue) → LineAnswer
+abbrev pub edits_answer : EditsOutcome → LineAnswer
 edits_answer (Ok r) = Answered (spell r)
 edits_answer (Err refused) = RefusedEdit
 
@@ -142,7 +143,7 @@ answer_to (Resolve r base) = Answered (spell (resolved (read_reference base) (re
 answer_to (Relative target base) = Answered (spell (relative_to (read_reference target) (read_reference base)))
 answer_to (Normal p) = Answered (spell_path (guarded alone (normal (read_path p))))
 answer_to (Equal r s) = Answered (if are_alike (read_reference r) (read_reference s) then codes "yes" else codes "no")
-answer_to (Edit r edits) = edits_answer (edited_all 0 edits (read_reference r))
+answer_to (Edit r edits) = edits_answer (edited_all edits (read_reference r))
 
 -- first the command is looked at, then the texts, then the edits
 abbrev pub answer_if_valid : Request → LineAnswer
