@@ -139,7 +139,7 @@ Decides-is_ip_literal_bytes bytes = Decides-like (is_ip_literal bytes) (in_utf8-
 
 -- ---- an IPv4 address is also a reg-name
 
-ones_encoded : (test : ℕ → Bool) → test percent_sign ≡ false → (text : Text) → list_all test text ≡ true → is_encoded test text ≡ true
+pub ones_encoded : (test : ℕ → Bool) → test percent_sign ≡ false → (text : Text) → list_all test text ≡ true → is_encoded test text ≡ true
 ones_encoded test safe [] h = refl
 ones_encoded test safe (c ∷ cs) h = take_char test safe c cs (first_of_both (test c) (list_all test cs) h) (ones_encoded test safe cs (second_of_both (test c) (list_all test cs) h))
 

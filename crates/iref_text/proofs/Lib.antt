@@ -12,6 +12,7 @@ pub mod Ipv6CompleteLemmas
 pub mod ComponentLackLemmas
 pub mod Utf8RuleLemmas
 pub mod HostRuleLemmas
+pub mod PctLemmas
 pub mod PartRuleLemmas
 pub mod SegmentRuleLemmas
 pub mod PathTextLemmas

@@ -1,5 +1,5 @@
 -- The grammar of URIs and IRIs (RFC 3986 Appendix A, RFC 3987 section 2.2), each rule over the characters that set adds.
-use Rattle.std.specs.Prelude.{ℕ, Bool, ◌||◌, ◌==◌, codes}
+use Rattle.std.specs.Prelude.{ℕ, Bool, not, ◌||◌, ◌==◌, codes}
 use Rattle.std.specs.Char.{is_ascii_alphabetic, is_ascii_alphanumeric, is_ascii_digit, is_ascii_hexdigit, char_set_contains}
 use Rattle.iref_text.specs.Characters.{CharTests}
 use Rattle.iref_text.specs.Rules.{Rule, Empty, Mark, OneOf, ◌⨾◌, ◌or◌, Optional, ZeroOrMore, OneOrMore}
@@ -64,6 +64,13 @@ IsPctEncoded = Mark percent_sign ⨾ OneOf is_ascii_hexdigit ⨾ OneOf is_ascii_
 -- characters that pass the test, and escapes
 abbrev pub IsEncoded : (ℕ → Bool) → Rule
 IsEncoded test = ZeroOrMore (OneOf test or IsPctEncoded)
+
+-- percent-encoded text: each `%` stands before two hexadecimal digits
+abbrev pub is_not_percent : ℕ → Bool
+is_not_percent c = not (c == percent_sign)
+
+abbrev pub IsPctStr : Rule
+IsPctStr = IsEncoded is_not_percent
 
 -- section 3.1
 abbrev pub is_scheme_char : ℕ → Bool

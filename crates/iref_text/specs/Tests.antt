@@ -7,7 +7,7 @@ use Rattle.iref_text.specs.Characters.{CharTests}
 use Rattle.iref_text.specs.Rules.{Text}
 use Rattle.iref_text.specs.Texts.{before, after, is_empty}
 use Rattle.iref_text.specs.IpAddresses.{ipv4_value, ipv6_value}
-use Rattle.iref_text.specs.Grammar.{percent_sign, full_stop, slash, left_bracket, right_bracket, is_scheme_char, is_user_info_char, is_reg_name_char, is_future_char, is_path_char, is_query_char, is_fragment_char}
+use Rattle.iref_text.specs.Grammar.{percent_sign, is_not_percent, full_stop, slash, left_bracket, right_bracket, is_scheme_char, is_user_info_char, is_reg_name_char, is_future_char, is_path_char, is_query_char, is_fragment_char}
 
 -- of a text with escapes: how many hexadecimal digits are owed after one more character, if it may stand there
 unfoldable pub owed_after : (ℕ → Bool) → ℕ → ℕ → Option ℕ
@@ -28,6 +28,9 @@ is_encoded test text = is_encoded_after test (Some 0) text
 -- the bytes are the UTF-8 of a text that passes
 abbrev pub in_utf8 : (Text → Bool) → Text → Bool
 in_utf8 test bytes = is_utf8 bytes && test (chars bytes)
+
+unfoldable pub is_pct_str : Text → Bool
+is_pct_str bytes = in_utf8 (is_encoded is_not_percent) bytes
 
 -- the first character passes one test and the others pass the other; of any text
 unfoldable pub is_scheme : Text → Bool

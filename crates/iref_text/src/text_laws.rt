@@ -5,8 +5,8 @@ ghost use Rattle.std.specs.Prelude.{◌≡◌, ◌↔◌, ℕ, Some};
 ghost use Rattle.std.specs.Bool.{Decides};
 ghost use Rattle.iref_text.specs.Rules.{Text, InUtf8};
 ghost use Rattle.iref_text.specs.IpAddresses.{IsIpv4, IsIpv6, ipv4_value, ipv6_value};
-ghost use Rattle.iref_text.specs.Grammar.{IsScheme, IsUserInfo, IsRegName, IsIpLiteral, IsHost, IsPort, IsSegment, IsPath, IsQuery, IsFragment};
-ghost use Rattle.iref_text.specs.Tests.{is_scheme, is_user_info, is_reg_name, is_ip_literal, is_host, is_port, is_segment, is_path, is_query, is_fragment};
+ghost use Rattle.iref_text.specs.Grammar.{IsScheme, IsUserInfo, IsRegName, IsIpLiteral, IsHost, IsPort, IsSegment, IsPath, IsQuery, IsFragment, IsPctStr};
+ghost use Rattle.iref_text.specs.Tests.{is_scheme, is_user_info, is_reg_name, is_ip_literal, is_host, is_port, is_segment, is_path, is_query, is_fragment, is_pct_str};
 
 use crate::chars::CharSet;
 
@@ -68,4 +68,9 @@ pub fn query_grammar<S: CharSet>()
 /// The test of fragments decides their rule.
 pub fn fragment_grammar<S: CharSet>()
     ensures { (bytes : Text) → Decides (is_fragment S.tests bytes) (InUtf8 (IsFragment S.tests) bytes) }
+{}
+
+/// The test of percent-encoded texts decides their rule.
+pub fn pct_str_grammar()
+    ensures { (bytes : Text) → Decides (is_pct_str bytes) (InUtf8 IsPctStr bytes) }
 {}

@@ -3,7 +3,7 @@
 ghost use Rattle.std.specs.Prelude.{◌≡◌, ◌==◌, ◌||◌, ℕ, Bool, chars};
 ghost use Rattle.std.specs.List.{list_all};
 ghost use Rattle.iref_text.specs.Grammar as grammar;
-ghost use Rattle.iref_text.specs.Grammar.{slash};
+ghost use Rattle.iref_text.specs.Grammar.{slash, is_not_percent};
 ghost use Rattle.iref_text.specs.Tests as test;
 
 use crate::chars::CharSet;
@@ -36,6 +36,9 @@ pub struct QueryChars<C: CharSet>(PhantomData<C>);
 
 /// Those of fragments (RFC 3986 section 3.5).
 pub struct FragmentChars<C: CharSet>(PhantomData<C>);
+
+/// Those of percent-encoded texts: all but `%`.
+pub struct PctStrChars;
 
 /// Whether the character is `unreserved` (RFC 3986 section 2.3).
 pub fn is_unreserved<C: CharSet>(c: char) -> bool
@@ -156,6 +159,14 @@ impl<C: CharSet> CharRule for FragmentChars<C> {
     }
 }
 
+impl CharRule for PctStrChars {
+    ghost allowed = { is_not_percent };
+
+    fn allows(c: char) -> bool {
+        c != '%'
+    }
+}
+
 #[tactic(auto, unfolding(crate::specs::Tests::owed_after))]
 // How many hexadecimal digits of an escape are owed after one more character, if it may stand there.
 fn owed_after<R: CharRule>(owed: u8, c: char) -> Option<u8>
@@ -262,4 +273,12 @@ pub fn is_port(text: &str) -> bool
     ensures { result ≡ test.is_port text.now }
 {
     text.as_bytes().iter().all(|b| b.is_ascii_digit())
+}
+
+#[tactic(auto, using(crate::proofs::ScanLemmas::utf8), unfolding(crate::specs::Tests::is_pct_str))]
+/// Whether each `%` of the text stands before two hexadecimal digits (RFC 3986 section 2.1).
+pub fn is_pct_str(text: &str) -> bool
+    ensures { result ≡ test.is_pct_str text.now }
+{
+    is_encoded::<PctStrChars>(text)
 }
