@@ -1,10 +1,13 @@
 -- An authority's parts are read from their spelling.
-use Rattle.std.proofs.Common.{◌≡◌, ℕ, Bool, true, false, cond, ◌&&◌, ◌||◌, [], ◌∷◌, ◌++◌, refl, ◌∙◌, ap, append_assoc, inl, inr, subst, ◌⊎◌, lit<}
+use Rattle.std.proofs.Common.{◌≡◌, ℕ, ◌+◌, length, take, sym, length-append, Bool, true, false, cond, ◌&&◌, ◌||◌, [], ◌∷◌, ◌++◌, refl, ◌∙◌, ap, append_assoc, inl, inr, subst, ◌⊎◌, lit<}
 use Rattle.std.specs.Prelude.{◌==◌, Option, Some, None, is_some, IfSome}
 use Rattle.iref_text.specs.Rules.{Text}
 use Rattle.iref_text.specs.Grammar.{colon, at_sign, left_bracket, right_bracket}
 use Rattle.iref_text.specs.Texts.{before, from_first, after, after_first_char, begins_with, part_then, then_part}
-use Rattle.iref_text.specs.Authority.{AuthorityValue, spell_authority, read_authority, read_host_and_port, bracketed, after_bracketed, has_authority_parts}
+use Rattle.iref_text.specs.Authority.{AuthorityValue, spell_authority, read_authority, read_host_and_port, read_host, bracketed, after_bracketed, has_authority_parts}
+use Rattle.std.specs.Str.{IsCharBoundary}
+use Rattle.std.proofs.Math.Seq.{take-append_seam}
+use Rattle.iref_text.proofs.SliceLemmas.{mark_boundary}
 use Rattle.iref_text.proofs.TextLemmas.{lacks, first_of_both, second_of_both}
 use Rattle.iref_text.proofs.CutLemmas.{cut, first_lacks, before-from_first, from_first-lacking, before-mark, from_first-mark, before-part, after-part}
 use Rattle.iref_text.specs.Characters.{CharTests, AreAboveAscii}
@@ -19,14 +22,18 @@ bracketed-joins text = by (begins_with (left_bracket ∷ []) text)
     by true = before-from_first (right_bracket ∷ []) text
     by false = refl
 
+-- the host and what follows it
+pub read_host-joins : (text : Text) → read_host text ++ then_part (colon ∷ []) (after colon (after_bracketed text)) ≡ text
+read_host-joins text =
+    let rest = after_bracketed text in
+    append_assoc (bracketed text) (before (colon ∷ []) rest) (then_part (colon ∷ []) (after colon rest))
+    ∙ ap (λ t. bracketed text ++ t) (cut colon rest) ∙ bracketed-joins text
+
 host_and_port-joins : (user : Option Text) (text : Text) → spell_authority (read_host_and_port user text) ≡ part_then (at_sign ∷ []) user ++ text
 unfolding spell_authority
 host_and_port-joins user text =
-    let rest = after_bracketed text in
-    append_assoc (part_then (at_sign ∷ []) user) (bracketed text ++ before (colon ∷ []) rest) (then_part (colon ∷ []) (after colon rest))
-    ∙ ap (λ t. part_then (at_sign ∷ []) user ++ t)
-    (append_assoc (bracketed text) (before (colon ∷ []) rest) (then_part (colon ∷ []) (after colon rest))
-    ∙ ap (λ t. bracketed text ++ t) (cut colon rest) ∙ bracketed-joins text)
+    append_assoc (part_then (at_sign ∷ []) user) (read_host text) (then_part (colon ∷ []) (after colon (after_bracketed text)))
+    ∙ ap (λ t. part_then (at_sign ∷ []) user ++ t) (read_host-joins text)
 
 -- the authority's parts spell its text
 pub read_authority-spelled : (text : Text) → spell_authority (read_authority text) ≡ text
@@ -135,3 +142,14 @@ module _ (set : CharTests) (above : AreAboveAscii set) where
       lacks-append mark (part_then (at_sign ∷ []) a.user_info ++ a.host) (then_part (colon ∷ []) a.port)
       (lacks-append mark (part_then (at_sign ∷ []) a.user_info) a.host (part_then_lacks mark at_sign n a.user_info (option_lacks mark (is_user_info set) (user_info_lacks set above mark m) a.user_info user)) (host_lacks set above mark m a.host host))
       (then_part_lacks mark colon m.colon_not a.port (option_lacks mark is_port (port_lacks mark m) a.port port))
+
+-- a text may be cut after its host, whose length is that of its two pieces
+pub host_boundary : (text address name : Text) → address ≡ bracketed text → name ≡ before (colon ∷ []) (after_bracketed text) → IsCharBoundary text (length address + length name)
+host_boundary text address name e f =
+    let whole : length (read_host text) ≡ length address + length name = ap length (λ i. sym e i ++ sym f i) ∙ length-append address name in
+    subst (IsCharBoundary text) whole (mark_boundary colon (read_host text) (after colon (after_bracketed text)) text (lit< tt) (read_host-joins text))
+
+pub take-host : (text address name : Text) → address ≡ bracketed text → name ≡ before (colon ∷ []) (after_bracketed text) → take (length address + length name) text ≡ read_host text
+take-host text address name e f =
+    let whole : length address + length name ≡ length (read_host text) = sym (length-append address name) ∙ ap length (λ i. e i ++ f i) in
+    (λ i. take (whole i) (sym (read_host-joins text) i)) ∙ take-append_seam (read_host text) (then_part (colon ∷ []) (after colon (after_bracketed text)))

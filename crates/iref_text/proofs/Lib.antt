@@ -5,6 +5,7 @@ pub mod EncodedLemmas
 pub mod LackLemmas
 pub mod LeafLemmas
 pub mod CutLemmas
+pub mod SliceLemmas
 pub mod Ipv4Lemmas
 pub mod Ipv6Lemmas
 pub mod HostLemmas

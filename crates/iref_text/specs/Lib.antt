@@ -12,3 +12,4 @@ pub mod Reference
 pub mod Keys
 pub mod Makers
 pub mod Views
+pub mod AuthoritySlices

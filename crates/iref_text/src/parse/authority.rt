@@ -1,0 +1,56 @@
+//! The split of an authority (RFC 3986 section 3.2), and whether a text is one.
+
+ghost use Rattle.std.specs.Prelude.{◌≡◌};
+ghost use Rattle.std.specs.Option.{option_copied};
+ghost use Rattle.iref_text.specs.Authority.{read_authority, read_host_and_port, bracketed, after_bracketed};
+ghost use Rattle.iref_text.specs.AuthoritySlices.{authority_of};
+
+use crate::parse::cut::{cut, split_before};
+
+/// The parts of an authority, as slices of its text.
+#[derive(Clone, Copy)]
+pub struct AuthoritySlices<'a> {
+    /// What stands before the first `@`.
+    pub user_info: Option<&'a str>,
+    /// What stands before the port.
+    pub host: &'a str,
+    /// What follows the `:` after the host.
+    pub port: Option<&'a str>,
+}
+
+// The front in which no `:` ends the host, up to the `]` of a bracketed address, and what follows.
+fn split_address(text: &str) -> (&str, &str)
+    ensures front { result.0.now ≡ bracketed text.now }
+    ensures back { result.1.now ≡ after_bracketed text.now }
+{
+    if text.starts_with('[') {
+        split_before(text, ']')
+    } else {
+        ("", text)
+    }
+}
+
+// The host and the port, beside the user info that stands before them.
+fn split_host<'a>(user_info: Option<&'a str>, text: &'a str) -> AuthoritySlices<'a>
+    ensures { authority_of result ≡ read_host_and_port (option_copied user_info.entry) text.now }
+{
+    let (address, rest) = split_address(text);
+    let (name, port) = cut(rest, ':');
+    let (host, _) = text.split_at(address.len() + name.len());
+    AuthoritySlices {
+        user_info,
+        host,
+        port,
+    }
+}
+
+/// The parts of the text as an authority.
+#[tactic(auto, unfolding(crate::specs::Authority::read_authority))]
+pub fn split_authority(text: &str) -> AuthoritySlices<'_>
+    ensures { authority_of result ≡ read_authority text.now }
+{
+    match cut(text, '@') {
+        (user_info, Some(rest)) => split_host(Some(user_info), rest),
+        (_, None) => split_host(None, text),
+    }
+}
