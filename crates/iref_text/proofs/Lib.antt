@@ -27,5 +27,9 @@ pub mod OnlyLemmas
 pub mod ReadableLemmas
 pub mod ReferenceRuleLemmas
 pub mod WiderLemmas
+mod Rows
+mod GrammarRows
+mod HostRows
+mod ReadingRows
 pub mod GrammarSamples
 pub mod KeyLemmas
