@@ -8,3 +8,4 @@ pub mod PathSuffix
 pub mod DotSegments
 pub mod CountedEquality
 pub mod PathKey
+pub mod Views
