@@ -1,0 +1,2 @@
+mod EditRows
+mod LineRows
