@@ -1,4 +1,5 @@
 pub mod TextLemmas
+pub mod ReadablePartsLemmas
 pub mod ScanLemmas
 pub mod RuleLemmas
 pub mod EncodedLemmas

@@ -9,12 +9,13 @@ use Rattle.iref_text.specs.Texts.{part_then, then_part}
 use Rattle.iref_text.specs.Authority.{AuthorityValue, spell_authority, has_authority_parts}
 use Rattle.iref_text.specs.Reference.{spell, read_reference, ReferenceValue, context_of, is_readable, is_reference}
 use Rattle.iref_text.specs.PathValue.{spell_path, shows_its_list}
-use Rattle.iref_text.specs.Contexts.{follows_authority, is_no_authority, is_no_scheme, reads_as_path}
-use Rattle.iref_text.proofs.TextLemmas.{lacks, first_of_both, second_of_both}
+use Rattle.iref_text.specs.Contexts.{is_no_authority, is_no_scheme}
+use Rattle.iref_text.proofs.TextLemmas.{lacks, both_true}
+use Rattle.iref_text.proofs.ReadablePartsLemmas.{readable_parts}
 use Rattle.iref_text.proofs.ReferenceCutLemmas.{read_reference-spelled}
 use Rattle.std.specs.Bool.{Decides}
 use Rattle.iref_text.specs.Characters.{CharTests, AreAboveAscii}
-use Rattle.iref_text.specs.Tests.{none_or, is_scheme, is_segment, is_query, is_fragment}
+use Rattle.iref_text.specs.Tests.{none_or, is_scheme, is_segment, is_query}
 use Rattle.iref_text.proofs.LackLemmas.{lacks_more, lacks-append}
 use Rattle.iref_text.proofs.HostLemmas.{join_lacks}
 use Rattle.iref_text.proofs.OnlyLemmas.{IsDelimited, front_of, read_reference-back}
@@ -49,41 +50,21 @@ module _ (set : CharTests) (above : AreAboveAscii set) where
 
   -- a readable reference is delimited
   pub readable_delimited : (r : ReferenceValue) → is_readable set r ≡ true → IsDelimited r
-  unfolding is_readable
   readable_delimited r h =
-      let s = none_or is_scheme r.scheme in
-      let a = none_or (has_authority_parts set) r.authority in
-      let p = list_all (is_segment set) r.path.segments in
-      let q = none_or (is_query set) r.query in
-      let f = none_or (is_fragment set) r.fragment in
-      let fa = follows_authority (context_of r) r.path in
-      let rp = reads_as_path (context_of r) r.path in
-      let h6 = first_of_both (((((s && a) && p) && q) && f) && fa) rp h in
-      let reads = second_of_both (((((s && a) && p) && q) && f) && fa) rp h in
-      let h5 = first_of_both ((((s && a) && p) && q) && f) fa h6 in
-      let follows = second_of_both ((((s && a) && p) && q) && f) fa h6 in
-      let h4 = first_of_both (((s && a) && p) && q) f h5 in
-      let h3 = first_of_both ((s && a) && p) q h4 in
-      let query = second_of_both ((s && a) && p) q h4 in
-      let h2 = first_of_both (s && a) p h3 in
-      let segments = second_of_both (s && a) p h3 in
-      let scheme = first_of_both s a h2 in
-      let authority = second_of_both s a h2 in
-      let shown = shows_its_list r.path in
-      let no_auth = is_no_authority (context_of r) r.path in
-      let no_sch = is_no_scheme (context_of r) r.path in
-      let r2 = first_of_both (shown && no_auth) no_sch reads in
+      let parts = readable_parts set r h in
+      let shown = both_true (shows_its_list r.path && is_no_authority (context_of r) r.path) (is_no_scheme (context_of r) r.path) parts.reads in
+      let list = both_true (shows_its_list r.path) (is_no_authority (context_of r) r.path) shown.0 in
       record {
-        scheme = scheme_delimited r.scheme scheme;
-        authority = authority_delimited r.authority authority;
-        segments = segments_lack set above slash slash_cuts refl r.path.segments segments;
-        before_query = front_lacks question_mark question_cuts refl refl refl refl refl r scheme authority segments;
-        before_fragment = lacks-append hash_sign (front_of r) (then_part (question_mark ∷ []) r.query) (front_lacks hash_sign hash_cuts refl refl refl refl refl r scheme authority segments)
-            (then_part_lacks hash_sign question_mark refl r.query (option_lacks hash_sign (is_query set) (query_lacks set above) r.query query));
-        shown = first_of_both shown no_auth r2;
-        follows_authority = follows;
-        is_no_authority = second_of_both shown no_auth r2;
-        is_no_scheme = second_of_both (shown && no_auth) no_sch reads;
+        scheme = scheme_delimited r.scheme parts.scheme;
+        authority = authority_delimited r.authority parts.authority;
+        segments = segments_lack set above slash slash_cuts refl r.path.segments parts.segments;
+        before_query = front_lacks question_mark question_cuts refl refl refl refl refl r parts.scheme parts.authority parts.segments;
+        before_fragment = lacks-append hash_sign (front_of r) (then_part (question_mark ∷ []) r.query) (front_lacks hash_sign hash_cuts refl refl refl refl refl r parts.scheme parts.authority parts.segments)
+            (then_part_lacks hash_sign question_mark refl r.query (option_lacks hash_sign (is_query set) (query_lacks set above) r.query parts.query));
+        shown = list.0;
+        follows_authority = parts.follows;
+        is_no_authority = list.1;
+        is_no_scheme = shown.1;
       }
 
   -- so the text of a readable reference is in the grammar, and is read as that reference

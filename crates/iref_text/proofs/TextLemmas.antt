@@ -21,6 +21,9 @@ pub second_of_both : (a b : Bool) → (a && b) ≡ true → b ≡ true
 second_of_both true b h = h
 second_of_both false b h = elim b as (λ c. c ≡ true) [ true ↦ refl | false ↦ h ]
 
+pub both_true : (a b : Bool) → (a && b) ≡ true → (a ≡ true) × (b ≡ true)
+both_true a b h = (first_of_both a b h, second_of_both a b h)
+
 -- the pieces joined are the text
 pub join-pieces_at : (mark : ℕ) (text : Text) → join_with_byte mark (pieces_at mark text) ≡ text
 join-pieces_at mark text = join_with_byte-slice_split mark text
