@@ -1,3 +1,7 @@
+mod Rows
+mod FunctionRows
+mod StepRows
+mod NormalRows
 pub mod GuardLemmas
 pub mod NormalLemmas
 pub mod StayingLemmas
