@@ -34,3 +34,6 @@ mod HostRows
 mod ReadingRows
 pub mod GrammarSamples
 pub mod KeyLemmas
+pub mod SplitLemmas
+pub mod ContextLemmas
+pub mod ComponentLemmas

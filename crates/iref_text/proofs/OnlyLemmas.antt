@@ -20,7 +20,7 @@ use Rattle.iref_text.proofs.AuthorityLemmas.{IsDelimitedAuthority, read_authorit
 
 -- ---- the scheme
 
-scheme-back : (s rest : Text) → lacks colon s ≡ true → lacks slash s ≡ true → split_scheme (s ++ colon ∷ rest) ≡ (Some s, rest)
+pub scheme-back : (s rest : Text) → lacks colon s ≡ true → lacks slash s ≡ true → split_scheme (s ++ colon ∷ rest) ≡ (Some s, rest)
 scheme-back s rest h k =
     (λ i. scheme_of (before-part colon s (Some rest) h i) (after-part colon s (Some rest) h i) (s ++ colon ∷ rest)) ∙ ap (λ b. cond b (None, s ++ colon ∷ rest) (Some s, rest)) (held k)
   where
@@ -35,7 +35,7 @@ hidden : (front : Text) (o : Option Text) (text : Text) → char_set_contains fr
 hidden front None text h = refl
 hidden front (Some rest) text h = ap (λ b. cond b (None, text) (Some front, rest)) h
 
-no_colon : (text : Text) → lacks colon text ≡ true → split_scheme text ≡ (None, text)
+pub no_colon : (text : Text) → lacks colon text ≡ true → split_scheme text ≡ (None, text)
 no_colon text h = ap (λ o. scheme_of (before (colon ∷ []) text) o text) (ap after_first_char (from_first-lacking colon text h))
 
 slash_holds : (s rest : Text) → lacks colon s ≡ true → char_set_contains (before (colon ∷ []) (s ++ slash ∷ rest)) slash ≡ true
@@ -47,7 +47,7 @@ slash_holds (c ∷ cs) rest h =
     by true e = refl
     by false e = e
 
-no_scheme : (s rest : Text) → lacks colon s ≡ true → split_scheme (s ++ slash ∷ rest) ≡ (None, s ++ slash ∷ rest)
+pub no_scheme : (s rest : Text) → lacks colon s ≡ true → split_scheme (s ++ slash ∷ rest) ≡ (None, s ++ slash ∷ rest)
 no_scheme s rest h = hidden (before (colon ∷ []) (s ++ slash ∷ rest)) (after colon (s ++ slash ∷ rest)) (s ++ slash ∷ rest) (slash_holds s rest h)
 
 -- a path with no scheme before it

@@ -42,7 +42,7 @@ lacks-pieces_at mark (c ∷ cs) = elim (eqb_tells c mark) [
 ]
 
 -- pieces without the mark are read back
-pieces_at-one : (mark : ℕ) (p : Text) → lacks mark p ≡ true → pieces_at mark p ≡ p ∷ []
+pub pieces_at-one : (mark : ℕ) (p : Text) → lacks mark p ≡ true → pieces_at mark p ≡ p ∷ []
 pieces_at-one mark [] h = refl
 pieces_at-one mark (c ∷ p) h = elim (eqb_tells c mark) [
   | inl e ↦ absurd (true≢false (sym h ∙ (λ i. not (e.0 i || char_set_contains p mark))))
@@ -51,7 +51,7 @@ pieces_at-one mark (c ∷ p) h = elim (eqb_tells c mark) [
       ap (λ b. cond b ([] ∷ pieces_at mark p) (onto_first c (pieces_at mark p))) e.0 ∙ ap (onto_first c) (pieces_at-one mark p rest)
 ]
 
-pieces_at-front : (mark : ℕ) (p rest : Text) → lacks mark p ≡ true → pieces_at mark (p ++ mark ∷ rest) ≡ p ∷ pieces_at mark rest
+pub pieces_at-front : (mark : ℕ) (p rest : Text) → lacks mark p ≡ true → pieces_at mark (p ++ mark ∷ rest) ≡ p ∷ pieces_at mark rest
 pieces_at-front mark [] rest h = elim (eqb_tells mark mark) [
   | inl e ↦ ap (λ b. cond b ([] ∷ pieces_at mark rest) (onto_first mark (pieces_at mark rest))) e.0
   | inr e ↦ absurd (e.1 refl)

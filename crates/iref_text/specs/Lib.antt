@@ -13,3 +13,4 @@ pub mod Keys
 pub mod Makers
 pub mod Views
 pub mod AuthoritySlices
+pub mod ReferenceSlices

@@ -4,4 +4,5 @@ pub mod authority;
 pub mod cut;
 pub mod owned;
 pub mod scan;
+pub mod split;
 pub mod view;

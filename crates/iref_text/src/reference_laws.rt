@@ -7,6 +7,8 @@ ghost use Rattle.iref_text.specs.Characters.{uri_chars};
 ghost use Rattle.iref_text.specs.Rules.{Text, InUtf8};
 ghost use Rattle.iref_text.specs.Grammar.{IsUri, IsUriReference};
 ghost use Rattle.iref_text.specs.Reference.{ReferenceValue, IsReadable, IsReadAsReference, is_readable, spell, read_reference, is_reference, is_full_reference};
+ghost use Rattle.iref_text.specs.declared.parse.split.ReferenceSlices.{ReferenceSlices};
+ghost use Rattle.iref_text.specs.ReferenceSlices.{AreComponents, value_of};
 
 use crate::chars::CharSet;
 
@@ -53,4 +55,9 @@ pub fn uri_readable<S: CharSet>()
 /// A URI reference is in each grammar.
 pub fn uri_reference_in_each_grammar<S: CharSet>()
     ensures { (bytes : Text) → IsTrue (is_reference uri_chars bytes) → IsTrue (is_reference S.tests bytes) }
+{}
+
+/// The path that is read from a text may stand where it does, so a text is a reference exactly if each of its components is in its rule.
+pub fn components_tested<S: CharSet>()
+    ensures { (text : Text) (s : ReferenceSlices) → value_of s ≡ read_reference text → Decides (is_reference S.tests text) (AreComponents S.tests s) }
 {}

@@ -1,0 +1,93 @@
+//! The one split of a reference into its components (RFC 3986 section 4.1 and appendix B).
+
+ghost use Rattle.std.specs.Prelude.{◌≡◌, ◌<◌, [], ◌∷◌};
+ghost use Rattle.std.specs.Option.{option_copied};
+ghost use Rattle.iref_text.specs.Grammar.{hash_sign, question_mark};
+ghost use Rattle.iref_text.specs.Texts.{before, from_first, after};
+ghost use Rattle.iref_text.specs.Reference as spec;
+ghost use Rattle.iref_text.specs.Reference.{hierarchy, read_reference};
+ghost use Rattle.iref_text.specs.ReferenceSlices.{value_of};
+
+use crate::parse::cut::{cut, split_before};
+
+/// The components of a reference, as slices of its text.
+#[derive(Clone, Copy, Debug, PartialEq, Eq)]
+pub struct ReferenceSlices<'a> {
+    /// What stands before the first `:`.
+    pub scheme: Option<&'a str>,
+    /// What stands between `//` and the path.
+    pub authority: Option<&'a str>,
+    /// What stands between the authority and the query.
+    pub path: &'a str,
+    /// What stands between `?` and the fragment.
+    pub query: Option<&'a str>,
+    /// What follows `#`.
+    pub fragment: Option<&'a str>,
+}
+
+// What stands before the first of two marks, and the text from there on.
+fn split_before_either(text: &str, first: u8, second: u8) -> (&str, &str)
+    requires first_is_ascii { first < 128 }
+    requires second_is_ascii { second < 128 }
+    ensures front { result.0.now ≡ before (first ∷ second ∷ []) text.now }
+    ensures back { result.1.now ≡ from_first (first ∷ second ∷ []) text.now }
+{
+    let place = text
+        .bytes()
+        .position(|byte| byte == first || byte == second);
+    text.split_at(place.unwrap_or(text.len()))
+}
+
+// The scheme, if a `:` stands before each `/`, and what follows it.
+fn split_scheme(text: &str) -> (Option<&str>, &str)
+    ensures scheme { option_copied result.0 ≡ (spec.split_scheme text.now).0 }
+    ensures rest { result.1.now ≡ (spec.split_scheme text.now).1 }
+{
+    let (scheme, rest) = split_before_either(text, b':', b'/');
+    match rest.strip_prefix(':') {
+        Some(rest) => (Some(scheme), rest),
+        None => (None, text),
+    }
+}
+
+// The authority between `//` and the next `/`, and the path.
+fn split_authority(text: &str) -> (Option<&str>, &str)
+    ensures authority { option_copied result.0 ≡ (spec.split_authority text.now).0 }
+    ensures path { result.1.now ≡ (spec.split_authority text.now).1 }
+{
+    match text.strip_prefix("//") {
+        Some(rest) => {
+            let (authority, path) = split_before(rest, '/');
+            (Some(authority), path)
+        }
+        None => (None, text),
+    }
+}
+
+// What stands before the query and the fragment, and these two.
+fn split_tail(text: &str) -> (&str, Option<&str>, Option<&str>)
+    ensures front { result.0.now ≡ hierarchy text.now }
+    ensures query { option_copied result.1 ≡ after question_mark (before (hash_sign ∷ []) text.now) }
+    ensures fragment { option_copied result.2 ≡ after hash_sign text.now }
+{
+    let (front, tail) = split_before_either(text, b'?', b'#');
+    let (query, fragment) = cut(tail, '#');
+    (front, query.strip_prefix('?'), fragment)
+}
+
+/// Splits a text into the components that it has as a reference (RFC 3986 section 4.1).
+#[tactic(auto, unfolding(crate::specs::Reference::read_reference))]
+pub fn split_reference(text: &str) -> ReferenceSlices<'_>
+    ensures value { value_of result ≡ read_reference text.now }
+{
+    let (text, query, fragment) = split_tail(text);
+    let (scheme, text) = split_scheme(text);
+    let (authority, path) = split_authority(text);
+    ReferenceSlices {
+        scheme,
+        authority,
+        path,
+        query,
+        fragment,
+    }
+}
