@@ -1,7 +1,7 @@
 pub mod LeadingLemmas
 pub mod KeyLemmas
 pub mod RelativeLemmas
-pub mod AnswerLemmas
+pub mod ReadableRelativeLemmas
 pub mod ResolvedLemmas
 pub mod ReferenceStepLemmas
 mod ResolutionRows

@@ -1,10 +1,9 @@
 -- Each step of a reference keeps it readable.
-use Rattle.std.proofs.Common.{◌≡◌, Bool, true, false, ◌&&◌, List, [], refl, sym}
+use Rattle.std.proofs.Common.{◌≡◌, Bool, true, ◌&&◌, List, [], refl}
 use Rattle.std.specs.Prelude.{Option, Some, None, is_some, is_none}
 use Rattle.std.specs.List.{list_all}
 use Rattle.std.specs.Str.{is_utf8, chars}
 use Rattle.std.specs.Char.{encode_utf8}
-use mathlib.Core.Bool.{true≢false}
 use Rattle.iref_text.specs.declared.common.PathContext.{PathContext}
 use Rattle.iref_text.specs.Characters.{CharTests}
 use Rattle.iref_text.specs.Rules.{Text}
@@ -12,12 +11,13 @@ use Rattle.iref_text.specs.Grammar.{is_reg_name_char, is_user_info_char, is_path
 use Rattle.iref_text.specs.Tests.{owed_after, is_scheme, is_segment, is_query, is_fragment, none_or}
 use Rattle.iref_text.specs.Authority.{AuthorityValue, has_authority_parts}
 use Rattle.iref_text.specs.PathValue.{PathValue, shows_its_list, spell_path}
-use Rattle.iref_text.specs.Contexts.{follows_authority, reads_as_path, is_no_authority, is_no_scheme}
+use Rattle.iref_text.specs.Contexts.{is_no_authority, is_no_scheme}
 use Rattle.iref_path.specs.PathSteps.{lazy_pushed, popped, pushed, appended, lazy_appended, replaced, joined, normalized, cleared}
 use Rattle.iref_text.specs.Reference.{ReferenceValue, context_of, is_readable}
 use Rattle.iref_refs.specs.ComponentSteps.{guarded_reference, with_scheme, path_after_new_authority, with_authority, with_path, with_query, with_fragment, with_path_step, with_normal_path, with_new_normal_path}
 use Rattle.iref_refs.specs.Key.{key}
-use Rattle.iref_text.proofs.TextLemmas.{both, first_of_both, second_of_both}
+use Rattle.iref_text.proofs.TextLemmas.{both, first_of_both, both_true}
+use Rattle.iref_text.proofs.ReadablePartsLemmas.{readable_parts, readable_from}
 use Rattle.iref_path.proofs.GuardLemmas.{fits, guarded-fits}
 use Rattle.iref_path.proofs.RewritingLemmas.{path_removes_dot_segments}
 use Rattle.iref_path.specs.DotSegments.{RemovesDotSegments}
@@ -26,47 +26,6 @@ use Rattle.iref_text.specs.Texts.{lacks}
 use Rattle.iref_path.proofs.NormalPathLemmas.{normalized-normalized, path_key-normalized}
 use Rattle.iref_path.proofs.FitsLemmas.{lazy_pushed-fits, popped-fits, pushed-fits, appended-fits, lazy_appended-fits, replaced-fits, joined-fits, normalized-fits, cleared-fits}
 use Rattle.iref_path.proofs.StepSegmentLemmas.{TakesDots, all_in, in-cond, guarded-in, lazy_pushed-in, popped-in, pushed-in, appended-in, lazy_appended-in, joined-in, normalized-in}
-
--- the conditions of a readable reference, one by one
-pub record HasReadableParts (set : CharTests) (r : ReferenceValue) : Type 0 where
-  pub scheme : none_or is_scheme r.scheme ≡ true
-  pub authority : none_or (has_authority_parts set) r.authority ≡ true
-  pub segments : all_in (is_segment set) r.path ≡ true
-  pub query : none_or (is_query set) r.query ≡ true
-  pub fragment : none_or (is_fragment set) r.fragment ≡ true
-  pub fits : fits (context_of r) r.path ≡ true
-
-readable_by : (a b c d e f g : Bool) → a ≡ true → b ≡ true → c ≡ true → d ≡ true → e ≡ true → (f && g) ≡ true → (a && b && c && d && e && f && g) ≡ true
-readable_by a b c d e f g i j k l m n =
-    both _ _ (both _ _ (both _ _ (both _ _ (both _ _ (both _ _ i j) k) l) m) (first_of_both f g n)) (second_of_both f g n)
-
-pub readable_from : (set : CharTests) (r : ReferenceValue) → HasReadableParts set r → is_readable set r ≡ true
-unfolding is_readable
-readable_from set r h = readable_by _ _ _ _ _ (follows_authority (context_of r) r.path) (reads_as_path (context_of r) r.path) h.scheme h.authority h.segments h.query h.fragment h.fits
-
-pub readable_parts : (set : CharTests) (r : ReferenceValue) → is_readable set r ≡ true → HasReadableParts set r
-unfolding is_readable
-readable_parts set r h =
-    let a = none_or is_scheme r.scheme in
-    let b = none_or (has_authority_parts set) r.authority in
-    let c = all_in (is_segment set) r.path in
-    let d = none_or (is_query set) r.query in
-    let e = none_or (is_fragment set) r.fragment in
-    let f = follows_authority (context_of r) r.path in
-    let g = reads_as_path (context_of r) r.path in
-    let h6 = first_of_both (a && b && c && d && e && f) g h in
-    let h5 = first_of_both (a && b && c && d && e) f h6 in
-    let h4 = first_of_both (a && b && c && d) e h5 in
-    let h3 = first_of_both (a && b && c) d h4 in
-    let h2 = first_of_both (a && b) c h3 in
-    record {
-      scheme = first_of_both a b h2;
-      authority = second_of_both a b h2;
-      segments = second_of_both (a && b) c h3;
-      query = second_of_both (a && b && c) d h4;
-      fragment = second_of_both (a && b && c && d) e h5;
-      fits = both f g (second_of_both (a && b && c && d && e) f h6) (second_of_both (a && b && c && d && e && f) g h);
-    }
 
 -- the segments `.`, `..` and the empty one are in their rule
 pub is_segment-dots : (set : CharTests) → TakesDots (is_segment set)
@@ -82,13 +41,15 @@ pub with_path_step-readable : (set : CharTests) (step : PathContext → PathValu
     → is_readable set r ≡ true → is_readable set (with_path_step step r) ≡ true
 with_path_step-readable set step r keeps_fit keeps_in h =
     let parts = readable_parts set r h in
+    let stepped = both_true _ _ (keeps_fit (both _ _ parts.follows parts.reads)) in
     readable_from set (with_path_step step r) (record {
       scheme = parts.scheme;
       authority = parts.authority;
       segments = keeps_in parts.segments;
       query = parts.query;
       fragment = parts.fragment;
-      fits = keeps_fit parts.fits;
+      follows = stepped.0;
+      reads = stepped.1;
     })
 
 pub lazy_pushed-readable : (set : CharTests) (s : Text) (r : ReferenceValue) → is_segment set s ≡ true → is_readable set r ≡ true → is_readable set (with_path_step (λ context. lazy_pushed context s) r) ≡ true
@@ -120,32 +81,42 @@ cleared-readable set r = with_path_step-readable set (λ context. cleared) r (λ
 
 -- ---- component steps
 
--- a guard makes any reference of components in their rules readable
-pub guarded_reference-readable : (set : CharTests) (r : ReferenceValue) → none_or is_scheme r.scheme ≡ true → none_or (has_authority_parts set) r.authority ≡ true → all_in (is_segment set) r.path ≡ true → none_or (is_query set) r.query ≡ true → none_or (is_fragment set) r.fragment ≡ true
-    → is_readable set (guarded_reference r) ≡ true
-guarded_reference-readable set r scheme authority segments query fragment =
+-- each component is in its rule
+pub record HasComponents (set : CharTests) (r : ReferenceValue) : Type 0 where
+  pub scheme : none_or is_scheme r.scheme ≡ true
+  pub authority : none_or (has_authority_parts set) r.authority ≡ true
+  pub segments : list_all (is_segment set) r.path.segments ≡ true
+  pub query : none_or (is_query set) r.query ≡ true
+  pub fragment : none_or (is_fragment set) r.fragment ≡ true
+
+pub readable_components : (set : CharTests) (r : ReferenceValue) → is_readable set r ≡ true → HasComponents set r
+readable_components set r h =
+    let parts = readable_parts set r h in
+    record { scheme = parts.scheme; authority = parts.authority; segments = parts.segments; query = parts.query; fragment = parts.fragment }
+
+-- a guard makes them a readable reference
+pub guarded_reference-readable : (set : CharTests) (r : ReferenceValue) → HasComponents set r → is_readable set (guarded_reference r) ≡ true
+guarded_reference-readable set r own =
+    let guarded_fits = both_true _ _ (guarded-fits (context_of r) r.path) in
     readable_from set (guarded_reference r) (record {
-      scheme = scheme;
-      authority = authority;
-      segments = guarded-in (is_segment set) (is_segment-dots set) (context_of r) r.path segments;
-      query = query;
-      fragment = fragment;
-      fits = guarded-fits (context_of r) r.path;
+      scheme = own.scheme;
+      authority = own.authority;
+      segments = guarded-in (is_segment set) (is_segment-dots set) (context_of r) r.path own.segments;
+      query = own.query;
+      fragment = own.fragment;
+      follows = guarded_fits.0;
+      reads = guarded_fits.1;
     })
 
--- what fits anywhere fits after a scheme
-fits-after_scheme : (follows shown no_authority no_scheme : Bool) → (follows && (shown && no_authority && no_scheme)) ≡ true → (follows && (shown && no_authority && true)) ≡ true
-fits-after_scheme follows shown no_authority true h = h
-fits-after_scheme true true true false h = absurd (true≢false (sym h))
-fits-after_scheme true true false false h = absurd (true≢false (sym h))
-fits-after_scheme true false no_authority false h = absurd (true≢false (sym h))
-fits-after_scheme false shown no_authority false h = absurd (true≢false (sym h))
+-- what reads as a path anywhere does so after a scheme, and what follows an authority follows it there
+reads-after_scheme : (shown no_authority no_scheme : Bool) → (shown && no_authority && no_scheme) ≡ true → (shown && no_authority && true) ≡ true
+reads-after_scheme shown no_authority no_scheme h = both _ _ (first_of_both (shown && no_authority) no_scheme h) refl
 
 pub with_scheme-readable : (set : CharTests) (scheme : Option Text) (r : ReferenceValue) → none_or is_scheme scheme ≡ true → is_readable set r ≡ true → is_readable set (with_scheme scheme r) ≡ true
 unfolding with_scheme
 with_scheme-readable set None r k h =
-    let parts = readable_parts set r h in
-    guarded_reference-readable set (record r { scheme = None }) refl parts.authority parts.segments parts.query parts.fragment
+    let own = readable_components set r h in
+    guarded_reference-readable set (record r { scheme = None }) (record { scheme = refl; authority = own.authority; segments = own.segments; query = own.query; fragment = own.fragment })
 with_scheme-readable set (Some s) r k h =
     let parts = readable_parts set r h in
     readable_from set (record r { scheme = Some s }) (record {
@@ -154,32 +125,37 @@ with_scheme-readable set (Some s) r k h =
       segments = parts.segments;
       query = parts.query;
       fragment = parts.fragment;
-      fits = fits-after_scheme (follows_authority (context_of r) r.path) (shows_its_list r.path) (is_no_authority (context_of r) r.path) (is_no_scheme (context_of r) r.path) parts.fits;
+      follows = parts.follows;
+      reads = reads-after_scheme (shows_its_list r.path) (is_no_authority (context_of r) r.path) (is_no_scheme (context_of r) r.path) parts.reads;
     })
 
 pub with_authority-readable : (set : CharTests) (authority : Option AuthorityValue) (r : ReferenceValue) → none_or (has_authority_parts set) authority ≡ true → is_readable set r ≡ true → is_readable set (with_authority authority r) ≡ true
 unfolding with_authority
 with_authority-readable set authority r k h =
-    let parts = readable_parts set r h in
-    guarded_reference-readable set (record r { authority = authority; path = path_after_new_authority authority r }) parts.scheme k
-    (in-cond (is_segment set) (is_some authority) _ _ (in-cond (is_segment set) (is_none r.authority) _ _ parts.segments parts.segments) parts.segments)
-    parts.query parts.fragment
+    let own = readable_components set r h in
+    guarded_reference-readable set (record r { authority = authority; path = path_after_new_authority authority r }) (record {
+      scheme = own.scheme;
+      authority = k;
+      segments = in-cond (is_segment set) (is_some authority) _ _ (in-cond (is_segment set) (is_none r.authority) _ _ own.segments own.segments) own.segments;
+      query = own.query;
+      fragment = own.fragment;
+    })
 
 pub with_path-readable : (set : CharTests) (p : PathValue) (r : ReferenceValue) → all_in (is_segment set) p ≡ true → is_readable set r ≡ true → is_readable set (with_path p r) ≡ true
 unfolding with_path
 with_path-readable set p r k h =
-    let parts = readable_parts set r h in
-    guarded_reference-readable set (record r { path = p }) parts.scheme parts.authority k parts.query parts.fragment
+    let own = readable_components set r h in
+    guarded_reference-readable set (record r { path = p }) (record { scheme = own.scheme; authority = own.authority; segments = k; query = own.query; fragment = own.fragment })
 
 pub with_query-readable : (set : CharTests) (query : Option Text) (r : ReferenceValue) → none_or (is_query set) query ≡ true → is_readable set r ≡ true → is_readable set (with_query query r) ≡ true
 with_query-readable set query r k h =
     let parts = readable_parts set r h in
-    readable_from set (with_query query r) (record { scheme = parts.scheme; authority = parts.authority; segments = parts.segments; query = k; fragment = parts.fragment; fits = parts.fits })
+    readable_from set (with_query query r) (record { scheme = parts.scheme; authority = parts.authority; segments = parts.segments; query = k; fragment = parts.fragment; follows = parts.follows; reads = parts.reads })
 
 pub with_fragment-readable : (set : CharTests) (fragment : Option Text) (r : ReferenceValue) → none_or (is_fragment set) fragment ≡ true → is_readable set r ≡ true → is_readable set (with_fragment fragment r) ≡ true
 with_fragment-readable set fragment r k h =
     let parts = readable_parts set r h in
-    readable_from set (with_fragment fragment r) (record { scheme = parts.scheme; authority = parts.authority; segments = parts.segments; query = parts.query; fragment = k; fits = parts.fits })
+    readable_from set (with_fragment fragment r) (record { scheme = parts.scheme; authority = parts.authority; segments = parts.segments; query = parts.query; fragment = k; follows = parts.follows; reads = parts.reads })
 
 pub with_normal_path-readable : (set : CharTests) (r : ReferenceValue) → is_readable set r ≡ true → is_readable set (with_normal_path r) ≡ true
 with_normal_path-readable set r h = normalized-readable set r h
@@ -191,14 +167,14 @@ with_new_normal_path-readable set p r k h = with_normal_path-readable set (with_
 
 pub with_normal_path-again : (set : CharTests) (r : ReferenceValue) → is_readable set r ≡ true → with_normal_path (with_normal_path r) ≡ with_normal_path r
 with_normal_path-again set r h =
-    let fits = (readable_parts set r h).fits in
-    λ i. record r { path = normalized-normalized (context_of r) r.path (first_of_both (follows_authority (context_of r) r.path) (reads_as_path (context_of r) r.path) fits) i }
+    let follows = (readable_parts set r h).follows in
+    λ i. record r { path = normalized-normalized (context_of r) r.path follows i }
 
 pub key-with_normal_path : (set : CharTests) (r : ReferenceValue) → is_readable set r ≡ true → key (with_normal_path r) ≡ key r
 unfolding key
 key-with_normal_path set r h =
-    let fits = (readable_parts set r h).fits in
-    λ i. record (key r) { path = path_key-normalized (context_of r) r.path (first_of_both (follows_authority (context_of r) r.path) (reads_as_path (context_of r) r.path) fits) i }
+    let follows = (readable_parts set r h).follows in
+    λ i. record (key r) { path = path_key-normalized (context_of r) r.path follows i }
 
 -- normalising an absolute path under an authority leaves what the rewriting leaves of its text
 pub with_normal_path-removes : (r : ReferenceValue) → is_some r.authority ≡ true → r.path.absolute ≡ true → list_all (lacks slash) r.path.segments ≡ true → RemovesDotSegments (spell_path r.path) [] (spell_path (with_normal_path r).path)

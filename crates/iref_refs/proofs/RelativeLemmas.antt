@@ -11,7 +11,7 @@ use Rattle.iref_text.specs.Authority.{AuthorityValue}
 use Rattle.iref_text.specs.PathValue.{PathValue}
 use Rattle.iref_path.specs.Guard.{guarded, with_dot}
 use Rattle.iref_text.specs.Contexts.{alone, follows_authority, reads_as_path}
-use Rattle.iref_path.specs.NormalList.{count_parents, excess, normal, normal_segments, staying_names}
+use Rattle.iref_path.specs.NormalList.{count_parents, normal, normal_segments, staying_names}
 use Rattle.iref_text.specs.Reference.{ReferenceValue, context_of}
 use Rattle.iref_refs.specs.Resolution.{resolved}
 use Rattle.iref_refs.specs.Key.{key, authority_key}
@@ -19,6 +19,8 @@ use Rattle.iref_path.specs.PathKey.{path_key}
 use Rattle.iref_refs.specs.Relative.{have_same_scheme, have_same_authority, have_same_path, schemes_agree, is_same_place, steps_between, directory_names, leading_path, with_only_path, relative_to}
 use Rattle.iref_refs.specs.RelativeLaws.{IsOnlyPath}
 use Rattle.iref_path.proofs.JoinedLemmas.{are_names}
+use Rattle.iref_text.proofs.TextLemmas.{both_true}
+use Rattle.iref_path.proofs.NormalPathLemmas.{path_key-normalized}
 use Rattle.iref_path.proofs.SettledLemmas.{normal_again, normal-guarded, normal-with_dot, names-normal, lone-normal}
 use Rattle.iref_refs.proofs.LeadingLemmas.{decoded, climb_between, steps_lead, dotted_steps_lead, parents-steps, parents-dotted, steps_least}
 use Rattle.iref_refs.proofs.KeyLemmas.{same_scheme, same_authority, same_path}
@@ -41,32 +43,20 @@ at_no_root segments = record { absolute = false; segments = segments }
 abbrev decoded_path : PathValue → PathValue
 decoded_path p = record { absolute = p.absolute; segments = decoded p.segments }
 
-pub path_key-guarded : (context : PathContext) (p : PathValue) → follows_authority context p ≡ true → path_key (guarded context p) ≡ path_key p
+path_key-guarded : (context : PathContext) (p : PathValue) → follows_authority context p ≡ true → path_key (guarded context p) ≡ path_key p
 unfolding path_key
 path_key-guarded context p h = ap decoded_path (normal-guarded context p h)
 
-pub path_key-normal : (p : PathValue) → path_key (normal p) ≡ path_key p
+path_key-normal : (p : PathValue) → path_key (normal p) ≡ path_key p
 unfolding path_key
 path_key-normal p = ap decoded_path (normal_again p)
-
--- a normal path stands where the path does
-normal_follows : (has_scheme has_authority absolute : Bool) (segments : List Text) → let context : PathContext = record { has_scheme = has_scheme; has_authority = has_authority } in let p : PathValue = record { absolute = absolute; segments = segments } in follows_authority context p ≡ true → follows_authority context (normal p) ≡ true
-unfolding normal_segments excess staying_names
-normal_follows has_scheme true true segments h = refl
-normal_follows has_scheme true false [] h = refl
-normal_follows has_scheme true false (s ∷ rest) h = absurd (true≢false (sym h))
-normal_follows has_scheme false true segments h = refl
-normal_follows has_scheme false false segments h = refl
-
-pub path_key-resolved : (context : PathContext) (p : PathValue) → follows_authority context p ≡ true → path_key (guarded context (normal p)) ≡ path_key p
-path_key-resolved context p h = path_key-guarded context (normal p) (normal_follows context.has_scheme context.has_authority p.absolute p.segments h) ∙ path_key-normal p
 
 under_root : (has_scheme has_authority : Bool) (segments : List Text) → let context : PathContext = record { has_scheme = has_scheme; has_authority = has_authority } in follows_authority context (at_root segments) ≡ true
 under_root has_scheme true segments = refl
 under_root has_scheme false segments = refl
 
 path_key-rooted : (context : PathContext) (segments : List Text) → path_key (guarded context (normal (at_root segments))) ≡ path_key (at_root segments)
-path_key-rooted context segments = path_key-resolved context (at_root segments) (under_root context.has_scheme context.has_authority segments)
+path_key-rooted context segments = path_key-normalized context (at_root segments) (under_root context.has_scheme context.has_authority segments)
 
 -- ---- what a reference resolves to
 
@@ -87,7 +77,7 @@ resolved-full base r full stand = by r.scheme r.authority r.path r.query r.fragm
     by None authority path query fragment full stand = absurd (true≢false (sym full))
     by (Some s) authority path query fragment full stand =
         ap (λ p. key_of (Some (str_to_ascii_lowercase s)) (option_map authority_key authority) p query fragment)
-        (path_key-resolved (context_of (parts (Some s) authority path query fragment)) path stand)
+        (path_key-normalized (context_of (parts (Some s) authority path query fragment)) path stand)
 
 -- a path from the root, to that path
 pub resolved-rooted : (base : ReferenceValue) (segments : List Text) (query fragment : Option Text) → key (resolved base (parts None None (at_root segments) query fragment)) ≡ key_under base (path_key (at_root segments)) query fragment
@@ -100,7 +90,7 @@ resolved-authority : (base : ReferenceValue) (authority : AuthorityValue) (path 
 unfolding key resolved guarded
 resolved-authority base authority path query fragment stand =
     ap (λ p. key_of (key base).scheme (Some (authority_key authority)) p query fragment)
-    (path_key-resolved (record { has_scheme = is_some base.scheme; has_authority = true }) path stand)
+    (path_key-normalized (record { has_scheme = is_some base.scheme; has_authority = true }) path stand)
 
 -- the empty path, to the base's path
 pub resolved-empty : (base : ReferenceValue) (query fragment : Option Text) → stands base → key (resolved base (parts None None (at_no_root []) query fragment)) ≡ key_under base (path_key base.path) (option_or query base.query) fragment
@@ -184,11 +174,6 @@ query_kept : (query own : Option Text) → (is_some query || is_none own) ≡ tr
 query_kept (Some q) own h = refl
 query_kept None None h = refl
 query_kept None (Some q) h = absurd (true≢false (sym h))
-
-pub both_true : (a b : Bool) → (a && b) ≡ true → (a ≡ true) × (b ≡ true)
-both_true true true h = (refl, refl)
-both_true true false h = absurd (true≢false (sym h))
-both_true false b h = absurd (true≢false (sym h))
 
 -- the empty path leads to the base's own place
 pub same_place-leads : (target base : ReferenceValue) → stands base → is_same_place target base ≡ true

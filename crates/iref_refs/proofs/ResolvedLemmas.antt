@@ -6,44 +6,18 @@ use Rattle.std.proofs.lemmas.List.Folds.{list_all-append}
 use Rattle.iref_text.specs.Characters.{CharTests}
 use Rattle.iref_text.specs.Rules.{Text}
 use Rattle.iref_text.specs.Texts.{is_empty, all_but_last}
-use Rattle.iref_text.specs.Tests.{is_scheme, is_segment, is_query, is_fragment, none_or}
-use Rattle.iref_text.specs.Authority.{has_authority_parts}
+use Rattle.iref_text.specs.Tests.{is_segment, is_query, none_or}
 use Rattle.iref_text.specs.PathValue.{PathValue}
-use Rattle.iref_path.specs.Guard.{guarded}
-use Rattle.iref_text.specs.Contexts.{follows_authority, reads_as_path}
 use Rattle.iref_path.specs.NormalList.{normal}
-use Rattle.iref_text.specs.Reference.{ReferenceValue, context_of, is_readable}
-use Rattle.iref_refs.specs.ComponentSteps.{guarded_reference}
+use Rattle.iref_text.specs.Reference.{ReferenceValue, is_readable}
 use Rattle.iref_refs.specs.Resolution.{merged, is_no_path, target_path, target, resolved}
-use Rattle.iref_path.proofs.GuardLemmas.{guarded-fits}
+use Rattle.iref_path.proofs.StepSegmentLemmas.{normal-in}
 use Rattle.iref_refs.proofs.LeadingLemmas.{all_last}
-use Rattle.iref_refs.proofs.RelativeLemmas.{both_true}
-use Rattle.iref_refs.proofs.AnswerLemmas.{segment_passes_dots, all_normal, all_guarded, readable_parts}
-
--- each component is in its rule
-pub record HasComponents (set : CharTests) (r : ReferenceValue) : Type 0 where
-  pub scheme : none_or is_scheme r.scheme ≡ true
-  pub authority : none_or (has_authority_parts set) r.authority ≡ true
-  pub segments : list_all (is_segment set) r.path.segments ≡ true
-  pub query : none_or (is_query set) r.query ≡ true
-  pub fragment : none_or (is_fragment set) r.fragment ≡ true
-
-pub readable_components : (set : CharTests) (r : ReferenceValue) → is_readable set r ≡ true → HasComponents set r
-readable_components set r readable =
-    let own = readable_parts set r readable in
-    record { scheme = own.scheme; authority = own.authority; segments = own.segments; query = own.query; fragment = own.fragment }
-
--- a guard makes them a readable reference
-pub guarded-readable : (set : CharTests) (r : ReferenceValue) → HasComponents set r → is_readable set (guarded_reference r) ≡ true
-unfolding is_readable
-guarded-readable set r own =
-    let segments = all_guarded (is_segment set) (segment_passes_dots set) (context_of r) r.path own.segments in
-    let fits = both_true (follows_authority (context_of r) (guarded (context_of r) r.path)) (reads_as_path (context_of r) (guarded (context_of r) r.path)) (guarded-fits (context_of r) r.path) in
-    λ i. own.scheme i && own.authority i && segments i && own.query i && own.fragment i && fits.0 i && fits.1 i
+use Rattle.iref_refs.proofs.ReferenceStepLemmas.{is_segment-dots, HasComponents, readable_components, guarded_reference-readable}
 
 module _ (set : CharTests) (base r : ReferenceValue) (own_base : HasComponents set base) (own : HasComponents set r) where
   normal-components : list_all (is_segment set) (normal r.path).segments ≡ true
-  normal-components = all_normal (is_segment set) (segment_passes_dots set) r.path own.segments
+  normal-components = normal-in (is_segment set) (is_segment-dots set) r.path own.segments
 
   merged-components : list_all (is_segment set) (merged base r.path).segments ≡ true
   merged-components = by (is_some base.authority && is_empty base.path.segments)
@@ -58,7 +32,7 @@ module _ (set : CharTests) (base r : ReferenceValue) (own_base : HasComponents s
       by true = own.segments
       by false =
           list_all-append (is_segment set) (all_but_last base.path.segments) r.path.segments
-          ∙ (λ i. (all_last (is_segment set) (segment_passes_dots set).empty base.path.segments own_base.segments).0 i && own.segments i)
+          ∙ (λ i. (all_last (is_segment set) (is_segment-dots set).empty base.path.segments own_base.segments).0 i && own.segments i)
 
   path-components : list_all (is_segment set) (target_path base r.path).segments ≡ true
   path-components = by (is_no_path r.path) r.path.absolute
@@ -66,7 +40,7 @@ module _ (set : CharTests) (base r : ReferenceValue) (own_base : HasComponents s
       by : (none root : Bool) → list_all (is_segment set) (cond none base.path (normal (cond root r.path (merged base r.path)))).segments ≡ true
       by true root = own_base.segments
       by false true = normal-components
-      by false false = all_normal (is_segment set) (segment_passes_dots set) (merged base r.path) merged-components
+      by false false = normal-in (is_segment set) (is_segment-dots set) (merged base r.path) merged-components
 
   query-components : none_or (is_query set) (cond (is_no_path r.path) (option_or r.query base.query) r.query) ≡ true
   query-components = by (is_no_path r.path) r.query own.query
@@ -95,4 +69,4 @@ module _ (set : CharTests) (base r : ReferenceValue) (own_base : HasComponents s
 
 pub resolved-readable : (set : CharTests) (base r : ReferenceValue) → is_readable set base ≡ true → is_readable set r ≡ true → is_readable set (resolved base r) ≡ true
 unfolding resolved
-resolved-readable set base r readable_base readable = guarded-readable set (target base r) (target-components set base r (readable_components set base readable_base) (readable_components set r readable))
+resolved-readable set base r readable_base readable = guarded_reference-readable set (target base r) (target-components set base r (readable_components set base readable_base) (readable_components set r readable))

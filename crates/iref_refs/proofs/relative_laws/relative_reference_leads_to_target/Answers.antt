@@ -1,5 +1,5 @@
 use Rattle.iref_refs.proofs.RelativeLemmas.{relative_to-leads}
-use Rattle.iref_refs.proofs.AnswerLemmas.{readable-stands}
+use Rattle.iref_refs.proofs.ReadableRelativeLemmas.{readable-stands}
 use Rattle.iref_refs.proofs.relative_laws.relative_reference_leads_to_target.Goals as goal
 
 pub returns : goal.returns
