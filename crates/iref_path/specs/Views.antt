@@ -1,8 +1,11 @@
 -- What callers see of the types of paths.
+use Rattle.std.specs.Prelude.{List}
 use Rattle.iref_text.specs.Rules.{Text}
 use Rattle.iref_text.specs.Views.{view_text}
 use Rattle.iref_path.specs.declared.segment.Segment.{Segment}
+use Rattle.iref_path.specs.Pieces.{pieces_if_some}
 use Rattle.iref_path.specs.declared.path.Path.{Path}
+use Rattle.iref_path.specs.declared.segments.Segments.{Segments}
 
 -- the text of a segment
 abbrev pub segment_text : {C : _} {c : _} → Segment C c → Text
@@ -11,3 +14,7 @@ segment_text s = view_text s.text
 -- the text of a path
 abbrev pub path_text : {C : _} {c : _} → Path C c → Text
 path_text p = view_text p.text
+
+-- the texts of the segments that are left
+abbrev pub segments_left : {C : _} {c : _} → Segments C c → List Text
+segments_left s = pieces_if_some s.rest

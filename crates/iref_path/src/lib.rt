@@ -5,3 +5,4 @@ pub mod path;
 pub mod path_laws;
 mod pieces;
 pub mod segment;
+pub mod segments;

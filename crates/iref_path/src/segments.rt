@@ -1,0 +1,80 @@
+//! The segments of a path, from both ends.
+
+ghost use Rattle.std.specs.Prelude.{◌≡◌, true};
+ghost use Rattle.std.specs.List.{list_all};
+ghost use Rattle.std.specs.Iterator.{YieldsFirstBy, YieldsLastBy, item_count};
+ghost use Rattle.iref_text.specs.Tests.{is_segment};
+ghost use Rattle.iref_path.specs.Pieces.{pieces_if_some};
+
+use crate::pieces::{first_piece, last_piece, piece_count};
+use crate::segment::Segment;
+use iref_text::chars::CharSet;
+use std::marker::PhantomData;
+
+/// The segments of a path that are left.
+#[derive(Drop)]
+pub struct Segments<'a, C: CharSet> {
+    // The text of those segments, with `/` between.
+    rest: Option<&'a str>,
+    chars: PhantomData<C>,
+    ghost in_grammar: { list_all (is_segment C.tests) (pieces_if_some rest) ≡ true },
+}
+
+impl<'a, C: CharSet> Segments<'a, C> {
+    ghost use Rattle.iref_path.specs.Views.{segments_left};
+
+    /// The segments of a text, if it is there.
+    pub(crate) fn of_text(rest: Option<&'a str>) -> Self
+        requires { list_all (is_segment C.tests) (pieces_if_some rest) ≡ true }
+        ensures { segments_left result ≡ pieces_if_some rest.entry }
+    {
+        Segments {
+            rest,
+            chars: PhantomData,
+        }
+    }
+}
+
+impl<'a, C: CharSet> Iterator for Segments<'a, C> {
+    ghost use Rattle.iref_path.specs.Views.{segment_text, segments_left};
+
+    type Item = Segment<'a, C>;
+
+    ghost next_gives = { YieldsFirstBy segment_text segments_left };
+
+    ghost remaining = { item_count segments_left };
+
+    fn next(&mut self) -> Option<Segment<'a, C>> {
+        let text = self.rest?;
+        let (segment, rest) = first_piece(text);
+        self.rest = rest;
+        Some(Segment::new_unchecked(segment))
+    }
+
+    fn size_hint(&self) -> (usize, Option<usize>) {
+        let len = self.len();
+        (len, Some(len))
+    }
+}
+
+impl<'a, C: CharSet> DoubleEndedIterator for Segments<'a, C> {
+    ghost use Rattle.iref_path.specs.Views.{segment_text, segments_left};
+
+    ghost next_back_gives = { YieldsLastBy segment_text segments_left };
+
+    fn next_back(&mut self) -> Option<Segment<'a, C>> {
+        let text = self.rest?;
+        let (rest, segment) = last_piece(text);
+        self.rest = rest;
+        Some(Segment::new_unchecked(segment))
+    }
+}
+
+impl<C: CharSet> ExactSizeIterator for Segments<'_, C> {
+    fn len(&self) -> usize {
+        match self.rest {
+            Some(text) => piece_count(text),
+            None => 0,
+        }
+    }
+}
