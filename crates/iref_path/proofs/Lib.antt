@@ -16,3 +16,4 @@ pub mod BothEndsLemmas
 pub mod JoinedLemmas
 pub mod SettledLemmas
 mod PieceLemmas
+mod GrammarLemmas

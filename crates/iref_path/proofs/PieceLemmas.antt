@@ -1,8 +1,8 @@
 -- The pieces of a text that is cut at its first or its last slash.
 use Rattle.std.proofs.Common.{◌≡◌, ℕ, Bool, true, false, cond, List, [], ◌∷◌, ◌++◌, Option, length, get_or, take, drop, refl, sym, ◌∙◌, ap, subst, arith, inl, inr}
-use Rattle.std.specs.Prelude.{◌==◌, ◌≢◌, ◌<◌}
+use Rattle.std.specs.Prelude.{◌==◌, ◌≢◌, ◌<◌, Some, None, is_none, option_map, MatchOption}
 use Rattle.std.specs.Borrow.{Bor}
-use Rattle.std.specs.List.{All, onto_first}
+use Rattle.std.specs.List.{All, onto_first, last_or}
 use Rattle.std.specs.Str.{NoCharPasses}
 use Rattle.std.specs.Str.Pattern.{RFindsChar, SplitsAroundMatch}
 use Rattle.std.proofs.lemmas.Bool.Decides.{nat_tests, eqb_tells}
@@ -13,7 +13,8 @@ use Rattle.std.proofs.lemmas.List.Sums.{count_by-le-length}
 use Rattle.std.proofs.lemmas.Str.Pattern.{NoCharPasses-char, drop_at_char, IsSplitOnceResult, split_parts}
 use Rattle.iref_text.specs.Rules.{Text}
 use Rattle.iref_text.specs.Grammar.{slash}
-use Rattle.iref_text.specs.Texts.{pieces_at}
+use Rattle.iref_text.specs.Texts.{pieces_at, is_empty}
+use Rattle.iref_path.specs.Pieces.{pieces_if_some}
 use Rattle.iref_text.specs.PathValue.{segments_of, read_path}
 
 -- no character of the text is a slash
@@ -90,3 +91,18 @@ read-relative (c ∷ path) segments e h =
     let other : (c == slash) ≡ false = elim (eqb_tells c slash) [ inl k ↦ absurd (e path (ap (λ d. d ∷ path) k.1)) | inr k ↦ k.0 ] in
     (λ i. cond (other i) (record { absolute = true; segments = segments_of path }) (record { absolute = false; segments = segments_of (c ∷ path) }))
     ∙ (λ i. record { absolute = false; segments = sym h i })
+
+pub is_empty-pieces : (text : Option (Bor Text)) → is_empty (pieces_if_some text) ≡ is_none text
+is_empty-pieces None = refl
+is_empty-pieces (Some text) = ap is_empty (some_piece text.now).2
+
+pub ruleset some_pieces = (is_empty-pieces)
+
+-- the last item of a list, as an iterator gives it
+last_item : (front : List Text) (s : Text) (o : Option Text) → last_or o (front ++ s ∷ []) ≡ Some s
+last_item [] s o = refl
+last_item (t ∷ front) s o = last_item front s (Some t)
+
+pub last_given : {A : Type 0} (view : A → Text) (list left : List Text) (given : Option A) → MatchOption given ((list ≡ []) × (left ≡ [])) (λ x. list ≡ left ++ view x ∷ []) → option_map view given ≡ last_or None list
+last_given view list left None h = ap (last_or None) (sym h.0)
+last_given view list left (Some x) h = sym (ap (last_or None) h ∙ last_item left (view x) None)

@@ -1,6 +1,7 @@
 -- What callers see of the types of paths.
 use Rattle.std.specs.Prelude.{List}
 use Rattle.iref_text.specs.Rules.{Text}
+use Rattle.iref_text.specs.PathValue.{PathValue, read_path}
 use Rattle.iref_text.specs.Views.{view_text}
 use Rattle.iref_path.specs.declared.segment.Segment.{Segment}
 use Rattle.iref_path.specs.Pieces.{pieces_if_some}
@@ -18,3 +19,7 @@ path_text p = view_text p.text
 -- the texts of the segments that are left
 abbrev pub segments_left : {C : _} {c : _} → Segments C c → List Text
 segments_left s = pieces_if_some s.rest
+
+-- the flag and the list that the text of a path is read as
+abbrev pub path_value : {C : _} {c : _} → Path C c → PathValue
+path_value p = read_path (path_text p)

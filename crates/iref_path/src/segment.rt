@@ -1,11 +1,12 @@
 //! The segments of paths (RFC 3986 section 3.3).
 
-ghost use Rattle.std.specs.Prelude.{◌≡◌, true};
+ghost use Rattle.std.specs.Prelude.{◌≡◌, true, [], length, codes};
 ghost use Rattle.percent_encoding.specs.Percent.{percent_decode};
 ghost use Rattle.iref_text.specs.Rules.{InUtf8};
 ghost use Rattle.iref_text.specs.Grammar.{IsSegment};
 ghost use Rattle.iref_text.specs.Tests.{is_segment};
 ghost use Rattle.iref_text.specs.Makers.{Parses};
+ghost use Rattle.iref_text.specs.Texts.{is_empty};
 
 use iref_text::chars::CharSet;
 use iref_text::parse::scan;
@@ -104,5 +105,43 @@ impl<'a, C: CharSet> Segment<'a, C> {
         ensures { result.now ≡ segment_text self.now }
     {
         self.text.as_str().as_bytes()
+    }
+
+    /// The empty segment.
+    #[tactic(auto, using(crate::proofs::GrammarLemmas::short_segments))]
+    pub fn empty() -> Self
+        ensures { segment_text result ≡ [] }
+    {
+        Segment::new_unchecked("")
+    }
+
+    /// The segment `.`.
+    #[tactic(auto, using(crate::proofs::GrammarLemmas::short_segments))]
+    pub fn current() -> Self
+        ensures { segment_text result ≡ codes "." }
+    {
+        Segment::new_unchecked(".")
+    }
+
+    /// The segment `..`.
+    #[tactic(auto, using(crate::proofs::GrammarLemmas::short_segments))]
+    pub fn parent() -> Self
+        ensures { segment_text result ≡ codes ".." }
+    {
+        Segment::new_unchecked("..")
+    }
+
+    /// How many bytes the text has.
+    pub fn len(&self) -> usize
+        ensures { result ≡ length (segment_text self.now) }
+    {
+        self.as_str().len()
+    }
+
+    /// Whether the text is empty.
+    pub fn is_empty(&self) -> bool
+        ensures { result ≡ is_empty (segment_text self.now) }
+    {
+        self.as_str().is_empty()
     }
 }

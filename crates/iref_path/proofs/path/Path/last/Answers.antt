@@ -1,0 +1,9 @@
+use Rattle.std.proofs.Common.{ap, ◌∙◌, None}
+use Rattle.std.specs.List.{last_or}
+use Rattle.iref_path.specs.Views.{segment_text, segments_left}
+use Rattle.iref_path.proofs.PieceLemmas.{last_given}
+use Rattle.iref_path.proofs.path.Path.last.Goals as goal
+
+pub returns : goal.returns
+returns g c =
+    last_given segment_text _ (segments_left c.next_back.new.self) c.next_back.result c.next_back.ensures.steps ∙ ap (last_or None) c.segments.ensures.left
