@@ -1,7 +1,6 @@
 //! Paths (RFC 3986 section 3.3).
 
 ghost use Rattle.std.specs.Prelude.{◌≡◌, ◌<◌, ◌^◌, true, not, [], length, codes, option_map};
-ghost use Rattle.percent_encoding.specs.Percent.{percent_decode};
 ghost use Rattle.iref_text.specs.Rules.{InUtf8};
 ghost use Rattle.iref_text.specs.Grammar.{IsPath};
 ghost use Rattle.iref_text.specs.Tests.{is_path};
@@ -15,12 +14,8 @@ use crate::segments::Segments;
 use iref_text::chars::CharSet;
 use iref_text::parse::scan;
 use iref_text::parse::view::{Rule, View};
-use iref_text::pct::decoded::{decoded_cmp, hash_decoded};
 use iref_text::text_laws::path_grammar;
-use std::cmp::Ordering;
 use std::fmt;
-use std::hash::Hasher;
-use std::marker::PhantomData;
 use thiserror::Error;
 
 /// The text or the bytes are no path.
@@ -29,40 +24,27 @@ use thiserror::Error;
 #[error("{0}")]
 pub struct InvalidPath<T>(pub T);
 
-/// The rule of paths: any text of the characters of segments and `/`. Paths themselves are compared by other keys.
-pub struct PathRule<C: CharSet>(PhantomData<C>);
+/// The rule of paths: any text of the characters of segments and `/`.
+pub struct PathRule;
 
-impl<C: CharSet> Rule for PathRule<C> {
-    ghost rule = { IsPath C.tests };
+impl Rule for PathRule {
+    ghost rule = { IsPath };
 
-    ghost test = { is_path C.tests };
+    ghost test = { is_path };
 
-    ghost key = { percent_decode };
-
-    fn accepts(text: &str) -> bool {
+    fn accepts<C: CharSet>(text: &str) -> bool {
         scan::is_path::<C>(text)
     }
 
-    fn compare(a: &str, b: &str) -> Ordering {
-        decoded_cmp(a, b)
-    }
-
-    fn feed<H: Hasher>(text: &str, state: &mut H) {
-        hash_decoded(text, state);
-    }
-
-    fn decided() {
+    fn decided<C: CharSet>() {
         path_grammar::<C>()
     }
 }
 
 /// A path.
 #[derive_where(Clone, Copy, Debug)]
-pub struct Path<'a, C: CharSet>
-where
-    PathRule<C>: Rule,
-{
-    text: View<'a, PathRule<C>>,
+pub struct Path<'a, C: CharSet> {
+    text: View<'a, PathRule, C>,
 }
 
 impl<'a, C: CharSet> Path<'a, C> {

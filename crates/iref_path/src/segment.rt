@@ -1,7 +1,6 @@
 //! The segments of paths (RFC 3986 section 3.3).
 
 ghost use Rattle.std.specs.Prelude.{◌≡◌, true, [], length, codes};
-ghost use Rattle.percent_encoding.specs.Percent.{percent_decode};
 ghost use Rattle.iref_text.specs.Rules.{InUtf8};
 ghost use Rattle.iref_text.specs.Grammar.{IsSegment};
 ghost use Rattle.iref_text.specs.Tests.{is_segment};
@@ -9,41 +8,32 @@ ghost use Rattle.iref_text.specs.Makers.{Parses};
 ghost use Rattle.iref_text.specs.Texts.{is_empty};
 
 use iref_text::chars::CharSet;
+use iref_text::parse::key::DecodedBytes;
 use iref_text::parse::scan;
-use iref_text::parse::view::{Rule, View};
-use iref_text::pct::decoded::{decoded_cmp, hash_decoded};
+use iref_text::parse::view::{Keyed, Rule, View};
 use iref_text::text_laws::segment_grammar;
-use std::cmp::Ordering;
 use std::fmt;
-use std::hash::Hasher;
-use std::marker::PhantomData;
 use thiserror::Error;
 
-/// The rule of segments, which are compared by their decoded bytes.
-pub struct SegmentRule<C: CharSet>(PhantomData<C>);
+/// The rule of segments.
+pub struct SegmentRule;
 
-impl<C: CharSet> Rule for SegmentRule<C> {
-    ghost rule = { IsSegment C.tests };
+impl Rule for SegmentRule {
+    ghost rule = { IsSegment };
 
-    ghost test = { is_segment C.tests };
+    ghost test = { is_segment };
 
-    ghost key = { percent_decode };
-
-    fn accepts(text: &str) -> bool {
+    fn accepts<C: CharSet>(text: &str) -> bool {
         scan::is_segment::<C>(text)
     }
 
-    fn compare(a: &str, b: &str) -> Ordering {
-        decoded_cmp(a, b)
-    }
-
-    fn feed<H: Hasher>(text: &str, state: &mut H) {
-        hash_decoded(text, state);
-    }
-
-    fn decided() {
+    fn decided<C: CharSet>() {
         segment_grammar::<C>()
     }
+}
+
+impl Keyed for SegmentRule {
+    type Key = DecodedBytes;
 }
 
 /// The text or the bytes are no segment.
@@ -54,11 +44,8 @@ pub struct InvalidSegment<T>(pub T);
 
 /// A segment of a path.
 #[derive_where(Clone, Copy, PartialEq, Eq, PartialOrd, Ord, Hash, Debug)]
-pub struct Segment<'a, C: CharSet>
-where
-    SegmentRule<C>: Rule,
-{
-    text: View<'a, SegmentRule<C>>,
+pub struct Segment<'a, C: CharSet> {
+    text: View<'a, SegmentRule, C>,
 }
 
 impl<'a, C: CharSet> Segment<'a, C> {

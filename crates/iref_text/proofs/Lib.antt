@@ -37,3 +37,4 @@ pub mod KeyLemmas
 pub mod SplitLemmas
 pub mod ContextLemmas
 pub mod ComponentLemmas
+pub mod EmptyLemmas

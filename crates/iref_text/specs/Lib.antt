@@ -14,3 +14,4 @@ pub mod Makers
 pub mod Views
 pub mod AuthoritySlices
 pub mod ReferenceSlices
+pub mod Queries

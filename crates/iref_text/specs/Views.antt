@@ -4,8 +4,8 @@ use Rattle.iref_text.specs.Rules.{Text}
 use Rattle.iref_text.specs.declared.parse.view.View.{View}
 use Rattle.iref_text.specs.declared.parse.owned.TextBuf.{TextBuf}
 
-abbrev pub view_text : {R : _} {r : _} → View R r → Text
+abbrev pub view_text : {R : _} {C : _} {r : _} {c : _} → View R C r c → Text
 view_text v = v.text.now
 
-abbrev pub owned_text : {R : _} {r : _} → TextBuf R r → Text
+abbrev pub owned_text : {R : _} {C : _} {r : _} {c : _} → TextBuf R C r c → Text
 owned_text v = string_bytes v.text

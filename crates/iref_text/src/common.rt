@@ -1,6 +1,9 @@
-//! What the components have in common: what stands before a path, and where each stands.
+//! What the components have in common: what stands before a path, where each stands, and why an edit is refused.
 #![tactic(auto)]
 
+pub mod error;
+
+pub use error::{Memory, TryError};
 use std::ops::Range;
 
 /// What stands before a path (RFC 3986 sections 3.3 and 4.2).

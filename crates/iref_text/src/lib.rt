@@ -7,5 +7,6 @@ pub mod common;
 pub mod parse;
 pub mod path_laws;
 pub mod pct;
+pub mod query;
 pub mod reference_laws;
 pub mod text_laws;

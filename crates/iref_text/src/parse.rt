@@ -2,7 +2,9 @@
 
 pub mod authority;
 pub mod cut;
+pub mod key;
 pub mod owned;
+pub mod rules;
 pub mod scan;
 pub mod split;
 pub mod view;

@@ -1,6 +1,6 @@
 //! Owned texts of a rule: what the owners share that are not edited in place.
-ghost use Rattle.std.specs.Prelude.{◌≡◌, true, OnOk, IfOk};
-ghost use Rattle.std.specs.String.{string_bytes, string_vec};
+ghost use Rattle.std.specs.Prelude.{◌≡◌, true, [], IfOk};
+ghost use Rattle.std.specs.String.{string_bytes};
 ghost use Rattle.std.specs.Ordering.{on, as_partial_cmp};
 ghost use Rattle.std.specs.Cmp.{partial_order_from_own_ties};
 ghost use Rattle.std.specs.Cmp.Rules.{comparing, hashing};
@@ -9,8 +9,10 @@ ghost use Rattle.iref_text.specs.Rules.{InUtf8};
 ghost use Rattle.iref_text.specs.Keys.{is_same_text, text_order, fed_bytes};
 ghost use Rattle.iref_text.specs.Makers.{Parses};
 
-use crate::parse::view::{Rule, View};
-use std::alloc::{AllocError, Global};
+use crate::chars::CharSet;
+use crate::common::Memory;
+use crate::parse::view::{Keyed, Rule, View};
+use std::alloc::Global;
 use std::cmp::Ordering;
 use std::fmt;
 use std::hash::{Hash, Hasher};
@@ -18,21 +20,21 @@ use std::marker::PhantomData;
 
 /// An owned text of a rule.
 #[derive(Drop)]
-pub struct TextBuf<R: Rule> {
+pub struct TextBuf<R: Rule, C: CharSet> {
     text: String,
-    rule: PhantomData<R>,
-    ghost in_rule: { R.test (string_bytes text) ≡ true },
+    rule: PhantomData<(R, C)>,
+    ghost in_rule: { R.test C.tests (string_bytes text) ≡ true },
 }
 
-impl<R: Rule> TextBuf<R> {
+impl<R: Rule, C: CharSet> TextBuf<R, C> {
     ghost use Rattle.iref_text.specs.Views.{view_text, owned_text};
 
     /// The owner of a text that is in the rule, or the text.
     pub fn new(text: String) -> Result<Self, String>
-        ensures { Parses (InUtf8 R.rule) (string_bytes text) owned_text (λ input. input ≡ text) result }
+        ensures { Parses (InUtf8 (R.rule C.tests)) (string_bytes text) owned_text (λ input. input ≡ text) result }
     {
-        R::decided();
-        if R::accepts(text.as_str()) {
+        R::decided::<C>();
+        if R::accepts::<C>(text.as_str()) {
             Ok(TextBuf {
                 text,
                 rule: PhantomData,
@@ -44,7 +46,7 @@ impl<R: Rule> TextBuf<R> {
 
     /// The owner of the UTF-8 of a text that is in the rule, or the bytes.
     pub fn from_bytes(bytes: Vec<u8>) -> Result<Self, Vec<u8>>
-        ensures { Parses (InUtf8 R.rule) bytes.items owned_text (λ input. input ≡ bytes) result }
+        ensures { Parses (InUtf8 (R.rule C.tests)) bytes.items owned_text (λ input. input ≡ bytes) result }
     {
         match String::from_utf8(bytes) {
             Ok(text) => TextBuf::new(text).map_err(|text| text.into_bytes()),
@@ -52,18 +54,29 @@ impl<R: Rule> TextBuf<R> {
         }
     }
 
-    /// A copy of the view's text.
-    pub fn copy_of(text: View<'_, R>, alloc: Global) -> Result<Self, AllocError>
-        ensures { IfOk result (λ copy. owned_text copy ≡ view_text text.entry) }
+    /// An owner of a copy.
+    pub fn from_view(view: View<'_, R, C>, alloc: Global) -> Result<Self, Memory>
+        ensures { IfOk result (λ copy. owned_text copy ≡ view_text view.entry) }
     {
         Ok(TextBuf {
-            text: String::from_str(alloc, text.as_str())?,
+            text: String::from_str(alloc, view.as_str())?,
             rule: PhantomData,
         })
     }
 
+    /// The owner of the empty text, which takes no memory.
+    pub fn empty(alloc: Global) -> Self
+        requires { R.test C.tests [] ≡ true }
+        ensures { owned_text result ≡ [] }
+    {
+        TextBuf {
+            text: String::new(alloc),
+            rule: PhantomData,
+        }
+    }
+
     /// The view.
-    pub fn as_view(&self) -> View<'_, R>
+    pub fn as_view(&self) -> View<'_, R, C>
         ensures { view_text result ≡ owned_text self.now }
     {
         View::new_unchecked(self.text.as_str())
@@ -78,10 +91,10 @@ impl<R: Rule> TextBuf<R> {
     }
 }
 
-impl<R: Rule> Ord for TextBuf<R> {
+impl<R: Keyed, C: CharSet> Ord for TextBuf<R, C> {
     ghost use Rattle.iref_text.specs.Views.{owned_text};
 
-    ghost cmp = { on (λ t. R.key (owned_text t)) text_order };
+    ghost cmp = { on (λ t. R.Key.key (owned_text t)) text_order };
 
     ghost total = { Prim.search (comparing, rules) };
 
@@ -94,10 +107,10 @@ impl<R: Rule> Ord for TextBuf<R> {
     }
 }
 
-impl<R: Rule> PartialOrd for TextBuf<R> {
+impl<R: Keyed, C: CharSet> PartialOrd for TextBuf<R, C> {
     ghost use Rattle.iref_text.specs.Views.{owned_text};
 
-    ghost partial_cmp = { as_partial_cmp (on (λ t. R.key (owned_text t)) text_order) };
+    ghost partial_cmp = { as_partial_cmp (on (λ t. R.Key.key (owned_text t)) text_order) };
 
     ghost laws = { partial_order_from_own_ties (Prim.search (comparing, rules)) (Prim.search (comparing, rules)) };
 
@@ -106,10 +119,10 @@ impl<R: Rule> PartialOrd for TextBuf<R> {
     }
 }
 
-impl<R: Rule> PartialEq for TextBuf<R> {
+impl<R: Keyed, C: CharSet> PartialEq for TextBuf<R, C> {
     ghost use Rattle.iref_text.specs.Views.{owned_text};
 
-    ghost eq = { on (λ t. R.key (owned_text t)) is_same_text };
+    ghost eq = { on (λ t. R.Key.key (owned_text t)) is_same_text };
 
     ghost laws = { Prim.search (comparing, rules) };
 
@@ -118,14 +131,14 @@ impl<R: Rule> PartialEq for TextBuf<R> {
     }
 }
 
-impl<R: Rule> Eq for TextBuf<R> {
+impl<R: Keyed, C: CharSet> Eq for TextBuf<R, C> {
     ghost laws = { Prim.search (comparing, rules) };
 }
 
-impl<R: Rule> Hash for TextBuf<R> {
+impl<R: Keyed, C: CharSet> Hash for TextBuf<R, C> {
     ghost use Rattle.iref_text.specs.Views.{owned_text};
 
-    ghost hash_input = { λ t. fed_bytes (R.key (owned_text t)) };
+    ghost hash_input = { λ t. fed_bytes (R.Key.key (owned_text t)) };
 
     ghost respects_eq = { Prim.search (hashing, rules) };
 
@@ -134,7 +147,7 @@ impl<R: Rule> Hash for TextBuf<R> {
     }
 }
 
-impl<R: Rule> fmt::Debug for TextBuf<R> {
+impl<R: Rule, C: CharSet> fmt::Debug for TextBuf<R, C> {
     fn fmt<W: fmt::Write>(&self, f: &mut fmt::Formatter<W>) -> fmt::Result {
         fmt::Debug::fmt(&self.text.as_str(), f)
     }

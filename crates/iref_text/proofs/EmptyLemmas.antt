@@ -1,0 +1,13 @@
+-- The empty text is in the rules of characters and escapes.
+use Rattle.std.proofs.Common.{◌≡◌, true, [], refl}
+use Rattle.std.specs.Str.{chars, is_utf8}
+use Rattle.iref_text.specs.Characters.{CharTests}
+use Rattle.iref_text.specs.Tests.{is_query, is_fragment}
+
+pub is_query_empty : (set : CharTests) → is_query set [] ≡ true
+unfolding is_query is_utf8 chars
+is_query_empty set = refl
+
+pub is_fragment_empty : (set : CharTests) → is_fragment set [] ≡ true
+unfolding is_fragment is_utf8 chars
+is_fragment_empty set = refl

@@ -1,0 +1,38 @@
+//! What texts are compared by, in their order, and fed to hashers.
+ghost use Rattle.std.specs.Prelude.{◌≡◌, fold};
+ghost use Rattle.percent_encoding.specs.Percent.{percent_decode};
+ghost use Rattle.iref_text.specs.Rules.{Text};
+ghost use Rattle.iref_text.specs.Keys.{text_order, fed_bytes};
+
+use crate::pct::decoded::{decoded_cmp, hash_decoded};
+use std::cmp::Ordering;
+use std::hash::Hasher;
+
+/// What texts are compared by.
+pub trait Key {
+    /// The key of a text.
+    ghost key: { Text → Text };
+
+    /// The order of the keys.
+    fn compare(a: &str, b: &str) -> Ordering
+        ensures { result ≡ text_order (key a.now) (key b.now) };
+
+    /// Feeds the key to the hasher.
+    fn feed<H: Hasher>(text: &str, state: &mut H)
+        ensures { state.new ≡ fold H.write state.old (fed_bytes (key text.now)) };
+}
+
+/// The bytes that a text decodes to: each escape is one byte (RFC 3986 section 2.1).
+pub struct DecodedBytes;
+
+impl Key for DecodedBytes {
+    ghost key = { percent_decode };
+
+    fn compare(a: &str, b: &str) -> Ordering {
+        decoded_cmp(a, b)
+    }
+
+    fn feed<H: Hasher>(text: &str, state: &mut H) {
+        hash_decoded(text, state);
+    }
+}
