@@ -1,5 +1,5 @@
 -- Lists of edits of a buffer.
-use Rattle.std.specs.Prelude.{ℕ, ◌+◌, Bool, true, false, List, [], ◌∷◌, Option, Some, None, Result, Ok, Err, option_map, if◌then◌else◌}
+use Rattle.std.specs.Prelude.{ℕ, ◌+◌, Bool, true, false, List, [], ◌∷◌, Option, Some, None, Result, Ok, Err, is_some, option_map, if◌then◌else◌}
 use Rattle.iref_text.specs.Rules.{Text}
 use Rattle.iref_text.specs.Authority.{AuthorityValue, read_authority}
 use Rattle.iref_text.specs.PathValue.{read_path}
@@ -7,7 +7,7 @@ use Rattle.iref_text.specs.Reference.{ReferenceValue}
 use Rattle.iref_authority.specs.AuthoritySteps.{with_user_info, with_host, with_port}
 use Rattle.iref_authority.specs.HostNumbers.{port_text}
 use Rattle.iref_path.specs.PathSteps.{lazy_pushed, pushed, joined, popped, cleared, normalized}
-use Rattle.iref_refs.specs.ComponentSteps.{with_scheme, with_authority, with_path, with_query, with_fragment, with_path_step, with_new_normal_path}
+use Rattle.iref_refs.specs.ComponentSteps.{with_scheme, with_authority, with_path, with_query, with_fragment, with_authority_step, with_path_step, with_new_normal_path}
 
 -- an edit, with the texts that it gives
 pub data EditStep : Type 0 where
@@ -36,10 +36,7 @@ pub data EditRefusal : Type 0 where
 
 -- the edit of a part of the authority needs one
 abbrev pub with_authority_part : (AuthorityValue → AuthorityValue) → ReferenceValue → Result ReferenceValue EditRefusal
-with_authority_part step r = elim r.authority [
-  | None ↦ Err NoAuthority
-  | Some a ↦ Ok (record r { authority = Some (step a) })
-]
+with_authority_part step r = if is_some r.authority then Ok (with_authority_step step r) else Err NoAuthority
 
 -- a reference after the edit, or why it is refused
 unfoldable pub edited : EditStep → ReferenceValue → Result ReferenceValue EditRefusal

@@ -1,8 +1,11 @@
 -- Keys that tie are the same.
 use Rattle.std.proofs.Common.{Decides, ◌≡◌, true, false, [], ◌∷◌, refl, sym, ◌∙◌, ap, Some, None, Ordering, Less, Equal, Greater, is_eq}
 use Rattle.std.specs.Option.{option_cmp}
-use Rattle.std.specs.Ordering.{ordering_then, bool_cmp}
-use Rattle.std.specs.Cmp.Lexicographic.{slice_cmp, bytes_decides}
+use Rattle.std.specs.Ordering.{ordering_then, bool_cmp, on}
+use Rattle.std.specs.Cmp.{IsTotalOrder, on_total, then_total, bool_cmp_total}
+use Rattle.std.specs.Cmp.Lexicographic.{slice_cmp, bytes_decides, on_texts, nat_list_cmp_total, lists_total, options_total}
+use Rattle.iref_text.specs.Authority.{AuthorityValue}
+use Rattle.iref_text.specs.PathValue.{PathValue}
 use Rattle.std.proofs.lemmas.Map.Text.{is_eq-slice_cmp}
 use mathlib.Core.Bool.{true≢false}
 use Rattle.iref_text.specs.Reference.{ReferenceValue}
@@ -124,3 +127,26 @@ Tells-key r s h =
 -- `==` is the sameness of keys
 pub Decides-are_alike : (r s : ReferenceValue) → Decides (are_alike r s) (AreAlike r s)
 Decides-are_alike r s = (Tells-key (key r) (key s), λ same. (λ i. is_eq (key_cmp (key r) (sym same i))) ∙ Ties-key (key r))
+
+-- ---- keys are in a total order
+
+authorities_total : IsTotalOrder authority_key_cmp
+authorities_total =
+    then_total (on_total (λ (a : AuthorityValue). a.user_info) (options_total nat_list_cmp_total))
+    (then_total (on_texts (λ (a : AuthorityValue). a.host)) (on_total (λ (a : AuthorityValue). a.port) (options_total nat_list_cmp_total)))
+
+paths_total : IsTotalOrder path_key_cmp
+paths_total =
+    then_total (on_total (λ (p : PathValue). p.absolute) bool_cmp_total) (on_total (λ (p : PathValue). p.segments) (lists_total nat_list_cmp_total))
+
+keys_total : IsTotalOrder key_cmp
+unfolding key_cmp
+keys_total =
+    then_total (on_total (λ (r : ReferenceValue). r.scheme) (options_total nat_list_cmp_total))
+    (then_total (on_total (λ (r : ReferenceValue). r.authority) (options_total authorities_total))
+    (then_total (on_total (λ (r : ReferenceValue). r.path) paths_total)
+    (then_total (on_total (λ (r : ReferenceValue). r.query) (options_total nat_list_cmp_total))
+    (on_total (λ (r : ReferenceValue). r.fragment) (options_total nat_list_cmp_total)))))
+
+pub references_total : IsTotalOrder (on key key_cmp)
+references_total = on_total key keys_total

@@ -1,6 +1,6 @@
 -- Each step of a reference keeps it readable.
 use Rattle.std.proofs.Common.{◌≡◌, Bool, true, ◌&&◌, List, [], refl}
-use Rattle.std.specs.Prelude.{Option, Some, None, is_some, is_none}
+use Rattle.std.specs.Prelude.{Option, Some, None, is_some, is_none, option_map}
 use Rattle.std.specs.List.{list_all}
 use Rattle.std.specs.Str.{is_utf8, chars}
 use Rattle.std.specs.Char.{encode_utf8}
@@ -8,13 +8,14 @@ use Rattle.iref_text.specs.declared.common.PathContext.{PathContext}
 use Rattle.iref_text.specs.Characters.{CharTests}
 use Rattle.iref_text.specs.Rules.{Text}
 use Rattle.iref_text.specs.Grammar.{is_reg_name_char, is_user_info_char, is_path_char}
-use Rattle.iref_text.specs.Tests.{owed_after, is_scheme, is_segment, is_query, is_fragment, none_or}
+use Rattle.iref_text.specs.Tests.{owed_after, is_scheme, is_segment, is_query, is_fragment, is_user_info, is_host, is_port, none_or}
 use Rattle.iref_text.specs.Authority.{AuthorityValue, has_authority_parts}
 use Rattle.iref_text.specs.PathValue.{PathValue, shows_its_list, spell_path}
-use Rattle.iref_text.specs.Contexts.{is_no_authority, is_no_scheme}
+use Rattle.iref_text.specs.Contexts.{follows_authority, reads_as_path, is_no_authority, is_no_scheme}
 use Rattle.iref_path.specs.PathSteps.{lazy_pushed, popped, pushed, appended, lazy_appended, replaced, joined, normalized, cleared}
 use Rattle.iref_text.specs.Reference.{ReferenceValue, context_of, is_readable}
-use Rattle.iref_refs.specs.ComponentSteps.{guarded_reference, with_scheme, path_after_new_authority, with_authority, with_path, with_query, with_fragment, with_path_step, with_normal_path, with_new_normal_path}
+use Rattle.iref_refs.specs.ComponentSteps.{guarded_reference, with_scheme, path_after_new_authority, with_authority, with_path, with_query, with_fragment, with_authority_step, with_path_step, with_normal_path, with_new_normal_path}
+use Rattle.iref_authority.specs.AuthoritySteps.{with_user_info, with_host, with_port}
 use Rattle.iref_refs.specs.Key.{key}
 use Rattle.iref_text.proofs.TextLemmas.{both, first_of_both, both_true}
 use Rattle.iref_text.proofs.ReadablePartsLemmas.{readable_parts, readable_from}
@@ -162,6 +163,64 @@ with_normal_path-readable set r h = normalized-readable set r h
 
 pub with_new_normal_path-readable : (set : CharTests) (p : PathValue) (r : ReferenceValue) → all_in (is_segment set) p ≡ true → is_readable set r ≡ true → is_readable set (with_new_normal_path p r) ≡ true
 with_new_normal_path-readable set p r k h = with_normal_path-readable set (with_path p r) (with_path-readable set p r k h)
+
+-- ---- authority steps
+
+-- a step that keeps the parts of an authority in their rules keeps the reference readable
+with_authority_step-readable : (set : CharTests) (step : AuthorityValue → AuthorityValue) (r : ReferenceValue) → ((a : AuthorityValue) → has_authority_parts set a ≡ true → has_authority_parts set (step a) ≡ true)
+    → is_readable set r ≡ true → is_readable set (with_authority_step step r) ≡ true
+with_authority_step-readable set step r keeps h =
+    let parts = readable_parts set r h in
+    readable_from set (with_authority_step step r) (record {
+      scheme = parts.scheme;
+      authority = stepped r.authority parts.authority;
+      segments = parts.segments;
+      query = parts.query;
+      fragment = parts.fragment;
+      follows = in_context r.authority (λ has. follows_authority (record { has_scheme = is_some r.scheme; has_authority = has }) r.path) parts.follows;
+      reads = in_context r.authority (λ has. reads_as_path (record { has_scheme = is_some r.scheme; has_authority = has }) r.path) parts.reads;
+    })
+  where
+    stepped : (authority : Option AuthorityValue) → none_or (has_authority_parts set) authority ≡ true → none_or (has_authority_parts set) (option_map step authority) ≡ true
+    stepped None k = refl
+    stepped (Some a) k = keeps a k
+
+    -- there is an authority after the step exactly if there was one
+    in_context : (authority : Option AuthorityValue) (test : Bool → Bool) → test (is_some authority) ≡ true → test (is_some (option_map step authority)) ≡ true
+    in_context None test k = k
+    in_context (Some a) test k = k
+
+-- the parts of an authority are in their rules
+record HasParts (set : CharTests) (a : AuthorityValue) : Type 0 where
+  user_info : none_or (is_user_info set) a.user_info ≡ true
+  host : is_host set a.host ≡ true
+  port : none_or is_port a.port ≡ true
+
+authority_parts : (set : CharTests) (a : AuthorityValue) → has_authority_parts set a ≡ true → HasParts set a
+unfolding has_authority_parts
+authority_parts set a h =
+    let two = both_true (none_or (is_user_info set) a.user_info && is_host set a.host) (none_or is_port a.port) h in
+    let one = both_true (none_or (is_user_info set) a.user_info) (is_host set a.host) two.0 in
+    record { user_info = one.0; host = one.1; port = two.1 }
+
+authority_from : (set : CharTests) (a : AuthorityValue) → HasParts set a → has_authority_parts set a ≡ true
+unfolding has_authority_parts
+authority_from set a parts = both _ _ (both _ _ parts.user_info parts.host) parts.port
+
+pub with_user_info-readable : (set : CharTests) (user_info : Option Text) (r : ReferenceValue) → none_or (is_user_info set) user_info ≡ true → is_readable set r ≡ true → is_readable set (with_authority_step (with_user_info user_info) r) ≡ true
+with_user_info-readable set user_info r k =
+    with_authority_step-readable set (with_user_info user_info) r (λ a h. let parts = authority_parts set a h in authority_from set (with_user_info user_info a) (record { user_info = k; host = parts.host; port = parts.port }))
+
+pub with_host-readable : (set : CharTests) (host : Text) (r : ReferenceValue) → is_host set host ≡ true → is_readable set r ≡ true → is_readable set (with_authority_step (with_host host) r) ≡ true
+with_host-readable set host r k =
+    with_authority_step-readable set (with_host host) r (λ a h. let parts = authority_parts set a h in authority_from set (with_host host a) (record { user_info = parts.user_info; host = k; port = parts.port }))
+
+pub with_port-readable : (set : CharTests) (port : Option Text) (r : ReferenceValue) → none_or is_port port ≡ true → is_readable set r ≡ true → is_readable set (with_authority_step (with_port port) r) ≡ true
+with_port-readable set port r k =
+    with_authority_step-readable set (with_port port) r (λ a h. let parts = authority_parts set a h in authority_from set (with_port port a) (record { user_info = parts.user_info; host = parts.host; port = k }))
+
+pub with_whole_authority-readable : (set : CharTests) (new : AuthorityValue) (r : ReferenceValue) → has_authority_parts set new ≡ true → is_readable set r ≡ true → is_readable set (with_authority_step (λ a. new) r) ≡ true
+with_whole_authority-readable set new r k = with_authority_step-readable set (λ a. new) r (λ a h. k)
 
 -- ---- normalising a reference
 

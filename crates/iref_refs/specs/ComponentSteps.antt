@@ -1,5 +1,5 @@
 -- The edits of a reference, each one step on its components.
-use Rattle.std.specs.Prelude.{true, Option, Some, None, is_some, is_none, if◌then◌else◌}
+use Rattle.std.specs.Prelude.{true, Option, Some, None, is_some, is_none, option_map, if◌then◌else◌}
 use Rattle.iref_text.specs.declared.common.PathContext.{PathContext}
 use Rattle.iref_text.specs.Rules.{Text}
 use Rattle.iref_text.specs.Authority.{AuthorityValue}
@@ -32,6 +32,10 @@ with_query query r = record r { query = query }
 
 abbrev pub with_fragment : Option Text → ReferenceValue → ReferenceValue
 with_fragment fragment r = record r { fragment = fragment }
+
+-- the step of the authority, where there is one
+abbrev pub with_authority_step : (AuthorityValue → AuthorityValue) → ReferenceValue → ReferenceValue
+with_authority_step step r = record r { authority = option_map step r.authority }
 
 -- the step of a path, in the context of the reference
 abbrev pub with_path_step : (PathContext → PathValue → PathValue) → ReferenceValue → ReferenceValue

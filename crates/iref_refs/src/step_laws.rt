@@ -5,14 +5,15 @@ ghost use Rattle.std.specs.List.{list_all};
 ghost use Rattle.iref_text.specs.Characters.{CharTests};
 ghost use Rattle.iref_text.specs.Rules.{Text};
 ghost use Rattle.iref_text.specs.Grammar.{slash};
-ghost use Rattle.iref_text.specs.Tests.{is_scheme, is_segment, is_query, is_fragment, none_or};
+ghost use Rattle.iref_text.specs.Tests.{is_scheme, is_segment, is_query, is_fragment, is_user_info, is_host, is_port, none_or};
 ghost use Rattle.iref_text.specs.Texts.{lacks};
 ghost use Rattle.iref_text.specs.Authority.{AuthorityValue, has_authority_parts};
 ghost use Rattle.iref_text.specs.PathValue.{PathValue, spell_path};
 ghost use Rattle.iref_text.specs.Reference.{ReferenceValue, is_readable};
+ghost use Rattle.iref_authority.specs.AuthoritySteps.{with_user_info, with_host, with_port};
 ghost use Rattle.iref_path.specs.PathSteps.{lazy_pushed, popped, pushed, appended, lazy_appended, replaced, joined, normalized, cleared};
 ghost use Rattle.iref_path.specs.DotSegments.{RemovesDotSegments};
-ghost use Rattle.iref_refs.specs.ComponentSteps.{with_scheme, with_authority, with_path, with_query, with_fragment, with_path_step, with_normal_path, with_new_normal_path};
+ghost use Rattle.iref_refs.specs.ComponentSteps.{with_scheme, with_authority, with_path, with_query, with_fragment, with_authority_step, with_path_step, with_normal_path, with_new_normal_path};
 ghost use Rattle.iref_refs.specs.Key.{key};
 
 /// Each step of a path keeps a reference readable.
@@ -37,6 +38,14 @@ pub fn component_steps_keep_references_readable()
     ensures fragment { (set : CharTests) (f : Option Text) (r : ReferenceValue) → none_or (is_fragment set) f ≡ true → is_readable set r ≡ true → is_readable set (with_fragment f r) ≡ true }
     ensures normal_path { (set : CharTests) (r : ReferenceValue) → is_readable set r ≡ true → is_readable set (with_normal_path r) ≡ true }
     ensures new_normal_path { (set : CharTests) (p : PathValue) (r : ReferenceValue) → list_all (is_segment set) p.segments ≡ true → is_readable set r ≡ true → is_readable set (with_new_normal_path p r) ≡ true }
+{}
+
+/// Each edit of the authority in place, or of a part of it, keeps a reference readable.
+pub fn authority_steps_keep_references_readable()
+    ensures user_info { (set : CharTests) (u : Option Text) (r : ReferenceValue) → none_or (is_user_info set) u ≡ true → is_readable set r ≡ true → is_readable set (with_authority_step (with_user_info u) r) ≡ true }
+    ensures host { (set : CharTests) (h : Text) (r : ReferenceValue) → is_host set h ≡ true → is_readable set r ≡ true → is_readable set (with_authority_step (with_host h) r) ≡ true }
+    ensures port { (set : CharTests) (p : Option Text) (r : ReferenceValue) → none_or is_port p ≡ true → is_readable set r ≡ true → is_readable set (with_authority_step (with_port p) r) ≡ true }
+    ensures whole { (set : CharTests) (a : AuthorityValue) (r : ReferenceValue) → has_authority_parts set a ≡ true → is_readable set r ≡ true → is_readable set (with_authority_step (λ old. a) r) ≡ true }
 {}
 
 /// To normalise a path twice is to normalise it once.
