@@ -46,7 +46,7 @@ digits_lack mark m (c ∷ cs) h = elim (eqb_tells c mark) [
 pub decimal_lacks : (mark : ℕ) → digit_value mark ≡ 36 → (n : ℕ) → n < 256 → lacks mark (decimal n) ≡ true
 decimal_lacks mark m n h = digits_lack mark m (decimal n) ((decimal_is_IsNumeral n (lt_trans h (lit< tt))).0.1)
 
-ipv4_lacks : (mark : ℕ) → IsOutside mark → (text : Text) (n : ℕ) → IsIpv4 text n → lacks mark text ≡ true
+pub ipv4_lacks : (mark : ℕ) → IsOutside mark → (text : Text) (n : ℕ) → IsIpv4 text n → lacks mark text ≡ true
 ipv4_lacks mark m text n v =
     let l = decimal_lacks mark m.digit in
     subst (λ t. lacks mark t ≡ true) (sym v.spelled)

@@ -12,19 +12,20 @@ use Rattle.std.proofs.lemmas.Bool.Decides.{nat_tests, Decides-like, Decides-or}
 use native.Mathlib.Nat.{lt_trans}
 use mathlib.Core.Bool.{true≢false}
 use Rattle.iref_text.specs.Characters.{CharTests, AreAboveAscii}
-use Rattle.iref_text.specs.Rules.{Text, OneOf, OneOrMore, ◌or◌, InUtf8}
+use Rattle.iref_text.specs.Rules.{Text, Rule, OneOf, OneOrMore, ◌or◌, InUtf8}
 use Rattle.iref_text.specs.Grammar.{full_stop, left_bracket, right_bracket, percent_sign, is_future_char, is_reg_name_char, IsIpvFuture, IsIpLiteral, IsRegName, IsHost}
-use Rattle.iref_text.specs.IpAddresses.{IsIpv4Address, IsIpv6Address, ipv6_value}
+use Rattle.iref_text.specs.IpAddresses.{IsIpv4Address, IsIpv6Address, ipv4_value, ipv6_value}
 use Rattle.iref_text.specs.Texts.{before, after, is_empty, then_part}
-use Rattle.iref_text.specs.Tests.{is_encoded, is_future_version, is_future_address, is_ipvfuture, is_ip_address, in_brackets, is_ip_literal, some_and, ends_here, is_reg_name, is_host}
+use Rattle.iref_text.specs.Tests.{is_encoded, is_future_version, is_future_address, is_ipvfuture, is_ip_address, is_ipv4, is_ipv6, in_brackets, is_ip_literal, some_and, ends_here, is_reg_name, is_host}
 use Rattle.iref_text.proofs.TextLemmas.{lacks, both, first_of_both, second_of_both}
 use Rattle.iref_text.proofs.RuleLemmas.{Decides-ones}
 use Rattle.iref_text.proofs.EncodedLemmas.{take_char, Decides-is_encoded}
 use Rattle.iref_text.proofs.LackLemmas.{all_lacks, lacks_more, lacks-append}
 use Rattle.iref_text.proofs.LeafLemmas.{percent_refused, Decides-is_reg_name}
 use Rattle.iref_text.proofs.CutLemmas.{cut, before-part, after-part}
-use Rattle.iref_text.proofs.HostLemmas.{IsOutside, address_lacks}
+use Rattle.iref_text.proofs.HostLemmas.{IsOutside, ipv4_lacks, address_lacks}
 use Rattle.iref_text.proofs.ComponentLackLemmas.{literal_parts}
+use Rattle.iref_text.proofs.Ipv4Lemmas.{ipv4_value-sound, ipv4_value-complete}
 use Rattle.iref_text.proofs.Ipv6Lemmas.{ipv6_value-sound}
 use Rattle.iref_text.proofs.Ipv6CompleteLemmas.{ipv6_value-complete}
 use Rattle.iref_text.proofs.Utf8RuleLemmas.{in_utf8-ascii, ascii_from_lacks}
@@ -79,7 +80,7 @@ Decides-is_ipvfuture text = (future_there text, future_back text)
 
 -- ---- IP literals
 
-pub Decides-is_ipv6 : (text : Text) → Decides (is_some (ipv6_value text)) (IsIpv6Address text)
+pub Decides-is_ipv6 : (text : Text) → Decides (is_ipv6 text) (IsIpv6Address text)
 Decides-is_ipv6 text = (by (ipv6_value text) refl, λ z. ap is_some (ipv6_value-complete text z.0 z.1))
   where
     by : (o : Option ℕ) → ipv6_value text ≡ o → is_some o ≡ true → IsIpv6Address text
@@ -87,7 +88,7 @@ Decides-is_ipv6 text = (by (ipv6_value text) refl, λ z. ap is_some (ipv6_value-
     by (Some n) e h = (n, ipv6_value-sound text n e)
 
 pub Decides-is_ip_address : (text : Text) → Decides (is_ip_address text) ((IsIpv6Address or IsIpvFuture) text)
-Decides-is_ip_address text = Decides-or (is_some (ipv6_value text)) (is_ipvfuture text) (Decides-is_ipv6 text) (Decides-is_ipvfuture text)
+Decides-is_ip_address text = Decides-or (is_ipv6 text) (is_ipvfuture text) (Decides-is_ipv6 text) (Decides-is_ipvfuture text)
 
 right_outside : IsOutside right_bracket
 right_outside = record { hex = refl; digit = refl; not_colon = refl; not_stop = refl; future = refl }
@@ -134,8 +135,35 @@ literal_ascii text z = ascii_from_lacks text (λ m h. lack m h)
         (lacks-append mark (left_bracket ∷ p.0) (right_bracket ∷ []) (lacks_more mark left_bracket p.0 (no_bracket left_bracket mark (lit< tt) h) (address_lacks mark (high_outside mark h) (no_version mark h) p.0 p.1))
         (lacks_more mark right_bracket [] (no_bracket right_bracket mark (lit< tt) h) refl))
 
+-- ---- IP addresses and literals, as bytes
+
+Decides-is_ipv4 : (text : Text) → Decides (is_ipv4 text) (IsIpv4Address text)
+unfolding is_ipv4
+Decides-is_ipv4 text = (by (ipv4_value text) refl, λ z. ap is_some (ipv4_value-complete text z.0 z.1))
+  where
+    by : (o : Option ℕ) → ipv4_value text ≡ o → is_some o ≡ true → IsIpv4Address text
+    by None e h = absurd (true≢false (sym h))
+    by (Some n) e h = (n, ipv4_value-sound text n e)
+
+-- a test that decides a rule of ASCII decides it of bytes
+Decides-ascii : (test : Text → Bool) (A : Rule) → ((t : Text) → A t → list_all is_ascii t ≡ true) → ((t : Text) → Decides (test t) (A t))
+    → (bytes : Text) → Decides (test bytes) (InUtf8 A bytes)
+Decides-ascii test A ascii decides bytes = Decides-like (test bytes) (in_utf8-ascii A ascii bytes).1 (in_utf8-ascii A ascii bytes).0 (decides bytes)
+
+address_ascii : (text : Text) → (IsIpv6Address or IsIpvFuture) text → list_all is_ascii text ≡ true
+address_ascii text z = ascii_from_lacks text (λ m h. address_lacks m (high_outside m h) (no_version m h) text ((Decides-is_ip_address text).1 z))
+
 pub Decides-is_ip_literal_bytes : (bytes : Text) → Decides (is_ip_literal bytes) (InUtf8 IsIpLiteral bytes)
-Decides-is_ip_literal_bytes bytes = Decides-like (is_ip_literal bytes) (in_utf8-ascii IsIpLiteral literal_ascii bytes).1 (in_utf8-ascii IsIpLiteral literal_ascii bytes).0 (Decides-is_ip_literal bytes)
+Decides-is_ip_literal_bytes = Decides-ascii is_ip_literal IsIpLiteral literal_ascii Decides-is_ip_literal
+
+pub Decides-is_ipv4_bytes : (bytes : Text) → Decides (is_ipv4 bytes) (InUtf8 IsIpv4Address bytes)
+Decides-is_ipv4_bytes = Decides-ascii is_ipv4 IsIpv4Address (λ t z. ascii_from_lacks t (λ m h. ipv4_lacks m (high_outside m h) t z.0 z.1)) Decides-is_ipv4
+
+pub Decides-is_ipv6_bytes : (bytes : Text) → Decides (is_ipv6 bytes) (InUtf8 IsIpv6Address bytes)
+Decides-is_ipv6_bytes = Decides-ascii is_ipv6 IsIpv6Address (λ t z. address_ascii t (inl z)) Decides-is_ipv6
+
+pub Decides-is_ipvfuture_bytes : (bytes : Text) → Decides (is_ipvfuture bytes) (InUtf8 IsIpvFuture bytes)
+Decides-is_ipvfuture_bytes = Decides-ascii is_ipvfuture IsIpvFuture (λ t z. address_ascii t (inr z)) Decides-is_ipvfuture
 
 -- ---- an IPv4 address is also a reg-name
 

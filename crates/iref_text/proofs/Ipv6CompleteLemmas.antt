@@ -16,7 +16,6 @@ use Rattle.iref_text.proofs.LackLemmas.{all_lacks}
 use Rattle.iref_text.proofs.CutLemmas.{first_lacks, rest_lacks}
 use Rattle.iref_text.proofs.HostLemmas.{join_lacks, decimal_lacks}
 use Rattle.iref_text.proofs.Ipv4Lemmas.{ipv4_value-complete}
-use Rattle.iref_text.proofs.Ipv6Lemmas.{some_same}
 
 -- ---- a group
 
@@ -240,7 +239,3 @@ ipv6_value-complete text n h = ap (option_map (number_of 65536)) (by h.1) ∙ ap
     by : IsFullIpv6 text h.0 ⊎ IsShortIpv6 text h.0 → ipv6_groups text ≡ Some h.0
     by (inl full) = full-complete text h.0 full
     by (inr short) = short-complete text h.0 short
-
--- one text has one number
-pub one_ipv6 : (text : Text) (n m : ℕ) → IsIpv6 text n → IsIpv6 text m → n ≡ m
-one_ipv6 text n m h k = some_same n m (sym (ipv6_value-complete text n h) ∙ ipv6_value-complete text m k)

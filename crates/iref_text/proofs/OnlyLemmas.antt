@@ -181,7 +181,3 @@ read_reference-back r d =
     ∙ (λ i. assembled (scheme_part i) r.query r.fragment)
     ∙ (λ i. assembled-middle r.scheme (authority_part i) r.query r.fragment)
     ∙ (λ i. record { scheme = r.scheme; authority = authority_back r.authority d.authority i; path = read-spelled r.path.absolute r.path.segments d.segments d.shown i; query = r.query; fragment = r.fragment })
-
--- so no two such references spell one text
-pub one_reference : (r s : ReferenceValue) → IsDelimited r → IsDelimited s → spell r ≡ spell s → r ≡ s
-one_reference r s d e h = sym (read_reference-back r d) ∙ ap read_reference h ∙ read_reference-back s e

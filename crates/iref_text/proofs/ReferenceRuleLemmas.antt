@@ -1,7 +1,7 @@
 -- References: the test, by its one reading, decides the rule.
 use Rattle.std.proofs.Common.{◌≡◌, ℕ, Bool, true, false, ◌&&◌, [], ◌∷◌, ◌++◌, refl, sym, ◌∙◌, ap, subst, append_assoc, inl, inr}
 use Rattle.std.proofs.Math.Logic.{◌↔◌}
-use Rattle.std.specs.Prelude.{codes, Option, Some, None, option_map, IfSome, is_some}
+use Rattle.std.specs.Prelude.{codes, Option, Some, None, option_map, IfSome, IsSome, is_some}
 use Rattle.std.specs.Bool.{Decides}
 use Rattle.std.specs.List.{list_all}
 use Rattle.std.proofs.lemmas.Bool.Decides.{Decides-like, Decides-and}
@@ -268,6 +268,13 @@ module _ (set : CharTests) (above : AreAboveAscii set) where
   in_utf8-reference bytes = (
     λ z. let r = read_reference bytes in (r, (Decides-is_readable r).0 ((Decides-is_uri_reference bytes).1 z), read_reference-spelled bytes),
     λ z. (Decides-is_uri_reference bytes).0 (spelled_taken z.0 bytes z.1 z.2),
+  )
+
+  -- and the rule `URI` that of those with a scheme
+  pub in_utf8-full : (bytes : Text) → InUtf8 (IsUri set) bytes ↔ ((r : ReferenceValue) × IsReadable set r × IsSome r.scheme × (spell r ≡ bytes))
+  in_utf8-full bytes = (
+    λ z. let s = (in_utf8-uri bytes).0 z in (s.reference, s.readable, s.scheme, s.spelled),
+    λ z. (in_utf8-uri bytes).1 (record { reference = z.0; readable = z.1; scheme = z.2; spelled = z.3 }),
   )
 
   pub Decides-is_uri : (bytes : Text) → Decides (is_full_reference set bytes) (InUtf8 (IsUri set) bytes)

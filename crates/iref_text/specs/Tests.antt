@@ -49,6 +49,9 @@ is_reg_name set bytes = in_utf8 (is_encoded (is_reg_name_char set)) bytes
 unfoldable pub is_ipv4 : Text → Bool
 is_ipv4 text = is_some (ipv4_value text)
 
+abbrev pub is_ipv6 : Text → Bool
+is_ipv6 text = is_some (ipv6_value text)
+
 abbrev pub is_future_version : Text → Bool
 is_future_version version = not (is_empty version) && list_all is_ascii_hexdigit version
 
@@ -80,7 +83,7 @@ in_brackets [] = None
 in_brackets (c ∷ cs) = if c == left_bracket && ends_here (after right_bracket cs) then Some (before (right_bracket ∷ []) cs) else None
 
 abbrev pub is_ip_address : Text → Bool
-is_ip_address address = is_some (ipv6_value address) || is_ipvfuture address
+is_ip_address address = is_ipv6 address || is_ipvfuture address
 
 unfoldable pub is_ip_literal : Text → Bool
 is_ip_literal text = some_and is_ip_address (in_brackets text)

@@ -1,7 +1,7 @@
 //! Laws of authorities: each is the contract of a function that does nothing.
 #![tactic(auto)]
 
-ghost use Rattle.std.specs.Prelude.{◌≡◌};
+ghost use Rattle.std.specs.Prelude.{◌≡◌, ◌↔◌};
 ghost use Rattle.std.specs.Bool.{Decides};
 ghost use Rattle.iref_text.specs.Rules.{Text, InUtf8};
 ghost use Rattle.iref_text.specs.Grammar.{IsAuthority};
@@ -20,7 +20,23 @@ pub fn authority_parts_tested<S: CharSet>()
     ensures { (a : AuthorityValue) → Decides (has_authority_parts S.tests a) (HasAuthorityParts S.tests a) }
 {}
 
-/// The parts that spell a text are those that are read from it, so no text has two divisions.
+/// The parts that are read from a text spell it.
+pub fn authority_spelled_back()
+    ensures { (text : Text) → spell_authority (read_authority text) ≡ text }
+{}
+
+/// A text is an authority exactly if some parts in their rules spell it.
+pub fn authorities_spelled<S: CharSet>()
+    ensures { (bytes : Text) → InUtf8 (IsAuthority S.tests) bytes
+        ↔ ((a : AuthorityValue) × HasAuthorityParts S.tests a × (spell_authority a ≡ bytes)) }
+{}
+
+/// No two authorities spell one text.
+pub fn one_authority_a_text<S: CharSet>()
+    ensures { (a b : AuthorityValue) → HasAuthorityParts S.tests a → HasAuthorityParts S.tests b → spell_authority a ≡ spell_authority b → a ≡ b }
+{}
+
+/// The parts that spell a text are those that are read from it.
 pub fn authority_read_back<S: CharSet>()
     ensures { (a : AuthorityValue) → HasAuthorityParts S.tests a → read_authority (spell_authority a) ≡ a }
 {}

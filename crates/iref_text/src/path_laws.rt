@@ -12,12 +12,12 @@ ghost use Rattle.iref_text.specs.Contexts.{is_path_in, alone};
 
 use crate::chars::CharSet;
 
-/// It is a test of the segments that are read.
+/// A text is in the rule `path` exactly if each segment that is read from it is in the rule `segment`.
 pub fn path_segments_tested<S: CharSet>()
     ensures { (bytes : Text) → is_path S.tests bytes ≡ list_all (is_segment S.tests) (read_path bytes).segments }
 {}
 
-/// What a text is read as: the path that is computed.
+/// Every text is read as one path, which is the one that is computed.
 pub fn path_reading()
     ensures { (text : Text) (p : PathValue) → IsReadAs text p ↔ (read_path text ≡ p) }
 {}

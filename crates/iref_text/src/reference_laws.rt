@@ -1,7 +1,7 @@
 //! Laws of references: each is the contract of a function that does nothing.
 #![tactic(auto)]
 
-ghost use Rattle.std.specs.Prelude.{◌≡◌, ◌↔◌, IsTrue};
+ghost use Rattle.std.specs.Prelude.{◌≡◌, ◌↔◌, IsTrue, IsSome};
 ghost use Rattle.std.specs.Bool.{Decides};
 ghost use Rattle.iref_text.specs.Characters.{uri_chars};
 ghost use Rattle.iref_text.specs.Rules.{Text, InUtf8};
@@ -27,6 +27,11 @@ pub fn readable_tested<S: CharSet>()
     ensures { (r : ReferenceValue) → Decides (is_readable S.tests r) (IsReadable S.tests r) }
 {}
 
+/// The components that are read from a text spell it.
+pub fn reference_spelled_back()
+    ensures { (text : Text) → spell (read_reference text) ≡ text }
+{}
+
 /// The reference that spells a text is the one that is read from it.
 pub fn reference_read_back<S: CharSet>()
     ensures { (r : ReferenceValue) → IsReadable S.tests r → read_reference (spell r) ≡ r }
@@ -45,6 +50,12 @@ pub fn reference_reading<S: CharSet>()
 /// A text is in the grammar exactly if a readable reference spells it.
 pub fn references_spelled<S: CharSet>()
     ensures { (bytes : Text) → InUtf8 (IsUriReference S.tests) bytes ↔ ((r : ReferenceValue) × IsReadable S.tests r × (spell r ≡ bytes)) }
+{}
+
+/// A text is a URI exactly if a readable reference with a scheme spells it.
+pub fn uris_spelled<S: CharSet>()
+    ensures { (bytes : Text) → InUtf8 (IsUri S.tests) bytes
+        ↔ ((r : ReferenceValue) × IsReadable S.tests r × IsSome r.scheme × (spell r ≡ bytes)) }
 {}
 
 /// What is readable as a URI is so in each grammar, by the same components.

@@ -4,9 +4,9 @@
 ghost use Rattle.std.specs.Prelude.{◌≡◌, ◌↔◌, ℕ, Some};
 ghost use Rattle.std.specs.Bool.{Decides};
 ghost use Rattle.iref_text.specs.Rules.{Text, InUtf8};
-ghost use Rattle.iref_text.specs.IpAddresses.{IsIpv4, IsIpv6, ipv4_value, ipv6_value};
-ghost use Rattle.iref_text.specs.Grammar.{IsScheme, IsUserInfo, IsRegName, IsIpLiteral, IsHost, IsPort, IsSegment, IsPath, IsQuery, IsFragment, IsPctStr};
-ghost use Rattle.iref_text.specs.Tests.{is_scheme, is_user_info, is_reg_name, is_ip_literal, is_host, is_port, is_segment, is_path, is_query, is_fragment, is_pct_str};
+ghost use Rattle.iref_text.specs.IpAddresses.{IsIpv4, IsIpv6, IsIpv4Address, IsIpv6Address, ipv4_value, ipv6_value};
+ghost use Rattle.iref_text.specs.Grammar.{IsScheme, IsUserInfo, IsRegName, IsIpvFuture, IsIpLiteral, IsHost, IsPort, IsSegment, IsPath, IsQuery, IsFragment, IsPctStr};
+ghost use Rattle.iref_text.specs.Tests.{is_scheme, is_user_info, is_reg_name, is_ipv4, is_ipv6, is_ipvfuture, is_ip_literal, is_host, is_port, is_segment, is_path, is_query, is_fragment, is_pct_str};
 
 use crate::chars::CharSet;
 
@@ -18,6 +18,21 @@ pub fn scheme_grammar()
 /// The test of user infos decides their rule.
 pub fn user_info_grammar<S: CharSet>()
     ensures { (bytes : Text) → Decides (is_user_info S.tests bytes) (InUtf8 (IsUserInfo S.tests) bytes) }
+{}
+
+/// The test of IPv4 addresses decides their rule.
+pub fn ipv4_grammar()
+    ensures { (bytes : Text) → Decides (is_ipv4 bytes) (InUtf8 IsIpv4Address bytes) }
+{}
+
+/// The test of IPv6 addresses decides their rule.
+pub fn ipv6_grammar()
+    ensures { (bytes : Text) → Decides (is_ipv6 bytes) (InUtf8 IsIpv6Address bytes) }
+{}
+
+/// The test of addresses of versions to come decides their rule.
+pub fn ipvfuture_grammar()
+    ensures { (bytes : Text) → Decides (is_ipvfuture bytes) (InUtf8 IsIpvFuture bytes) }
 {}
 
 /// The number that is computed from a text is that of the IPv4 address.
