@@ -1,4 +1,4 @@
--- What references are compared by (RFC 3986 section 6.2.2).
+-- What references are compared by (RFC 3986 section 6.2.2), with no rules of schemes.
 use Rattle.std.specs.Prelude.{◌≡◌, Bool, option_map}
 use Rattle.std.specs.Option.{option_cmp}
 use Rattle.std.specs.Str.{str_to_ascii_lowercase}
@@ -9,11 +9,11 @@ use Rattle.iref_text.specs.Authority.{AuthorityValue}
 use Rattle.iref_path.specs.PathKey.{text_cmp, path_key, path_key_cmp}
 use Rattle.iref_text.specs.Reference.{ReferenceValue}
 
--- user info and host stand as decoded bytes, the port as text
+-- user info and host as decoded bytes (section 6.2.2.2), the port as text
 abbrev pub authority_key : AuthorityValue → AuthorityValue
 authority_key a = record { user_info = option_map percent_decode a.user_info; host = percent_decode a.host; port = a.port }
 
--- scheme in lower case, normal path; user info, host, segments, query and fragment as decoded bytes
+-- scheme in lower case (section 6.2.2.1), the normal path; user info, host, segments, query and fragment as decoded bytes
 unfoldable pub key : ReferenceValue → ReferenceValue
 key r =
     record {
@@ -24,7 +24,7 @@ key r =
       fragment = option_map percent_decode r.fragment;
     }
 
--- the order of keys, component by component
+-- the order of keys, component by component, one that is absent first
 abbrev pub authority_key_cmp : AuthorityValue → AuthorityValue → Ordering
 authority_key_cmp a b =
     ordering_then (option_cmp text_cmp a.user_info b.user_info) (ordering_then (text_cmp a.host b.host) (option_cmp text_cmp a.port b.port))

@@ -1,4 +1,4 @@
--- What is left of a reference after a prefix.
+-- What is left of a reference after a prefix, by keys (RFC 3986 section 6.2.2).
 use Rattle.std.specs.Prelude.{◌&&◌, Option, None, if◌then◌else◌, option_map}
 use Rattle.iref_text.specs.Rules.{Text}
 use Rattle.iref_text.specs.PathValue.{PathValue}
@@ -6,7 +6,7 @@ use Rattle.iref_path.specs.PathSuffix.{path_suffix}
 use Rattle.iref_text.specs.Reference.{ReferenceValue}
 use Rattle.iref_refs.specs.Relative.{have_same_scheme, have_same_authority}
 
--- a path, with the query and fragment of the whole
+-- where scheme and authority are equal: what is left of the path, with the query and fragment of the whole
 unfoldable pub reference_suffix : ReferenceValue → ReferenceValue → Option (PathValue × Option Text × Option Text)
 reference_suffix prefix r =
     if have_same_scheme prefix r && have_same_authority prefix r

@@ -1,4 +1,4 @@
--- A reference that leads from a base to a target.
+-- A reference that leads from a base to a target, the way back from resolution (RFC 3986 section 5.2).
 use Rattle.std.specs.Prelude.{◌-◌, Bool, false, not, ◌&&◌, ◌||◌, List, [], ◌∷◌, ◌++◌, length, drop, replicate, codes, None, is_some, is_none, if◌then◌else◌}
 use Rattle.std.specs.List.{common_prefix_len}
 use Rattle.std.specs.Option.{option_cmp}
@@ -14,6 +14,7 @@ use Rattle.iref_text.specs.Reference.{ReferenceValue}
 use Rattle.iref_refs.specs.Key.{key, authority_key_cmp}
 use Rattle.iref_path.specs.PathKey.{text_cmp, path_key_cmp, path_key}
 
+-- equality of single components, by their keys
 abbrev pub have_same_scheme : ReferenceValue → ReferenceValue → Bool
 have_same_scheme r s = is_eq (option_cmp text_cmp (key r).scheme (key s).scheme)
 
@@ -28,7 +29,7 @@ abbrev pub schemes_agree : ReferenceValue → ReferenceValue → Bool
 schemes_agree target base =
     have_same_scheme target base || is_none target.scheme && (is_some target.authority || target.path.absolute)
 
--- the empty path leads to the target
+-- the empty path leads to the target: it stands for the base's path and, where the target has none, the base's query
 abbrev pub is_same_place : ReferenceValue → ReferenceValue → Bool
 is_same_place target base =
     have_same_path target base && (is_some target.query || is_none base.query)
@@ -49,6 +50,7 @@ steps_between directory list =
 abbrev pub directory_names : PathValue → List Text
 directory_names p = staying_names (all_but_last p.segments)
 
+-- steps from the base's directory; from a base with no root the whole path
 abbrev pub leading_path : ReferenceValue → ReferenceValue → PathValue
 leading_path target base =
     guarded alone
@@ -60,6 +62,7 @@ leading_path target base =
 abbrev pub with_only_path : PathValue → ReferenceValue → ReferenceValue
 with_only_path p target = record target { scheme = None; authority = None; path = p }
 
+-- the empty path, a leading path, or the target whole
 unfoldable pub relative_to : ReferenceValue → ReferenceValue → ReferenceValue
 relative_to target base =
     if schemes_agree target base && have_same_authority target base
