@@ -4,6 +4,7 @@ pub mod authority;
 pub mod cut;
 pub mod key;
 pub mod owned;
+pub mod places;
 pub mod rules;
 pub mod scan;
 pub mod split;
