@@ -1,8 +1,8 @@
--- The empty text is in the rules of characters and escapes.
+-- The empty text is in these rules.
 use Rattle.std.proofs.Common.{◌≡◌, true, [], refl}
 use Rattle.std.specs.Str.{chars, is_utf8}
 use Rattle.iref_text.specs.Characters.{CharTests}
-use Rattle.iref_text.specs.Tests.{is_query, is_fragment}
+use Rattle.iref_text.specs.Tests.{is_query, is_fragment, is_port}
 
 pub is_query_empty : (set : CharTests) → is_query set [] ≡ true
 unfolding is_query is_utf8 chars
@@ -11,3 +11,7 @@ is_query_empty set = refl
 pub is_fragment_empty : (set : CharTests) → is_fragment set [] ≡ true
 unfolding is_fragment is_utf8 chars
 is_fragment_empty set = refl
+
+pub is_port_empty : is_port [] ≡ true
+unfolding is_port
+is_port_empty = refl

@@ -14,4 +14,5 @@ pub mod Makers
 pub mod Views
 pub mod AuthoritySlices
 pub mod ReferenceSlices
-pub mod Queries
+pub mod Components
+pub mod Ports

@@ -2,8 +2,12 @@
 #![tactic(auto)]
 
 pub mod error;
+pub mod port;
+pub mod scheme;
 
 pub use error::{Memory, TryError};
+pub use port::{InvalidPort, Port, PortBuf, PortError};
+pub use scheme::{InvalidScheme, Scheme, SchemeBuf};
 use std::ops::Range;
 
 /// What stands before a path (RFC 3986 sections 3.3 and 4.2).

@@ -4,6 +4,7 @@
 pub mod authority_laws;
 pub mod chars;
 pub mod common;
+pub mod fragment;
 pub mod parse;
 pub mod path_laws;
 pub mod pct;

@@ -5,7 +5,7 @@ ghost use Rattle.iref_text.specs.Rules.{InUtf8};
 ghost use Rattle.iref_text.specs.Grammar.{IsQuery};
 ghost use Rattle.iref_text.specs.Tests.{is_query};
 ghost use Rattle.iref_text.specs.Makers.{Parses};
-ghost use Rattle.iref_text.specs.Queries.{query_text, query_buf_text};
+ghost use Rattle.iref_text.specs.Components.{query_text, query_buf_text};
 
 use crate::chars::CharSet;
 use crate::common::Memory;
@@ -76,7 +76,7 @@ impl<'a, C: CharSet> Query<'a, C> {
 
     /// The bytes of the text.
     pub fn as_bytes(&self) -> &'a [u8]
-        ensures text { result.now ≡ query_text self.now }
+        ensures { result.now ≡ query_text self.now }
     {
         self.as_str().as_bytes()
     }

@@ -1,5 +1,6 @@
 //! What texts are compared by, in their order, and fed to hashers.
 ghost use Rattle.std.specs.Prelude.{◌≡◌, fold};
+ghost use Rattle.std.specs.Str.{str_to_ascii_lowercase};
 ghost use Rattle.percent_encoding.specs.Percent.{percent_decode};
 ghost use Rattle.iref_text.specs.Rules.{Text};
 ghost use Rattle.iref_text.specs.Keys.{text_order, fed_bytes};
@@ -34,5 +35,45 @@ impl Key for DecodedBytes {
 
     fn feed<H: Hasher>(text: &str, state: &mut H) {
         hash_decoded(text, state);
+    }
+}
+
+/// The text with its ASCII letters in lower case.
+pub struct LowerCase;
+
+impl Key for LowerCase {
+    ghost key = { str_to_ascii_lowercase };
+
+    fn compare(a: &str, b: &str) -> Ordering {
+        let a = a.bytes().map(|byte| byte.to_ascii_lowercase());
+        let b = b.bytes().map(|byte| byte.to_ascii_lowercase());
+        a.cmp(b)
+    }
+
+    #[tactic(auto, unfolding(crate::specs::Keys::fed_bytes))]
+    fn feed<H: Hasher>(text: &str, state: &mut H) {
+        for byte in text.bytes() {
+            state.write_u8(byte.to_ascii_lowercase());
+        }
+        state.write_u8(0xff);
+    }
+}
+
+/// The text itself.
+pub struct SameText;
+
+impl Key for SameText {
+    ghost key = { λ text. text };
+
+    fn compare(a: &str, b: &str) -> Ordering {
+        a.cmp(b)
+    }
+
+    #[tactic(auto, unfolding(crate::specs::Keys::fed_bytes))]
+    fn feed<H: Hasher>(text: &str, state: &mut H) {
+        for byte in text.bytes() {
+            state.write_u8(byte);
+        }
+        state.write_u8(0xff);
     }
 }

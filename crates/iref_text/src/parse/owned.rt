@@ -35,10 +35,7 @@ impl<R: Rule, C: CharSet> TextBuf<R, C> {
     {
         R::decided::<C>();
         if R::accepts::<C>(text.as_str()) {
-            Ok(TextBuf {
-                text,
-                rule: PhantomData,
-            })
+            Ok(TextBuf::new_unchecked(text))
         } else {
             Err(text)
         }
@@ -54,14 +51,23 @@ impl<R: Rule, C: CharSet> TextBuf<R, C> {
         }
     }
 
+    /// The owner of a text that is known to be in the rule.
+    pub fn new_unchecked(text: String) -> Self
+        requires { R.test C.tests (string_bytes text) ≡ true }
+        ensures { owned_text result ≡ string_bytes text }
+    {
+        TextBuf {
+            text,
+            rule: PhantomData,
+        }
+    }
+
     /// An owner of a copy.
     pub fn from_view(view: View<'_, R, C>, alloc: Global) -> Result<Self, Memory>
         ensures { IfOk result (λ copy. owned_text copy ≡ view_text view.entry) }
     {
-        Ok(TextBuf {
-            text: String::from_str(alloc, view.as_str())?,
-            rule: PhantomData,
-        })
+        let text = String::from_str(alloc, view.as_str())?;
+        Ok(TextBuf::new_unchecked(text))
     }
 
     /// The owner of the empty text, which takes no memory.
@@ -69,10 +75,7 @@ impl<R: Rule, C: CharSet> TextBuf<R, C> {
         requires { R.test C.tests [] ≡ true }
         ensures { owned_text result ≡ [] }
     {
-        TextBuf {
-            text: String::new(alloc),
-            rule: PhantomData,
-        }
+        TextBuf::new_unchecked(String::new(alloc))
     }
 
     /// The view.

@@ -1,12 +1,54 @@
 //! The rules of components, each with its recogniser and what its texts are compared by.
-ghost use Rattle.iref_text.specs.Grammar.{IsQuery};
-ghost use Rattle.iref_text.specs.Tests.{is_query};
+ghost use Rattle.iref_text.specs.Grammar.{IsScheme, IsPort, IsQuery, IsFragment};
+ghost use Rattle.iref_text.specs.Tests.{is_scheme, is_port, is_query, is_fragment};
 
 use crate::chars::CharSet;
-use crate::parse::key::DecodedBytes;
+use crate::parse::key::{DecodedBytes, LowerCase, SameText};
 use crate::parse::scan;
 use crate::parse::view::{Keyed, Rule};
-use crate::text_laws::query_grammar;
+use crate::text_laws::{fragment_grammar, port_grammar, query_grammar, scheme_grammar};
+
+/// The rule of schemes (RFC 3986 section 3.1).
+pub struct SchemeRule;
+
+impl Rule for SchemeRule {
+    ghost rule = { λ _. IsScheme };
+
+    ghost test = { λ _. is_scheme };
+
+    fn accepts<C: CharSet>(text: &str) -> bool {
+        scan::is_scheme(text)
+    }
+
+    fn decided<C: CharSet>() {
+        scheme_grammar()
+    }
+}
+
+impl Keyed for SchemeRule {
+    type Key = LowerCase;
+}
+
+/// The rule of ports (RFC 3986 section 3.2.3).
+pub struct PortRule;
+
+impl Rule for PortRule {
+    ghost rule = { λ _. IsPort };
+
+    ghost test = { λ _. is_port };
+
+    fn accepts<C: CharSet>(text: &str) -> bool {
+        scan::is_port(text)
+    }
+
+    fn decided<C: CharSet>() {
+        port_grammar()
+    }
+}
+
+impl Keyed for PortRule {
+    type Key = SameText;
+}
 
 /// The rule of queries (RFC 3986 section 3.4).
 pub struct QueryRule;
@@ -26,5 +68,26 @@ impl Rule for QueryRule {
 }
 
 impl Keyed for QueryRule {
+    type Key = DecodedBytes;
+}
+
+/// The rule of fragments (RFC 3986 section 3.5).
+pub struct FragmentRule;
+
+impl Rule for FragmentRule {
+    ghost rule = { IsFragment };
+
+    ghost test = { is_fragment };
+
+    fn accepts<C: CharSet>(text: &str) -> bool {
+        scan::is_fragment::<C>(text)
+    }
+
+    fn decided<C: CharSet>() {
+        fragment_grammar::<C>()
+    }
+}
+
+impl Keyed for FragmentRule {
     type Key = DecodedBytes;
 }

@@ -1,0 +1,258 @@
+//! Ports (RFC 3986 section 3.2.3).
+ghost use Rattle.std.specs.Prelude.{◌≡◌, true, [], Some, IfOk, codes};
+ghost use Rattle.std.specs.String.{string_bytes};
+ghost use Rattle.iref_text.specs.Rules.{InUtf8};
+ghost use Rattle.iref_text.specs.Grammar.{IsPort};
+ghost use Rattle.iref_text.specs.Tests.{is_port};
+ghost use Rattle.iref_text.specs.Makers.{Parses};
+ghost use Rattle.iref_text.specs.Components.{port_digits, port_buf_digits};
+
+use crate::chars::UriChars;
+use crate::common::error::Memory;
+use crate::parse::owned::TextBuf;
+use crate::parse::rules::PortRule;
+use crate::parse::view::View;
+use std::alloc::Global;
+use std::convert::TryFrom;
+use std::fmt;
+use thiserror::Error;
+
+/// The input is not a port.
+#[derive(Clone, Copy, Debug, PartialEq, Eq, Drop, Error)]
+#[error_bound(T: fmt::Display)]
+#[error("{0}")]
+pub struct InvalidPort<T>(pub T);
+
+/// Why a port is no number of a type.
+#[derive(Clone, Copy, Debug, PartialEq, Eq, Error)]
+pub enum PortError {
+    /// It has no digits.
+    #[error("the port has no digits")]
+    Empty,
+    /// Its value does not fit the type.
+    #[error("the port is out of range")]
+    OutOfRange,
+}
+
+/// A port.
+#[derive(Clone, Copy, Debug, PartialEq, Eq, PartialOrd, Ord, Hash)]
+pub struct Port<'a> {
+    text: View<'a, PortRule, UriChars>,
+}
+
+impl<'a> Port<'a> {
+    /// The port of this text, or the text.
+    pub fn new(text: &'a str) -> Result<Self, InvalidPort<&'a str>>
+        ensures { Parses (InUtf8 IsPort) text.now port_digits (λ fault. fault.0 ≡ text.entry) result }
+    {
+        View::new(text)
+            .map(|text| Port { text })
+            .map_err(InvalidPort)
+    }
+
+    /// The port of these bytes of UTF-8, or the bytes.
+    pub fn from_bytes(bytes: &'a [u8]) -> Result<Self, InvalidPort<&'a [u8]>>
+        ensures { Parses (InUtf8 IsPort) bytes.now port_digits (λ fault. fault.0 ≡ bytes.entry) result }
+    {
+        View::from_bytes(bytes)
+            .map(|text| Port { text })
+            .map_err(InvalidPort)
+    }
+
+    /// The port of a text that is known to be one.
+    pub fn new_unchecked(text: &'a str) -> Self
+        requires { is_port text.now ≡ true }
+        ensures { port_digits result ≡ text.now }
+    {
+        Port {
+            text: View::new_unchecked(text),
+        }
+    }
+
+    /// The empty port.
+    #[tactic(auto, using(crate::proofs::EmptyLemmas::is_port_empty))]
+    pub fn empty() -> Self
+        ensures { port_digits result ≡ [] }
+    {
+        Port::new_unchecked("")
+    }
+
+    /// The text.
+    pub fn as_str(&self) -> &'a str
+        ensures text { result.now ≡ port_digits self.now }
+        ensures in_rule { is_port result.now ≡ true }
+    {
+        self.text.as_str()
+    }
+
+    /// The bytes of the text.
+    pub fn as_bytes(&self) -> &'a [u8]
+        ensures { result.now ≡ port_digits self.now }
+    {
+        self.as_str().as_bytes()
+    }
+
+    /// An owner of a copy.
+    pub fn to_owned(&self, alloc: Global) -> Result<PortBuf, Memory>
+        ensures { IfOk result (λ copy. port_buf_digits copy ≡ port_digits self.now) }
+    {
+        let text = TextBuf::from_view(self.text, alloc)?;
+        Ok(PortBuf { text })
+    }
+}
+
+#[tactic(auto, unfolding(crate::specs::Tests::is_port))]
+impl Port<'static> {
+    /// The port of the scheme `http`.
+    pub fn http() -> Self
+        ensures { port_digits result ≡ codes "80" }
+    {
+        Port::new_unchecked("80")
+    }
+
+    /// The port of the scheme `https`.
+    pub fn https() -> Self
+        ensures { port_digits result ≡ codes "443" }
+    {
+        Port::new_unchecked("443")
+    }
+}
+
+impl Default for Port<'_> {
+    ghost is_default = { λ port. port_digits port ≡ [] };
+
+    fn default() -> Self {
+        Port::empty()
+    }
+}
+
+impl<'a> TryFrom<&'a str> for Port<'a> {
+    type Error = InvalidPort<&'a str>;
+
+    ghost try_from_gives = { λ text result. Parses (InUtf8 IsPort) text.now port_digits (λ fault. fault.0 ≡ text) result };
+
+    fn try_from(text: &'a str) -> Result<Self, InvalidPort<&'a str>> {
+        Port::new(text)
+    }
+}
+
+impl<'a> TryFrom<&'a [u8]> for Port<'a> {
+    type Error = InvalidPort<&'a [u8]>;
+
+    ghost try_from_gives = { λ bytes result. Parses (InUtf8 IsPort) bytes.now port_digits (λ fault. fault.0 ≡ bytes) result };
+
+    fn try_from(bytes: &'a [u8]) -> Result<Self, InvalidPort<&'a [u8]>> {
+        Port::from_bytes(bytes)
+    }
+}
+
+impl fmt::Display for Port<'_> {
+    ghost output = { λ port. Some (port_digits port) };
+
+    fn fmt<W: fmt::Write>(&self, f: &mut fmt::Formatter<W>) -> fmt::Result {
+        f.write_str(self.as_str())
+    }
+}
+
+/// A port that owns its text.
+#[derive(Debug, PartialEq, Eq, PartialOrd, Ord, Hash, Drop)]
+pub struct PortBuf {
+    text: TextBuf<PortRule, UriChars>,
+}
+
+impl PortBuf {
+    /// The port of this text, with no copy, or the text.
+    pub fn new(text: String) -> Result<Self, InvalidPort<String>>
+        ensures { Parses (InUtf8 IsPort) (string_bytes text) port_buf_digits (λ fault. fault.0 ≡ text) result }
+    {
+        TextBuf::new(text)
+            .map(|text| PortBuf { text })
+            .map_err(InvalidPort)
+    }
+
+    /// The port of these bytes of UTF-8, with no copy, or the bytes.
+    pub fn from_bytes(bytes: Vec<u8>) -> Result<Self, InvalidPort<Vec<u8>>>
+        ensures { Parses (InUtf8 IsPort) bytes.items port_buf_digits (λ fault. fault.0 ≡ bytes) result }
+    {
+        TextBuf::from_bytes(bytes)
+            .map(|text| PortBuf { text })
+            .map_err(InvalidPort)
+    }
+
+    /// The empty port, which takes no memory.
+    #[tactic(auto, using(crate::proofs::EmptyLemmas::is_port_empty))]
+    pub fn empty(alloc: Global) -> Self
+        ensures { port_buf_digits result ≡ [] }
+    {
+        PortBuf {
+            text: TextBuf::empty(alloc),
+        }
+    }
+
+    /// The view.
+    pub fn as_port(&self) -> Port<'_>
+        ensures { port_digits result ≡ port_buf_digits self.now }
+    {
+        Port {
+            text: self.text.as_view(),
+        }
+    }
+
+    /// The text.
+    pub fn as_str(&self) -> &str
+        ensures text { result.now ≡ port_buf_digits self.now }
+        ensures in_rule { is_port result.now ≡ true }
+    {
+        self.as_port().as_str()
+    }
+
+    /// The bytes of the text.
+    pub fn as_bytes(&self) -> &[u8]
+        ensures { result.now ≡ port_buf_digits self.now }
+    {
+        self.as_str().as_bytes()
+    }
+
+    /// The text, with no copy.
+    pub fn into_string(self) -> String
+        ensures { string_bytes result ≡ port_buf_digits self }
+    {
+        let PortBuf { text } = self;
+        text.into_string()
+    }
+
+    /// The bytes of the text, with no copy.
+    pub fn into_bytes(self) -> Vec<u8>
+        ensures { result.items ≡ port_buf_digits self }
+    {
+        self.into_string().into_bytes()
+    }
+}
+
+impl TryFrom<String> for PortBuf {
+    type Error = InvalidPort<String>;
+
+    ghost try_from_gives = { λ text result. Parses (InUtf8 IsPort) (string_bytes text) port_buf_digits (λ fault. fault.0 ≡ text) result };
+
+    fn try_from(text: String) -> Result<Self, InvalidPort<String>> {
+        PortBuf::new(text)
+    }
+}
+
+impl TryFrom<Vec<u8>> for PortBuf {
+    type Error = InvalidPort<Vec<u8>>;
+
+    ghost try_from_gives = { λ bytes result. Parses (InUtf8 IsPort) bytes.items port_buf_digits (λ fault. fault.0 ≡ bytes) result };
+
+    fn try_from(bytes: Vec<u8>) -> Result<Self, InvalidPort<Vec<u8>>> {
+        PortBuf::from_bytes(bytes)
+    }
+}
+
+impl fmt::Display for PortBuf {
+    ghost output = { λ port. Some (port_buf_digits port) };
+
+    fn fmt<W: fmt::Write>(&self, f: &mut fmt::Formatter<W>) -> fmt::Result {
+        f.write_str(self.as_str())
+    }
+}

@@ -1,0 +1,231 @@
+//! Fragments (RFC 3986 section 3.5).
+ghost use Rattle.std.specs.Prelude.{◌≡◌, true, [], Some, IfOk};
+ghost use Rattle.std.specs.String.{string_bytes};
+ghost use Rattle.iref_text.specs.Rules.{InUtf8};
+ghost use Rattle.iref_text.specs.Grammar.{IsFragment};
+ghost use Rattle.iref_text.specs.Tests.{is_fragment};
+ghost use Rattle.iref_text.specs.Makers.{Parses};
+ghost use Rattle.iref_text.specs.Components.{fragment_text, fragment_buf_text};
+
+use crate::chars::CharSet;
+use crate::common::Memory;
+use crate::parse::owned::TextBuf;
+use crate::parse::rules::FragmentRule;
+use crate::parse::view::View;
+use std::alloc::Global;
+use std::convert::TryFrom;
+use std::fmt;
+use thiserror::Error;
+
+/// The input is not a fragment.
+#[derive(Clone, Copy, Debug, PartialEq, Eq, Drop, Error)]
+#[error_bound(T: fmt::Display)]
+#[error("{0}")]
+pub struct InvalidFragment<T>(pub T);
+
+/// A fragment.
+#[derive_where(Clone, Copy, Debug, PartialEq, Eq, PartialOrd, Ord, Hash)]
+pub struct Fragment<'a, C: CharSet> {
+    text: View<'a, FragmentRule, C>,
+}
+
+impl<'a, C: CharSet> Fragment<'a, C> {
+    /// The fragment of this text, or the text.
+    pub fn new(text: &'a str) -> Result<Self, InvalidFragment<&'a str>>
+        ensures { Parses (InUtf8 (IsFragment C.tests)) text.now fragment_text (λ fault. fault.0 ≡ text.entry) result }
+    {
+        View::new(text)
+            .map(|text| Fragment { text })
+            .map_err(InvalidFragment)
+    }
+
+    /// The fragment of these bytes of UTF-8, or the bytes.
+    pub fn from_bytes(bytes: &'a [u8]) -> Result<Self, InvalidFragment<&'a [u8]>>
+        ensures { Parses (InUtf8 (IsFragment C.tests)) bytes.now fragment_text (λ fault. fault.0 ≡ bytes.entry) result }
+    {
+        View::from_bytes(bytes)
+            .map(|text| Fragment { text })
+            .map_err(InvalidFragment)
+    }
+
+    /// The fragment of a text that is known to be one.
+    pub fn new_unchecked(text: &'a str) -> Self
+        requires { is_fragment C.tests text.now ≡ true }
+        ensures { fragment_text result ≡ text.now }
+    {
+        Fragment {
+            text: View::new_unchecked(text),
+        }
+    }
+
+    /// The empty fragment.
+    #[tactic(auto, using(crate::proofs::EmptyLemmas::is_fragment_empty))]
+    pub fn empty() -> Self
+        ensures { fragment_text result ≡ [] }
+    {
+        Fragment::new_unchecked("")
+    }
+
+    /// The text.
+    pub fn as_str(&self) -> &'a str
+        ensures text { result.now ≡ fragment_text self.now }
+        ensures in_rule { is_fragment C.tests result.now ≡ true }
+    {
+        self.text.as_str()
+    }
+
+    /// The bytes of the text.
+    pub fn as_bytes(&self) -> &'a [u8]
+        ensures { result.now ≡ fragment_text self.now }
+    {
+        self.as_str().as_bytes()
+    }
+
+    /// An owner of a copy.
+    pub fn to_owned(&self, alloc: Global) -> Result<FragmentBuf<C>, Memory>
+        ensures { IfOk result (λ copy. fragment_buf_text copy ≡ fragment_text self.now) }
+    {
+        let text = TextBuf::from_view(self.text, alloc)?;
+        Ok(FragmentBuf { text })
+    }
+}
+
+impl<C: CharSet> Default for Fragment<'_, C> {
+    ghost is_default = { λ fragment. fragment_text fragment ≡ [] };
+
+    fn default() -> Self {
+        Fragment::empty()
+    }
+}
+
+impl<'a, C: CharSet> TryFrom<&'a str> for Fragment<'a, C> {
+    type Error = InvalidFragment<&'a str>;
+
+    ghost try_from_gives = { λ text result. Parses (InUtf8 (IsFragment C.tests)) text.now fragment_text (λ fault. fault.0 ≡ text) result };
+
+    fn try_from(text: &'a str) -> Result<Self, InvalidFragment<&'a str>> {
+        Fragment::new(text)
+    }
+}
+
+impl<'a, C: CharSet> TryFrom<&'a [u8]> for Fragment<'a, C> {
+    type Error = InvalidFragment<&'a [u8]>;
+
+    ghost try_from_gives = { λ bytes result. Parses (InUtf8 (IsFragment C.tests)) bytes.now fragment_text (λ fault. fault.0 ≡ bytes) result };
+
+    fn try_from(bytes: &'a [u8]) -> Result<Self, InvalidFragment<&'a [u8]>> {
+        Fragment::from_bytes(bytes)
+    }
+}
+
+impl<C: CharSet> fmt::Display for Fragment<'_, C> {
+    ghost output = { λ fragment. Some (fragment_text fragment) };
+
+    fn fmt<W: fmt::Write>(&self, f: &mut fmt::Formatter<W>) -> fmt::Result {
+        f.write_str(self.as_str())
+    }
+}
+
+/// A fragment that owns its text.
+#[derive(Drop)]
+#[derive_where(Debug, PartialEq, Eq, PartialOrd, Ord, Hash)]
+pub struct FragmentBuf<C: CharSet> {
+    text: TextBuf<FragmentRule, C>,
+}
+
+impl<C: CharSet> FragmentBuf<C> {
+    /// The fragment of this text, with no copy, or the text.
+    pub fn new(text: String) -> Result<Self, InvalidFragment<String>>
+        ensures { Parses (InUtf8 (IsFragment C.tests)) (string_bytes text) fragment_buf_text (λ fault. fault.0 ≡ text) result }
+    {
+        TextBuf::new(text)
+            .map(|text| FragmentBuf { text })
+            .map_err(InvalidFragment)
+    }
+
+    /// The fragment of these bytes of UTF-8, with no copy, or the bytes.
+    pub fn from_bytes(bytes: Vec<u8>) -> Result<Self, InvalidFragment<Vec<u8>>>
+        ensures { Parses (InUtf8 (IsFragment C.tests)) bytes.items fragment_buf_text (λ fault. fault.0 ≡ bytes) result }
+    {
+        TextBuf::from_bytes(bytes)
+            .map(|text| FragmentBuf { text })
+            .map_err(InvalidFragment)
+    }
+
+    /// The empty fragment, which takes no memory.
+    #[tactic(auto, using(crate::proofs::EmptyLemmas::is_fragment_empty))]
+    pub fn empty(alloc: Global) -> Self
+        ensures { fragment_buf_text result ≡ [] }
+    {
+        FragmentBuf {
+            text: TextBuf::empty(alloc),
+        }
+    }
+
+    /// The view.
+    pub fn as_fragment(&self) -> Fragment<'_, C>
+        ensures { fragment_text result ≡ fragment_buf_text self.now }
+    {
+        Fragment {
+            text: self.text.as_view(),
+        }
+    }
+
+    /// The text.
+    pub fn as_str(&self) -> &str
+        ensures text { result.now ≡ fragment_buf_text self.now }
+        ensures in_rule { is_fragment C.tests result.now ≡ true }
+    {
+        self.as_fragment().as_str()
+    }
+
+    /// The bytes of the text.
+    pub fn as_bytes(&self) -> &[u8]
+        ensures { result.now ≡ fragment_buf_text self.now }
+    {
+        self.as_str().as_bytes()
+    }
+
+    /// The text, with no copy.
+    pub fn into_string(self) -> String
+        ensures { string_bytes result ≡ fragment_buf_text self }
+    {
+        let FragmentBuf { text } = self;
+        text.into_string()
+    }
+
+    /// The bytes of the text, with no copy.
+    pub fn into_bytes(self) -> Vec<u8>
+        ensures { result.items ≡ fragment_buf_text self }
+    {
+        self.into_string().into_bytes()
+    }
+}
+
+impl<C: CharSet> TryFrom<String> for FragmentBuf<C> {
+    type Error = InvalidFragment<String>;
+
+    ghost try_from_gives = { λ text result. Parses (InUtf8 (IsFragment C.tests)) (string_bytes text) fragment_buf_text (λ fault. fault.0 ≡ text) result };
+
+    fn try_from(text: String) -> Result<Self, InvalidFragment<String>> {
+        FragmentBuf::new(text)
+    }
+}
+
+impl<C: CharSet> TryFrom<Vec<u8>> for FragmentBuf<C> {
+    type Error = InvalidFragment<Vec<u8>>;
+
+    ghost try_from_gives = { λ bytes result. Parses (InUtf8 (IsFragment C.tests)) bytes.items fragment_buf_text (λ fault. fault.0 ≡ bytes) result };
+
+    fn try_from(bytes: Vec<u8>) -> Result<Self, InvalidFragment<Vec<u8>>> {
+        FragmentBuf::from_bytes(bytes)
+    }
+}
+
+impl<C: CharSet> fmt::Display for FragmentBuf<C> {
+    ghost output = { λ fragment. Some (fragment_buf_text fragment) };
+
+    fn fmt<W: fmt::Write>(&self, f: &mut fmt::Formatter<W>) -> fmt::Result {
+        f.write_str(self.as_str())
+    }
+}
