@@ -25,6 +25,7 @@ pub mod PathRuleLemmas
 pub mod PathTestLemmas
 pub mod ReferenceCutLemmas
 pub mod PlacesLemmas
+mod PlaceLemmas
 pub mod OnlyLemmas
 pub mod ReadableLemmas
 pub mod ReferenceRuleLemmas

@@ -1,5 +1,6 @@
 -- Where the components of a reference stand in its text, in bytes.
 use Rattle.std.specs.Prelude.{ℕ, ◌+◌, [], ◌∷◌, length, codes, option_map}
+use Rattle.std.specs.List.{slice_range}
 use Rattle.std.specs.declared.ops.Range.{Range}
 use Rattle.iref_text.specs.declared.common.Offsets.{Offsets}
 use Rattle.iref_text.specs.Rules.{Text}
@@ -39,3 +40,7 @@ places_in r = record {
 -- the components that are read from a text
 unfoldable pub places_of : Text → Offsets
 places_of text = places_in (read_reference text)
+
+-- what stands there in a text
+abbrev pub text_at : Text → Range ℕ → Text
+text_at text place = slice_range text place.start place.end

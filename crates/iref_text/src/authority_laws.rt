@@ -6,7 +6,6 @@ ghost use Rattle.std.specs.Bool.{Decides};
 ghost use Rattle.iref_text.specs.Rules.{Text, InUtf8};
 ghost use Rattle.iref_text.specs.Grammar.{IsAuthority};
 ghost use Rattle.iref_text.specs.Authority.{AuthorityValue, HasAuthorityParts, has_authority_parts, spell_authority, read_authority, is_authority};
-ghost use Rattle.iref_text.specs.Reference.{spell};
 
 use crate::chars::CharSet;
 

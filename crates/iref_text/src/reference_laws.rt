@@ -1,11 +1,14 @@
 //! Laws of references: each is the contract of a function that does nothing.
 #![tactic(auto)]
 
-ghost use Rattle.std.specs.Prelude.{◌≡◌, ◌↔◌, IsTrue, IsSome};
+ghost use Rattle.std.specs.Prelude.{◌≡◌, ◌↔◌, IsTrue, IsSome, option_map};
 ghost use Rattle.std.specs.Bool.{Decides};
 ghost use Rattle.iref_text.specs.Characters.{uri_chars};
 ghost use Rattle.iref_text.specs.Rules.{Text, InUtf8};
 ghost use Rattle.iref_text.specs.Grammar.{IsUri, IsUriReference};
+ghost use Rattle.iref_text.specs.Authority.{spell_authority};
+ghost use Rattle.iref_text.specs.PathValue.{spell_path};
+ghost use Rattle.iref_text.specs.Places.{places_of, text_at};
 ghost use Rattle.iref_text.specs.Reference.{ReferenceValue, IsReadable, IsReadAsReference, is_readable, spell, read_reference, is_reference, is_full_reference};
 ghost use Rattle.iref_text.specs.declared.parse.split.ReferenceSlices.{ReferenceSlices};
 ghost use Rattle.iref_text.specs.ReferenceSlices.{AreComponents, value_of};
@@ -56,6 +59,15 @@ pub fn references_spelled<S: CharSet>()
 pub fn uris_spelled<S: CharSet>()
     ensures { (bytes : Text) → InUtf8 (IsUri S.tests) bytes
         ↔ ((r : ReferenceValue) × IsReadable S.tests r × IsSome r.scheme × (spell r ≡ bytes)) }
+{}
+
+/// Each component that is read from a text stands at its place in it.
+pub fn places_hold_the_components()
+    ensures scheme { (text : Text) → option_map (text_at text) (places_of text).scheme ≡ (read_reference text).scheme }
+    ensures authority { (text : Text) → option_map (text_at text) (places_of text).authority ≡ option_map spell_authority (read_reference text).authority }
+    ensures path { (text : Text) → text_at text (places_of text).path ≡ spell_path (read_reference text).path }
+    ensures query { (text : Text) → option_map (text_at text) (places_of text).query ≡ (read_reference text).query }
+    ensures fragment { (text : Text) → option_map (text_at text) (places_of text).fragment ≡ (read_reference text).fragment }
 {}
 
 /// What is readable as a URI is so in each grammar, by the same components.
