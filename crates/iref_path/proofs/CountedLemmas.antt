@@ -108,6 +108,20 @@ comparison p q same =
     cond same (items_compared (all_items_read p.absolute (reverse p.segments)) (all_items_read q.absolute (reverse q.segments)))
     (record { equal = false; left = reverse p.segments; right = reverse q.segments })
 
+-- flags that differ decide by themselves
+pub flags_apart : (p q : PathValue) (steps : ℕ) → steps ≡ 0 → beq p.absolute q.absolute ≡ false → AreFoundApart p q steps
+unfolding path_key
+flags_apart p q steps none e = record {
+  left = 0;
+  right = 0;
+  left_within = omega arith;
+  right_within = omega arith;
+  counted = none;
+  decided = λ x y a k b l f.
+      let flags : p.absolute ≡ q.absolute = sym a ∙ (λ i. (f i).absolute) ∙ b in
+      true≢false (sym ((booleans_Decides p.absolute q.absolute).1 flags) ∙ e);
+}
+
 -- the comparison gives the answer that is promised
 pub counted_answer : (p q : PathValue) → IsCountedAnswer p q (paths_compared p q).equal (segments_read p q)
 unfolding path_key
@@ -119,16 +133,7 @@ counted_answer p q = by (beq p.absolute q.absolute) refl
     by false e =
         let p_size = length-reverse p.segments in
         let q_size = length-reverse q.segments in
-        record {
-          left = 0;
-          right = 0;
-          left_within = omega arith;
-          right_within = omega arith;
-          counted = omega (arith, p_size, q_size);
-          decided = λ x y a k b l f.
-              let flags : p.absolute ≡ q.absolute = sym a ∙ (λ i. (f i).absolute) ∙ b in
-              true≢false (sym ((booleans_Decides p.absolute q.absolute).1 flags) ∙ e);
-        }
+        flags_apart p q _ (omega (arith, p_size, q_size)) e
 
 ends_alike_itself : (segments : List Text) (count : ℕ) → count ≤ length segments → EndsAlike segments count segments
 ends_alike_itself segments count h =
@@ -146,3 +151,5 @@ Decides-counted p q false steps answer = (λ e. absurd (true≢false (sym e)), �
 
 pub Decides-paths_compared : (p q : PathValue) → Decides (paths_compared p q).equal (path_key p ≡ path_key q)
 Decides-paths_compared p q = Decides-counted p q (paths_compared p q).equal (segments_read p q) (counted_answer p q)
+
+pub ruleset decided = (Decides-counted)

@@ -17,3 +17,4 @@ pub mod JoinedLemmas
 pub mod SettledLemmas
 mod PieceLemmas
 mod GrammarLemmas
+mod UnreadLemmas

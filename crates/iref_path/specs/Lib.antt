@@ -9,3 +9,4 @@ pub mod DotSegments
 pub mod CountedEquality
 pub mod PathKey
 pub mod Views
+pub mod Unread

@@ -1,6 +1,7 @@
 //! Paths of URIs and IRIs as lists of segments (RFC 3986 section 3.3).
 #![tactic(auto)]
 
+pub mod equality;
 pub mod path;
 pub mod path_laws;
 mod pieces;
