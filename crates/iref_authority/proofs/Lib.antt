@@ -1,1 +1,2 @@
 mod NumberRows
+pub mod EmptyLemmas

@@ -1,2 +1,3 @@
 pub mod HostNumbers
 pub mod AuthoritySteps
+pub mod Views

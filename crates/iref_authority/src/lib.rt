@@ -1,2 +1,5 @@
 //! Authorities of URIs and IRIs (RFC 3986 section 3.2).
 #![tactic(auto)]
+
+pub mod rules;
+pub mod user_info;
