@@ -1,2 +1,9 @@
+pub mod AnswerLemmas
 mod EditRows
+pub mod FaultLemmas
+pub mod InputLemmas
 mod LineRows
+pub mod LineLemmas
+pub mod ReplyLemmas
+pub mod RunLemmas
+pub mod Writing

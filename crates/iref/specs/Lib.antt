@@ -1,2 +1,5 @@
 pub mod Edits
+pub mod Gathering
 pub mod Lines
+pub mod Runs
+pub mod StdStreams

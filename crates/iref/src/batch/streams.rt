@@ -1,0 +1,113 @@
+//! Where lines come from, and where replies go.
+ghost use Rattle.std.specs.Prelude.{◌≡◌, ◌<◌, ◌≤◌, List, ℕ, Option, Bool, length, IfOk, is_err};
+ghost use Rattle.std.specs.Io.KnownBytes.{ReadConsumes, WriteAppends};
+
+use std::io::{Read, Write};
+
+/// A read or a write that failed.
+#[derive(Debug, Drop)]
+pub struct Fault;
+
+/// A reader that shows whether its last call failed.
+pub trait Source {
+    /// The bytes that reads will give from here on, where they are told.
+    ghost remaining: { Self → Option (List ℕ) };
+
+    /// The last call failed.
+    ghost has_failed: { Self → Bool };
+
+    /// Reads some bytes into `buf` and answers how many; none into a `buf` with room at the end of the input.
+    fn read(&mut self, buf: &mut [u8]) -> Result<usize, Fault>
+        ensures bound { IfOk result (λ n. n ≤ length buf.new) }
+        ensures bytes { ReadConsumes (remaining self.old) (remaining self.new) result buf.new }
+        ensures failed { has_failed self.new ≡ is_err result };
+}
+
+/// A writer that shows whether its last call failed.
+pub trait Sink {
+    /// The bytes that were written, where they are told.
+    ghost contents: { Self → Option (List ℕ) };
+
+    /// The last call failed.
+    ghost has_failed: { Self → Bool };
+
+    /// Writes a beginning of `bytes` and answers its length, at least 1 if there are any.
+    fn write(&mut self, bytes: &[u8]) -> Result<usize, Fault>
+        ensures bound { IfOk result (λ n. n ≤ length bytes.now) }
+        ensures some { IfOk result (λ n. 0 < length bytes.now → 0 < n) }
+        ensures bytes { WriteAppends (contents self.old) (contents self.new) result bytes.now }
+        ensures failed { has_failed self.new ≡ is_err result };
+}
+
+/// A reader or writer of std, with whether its last call failed.
+#[derive(Debug, Drop)]
+pub struct FromStd<X> {
+    inner: X,
+    has_failed: bool,
+}
+
+impl<X> FromStd<X> {
+    ghost use Rattle.iref.specs.StdStreams.{inner_of, has_failed};
+    ghost use Rattle.std.specs.Prelude.{false};
+
+    /// The reader or writer, with no failed call so far.
+    pub fn new(inner: X) -> Self
+        ensures same { inner_of result ≡ inner }
+        ensures works { has_failed result ≡ false }
+    {
+        FromStd {
+            inner,
+            has_failed: false,
+        }
+    }
+
+    /// The reader or writer as it is now.
+    pub fn into_inner(self) -> X
+        ensures { result ≡ inner_of self }
+    {
+        let FromStd {
+            inner,
+            has_failed: _,
+        } = self;
+        inner
+    }
+}
+
+impl<R: Read> Source for FromStd<R> {
+    ghost remaining = { λ s. R.remaining s.inner };
+
+    ghost has_failed = { λ s. s.has_failed };
+
+    fn read(&mut self, buf: &mut [u8]) -> Result<usize, Fault> {
+        match self.inner.read(buf) {
+            Ok(n) => {
+                self.has_failed = false;
+                Ok(n)
+            }
+            Err(_) => {
+                self.has_failed = true;
+                Err(Fault)
+            }
+        }
+    }
+}
+
+impl<W: Write> Sink for FromStd<W> {
+    ghost contents = { λ s. W.contents s.inner };
+
+    ghost has_failed = { λ s. s.has_failed };
+
+    /// A write that takes no byte of some is a fault.
+    fn write(&mut self, bytes: &[u8]) -> Result<usize, Fault> {
+        match self.inner.write(bytes) {
+            Ok(n) if n > 0 || bytes.is_empty() => {
+                self.has_failed = false;
+                Ok(n)
+            }
+            _ => {
+                self.has_failed = true;
+                Err(Fault)
+            }
+        }
+    }
+}
