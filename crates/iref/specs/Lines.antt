@@ -85,7 +85,7 @@ all_verbs =
 
 -- the verbs that the program has so far
 abbrev pub program_verbs : Verbs
-program_verbs = (codes "parts", one_text Parts) ∷ []
+program_verbs = []
 
 abbrev pub read_fields : Verbs → List Text → Option Request
 read_fields verbs [] = None

@@ -1,2 +1,0 @@
-use Rattle.iref.proofs.FaultLemmas.{begun_same}
-use Rattle.iref.proofs.batch.lines.Gathered.flush.Goals as goal
