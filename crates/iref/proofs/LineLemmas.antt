@@ -1,13 +1,13 @@
 -- Lines of a text, and replies to them.
-use Rattle.std.proofs.Common.{◌≡◌, ◌==◌, ◌⊎◌, inl, inr, Bool, true, false, List, [], ◌∷◌, ◌++◌, length, ◌<◌, ◌+◌, refl, ap, sym, subst, ◌∙◌, append_assoc, append-nil, map, rules, arith, if◌then◌else◌}
-use Rattle.std.specs.List.{All, AllZip}
+use Rattle.std.proofs.Common.{◌≡◌, ◌==◌, Bool, false, List, [], ◌∷◌, ◌++◌, length, ◌<◌, refl, ap, sym, ◌∙◌, append_assoc, append-nil, arith, if◌then◌else◌}
+use Rattle.std.specs.List.{All}
 use Rattle.std.proofs.lemmas.List.{flat_map_more}
 use Rattle.std.proofs.lemmas.List.Splits.{slice_split_at, slice_split_none, length-slice_split}
 use Rattle.std.proofs.lemmas.List.Elements.{All-head, All-tail, All-push}
 use Rattle.iref_text.specs.Rules.{Text}
 use Rattle.iref_text.specs.Texts.{pieces_at, all_but_last, is_empty}
-use Rattle.iref.specs.Lines.{newline, lines_of, without_empty_last, answer, answer_text, program_verbs}
-use Rattle.iref.specs.Runs.{IsReply, with_newlines, ended_lines}
+use Rattle.iref.specs.Lines.{newline, lines_of, without_empty_last}
+use Rattle.iref.specs.Runs.{with_newlines, ended_lines}
 use Rattle.iref.specs.Gathering.{IsLine}
 
 with_newlines-front : (line rest : Text) (lines : List Text) → with_newlines (line ∷ lines) ++ rest ≡ line ++ newline ∷ (with_newlines lines ++ rest)

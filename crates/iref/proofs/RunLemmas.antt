@@ -1,14 +1,12 @@
 -- How a run goes on.
-use Rattle.std.proofs.Common.{◌≡◌, ◌==◌, ◌⊎◌, inl, inr, Bool, true, false, List, [], ◌∷◌, ◌++◌, Option, Some, length, length-append, ◌<◌, arith, refl, ap, sym, subst, ◌∙◌, append_assoc, append-nil, map}
-use Rattle.std.specs.List.{All, AllZip}
+use Rattle.std.proofs.Common.{◌≡◌, ◌==◌, Bool, true, false, List, [], ◌∷◌, ◌++◌, Option, Some, length, length-append, ◌<◌, arith, refl, ap, sym, subst, ◌∙◌, append_assoc, append-nil}
 use Rattle.std.proofs.lemmas.List.{flat_map_more}
 use Rattle.std.proofs.lemmas.List.Elements.{All-nil, All-append, All-push, AllZip-push}
 use Rattle.iref_text.specs.Rules.{Text}
 use Rattle.iref_text.specs.Texts.{is_empty}
-use Rattle.iref.specs.Lines.{newline, lines_of, answer, answer_text, program_verbs}
-use Rattle.iref.specs.Runs.{IsReply, with_newlines, ended_lines, AnswersBegun}
-use Rattle.iref.specs.Gathering.{IsLine, Lacks, Writes, WritesPart, Gains, Replies, RepliesPart, InRun}
-use Rattle.iref.proofs.LineLemmas.{lines_of_lines, lines_of_ended, lines_of_begun, lines_of_next}
+use Rattle.iref.specs.Lines.{newline}
+use Rattle.iref.specs.Runs.{IsReply, with_newlines}
+use Rattle.iref.specs.Gathering.{IsLine, Writes, Replies, InRun}
 
 pub no_byte : IsLine []
 no_byte = All-nil (λ b. (b == newline) ≡ false)

@@ -1,5 +1,5 @@
 -- Writing in pieces.
-use Rattle.std.proofs.Common.{◌≡◌, ◌==◌, ◌-◌, ◌++◌, ℕ, true, List, [], Option, Some, None, refl, ap, sym, subst, ◌∙◌, append_assoc, append-nil, length, take, drop, take-append-drop}
+use Rattle.std.proofs.Common.{◌≡◌, ◌==◌, ◌-◌, ◌++◌, ℕ, true, [], Option, Some, None, refl, ap, sym, subst, ◌∙◌, append_assoc, append-nil, length, take, drop, take-append-drop}
 use Rattle.std.proofs.lemmas.List.{take_rest, nil_from_length}
 use Rattle.std.proofs.lemmas.Bool.{eqb-true}
 use Rattle.std.specs.Io.KnownBytes.{Appends, Keeps}

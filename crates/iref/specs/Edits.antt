@@ -1,5 +1,5 @@
 -- Lists of edits of a buffer.
-use Rattle.std.specs.Prelude.{ℕ, ◌+◌, Bool, true, false, List, [], ◌∷◌, Option, Some, None, Result, Ok, Err, is_some, option_map, if◌then◌else◌}
+use Rattle.std.specs.Prelude.{ℕ, ◌+◌, Bool, true, false, List, [], ◌∷◌, Option, None, Result, Ok, Err, is_some, option_map, if◌then◌else◌}
 use Rattle.iref_text.specs.Rules.{Text}
 use Rattle.iref_text.specs.Authority.{AuthorityValue, read_authority}
 use Rattle.iref_text.specs.PathValue.{read_path}

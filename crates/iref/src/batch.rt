@@ -9,7 +9,6 @@ mod streams;
 
 use lines::Lines;
 use std::alloc::Global;
-
 pub use streams::{Fault, FromStd, Sink, Source};
 
 /// A read or a write failed, or `u64::MAX` reads met no end.
@@ -20,7 +19,11 @@ pub struct RunError;
 const BLOCK: usize = 8192;
 
 /// Answers each line of the reader's input by a line to the writer, up to the end of the input.
-pub fn run<R: Source, W: Sink>(alloc: Global, reader: &mut R, writer: &mut W) -> Result<(), RunError>
+pub fn run<R: Source, W: Sink>(
+    alloc: Global,
+    reader: &mut R,
+    writer: &mut W,
+) -> Result<(), RunError>
     requires reader_works { R.has_failed reader.old ≡ false }
     requires writer_works { W.has_failed writer.old ≡ false }
     ensures ok { OnOk result ((input before : Text) → R.remaining reader.old ≡ Some input → W.contents writer.old ≡ Some before →

@@ -1,4 +1,4 @@
-use Rattle.std.proofs.Common.{◌≡◌, arith, inr}
+use Rattle.std.proofs.Common.{arith, inr}
 use Rattle.iref.proofs.InputLemmas.{input_start, input_more, input_ended, input_cut_at_end, input_cut, reader_fault, no_end}
 use Rattle.iref.proofs.batch.run.Goals as goal
 

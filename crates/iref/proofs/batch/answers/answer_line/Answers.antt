@@ -1,4 +1,4 @@
-use Rattle.std.proofs.Common.{◌≡◌, ◌∷◌, ◌++◌, [], sym, ap, ◌∙◌}
+use Rattle.std.proofs.Common.{◌∷◌, ◌++◌, [], sym, ap, ◌∙◌}
 use Rattle.iref.specs.Lines.{LineAnswer, answer_text, newline}
 use Rattle.iref.proofs.AnswerLemmas.{no_verb}
 use Rattle.iref.proofs.batch.answers.answer_line.Goals as goal

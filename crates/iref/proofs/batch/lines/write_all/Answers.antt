@@ -1,4 +1,4 @@
-use Rattle.std.proofs.Common.{◌≡◌, ◌++◌, take, drop, rules}
+use Rattle.std.proofs.Common.{◌++◌, take}
 use Rattle.std.proofs.lemmas.Result.{err_from_is_err_and}
 use Rattle.iref.proofs.Writing.{writes_from_appends, writes_more, part_at_fault, cut_again, all_cut, written_is, part_is}
 use Rattle.iref.proofs.batch.lines.write_all.Goals as goal

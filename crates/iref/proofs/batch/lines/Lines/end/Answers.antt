@@ -1,4 +1,3 @@
-use Rattle.std.proofs.Common.{◌≡◌}
 use Rattle.std.proofs.lemmas.Result.{err_from_is_err_and}
 use Rattle.iref.proofs.RunLemmas.{in_run_written}
 use Rattle.iref.proofs.FaultLemmas.{all_answered, all_same, begun_same, begun_by_last_flush}

@@ -1,4 +1,4 @@
-use Rattle.std.proofs.Common.{◌≡◌, ◌∷◌, ◌++◌, [], false, refl}
+use Rattle.std.proofs.Common.{◌∷◌, ◌++◌, [], refl}
 use Rattle.std.proofs.lemmas.Result.{err_from_is_err_and}
 use Rattle.iref.specs.Lines.{newline}
 use Rattle.iref.proofs.RunLemmas.{no_byte}

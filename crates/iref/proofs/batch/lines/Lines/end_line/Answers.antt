@@ -1,4 +1,4 @@
-use Rattle.std.proofs.Common.{◌≡◌, ◌++◌, refl}
+use Rattle.std.proofs.Common.{refl}
 use Rattle.std.proofs.lemmas.Result.{err_from_is_err_and}
 use Rattle.iref.proofs.RunLemmas.{in_run_line}
 use Rattle.iref.proofs.FaultLemmas.{begun_by_line}

@@ -1,4 +1,4 @@
-use Rattle.std.proofs.Common.{◌≡◌, ◌++◌, refl}
+use Rattle.std.proofs.Common.{◌++◌, refl}
 use Rattle.std.proofs.lemmas.Result.{err_from_is_err_and}
 use Rattle.iref.proofs.ReplyLemmas.{refusal_written, refusal_cut, cut_of_tail}
 use Rattle.iref.proofs.batch.lines.Lines.reply.Goals as goal
