@@ -13,6 +13,7 @@ pub mod HostLemmas
 pub mod Ipv6CompleteLemmas
 pub mod ComponentLackLemmas
 pub mod Utf8RuleLemmas
+pub mod LiteralLemmas
 pub mod HostRuleLemmas
 pub mod PctLemmas
 pub mod PartRuleLemmas

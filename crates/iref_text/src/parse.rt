@@ -2,6 +2,7 @@
 
 pub mod authority;
 pub mod cut;
+pub mod host;
 pub mod key;
 pub mod owned;
 pub mod places;
