@@ -1,8 +1,8 @@
--- Keys that tie are the same.
+-- Keys that tie are the same, and keys are in a total order.
 use Rattle.std.proofs.Common.{Decides, ◌≡◌, true, false, [], ◌∷◌, refl, sym, ◌∙◌, ap, Some, None, Ordering, Less, Equal, Greater, is_eq}
 use Rattle.std.specs.Option.{option_cmp}
 use Rattle.std.specs.Ordering.{ordering_then, bool_cmp, on}
-use Rattle.std.specs.Cmp.{IsTotalOrder, on_total, then_total, bool_cmp_total}
+use Rattle.std.specs.Cmp.{IsTotalOrder, on_total, then_total, bool_cmp_total, tied_itself}
 use Rattle.std.specs.Cmp.Lexicographic.{slice_cmp, bytes_decides, on_texts, nat_list_cmp_total, lists_total, options_total}
 use Rattle.iref_text.specs.Authority.{AuthorityValue}
 use Rattle.iref_text.specs.PathValue.{PathValue}
@@ -14,7 +14,7 @@ use Rattle.iref_path.specs.PathKey.{text_cmp, path_key_cmp, path_key}
 use Rattle.iref_refs.specs.Relative.{have_same_scheme, have_same_authority, have_same_path}
 
 -- what ties is the same
-abbrev pub Tells : {A : Type 0} → (A → A → Ordering) → Type 0
+abbrev Tells : {A : Type 0} → (A → A → Ordering) → Type 0
 Tells {A} cmp = (x y : A) → is_eq (cmp x y) ≡ true → x ≡ y
 
 both_tie : (a b : Ordering) → is_eq (ordering_then a b) ≡ true → (is_eq a ≡ true) × (is_eq b ≡ true)
@@ -22,16 +22,16 @@ both_tie Less b h = absurd (true≢false (sym h))
 both_tie Equal b h = (refl, h)
 both_tie Greater b h = absurd (true≢false (sym h))
 
-pub Tells-text : Tells text_cmp
+Tells-text : Tells text_cmp
 Tells-text x y h = (bytes_decides x y).0 (sym (is_eq-slice_cmp x y) ∙ h)
 
-pub Tells-option : {A : Type 0} (cmp : A → A → Ordering) → Tells cmp → Tells (option_cmp cmp)
+Tells-option : {A : Type 0} (cmp : A → A → Ordering) → Tells cmp → Tells (option_cmp cmp)
 Tells-option cmp tells None None h = refl
 Tells-option cmp tells None (Some y) h = absurd (true≢false (sym h))
 Tells-option cmp tells (Some x) None h = absurd (true≢false (sym h))
 Tells-option cmp tells (Some x) (Some y) h = ap Some (tells x y h)
 
-pub Tells-list : {A : Type 0} (cmp : A → A → Ordering) → Tells cmp → Tells (slice_cmp cmp)
+Tells-list : {A : Type 0} (cmp : A → A → Ordering) → Tells cmp → Tells (slice_cmp cmp)
 Tells-list cmp tells [] [] h = refl
 Tells-list cmp tells [] (y ∷ ys) h = absurd (true≢false (sym h))
 Tells-list cmp tells (x ∷ xs) [] h = absurd (true≢false (sym h))
@@ -46,7 +46,7 @@ Tells-bool true false h = absurd (true≢false (sym h))
 Tells-bool false true h = absurd (true≢false (sym h))
 Tells-bool false false h = refl
 
-pub Tells-authority : Tells authority_key_cmp
+Tells-authority : Tells authority_key_cmp
 Tells-authority a b h =
     let first = both_tie (option_cmp text_cmp a.user_info b.user_info) _ h in
     let second = both_tie (text_cmp a.host b.host) _ first.1 in
@@ -56,7 +56,7 @@ Tells-authority a b h =
       port = Tells-option text_cmp Tells-text a.port b.port second.1 i;
     }
 
-pub Tells-path : Tells path_key_cmp
+Tells-path : Tells path_key_cmp
 Tells-path p q h =
     let both = both_tie (bool_cmp p.absolute q.absolute) _ h in
     λ i. record { absolute = Tells-bool p.absolute q.absolute both.0 i; segments = Tells-list text_cmp Tells-text p.segments q.segments both.1 i }
@@ -70,47 +70,7 @@ same_authority r s h = Tells-option authority_key_cmp Tells-authority (key r).au
 pub same_path : (r s : ReferenceValue) → have_same_path r s ≡ true → path_key r.path ≡ path_key s.path
 same_path r s h = Tells-path (path_key r.path) (path_key s.path) h
 
--- ---- and what is the same ties
-
-abbrev pub Ties : {A : Type 0} → (A → A → Ordering) → Type 0
-Ties {A} cmp = (x : A) → is_eq (cmp x x) ≡ true
-
-tie_of_both : (a b : Ordering) → is_eq a ≡ true → is_eq b ≡ true → is_eq (ordering_then a b) ≡ true
-tie_of_both Less b h k = absurd (true≢false (sym h))
-tie_of_both Equal b h k = k
-tie_of_both Greater b h k = absurd (true≢false (sym h))
-
-pub Ties-text : Ties text_cmp
-Ties-text x = is_eq-slice_cmp x x ∙ (bytes_decides x x).1 refl
-
-pub Ties-option : {A : Type 0} (cmp : A → A → Ordering) → Ties cmp → Ties (option_cmp cmp)
-Ties-option cmp ties None = refl
-Ties-option cmp ties (Some x) = ties x
-
-pub Ties-list : {A : Type 0} (cmp : A → A → Ordering) → Ties cmp → Ties (slice_cmp cmp)
-Ties-list cmp ties [] = refl
-Ties-list cmp ties (x ∷ xs) = tie_of_both (cmp x x) (slice_cmp cmp xs xs) (ties x) (Ties-list cmp ties xs)
-
-Ties-bool : Ties bool_cmp
-Ties-bool true = refl
-Ties-bool false = refl
-
-pub Ties-authority : Ties authority_key_cmp
-Ties-authority a =
-    tie_of_both _ _ (Ties-option text_cmp Ties-text a.user_info) (tie_of_both _ _ (Ties-text a.host) (Ties-option text_cmp Ties-text a.port))
-
-pub Ties-path : Ties path_key_cmp
-Ties-path p = tie_of_both _ _ (Ties-bool p.absolute) (Ties-list text_cmp Ties-text p.segments)
-
-pub Ties-key : Ties key_cmp
-unfolding key_cmp
-Ties-key r =
-    tie_of_both _ _ (Ties-option text_cmp Ties-text r.scheme)
-    (tie_of_both _ _ (Ties-option authority_key_cmp Ties-authority r.authority)
-    (tie_of_both _ _ (Ties-path r.path)
-    (tie_of_both _ _ (Ties-option text_cmp Ties-text r.query) (Ties-option text_cmp Ties-text r.fragment))))
-
-pub Tells-key : Tells key_cmp
+Tells-key : Tells key_cmp
 unfolding key_cmp
 Tells-key r s h =
     let one = both_tie (option_cmp text_cmp r.scheme s.scheme) _ h in
@@ -123,10 +83,6 @@ Tells-key r s h =
     let query = Tells-option text_cmp Tells-text r.query s.query four.0 in
     let fragment = Tells-option text_cmp Tells-text r.fragment s.fragment four.1 in
     λ i. record { scheme = scheme i; authority = authority i; path = path i; query = query i; fragment = fragment i }
-
--- `==` is the sameness of keys
-pub Decides-are_alike : (r s : ReferenceValue) → Decides (are_alike r s) (AreAlike r s)
-Decides-are_alike r s = (Tells-key (key r) (key s), λ same. (λ i. is_eq (key_cmp (key r) (sym same i))) ∙ Ties-key (key r))
 
 -- ---- keys are in a total order
 
@@ -150,3 +106,7 @@ keys_total =
 
 pub references_total : IsTotalOrder (on key key_cmp)
 references_total = on_total key keys_total
+
+-- `==` is the sameness of keys
+pub Decides-are_alike : (r s : ReferenceValue) → Decides (are_alike r s) (AreAlike r s)
+Decides-are_alike r s = (Tells-key (key r) (key s), λ same. (λ i. is_eq (key_cmp (key r) (sym same i))) ∙ ap is_eq (tied_itself keys_total (key r)))
