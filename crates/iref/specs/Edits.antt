@@ -5,7 +5,7 @@ use Rattle.iref_text.specs.Authority.{AuthorityValue, read_authority}
 use Rattle.iref_text.specs.PathValue.{read_path}
 use Rattle.iref_text.specs.Reference.{ReferenceValue}
 use Rattle.iref_authority.specs.AuthoritySteps.{with_user_info, with_host, with_port}
-use Rattle.iref_authority.specs.HostNumbers.{port_text}
+use Rattle.iref_text.specs.Ports.{port_text}
 use Rattle.iref_path.specs.PathSteps.{lazy_pushed, pushed, joined, popped, cleared, normalized}
 use Rattle.iref_refs.specs.ComponentSteps.{with_scheme, with_authority, with_path, with_query, with_fragment, with_authority_step, with_path_step, with_new_normal_path}
 

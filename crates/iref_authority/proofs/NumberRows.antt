@@ -2,7 +2,8 @@
 use Prim.Native.String.{String}
 use Rattle.std.specs.Prelude.{◌≡◌, ℕ, List, [], ◌∷◌, map, codes, Option, Some, None, refl}
 use Rattle.std.specs.Fmt.{digits}
-use Rattle.iref_authority.specs.HostNumbers.{ipv4_text, ipv6_host_text, port_value, port_text}
+use Rattle.iref_text.specs.Ports.{port_value, port_text}
+use Rattle.iref_authority.specs.HostNumbers.{ipv4_text, ipv6_host_text}
 
 -- number; the host of the IPv4 address
 abbrev ipv4_hosts : List (ℕ × String)

@@ -1,10 +1,9 @@
--- Hosts and ports from numbers (RFC 5952 section 4 in part).
-use Rattle.std.specs.Prelude.{ℕ, ◌+◌, ◌/◌, ◌%◌, ◌^◌, false, ◌==◌, nat_lt, nat_le, List, [], ◌∷◌, ◌++◌, take, drop, map, decimal, codes, Option, Some, None, if◌then◌else◌}
+-- Hosts from numbers (RFC 5952 section 4 in part).
+use Rattle.std.specs.Prelude.{ℕ, ◌+◌, ◌/◌, ◌%◌, ◌^◌, false, ◌==◌, nat_lt, nat_le, List, [], ◌∷◌, ◌++◌, take, drop, map, decimal, codes, if◌then◌else◌}
 use Rattle.std.specs.List.{join_with_byte, prefix_len}
 use Rattle.std.specs.Fmt.{digits}
 use Rattle.iref_text.specs.Rules.{Text}
-use Rattle.std.specs.Str.Parse.{digits_value}
-use Rattle.iref_text.specs.Texts.{greatest, is_empty}
+use Rattle.iref_text.specs.Texts.{greatest}
 
 -- the octets of a 32-bit number, and the groups of a 128-bit one
 abbrev pub octets_of : ℕ → List ℕ
@@ -45,11 +44,3 @@ ipv6_text groups =
 -- `HostBuf::from_ipv6`
 abbrev pub ipv6_host_text : ℕ → Text
 ipv6_host_text n = codes "[" ++ ipv6_text (groups_of n) ++ codes "]"
-
--- the number that a port's digits write, if it has any
-abbrev pub port_value : Text → Option ℕ
-port_value digits = if is_empty digits then None else Some (digits_value 10 digits)
-
--- a number as a port
-abbrev pub port_text : ℕ → Text
-port_text n = decimal n

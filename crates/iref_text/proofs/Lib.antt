@@ -41,3 +41,4 @@ pub mod SplitLemmas
 pub mod ContextLemmas
 pub mod ComponentLemmas
 pub mod EmptyLemmas
+pub mod PortLemmas

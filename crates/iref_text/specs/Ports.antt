@@ -1,5 +1,6 @@
 -- The numbers of ports.
-use Rattle.std.specs.Prelude.{ℕ, nat_lt, decimal, Option, None, Some, Result, Ok, Err, if◌then◌else◌}
+use Rattle.std.specs.Prelude.{ℕ, nat_lt, ℤ, pos, decimal, Option, None, Some, Result, Ok, Err, if◌then◌else◌}
+use Rattle.std.specs.Result.{result_map_both}
 use Rattle.std.specs.Str.Parse.{digits_value}
 use Rattle.iref_text.specs.Rules.{Text}
 use Rattle.iref_text.specs.Texts.{is_empty}
@@ -18,6 +19,10 @@ fitting limit (Some n) = if nat_lt n limit then Ok n else Err OutOfRange
 -- what a port's digits are as a number below the limit
 abbrev pub port_number : ℕ → Text → Result ℕ PortError
 port_number limit digits = fitting limit (port_value digits)
+
+-- the same of a type with a sign
+abbrev pub signed_port_number : ℕ → Text → Result ℤ PortError
+signed_port_number limit digits = result_map_both pos (λ fault. fault) (port_number limit digits)
 
 -- a number as a port
 abbrev pub port_text : ℕ → Text

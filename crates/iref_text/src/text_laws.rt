@@ -1,12 +1,13 @@
 //! Laws of single components: each is the contract of a function that does nothing.
 #![tactic(auto)]
 
-ghost use Rattle.std.specs.Prelude.{◌≡◌, ◌↔◌, ℕ, Some};
+ghost use Rattle.std.specs.Prelude.{◌≡◌, ◌↔◌, ℕ, ◌<◌, ◌^◌, Some};
 ghost use Rattle.std.specs.Bool.{Decides};
 ghost use Rattle.iref_text.specs.Rules.{Text, InUtf8};
 ghost use Rattle.iref_text.specs.IpAddresses.{IsIpv4, IsIpv6, IsIpv4Address, IsIpv6Address, ipv4_value, ipv6_value};
 ghost use Rattle.iref_text.specs.Grammar.{IsScheme, IsUserInfo, IsRegName, IsIpvFuture, IsIpLiteral, IsHost, IsPort, IsSegment, IsPath, IsQuery, IsFragment, IsPctStr};
 ghost use Rattle.iref_text.specs.Tests.{is_scheme, is_user_info, is_reg_name, is_ipv4, is_ipv6, is_ipvfuture, is_ip_literal, is_host, is_port, is_segment, is_path, is_query, is_fragment, is_pct_str};
+ghost use Rattle.iref_text.specs.Ports.{port_value, port_text};
 
 use crate::chars::CharSet;
 
@@ -63,6 +64,11 @@ pub fn host_grammar<S: CharSet>()
 /// The test of ports decides their rule.
 pub fn port_grammar()
     ensures { (bytes : Text) → Decides (is_port bytes) (InUtf8 IsPort bytes) }
+{}
+
+/// The port of a number has that number.
+pub fn numbers_as_ports()
+    ensures { (n : ℕ) → n < 2 ^ 128 → port_value (port_text n) ≡ Some n }
 {}
 
 /// The test of segments decides their rule.

@@ -1,10 +1,12 @@
 //! Ports (RFC 3986 section 3.2.3).
-ghost use Rattle.std.specs.Prelude.{◌≡◌, true, [], Some, IfOk, codes};
+ghost use Rattle.std.specs.Prelude.{◌≡◌, ◌^◌, true, [], Some, IfOk, codes};
+ghost use Rattle.std.specs.Result.{result_ok};
 ghost use Rattle.std.specs.String.{string_bytes};
 ghost use Rattle.iref_text.specs.Rules.{InUtf8};
 ghost use Rattle.iref_text.specs.Grammar.{IsPort};
 ghost use Rattle.iref_text.specs.Tests.{is_port};
 ghost use Rattle.iref_text.specs.Makers.{Parses};
+ghost use Rattle.iref_text.specs.Ports.{port_number, signed_port_number, port_text};
 ghost use Rattle.iref_text.specs.Components.{port_digits, port_buf_digits};
 
 use crate::chars::UriChars;
@@ -118,6 +120,89 @@ impl Port<'static> {
     }
 }
 
+impl Port<'_> {
+    // The number, which the widest type has.
+    fn number(&self) -> Result<u128, PortError>
+        ensures { result ≡ port_number (2 ^ 128) (port_digits self.now) }
+    {
+        let digits = self.as_str();
+        if digits.is_empty() {
+            return Err(PortError::Empty);
+        }
+        digits.parse::<u128>().map_err(|_| PortError::OutOfRange)
+    }
+
+    /// The number, if it fits a `u8`.
+    pub fn as_u8(&self) -> Option<u8>
+        ensures { result ≡ result_ok (port_number (2 ^ 8) (port_digits self.now)) }
+    {
+        u8::try_from(*self).ok()
+    }
+
+    /// The number, if it fits a `u16`.
+    pub fn as_u16(&self) -> Option<u16>
+        ensures { result ≡ result_ok (port_number (2 ^ 16) (port_digits self.now)) }
+    {
+        u16::try_from(*self).ok()
+    }
+
+    /// The number, if it fits a `u32`.
+    pub fn as_u32(&self) -> Option<u32>
+        ensures { result ≡ result_ok (port_number (2 ^ 32) (port_digits self.now)) }
+    {
+        u32::try_from(*self).ok()
+    }
+
+    /// The number, if it fits a `u64`.
+    pub fn as_u64(&self) -> Option<u64>
+        ensures { result ≡ result_ok (port_number (2 ^ 64) (port_digits self.now)) }
+    {
+        u64::try_from(*self).ok()
+    }
+
+    /// The number, if it fits a `u128`.
+    pub fn as_u128(&self) -> Option<u128>
+        ensures { result ≡ result_ok (port_number (2 ^ 128) (port_digits self.now)) }
+    {
+        u128::try_from(*self).ok()
+    }
+
+    /// The number, if it fits an `i8`.
+    pub fn as_i8(&self) -> Option<i8>
+        ensures { result ≡ result_ok (signed_port_number (2 ^ 7) (port_digits self.now)) }
+    {
+        i8::try_from(*self).ok()
+    }
+
+    /// The number, if it fits an `i16`.
+    pub fn as_i16(&self) -> Option<i16>
+        ensures { result ≡ result_ok (signed_port_number (2 ^ 15) (port_digits self.now)) }
+    {
+        i16::try_from(*self).ok()
+    }
+
+    /// The number, if it fits an `i32`.
+    pub fn as_i32(&self) -> Option<i32>
+        ensures { result ≡ result_ok (signed_port_number (2 ^ 31) (port_digits self.now)) }
+    {
+        i32::try_from(*self).ok()
+    }
+
+    /// The number, if it fits an `i64`.
+    pub fn as_i64(&self) -> Option<i64>
+        ensures { result ≡ result_ok (signed_port_number (2 ^ 63) (port_digits self.now)) }
+    {
+        i64::try_from(*self).ok()
+    }
+
+    /// The number, if it fits an `i128`.
+    pub fn as_i128(&self) -> Option<i128>
+        ensures { result ≡ result_ok (signed_port_number (2 ^ 127) (port_digits self.now)) }
+    {
+        i128::try_from(*self).ok()
+    }
+}
+
 impl Default for Port<'_> {
     ghost is_default = { λ port. port_digits port ≡ [] };
 
@@ -143,6 +228,115 @@ impl<'a> TryFrom<&'a [u8]> for Port<'a> {
 
     fn try_from(bytes: &'a [u8]) -> Result<Self, InvalidPort<&'a [u8]>> {
         Port::from_bytes(bytes)
+    }
+}
+
+impl TryFrom<Port<'_>> for u8 {
+    type Error = PortError;
+
+    ghost try_from_gives = { λ port result. result ≡ port_number (2 ^ 8) (port_digits port) };
+
+    fn try_from(port: Port<'_>) -> Result<u8, PortError> {
+        let number = port.number()?;
+        u8::try_from(number).map_err(|_| PortError::OutOfRange)
+    }
+}
+
+impl TryFrom<Port<'_>> for u16 {
+    type Error = PortError;
+
+    ghost try_from_gives = { λ port result. result ≡ port_number (2 ^ 16) (port_digits port) };
+
+    fn try_from(port: Port<'_>) -> Result<u16, PortError> {
+        let number = port.number()?;
+        u16::try_from(number).map_err(|_| PortError::OutOfRange)
+    }
+}
+
+impl TryFrom<Port<'_>> for u32 {
+    type Error = PortError;
+
+    ghost try_from_gives = { λ port result. result ≡ port_number (2 ^ 32) (port_digits port) };
+
+    fn try_from(port: Port<'_>) -> Result<u32, PortError> {
+        let number = port.number()?;
+        u32::try_from(number).map_err(|_| PortError::OutOfRange)
+    }
+}
+
+impl TryFrom<Port<'_>> for u64 {
+    type Error = PortError;
+
+    ghost try_from_gives = { λ port result. result ≡ port_number (2 ^ 64) (port_digits port) };
+
+    fn try_from(port: Port<'_>) -> Result<u64, PortError> {
+        let number = port.number()?;
+        u64::try_from(number).map_err(|_| PortError::OutOfRange)
+    }
+}
+
+impl TryFrom<Port<'_>> for u128 {
+    type Error = PortError;
+
+    ghost try_from_gives = { λ port result. result ≡ port_number (2 ^ 128) (port_digits port) };
+
+    fn try_from(port: Port<'_>) -> Result<u128, PortError> {
+        port.number()
+    }
+}
+
+impl TryFrom<Port<'_>> for i8 {
+    type Error = PortError;
+
+    ghost try_from_gives = { λ port result. result ≡ signed_port_number (2 ^ 7) (port_digits port) };
+
+    fn try_from(port: Port<'_>) -> Result<i8, PortError> {
+        let number = port.number()?;
+        i8::try_from(number).map_err(|_| PortError::OutOfRange)
+    }
+}
+
+impl TryFrom<Port<'_>> for i16 {
+    type Error = PortError;
+
+    ghost try_from_gives = { λ port result. result ≡ signed_port_number (2 ^ 15) (port_digits port) };
+
+    fn try_from(port: Port<'_>) -> Result<i16, PortError> {
+        let number = port.number()?;
+        i16::try_from(number).map_err(|_| PortError::OutOfRange)
+    }
+}
+
+impl TryFrom<Port<'_>> for i32 {
+    type Error = PortError;
+
+    ghost try_from_gives = { λ port result. result ≡ signed_port_number (2 ^ 31) (port_digits port) };
+
+    fn try_from(port: Port<'_>) -> Result<i32, PortError> {
+        let number = port.number()?;
+        i32::try_from(number).map_err(|_| PortError::OutOfRange)
+    }
+}
+
+impl TryFrom<Port<'_>> for i64 {
+    type Error = PortError;
+
+    ghost try_from_gives = { λ port result. result ≡ signed_port_number (2 ^ 63) (port_digits port) };
+
+    fn try_from(port: Port<'_>) -> Result<i64, PortError> {
+        let number = port.number()?;
+        i64::try_from(number).map_err(|_| PortError::OutOfRange)
+    }
+}
+
+impl TryFrom<Port<'_>> for i128 {
+    type Error = PortError;
+
+    ghost try_from_gives = { λ port result. result ≡ signed_port_number (2 ^ 127) (port_digits port) };
+
+    fn try_from(port: Port<'_>) -> Result<i128, PortError> {
+        let number = port.number()?;
+        i128::try_from(number).map_err(|_| PortError::OutOfRange)
     }
 }
 
@@ -187,6 +381,45 @@ impl PortBuf {
         PortBuf {
             text: TextBuf::empty(alloc),
         }
+    }
+
+    /// The port of this number.
+    pub fn from_u8(number: u8, alloc: Global) -> Result<Self, Memory>
+        ensures { IfOk result (λ port. port_buf_digits port ≡ port_text number) }
+    {
+        PortBuf::from_u128(number as u128, alloc)
+    }
+
+    /// The port of this number.
+    pub fn from_u16(number: u16, alloc: Global) -> Result<Self, Memory>
+        ensures { IfOk result (λ port. port_buf_digits port ≡ port_text number) }
+    {
+        PortBuf::from_u128(number as u128, alloc)
+    }
+
+    /// The port of this number.
+    pub fn from_u32(number: u32, alloc: Global) -> Result<Self, Memory>
+        ensures { IfOk result (λ port. port_buf_digits port ≡ port_text number) }
+    {
+        PortBuf::from_u128(number as u128, alloc)
+    }
+
+    /// The port of this number.
+    pub fn from_u64(number: u64, alloc: Global) -> Result<Self, Memory>
+        ensures { IfOk result (λ port. port_buf_digits port ≡ port_text number) }
+    {
+        PortBuf::from_u128(number as u128, alloc)
+    }
+
+    /// The port of this number.
+    #[tactic(auto, using(crate::proofs::PortLemmas::writing))]
+    pub fn from_u128(number: u128, alloc: Global) -> Result<Self, Memory>
+        ensures { IfOk result (λ port. port_buf_digits port ≡ port_text number) }
+    {
+        let text = number.to_string(alloc)?;
+        Ok(PortBuf {
+            text: TextBuf::new_unchecked(text),
+        })
     }
 
     /// The view.
