@@ -1,5 +1,6 @@
 pub mod TextLemmas
 pub mod ReadablePartsLemmas
+pub mod AsciiLemmas
 pub mod ScanLemmas
 pub mod RuleLemmas
 pub mod EncodedLemmas

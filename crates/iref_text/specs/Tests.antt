@@ -1,5 +1,6 @@
 -- The rules as tests that compute: of a text where it says so, else of bytes.
-use Rattle.std.specs.Prelude.{ℕ, ◌-◌, nat_lt, Bool, true, false, ◌&&◌, ◌||◌, not, ◌==◌, [], ◌∷◌, Option, Some, None, is_some, chars, if◌then◌else◌, codes}
+use Rattle.std.specs.Prelude.{◌≡◌, ℕ, ◌<◌, length, MatchOption, ◌-◌, nat_lt, Bool, true, false, ◌&&◌, ◌||◌, not, ◌==◌, [], ◌∷◌, Option, Some, None, is_some, chars, if◌then◌else◌, codes}
+use Rattle.std.specs.Borrow.{Bor}
 use Rattle.std.specs.List.{list_all}
 use Rattle.std.specs.Str.{is_utf8}
 use Rattle.std.specs.Char.{is_ascii_alphabetic, is_ascii_digit, is_ascii_hexdigit, char_set_contains}
@@ -24,6 +25,12 @@ is_encoded_after test (Some owed) (c ∷ cs) = is_encoded_after test (owed_after
 
 abbrev pub is_encoded : (ℕ → Bool) → Text → Bool
 is_encoded test text = is_encoded_after test (Some 0) text
+
+-- a step of a scan: after it the shorter rest decides, with what is owed then; where there is no rest, the text is refused
+abbrev pub ScansTo : (ℕ → Bool) → ℕ → ℕ → Text → Option (Bor Text) → Type 0
+ScansTo test owed left text result =
+    MatchOption result (is_encoded_after test (Some owed) (chars text) ≡ false)
+    (λ rest. (is_encoded_after test (Some owed) (chars text) ≡ is_encoded_after test (Some left) (chars rest.now)) × (length rest.now < length text))
 
 -- the bytes are the UTF-8 of a text that passes
 abbrev pub in_utf8 : (Text → Bool) → Text → Bool

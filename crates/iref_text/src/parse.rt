@@ -1,5 +1,6 @@
 //! Whether a text is in a rule of the grammar, and where its parts stand.
 
+pub mod ascii;
 pub mod authority;
 pub mod cut;
 pub mod host;

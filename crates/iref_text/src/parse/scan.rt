@@ -1,12 +1,15 @@
 //! Whether a text is in a rule of single characters and escapes.
 
-ghost use Rattle.std.specs.Prelude.{◌≡◌, ◌==◌, ◌||◌, ℕ, Bool, chars};
+ghost use Rattle.std.specs.Prelude.{◌≡◌, ◌==◌, ◌&&◌, ◌||◌, ℕ, ◌+◌, ◌<◌, Bool, ◌∷◌, chars, length, slice_index, MatchOption};
 ghost use Rattle.std.specs.List.{list_all};
+ghost use Rattle.std.specs.Char.{is_ascii};
 ghost use Rattle.iref_text.specs.Grammar as grammar;
 ghost use Rattle.iref_text.specs.Grammar.{slash, is_not_percent};
 ghost use Rattle.iref_text.specs.Tests as test;
+ghost use Rattle.iref_text.specs.Tests.{ScansTo};
 
 use crate::chars::CharSet;
+use crate::parse::ascii::first_rule;
 use std::marker::PhantomData;
 
 /// The characters that stand for themselves in a rule of characters and escapes.
@@ -17,6 +20,10 @@ pub trait CharRule {
     /// Whether the character is one of them.
     fn allows(c: char) -> bool
         ensures { result ≡ allowed c };
+
+    /// Whether the byte is one of them that is ASCII, and no `%`.
+    fn allows_byte(byte: u8) -> bool
+        ensures { result ≡ (is_ascii byte && (is_not_percent byte && allowed byte)) };
 }
 
 /// Those of registered names (RFC 3986 section 3.2.2).
@@ -111,79 +118,153 @@ pub fn is_future_char(c: char) -> bool
     c.is_ascii_alphanumeric() || matches!(c, '-' | '.' | '_' | '~') || is_sub_delim(c) || c == ':'
 }
 
+#[tactic(auto, using(crate::proofs::AsciiLemmas::reg_name_byte))]
 impl<C: CharSet> CharRule for RegNameChars<C> {
     ghost allowed = { grammar.is_reg_name_char C.tests };
 
     fn allows(c: char) -> bool {
         is_reg_name_char::<C>(c)
     }
+
+    fn allows_byte(byte: u8) -> bool {
+        first_rule(byte) <= 0
+    }
 }
 
+#[tactic(auto, using(crate::proofs::AsciiLemmas::user_info_byte))]
 impl<C: CharSet> CharRule for UserInfoChars<C> {
     ghost allowed = { grammar.is_user_info_char C.tests };
 
     fn allows(c: char) -> bool {
         is_user_info_char::<C>(c)
     }
+
+    fn allows_byte(byte: u8) -> bool {
+        first_rule(byte) <= 1
+    }
 }
 
+#[tactic(auto, using(crate::proofs::AsciiLemmas::segment_byte))]
 impl<C: CharSet> CharRule for SegmentChars<C> {
     ghost allowed = { grammar.is_path_char C.tests };
 
     fn allows(c: char) -> bool {
         is_path_char::<C>(c)
     }
+
+    fn allows_byte(byte: u8) -> bool {
+        first_rule(byte) <= 2
+    }
 }
 
+#[tactic(auto, using(crate::proofs::AsciiLemmas::path_byte))]
 impl<C: CharSet> CharRule for PathChars<C> {
     ghost allowed = { λ c. grammar.is_path_char C.tests c || c == slash };
 
     fn allows(c: char) -> bool {
         is_path_char::<C>(c) || c == '/'
     }
+
+    fn allows_byte(byte: u8) -> bool {
+        first_rule(byte) <= 3
+    }
 }
 
+#[tactic(auto, using(crate::proofs::AsciiLemmas::query_byte))]
 impl<C: CharSet> CharRule for QueryChars<C> {
     ghost allowed = { grammar.is_query_char C.tests };
 
     fn allows(c: char) -> bool {
         is_query_char::<C>(c)
     }
+
+    fn allows_byte(byte: u8) -> bool {
+        first_rule(byte) <= 4
+    }
 }
 
+#[tactic(auto, using(crate::proofs::AsciiLemmas::fragment_byte))]
 impl<C: CharSet> CharRule for FragmentChars<C> {
     ghost allowed = { grammar.is_fragment_char C.tests };
 
     fn allows(c: char) -> bool {
         is_fragment_char::<C>(c)
     }
+
+    fn allows_byte(byte: u8) -> bool {
+        first_rule(byte) <= 4
+    }
 }
 
+#[tactic(auto, using(crate::proofs::AsciiLemmas::pct_str_byte))]
 impl CharRule for PctStrChars {
     ghost allowed = { is_not_percent };
 
     fn allows(c: char) -> bool {
         c != '%'
     }
+
+    fn allows_byte(byte: u8) -> bool {
+        first_rule(byte) <= 5
+    }
 }
 
-#[tactic(auto, unfolding(crate::specs::Tests::owed_after))]
-// How many hexadecimal digits of an escape are owed after one more character, if it may stand there.
-fn owed_after<R: CharRule>(owed: u8, c: char) -> Option<u8>
-    ensures { result ≡ test.owed_after R.allowed owed c }
+// The first character, and what follows it.
+fn split_first_char(text: &str) -> Option<(char, &str)>
+    ensures { MatchOption result (length text.now ≡ 0)
+        (λ x. (chars text.now ≡ x.0 ∷ chars x.1.now) × (length x.1.now < length text.now)) }
 {
-    if owed > 0 {
-        if c.is_ascii_hexdigit() {
-            Some(owed - 1)
-        } else {
-            None
-        }
-    } else if c == '%' {
-        Some(2)
-    } else if R::allows(c) {
-        Some(0)
+    let mut chars = text.chars();
+    let c = chars.next()?;
+    Some((c, chars.as_str()))
+}
+
+// What follows the first character, if that is a hexadecimal digit.
+fn after_digit(text: &str) -> Option<&str>
+    ensures { (allowed : ℕ → Bool) (owed : ℕ) → ScansTo allowed (owed + 1) owed text.now result }
+{
+    let (c, rest) = split_first_char(text)?;
+    if c.is_ascii_hexdigit() {
+        Some(rest)
     } else {
         None
+    }
+}
+
+// The same of a first character of any kind.
+fn after_char_or_escape<R: CharRule>(text: &str) -> Option<&str>
+    requires { 0 < length text.now }
+    ensures { ScansTo R.allowed 0 0 text.now result }
+{
+    let (c, rest) = split_first_char(text)?;
+    if c == '%' {
+        after_digit(after_digit(rest)?)
+    } else if R::allows(c) {
+        Some(rest)
+    } else {
+        None
+    }
+}
+
+// What follows the first character, which is ASCII.
+fn after_ascii(text: &str) -> &str
+    requires not_empty { 0 < length text.now }
+    requires ascii { slice_index text.now 0 < 128 }
+    ensures chars { chars text.now ≡ slice_index text.now 0 ∷ chars result.now }
+    ensures shorter { length result.now < length text.now }
+{
+    &text[1..]
+}
+
+// What follows the first character or escape, if the rule has it. Most often it is one byte.
+fn after_first<R: CharRule>(text: &str) -> Option<&str>
+    requires { 0 < length text.now }
+    ensures { ScansTo R.allowed 0 0 text.now result }
+{
+    if R::allows_byte(text.as_bytes()[0]) {
+        Some(after_ascii(text))
+    } else {
+        after_char_or_escape::<R>(text)
     }
 }
 
@@ -191,14 +272,14 @@ fn owed_after<R: CharRule>(owed: u8, c: char) -> Option<u8>
 fn is_encoded<R: CharRule>(text: &str) -> bool
     ensures { result ≡ test.is_encoded R.allowed (chars text.now) }
 {
-    let mut owed: u8 = 0;
-    for c in text.chars() {
-        match owed_after::<R>(owed, c) {
-            Some(left) => owed = left,
+    let mut rest = text;
+    while !rest.is_empty() {
+        match after_first::<R>(rest) {
+            Some(after) => rest = after,
             None => return false,
         }
     }
-    owed == 0
+    true
 }
 
 #[tactic(auto, using(crate::proofs::ScanLemmas::utf8), unfolding(crate::specs::Tests::is_user_info))]

@@ -1,11 +1,10 @@
-use Rattle.std.proofs.Common.{◌≡◌, chars, IsUtf8}
-use Rattle.std.specs.Prelude.{Some}
-use Rattle.std.specs.Str.Iter.{chars_rest}
-use Rattle.iref_text.specs.Tests.{is_encoded_after, is_encoded}
+use Rattle.std.proofs.Common.{◌≡◌, chars, length, IsUtf8}
+use Rattle.iref_text.specs.Tests.{is_encoded}
 use Rattle.iref_text.proofs.parse.scan.is_encoded.Given as goal
 
 -- what is left of the text decides
-abbrev pub invariant-loop-c : goal.invariant-loop-c
-invariant-loop-c g l =
-    let test = g.R.CharRule.allowed in
-    IsUtf8 (chars_rest l.c-iterator) × (is_encoded_after test (Some l.owed) (chars (chars_rest l.c-iterator)) ≡ is_encoded test (chars l.text))
+abbrev pub invariant-loop-rest : goal.invariant-loop-rest
+invariant-loop-rest g l = IsUtf8 l.rest × (is_encoded g.R.CharRule.allowed (chars l.rest) ≡ is_encoded g.R.CharRule.allowed (chars l.text))
+
+abbrev pub decreases-loop-rest : goal.decreases-loop-rest
+decreases-loop-rest g l = length l.rest
