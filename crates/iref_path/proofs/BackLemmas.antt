@@ -10,7 +10,7 @@ use Rattle.iref_path.specs.NormalList.{is_dot_dot, is_name, counted, ends_in_dot
 use Rattle.iref_path.specs.NormalReading.{open_before, staying_before, leading_parents, closing, items}
 use Rattle.iref_path.specs.CountedEquality.{ItemRead, last_read, item_before, items_read, all_items_read}
 use Rattle.iref_path.proofs.StayingLemmas.{open_before-append, staying_before-append}
-use Rattle.iref_path.proofs.NormalPathLemmas.{normal_segments-is}
+use Rattle.iref_path.proofs.ItemLemmas.{normal_segments-is}
 
 abbrev pub item_of : ItemRead → Text
 item_of e = e.item

@@ -10,7 +10,7 @@ use Rattle.iref_text.specs.PathValue.{PathValue, is_one_empty}
 use Rattle.iref_path.specs.NormalList.{is_dot, is_dot_dot, is_name, counted, ends_in_dots, normal_segments}
 use Rattle.iref_path.specs.NormalReading.{open_before, staying_before, leading_parents, closing, items, NormalRest, items_left, nothing_left, whole_rest, first_staying, last_staying, after_first, first_left, given_parent, before_last, last_left, GivesFirst, GivesLast}
 use Rattle.iref_path.proofs.StayingLemmas.{staying_before-append}
-use Rattle.iref_path.proofs.NormalPathLemmas.{normal_segments-is}
+use Rattle.iref_path.proofs.ItemLemmas.{normal_segments-is}
 
 -- at the start the whole normal list is left
 pub whole_rest-is : (p : PathValue) → items_left (whole_rest p) ≡ normal_segments p
@@ -113,52 +113,3 @@ last_left-gives rest = by rest.closes (last_staying (reverse rest.middle) rest.b
         let split : staying_before rest.middle rest.behind ≡ names ++ found.0 ∷ [] = ap (λ xs. staying_before xs rest.behind) (sym (reverse-reverse rest.middle)) ∙ h in
         ap (λ xs. lead ++ xs) (append-nil (staying_before rest.middle rest.behind) ∙ split) ∙ sym (append_assoc lead names (found.0 ∷ []))
         ∙ ap (λ xs. (lead ++ xs) ++ found.0 ∷ []) (sym (append-nil names))
-
--- ---- by places
-
--- The list cut in three: what the front, the middle and the back give. The middle needs of the back only how many `..`
--- it leaves open, and is the same whatever stands in front.
-pub items-parts : (absolute : Bool) (front middle back : List Text) → let p : PathValue = record { absolute = absolute; segments = front ++ (middle ++ back) } in
-    items p ≡ (leading_parents absolute (open_before p.segments 0) ++ staying_before front (open_before (middle ++ back) 0))
-    ++ (staying_before middle (open_before back 0) ++ (staying_before back 0 ++ closing (ends_in_dots p.segments)))
-items-parts absolute front middle back =
-    let whole = front ++ (middle ++ back) in
-    let lead = leading_parents absolute (open_before whole 0) in
-    let ends = closing (ends_in_dots whole) in
-    let a = staying_before front (open_before (middle ++ back) 0) in
-    let b = staying_before middle (open_before back 0) in
-    let c = staying_before back 0 in
-    ap (λ xs. lead ++ (xs ++ ends)) (staying_before-append front (middle ++ back) 0 ∙ ap (λ xs. a ++ xs) (staying_before-append middle back 0))
-    ∙ ap (λ xs. lead ++ xs) (append_assoc a (b ++ c) ends ∙ ap (λ xs. a ++ xs) (append_assoc b c ends))
-    ∙ sym (append_assoc lead a (b ++ (c ++ ends)))
-
--- ---- any reading from both ends
-
--- what the front has given, what is left, and what the back has given are the normal list
-abbrev pub IsReadSoFar : PathValue → List Text → NormalRest → List Text → Type 0
-IsReadSoFar p front rest back = front ++ (items_left rest ++ back) ≡ normal_segments p
-
-pub read_from_start : (p : PathValue) → IsReadSoFar p [] (whole_rest p) []
-read_from_start p = append-nil (items_left (whole_rest p)) ∙ whole_rest-is p
-
-abbrev FirstRead : PathValue → List Text → NormalRest → List Text → Option (Text × NormalRest) → Type 0
-FirstRead p front rest back None = items_left rest ≡ []
-FirstRead p front rest back (Some given) = IsReadSoFar p (front ++ given.0 ∷ []) given.1 back
-
-pub read_first : (p : PathValue) (front : List Text) (rest : NormalRest) (back : List Text) → IsReadSoFar p front rest back → FirstRead p front rest back (first_left rest)
-read_first p front rest back h = by (first_left rest) (first_left-gives rest)
-  where
-    by : (given : Option (Text × NormalRest)) → GivesFirst (items_left rest) given → FirstRead p front rest back given
-    by None k = k
-    by (Some given) k = append_assoc front (given.0 ∷ []) (items_left given.1 ++ back) ∙ ap (λ xs. front ++ (xs ++ back)) (sym k) ∙ h
-
-abbrev LastRead : PathValue → List Text → NormalRest → List Text → Option (Text × NormalRest) → Type 0
-LastRead p front rest back None = items_left rest ≡ []
-LastRead p front rest back (Some given) = IsReadSoFar p front given.1 (given.0 ∷ back)
-
-pub read_last : (p : PathValue) (front : List Text) (rest : NormalRest) (back : List Text) → IsReadSoFar p front rest back → LastRead p front rest back (last_left rest)
-read_last p front rest back h = by (last_left rest) (last_left-gives rest)
-  where
-    by : (given : Option (Text × NormalRest)) → GivesLast (items_left rest) given → LastRead p front rest back given
-    by None k = k
-    by (Some given) k = ap (λ xs. front ++ xs) (sym (append_assoc (items_left given.1) (given.0 ∷ []) back)) ∙ ap (λ xs. front ++ (xs ++ back)) (sym k) ∙ h

@@ -8,7 +8,7 @@ use Rattle.std.proofs.lemmas.Bool.Decides.{nat_tests, eqb_tells}
 use mathlib.Core.Bool.{true≢false}
 use Rattle.iref_text.specs.Rules.{Text}
 use Rattle.iref_path.specs.NormalList.{is_dot, is_dot_dot, is_name, count_parents, staying_names, stays_before, counted, open_parents}
-use Rattle.iref_path.proofs.NormalLemmas.{stays_before-is}
+use Rattle.iref_path.proofs.NormalLemmas.{parents-cons, stays_before-is}
 
 -- a list without its last n
 abbrev pub without_last : ℕ → List Text → List Text
@@ -152,9 +152,6 @@ pub staying-climbs : (n : ℕ) → staying_names (climbs n) ≡ []
 unfolding staying_names
 staying-climbs zero = refl
 staying-climbs (suc n) = staying-climbs n
-
-pub parents-cons : (s : Text) (list : List Text) → count_parents (s ∷ list) ≡ cond (is_dot_dot s) 1 0 + count_parents list
-parents-cons s list = sum_by-cons (λ x. cond (is_dot_dot x) 1 0) s list
 
 -- no more `..` are open than there are
 pub open-most : (list : List Text) → open_parents list ≤ count_parents list

@@ -5,6 +5,7 @@ mod NormalRows
 pub mod GuardLemmas
 pub mod NormalLemmas
 pub mod StayingLemmas
+pub mod ItemLemmas
 pub mod NormalPathLemmas
 pub mod BackLemmas
 pub mod ComparisonLemmas

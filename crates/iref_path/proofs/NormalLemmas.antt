@@ -25,7 +25,7 @@ greatest_same : (g h : List Text → ℕ) → ((f : List Text) → g f ≡ h f) 
 greatest_same g h e [] = refl
 greatest_same g h e (f ∷ fronts) = λ i. max (e f i) (greatest_same g h e fronts i)
 
-parents-cons : (s : Text) (f : List Text) → count_parents (s ∷ f) ≡ cond (is_dot_dot s) 1 0 + count_parents f
+pub parents-cons : (s : Text) (f : List Text) → count_parents (s ∷ f) ≡ cond (is_dot_dot s) 1 0 + count_parents f
 parents-cons s f = sum_by-cons (λ x. cond (is_dot_dot x) 1 0) s f
 
 names-cons : (s : Text) (f : List Text) → count_names (s ∷ f) ≡ cond (is_name s) 1 0 + count_names f

@@ -20,7 +20,7 @@ use Rattle.iref_path.specs.DotSegments.{Buffers, without_last_segment, first_seg
 use Rattle.iref_text.proofs.TextLemmas.{lacks, first_of_both, second_of_both, pieces_at-join}
 use Rattle.iref_text.proofs.CutLemmas.{before-no, before-yes, from_first-no, from_first-yes}
 use Rattle.iref_path.proofs.StayingLemmas.{staying_before-append, takes_last}
-use Rattle.iref_path.proofs.NormalPathLemmas.{normal_segments-is, some_name}
+use Rattle.iref_path.proofs.ItemLemmas.{normal_segments-is, some_name}
 use Rattle.iref_path.proofs.StepSegmentLemmas.{in-staying, in-snoc}
 
 -- each segment with a `/` before it

@@ -1,4 +1,4 @@
--- A normal list is its own normal list, and a guard changes no normal list.
+-- A normal list is its own normal list.
 use Rattle.std.proofs.Common.{◌≡◌, ℕ, zero, suc, ◌-◌, Bool, true, false, not, cond, ◌&&◌, ◌||◌, List, [], ◌∷◌, ◌++◌, take, refl, sym, ◌∙◌, ap, arith, codes, append_assoc}
 use Rattle.std.proofs.lemmas.List.Folds.{list_all-append}
 use mathlib.Core.Bool.{true≢false}
@@ -191,38 +191,3 @@ names-normal segments = ap are_names (normal-is true segments) ∙ names_of_sett
 pub lone-normal : (p : PathValue) → without_lone_empty (normal_segments p) ≡ normal_segments p
 unfolding normal_segments
 lone-normal p = without_lone-again (cond (ends_in_dots p.segments) (closed (kept_segments p)) (kept_segments p))
-
--- ---- the guard
-
-dot_harmless : (absolute : Bool) (segments : List Text) → let p : PathValue = record { absolute = absolute; segments = segments } in normal_segments (with_dot p) ≡ normal_segments p
-unfolding normal_segments excess staying_names
-dot_harmless true [] = refl
-dot_harmless false [] = refl
-dot_harmless true (s ∷ rest) = refl
-dot_harmless false (s ∷ rest) =
-    let same : excess (codes "." ∷ s ∷ rest) ≡ excess (s ∷ rest) = excess-is (codes "." ∷ s ∷ rest) ∙ sym (excess-is (s ∷ rest)) in
-    λ i. let kept = climbs (same i) ++ staying_names (s ∷ rest) in without_lone_empty (cond (ends_in_dots (s ∷ rest)) (closed kept) kept)
-
-pub normal-with_dot : (p : PathValue) → normal (with_dot p) ≡ normal p
-normal-with_dot p = λ i. record { absolute = p.absolute; segments = dot_harmless p.absolute p.segments i }
-
-pub normal-dot_where_needed : (context : PathContext) (p : PathValue) → normal (dot_where_needed context p) ≡ normal p
-normal-dot_where_needed context p = by (reads_as_path context p)
-  where
-    by : (b : Bool) → normal (cond b p (with_dot p)) ≡ normal p
-    by true = refl
-    by false = normal-with_dot p
-
-stays_relative : (absolute authority empty : Bool) → (not authority || absolute || empty) ≡ true → (absolute || authority && not empty) ≡ absolute
-stays_relative true authority empty h = refl
-stays_relative false true true h = refl
-stays_relative false true false h = absurd (true≢false (sym h))
-stays_relative false false empty h = refl
-
-pub made_absolute-same : (context : PathContext) (p : PathValue) → follows_authority context p ≡ true → made_absolute context p ≡ p
-made_absolute-same context p h = λ i. record { absolute = stays_relative p.absolute context.has_authority (is_empty p.segments) h i; segments = p.segments }
-
--- a guard changes no normal path
-pub normal-guarded : (context : PathContext) (p : PathValue) → follows_authority context p ≡ true → normal (guarded context p) ≡ normal p
-unfolding guarded
-normal-guarded context p h = normal-dot_where_needed context (made_absolute context p) ∙ ap normal (made_absolute-same context p h)

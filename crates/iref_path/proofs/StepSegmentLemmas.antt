@@ -13,7 +13,7 @@ use Rattle.iref_path.specs.NormalList.{is_dot, is_dot_dot, is_name, ends_in_dots
 use Rattle.iref_path.specs.NormalReading.{open_before, staying_before, leading_parents, closing, items}
 use Rattle.iref_path.specs.PathSteps.{lazy_pushed, ends_in_parent, popped, closed_path, followed, pushed, appended, lazy_appended, joined, normalized}
 use Rattle.iref_text.proofs.TextLemmas.{both, first_of_both, second_of_both}
-use Rattle.iref_path.proofs.NormalPathLemmas.{normal_segments-is}
+use Rattle.iref_path.proofs.ItemLemmas.{normal_segments-is}
 
 -- the test takes the segments that steps write of their own
 pub record TakesDots (test : Text → Bool) : Type 0 where

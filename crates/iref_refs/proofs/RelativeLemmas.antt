@@ -20,8 +20,8 @@ use Rattle.iref_refs.specs.Relative.{have_same_scheme, have_same_authority, have
 use Rattle.iref_refs.specs.RelativeLaws.{IsOnlyPath}
 use Rattle.iref_path.proofs.JoinedLemmas.{are_names}
 use Rattle.iref_text.proofs.TextLemmas.{both_true}
-use Rattle.iref_path.proofs.NormalPathLemmas.{path_key-normalized}
-use Rattle.iref_path.proofs.SettledLemmas.{normal_again, normal-guarded, normal-with_dot, names-normal, lone-normal}
+use Rattle.iref_path.proofs.NormalPathLemmas.{normal-with_dot, normal-guarded, path_key-normalized}
+use Rattle.iref_path.proofs.SettledLemmas.{normal_again, names-normal, lone-normal}
 use Rattle.iref_refs.proofs.LeadingLemmas.{decoded, climb_between, steps_lead, dotted_steps_lead, parents-steps, parents-dotted, steps_least}
 use Rattle.iref_refs.proofs.KeyLemmas.{same_scheme, same_authority, same_path}
 

@@ -1,9 +1,10 @@
-use Rattle.iref_path.proofs.NormalPathLemmas.{normal-normal, normal-normalized, normalized-normalized}
+use Rattle.iref_path.proofs.SettledLemmas.{normal_again}
+use Rattle.iref_path.proofs.NormalPathLemmas.{normal-normalized, normalized-normalized}
 use Rattle.iref_path.proofs.path_laws.normalizing_again_changes_nothing.Goals as goal
 
 pub returns : goal.returns
 returns c = record {
-  normal = normal-normal;
+  normal = normal_again;
   guarded = normal-normalized;
   path = normalized-normalized;
 }
