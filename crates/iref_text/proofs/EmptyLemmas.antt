@@ -2,7 +2,7 @@
 use Rattle.std.proofs.Common.{◌≡◌, true, [], refl}
 use Rattle.std.specs.Str.{chars, is_utf8}
 use Rattle.iref_text.specs.Characters.{CharTests}
-use Rattle.iref_text.specs.Tests.{is_query, is_fragment, is_port}
+use Rattle.iref_text.specs.Tests.{is_query, is_fragment, is_port, is_pct_str}
 
 pub is_query_empty : (set : CharTests) → is_query set [] ≡ true
 unfolding is_query is_utf8 chars
@@ -15,3 +15,7 @@ is_fragment_empty set = refl
 pub is_port_empty : is_port [] ≡ true
 unfolding is_port
 is_port_empty = refl
+
+pub is_pct_str_empty : is_pct_str [] ≡ true
+unfolding is_pct_str is_utf8 chars
+is_pct_str_empty = refl

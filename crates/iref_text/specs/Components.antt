@@ -9,6 +9,8 @@ use Rattle.iref_text.specs.declared.query.Query.{Query}
 use Rattle.iref_text.specs.declared.query.QueryBuf.{QueryBuf}
 use Rattle.iref_text.specs.declared.fragment.Fragment.{Fragment}
 use Rattle.iref_text.specs.declared.fragment.FragmentBuf.{FragmentBuf}
+use Rattle.iref_text.specs.declared.pct.PctStr.{PctStr}
+use Rattle.iref_text.specs.declared.pct.PctString.{PctString}
 
 abbrev pub scheme_text : Scheme → Text
 scheme_text scheme = view_text scheme.text
@@ -33,3 +35,9 @@ fragment_text fragment = view_text fragment.text
 
 abbrev pub fragment_buf_text : {C : _} {c : _} → FragmentBuf C c → Text
 fragment_buf_text fragment = owned_text fragment.text
+
+abbrev pub pct_text : PctStr → Text
+pct_text text = view_text text.text
+
+abbrev pub pct_string_text : PctString → Text
+pct_string_text text = owned_text text.text

@@ -1,12 +1,14 @@
 //! The rules of components, each with its recogniser and what its texts are compared by.
-ghost use Rattle.iref_text.specs.Grammar.{IsScheme, IsPort, IsQuery, IsFragment};
-ghost use Rattle.iref_text.specs.Tests.{is_scheme, is_port, is_query, is_fragment};
+ghost use Rattle.iref_text.specs.Grammar.{IsScheme, IsPort, IsQuery, IsFragment, IsPctStr};
+ghost use Rattle.iref_text.specs.Tests.{is_scheme, is_port, is_query, is_fragment, is_pct_str};
 
 use crate::chars::CharSet;
 use crate::parse::key::{DecodedBytes, LowerCase, SameText};
 use crate::parse::scan;
 use crate::parse::view::{Keyed, Rule};
-use crate::text_laws::{fragment_grammar, port_grammar, query_grammar, scheme_grammar};
+use crate::text_laws::{
+    fragment_grammar, pct_str_grammar, port_grammar, query_grammar, scheme_grammar,
+};
 
 /// The rule of schemes (RFC 3986 section 3.1).
 pub struct SchemeRule;
@@ -89,5 +91,26 @@ impl Rule for FragmentRule {
 }
 
 impl Keyed for FragmentRule {
+    type Key = DecodedBytes;
+}
+
+/// The rule of percent-encoded texts (RFC 3986 section 2.1).
+pub struct PctStrRule;
+
+impl Rule for PctStrRule {
+    ghost rule = { λ _. IsPctStr };
+
+    ghost test = { λ _. is_pct_str };
+
+    fn accepts<C: CharSet>(text: &str) -> bool {
+        scan::is_pct_str(text)
+    }
+
+    fn decided<C: CharSet>() {
+        pct_str_grammar()
+    }
+}
+
+impl Keyed for PctStrRule {
     type Key = DecodedBytes;
 }
