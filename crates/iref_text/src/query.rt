@@ -5,13 +5,14 @@ ghost use Rattle.iref_text.specs.Rules.{InUtf8};
 ghost use Rattle.iref_text.specs.Grammar.{IsQuery};
 ghost use Rattle.iref_text.specs.Tests.{is_query};
 ghost use Rattle.iref_text.specs.Makers.{Parses};
-ghost use Rattle.iref_text.specs.Components.{query_text, query_buf_text};
+ghost use Rattle.iref_text.specs.Components.{query_text, query_buf_text, pct_text, pct_string_text};
 
 use crate::chars::CharSet;
 use crate::common::Memory;
 use crate::parse::owned::TextBuf;
 use crate::parse::rules::QueryRule;
 use crate::parse::view::View;
+use crate::pct::{PctStr, PctString};
 use std::alloc::Global;
 use std::convert::TryFrom;
 use std::fmt;
@@ -79,6 +80,14 @@ impl<'a, C: CharSet> Query<'a, C> {
         ensures { result.now ≡ query_text self.now }
     {
         self.as_str().as_bytes()
+    }
+
+    /// The text as a percent-encoded text.
+    #[tactic(auto, using(crate::proofs::PctLemmas::query_is_pct_str))]
+    pub fn as_pct_str(&self) -> PctStr<'a>
+        ensures { pct_text result ≡ query_text self.now }
+    {
+        PctStr::new_unchecked(self.as_str())
     }
 
     /// An owner of a copy.
@@ -188,10 +197,19 @@ impl<C: CharSet> QueryBuf<C> {
 
     /// The text, with no copy.
     pub fn into_string(self) -> String
-        ensures { string_bytes result ≡ query_buf_text self }
+        ensures text { string_bytes result ≡ query_buf_text self }
+        ensures in_rule { is_query C.tests (string_bytes result) ≡ true }
     {
         let QueryBuf { text } = self;
         text.into_string()
+    }
+
+    /// The text as a percent-encoded text, with no copy.
+    #[tactic(auto, using(crate::proofs::PctLemmas::query_is_pct_str))]
+    pub fn into_pct_string(self) -> PctString
+        ensures { pct_string_text result ≡ query_buf_text self }
+    {
+        PctString::new_unchecked(self.into_string())
     }
 
     /// The bytes of the text, with no copy.

@@ -87,7 +87,8 @@ impl<R: Rule, C: CharSet> TextBuf<R, C> {
 
     /// The text, with no copy.
     pub fn into_string(self) -> String
-        ensures { string_bytes result ≡ owned_text self }
+        ensures text { string_bytes result ≡ owned_text self }
+        ensures in_rule { R.test C.tests (string_bytes result) ≡ true }
     {
         let TextBuf { text, rule: _ } = self;
         text
