@@ -3,6 +3,8 @@ use Rattle.std.proofs.Common.{◌≡◌, true, [], refl}
 use Rattle.std.specs.Str.{chars, is_utf8}
 use Rattle.iref_text.specs.Characters.{CharTests}
 use Rattle.iref_text.specs.Tests.{is_query, is_fragment, is_port, is_pct_str}
+use Rattle.iref_text.specs.Reference.{is_reference, is_readable, read_reference}
+use Rattle.iref_text.specs.PathValue.{read_path}
 
 pub is_query_empty : (set : CharTests) → is_query set [] ≡ true
 unfolding is_query is_utf8 chars
@@ -19,3 +21,7 @@ is_port_empty = refl
 pub is_pct_str_empty : is_pct_str [] ≡ true
 unfolding is_pct_str is_utf8 chars
 is_pct_str_empty = refl
+
+pub is_reference_empty : (set : CharTests) → is_reference set [] ≡ true
+unfolding is_reference is_readable read_reference read_path
+is_reference_empty set = refl

@@ -14,7 +14,7 @@ use Rattle.iref_text.specs.IpAddresses.{IsIpv4, number_of, all_some, octet_value
 use Rattle.iref_text.proofs.TextLemmas.{lacks, pieces_at-join, both, join-pieces_at}
 
 -- the octet and its text
-octet_text : (text : Text) (n : ℕ) → octet_value text ≡ Some n → (n < 256) × (text ≡ decimal n)
+pub octet_text : (text : Text) (n : ℕ) → octet_value text ≡ Some n → (n < 256) × (text ≡ decimal n)
 octet_text text n h = by (nat_lt (digits_value 10 text) 256) refl (bytes_eq text (decimal (digits_value 10 text))) refl h
   where
     value : ℕ
@@ -91,13 +91,13 @@ digits_lack_stop (c ∷ cs) h = elim (eqb_tells c 46) [
     no_digit : (d : ℕ) → d ≡ 36 → d < 10 → ⊥
     no_digit d e h' = omega arith
 
-wide : (n : ℕ) → n < 256 → n < 2 ^ 64
+pub wide : (n : ℕ) → n < 256 → n < 2 ^ 64
 wide n h = lt_trans h (lit< tt)
 
-decimal_lacks_stop : (n : ℕ) → n < 256 → lacks 46 (decimal n) ≡ true
+pub decimal_lacks_stop : (n : ℕ) → n < 256 → lacks 46 (decimal n) ≡ true
 decimal_lacks_stop n h = digits_lack_stop (decimal n) ((decimal_is_IsNumeral n (wide n h)).0.1)
 
-octet_of_decimal : (n : ℕ) → n < 256 → octet_value (decimal n) ≡ Some n
+pub octet_of_decimal : (n : ℕ) → n < 256 → octet_value (decimal n) ≡ Some n
 octet_of_decimal n h =
     let value : digits_value 10 (decimal n) ≡ n = (decimal_is_IsNumeral n (wide n h)).1 in
     let less : nat_lt n 256 ≡ true = grind (arith, nat_tests) in

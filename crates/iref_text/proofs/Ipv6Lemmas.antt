@@ -117,7 +117,7 @@ are_last_groups text groups h = elim (last_pieces (group_pieces text) groups h) 
 ]
 
 -- what `::` begins
-colons : (text : Text) → begins_with (codes "::") text ≡ true → 58 ∷ 58 ∷ drop 2 text ≡ text
+pub colons : (text : Text) → begins_with (codes "::") text ≡ true → 58 ∷ 58 ∷ drop 2 text ≡ text
 colons [] h = cc
 colons (a ∷ []) h = absurd (true≢false (sym h ∙ and_false (58 == a)))
   where

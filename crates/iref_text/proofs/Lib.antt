@@ -10,6 +10,10 @@ pub mod CutLemmas
 pub mod SliceLemmas
 pub mod Ipv4Lemmas
 pub mod Ipv6Lemmas
+pub mod DigitLemmas
+pub mod OctetLemmas
+pub mod GroupLemmas
+pub mod DoubleColonLemmas
 pub mod HostLemmas
 pub mod Ipv6CompleteLemmas
 pub mod ComponentLackLemmas
@@ -43,3 +47,4 @@ pub mod ContextLemmas
 pub mod ComponentLemmas
 pub mod EmptyLemmas
 pub mod PortLemmas
+pub mod FrontLemmas

@@ -12,8 +12,8 @@ use Rattle.iref_text.specs.Grammar.{slash, IsPathChar, IsSegment, IsAbEmptyPath,
 use Rattle.iref_text.specs.Texts.{pieces_at}
 use Rattle.iref_text.specs.Tests.{is_segment, is_path}
 use Rattle.iref_text.specs.PathValue.{PathValue, spell_path, shows_its_list, segments_of, read_path}
-use Rattle.iref_text.specs.Contexts.{follows_authority, is_no_authority, is_no_scheme, reads_as_path, is_path_in, alone}
-use Rattle.iref_text.proofs.TextLemmas.{lacks, both, first_of_both, second_of_both, pieces_at-join}
+use Rattle.iref_text.specs.Contexts.{follows_authority, is_no_authority, is_no_scheme, reads_as_path, fits, is_readable_path, is_path_in, alone}
+use Rattle.iref_text.proofs.TextLemmas.{lacks, both, first_of_both, second_of_both, pieces_at-join, both_true}
 use Rattle.iref_text.proofs.RuleLemmas.{none_of, one_more, more_like, more-append}
 use Rattle.iref_text.proofs.LeafLemmas.{Decides-is_segment}
 use Rattle.iref_text.proofs.PathLemmas.{read_path-reads, read_path-only}
@@ -114,16 +114,28 @@ module _ (set : CharTests) (above : AreAboveAscii set) where
           let s = list_all (is_segment set) p.segments in
           let f = follows_authority context p in
           let r = reads_as_path context p in
-          let front = first_of_both (s && f) r h in
-          record { path = p; segments = (segments_tested p.segments).0 (first_of_both s f front); follows = second_of_both s f front; reads = second_of_both (s && f) r h; spelled = (read_path-reads bytes).spelled }
+          let fit = second_of_both s (f && r) h in
+          record { path = p; segments = (segments_tested p.segments).0 (first_of_both s (f && r) h); follows = first_of_both f r fit; reads = second_of_both f r fit; spelled = (read_path-reads bytes).spelled }
 
       back : IsPathIn set context bytes → is_path_in set context bytes ≡ true
       back z =
           let p = z.path in
           let shown = first_of_both (shows_its_list p) (is_no_authority context p) (first_of_both (shows_its_list p && is_no_authority context p) (is_no_scheme context p) z.reads) in
           let read : read_path bytes ≡ p = read_path-only bytes p (record { segments = all_lack p.segments z.segments; shown = shown; spelled = z.spelled }) in
-          ap (λ (q : PathValue). (list_all (is_segment set) q.segments && follows_authority context q) && reads_as_path context q) read
-          ∙ both (list_all (is_segment set) p.segments && follows_authority context p) (reads_as_path context p) (both (list_all (is_segment set) p.segments) (follows_authority context p) ((segments_tested p.segments).1 z.segments) z.follows) z.reads
+          ap (is_readable_path set context) read
+          ∙ both (list_all (is_segment set) p.segments) (fits context p) ((segments_tested p.segments).1 z.segments) (both (follows_authority context p) (reads_as_path context p) z.follows z.reads)
+
+  -- a readable path is the one that is read from its text
+  pub readable_path_back : (context : PathContext) (p : PathValue) → is_readable_path set context p ≡ true → read_path (spell_path p) ≡ p
+  readable_path_back context p h =
+      let parts = both_true (list_all (is_segment set) p.segments) (fits context p) h in
+      let shown = both_true (shows_its_list p && is_no_authority context p) (is_no_scheme context p) (both_true (follows_authority context p) (reads_as_path context p) parts.1).1 in
+      read_path-only (spell_path p) p
+      (record { segments = all_lack p.segments ((segments_tested p.segments).0 parts.0); shown = (both_true (shows_its_list p) (is_no_authority context p) shown.0).0; spelled = refl })
+
+  -- so its text is one of a path in the context
+  pub readable_path_text : (context : PathContext) (p : PathValue) → is_readable_path set context p ≡ true → is_path_in set context (spell_path p) ≡ true
+  readable_path_text context p h = ap (is_readable_path set context) (readable_path_back context p h) ∙ h
 
   pub Decides-after_authority : (has_scheme : Bool) (bytes : Text) → Decides (is_path_in set (record { has_scheme = has_scheme; has_authority = true }) bytes) (InUtf8 (IsAbEmptyPath set) bytes)
   Decides-after_authority has_scheme bytes =

@@ -79,13 +79,13 @@ scheme-missing text none = by (from_first ends_scheme text) refl
 
 -- ---- the query and the fragment
 
-abbrev ends_path : List ℕ
+abbrev pub ends_path : List ℕ
 ends_path = question_mark ∷ hash_sign ∷ []
 
-abbrev hash : List ℕ
+abbrev pub hash : List ℕ
 hash = hash_sign ∷ []
 
-abbrev question : List ℕ
+abbrev pub question : List ℕ
 question = question_mark ∷ []
 
 -- a character that is no mark, and one that is

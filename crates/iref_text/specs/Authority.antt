@@ -11,7 +11,7 @@ pub record AuthorityValue : Type 0 where
   pub host : Text
   pub port : Option Text
 
--- section 3.2
+-- the user info and `@`, the host, `:` and the port
 unfoldable pub spell_authority : AuthorityValue → Text
 spell_authority a = part_then (at_sign ∷ []) a.user_info ++ a.host ++ then_part (colon ∷ []) a.port
 
@@ -26,10 +26,11 @@ pub record HasAuthorityParts (set : CharTests) (a : AuthorityValue) : Type 0 whe
 unfoldable pub has_authority_parts : CharTests → AuthorityValue → Bool
 has_authority_parts set a = none_or (is_user_info set) a.user_info && is_host set a.host && none_or is_port a.port
 
--- of host and port: in brackets no `:` ends the host
+-- of a host in brackets, and what follows it: what stands before the first `]`, where no `:` ends the host
 abbrev pub bracketed : Text → Text
 bracketed text = if begins_with (left_bracket ∷ []) text then before (right_bracket ∷ []) text else []
 
+-- the rest, where the first `:` ends it
 abbrev pub after_bracketed : Text → Text
 after_bracketed text = if begins_with (left_bracket ∷ []) text then from_first (right_bracket ∷ []) text else text
 
@@ -39,6 +40,7 @@ read_host text = bracketed text ++ before (colon ∷ []) (after_bracketed text)
 abbrev pub read_host_and_port : Option Text → Text → AuthorityValue
 read_host_and_port user text = record { user_info = user; host = read_host text; port = after colon (after_bracketed text) }
 
+-- the first `@` ends the user info
 unfoldable pub read_authority : Text → AuthorityValue
 read_authority text = elim (after at_sign text) [
   | None ↦ read_host_and_port None text

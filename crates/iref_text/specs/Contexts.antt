@@ -20,7 +20,9 @@ begins_with_scheme bytes = char_set_contains (before (codes "/?#") bytes) colon
 
 -- `//` stands first, or right after that `:`
 abbrev pub has_slashes : Text → Bool
-has_slashes bytes = begins_with (cond (begins_with_scheme bytes) (codes "://") (codes "//")) (cond (begins_with_scheme bytes) (from_first (colon ∷ []) bytes) bytes)
+has_slashes bytes =
+    let scheme = begins_with_scheme bytes in
+    begins_with (cond scheme (codes "://") (codes "//")) (cond scheme (from_first (colon ∷ []) bytes) bytes)
 
 -- `PathContext::from_bytes`
 unfoldable pub context_from : Text → PathContext
@@ -47,7 +49,14 @@ is_no_scheme context p = context.has_scheme || context.has_authority || p.absolu
 abbrev pub reads_as_path : PathContext → PathValue → Bool
 reads_as_path context p = shows_its_list p && is_no_authority context p && is_no_scheme context p
 
--- the bytes are read as a path of segments that may stand in the context
+-- the path may stand in the context, and nothing else is read there
+abbrev pub fits : PathContext → PathValue → Bool
+fits context p = follows_authority context p && reads_as_path context p
+
+-- and each of its segments is in its rule
+abbrev pub is_readable_path : CharTests → PathContext → PathValue → Bool
+is_readable_path set context p = list_all (is_segment set) p.segments && fits context p
+
+-- the bytes are read as a path that may stand in the context
 abbrev pub is_path_in : CharTests → PathContext → Text → Bool
-is_path_in set context bytes =
-    let p = read_path bytes in list_all (is_segment set) p.segments && follows_authority context p && reads_as_path context p
+is_path_in set context bytes = is_readable_path set context (read_path bytes)

@@ -41,7 +41,7 @@ is_unreserved set c = is_ascii_alphanumeric c || char_set_contains (codes "-._~"
 abbrev pub is_sub_delim : ℕ → Bool
 is_sub_delim c = char_set_contains (codes "!$&'()*+,;=") c
 
--- the single characters of user info, reg-name, segment and query
+-- the characters that stand alone in reg-name, user info, segment, fragment and query (sections 3.2 to 3.5)
 unfoldable pub is_reg_name_char : CharTests → ℕ → Bool
 is_reg_name_char set c = is_unreserved set c || is_sub_delim c
 

@@ -13,6 +13,8 @@ pub mod Keys
 pub mod Makers
 pub mod Views
 pub mod AuthoritySlices
+pub mod ComponentTexts
 pub mod ReferenceSlices
 pub mod Components
 pub mod Ports
+pub mod IpGroups

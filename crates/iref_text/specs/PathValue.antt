@@ -37,9 +37,11 @@ pub record IsReadAs (text : Text) (p : PathValue) : Type 0 where
 
 -- ---- the same, computed
 
+-- the pieces between `/`, of which the empty text has none
 abbrev pub segments_of : Text → List Text
 segments_of text = if is_empty text then [] else pieces_at slash text
 
+-- a first `/` makes the path absolute
 unfoldable pub read_path : Text → PathValue
 read_path [] = record { absolute = false; segments = [] }
 read_path (c ∷ cs) =

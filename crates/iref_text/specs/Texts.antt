@@ -1,5 +1,6 @@
 -- Cuts of a text at a mark. The marks are ASCII, so they cut bytes where they cut characters.
-use Rattle.std.specs.Prelude.{ℕ, Bool, true, false, not, ◌==◌, List, [], ◌∷◌, ◌++◌, length, take, drop, Option, Some, None, if◌then◌else◌, map, bytes_eq, max}
+use Rattle.std.specs.Prelude.{ℕ, Bool, true, false, not, ◌==◌, List, [], ◌∷◌, ◌++◌, length, take, drop, Option, Some, None, if◌then◌else◌, map}
+use Rattle.std.specs.Prelude.{bytes_eq, max}
 use Rattle.std.specs.List.{slice_split, before_first, position_or_len}
 use Rattle.std.specs.Char.{char_set_contains}
 use Rattle.iref_text.specs.Rules.{Text}
@@ -21,11 +22,12 @@ after_first_char (c ∷ cs) = Some cs
 abbrev pub after : ℕ → Text → Option Text
 after mark text = after_first_char (from_first (mark ∷ []) text)
 
--- the part and the mark after it, or before it, where there is a part
+-- the part and the mark after it, where there is a part
 abbrev pub part_then : Text → Option Text → Text
 part_then mark None = []
 part_then mark (Some part) = part ++ mark
 
+-- the mark and the part after it, where there is a part
 abbrev pub then_part : Text → Option Text → Text
 then_part mark None = []
 then_part mark (Some part) = mark ++ part
@@ -46,7 +48,7 @@ abbrev pub is_empty : {A : Type 0} → List A → Bool
 is_empty [] = true
 is_empty (x ∷ xs) = false
 
--- the list without its last item, and that item if there is one
+-- the list without its last item
 abbrev pub all_but_last : {A : Type 0} → List A → List A
 all_but_last [] = []
 all_but_last (x ∷ xs) = if is_empty xs then [] else x ∷ all_but_last xs

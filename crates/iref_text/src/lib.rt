@@ -4,6 +4,8 @@
 pub mod authority_laws;
 pub mod chars;
 pub mod common;
+#[cfg(test)]
+mod component_tests;
 pub mod fragment;
 pub mod parse;
 pub mod path_laws;

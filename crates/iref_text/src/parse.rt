@@ -4,6 +4,7 @@ pub mod ascii;
 pub mod authority;
 pub mod cut;
 pub mod host;
+pub mod ip;
 pub mod key;
 pub mod owned;
 pub mod places;

@@ -241,3 +241,73 @@ impl fmt::Display for PctString {
         f.write_str(self.as_str())
     }
 }
+
+#[cfg(test)]
+mod tests {
+    use super::*;
+    use std::hash::{BuildHasher, BuildHasherDefault, FoldHasher};
+    use std::test::Fail;
+
+    // Texts, and what they decode to.
+    const ROWS: [(&str, &[u8]); 7] = [
+        ("", &[]),
+        ("%41b", &[0x41, 0x62]),
+        ("%2541", &[0x25, 0x34, 0x31]),
+        ("%e2%82%AC", &[0xe2, 0x82, 0xac]),
+        ("€", &[0xe2, 0x82, 0xac]),
+        ("%ff%00", &[0xff, 0x00]),
+        ("a b", &[0x61, 0x20, 0x62]),
+    ];
+
+    #[test]
+    fn decoded_bytes(rt: HostRuntime) -> Result<(), Fail> {
+        for (text, bytes) in ROWS {
+            let decoded: Vec<u8> = PctStr::new(text)?.bytes().collect(rt.alloc())?;
+            assert_eq!(rt; decoded.as_slice(), bytes, "{text}");
+        }
+        Ok(())
+    }
+
+    #[test]
+    fn compared_by_decoded_bytes(rt: HostRuntime) -> Result<(), Fail> {
+        let state = BuildHasherDefault::<FoldHasher>::default();
+        for (text, bytes) in ROWS {
+            for (other, others) in ROWS {
+                let (a, b) = (PctStr::new(text)?, PctStr::new(other)?);
+                assert_eq!(rt; a == b, bytes == others, "{text} {other}");
+                assert_eq!(rt; a.cmp(&b), bytes.cmp(others), "{text} {other}");
+                assert_eq!(rt;
+                    state.hash_one(a) == state.hash_one(b),
+                    bytes == others,
+                    "{text} {other}"
+                );
+            }
+        }
+        Ok(())
+    }
+
+    #[test]
+    fn refused_texts_come_back(rt: HostRuntime) -> Result<(), Fail> {
+        for text in ["%", "%4", "a%", "%4g", "%g4", "%%41", "a%4é"] {
+            assert_eq!(rt; PctStr::new(text).err().map(|fault| fault.0), Some(text));
+            let owned = String::from_str(rt.alloc(), text)?;
+            let printed = format!(in rt.alloc();
+                "{}",
+                PctString::new(owned).err().ok_or("accepted")?
+            )?;
+            assert_eq!(rt; printed.as_str(), text);
+        }
+        assert!(rt; PctStr::from_bytes(&[0x61, 0xc3]).is_err());
+        Ok(())
+    }
+
+    #[test]
+    fn owned_texts(rt: HostRuntime) -> Result<(), Fail> {
+        let text = PctStr::new("%41b")?.to_owned(rt.alloc())?;
+        assert_eq!(rt; format!(in rt.alloc(); "{text}")?.as_str(), "%41b");
+        assert!(rt; text == PctString::from_bytes([0x41, 0x62].to_vec(rt.alloc())?)?);
+        assert_eq!(rt; text.into_string().as_str(), "%41b");
+        assert_eq!(rt; PctString::empty(rt.alloc()).as_str(), "");
+        Ok(())
+    }
+}

@@ -10,8 +10,7 @@ ghost use Rattle.iref_text.specs.Authority.{spell_authority};
 ghost use Rattle.iref_text.specs.PathValue.{spell_path};
 ghost use Rattle.iref_text.specs.Places.{places_of, text_at};
 ghost use Rattle.iref_text.specs.Reference.{ReferenceValue, IsReadable, IsReadAsReference, is_readable, spell, read_reference, is_reference, is_full_reference};
-ghost use Rattle.iref_text.specs.declared.parse.split.ReferenceSlices.{ReferenceSlices};
-ghost use Rattle.iref_text.specs.ReferenceSlices.{AreComponents, value_of};
+ghost use Rattle.iref_text.specs.ComponentTexts.{ComponentTexts, AreComponents, read_components};
 
 use crate::chars::CharSet;
 
@@ -47,7 +46,8 @@ pub fn one_reference_a_text<S: CharSet>()
 
 /// What a text is read as: the reference that is computed, where the text is in the grammar.
 pub fn reference_reading<S: CharSet>()
-    ensures { (text : Text) (r : ReferenceValue) → IsReadAsReference S.tests text r ↔ (IsTrue (is_reference S.tests text) × (read_reference text ≡ r)) }
+    ensures { (text : Text) (r : ReferenceValue) → IsReadAsReference S.tests text r
+        ↔ (IsTrue (is_reference S.tests text) × (read_reference text ≡ r)) }
 {}
 
 /// A text is in the grammar exactly if a readable reference spells it.
@@ -64,7 +64,8 @@ pub fn uris_spelled<S: CharSet>()
 /// Each component that is read from a text stands at its place in it.
 pub fn places_hold_the_components()
     ensures scheme { (text : Text) → option_map (text_at text) (places_of text).scheme ≡ (read_reference text).scheme }
-    ensures authority { (text : Text) → option_map (text_at text) (places_of text).authority ≡ option_map spell_authority (read_reference text).authority }
+    ensures authority { (text : Text) → option_map (text_at text) (places_of text).authority
+        ≡ option_map spell_authority (read_reference text).authority }
     ensures path { (text : Text) → text_at text (places_of text).path ≡ spell_path (read_reference text).path }
     ensures query { (text : Text) → option_map (text_at text) (places_of text).query ≡ (read_reference text).query }
     ensures fragment { (text : Text) → option_map (text_at text) (places_of text).fragment ≡ (read_reference text).fragment }
@@ -82,5 +83,5 @@ pub fn uri_reference_in_each_grammar<S: CharSet>()
 
 /// The path that is read from a text may stand where it does, so a text is a reference exactly if each of its components is in its rule.
 pub fn components_tested<S: CharSet>()
-    ensures { (text : Text) (s : ReferenceSlices) → value_of s ≡ read_reference text → Decides (is_reference S.tests text) (AreComponents S.tests s) }
+    ensures { (text : Text) (s : ComponentTexts) → read_components s ≡ read_reference text → Decides (is_reference S.tests text) (AreComponents S.tests s) }
 {}

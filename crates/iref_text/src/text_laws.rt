@@ -5,8 +5,10 @@ ghost use Rattle.std.specs.Prelude.{◌≡◌, ◌↔◌, ℕ, ◌<◌, ◌^◌,
 ghost use Rattle.std.specs.Bool.{Decides};
 ghost use Rattle.iref_text.specs.Rules.{Text, InUtf8};
 ghost use Rattle.iref_text.specs.IpAddresses.{IsIpv4, IsIpv6, IsIpv4Address, IsIpv6Address, ipv4_value, ipv6_value};
-ghost use Rattle.iref_text.specs.Grammar.{IsScheme, IsUserInfo, IsRegName, IsIpvFuture, IsIpLiteral, IsHost, IsPort, IsSegment, IsPath, IsQuery, IsFragment, IsPctStr};
-ghost use Rattle.iref_text.specs.Tests.{is_scheme, is_user_info, is_reg_name, is_ipv4, is_ipv6, is_ipvfuture, is_ip_literal, is_host, is_port, is_segment, is_path, is_query, is_fragment, is_pct_str};
+ghost use Rattle.iref_text.specs.Grammar.{IsScheme, IsUserInfo, IsRegName, IsIpvFuture, IsIpLiteral, IsHost, IsPort, IsSegment, IsPath, IsQuery};
+ghost use Rattle.iref_text.specs.Grammar.{IsFragment, IsPctStr};
+ghost use Rattle.iref_text.specs.Tests.{is_scheme, is_user_info, is_reg_name, is_ipv4, is_ipv6, is_ipvfuture, is_ip_literal, is_host, is_port};
+ghost use Rattle.iref_text.specs.Tests.{is_segment, is_path, is_query, is_fragment, is_pct_str};
 ghost use Rattle.iref_text.specs.Ports.{port_value, port_text};
 
 use crate::chars::CharSet;

@@ -3,9 +3,15 @@
 ghost use Rattle.std.specs.Prelude.{◌≡◌};
 ghost use Rattle.std.specs.Option.{option_copied};
 ghost use Rattle.iref_text.specs.Authority.{read_authority, read_host_and_port, bracketed, after_bracketed};
+ghost use Rattle.iref_text.specs.Authority as authority;
+ghost use Rattle.iref_text.specs.Tests as test;
+ghost use Rattle.iref_text.specs.Tests.{none_or};
 ghost use Rattle.iref_text.specs.AuthoritySlices.{authority_of};
 
+use crate::chars::CharSet;
 use crate::parse::cut::{cut, split_before};
+use crate::parse::host::is_host;
+use crate::parse::scan::{is_port, is_user_info};
 
 /// The parts of an authority, as slices of its text.
 #[derive(Clone, Copy)]
@@ -53,4 +59,35 @@ pub fn split_authority(text: &str) -> AuthoritySlices<'_>
         (user_info, Some(rest)) => split_host(Some(user_info), rest),
         (_, None) => split_host(None, text),
     }
+}
+
+// Whether the user info is in its rule, where there is one.
+fn is_user_info_or_none<C: CharSet>(text: Option<&str>) -> bool
+    ensures { result ≡ none_or (test.is_user_info C.tests) (option_copied text.entry) }
+{
+    match text {
+        Some(text) => is_user_info::<C>(text),
+        None => true,
+    }
+}
+
+// Whether the port is in its rule, where there is one.
+fn is_port_or_none(text: Option<&str>) -> bool
+    ensures { result ≡ none_or test.is_port (option_copied text.entry) }
+{
+    match text {
+        Some(text) => is_port(text),
+        None => true,
+    }
+}
+
+/// Whether the text is an authority (RFC 3986 section 3.2).
+#[tactic(auto, unfolding(crate::specs::Authority::is_authority, crate::specs::Authority::has_authority_parts))]
+pub fn is_authority<C: CharSet>(text: &str) -> bool
+    ensures { result ≡ authority.is_authority C.tests text.now }
+{
+    let parts = split_authority(text);
+    is_user_info_or_none::<C>(parts.user_info)
+        && is_host::<C>(parts.host)
+        && is_port_or_none(parts.port)
 }

@@ -2,21 +2,15 @@
 
 ghost use Rattle.std.specs.Prelude.{◌≡◌, ◌&&◌, [], ◌∷◌, Some};
 ghost use Rattle.std.specs.List.{list_all};
-ghost use Rattle.std.specs.Char.{is_ascii_hexdigit};
 ghost use Rattle.std.specs.Option.{option_copied};
 ghost use Rattle.iref_text.specs.Grammar as grammar;
 ghost use Rattle.iref_text.specs.Texts.{before, after};
 ghost use Rattle.iref_text.specs.Tests as test;
 
+use crate::chars::CharSet;
 use crate::parse::cut::cut;
-use crate::parse::scan::is_future_char;
-
-// Whether each byte is a hexadecimal digit.
-fn are_hexadecimal(bytes: &[u8]) -> bool
-    ensures { result ≡ list_all is_ascii_hexdigit bytes.now }
-{
-    bytes.iter().all(|byte| byte.is_ascii_hexdigit())
-}
+use crate::parse::ip::{are_hexadecimal, ipv4_value, ipv6_value};
+use crate::parse::scan::{is_future_char, is_reg_name};
 
 // Whether the text is hexadecimal digits, one at least.
 fn is_future_version(text: &str) -> bool
@@ -69,4 +63,31 @@ pub fn in_brackets(text: &str) -> Option<&str>
 {
     let (inside, rest) = cut(text.strip_prefix('[')?, ']');
     if rest?.is_empty() { Some(inside) } else { None }
+}
+
+/// Whether the text is an IPv6 address, or one of a future version, in brackets.
+#[tactic(auto, unfolding(crate::specs::Tests::is_ip_literal))]
+pub fn is_ip_literal(text: &str) -> bool
+    ensures { result ≡ test.is_ip_literal text.now }
+{
+    match in_brackets(text) {
+        Some(address) => ipv6_value(address).is_some() || is_ipvfuture(address),
+        None => false,
+    }
+}
+
+/// Whether the text is an IPv4 address.
+#[tactic(auto, unfolding(crate::specs::Tests::is_ipv4))]
+pub fn is_ipv4(text: &str) -> bool
+    ensures { result ≡ test.is_ipv4 text.now }
+{
+    ipv4_value(text).is_some()
+}
+
+/// Whether the text is a host: an IP literal or a registered name, of which IPv4 addresses are some.
+#[tactic(auto, unfolding(crate::specs::Tests::is_host))]
+pub fn is_host<C: CharSet>(text: &str) -> bool
+    ensures { result ≡ test.is_host C.tests text.now }
+{
+    is_ip_literal(text) || is_reg_name::<C>(text)
 }

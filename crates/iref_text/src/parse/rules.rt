@@ -1,11 +1,13 @@
 //! The rules of components, each with its recogniser and what its texts are compared by.
-ghost use Rattle.iref_text.specs.Grammar.{IsScheme, IsPort, IsQuery, IsFragment, IsPctStr};
+ghost use Rattle.iref_text.specs.Grammar.{IsScheme, IsPort, IsQuery, IsFragment, IsPctStr, IsUri, IsUriReference};
 ghost use Rattle.iref_text.specs.Tests.{is_scheme, is_port, is_query, is_fragment, is_pct_str};
+ghost use Rattle.iref_text.specs.Reference.{is_reference, is_full_reference};
 
 use crate::chars::CharSet;
 use crate::parse::key::{DecodedBytes, LowerCase, SameText};
-use crate::parse::scan;
 use crate::parse::view::{Keyed, Rule};
+use crate::parse::{scan, split};
+use crate::reference_laws::{reference_grammar, uri_grammar};
 use crate::text_laws::{
     fragment_grammar, pct_str_grammar, port_grammar, query_grammar, scheme_grammar,
 };
@@ -113,4 +115,38 @@ impl Rule for PctStrRule {
 
 impl Keyed for PctStrRule {
     type Key = DecodedBytes;
+}
+
+/// The rule of references (RFC 3986 section 4.1).
+pub struct ReferenceRule;
+
+impl Rule for ReferenceRule {
+    ghost rule = { IsUriReference };
+
+    ghost test = { is_reference };
+
+    fn accepts<C: CharSet>(text: &str) -> bool {
+        split::is_reference::<C>(text)
+    }
+
+    fn decided<C: CharSet>() {
+        reference_grammar::<C>()
+    }
+}
+
+/// The rule of references with a scheme (RFC 3986 section 3).
+pub struct FullReferenceRule;
+
+impl Rule for FullReferenceRule {
+    ghost rule = { IsUri };
+
+    ghost test = { is_full_reference };
+
+    fn accepts<C: CharSet>(text: &str) -> bool {
+        split::is_full_reference::<C>(text)
+    }
+
+    fn decided<C: CharSet>() {
+        uri_grammar::<C>()
+    }
 }

@@ -231,7 +231,7 @@ fn after_digit(text: &str) -> Option<&str>
     }
 }
 
-// The same of a first character of any kind.
+// What follows the first character or escape, if the rule has it.
 fn after_char_or_escape<R: CharRule>(text: &str) -> Option<&str>
     requires { 0 < length text.now }
     ensures { ScansTo R.allowed 0 0 text.now result }
@@ -256,7 +256,7 @@ fn after_ascii(text: &str) -> &str
     &text[1..]
 }
 
-// What follows the first character or escape, if the rule has it. Most often it is one byte.
+// The same. Most often the first character is one byte, for which the table serves.
 fn after_first<R: CharRule>(text: &str) -> Option<&str>
     requires { 0 < length text.now }
     ensures { ScansTo R.allowed 0 0 text.now result }

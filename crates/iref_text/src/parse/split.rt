@@ -1,14 +1,19 @@
 //! The one split of a reference into its components (RFC 3986 section 4.1 and appendix B).
 
-ghost use Rattle.std.specs.Prelude.{◌≡◌, ◌<◌, [], ◌∷◌};
+ghost use Rattle.std.specs.Prelude.{◌≡◌, ◌<◌, [], ◌∷◌, IfSome, is_some};
+ghost use Rattle.std.specs.Bool.{Decides};
 ghost use Rattle.std.specs.Option.{option_copied};
 ghost use Rattle.iref_text.specs.Grammar.{hash_sign, question_mark};
 ghost use Rattle.iref_text.specs.Texts.{before, from_first, after};
 ghost use Rattle.iref_text.specs.Reference as spec;
-ghost use Rattle.iref_text.specs.Reference.{hierarchy, read_reference};
-ghost use Rattle.iref_text.specs.ReferenceSlices.{value_of};
+ghost use Rattle.iref_text.specs.Reference.{hierarchy, read_reference, is_reference};
+ghost use Rattle.iref_text.specs.ComponentTexts.{spell_components, AreComponents};
+ghost use Rattle.iref_text.specs.ReferenceSlices.{texts_of, value_of};
 
+use crate::chars::CharSet;
+use crate::parse::authority::is_authority;
 use crate::parse::cut::{cut, split_before};
+use crate::parse::scan::{is_fragment, is_path, is_query, is_scheme};
 
 /// The components of a reference, as slices of its text.
 #[derive(Clone, Copy, Debug, PartialEq, Eq)]
@@ -79,6 +84,7 @@ fn split_tail(text: &str) -> (&str, Option<&str>, Option<&str>)
 #[tactic(auto, unfolding(crate::specs::Reference::read_reference))]
 pub fn split_reference(text: &str) -> ReferenceSlices<'_>
     ensures value { value_of result ≡ read_reference text.now }
+    ensures texts { texts_of result ≡ spell_components (read_reference text.now) }
 {
     let (text, query, fragment) = split_tail(text);
     let (scheme, text) = split_scheme(text);
@@ -89,5 +95,52 @@ pub fn split_reference(text: &str) -> ReferenceSlices<'_>
         path,
         query,
         fragment,
+    }
+}
+
+// Whether each slice is in the rule of its component.
+fn are_components<C: CharSet>(slices: ReferenceSlices<'_>) -> bool
+    ensures { Decides result (AreComponents C.tests (texts_of slices.entry)) }
+{
+    slices.scheme.is_none_or(|scheme| is_scheme(scheme))
+        && slices
+            .authority
+            .is_none_or(|authority| is_authority::<C>(authority))
+        && is_path::<C>(slices.path)
+        && slices.query.is_none_or(|query| is_query::<C>(query))
+        && slices
+            .fragment
+            .is_none_or(|fragment| is_fragment::<C>(fragment))
+}
+
+/// The components of a text that is a reference (RFC 3986 section 4.1).
+pub fn parse_reference<C: CharSet>(text: &str) -> Option<ReferenceSlices<'_>>
+    ensures accepted { is_some result ≡ is_reference C.tests text.now }
+    ensures value { IfSome result (λ s. value_of s ≡ read_reference text.now) }
+    ensures texts { IfSome result (λ s. texts_of s ≡ spell_components (read_reference text.now)) }
+    ensures components { IfSome result (λ s. AreComponents C.tests (texts_of s)) }
+{
+    let slices = split_reference(text);
+    if are_components::<C>(slices) {
+        Some(slices)
+    } else {
+        None
+    }
+}
+
+/// Whether the text is a reference (RFC 3986 section 4.1).
+pub fn is_reference<C: CharSet>(text: &str) -> bool
+    ensures { result ≡ spec.is_reference C.tests text.now }
+{
+    parse_reference::<C>(text).is_some()
+}
+
+/// Whether the text is a reference with a scheme (RFC 3986 section 3).
+pub fn is_full_reference<C: CharSet>(text: &str) -> bool
+    ensures { result ≡ spec.is_full_reference C.tests text.now }
+{
+    match parse_reference::<C>(text) {
+        Some(slices) => slices.scheme.is_some(),
+        None => false,
     }
 }
