@@ -1,2 +1,3 @@
 mod NumberRows
 pub mod EmptyLemmas
+pub mod PartLemmas

@@ -1,8 +1,10 @@
--- Hosts from numbers (RFC 5952 section 4 in part).
-use Rattle.std.specs.Prelude.{ℕ, ◌+◌, ◌/◌, ◌%◌, ◌^◌, false, ◌==◌, nat_lt, nat_le, List, [], ◌∷◌, ◌++◌, take, drop, map, decimal, codes, if◌then◌else◌}
+-- Hosts and their numbers (RFC 5952 section 4 in part).
+use Rattle.std.specs.Prelude.{ℕ, ◌+◌, ◌/◌, ◌%◌, ◌^◌, false, ◌==◌, nat_lt, nat_le, List, [], ◌∷◌, ◌++◌, take, drop, map, decimal, codes, Option, option_and_then, if◌then◌else◌}
 use Rattle.std.specs.List.{join_with_byte, prefix_len}
 use Rattle.std.specs.Fmt.{digits}
 use Rattle.iref_text.specs.Rules.{Text}
+use Rattle.iref_text.specs.IpAddresses.{ipv6_value}
+use Rattle.iref_text.specs.Tests.{in_brackets}
 use Rattle.iref_text.specs.Texts.{greatest}
 
 -- the octets of a 32-bit number, and the groups of a 128-bit one
@@ -44,3 +46,7 @@ ipv6_text groups =
 -- `HostBuf::from_ipv6`
 abbrev pub ipv6_host_text : ℕ → Text
 ipv6_host_text n = codes "[" ++ ipv6_text (groups_of n) ++ codes "]"
+
+-- the number of an IPv6 address in brackets
+abbrev pub literal_value : Text → Option ℕ
+literal_value text = option_and_then ipv6_value (in_brackets text)

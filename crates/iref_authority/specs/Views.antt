@@ -1,6 +1,14 @@
 -- What callers see of authorities and their parts.
 use Rattle.iref_text.specs.Rules.{Text}
 use Rattle.iref_text.specs.Views.{view_text, owned_text}
+use Rattle.std.specs.Prelude.{option_map}
+use Rattle.iref_text.specs.Authority.{AuthorityValue}
+use Rattle.iref_text.specs.Components.{port_digits}
+use Rattle.iref_authority.specs.declared.authority.Authority.{Authority}
+use Rattle.iref_authority.specs.declared.authority.AuthorityBuf.{AuthorityBuf}
+use Rattle.iref_authority.specs.declared.authority.AuthorityParts.{AuthorityParts}
+use Rattle.iref_authority.specs.declared.host.Host.{Host}
+use Rattle.iref_authority.specs.declared.host.HostBuf.{HostBuf}
 use Rattle.iref_authority.specs.declared.user_info.UserInfo.{UserInfo}
 use Rattle.iref_authority.specs.declared.user_info.UserInfoBuf.{UserInfoBuf}
 
@@ -10,3 +18,20 @@ user_info_text u = view_text u.text
 
 abbrev pub user_info_buf_text : {C : _} {c : _} → UserInfoBuf C c → Text
 user_info_buf_text u = owned_text u.text
+
+-- the text of a host, borrowed and owned
+abbrev pub host_text : {C : _} {c : _} → Host C c → Text
+host_text h = view_text h.text
+
+abbrev pub host_buf_text : {C : _} {c : _} → HostBuf C c → Text
+host_buf_text h = owned_text h.text
+
+-- the text of an authority, borrowed and owned, and what its parts are
+abbrev pub authority_text : {C : _} {c : _} → Authority C c → Text
+authority_text a = view_text a.text
+
+abbrev pub authority_buf_text : {C : _} {c : _} → AuthorityBuf C c → Text
+authority_buf_text a = owned_text a.text
+
+abbrev pub parts_value : {C : _} {c : _} → AuthorityParts C c → AuthorityValue
+parts_value p = record { user_info = option_map user_info_text p.user_info; host = host_text p.host; port = option_map port_digits p.port }

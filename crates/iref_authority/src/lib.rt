@@ -1,5 +1,7 @@
 //! Authorities of URIs and IRIs (RFC 3986 section 3.2).
 #![tactic(auto)]
 
+pub mod authority;
+pub mod host;
 pub mod rules;
 pub mod user_info;

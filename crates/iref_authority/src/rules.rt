@@ -1,13 +1,15 @@
 //! The rules of an authority and its parts, each with its recogniser and what its texts are compared by.
 
-ghost use Rattle.iref_text.specs.Grammar.{IsUserInfo};
-ghost use Rattle.iref_text.specs.Tests.{is_user_info};
+ghost use Rattle.iref_text.specs.Grammar.{IsUserInfo, IsHost, IsAuthority};
+ghost use Rattle.iref_text.specs.Tests.{is_user_info, is_host};
+ghost use Rattle.iref_text.specs.Authority.{is_authority};
 
+use iref_text::authority_laws::authority_grammar;
 use iref_text::chars::CharSet;
 use iref_text::parse::key::DecodedBytes;
-use iref_text::parse::scan;
 use iref_text::parse::view::{Keyed, Rule};
-use iref_text::text_laws::user_info_grammar;
+use iref_text::parse::{authority, host, scan};
+use iref_text::text_laws::{host_grammar, user_info_grammar};
 
 /// The rule of user infos (RFC 3986 section 3.2.1).
 pub struct UserInfoRule;
@@ -28,4 +30,42 @@ impl Rule for UserInfoRule {
 
 impl Keyed for UserInfoRule {
     type Key = DecodedBytes;
+}
+
+/// The rule of hosts (RFC 3986 section 3.2.2).
+pub struct HostRule;
+
+impl Rule for HostRule {
+    ghost rule = { IsHost };
+
+    ghost test = { is_host };
+
+    fn accepts<C: CharSet>(text: &str) -> bool {
+        host::is_host::<C>(text)
+    }
+
+    fn decided<C: CharSet>() {
+        host_grammar::<C>()
+    }
+}
+
+impl Keyed for HostRule {
+    type Key = DecodedBytes;
+}
+
+/// The rule of authorities (RFC 3986 section 3.2).
+pub struct AuthorityRule;
+
+impl Rule for AuthorityRule {
+    ghost rule = { IsAuthority };
+
+    ghost test = { is_authority };
+
+    fn accepts<C: CharSet>(text: &str) -> bool {
+        authority::is_authority::<C>(text)
+    }
+
+    fn decided<C: CharSet>() {
+        authority_grammar::<C>()
+    }
 }

@@ -7,10 +7,10 @@ ghost use Rattle.iref_text.specs.Tests.{is_user_info};
 ghost use Rattle.iref_text.specs.Makers.{Parses};
 ghost use Rattle.iref_authority.specs.Views.{user_info_text, user_info_buf_text};
 
+use crate::rules::UserInfoRule;
 use iref_text::chars::CharSet;
 use iref_text::common::Memory;
 use iref_text::parse::owned::TextBuf;
-use crate::rules::UserInfoRule;
 use iref_text::parse::view::View;
 use std::alloc::Global;
 use std::convert::TryFrom;
@@ -188,7 +188,8 @@ impl<C: CharSet> UserInfoBuf<C> {
 
     /// The text, with no copy.
     pub fn into_string(self) -> String
-        ensures { string_bytes result ≡ user_info_buf_text self }
+        ensures text { string_bytes result ≡ user_info_buf_text self }
+        ensures in_rule { is_user_info C.tests (string_bytes result) ≡ true }
     {
         let UserInfoBuf { text } = self;
         text.into_string()

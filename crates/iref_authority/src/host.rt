@@ -1,0 +1,273 @@
+//! Hosts (RFC 3986 section 3.2.2).
+ghost use Rattle.std.specs.Prelude.{◌≡◌, true, [], Some, IfOk, is_some};
+ghost use Rattle.std.specs.String.{string_bytes};
+ghost use Rattle.iref_text.specs.Rules.{InUtf8};
+ghost use Rattle.iref_text.specs.Grammar.{IsHost};
+ghost use Rattle.iref_text.specs.IpAddresses.{ipv4_value};
+ghost use Rattle.iref_text.specs.Tests.{is_host, is_ip_literal, is_ipv4};
+ghost use Rattle.iref_authority.specs.HostNumbers.{literal_value};
+ghost use Rattle.iref_text.specs.Makers.{Parses};
+ghost use Rattle.iref_authority.specs.Views.{host_text, host_buf_text};
+
+use crate::rules::HostRule;
+use iref_text::chars::CharSet;
+use iref_text::common::Memory;
+use iref_text::parse::owned::TextBuf;
+use iref_text::parse::view::View;
+use iref_text::parse::{host, ip};
+use std::alloc::Global;
+use std::convert::TryFrom;
+use std::fmt;
+use thiserror::Error;
+
+/// The input is no host.
+#[derive(Clone, Copy, Debug, PartialEq, Eq, Drop, Error)]
+#[error_bound(T: fmt::Display)]
+#[error("{0}")]
+pub struct InvalidHost<T>(pub T);
+
+/// A host.
+#[derive_where(Clone, Copy, Debug, PartialEq, Eq, PartialOrd, Ord, Hash)]
+pub struct Host<'a, C: CharSet> {
+    text: View<'a, HostRule, C>,
+}
+
+impl<'a, C: CharSet> Host<'a, C> {
+    /// The host of this text, or the text.
+    pub fn new(text: &'a str) -> Result<Self, InvalidHost<&'a str>>
+        ensures { Parses (InUtf8 (IsHost C.tests)) text.now host_text (λ fault. fault.0 ≡ text.entry) result }
+    {
+        View::new(text)
+            .map(|text| Host { text })
+            .map_err(InvalidHost)
+    }
+
+    /// The host of these bytes of UTF-8, or the bytes.
+    pub fn from_bytes(bytes: &'a [u8]) -> Result<Self, InvalidHost<&'a [u8]>>
+        ensures { Parses (InUtf8 (IsHost C.tests)) bytes.now host_text (λ fault. fault.0 ≡ bytes.entry) result }
+    {
+        View::from_bytes(bytes)
+            .map(|text| Host { text })
+            .map_err(InvalidHost)
+    }
+
+    /// The host of a text that is known to be one.
+    pub fn new_unchecked(text: &'a str) -> Self
+        requires { is_host C.tests text.now ≡ true }
+        ensures { host_text result ≡ text.now }
+    {
+        Host {
+            text: View::new_unchecked(text),
+        }
+    }
+
+    /// The empty host.
+    #[tactic(auto, using(crate::proofs::EmptyLemmas::is_host_empty))]
+    pub fn empty() -> Self
+        ensures { host_text result ≡ [] }
+    {
+        Host::new_unchecked("")
+    }
+
+    /// The text.
+    pub fn as_str(&self) -> &'a str
+        ensures text { result.now ≡ host_text self.now }
+        ensures in_rule { is_host C.tests result.now ≡ true }
+    {
+        self.text.as_str()
+    }
+
+    /// The bytes of the text.
+    pub fn as_bytes(&self) -> &'a [u8]
+        ensures text { result.now ≡ host_text self.now }
+    {
+        self.as_str().as_bytes()
+    }
+
+    /// Whether it is an IP address in brackets.
+    pub fn is_ip_literal(&self) -> bool
+        ensures { result ≡ is_ip_literal (host_text self.now) }
+    {
+        host::is_ip_literal(self.as_str())
+    }
+
+    /// Whether it is an IPv4 address.
+    pub fn is_ipv4(&self) -> bool
+        ensures { result ≡ is_ipv4 (host_text self.now) }
+    {
+        host::is_ipv4(self.as_str())
+    }
+
+    /// Whether it is an IPv6 address in brackets.
+    pub fn is_ipv6(&self) -> bool
+        ensures { result ≡ is_some (literal_value (host_text self.now)) }
+    {
+        self.to_ipv6().is_some()
+    }
+
+    /// The number of the IPv4 address, its first octet highest.
+    pub fn to_ipv4(&self) -> Option<u32>
+        ensures { result ≡ ipv4_value (host_text self.now) }
+    {
+        ip::ipv4_value(self.as_str())
+    }
+
+    /// The number of the IPv6 address in brackets, its first group highest.
+    pub fn to_ipv6(&self) -> Option<u128>
+        ensures { result ≡ literal_value (host_text self.now) }
+    {
+        match host::in_brackets(self.as_str()) {
+            Some(address) => ip::ipv6_value(address),
+            None => None,
+        }
+    }
+
+    /// An owner of a copy.
+    pub fn to_owned(&self, alloc: Global) -> Result<HostBuf<C>, Memory>
+        ensures { IfOk result (λ copy. host_buf_text copy ≡ host_text self.now) }
+    {
+        let text = TextBuf::from_view(self.text, alloc)?;
+        Ok(HostBuf { text })
+    }
+}
+
+impl<C: CharSet> Default for Host<'_, C> {
+    ghost is_default = { λ host. host_text host ≡ [] };
+
+    fn default() -> Self {
+        Host::empty()
+    }
+}
+
+impl<'a, C: CharSet> TryFrom<&'a str> for Host<'a, C> {
+    type Error = InvalidHost<&'a str>;
+
+    ghost try_from_gives = { λ text result. Parses (InUtf8 (IsHost C.tests)) text.now host_text (λ fault. fault.0 ≡ text) result };
+
+    fn try_from(text: &'a str) -> Result<Self, InvalidHost<&'a str>> {
+        Host::new(text)
+    }
+}
+
+impl<'a, C: CharSet> TryFrom<&'a [u8]> for Host<'a, C> {
+    type Error = InvalidHost<&'a [u8]>;
+
+    ghost try_from_gives = { λ bytes result. Parses (InUtf8 (IsHost C.tests)) bytes.now host_text (λ fault. fault.0 ≡ bytes) result };
+
+    fn try_from(bytes: &'a [u8]) -> Result<Self, InvalidHost<&'a [u8]>> {
+        Host::from_bytes(bytes)
+    }
+}
+
+impl<C: CharSet> fmt::Display for Host<'_, C> {
+    ghost output = { λ host. Some (host_text host) };
+
+    fn fmt<W: fmt::Write>(&self, f: &mut fmt::Formatter<W>) -> fmt::Result {
+        f.write_str(self.as_str())
+    }
+}
+
+/// A host that owns its text.
+#[derive(Drop)]
+#[derive_where(Debug, PartialEq, Eq, PartialOrd, Ord, Hash)]
+pub struct HostBuf<C: CharSet> {
+    text: TextBuf<HostRule, C>,
+}
+
+impl<C: CharSet> HostBuf<C> {
+    /// The host of this text, with no copy, or the text.
+    pub fn new(text: String) -> Result<Self, InvalidHost<String>>
+        ensures { Parses (InUtf8 (IsHost C.tests)) (string_bytes text) host_buf_text (λ fault. fault.0 ≡ text) result }
+    {
+        TextBuf::new(text)
+            .map(|text| HostBuf { text })
+            .map_err(InvalidHost)
+    }
+
+    /// The host of these bytes of UTF-8, with no copy, or the bytes.
+    pub fn from_bytes(bytes: Vec<u8>) -> Result<Self, InvalidHost<Vec<u8>>>
+        ensures { Parses (InUtf8 (IsHost C.tests)) bytes.items host_buf_text (λ fault. fault.0 ≡ bytes) result }
+    {
+        TextBuf::from_bytes(bytes)
+            .map(|text| HostBuf { text })
+            .map_err(InvalidHost)
+    }
+
+    /// The empty host, which takes no memory.
+    #[tactic(auto, using(crate::proofs::EmptyLemmas::is_host_empty))]
+    pub fn empty(alloc: Global) -> Self
+        ensures { host_buf_text result ≡ [] }
+    {
+        HostBuf {
+            text: TextBuf::empty(alloc),
+        }
+    }
+
+    /// The view.
+    pub fn as_host(&self) -> Host<'_, C>
+        ensures { host_text result ≡ host_buf_text self.now }
+    {
+        Host {
+            text: self.text.as_view(),
+        }
+    }
+
+    /// The text.
+    pub fn as_str(&self) -> &str
+        ensures text { result.now ≡ host_buf_text self.now }
+        ensures in_rule { is_host C.tests result.now ≡ true }
+    {
+        self.as_host().as_str()
+    }
+
+    /// The bytes of the text.
+    pub fn as_bytes(&self) -> &[u8]
+        ensures { result.now ≡ host_buf_text self.now }
+    {
+        self.as_str().as_bytes()
+    }
+
+    /// The text, with no copy.
+    pub fn into_string(self) -> String
+        ensures text { string_bytes result ≡ host_buf_text self }
+        ensures in_rule { is_host C.tests (string_bytes result) ≡ true }
+    {
+        let HostBuf { text } = self;
+        text.into_string()
+    }
+
+    /// The bytes of the text, with no copy.
+    pub fn into_bytes(self) -> Vec<u8>
+        ensures { result.items ≡ host_buf_text self }
+    {
+        self.into_string().into_bytes()
+    }
+}
+
+impl<C: CharSet> TryFrom<String> for HostBuf<C> {
+    type Error = InvalidHost<String>;
+
+    ghost try_from_gives = { λ text result. Parses (InUtf8 (IsHost C.tests)) (string_bytes text) host_buf_text (λ fault. fault.0 ≡ text) result };
+
+    fn try_from(text: String) -> Result<Self, InvalidHost<String>> {
+        HostBuf::new(text)
+    }
+}
+
+impl<C: CharSet> TryFrom<Vec<u8>> for HostBuf<C> {
+    type Error = InvalidHost<Vec<u8>>;
+
+    ghost try_from_gives = { λ bytes result. Parses (InUtf8 (IsHost C.tests)) bytes.items host_buf_text (λ fault. fault.0 ≡ bytes) result };
+
+    fn try_from(bytes: Vec<u8>) -> Result<Self, InvalidHost<Vec<u8>>> {
+        HostBuf::from_bytes(bytes)
+    }
+}
+
+impl<C: CharSet> fmt::Display for HostBuf<C> {
+    ghost output = { λ host. Some (host_buf_text host) };
+
+    fn fmt<W: fmt::Write>(&self, f: &mut fmt::Formatter<W>) -> fmt::Result {
+        f.write_str(self.as_str())
+    }
+}
