@@ -9,10 +9,10 @@ use Rattle.iref_text.specs.Grammar.{colon}
 use Rattle.iref_text.specs.Texts.{is_empty, all_but_last}
 use Rattle.iref_text.specs.PathValue.{PathValue, shows_its_list}
 use Rattle.iref_path.specs.Guard.{guarded_list, with_dot}
-use Rattle.iref_text.specs.Contexts.{reads_as_path}
+use Rattle.iref_text.specs.Contexts.{reads_as_path, fits}
 use Rattle.iref_path.specs.NormalList.{is_dot, is_dot_dot, is_name, ends_in_dots, normal}
 use Rattle.iref_path.specs.PathSteps.{lazy_pushed, ends_in_parent, popped, closed_path, followed, pushed, appended, lazy_appended, replaced, joined, normalized, cleared}
-use Rattle.iref_path.proofs.GuardLemmas.{fits, guarded-fits}
+use Rattle.iref_path.proofs.GuardLemmas.{guarded-fits}
 use Rattle.iref_text.proofs.TextLemmas.{first_of_both}
 
 -- what is asked where the list begins with this segment, and whether more follow
@@ -22,9 +22,6 @@ fits_by scheme authority absolute no_text colon_in last =
     && (cond absolute (not (no_text && last)) (not no_text)
     && (authority || not absolute || not no_text)
     && (scheme || authority || absolute || not colon_in))
-
-fits_by-is : (context : PathContext) (absolute : Bool) (s : Text) (rest : List Text) → fits context (record { absolute = absolute; segments = s ∷ rest }) ≡ fits_by context.has_scheme context.has_authority absolute (is_empty s) (char_set_contains s colon) (is_empty rest)
-fits_by-is context absolute s rest = refl
 
 -- one more segment takes nothing away
 fits_by-more : (scheme authority absolute no_text colon_in last : Bool) → fits_by scheme authority absolute no_text colon_in last ≡ true → fits_by scheme authority absolute no_text colon_in false ≡ true

@@ -1,16 +1,12 @@
 -- A guarded path is read as it was meant, wherever it stands.
-use Rattle.std.proofs.Common.{◌≡◌, Bool, true, false, not, cond, ◌&&◌, List, [], ◌∷◌, refl}
+use Rattle.std.proofs.Common.{◌≡◌, Bool, true, false, not, cond, List, [], ◌∷◌, refl}
 use Rattle.std.specs.Char.{char_set_contains}
 use Rattle.iref_text.specs.declared.common.PathContext.{PathContext}
 use Rattle.iref_text.specs.Rules.{Text}
 use Rattle.iref_text.specs.Grammar.{colon}
 use Rattle.iref_text.specs.PathValue.{PathValue, shows_its_list}
 use Rattle.iref_path.specs.Guard.{guarded, guarded_list, with_dot}
-use Rattle.iref_text.specs.Contexts.{follows_authority, reads_as_path}
-
--- what is asked of a path where it stands
-abbrev pub fits : PathContext → PathValue → Bool
-fits context p = follows_authority context p && reads_as_path context p
+use Rattle.iref_text.specs.Contexts.{fits}
 
 at : (has_scheme has_authority absolute : Bool) (segments : List Text) → let context : PathContext = record { has_scheme = has_scheme; has_authority = has_authority } in let p : PathValue = record { absolute = absolute; segments = segments } in fits context (guarded context p) ≡ true
 unfolding guarded

@@ -1,5 +1,5 @@
 -- The normal list is the items that are read from the back, unless these are one empty segment.
-use Rattle.std.proofs.Common.{◌≡◌, Bool, true, false, not, cond, List, [], ◌∷◌, ◌++◌, refl, sym, ◌∙◌, ap, append_assoc}
+use Rattle.std.proofs.Common.{◌≡◌, Bool, true, false, cond, List, [], ◌∷◌, ◌++◌, refl, sym, ◌∙◌, ap, append_assoc}
 use Rattle.std.proofs.lemmas.List.{append-nil}
 use Rattle.iref_text.specs.Rules.{Text}
 use Rattle.iref_text.specs.Texts.{is_empty}

@@ -12,10 +12,16 @@ pub mod ComparisonLemmas
 pub mod CountedLemmas
 pub mod FitsLemmas
 pub mod StepSegmentLemmas
+pub mod ReadableStepLemmas
 pub mod RewritingLemmas
 pub mod BothEndsLemmas
 pub mod JoinedLemmas
 pub mod SettledLemmas
 mod PieceLemmas
-mod GrammarLemmas
+mod DirectoryLemmas
+pub mod GrammarLemmas
 mod UnreadLemmas
+pub mod PathKeyLemmas
+mod PathTextLemmas
+mod RemainingLemmas
+mod NormalGrammarLemmas

@@ -1,5 +1,5 @@
 -- The pieces of a text that is cut at its first or its last slash.
-use Rattle.std.proofs.Common.{◌≡◌, ℕ, Bool, true, false, cond, List, [], ◌∷◌, ◌++◌, Option, length, get_or, take, drop, refl, sym, ◌∙◌, ap, subst, arith, inl, inr}
+use Rattle.std.proofs.Common.{◌≡◌, ℕ, Bool, true, false, cond, List, [], ◌∷◌, ◌++◌, Option, length, get_or, drop, refl, sym, ◌∙◌, ap, subst, arith, inl, inr}
 use Rattle.std.specs.Prelude.{◌==◌, ◌≢◌, ◌<◌, Some, None, is_none, option_map, MatchOption}
 use Rattle.std.specs.Borrow.{Bor}
 use Rattle.std.specs.List.{All, onto_first, last_or}
@@ -10,7 +10,7 @@ use Rattle.std.proofs.lemmas.List.{take-append-drop}
 use Rattle.std.proofs.lemmas.List.Elements.{All-from_get_or}
 use Rattle.std.proofs.lemmas.List.Splits.{slice_split_none, slice_split_at, length-slice_split}
 use Rattle.std.proofs.lemmas.List.Sums.{count_by-le-length}
-use Rattle.std.proofs.lemmas.Str.Pattern.{NoCharPasses-char, drop_at_char, IsSplitOnceResult, split_parts}
+use Rattle.std.proofs.lemmas.Str.Pattern.{NoCharPasses-char, drop_at_char}
 use Rattle.iref_text.specs.Rules.{Text}
 use Rattle.iref_text.specs.Grammar.{slash}
 use Rattle.iref_text.specs.Texts.{pieces_at, is_empty}
@@ -18,13 +18,13 @@ use Rattle.iref_path.specs.Pieces.{pieces_if_some}
 use Rattle.iref_text.specs.PathValue.{segments_of, read_path}
 
 -- no character of the text is a slash
-abbrev LacksSlash : Text → Type 0
+abbrev pub LacksSlash : Text → Type 0
 LacksSlash text = All (λ c. (c == slash) ≡ false) text
 
 lacks_by_index : (text : Text) → ((i : ℕ) → i < length text → get_or text i 0 ≢ slash) → LacksSlash text
 lacks_by_index text h = All-from_get_or (λ c. (c == slash) ≡ false) text 0 (λ i within. let differs = h i within in grind (arith, nat_tests))
 
-lacks_if_none : (text : Text) → NoCharPasses (λ c. c == slash) text → LacksSlash text
+pub lacks_if_none : (text : Text) → NoCharPasses (λ c. c == slash) text → LacksSlash text
 lacks_if_none text h = lacks_by_index text (λ i within. NoCharPasses-char slash text i h (omega arith) within)
 
 -- a text without a slash is one piece
@@ -36,7 +36,7 @@ pieces-front : (front back : Text) → LacksSlash front → pieces_at slash (fro
 pieces-front front back h = slice_split_at (λ c. c == slash) front slash back h refl
 
 -- one piece at least
-some_piece : (text : Text) → (p : Text) × (ps : List Text) × (pieces_at slash text ≡ p ∷ ps)
+pub some_piece : (text : Text) → (p : Text) × (ps : List Text) × (pieces_at slash text ≡ p ∷ ps)
 some_piece [] = ([], [], refl)
 some_piece (c ∷ text) = by (c == slash) (some_piece text)
   where
@@ -64,14 +64,17 @@ pub pieces-uncut : (text : Text) → ((i : ℕ) → i < length text → get_or t
 pieces-uncut text h = pieces-whole text (lacks_by_index text h)
 
 -- what `rsplit_once` gives at a slash
-pub pieces-cut_last : (text front back : Text) → SplitsAroundMatch (RFindsChar slash) text front back → pieces_at slash text ≡ pieces_at slash front ++ back ∷ []
-pieces-cut_last text front back h =
+pub cut_last : (text front back : Text) → SplitsAroundMatch (RFindsChar slash) text front back → (text ≡ front ++ slash ∷ back) × LacksSlash back
+cut_last text front back h =
     let i : ℕ = h.0 in
     let j : ℕ = h.1 in
     let found : drop i text ≡ slash ∷ drop j text = drop_at_char slash text i j h.2.1 (omega arith) in
-    let whole : text ≡ front ++ slash ∷ back = sym (take-append-drop i text) ∙ (λ k. sym h.3 k ++ found k) ∙ ap (λ b. front ++ slash ∷ b) (sym h.4) in
-    let last : LacksSlash back = subst LacksSlash (sym h.4) (lacks_if_none (drop j text) h.2.0) in
-    ap (pieces_at slash) whole ∙ pieces-append front back ∙ ap (λ ps. pieces_at slash front ++ ps) (pieces-whole back last)
+    (sym (take-append-drop i text) ∙ (λ k. sym h.3 k ++ found k) ∙ ap (λ b. front ++ slash ∷ b) (sym h.4), subst LacksSlash (sym h.4) (lacks_if_none (drop j text) h.2.0))
+
+pub pieces-cut_last : (text front back : Text) → SplitsAroundMatch (RFindsChar slash) text front back → pieces_at slash text ≡ pieces_at slash front ++ back ∷ []
+pieces-cut_last text front back h =
+    let found = cut_last text front back h in
+    ap (pieces_at slash) found.0 ∙ pieces-append front back ∙ ap (λ ps. pieces_at slash front ++ ps) (pieces-whole back found.1)
 
 pub pieces-uncut_last : (text : Text) → NoCharPasses (λ c. c == slash) text → pieces_at slash text ≡ text ∷ []
 pieces-uncut_last text h = pieces-whole text (lacks_if_none text h)

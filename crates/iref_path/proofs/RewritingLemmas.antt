@@ -204,12 +204,6 @@ name_last s output h k =
     (first_segment_moved (slash ∷ s) output)))))
     ∙ (λ i. record { input = from_first-all s h i; output = output ++ slash ∷ before-all s h i })
 
-dot_step : (y output : Text) → rewritten_once (record { input = codes "/./" ++ y; output = output }) ≡ record { input = slash ∷ y; output = output }
-dot_step y output = refl
-
-parent_step : (y output : Text) → rewritten_once (record { input = codes "/../" ++ y; output = output }) ≡ record { input = slash ∷ y; output = without_last_segment output }
-parent_step y output = refl
-
 -- ---- what one segment does to the names that stay so far
 
 stay_dot : (front : List Text) → staying_before (front ++ codes "." ∷ []) 0 ≡ staying_before front 0
@@ -364,6 +358,7 @@ removes_dot_segments scheme segments h =
     let up = path_uses_up segments h in
     (up.steps, up.leaves ∙ (λ i. record { input = []; output = spell_path (sym (normalized-under_authority scheme segments) i) }))
 
+-- and what is computed by the rewriting
 pub dot_segments_removed-is : (scheme : Bool) (segments : List Text) → list_all (lacks slash) segments ≡ true
     → let p : PathValue = record { absolute = true; segments = segments } in dot_segments_removed (spell_path p) ≡ spell_path (normalized (record { has_scheme = scheme; has_authority = true }) p)
 dot_segments_removed-is scheme segments h =

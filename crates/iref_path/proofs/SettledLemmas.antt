@@ -1,14 +1,11 @@
 -- A normal list is its own normal list.
-use Rattle.std.proofs.Common.{◌≡◌, ℕ, zero, suc, ◌-◌, Bool, true, false, not, cond, ◌&&◌, ◌||◌, List, [], ◌∷◌, ◌++◌, take, refl, sym, ◌∙◌, ap, arith, codes, append_assoc}
+use Rattle.std.proofs.Common.{◌≡◌, ℕ, zero, suc, ◌-◌, Bool, true, false, not, cond, ◌&&◌, List, [], ◌∷◌, ◌++◌, take, refl, sym, ◌∙◌, ap, arith, append_assoc}
 use Rattle.std.proofs.lemmas.List.Folds.{list_all-append}
 use mathlib.Core.Bool.{true≢false}
-use Rattle.iref_text.specs.declared.common.PathContext.{PathContext}
 use Rattle.iref_text.specs.Rules.{Text}
 use Rattle.iref_text.specs.Texts.{is_empty}
 use Rattle.iref_text.specs.PathValue.{PathValue, is_one_empty}
-use Rattle.iref_path.specs.Guard.{guarded, made_absolute, dot_where_needed, with_dot}
-use Rattle.iref_text.specs.Contexts.{follows_authority, reads_as_path}
-use Rattle.iref_path.specs.NormalList.{is_name, staying_names, stays_before, excess, ends_in_dots, closed, without_lone_empty, kept_segments, normal_segments, normal, open_parents}
+use Rattle.iref_path.specs.NormalList.{is_name, staying_names, stays_before, ends_in_dots, closed, without_lone_empty, kept_segments, normal_segments, normal, open_parents}
 use Rattle.iref_path.proofs.NormalLemmas.{excess-is}
 use Rattle.iref_path.proofs.JoinedLemmas.{without_last, open-append, staying-append, are_names, names_first, open-names, staying-names, are_names-staying, climbs, open-climbs, staying-climbs}
 

@@ -1,15 +1,12 @@
 -- The names that stay, over a list in two parts.
-use Rattle.std.proofs.Common.{◌≡◌, ℕ, zero, suc, ◌+◌, ◌-◌, Bool, true, false, not, cond, ◌&&◌, List, [], ◌∷◌, ◌++◌, refl, sym, ◌∙◌, ap, arith, inl, inr}
-use Rattle.std.specs.Prelude.{◌==◌, replicate, codes}
-use Rattle.std.specs.List.{list_all}
+use Rattle.std.proofs.Common.{◌≡◌, ℕ, ◌+◌, ◌-◌, Bool, true, false, not, cond, ◌&&◌, List, [], ◌∷◌, ◌++◌, refl, sym, ◌∙◌, ap, arith, inl, inr}
+use Rattle.std.specs.Prelude.{◌==◌}
 use Rattle.std.proofs.lemmas.Bool.Decides.{nat_tests, eqb_tells}
-use mathlib.Core.Bool.{true≢false}
 use Rattle.iref_text.specs.Rules.{Text}
 use Rattle.iref_text.specs.Texts.{is_empty, all_but_last}
-use Rattle.iref_path.specs.NormalList.{is_dot, is_dot_dot, is_name, counted, open_parents, stays_before, staying_names, ends_in_dots}
+use Rattle.iref_path.specs.NormalList.{is_dot, is_dot_dot, is_name, counted, open_parents, stays_before, staying_names}
 use Rattle.iref_path.specs.NormalReading.{open_before, staying_before}
 use Rattle.iref_path.proofs.NormalLemmas.{stays_before-is}
-use Rattle.iref_text.proofs.TextLemmas.{both, first_of_both, second_of_both}
 
 pub open_parents-is : (segments : List Text) → open_parents segments ≡ open_before segments 0
 open_parents-is [] = refl

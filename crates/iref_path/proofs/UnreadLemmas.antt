@@ -1,5 +1,5 @@
 -- One segment read from the back.
-use Rattle.std.proofs.Common.{◌≡◌, ℕ, suc, ◌+◌, ◌-◌, Bool, true, false, not, cond, ◌&&◌, List, [], ◌∷◌, refl, sym, ◌∙◌, ap, arith, subst, length, reverse}
+use Rattle.std.proofs.Common.{◌≡◌, ℕ, suc, ◌+◌, ◌-◌, Bool, true, false, not, cond, ◌&&◌, List, [], ◌∷◌, refl, sym, ◌∙◌, arith, subst, length, reverse}
 use Rattle.std.proofs.lemmas.List.{length-reverse}
 use Rattle.std.specs.Prelude.{◌==◌, ◌≢◌, Some, None, codes}
 use Rattle.std.specs.Borrow.{Bor}
@@ -8,7 +8,7 @@ use mathlib.Core.Bool.{true≢false, beq}
 use Rattle.iref_text.specs.Rules.{Text}
 use Rattle.iref_text.specs.PathValue.{PathValue}
 use Rattle.iref_path.specs.NormalList.{is_dot, is_dot_dot, is_name, counted}
-use Rattle.iref_path.specs.CountedEquality.{ItemRead, item_before, items_read, all_items_read, Comparison, IsCountedAnswer, items_compared}
+use Rattle.iref_path.specs.CountedEquality.{item_before, items_read, all_items_read, Comparison, IsCountedAnswer, items_compared}
 use Rattle.iref_path.proofs.CountedLemmas.{compared_same}
 use Rattle.iref_path.specs.declared.equality.Unread.{Unread}
 use Rattle.iref_path.specs.Unread.{GivesSegment, IsAnswer, segments_unread, items_unread, all_items_unread}

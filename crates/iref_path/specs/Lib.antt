@@ -10,3 +10,5 @@ pub mod CountedEquality
 pub mod PathKey
 pub mod Views
 pub mod Unread
+pub mod Remaining
+pub mod NormalViews

@@ -1,5 +1,6 @@
 -- Dot segments removed, with the `..` kept that a relative path cannot cancel (RFC 3986 section 5.2.4, erratum 4547).
-use Rattle.std.specs.Prelude.{ℕ, ◌+◌, ◌-◌, Bool, false, not, ◌&&◌, ◌==◌, List, [], ◌∷◌, ◌++◌, map, replicate, count_by, bytes_eq, codes, if◌then◌else◌}
+use Rattle.std.specs.Prelude.{ℕ, ◌+◌, ◌-◌, Bool, false, not, ◌&&◌, ◌==◌, List, [], ◌∷◌, ◌++◌, map, replicate, count_by, bytes_eq, codes}
+use Rattle.std.specs.Prelude.{if◌then◌else◌}
 use Rattle.std.specs.List.{list_any}
 use Rattle.iref_text.specs.Rules.{Text}
 use Rattle.iref_text.specs.Texts.{beginnings, greatest, is_empty}
@@ -11,6 +12,7 @@ is_dot s = bytes_eq s (codes ".")
 abbrev pub is_dot_dot : Text → Bool
 is_dot_dot s = bytes_eq s (codes "..")
 
+-- a name is any other segment, `%2E` and the empty one among them
 abbrev pub is_name : Text → Bool
 is_name s = not (is_dot s) && not (is_dot_dot s)
 

@@ -2,7 +2,8 @@
 use Rattle.std.specs.Prelude.{map}
 use Rattle.std.specs.declared.cmp.Ordering.{Ordering}
 use Rattle.std.specs.Ordering.{nat_cmp, bool_cmp, ordering_then}
-use Rattle.std.specs.Cmp.Lexicographic.{slice_cmp}
+use Rattle.std.specs.Cmp.{IsTotalOrder, on_total, then_total, bool_cmp_total}
+use Rattle.std.specs.Cmp.Lexicographic.{slice_cmp, nat_list_cmp_total, lists_total}
 use Rattle.percent_encoding.specs.Percent.{percent_decode}
 use Rattle.iref_text.specs.Rules.{Text}
 use Rattle.iref_text.specs.PathValue.{PathValue}
@@ -19,3 +20,8 @@ text_cmp = slice_cmp nat_cmp
 -- relative before absolute, then segment by segment, the shorter list first
 abbrev pub path_key_cmp : PathValue → PathValue → Ordering
 path_key_cmp p q = ordering_then (bool_cmp p.absolute q.absolute) (slice_cmp text_cmp p.segments q.segments)
+
+-- that is a total order
+pub path_keys_total : IsTotalOrder path_key_cmp
+path_keys_total =
+    then_total (on_total (λ (p : PathValue). p.absolute) bool_cmp_total) (on_total (λ (p : PathValue). p.segments) (lists_total nat_list_cmp_total))

@@ -2,8 +2,10 @@
 use Rattle.std.specs.Prelude.{List}
 use Rattle.iref_text.specs.Rules.{Text}
 use Rattle.iref_text.specs.PathValue.{PathValue, read_path}
-use Rattle.iref_text.specs.Views.{view_text}
+use Rattle.iref_text.specs.Views.{view_text, owned_text}
 use Rattle.iref_path.specs.declared.segment.Segment.{Segment}
+use Rattle.iref_path.specs.declared.segment.SegmentBuf.{SegmentBuf}
+use Rattle.iref_path.specs.declared.path.PathBuf.{PathBuf}
 use Rattle.iref_path.specs.Pieces.{pieces_if_some}
 use Rattle.iref_path.specs.declared.path.Path.{Path}
 use Rattle.iref_path.specs.declared.segments.Segments.{Segments}
@@ -23,3 +25,13 @@ segments_left s = pieces_if_some s.rest
 -- the flag and the list that the text of a path is read as
 abbrev pub path_value : {C : _} {c : _} → Path C c → PathValue
 path_value p = read_path (path_text p)
+
+-- the same of the owners
+abbrev pub segment_buf_text : {C : _} {c : _} → SegmentBuf C c → Text
+segment_buf_text s = owned_text s.text
+
+abbrev pub path_buf_text : {C : _} {c : _} → PathBuf C c → Text
+path_buf_text p = owned_text p.text
+
+abbrev pub path_buf_value : {C : _} {c : _} → PathBuf C c → PathValue
+path_buf_value p = read_path (path_buf_text p)

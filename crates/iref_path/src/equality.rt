@@ -8,7 +8,7 @@ ghost use Rattle.iref_path.specs.CountedEquality.{items_compared, IsCountedAnswe
 ghost use Rattle.iref_path.specs.NormalList.{is_name};
 
 use crate::path::Path;
-use crate::pieces::{last_piece, split_root};
+use crate::pieces::{last_piece, segments_fit, split_root};
 use iref_text::chars::CharSet;
 use iref_text::pct::decoded::decoded_eq;
 
@@ -203,6 +203,14 @@ fn path_texts_eq(a: &str, b: &str, steps: &mut Steps) -> bool
 }
 
 ghost use Rattle.iref_path.specs.Views.{path_value};
+
+/// A new count has room for the segments of any two paths.
+pub fn new_steps_have_room<C: CharSet>(a: Path<'_, C>, b: Path<'_, C>)
+    ensures { segment_count (path_value a.entry) + segment_count (path_value b.entry) < 2 ^ 128 }
+{
+    segments_fit(a.as_str());
+    segments_fit(b.as_str());
+}
 
 /// Whether two paths are equal: their flags and their normal lists, each segment decoded. The count grows by the segments
 /// that are read, each of them once.

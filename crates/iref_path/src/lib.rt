@@ -2,8 +2,12 @@
 #![tactic(auto)]
 
 pub mod equality;
+pub mod normal;
 pub mod path;
 pub mod path_laws;
+mod path_text;
 mod pieces;
+mod remaining;
+pub mod rules;
 pub mod segment;
 pub mod segments;

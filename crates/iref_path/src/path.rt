@@ -1,20 +1,31 @@
 //! Paths (RFC 3986 section 3.3).
 
-ghost use Rattle.std.specs.Prelude.{◌≡◌, ◌<◌, ◌^◌, true, not, [], length, codes, option_map};
+ghost use Rattle.std.specs.Prelude.{◌≡◌, ◌<◌, ◌^◌, true, not, [], Some, IfOk, length, codes, option_map};
+ghost use Rattle.std.specs.String.{string_bytes};
+ghost use Rattle.std.specs.Ordering.{eq_by_cmp, on};
+ghost use Rattle.std.specs.Cmp.Rules.{comparing};
+ghost use Rattle.std.proofs.Common.{rules};
 ghost use Rattle.iref_text.specs.Rules.{InUtf8};
 ghost use Rattle.iref_text.specs.Grammar.{IsPath};
 ghost use Rattle.iref_text.specs.Tests.{is_path};
 ghost use Rattle.iref_text.specs.Makers.{Parses};
 ghost use Rattle.iref_text.specs.Texts.{is_empty};
 ghost use Rattle.iref_path.specs.PathFunctions as function;
+ghost use Rattle.iref_path.specs.Views.{path_text, path_buf_text, path_value, path_buf_value, segment_text, segments_left};
+ghost use Rattle.iref_path.specs.PathKey.{path_key, path_key_cmp, path_keys_total};
 
+use crate::equality::{Steps, new_steps_have_room, path_eq_counted};
+use crate::path_text::{directory_text, looks_like_scheme, parent_text};
 use crate::pieces::split_root;
+use crate::rules::PathRule;
 use crate::segment::Segment;
 use crate::segments::Segments;
 use iref_text::chars::CharSet;
-use iref_text::parse::scan;
-use iref_text::parse::view::{Rule, View};
-use iref_text::text_laws::path_grammar;
+use iref_text::common::Memory;
+use iref_text::parse::owned::TextBuf;
+use iref_text::parse::view::View;
+use std::alloc::Global;
+use std::convert::TryFrom;
 use std::fmt;
 use thiserror::Error;
 
@@ -24,23 +35,6 @@ use thiserror::Error;
 #[error("{0}")]
 pub struct InvalidPath<T>(pub T);
 
-/// The rule of paths: any text of the characters of segments and `/`.
-pub struct PathRule;
-
-impl Rule for PathRule {
-    ghost rule = { IsPath };
-
-    ghost test = { is_path };
-
-    fn accepts<C: CharSet>(text: &str) -> bool {
-        scan::is_path::<C>(text)
-    }
-
-    fn decided<C: CharSet>() {
-        path_grammar::<C>()
-    }
-}
-
 /// A path.
 #[derive_where(Clone, Copy, Debug)]
 pub struct Path<'a, C: CharSet> {
@@ -48,8 +42,6 @@ pub struct Path<'a, C: CharSet> {
 }
 
 impl<'a, C: CharSet> Path<'a, C> {
-    ghost use Rattle.iref_path.specs.Views.{path_text, path_value, segment_text, segments_left};
-
     /// The path of a text, or the text.
     pub fn new(text: &'a str) -> Result<Self, InvalidPath<&'a str>>
         ensures { Parses (InUtf8 (IsPath C.tests)) text.now path_text (λ fault. fault.0 ≡ text.entry) result }
@@ -175,11 +167,116 @@ impl<'a, C: CharSet> Path<'a, C> {
         let last = self.last()?;
         if last.is_empty() { None } else { Some(last) }
     }
+
+    /// All up to and with the last `/` (RFC 3986 section 5.2.3): the empty path where there is none.
+    pub fn directory(&self) -> Self
+        ensures { path_text result ≡ function.directory_text (path_text self.now) }
+    {
+        Path::new_unchecked(directory_text::<C>(self.as_str()))
+    }
+
+    /// The path without its last segment, but for the empty path and one relative segment.
+    pub fn parent(&self) -> Option<Self>
+        ensures { option_map path_value result ≡ function.parent (path_value self.now) }
+    {
+        match parent_text::<C>(self.as_str()) {
+            Some(text) => Some(Path::new_unchecked(text)),
+            None => None,
+        }
+    }
+
+    /// The parent, or else the empty path that is absolute where this one is.
+    #[tactic(auto, unfolding(crate::specs::PathFunctions::parent_or_empty))]
+    pub fn parent_or_empty(&self) -> Self
+        ensures { path_value result ≡ function.parent_or_empty (path_value self.now) }
+    {
+        match self.parent() {
+            Some(parent) => parent,
+            None => self.without_segments(),
+        }
+    }
+
+    // The empty path that is absolute where this one is.
+    #[tactic(auto, unfolding(iref_text::specs::PathValue::read_path))]
+    fn without_segments(&self) -> Self
+        ensures { path_value result ≡ record (path_value self.now) { segments = [] } }
+    {
+        if self.is_absolute() {
+            Path::empty_absolute()
+        } else {
+            Path::empty_relative()
+        }
+    }
+
+    /// Whether what stands before the first `:` is a scheme (RFC 3986 section 4.2).
+    pub fn looks_like_scheme(&self) -> bool
+        ensures { result ≡ function.looks_like_scheme (path_text self.now) }
+    {
+        looks_like_scheme(self.as_str())
+    }
+
+    /// An owner of a copy.
+    pub fn to_owned(&self, alloc: Global) -> Result<PathBuf<C>, Memory>
+        ensures { IfOk result (λ copy. path_buf_text copy ≡ path_text self.now) }
+    {
+        let text = TextBuf::from_view(self.text, alloc)?;
+        Ok(PathBuf { text })
+    }
+}
+
+impl<C: CharSet> Default for Path<'_, C> {
+    ghost is_default = { λ path. path_text path ≡ [] };
+
+    fn default() -> Self {
+        Path::empty_relative()
+    }
+}
+
+impl<'a, C: CharSet> TryFrom<&'a str> for Path<'a, C> {
+    type Error = InvalidPath<&'a str>;
+
+    ghost try_from_gives = { λ text result. Parses (InUtf8 (IsPath C.tests)) text.now path_text (λ fault. fault.0 ≡ text) result };
+
+    fn try_from(text: &'a str) -> Result<Self, InvalidPath<&'a str>> {
+        Path::new(text)
+    }
+}
+
+impl<'a, C: CharSet> TryFrom<&'a [u8]> for Path<'a, C> {
+    type Error = InvalidPath<&'a [u8]>;
+
+    ghost try_from_gives = { λ bytes result. Parses (InUtf8 (IsPath C.tests)) bytes.now path_text (λ fault. fault.0 ≡ bytes) result };
+
+    fn try_from(bytes: &'a [u8]) -> Result<Self, InvalidPath<&'a [u8]>> {
+        Path::from_bytes(bytes)
+    }
+}
+
+impl<C: CharSet> fmt::Display for Path<'_, C> {
+    ghost output = { λ path. Some (path_text path) };
+
+    fn fmt<W: fmt::Write>(&self, f: &mut fmt::Formatter<W>) -> fmt::Result {
+        f.write_str(self.as_str())
+    }
+}
+
+impl<C: CharSet> PartialEq for Path<'_, C> {
+    ghost eq = { eq_by_cmp (on (λ p. path_key (path_value p)) path_key_cmp) };
+
+    ghost laws = { Prim.search (path_keys_total, comparing, rules) };
+
+    #[tactic(auto, using(crate::proofs::PathKeyLemmas::tie_from_decides))]
+    fn eq(&self, other: &Self) -> bool {
+        new_steps_have_room(*self, *other);
+        path_eq_counted(*self, *other, &mut Steps::new())
+    }
+}
+
+impl<C: CharSet> Eq for Path<'_, C> {
+    ghost laws = { Prim.search (path_keys_total, comparing, rules) };
 }
 
 impl<'a, C: CharSet> IntoIterator for Path<'a, C> {
-    ghost use Rattle.iref_path.specs.Views.{path_value, segments_left};
-
     type Item = Segment<'a, C>;
 
     type IntoIter = Segments<'a, C>;
@@ -189,4 +286,122 @@ impl<'a, C: CharSet> IntoIterator for Path<'a, C> {
     fn into_iter(self) -> Segments<'a, C> {
         self.segments()
     }
+}
+
+/// A path that owns its text.
+#[derive(Drop)]
+#[derive_where(Debug)]
+pub struct PathBuf<C: CharSet> {
+    text: TextBuf<PathRule, C>,
+}
+
+impl<C: CharSet> PathBuf<C> {
+    /// The path of this text, with no copy, or the text.
+    pub fn new(text: String) -> Result<Self, InvalidPath<String>>
+        ensures { Parses (InUtf8 (IsPath C.tests)) (string_bytes text) path_buf_text (λ fault. fault.0 ≡ text) result }
+    {
+        TextBuf::new(text)
+            .map(|text| PathBuf { text })
+            .map_err(InvalidPath)
+    }
+
+    /// The path of these bytes of UTF-8, with no copy, or the bytes.
+    pub fn from_bytes(bytes: Vec<u8>) -> Result<Self, InvalidPath<Vec<u8>>>
+        ensures { Parses (InUtf8 (IsPath C.tests)) bytes.items path_buf_text (λ fault. fault.0 ≡ bytes) result }
+    {
+        TextBuf::from_bytes(bytes)
+            .map(|text| PathBuf { text })
+            .map_err(InvalidPath)
+    }
+
+    /// The empty path, which takes no memory.
+    #[tactic(auto, using(crate::proofs::GrammarLemmas::empty_paths))]
+    pub fn empty(alloc: Global) -> Self
+        ensures { path_buf_text result ≡ [] }
+    {
+        PathBuf {
+            text: TextBuf::empty(alloc),
+        }
+    }
+
+    /// The view.
+    pub fn as_path(&self) -> Path<'_, C>
+        ensures { path_text result ≡ path_buf_text self.now }
+    {
+        Path {
+            text: self.text.as_view(),
+        }
+    }
+
+    /// The text.
+    pub fn as_str(&self) -> &str
+        ensures text { result.now ≡ path_buf_text self.now }
+        ensures in_rule { is_path C.tests result.now ≡ true }
+    {
+        self.as_path().as_str()
+    }
+
+    /// The bytes of the text.
+    pub fn as_bytes(&self) -> &[u8]
+        ensures { result.now ≡ path_buf_text self.now }
+    {
+        self.as_str().as_bytes()
+    }
+
+    /// The text, with no copy.
+    pub fn into_string(self) -> String
+        ensures { string_bytes result ≡ path_buf_text self }
+    {
+        let PathBuf { text } = self;
+        text.into_string()
+    }
+
+    /// The bytes of the text, with no copy.
+    pub fn into_bytes(self) -> Vec<u8>
+        ensures { result.items ≡ path_buf_text self }
+    {
+        self.into_string().into_bytes()
+    }
+}
+
+impl<C: CharSet> TryFrom<String> for PathBuf<C> {
+    type Error = InvalidPath<String>;
+
+    ghost try_from_gives = { λ text result. Parses (InUtf8 (IsPath C.tests)) (string_bytes text) path_buf_text (λ fault. fault.0 ≡ text) result };
+
+    fn try_from(text: String) -> Result<Self, InvalidPath<String>> {
+        PathBuf::new(text)
+    }
+}
+
+impl<C: CharSet> TryFrom<Vec<u8>> for PathBuf<C> {
+    type Error = InvalidPath<Vec<u8>>;
+
+    ghost try_from_gives = { λ bytes result. Parses (InUtf8 (IsPath C.tests)) bytes.items path_buf_text (λ fault. fault.0 ≡ bytes) result };
+
+    fn try_from(bytes: Vec<u8>) -> Result<Self, InvalidPath<Vec<u8>>> {
+        PathBuf::from_bytes(bytes)
+    }
+}
+
+impl<C: CharSet> fmt::Display for PathBuf<C> {
+    ghost output = { λ path. Some (path_buf_text path) };
+
+    fn fmt<W: fmt::Write>(&self, f: &mut fmt::Formatter<W>) -> fmt::Result {
+        f.write_str(self.as_str())
+    }
+}
+
+impl<C: CharSet> PartialEq for PathBuf<C> {
+    ghost eq = { eq_by_cmp (on (λ p. path_key (path_buf_value p)) path_key_cmp) };
+
+    ghost laws = { Prim.search (path_keys_total, comparing, rules) };
+
+    fn eq(&self, other: &Self) -> bool {
+        self.as_path() == other.as_path()
+    }
+}
+
+impl<C: CharSet> Eq for PathBuf<C> {
+    ghost laws = { Prim.search (path_keys_total, comparing, rules) };
 }

@@ -60,3 +60,10 @@ pub(crate) fn piece_count(text: &str) -> usize
 {
     slash_count(text) + 1
 }
+
+/// The segments of a path can be counted.
+pub(crate) fn segments_fit(path: &str)
+    ensures { length (read_path path.now).segments < 2 ^ 64 }
+{
+    let _segments = split_root(path);
+}

@@ -1,6 +1,6 @@
 use Rattle.std.proofs.Common.{◌≡◌, length}
 use Rattle.iref_path.specs.CountedEquality.{items_compared}
-use Rattle.iref_path.specs.Unread.{HaveRoom, IsCountable, AreCounted, IsShorter, items_unread, segments_unread}
+use Rattle.iref_path.specs.Unread.{HaveRoom, IsCountable, AreCounted, IsShorter, items_unread}
 use Rattle.iref_path.proofs.equality.items_eq.Given as goal
 
 abbrev pub invariant-loop-item : goal.invariant-loop-item

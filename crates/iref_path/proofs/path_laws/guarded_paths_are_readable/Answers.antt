@@ -1,5 +1,5 @@
-use Rattle.iref_path.proofs.GuardLemmas.{guarded-fits}
+use Rattle.iref_path.proofs.GuardLemmas.{guarded-fits, guarded_list-shows}
 use Rattle.iref_path.proofs.path_laws.guarded_paths_are_readable.Goals as goal
 
 pub returns : goal.returns
-returns c = guarded-fits
+returns c = record { context = guarded-fits; list = guarded_list-shows }

@@ -1,0 +1,96 @@
+//! The normal segments of a path, from both ends (RFC 3986 section 5.2.4).
+
+ghost use Rattle.std.specs.Prelude.{◌≡◌, true, length};
+ghost use Rattle.std.specs.List.{list_all};
+ghost use Rattle.std.specs.Iterator.{YieldsFirstBy, YieldsLastBy, item_count};
+ghost use Rattle.iref_text.specs.PathValue.{read_path};
+ghost use Rattle.iref_text.specs.Tests.{is_path, is_segment};
+ghost use Rattle.iref_path.specs.NormalList.{normal_segments};
+ghost use Rattle.iref_path.specs.Remaining.{IsReadable, is_settled, normal_left};
+
+use crate::path::Path;
+use crate::remaining::Remaining;
+use crate::segment::Segment;
+use iref_text::chars::CharSet;
+use std::marker::PhantomData;
+
+/// The normal segments of a path that are left.
+#[derive(Drop)]
+pub struct NormalizedSegments<'a, C: CharSet> {
+    left: Remaining<'a>,
+    count: usize,
+    chars: PhantomData<C>,
+    ghost readable: { IsReadable left },
+    ghost settled: { is_settled left ≡ true },
+    ghost counted: { count ≡ length (normal_left left) },
+    ghost in_grammar: { list_all (is_segment C.tests) (normal_left left) ≡ true },
+}
+
+impl<'a, C: CharSet> NormalizedSegments<'a, C> {
+    ghost use Rattle.iref_path.specs.NormalViews.{normal_segments_left};
+
+    /// Those of a path's text.
+    pub(crate) fn of_text(path: &'a str) -> Self
+        requires { is_path C.tests path.now ≡ true }
+        ensures { normal_segments_left result ≡ normal_segments (read_path path.now) }
+    {
+        let (left, count) = Remaining::new(path);
+        NormalizedSegments {
+            left,
+            count,
+            chars: PhantomData,
+        }
+    }
+}
+
+impl<'a, C: CharSet> Path<'a, C> {
+    ghost use Rattle.iref_path.specs.Views.{path_value};
+    ghost use Rattle.iref_path.specs.NormalViews.{normal_segments_left};
+
+    /// The normal segments: the `..` that nothing cancels stand first where the path is relative.
+    pub fn normalized_segments(&self) -> NormalizedSegments<'a, C>
+        ensures { normal_segments_left result ≡ normal_segments (path_value self.now) }
+    {
+        NormalizedSegments::of_text(self.as_str())
+    }
+}
+
+impl<'a, C: CharSet> Iterator for NormalizedSegments<'a, C> {
+    ghost use Rattle.iref_path.specs.Views.{segment_text};
+    ghost use Rattle.iref_path.specs.NormalViews.{normal_segments_left};
+
+    type Item = Segment<'a, C>;
+
+    ghost next_gives = { YieldsFirstBy segment_text normal_segments_left };
+
+    ghost remaining = { item_count normal_segments_left };
+
+    fn next(&mut self) -> Option<Segment<'a, C>> {
+        let text = self.left.next()?;
+        self.count -= 1;
+        Some(Segment::new_unchecked(text))
+    }
+
+    fn size_hint(&self) -> (usize, Option<usize>) {
+        (self.count, Some(self.count))
+    }
+}
+
+impl<'a, C: CharSet> DoubleEndedIterator for NormalizedSegments<'a, C> {
+    ghost use Rattle.iref_path.specs.Views.{segment_text};
+    ghost use Rattle.iref_path.specs.NormalViews.{normal_segments_left};
+
+    ghost next_back_gives = { YieldsLastBy segment_text normal_segments_left };
+
+    fn next_back(&mut self) -> Option<Segment<'a, C>> {
+        let text = self.left.next_back()?;
+        self.count -= 1;
+        Some(Segment::new_unchecked(text))
+    }
+}
+
+impl<C: CharSet> ExactSizeIterator for NormalizedSegments<'_, C> {
+    fn len(&self) -> usize {
+        self.count
+    }
+}

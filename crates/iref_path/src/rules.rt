@@ -1,0 +1,48 @@
+//! The rules of segments and paths, each with its recogniser.
+
+ghost use Rattle.iref_text.specs.Grammar.{IsPath, IsSegment};
+ghost use Rattle.iref_text.specs.Tests.{is_path, is_segment};
+
+use iref_text::chars::CharSet;
+use iref_text::parse::key::DecodedBytes;
+use iref_text::parse::scan;
+use iref_text::parse::view::{Keyed, Rule};
+use iref_text::text_laws::{path_grammar, segment_grammar};
+
+/// The rule of segments.
+pub struct SegmentRule;
+
+impl Rule for SegmentRule {
+    ghost rule = { IsSegment };
+
+    ghost test = { is_segment };
+
+    fn accepts<C: CharSet>(text: &str) -> bool {
+        scan::is_segment::<C>(text)
+    }
+
+    fn decided<C: CharSet>() {
+        segment_grammar::<C>()
+    }
+}
+
+impl Keyed for SegmentRule {
+    type Key = DecodedBytes;
+}
+
+/// The rule of paths: any text of the characters of segments and `/`.
+pub struct PathRule;
+
+impl Rule for PathRule {
+    ghost rule = { IsPath };
+
+    ghost test = { is_path };
+
+    fn accepts<C: CharSet>(text: &str) -> bool {
+        scan::is_path::<C>(text)
+    }
+
+    fn decided<C: CharSet>() {
+        path_grammar::<C>()
+    }
+}
