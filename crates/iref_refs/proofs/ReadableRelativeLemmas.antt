@@ -19,7 +19,7 @@ use Rattle.iref_path.proofs.JoinedLemmas.{climbs}
 use Rattle.iref_path.proofs.StepSegmentLemmas.{TakesDots, normal-in, guarded-in}
 use Rattle.iref_refs.proofs.LeadingLemmas.{names_down, names_down-all, climb_between, steps-are}
 use Rattle.iref_refs.proofs.RelativeLemmas.{at_no_root, path_down, stands}
-use Rattle.iref_refs.proofs.ReferenceStepLemmas.{is_segment-dots}
+use Rattle.iref_path.proofs.ReadableStepLemmas.{is_segment-dots}
 
 -- ---- what each segment passes
 

@@ -2,16 +2,13 @@
 use Rattle.std.proofs.Common.{◌≡◌, Bool, true, ◌&&◌, List, [], refl}
 use Rattle.std.specs.Prelude.{Option, Some, None, is_some, is_none, option_map}
 use Rattle.std.specs.List.{list_all}
-use Rattle.std.specs.Str.{is_utf8, chars}
-use Rattle.std.specs.Char.{encode_utf8}
 use Rattle.iref_text.specs.declared.common.PathContext.{PathContext}
 use Rattle.iref_text.specs.Characters.{CharTests}
 use Rattle.iref_text.specs.Rules.{Text}
-use Rattle.iref_text.specs.Grammar.{is_reg_name_char, is_user_info_char, is_path_char}
-use Rattle.iref_text.specs.Tests.{owed_after, is_scheme, is_segment, is_query, is_fragment, is_user_info, is_host, is_port, none_or}
+use Rattle.iref_text.specs.Tests.{is_scheme, is_segment, is_query, is_fragment, is_user_info, is_host, is_port, none_or}
 use Rattle.iref_text.specs.Authority.{AuthorityValue, has_authority_parts}
 use Rattle.iref_text.specs.PathValue.{PathValue, shows_its_list, spell_path}
-use Rattle.iref_text.specs.Contexts.{follows_authority, reads_as_path, is_no_authority, is_no_scheme}
+use Rattle.iref_text.specs.Contexts.{follows_authority, reads_as_path, is_no_authority, is_no_scheme, fits}
 use Rattle.iref_path.specs.PathSteps.{lazy_pushed, popped, pushed, appended, lazy_appended, replaced, joined, normalized, cleared}
 use Rattle.iref_text.specs.Reference.{ReferenceValue, context_of, is_readable}
 use Rattle.iref_refs.specs.ComponentSteps.{guarded_reference, with_scheme, path_after_new_authority, with_authority, with_path, with_query, with_fragment, with_authority_step, with_path_step, with_normal_path, with_new_normal_path}
@@ -19,19 +16,15 @@ use Rattle.iref_authority.specs.AuthoritySteps.{with_user_info, with_host, with_
 use Rattle.iref_refs.specs.Key.{key}
 use Rattle.iref_text.proofs.TextLemmas.{both, first_of_both, both_true}
 use Rattle.iref_text.proofs.ReadablePartsLemmas.{readable_parts, readable_from}
-use Rattle.iref_path.proofs.GuardLemmas.{fits, guarded-fits}
+use Rattle.iref_path.proofs.GuardLemmas.{guarded-fits}
 use Rattle.iref_path.proofs.RewritingLemmas.{path_removes_dot_segments}
 use Rattle.iref_path.specs.DotSegments.{RemovesDotSegments}
 use Rattle.iref_text.specs.Grammar.{slash}
 use Rattle.iref_text.specs.Texts.{lacks}
 use Rattle.iref_path.proofs.NormalPathLemmas.{normalized-normalized, path_key-normalized}
+use Rattle.iref_path.proofs.ReadableStepLemmas.{is_segment-dots}
 use Rattle.iref_path.proofs.FitsLemmas.{lazy_pushed-fits, popped-fits, pushed-fits, appended-fits, lazy_appended-fits, replaced-fits, joined-fits, normalized-fits, cleared-fits}
-use Rattle.iref_path.proofs.StepSegmentLemmas.{TakesDots, all_in, in-cond, guarded-in, lazy_pushed-in, popped-in, pushed-in, appended-in, lazy_appended-in, joined-in, normalized-in}
-
--- the segments `.`, `..` and the empty one are in their rule
-pub is_segment-dots : (set : CharTests) → TakesDots (is_segment set)
-unfolding is_utf8 chars encode_utf8 owed_after is_reg_name_char is_user_info_char is_path_char is_segment
-is_segment-dots set = record { empty = refl; dot = refl; parent = refl }
+use Rattle.iref_path.proofs.StepSegmentLemmas.{all_in, in-cond, guarded-in, lazy_pushed-in, popped-in, pushed-in, appended-in, lazy_appended-in, joined-in, normalized-in}
 
 -- ---- path steps
 

@@ -13,7 +13,8 @@ use Rattle.iref_text.specs.Reference.{ReferenceValue, is_readable}
 use Rattle.iref_refs.specs.Resolution.{merged, is_no_path, target_path, target, resolved}
 use Rattle.iref_path.proofs.StepSegmentLemmas.{normal-in}
 use Rattle.iref_refs.proofs.LeadingLemmas.{all_last}
-use Rattle.iref_refs.proofs.ReferenceStepLemmas.{is_segment-dots, HasComponents, readable_components, guarded_reference-readable}
+use Rattle.iref_path.proofs.ReadableStepLemmas.{is_segment-dots}
+use Rattle.iref_refs.proofs.ReferenceStepLemmas.{HasComponents, readable_components, guarded_reference-readable}
 
 module _ (set : CharTests) (base r : ReferenceValue) (own_base : HasComponents set base) (own : HasComponents set r) where
   normal-components : list_all (is_segment set) (normal r.path).segments ≡ true

@@ -5,3 +5,4 @@ pub mod Relative
 pub mod RelativeLaws
 pub mod ReferenceSuffix
 pub mod ReferenceParts
+pub mod References

@@ -2,6 +2,7 @@
 #![tactic(auto)]
 
 pub mod key_laws;
+pub mod reference;
 pub mod relative_laws;
 pub mod resolution_laws;
 pub mod step_laws;

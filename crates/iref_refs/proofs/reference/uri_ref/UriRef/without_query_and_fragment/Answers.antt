@@ -1,0 +1,17 @@
+use Rattle.std.proofs.Common.{[], ◌∷◌, ap, ◌∙◌}
+use Rattle.iref_text.specs.Grammar.{question_mark}
+use Rattle.iref_text.specs.Texts.{before}
+use Rattle.iref_text.specs.Reference.{hierarchy, is_reference, read_reference}
+use Rattle.iref_text.proofs.FrontLemmas.{read_reference-hierarchy, is_reference-hierarchy}
+use Rattle.iref_refs.specs.References.{uri_ref_text}
+use Rattle.iref_refs.proofs.reference.uri_ref.UriRef.without_query_and_fragment.Goals as goal
+
+pub new_unchecked-requires : goal.new_unchecked-requires
+new_unchecked-requires g c =
+    ap (is_reference g.C.CharSet.tests) (c.cut-2.ensures.before ∙ ap (before (question_mark ∷ [])) c.cut.ensures.before)
+    ∙ is_reference-hierarchy g.C.CharSet.tests c.as_str.result.now c.as_str.ensures.in_rule
+
+pub returns-clause-value : goal.returns-clause-value
+returns-clause-value g c =
+    ap read_reference (c.new_unchecked.ensures ∙ c.cut-2.ensures.before ∙ ap (before (question_mark ∷ [])) c.cut.ensures.before ∙ ap hierarchy c.as_str.ensures.text)
+    ∙ read_reference-hierarchy (uri_ref_text c.args.self.now)

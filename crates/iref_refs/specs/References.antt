@@ -1,0 +1,46 @@
+-- What callers see of references and of their parts.
+use Rattle.std.specs.Prelude.{Some, option_map}
+use Rattle.iref_text.specs.Rules.{Text}
+use Rattle.iref_text.specs.Views.{view_text}
+use Rattle.iref_text.specs.Components.{scheme_text, query_text, fragment_text}
+use Rattle.iref_text.specs.ComponentTexts.{ComponentTexts}
+use Rattle.iref_text.specs.Reference.{ReferenceValue, read_reference}
+use Rattle.iref_path.specs.Views.{path_text}
+use Rattle.iref_authority.specs.Views.{authority_text}
+use Rattle.iref_refs.specs.declared.reference.uri_ref.UriRef.{UriRef}
+use Rattle.iref_refs.specs.declared.reference.uri.Uri.{Uri}
+use Rattle.iref_refs.specs.declared.reference.parts.UriRefParts.{UriRefParts}
+use Rattle.iref_refs.specs.declared.reference.parts.UriParts.{UriParts}
+
+-- the text of a reference, and what it is read as
+abbrev pub uri_ref_text : {C : _} {c : _} → UriRef C c → Text
+uri_ref_text r = view_text r.text
+
+abbrev pub uri_ref_value : {C : _} {c : _} → UriRef C c → ReferenceValue
+uri_ref_value r = read_reference (uri_ref_text r)
+
+-- the texts of the parts
+abbrev pub uri_ref_part_texts : {C : _} {c : _} → UriRefParts C c → ComponentTexts
+uri_ref_part_texts p = record {
+  scheme = option_map scheme_text p.scheme;
+  authority = option_map authority_text p.authority;
+  path = path_text p.path;
+  query = option_map query_text p.query;
+  fragment = option_map fragment_text p.fragment;
+}
+
+-- the same of a URI
+abbrev pub uri_text : {C : _} {c : _} → Uri C c → Text
+uri_text u = view_text u.text
+
+abbrev pub uri_value : {C : _} {c : _} → Uri C c → ReferenceValue
+uri_value u = read_reference (uri_text u)
+
+abbrev pub uri_part_texts : {C : _} {c : _} → UriParts C c → ComponentTexts
+uri_part_texts p = record {
+  scheme = Some (scheme_text p.scheme);
+  authority = option_map authority_text p.authority;
+  path = path_text p.path;
+  query = option_map query_text p.query;
+  fragment = option_map fragment_text p.fragment;
+}
