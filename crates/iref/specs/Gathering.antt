@@ -14,6 +14,10 @@ Lacks mark text = All (λ b. (b == mark) ≡ false) text
 abbrev pub IsLine : Text → Type 0
 IsLine text = Lacks newline text
 
+-- the text has grown at its end
+abbrev pub Extends : Text → Text → Type 0
+Extends old new = (more : Text) × (new ≡ old ++ more)
+
 -- where the writer tells its bytes, they have grown by the text
 abbrev pub Writes : Option Text → Option Text → Text → Type 0
 Writes old new text = (xs : Text) → old ≡ Some xs → new ≡ Some (xs ++ text)

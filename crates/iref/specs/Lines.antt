@@ -6,9 +6,10 @@ use Rattle.iref_text.specs.Characters.{uri_chars}
 use Rattle.iref_text.specs.Texts.{before, after, pieces_at, is_empty}
 use Rattle.iref_text.specs.Tests.{is_scheme, is_user_info, is_host, is_port, is_path, is_segment, is_query, is_fragment, none_or}
 use Rattle.iref_text.specs.IpAddresses.{all_some}
-use Rattle.iref_text.specs.Authority.{is_authority, spell_authority}
+use Rattle.iref_text.specs.Authority.{is_authority}
 use Rattle.iref_text.specs.PathValue.{spell_path, read_path}
 use Rattle.iref_path.specs.Guard.{guarded}
+use Rattle.iref_text.specs.ComponentTexts.{ComponentTexts, spell_components}
 use Rattle.iref_text.specs.Contexts.{alone}
 use Rattle.iref_path.specs.NormalList.{normal}
 use Rattle.iref_text.specs.Reference.{ReferenceValue, spell, read_reference, is_reference, is_full_reference}
@@ -85,7 +86,7 @@ all_verbs =
 
 -- the verbs that the program has so far
 abbrev pub program_verbs : Verbs
-program_verbs = []
+program_verbs = (codes "parts", one_text Parts) ∷ []
 
 abbrev pub read_fields : Verbs → List Text → Option Request
 read_fields verbs [] = None
@@ -127,18 +128,17 @@ abbrev pub part_field : Option Text → Text
 part_field None = codes "-"
 part_field (Some part) = equals_sign ∷ part
 
-abbrev pub part_fields : ReferenceValue → Text
-part_fields r =
+abbrev pub part_fields : ComponentTexts → Text
+part_fields t =
     join_with_byte tab
-    (part_field r.scheme ∷ part_field (option_map spell_authority r.authority) ∷ part_field (Some (spell_path r.path))
-    ∷ part_field r.query ∷ part_field r.fragment ∷ [])
+    (part_field t.scheme ∷ part_field t.authority ∷ part_field (Some t.path) ∷ part_field t.query ∷ part_field t.fragment ∷ [])
 
 abbrev pub edits_answer : EditsOutcome → LineAnswer
 edits_answer (Ok r) = Answered (spell r)
 edits_answer (Err refused) = RefusedEdit
 
 unfoldable pub answer_to : Request → LineAnswer
-answer_to (Parts r) = Answered (part_fields (read_reference r))
+answer_to (Parts r) = Answered (part_fields (spell_components (read_reference r)))
 answer_to (Resolve r base) = Answered (spell (resolved (read_reference base) (read_reference r)))
 answer_to (Relative target base) = Answered (spell (relative_to (read_reference target) (read_reference base)))
 answer_to (Normal p) = Answered (spell_path (guarded alone (normal (read_path p))))

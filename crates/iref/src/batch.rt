@@ -4,8 +4,12 @@ ghost use Rattle.iref_text.specs.Rules.{Text};
 ghost use Rattle.iref.specs.Runs.{EndsWell, EndsEarly};
 
 mod answers;
+mod cut;
 mod lines;
+mod request;
 mod streams;
+#[cfg(test)]
+mod tests;
 
 use lines::Lines;
 use std::alloc::Global;

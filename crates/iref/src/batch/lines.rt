@@ -1,5 +1,5 @@
 //! Lines as their bytes come in, and the replies to them.
-ghost use Rattle.std.specs.Prelude.{◌≡◌, ◌++◌, ◌∷◌, [], true, false, is_err, OnOk, OnErr, MatchOption, codes};
+ghost use Rattle.std.specs.Prelude.{◌≡◌, ◌++◌, ◌∷◌, [], true, false, is_err, OnOk, OnErr, codes};
 ghost use Rattle.iref_text.specs.Rules.{Text};
 ghost use Rattle.iref_text.specs.Texts.{is_empty};
 ghost use Rattle.iref.specs.Lines.{newline, lines_of};
@@ -7,20 +7,12 @@ ghost use Rattle.iref.specs.Runs.{AnswersAll, AnswersBegun};
 ghost use Rattle.iref.specs.Gathering.{Lacks, Writes, WritesPart, Gains, Replies, RepliesPart, InRun};
 
 use super::answers::answer_line;
+use super::cut::cut_at;
 use super::streams::{Fault, Sink};
-use memchr::memchr;
 use std::alloc::Global;
 
 /// How many bytes of replies are gathered before they are written.
 const GATHERED: usize = 8192;
-
-/// What stands before the first mark in the text, and what stands after it.
-pub fn cut_at(mark: u8, text: &[u8]) -> Option<(&[u8], &[u8])>
-    ensures { MatchOption result (Lacks mark text.now) (λ cut. Lacks mark cut.0.now × (text.now ≡ cut.0.now ++ mark ∷ cut.1.now)) }
-{
-    let at = memchr(mark, text)?;
-    Some((&text[..at], &text[at + 1..]))
-}
 
 /// Writes all of the bytes, or a beginning of them before a fault.
 fn write_all<W: Sink>(writer: &mut W, bytes: &[u8]) -> Result<(), Fault>

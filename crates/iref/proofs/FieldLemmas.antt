@@ -1,0 +1,32 @@
+-- The fields of a line.
+use Rattle.std.proofs.Common.{◌≡◌, ◌==◌, ◌<◌, ◌+◌, Bool, true, false, List, [], ◌∷◌, ◌++◌, Option, Some, None, length, refl, ap, sym, subst, ◌∙◌, arith, option_map, bytes_eq, codes, if◌then◌else◌}
+use Rattle.std.proofs.lemmas.List.Splits.{slice_split_at, slice_split_none, length-slice_split}
+use Rattle.iref_text.specs.Rules.{Text}
+use Rattle.iref_text.specs.Texts.{pieces_at, is_empty}
+use Rattle.iref.specs.Lines.{Request, Parts, tab, read_line, read_fields, one_text, program_verbs}
+use Rattle.iref.specs.Gathering.{Lacks}
+use Rattle.iref.specs.Fields.{fields_of}
+
+pub field_and_rest : (text field rest : Text) → Lacks tab field → text ≡ field ++ tab ∷ rest → pieces_at tab text ≡ field ∷ pieces_at tab rest
+field_and_rest text field rest h e = ap (pieces_at tab) e ∙ slice_split_at (λ c. c == tab) field tab rest h refl
+
+pub last_field : (text : Text) → Lacks tab text → pieces_at tab text ≡ text ∷ []
+last_field text h = slice_split_none (λ c. c == tab) text h
+
+not_empty : {A : Type 0} (xs : List A) → 0 < length xs → is_empty xs ≡ false
+not_empty [] h = absurd (omega arith)
+not_empty (x ∷ xs) h = refl
+
+-- a field too many
+pub more_fields : (request : Text → Request) (text field rest : Text) → pieces_at tab text ≡ field ∷ pieces_at tab rest → one_text request (pieces_at tab text) ≡ None
+more_fields request text field rest e =
+    ap (one_text request) e ∙
+    ap (λ (b : Bool). if b then Some (request field) else None) (not_empty (pieces_at tab rest) (omega (arith, length-slice_split (λ c. c == tab) rest)))
+
+pub parts_read : (line verb : Text) (fields : Option Text) → pieces_at tab line ≡ verb ∷ fields_of fields → true ≡ bytes_eq (codes "parts") verb → read_line program_verbs line ≡ one_text Parts (fields_of fields)
+unfolding read_line
+parts_read line verb fields e h = rw (e, ← h) refl
+
+pub nothing_read : (line verb : Text) (fields : Option Text) → pieces_at tab line ≡ verb ∷ fields_of fields → false ≡ bytes_eq (codes "parts") verb → read_line program_verbs line ≡ None
+unfolding read_line
+nothing_read line verb fields e h = rw (e, ← h) refl

@@ -1,0 +1,58 @@
+//! What a line asks for.
+ghost use Rattle.std.specs.Prelude.{◌≡◌, ◌∷◌, bytes_eq, option_map};
+ghost use Rattle.std.specs.Option.{option_copied};
+ghost use Rattle.iref_text.specs.Rules.{Text};
+ghost use Rattle.iref_text.specs.Texts.{pieces_at};
+ghost use Rattle.iref.specs.Fields.{fields_of};
+ghost use Rattle.iref.specs.Requests.{request_of};
+ghost use Rattle.iref.specs.Lines as spec;
+ghost use Rattle.iref.specs.Lines.{tab, read_line, program_verbs, one_text};
+
+use super::cut::cut_at;
+
+/// What a line asks for.
+#[derive(Clone, Copy)]
+pub enum Request<'a> {
+    /// The components of a reference.
+    Parts(&'a [u8]),
+}
+
+/// The first field, and the text of the others, if there are any.
+fn first_field(text: &[u8]) -> (&[u8], Option<&[u8]>)
+    ensures { pieces_at tab text.now ≡ result.0.now ∷ fields_of (option_copied result.1) }
+{
+    match cut_at(b'\t', text) {
+        Some((field, rest)) => (field, Some(rest)),
+        None => (text, None),
+    }
+}
+
+/// The one field, if there is one and no other.
+fn one_field(fields: Option<&[u8]>) -> Option<&[u8]>
+    ensures { (request : Text → spec.Request) → one_text request (fields_of (option_copied fields.entry)) ≡ option_map request (option_copied result) }
+{
+    let (field, others) = first_field(fields?);
+    match others {
+        Some(_) => None,
+        None => Some(field),
+    }
+}
+
+/// Whether the field is the name.
+fn is_name(name: &[u8], field: &[u8]) -> bool
+    ensures { result ≡ bytes_eq name.now field.now }
+{
+    name == field
+}
+
+/// What a line asks for, if that is something that the program does.
+pub fn read_request(line: &[u8]) -> Option<Request<'_>>
+    ensures { read_line program_verbs line.now ≡ option_map request_of result }
+{
+    let (verb, fields) = first_field(line);
+    if is_name(b"parts", verb) {
+        let text = one_field(fields)?;
+        return Some(Request::Parts(text));
+    }
+    None
+}
