@@ -2,10 +2,10 @@
 use Rattle.std.proofs.Common.{◌≡◌, Bool, true, false, refl, sym, ◌∙◌, List, [], ◌∷◌, ◌++◌, Option, Some, None, ap, append_assoc, codes}
 use Rattle.std.specs.Bool.{Decides}
 use Rattle.std.specs.List.{join_with_byte}
-use Rattle.iref_text.specs.Rules.{Text}
-use Rattle.iref_text.specs.Characters.{uri_chars}
-use Rattle.iref_text.specs.Reference.{is_reference, read_reference}
-use Rattle.iref_text.specs.ComponentTexts.{ComponentTexts, spell_components}
+use Rattle.iref_grammar.specs.Rules.{Text}
+use Rattle.iref_grammar.specs.Characters.{uri_chars}
+use Rattle.iref_grammar.specs.Reference.{is_reference, read_reference}
+use Rattle.iref_grammar.specs.ComponentTexts.{ComponentTexts, spell_components}
 use Rattle.iref.specs.Lines.{Request, answer_if_valid, read_line, answer, BadCommand, InvalidText, Answered, Parts, answer_to, is_valid, answer_text, part_fields, tab, program_verbs}
 
 pub answer_of : (line : Text) (request : Request) → read_line program_verbs line ≡ Some request → answer program_verbs line ≡ answer_if_valid request

@@ -3,8 +3,8 @@ use Rattle.std.proofs.Common.{◌≡◌, inl, Bool, true, false, List, [], ◌�
 use Rattle.std.specs.List.{All, AllZip}
 use Rattle.std.proofs.lemmas.List.Concat.{flat_map-append}
 use Rattle.std.proofs.lemmas.List.Elements.{AllZip-push}
-use Rattle.iref_text.specs.Rules.{Text}
-use Rattle.iref_text.specs.Texts.{is_empty}
+use Rattle.iref_grammar.specs.Rules.{Text}
+use Rattle.iref_grammar.specs.Texts.{is_empty}
 use Rattle.iref.specs.Lines.{newline, lines_of, answer, answer_text, program_verbs}
 use Rattle.iref.specs.Runs.{IsReply, with_newlines, ended_lines, AnswersAll, AnswersRead, AnswersBegun}
 use Rattle.iref.specs.Gathering.{IsLine, WritesPart, RepliesPart, InRun}

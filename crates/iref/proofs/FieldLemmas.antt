@@ -1,8 +1,8 @@
 -- The fields of a line.
 use Rattle.std.proofs.Common.{◌≡◌, ◌==◌, ◌<◌, ◌+◌, Bool, true, false, List, [], ◌∷◌, ◌++◌, Option, Some, None, length, refl, ap, sym, subst, ◌∙◌, arith, option_map, bytes_eq, codes, if◌then◌else◌}
 use Rattle.std.proofs.lemmas.List.Splits.{slice_split_at, slice_split_none, length-slice_split}
-use Rattle.iref_text.specs.Rules.{Text}
-use Rattle.iref_text.specs.Texts.{pieces_at, is_empty}
+use Rattle.iref_grammar.specs.Rules.{Text}
+use Rattle.iref_grammar.specs.Texts.{pieces_at, is_empty}
 use Rattle.iref.specs.Lines.{Request, Parts, tab, read_line, read_fields, one_text, program_verbs}
 use Rattle.iref.specs.Gathering.{Lacks}
 use Rattle.iref.specs.Fields.{fields_of}

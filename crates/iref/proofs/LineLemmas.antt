@@ -4,8 +4,8 @@ use Rattle.std.specs.List.{All}
 use Rattle.std.proofs.lemmas.List.{flat_map_more}
 use Rattle.std.proofs.lemmas.List.Splits.{slice_split_at, slice_split_none, length-slice_split}
 use Rattle.std.proofs.lemmas.List.Elements.{All-head, All-tail, All-push}
-use Rattle.iref_text.specs.Rules.{Text}
-use Rattle.iref_text.specs.Texts.{pieces_at, all_but_last, is_empty}
+use Rattle.iref_grammar.specs.Rules.{Text}
+use Rattle.iref_grammar.specs.Texts.{pieces_at, all_but_last, is_empty}
 use Rattle.iref.specs.Lines.{newline, lines_of, without_empty_last}
 use Rattle.iref.specs.Runs.{with_newlines, ended_lines}
 use Rattle.iref.specs.Gathering.{IsLine}

@@ -5,17 +5,17 @@ use Rattle.std.specs.Char.{encode_utf8}
 use Rattle.std.specs.Str.{is_utf8, chars}
 use Rattle.std.specs.Fmt.{digits}
 use Rattle.percent_encoding.specs.Percent.{percent_decode}
-use Rattle.iref_text.specs.Rules.{Text}
-use Rattle.iref_text.specs.Grammar.{is_reg_name_char, is_user_info_char, is_path_char, is_query_char, is_fragment_char}
-use Rattle.iref_text.specs.Tests.{is_scheme, is_user_info, is_host, is_ip_literal, is_ipvfuture, is_reg_name, is_port, is_path, is_segment, is_query, is_fragment, owed_after}
-use Rattle.iref_text.specs.IpAddresses.{ipv4_value, ipv6_value}
-use Rattle.iref_text.specs.Authority.{spell_authority, read_authority, is_authority, has_authority_parts}
-use Rattle.iref_text.specs.PathValue.{spell_path, read_path}
-use Rattle.iref_text.specs.Reference.{spell, read_reference, is_reference, is_full_reference, is_readable}
-use Rattle.iref_path.specs.Guard.{guarded, guarded_list}
-use Rattle.iref_path.specs.NormalList.{normal_segments, excess, staying_names}
-use Rattle.iref_path.specs.PathKey.{path_key}
-use Rattle.iref_path.specs.PathSteps.{lazy_pushed, pushed, popped, joined, appended}
+use Rattle.iref_grammar.specs.Rules.{Text}
+use Rattle.iref_grammar.specs.Grammar.{is_reg_name_char, is_user_info_char, is_path_char, is_query_char, is_fragment_char}
+use Rattle.iref_grammar.specs.Tests.{is_scheme, is_user_info, is_host, is_ip_literal, is_ipvfuture, is_reg_name, is_port, is_path, is_segment, is_query, is_fragment, owed_after}
+use Rattle.iref_grammar.specs.IpAddresses.{ipv4_value, ipv6_value}
+use Rattle.iref_grammar.specs.Authority.{spell_authority, read_authority, is_authority, has_authority_parts}
+use Rattle.iref_grammar.specs.PathValue.{spell_path, read_path}
+use Rattle.iref_grammar.specs.Reference.{spell, read_reference, is_reference, is_full_reference, is_readable}
+use Rattle.iref_normal.specs.Guard.{guarded, guarded_list}
+use Rattle.iref_normal.specs.NormalList.{normal_segments, excess, staying_names}
+use Rattle.iref_normal.specs.PathKey.{path_key}
+use Rattle.iref_normal.specs.PathSteps.{lazy_pushed, pushed, popped, joined, appended}
 use Rattle.iref_refs.specs.ComponentSteps.{with_scheme, with_authority, with_path}
 use Rattle.iref_refs.specs.Key.{key, key_cmp}
 use Rattle.iref_refs.specs.Relative.{relative_to}

@@ -2,8 +2,8 @@
 use Rattle.std.proofs.Common.{◌≡◌, ◌==◌, Bool, true, false, List, [], ◌∷◌, ◌++◌, Option, Some, length, length-append, ◌<◌, arith, refl, ap, sym, subst, ◌∙◌, append_assoc, append-nil}
 use Rattle.std.proofs.lemmas.List.{flat_map_more}
 use Rattle.std.proofs.lemmas.List.Elements.{All-nil, All-append, All-push, AllZip-push}
-use Rattle.iref_text.specs.Rules.{Text}
-use Rattle.iref_text.specs.Texts.{is_empty}
+use Rattle.iref_grammar.specs.Rules.{Text}
+use Rattle.iref_grammar.specs.Texts.{is_empty}
 use Rattle.iref.specs.Lines.{newline}
 use Rattle.iref.specs.Runs.{IsReply, with_newlines}
 use Rattle.iref.specs.Gathering.{IsLine, Writes, Replies, InRun}

@@ -1,12 +1,12 @@
 -- Lists of edits of a buffer.
 use Rattle.std.specs.Prelude.{ℕ, ◌+◌, Bool, true, false, List, [], ◌∷◌, Option, None, Result, Ok, Err, is_some, option_map, if◌then◌else◌}
-use Rattle.iref_text.specs.Rules.{Text}
-use Rattle.iref_text.specs.Authority.{AuthorityValue, read_authority}
-use Rattle.iref_text.specs.PathValue.{read_path}
-use Rattle.iref_text.specs.Reference.{ReferenceValue}
+use Rattle.iref_grammar.specs.Rules.{Text}
+use Rattle.iref_grammar.specs.Authority.{AuthorityValue, read_authority}
+use Rattle.iref_grammar.specs.PathValue.{read_path}
+use Rattle.iref_grammar.specs.Reference.{ReferenceValue}
 use Rattle.iref_authority.specs.AuthoritySteps.{with_user_info, with_host, with_port}
 use Rattle.iref_text.specs.Ports.{port_text}
-use Rattle.iref_path.specs.PathSteps.{lazy_pushed, pushed, joined, popped, cleared, normalized}
+use Rattle.iref_normal.specs.PathSteps.{lazy_pushed, pushed, joined, popped, cleared, normalized}
 use Rattle.iref_refs.specs.ComponentSteps.{with_scheme, with_authority, with_path, with_query, with_fragment, with_authority_step, with_path_step, with_new_normal_path}
 
 -- an edit, with the texts that it gives

@@ -1,8 +1,8 @@
 -- How far a run has come: what was read, the line begun, and the replies gathered or written.
 use Rattle.std.specs.Prelude.{◌≡◌, ◌==◌, ℕ, Bool, true, false, List, [], ◌∷◌, ◌++◌, Option, Some, ◌≤◌, length}
 use Rattle.std.specs.List.{All, AllZip}
-use Rattle.iref_text.specs.Rules.{Text}
-use Rattle.iref_text.specs.Texts.{is_empty}
+use Rattle.iref_grammar.specs.Rules.{Text}
+use Rattle.iref_grammar.specs.Texts.{is_empty}
 use Rattle.iref.specs.Lines.{newline}
 use Rattle.iref.specs.Runs.{IsReply, with_newlines}
 

@@ -1,18 +1,18 @@
 -- The program's answers to lines.
 use Rattle.std.specs.Prelude.{ℕ, Bool, true, false, ◌&&◌, List, [], ◌∷◌, ◌++◌, map, bytes_eq, codes, Option, Some, None, Ok, Err, option_map, option_and_then, if◌then◌else◌}
 use Rattle.std.specs.List.{list_all, find, flat_map, join_with_byte}
-use Rattle.iref_text.specs.Rules.{Text}
-use Rattle.iref_text.specs.Characters.{uri_chars}
-use Rattle.iref_text.specs.Texts.{before, after, pieces_at, is_empty}
-use Rattle.iref_text.specs.Tests.{is_scheme, is_user_info, is_host, is_port, is_path, is_segment, is_query, is_fragment, none_or}
-use Rattle.iref_text.specs.IpAddresses.{all_some}
-use Rattle.iref_text.specs.Authority.{is_authority}
-use Rattle.iref_text.specs.PathValue.{spell_path, read_path}
-use Rattle.iref_path.specs.Guard.{guarded}
-use Rattle.iref_text.specs.ComponentTexts.{ComponentTexts, spell_components}
-use Rattle.iref_text.specs.Contexts.{alone}
-use Rattle.iref_path.specs.NormalList.{normal}
-use Rattle.iref_text.specs.Reference.{ReferenceValue, spell, read_reference, is_reference, is_full_reference}
+use Rattle.iref_grammar.specs.Rules.{Text}
+use Rattle.iref_grammar.specs.Characters.{uri_chars}
+use Rattle.iref_grammar.specs.Texts.{before, after, pieces_at, is_empty}
+use Rattle.iref_grammar.specs.Tests.{is_scheme, is_user_info, is_host, is_port, is_path, is_segment, is_query, is_fragment, none_or}
+use Rattle.iref_grammar.specs.IpAddresses.{all_some}
+use Rattle.iref_grammar.specs.Authority.{is_authority}
+use Rattle.iref_grammar.specs.PathValue.{spell_path, read_path}
+use Rattle.iref_normal.specs.Guard.{guarded}
+use Rattle.iref_grammar.specs.ComponentTexts.{ComponentTexts, spell_components}
+use Rattle.iref_grammar.specs.Contexts.{alone}
+use Rattle.iref_normal.specs.NormalList.{normal}
+use Rattle.iref_grammar.specs.Reference.{ReferenceValue, spell, read_reference, is_reference, is_full_reference}
 use Rattle.iref_refs.specs.Resolution.{resolved}
 use Rattle.iref_refs.specs.Key.{are_alike}
 use Rattle.iref_refs.specs.Relative.{relative_to}

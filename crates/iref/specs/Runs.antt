@@ -1,8 +1,8 @@
 -- What the program has written for what it has read.
 use Rattle.std.specs.Prelude.{◌≡◌, ◌≤◌, ◌-◌, ◌^◌, ◌⊎◌, Bool, true, List, [], ◌∷◌, ◌++◌, Option, Some, codes, length}
 use Rattle.std.specs.List.{flat_map, AllZip}
-use Rattle.iref_text.specs.Rules.{Text}
-use Rattle.iref_text.specs.Texts.{pieces_at, all_but_last}
+use Rattle.iref_grammar.specs.Rules.{Text}
+use Rattle.iref_grammar.specs.Texts.{pieces_at, all_but_last}
 use Rattle.iref.specs.Lines.{newline, answer, answer_text, lines_of, program_verbs}
 
 -- the reply to a line is its answer, or says that memory was refused for it

@@ -1,6 +1,6 @@
 //! The program: lines read, each answered by a line.
 ghost use Rattle.std.specs.Prelude.{◌≡◌, Some, false, OnOk, OnErr};
-ghost use Rattle.iref_text.specs.Rules.{Text};
+ghost use Rattle.iref_grammar.specs.Rules.{Text};
 ghost use Rattle.iref.specs.Runs.{EndsWell, EndsEarly};
 
 mod answers;

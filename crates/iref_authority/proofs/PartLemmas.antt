@@ -1,10 +1,10 @@
 -- The parts of an authority are in their rules.
 use Rattle.std.proofs.Common.{◌≡◌, Bool, true, ap, sym, ◌∙◌, ◌&&◌}
-use Rattle.iref_text.specs.Characters.{CharTests}
-use Rattle.iref_text.specs.Rules.{Text}
-use Rattle.iref_text.specs.Tests.{is_user_info, is_host, is_port, none_or}
-use Rattle.iref_text.specs.Authority.{AuthorityValue, is_authority, has_authority_parts, read_authority}
-use Rattle.iref_text.proofs.TextLemmas.{first_of_both, second_of_both}
+use Rattle.iref_grammar.specs.Characters.{CharTests}
+use Rattle.iref_grammar.specs.Rules.{Text}
+use Rattle.iref_grammar.specs.Tests.{is_user_info, is_host, is_port, none_or}
+use Rattle.iref_grammar.specs.Authority.{AuthorityValue, is_authority, has_authority_parts, read_authority}
+use Rattle.iref_grammar.proofs.TextLemmas.{first_of_both, second_of_both}
 
 module _ (set : CharTests) (text : Text) (a : AuthorityValue) (e : a ≡ read_authority text) (h : is_authority set text ≡ true) where
   abbrev user_info_passes : Bool

@@ -1,8 +1,8 @@
 -- What callers see of authorities and their parts.
-use Rattle.iref_text.specs.Rules.{Text}
-use Rattle.iref_text.specs.Views.{view_text, owned_text}
+use Rattle.iref_grammar.specs.Rules.{Text}
+use Rattle.iref_parse.specs.Views.{view_text, owned_text}
 use Rattle.std.specs.Prelude.{option_map}
-use Rattle.iref_text.specs.Authority.{AuthorityValue}
+use Rattle.iref_grammar.specs.Authority.{AuthorityValue}
 use Rattle.iref_text.specs.Components.{port_digits}
 use Rattle.iref_authority.specs.declared.authority.Authority.{Authority}
 use Rattle.iref_authority.specs.declared.authority.AuthorityBuf.{AuthorityBuf}

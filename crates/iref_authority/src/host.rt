@@ -1,20 +1,20 @@
 //! Hosts (RFC 3986 section 3.2.2).
 ghost use Rattle.std.specs.Prelude.{◌≡◌, true, [], Some, IfOk, is_some};
 ghost use Rattle.std.specs.String.{string_bytes};
-ghost use Rattle.iref_text.specs.Rules.{InUtf8};
-ghost use Rattle.iref_text.specs.Grammar.{IsHost};
-ghost use Rattle.iref_text.specs.IpAddresses.{ipv4_value};
-ghost use Rattle.iref_text.specs.Tests.{is_host, is_ip_literal, is_ipv4};
+ghost use Rattle.iref_grammar.specs.Rules.{InUtf8};
+ghost use Rattle.iref_grammar.specs.Grammar.{IsHost};
+ghost use Rattle.iref_grammar.specs.IpAddresses.{ipv4_value};
+ghost use Rattle.iref_grammar.specs.Tests.{is_host, is_ip_literal, is_ipv4};
 ghost use Rattle.iref_authority.specs.HostNumbers.{literal_value};
-ghost use Rattle.iref_text.specs.Makers.{Parses};
+ghost use Rattle.iref_parse.specs.Makers.{Parses};
 ghost use Rattle.iref_authority.specs.Views.{host_text, host_buf_text};
 
 use crate::rules::HostRule;
-use iref_text::chars::CharSet;
-use iref_text::common::Memory;
-use iref_text::parse::owned::TextBuf;
-use iref_text::parse::view::View;
-use iref_text::parse::{host, ip};
+use iref_grammar::chars::CharSet;
+use iref_parse::error::Memory;
+use iref_parse::owned::TextBuf;
+use iref_parse::view::View;
+use iref_parse::{host, ip};
 use std::alloc::Global;
 use std::convert::TryFrom;
 use std::fmt;

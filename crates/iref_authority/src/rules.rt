@@ -1,15 +1,15 @@
 //! The rules of an authority and its parts, each with its recogniser and what its texts are compared by.
 
-ghost use Rattle.iref_text.specs.Grammar.{IsUserInfo, IsHost, IsAuthority};
-ghost use Rattle.iref_text.specs.Tests.{is_user_info, is_host};
-ghost use Rattle.iref_text.specs.Authority.{is_authority};
+ghost use Rattle.iref_grammar.specs.Grammar.{IsUserInfo, IsHost, IsAuthority};
+ghost use Rattle.iref_grammar.specs.Tests.{is_user_info, is_host};
+ghost use Rattle.iref_grammar.specs.Authority.{is_authority};
 
-use iref_text::authority_laws::authority_grammar;
-use iref_text::chars::CharSet;
-use iref_text::parse::key::DecodedBytes;
-use iref_text::parse::view::{Keyed, Rule};
-use iref_text::parse::{authority, host, scan};
-use iref_text::text_laws::{host_grammar, user_info_grammar};
+use iref_grammar::authority_laws::authority_grammar;
+use iref_grammar::chars::CharSet;
+use iref_parse::key::DecodedBytes;
+use iref_parse::view::{Keyed, Rule};
+use iref_parse::{authority, host, scan};
+use iref_grammar::text_laws::{host_grammar, user_info_grammar};
 
 /// The rule of user infos (RFC 3986 section 3.2.1).
 pub struct UserInfoRule;

@@ -1,17 +1,17 @@
 //! User infos (RFC 3986 section 3.2.1).
 ghost use Rattle.std.specs.Prelude.{◌≡◌, true, [], Some, IfOk};
 ghost use Rattle.std.specs.String.{string_bytes};
-ghost use Rattle.iref_text.specs.Rules.{InUtf8};
-ghost use Rattle.iref_text.specs.Grammar.{IsUserInfo};
-ghost use Rattle.iref_text.specs.Tests.{is_user_info};
-ghost use Rattle.iref_text.specs.Makers.{Parses};
+ghost use Rattle.iref_grammar.specs.Rules.{InUtf8};
+ghost use Rattle.iref_grammar.specs.Grammar.{IsUserInfo};
+ghost use Rattle.iref_grammar.specs.Tests.{is_user_info};
+ghost use Rattle.iref_parse.specs.Makers.{Parses};
 ghost use Rattle.iref_authority.specs.Views.{user_info_text, user_info_buf_text};
 
 use crate::rules::UserInfoRule;
-use iref_text::chars::CharSet;
-use iref_text::common::Memory;
-use iref_text::parse::owned::TextBuf;
-use iref_text::parse::view::View;
+use iref_grammar::chars::CharSet;
+use iref_parse::error::Memory;
+use iref_parse::owned::TextBuf;
+use iref_parse::view::View;
 use std::alloc::Global;
 use std::convert::TryFrom;
 use std::fmt;

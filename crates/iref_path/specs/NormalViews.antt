@@ -1,7 +1,7 @@
 -- What callers see of the normal segments of a path.
 use Rattle.std.specs.Prelude.{List}
-use Rattle.iref_text.specs.Rules.{Text}
-use Rattle.iref_path.specs.Remaining.{normal_left}
+use Rattle.iref_grammar.specs.Rules.{Text}
+use Rattle.iref_normal.specs.Remaining.{normal_left}
 use Rattle.iref_path.specs.declared.normal.NormalizedSegments.{NormalizedSegments}
 
 -- the texts of the normal segments that are left

@@ -1,208 +1,17 @@
 //! Equality of paths: one scan of both from the back, with a count of the segments read.
-
-ghost use Rattle.std.specs.Prelude.{◌≡◌, ◌+◌, ◌-◌, ◌<◌, ◌≤◌, ◌^◌, ◌∷◌, length, reverse, Decides};
-ghost use Rattle.iref_text.specs.PathValue.{read_path};
-ghost use Rattle.iref_path.specs.PathKey.{path_key};
-ghost use Rattle.iref_path.specs.PathFunctions.{segment_count};
-ghost use Rattle.iref_path.specs.CountedEquality.{items_compared, IsCountedAnswer};
-ghost use Rattle.iref_path.specs.NormalList.{is_name};
+ghost use Rattle.std.specs.Prelude.{◌≡◌, ◌+◌, ◌-◌, ◌<◌, ◌≤◌, ◌^◌, Decides};
+ghost use Rattle.iref_normal.specs.PathKey.{path_key};
+ghost use Rattle.iref_normal.specs.PathFunctions.{segment_count};
+ghost use Rattle.iref_normal.specs.CountedEquality.{IsCountedAnswer};
+ghost use Rattle.iref_normal.specs.Unread.{steps_count};
+ghost use Rattle.iref_path.specs.Views.{path_value};
 
 use crate::path::Path;
-use crate::pieces::{last_piece, segments_fit, split_root};
-use iref_text::chars::CharSet;
-use iref_text::pct::decoded::decoded_eq;
+use iref_grammar::chars::CharSet;
+use iref_normal::equality::path_texts_eq;
+use iref_normal::pieces::segments_fit;
 
-/// How many segments comparisons have read.
-#[derive(Clone, Copy, Debug)]
-pub struct Steps {
-    count: u128,
-}
-
-impl Steps {
-    ghost use Rattle.iref_path.specs.Unread.{steps_count};
-
-    /// No segment has been read.
-    pub fn new() -> Self
-        ensures { steps_count result ≡ 0 }
-    {
-        Steps { count: 0 }
-    }
-
-    /// How many segments have been read.
-    pub fn count(&self) -> u128
-        ensures { result ≡ steps_count self.now }
-    {
-        self.count
-    }
-
-    // One more segment is read.
-    fn tick(&mut self)
-        requires { steps_count self.old + 1 < 2 ^ 128 }
-        ensures { steps_count self.new ≡ steps_count self.old + 1 }
-    {
-        self.count += 1;
-    }
-}
-
-/// Whether the segment is neither `.` nor `..`.
-pub(crate) fn is_name(segment: &str) -> bool
-    ensures { result ≡ is_name segment.now }
-{
-    segment != "." && segment != ".."
-}
-
-/// What has not been read of a path, which is read from the back.
-#[derive(Clone, Copy)]
-pub(crate) struct Unread<'a> {
-    absolute: bool,
-    // How many `..` are open behind the segments.
-    open_parents: usize,
-    // The text of the segments that are left, with `/` between.
-    rest: Option<&'a str>,
-}
-
-impl<'a> Unread<'a> {
-    ghost use Rattle.iref_path.specs.Unread.{GivesItem, GivesSegment, HasRoom, IsCountable, IsCounted, IsShorter, all_items_unread, item_given, items_unread, segments_unread};
-
-    /// The path, of which nothing has been read.
-    #[tactic(auto, using(crate::proofs::UnreadLemmas::sizes), unfolding(crate::specs::Unread::unread_in))]
-    fn new(path: &'a str) -> Self
-        ensures absolute { result.absolute ≡ (read_path path.now).absolute }
-        ensures segments { segments_unread result ≡ reverse (read_path path.now).segments }
-        ensures unread { result.open_parents ≡ 0 }
-        ensures countable { IsCountable result }
-    {
-        let (absolute, rest) = split_root(path);
-        Unread {
-            absolute,
-            open_parents: 0,
-            rest,
-        }
-    }
-
-    /// The last segment that is left.
-    #[tactic(auto, unfolding(crate::specs::Unread::unread_in))]
-    fn read(&mut self, steps: &mut Steps) -> Option<&'a str>
-        requires { HasRoom steps.old self.old }
-        ensures segment { GivesSegment self.old result self.new }
-        ensures shorter { IsShorter self.new self.old }
-        ensures counted { IsCounted steps.old self.old steps.new self.new }
-    {
-        let (rest, segment) = last_piece(self.rest?);
-        self.rest = rest;
-        steps.tick();
-        Some(segment)
-    }
-
-    /// The last item of a path of which nothing has been read: its last segment, or the empty segment that closes a path
-    /// that ends in `.` or `..`.
-    fn first_back(&mut self, steps: &mut Steps) -> &'a str
-        requires countable { IsCountable self.old }
-        requires unread { self.old.open_parents ≡ 0 }
-        requires room { HasRoom steps.old self.old }
-        ensures item { all_items_unread self.old ≡ item_given result self.new ∷ items_unread self.new }
-        ensures countable { IsCountable self.new }
-        ensures shorter { IsShorter self.new self.old }
-        ensures counted { IsCounted steps.old self.old steps.new self.new }
-    {
-        let Some(segment) = self.read(steps) else {
-            return "";
-        };
-        if is_name(segment) {
-            return segment;
-        }
-        if segment == ".." {
-            self.open_parents = 1;
-        }
-        ""
-    }
-
-    /// The last item that is left.
-    fn next_back(&mut self, steps: &mut Steps) -> Option<&'a str>
-        requires countable { IsCountable self.old }
-        requires room { HasRoom steps.old self.old }
-        ensures item { GivesItem self.old result self.new }
-        ensures countable { IsCountable self.new }
-        ensures shorter { IsShorter self.new self.old }
-        ensures counted { IsCounted steps.old self.old steps.new self.new }
-    {
-        while let Some(segment) = self.read(steps) {
-            if is_name(segment) {
-                if self.open_parents == 0 {
-                    return Some(segment);
-                }
-                self.open_parents -= 1;
-            } else if segment == ".." {
-                self.open_parents += 1;
-            }
-        }
-        if self.absolute || self.open_parents == 0 {
-            return None;
-        }
-        self.open_parents -= 1;
-        Some("..")
-    }
-}
-
-ghost use Rattle.iref_path.specs.Unread.{AreCounted, HaveRoom, IsAnswer, IsCountable, IsShorter, all_items_unread, items_unread, segments_unread, steps_count};
-
-/// Whether what is left of both paths decodes to the same items.
-fn items_eq(left: &mut Unread<'_>, right: &mut Unread<'_>, steps: &mut Steps) -> bool
-    requires left { IsCountable left.old }
-    requires right { IsCountable right.old }
-    requires room { HaveRoom steps.old left.old right.old }
-    ensures answer { IsAnswer (items_compared (items_unread left.old) (items_unread right.old)) result left.new right.new }
-    ensures left_shorter { IsShorter left.new left.old }
-    ensures right_shorter { IsShorter right.new right.old }
-    ensures counted { AreCounted steps.old left.old right.old steps.new left.new right.new }
-{
-    while let Some(item) = left.next_back(steps) {
-        let Some(other) = right.next_back(steps) else {
-            return false;
-        };
-        if !decoded_eq(item, other) {
-            return false;
-        }
-    }
-    right.next_back(steps).is_none()
-}
-
-/// Whether two paths, of which nothing has been read, have the same items.
-fn all_items_eq(left: &mut Unread<'_>, right: &mut Unread<'_>, steps: &mut Steps) -> bool
-    requires left { IsCountable left.old }
-    requires left_unread { left.old.open_parents ≡ 0 }
-    requires right { IsCountable right.old }
-    requires right_unread { right.old.open_parents ≡ 0 }
-    requires room { HaveRoom steps.old left.old right.old }
-    ensures answer { IsAnswer (items_compared (all_items_unread left.old) (all_items_unread right.old)) result left.new right.new }
-    ensures left_shorter { IsShorter left.new left.old }
-    ensures right_shorter { IsShorter right.new right.old }
-    ensures counted { AreCounted steps.old left.old right.old steps.new left.new right.new }
-{
-    let item = left.first_back(steps);
-    let other = right.first_back(steps);
-    if !decoded_eq(item, other) {
-        return false;
-    }
-    items_eq(left, right, steps)
-}
-
-/// Whether the texts of two paths are those of equal paths.
-#[tactic(auto, using(crate::proofs::UnreadLemmas::sizes))]
-fn path_texts_eq(a: &str, b: &str, steps: &mut Steps) -> bool
-    requires { steps_count steps.old + segment_count (read_path a.now) + segment_count (read_path b.now) < 2 ^ 128 }
-    ensures counted { IsCountedAnswer (read_path a.now) (read_path b.now) result (steps_count steps.new - steps_count steps.old) }
-    ensures grown { steps_count steps.old ≤ steps_count steps.new }
-{
-    let mut left = Unread::new(a);
-    let mut right = Unread::new(b);
-    if left.absolute != right.absolute {
-        return false;
-    }
-    all_items_eq(&mut left, &mut right, steps)
-}
-
-ghost use Rattle.iref_path.specs.Views.{path_value};
+pub use iref_normal::equality::Steps;
 
 /// A new count has room for the segments of any two paths.
 pub fn new_steps_have_room<C: CharSet>(a: Path<'_, C>, b: Path<'_, C>)
@@ -214,7 +23,7 @@ pub fn new_steps_have_room<C: CharSet>(a: Path<'_, C>, b: Path<'_, C>)
 
 /// Whether two paths are equal: their flags and their normal lists, each segment decoded. The count grows by the segments
 /// that are read, each of them once.
-#[tactic(auto, using(crate::proofs::CountedLemmas::decided))]
+#[tactic(auto, using(iref_normal::proofs::CountedLemmas::decided))]
 pub fn path_eq_counted<C: CharSet>(a: Path<'_, C>, b: Path<'_, C>, steps: &mut Steps) -> bool
     requires { steps_count steps.old + segment_count (path_value a) + segment_count (path_value b) < 2 ^ 128 }
     ensures equal { Decides result (path_key (path_value a.entry) ≡ path_key (path_value b.entry)) }

@@ -4,10 +4,6 @@
 pub mod equality;
 pub mod normal;
 pub mod path;
-pub mod path_laws;
-mod path_text;
-mod pieces;
-mod remaining;
 pub mod rules;
 pub mod segment;
 pub mod segments;

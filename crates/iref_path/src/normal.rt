@@ -3,15 +3,15 @@
 ghost use Rattle.std.specs.Prelude.{◌≡◌, true, length};
 ghost use Rattle.std.specs.List.{list_all};
 ghost use Rattle.std.specs.Iterator.{YieldsFirstBy, YieldsLastBy, item_count};
-ghost use Rattle.iref_text.specs.PathValue.{read_path};
-ghost use Rattle.iref_text.specs.Tests.{is_path, is_segment};
-ghost use Rattle.iref_path.specs.NormalList.{normal_segments};
-ghost use Rattle.iref_path.specs.Remaining.{IsReadable, is_settled, normal_left};
+ghost use Rattle.iref_grammar.specs.PathValue.{read_path};
+ghost use Rattle.iref_grammar.specs.Tests.{is_path, is_segment};
+ghost use Rattle.iref_normal.specs.NormalList.{normal_segments};
+ghost use Rattle.iref_normal.specs.Remaining.{IsReadable, is_settled, normal_left};
 
 use crate::path::Path;
-use crate::remaining::Remaining;
+use iref_normal::remaining::Remaining;
 use crate::segment::Segment;
-use iref_text::chars::CharSet;
+use iref_grammar::chars::CharSet;
 use std::marker::PhantomData;
 
 /// The normal segments of a path that are left.

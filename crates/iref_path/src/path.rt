@@ -5,25 +5,25 @@ ghost use Rattle.std.specs.String.{string_bytes};
 ghost use Rattle.std.specs.Ordering.{eq_by_cmp, on};
 ghost use Rattle.std.specs.Cmp.Rules.{comparing};
 ghost use Rattle.std.proofs.Common.{rules};
-ghost use Rattle.iref_text.specs.Rules.{InUtf8};
-ghost use Rattle.iref_text.specs.Grammar.{IsPath};
-ghost use Rattle.iref_text.specs.Tests.{is_path};
-ghost use Rattle.iref_text.specs.Makers.{Parses};
-ghost use Rattle.iref_text.specs.Texts.{is_empty};
-ghost use Rattle.iref_path.specs.PathFunctions as function;
+ghost use Rattle.iref_grammar.specs.Rules.{InUtf8};
+ghost use Rattle.iref_grammar.specs.Grammar.{IsPath};
+ghost use Rattle.iref_grammar.specs.Tests.{is_path};
+ghost use Rattle.iref_parse.specs.Makers.{Parses};
+ghost use Rattle.iref_grammar.specs.Texts.{is_empty};
+ghost use Rattle.iref_normal.specs.PathFunctions as function;
 ghost use Rattle.iref_path.specs.Views.{path_text, path_buf_text, path_value, path_buf_value, segment_text, segments_left};
-ghost use Rattle.iref_path.specs.PathKey.{path_key, path_key_cmp, path_keys_total};
+ghost use Rattle.iref_normal.specs.PathKey.{path_key, path_key_cmp, path_keys_total};
 
 use crate::equality::{Steps, new_steps_have_room, path_eq_counted};
-use crate::path_text::{directory_text, looks_like_scheme, parent_text};
-use crate::pieces::split_root;
+use iref_normal::path_text::{directory_text, looks_like_scheme, parent_text};
+use iref_normal::pieces::split_root;
 use crate::rules::PathRule;
 use crate::segment::Segment;
 use crate::segments::Segments;
-use iref_text::chars::CharSet;
-use iref_text::common::Memory;
-use iref_text::parse::owned::TextBuf;
-use iref_text::parse::view::View;
+use iref_grammar::chars::CharSet;
+use iref_parse::error::Memory;
+use iref_parse::owned::TextBuf;
+use iref_parse::view::View;
 use std::alloc::Global;
 use std::convert::TryFrom;
 use std::fmt;
@@ -86,7 +86,7 @@ impl<'a, C: CharSet> Path<'a, C> {
     }
 
     /// The relative path without segments.
-    #[tactic(auto, using(crate::proofs::GrammarLemmas::empty_paths))]
+    #[tactic(auto, using(iref_normal::proofs::GrammarLemmas::empty_paths))]
     pub fn empty_relative() -> Self
         ensures { path_text result ≡ [] }
     {
@@ -94,7 +94,7 @@ impl<'a, C: CharSet> Path<'a, C> {
     }
 
     /// The absolute path without segments.
-    #[tactic(auto, using(crate::proofs::GrammarLemmas::empty_paths))]
+    #[tactic(auto, using(iref_normal::proofs::GrammarLemmas::empty_paths))]
     pub fn empty_absolute() -> Self
         ensures { path_text result ≡ codes "/" }
     {
@@ -109,7 +109,7 @@ impl<'a, C: CharSet> Path<'a, C> {
     }
 
     /// Whether the path has no segments.
-    #[tactic(auto, using(crate::proofs::PieceLemmas::some_pieces))]
+    #[tactic(auto, using(iref_normal::proofs::PieceLemmas::some_pieces))]
     pub fn is_empty(&self) -> bool
         ensures { result ≡ is_empty (path_value self.now).segments }
     {
@@ -160,7 +160,7 @@ impl<'a, C: CharSet> Path<'a, C> {
     }
 
     /// The last segment unless it is empty.
-    #[tactic(auto, unfolding(crate::specs::PathFunctions::file_name))]
+    #[tactic(auto, unfolding(iref_normal::specs::PathFunctions::file_name))]
     pub fn file_name(&self) -> Option<Segment<'a, C>>
         ensures { option_map segment_text result ≡ function.file_name (path_value self.now) }
     {
@@ -186,7 +186,7 @@ impl<'a, C: CharSet> Path<'a, C> {
     }
 
     /// The parent, or else the empty path that is absolute where this one is.
-    #[tactic(auto, unfolding(crate::specs::PathFunctions::parent_or_empty))]
+    #[tactic(auto, unfolding(iref_normal::specs::PathFunctions::parent_or_empty))]
     pub fn parent_or_empty(&self) -> Self
         ensures { path_value result ≡ function.parent_or_empty (path_value self.now) }
     {
@@ -197,7 +197,7 @@ impl<'a, C: CharSet> Path<'a, C> {
     }
 
     // The empty path that is absolute where this one is.
-    #[tactic(auto, unfolding(iref_text::specs::PathValue::read_path))]
+    #[tactic(auto, unfolding(iref_grammar::specs::PathValue::read_path))]
     fn without_segments(&self) -> Self
         ensures { path_value result ≡ record (path_value self.now) { segments = [] } }
     {
@@ -265,7 +265,7 @@ impl<C: CharSet> PartialEq for Path<'_, C> {
 
     ghost laws = { Prim.search (path_keys_total, comparing, rules) };
 
-    #[tactic(auto, using(crate::proofs::PathKeyLemmas::tie_from_decides))]
+    #[tactic(auto, using(iref_normal::proofs::PathKeyLemmas::tie_from_decides))]
     fn eq(&self, other: &Self) -> bool {
         new_steps_have_room(*self, *other);
         path_eq_counted(*self, *other, &mut Steps::new())
@@ -315,7 +315,7 @@ impl<C: CharSet> PathBuf<C> {
     }
 
     /// The empty path, which takes no memory.
-    #[tactic(auto, using(crate::proofs::GrammarLemmas::empty_paths))]
+    #[tactic(auto, using(iref_normal::proofs::GrammarLemmas::empty_paths))]
     pub fn empty(alloc: Global) -> Self
         ensures { path_buf_text result ≡ [] }
     {

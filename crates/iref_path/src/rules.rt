@@ -1,13 +1,13 @@
 //! The rules of segments and paths, each with its recogniser.
 
-ghost use Rattle.iref_text.specs.Grammar.{IsPath, IsSegment};
-ghost use Rattle.iref_text.specs.Tests.{is_path, is_segment};
+ghost use Rattle.iref_grammar.specs.Grammar.{IsPath, IsSegment};
+ghost use Rattle.iref_grammar.specs.Tests.{is_path, is_segment};
 
-use iref_text::chars::CharSet;
-use iref_text::parse::key::DecodedBytes;
-use iref_text::parse::scan;
-use iref_text::parse::view::{Keyed, Rule};
-use iref_text::text_laws::{path_grammar, segment_grammar};
+use iref_grammar::chars::CharSet;
+use iref_parse::key::DecodedBytes;
+use iref_parse::scan;
+use iref_parse::view::{Keyed, Rule};
+use iref_grammar::text_laws::{path_grammar, segment_grammar};
 
 /// The rule of segments.
 pub struct SegmentRule;

@@ -2,20 +2,20 @@
 
 ghost use Rattle.std.specs.Prelude.{◌≡◌, true, [], Some, IfOk, length, codes};
 ghost use Rattle.std.specs.String.{string_bytes};
-ghost use Rattle.iref_text.specs.Rules.{InUtf8};
-ghost use Rattle.iref_text.specs.Grammar.{IsSegment};
-ghost use Rattle.iref_text.specs.Tests.{is_segment};
-ghost use Rattle.iref_text.specs.Makers.{Parses};
-ghost use Rattle.iref_text.specs.Texts.{is_empty};
-ghost use Rattle.iref_path.specs.PathFunctions as function;
+ghost use Rattle.iref_grammar.specs.Rules.{InUtf8};
+ghost use Rattle.iref_grammar.specs.Grammar.{IsSegment};
+ghost use Rattle.iref_grammar.specs.Tests.{is_segment};
+ghost use Rattle.iref_parse.specs.Makers.{Parses};
+ghost use Rattle.iref_grammar.specs.Texts.{is_empty};
+ghost use Rattle.iref_normal.specs.PathFunctions as function;
 ghost use Rattle.iref_path.specs.Views.{segment_text, segment_buf_text};
 
-use crate::path_text::looks_like_scheme;
+use iref_normal::path_text::looks_like_scheme;
 use crate::rules::SegmentRule;
-use iref_text::chars::CharSet;
-use iref_text::common::Memory;
-use iref_text::parse::owned::TextBuf;
-use iref_text::parse::view::View;
+use iref_grammar::chars::CharSet;
+use iref_parse::error::Memory;
+use iref_parse::owned::TextBuf;
+use iref_parse::view::View;
 use std::alloc::Global;
 use std::convert::TryFrom;
 use std::fmt;
@@ -78,7 +78,7 @@ impl<'a, C: CharSet> Segment<'a, C> {
     }
 
     /// The empty segment.
-    #[tactic(auto, using(crate::proofs::GrammarLemmas::short_segments))]
+    #[tactic(auto, using(iref_normal::proofs::GrammarLemmas::short_segments))]
     pub fn empty() -> Self
         ensures { segment_text result ≡ [] }
     {
@@ -86,7 +86,7 @@ impl<'a, C: CharSet> Segment<'a, C> {
     }
 
     /// The segment `.`.
-    #[tactic(auto, using(crate::proofs::GrammarLemmas::short_segments))]
+    #[tactic(auto, using(iref_normal::proofs::GrammarLemmas::short_segments))]
     pub fn current() -> Self
         ensures { segment_text result ≡ codes "." }
     {
@@ -94,7 +94,7 @@ impl<'a, C: CharSet> Segment<'a, C> {
     }
 
     /// The segment `..`.
-    #[tactic(auto, using(crate::proofs::GrammarLemmas::short_segments))]
+    #[tactic(auto, using(iref_normal::proofs::GrammarLemmas::short_segments))]
     pub fn parent() -> Self
         ensures { segment_text result ≡ codes ".." }
     {
@@ -186,7 +186,7 @@ impl<C: CharSet> SegmentBuf<C> {
     }
 
     /// The empty segment, which takes no memory.
-    #[tactic(auto, using(crate::proofs::GrammarLemmas::short_segments))]
+    #[tactic(auto, using(iref_normal::proofs::GrammarLemmas::short_segments))]
     pub fn empty(alloc: Global) -> Self
         ensures { segment_buf_text result ≡ [] }
     {

@@ -3,12 +3,12 @@
 ghost use Rattle.std.specs.Prelude.{◌≡◌, true};
 ghost use Rattle.std.specs.List.{list_all};
 ghost use Rattle.std.specs.Iterator.{YieldsFirstBy, YieldsLastBy, item_count};
-ghost use Rattle.iref_text.specs.Tests.{is_segment};
-ghost use Rattle.iref_path.specs.Pieces.{pieces_if_some};
+ghost use Rattle.iref_grammar.specs.Tests.{is_segment};
+ghost use Rattle.iref_normal.specs.Pieces.{pieces_if_some};
 
-use crate::pieces::{first_piece, last_piece, piece_count};
+use iref_normal::pieces::{first_piece, last_piece, piece_count};
 use crate::segment::Segment;
-use iref_text::chars::CharSet;
+use iref_grammar::chars::CharSet;
 use std::marker::PhantomData;
 
 /// The segments of a path that are left.

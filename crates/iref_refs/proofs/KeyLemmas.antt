@@ -4,12 +4,12 @@ use Rattle.std.specs.Option.{option_cmp}
 use Rattle.std.specs.Ordering.{ordering_then, bool_cmp, on}
 use Rattle.std.specs.Cmp.{IsTotalOrder, on_total, then_total, tied_itself}
 use Rattle.std.specs.Cmp.Lexicographic.{slice_cmp, bytes_decides, on_texts, nat_list_cmp_total, options_total}
-use Rattle.iref_text.specs.Authority.{AuthorityValue}
+use Rattle.iref_grammar.specs.Authority.{AuthorityValue}
 use Rattle.std.proofs.lemmas.Map.Text.{is_eq-slice_cmp}
 use mathlib.Core.Bool.{true≢false}
-use Rattle.iref_text.specs.Reference.{ReferenceValue}
+use Rattle.iref_grammar.specs.Reference.{ReferenceValue}
 use Rattle.iref_refs.specs.Key.{key, key_cmp, AreAlike, are_alike, authority_key_cmp}
-use Rattle.iref_path.specs.PathKey.{text_cmp, path_key_cmp, path_key, path_keys_total}
+use Rattle.iref_normal.specs.PathKey.{text_cmp, path_key_cmp, path_key, path_keys_total}
 use Rattle.iref_refs.specs.Relative.{have_same_scheme, have_same_authority, have_same_path}
 
 -- what ties is the same

@@ -8,15 +8,15 @@ use Rattle.std.proofs.lemmas.List.Folds.{list_all-append}
 use Rattle.std.proofs.lemmas.Bool.{cases_lt}
 use mathlib.Core.Bool.{true≢false}
 use Rattle.percent_encoding.specs.Percent.{percent_decode}
-use Rattle.iref_text.specs.Rules.{Text}
-use Rattle.iref_text.specs.Texts.{is_empty, all_but_last}
-use Rattle.iref_text.specs.PathValue.{PathValue, is_one_empty}
-use Rattle.iref_path.specs.NormalList.{is_name, count_parents, staying_names, ends_in_dots, closed, without_lone_empty, normal_segments, open_parents}
-use Rattle.iref_path.specs.PathSuffix.{same_decoded}
+use Rattle.iref_grammar.specs.Rules.{Text}
+use Rattle.iref_grammar.specs.Texts.{is_empty, all_but_last}
+use Rattle.iref_grammar.specs.PathValue.{PathValue, is_one_empty}
+use Rattle.iref_normal.specs.NormalList.{is_name, count_parents, staying_names, ends_in_dots, closed, without_lone_empty, normal_segments, open_parents}
+use Rattle.iref_normal.specs.PathSuffix.{same_decoded}
 use Rattle.iref_refs.specs.Relative.{last_or_empty, steps_between}
-use Rattle.iref_path.proofs.NormalLemmas.{parents-cons}
-use Rattle.iref_path.proofs.JoinedLemmas.{without_last, staying-append, are_names, all_first, climbs, open-most, parents-climbs, parents-names}
-use Rattle.iref_path.proofs.SettledLemmas.{ends-append, last_stays, staying-settled, open-settled, normal_from}
+use Rattle.iref_normal.proofs.NormalLemmas.{parents-cons}
+use Rattle.iref_normal.proofs.JoinedLemmas.{without_last, staying-append, are_names, all_first, climbs, open-most, parents-climbs, parents-names}
+use Rattle.iref_normal.proofs.SettledLemmas.{ends-append, last_stays, staying-settled, open-settled, normal_from}
 
 -- a list by its decoded segments
 abbrev pub decoded : List Text → List Text

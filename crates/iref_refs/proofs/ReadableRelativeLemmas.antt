@@ -2,24 +2,24 @@
 use Rattle.std.proofs.Common.{◌≡◌, ℕ, zero, suc, Bool, true, false, cond, ◌&&◌, List, [], refl, ◌∙◌, ap}
 use Rattle.std.specs.List.{list_all}
 use Rattle.std.proofs.lemmas.List.Folds.{list_all-append}
-use Rattle.iref_text.specs.Characters.{CharTests, AreAboveAscii}
-use Rattle.iref_text.specs.Rules.{Text}
-use Rattle.iref_text.specs.Tests.{is_segment}
-use Rattle.iref_text.specs.PathValue.{PathValue}
-use Rattle.iref_path.specs.Guard.{guarded}
-use Rattle.iref_text.specs.Contexts.{alone, follows_authority, reads_as_path}
-use Rattle.iref_path.specs.NormalList.{normal_segments, normal}
-use Rattle.iref_text.specs.Reference.{ReferenceValue, IsReadable, is_readable}
+use Rattle.iref_grammar.specs.Characters.{CharTests, AreAboveAscii}
+use Rattle.iref_grammar.specs.Rules.{Text}
+use Rattle.iref_grammar.specs.Tests.{is_segment}
+use Rattle.iref_grammar.specs.PathValue.{PathValue}
+use Rattle.iref_normal.specs.Guard.{guarded}
+use Rattle.iref_grammar.specs.Contexts.{alone, follows_authority, reads_as_path}
+use Rattle.iref_normal.specs.NormalList.{normal_segments, normal}
+use Rattle.iref_grammar.specs.Reference.{ReferenceValue, IsReadable, is_readable}
 use Rattle.iref_refs.specs.Relative.{have_same_authority, schemes_agree, is_same_place, steps_between, directory_names, leading_path, with_only_path, relative_to}
-use Rattle.iref_text.proofs.TextLemmas.{both, both_true}
-use Rattle.iref_text.proofs.ReadablePartsLemmas.{readable_parts}
-use Rattle.iref_text.proofs.ReferenceRuleLemmas.{Decides-is_readable}
-use Rattle.iref_path.proofs.GuardLemmas.{guarded-fits}
-use Rattle.iref_path.proofs.JoinedLemmas.{climbs}
-use Rattle.iref_path.proofs.StepSegmentLemmas.{TakesDots, normal-in, guarded-in}
+use Rattle.iref_grammar.proofs.TextLemmas.{both, both_true}
+use Rattle.iref_grammar.proofs.ReadablePartsLemmas.{readable_parts}
+use Rattle.iref_grammar.proofs.ReferenceRuleLemmas.{Decides-is_readable}
+use Rattle.iref_normal.proofs.GuardLemmas.{guarded-fits}
+use Rattle.iref_normal.proofs.JoinedLemmas.{climbs}
+use Rattle.iref_normal.proofs.StepSegmentLemmas.{TakesDots, normal-in, guarded-in}
 use Rattle.iref_refs.proofs.LeadingLemmas.{names_down, names_down-all, climb_between, steps-are}
 use Rattle.iref_refs.proofs.RelativeLemmas.{at_no_root, path_down, stands}
-use Rattle.iref_path.proofs.ReadableStepLemmas.{is_segment-dots}
+use Rattle.iref_normal.proofs.ReadableStepLemmas.{is_segment-dots}
 
 -- ---- what each segment passes
 

@@ -2,29 +2,29 @@
 use Rattle.std.proofs.Common.{◌≡◌, Bool, true, ◌&&◌, List, [], refl}
 use Rattle.std.specs.Prelude.{Option, Some, None, is_some, is_none, option_map}
 use Rattle.std.specs.List.{list_all}
-use Rattle.iref_text.specs.declared.common.PathContext.{PathContext}
-use Rattle.iref_text.specs.Characters.{CharTests}
-use Rattle.iref_text.specs.Rules.{Text}
-use Rattle.iref_text.specs.Tests.{is_scheme, is_segment, is_query, is_fragment, is_user_info, is_host, is_port, none_or}
-use Rattle.iref_text.specs.Authority.{AuthorityValue, has_authority_parts}
-use Rattle.iref_text.specs.PathValue.{PathValue, shows_its_list, spell_path}
-use Rattle.iref_text.specs.Contexts.{follows_authority, reads_as_path, is_no_authority, is_no_scheme, fits}
-use Rattle.iref_path.specs.PathSteps.{lazy_pushed, popped, pushed, appended, lazy_appended, replaced, joined, normalized, cleared}
-use Rattle.iref_text.specs.Reference.{ReferenceValue, context_of, is_readable}
+use Rattle.iref_grammar.specs.declared.places.PathContext.{PathContext}
+use Rattle.iref_grammar.specs.Characters.{CharTests}
+use Rattle.iref_grammar.specs.Rules.{Text}
+use Rattle.iref_grammar.specs.Tests.{is_scheme, is_segment, is_query, is_fragment, is_user_info, is_host, is_port, none_or}
+use Rattle.iref_grammar.specs.Authority.{AuthorityValue, has_authority_parts}
+use Rattle.iref_grammar.specs.PathValue.{PathValue, shows_its_list, spell_path}
+use Rattle.iref_grammar.specs.Contexts.{follows_authority, reads_as_path, is_no_authority, is_no_scheme, fits}
+use Rattle.iref_normal.specs.PathSteps.{lazy_pushed, popped, pushed, appended, lazy_appended, replaced, joined, normalized, cleared}
+use Rattle.iref_grammar.specs.Reference.{ReferenceValue, context_of, is_readable}
 use Rattle.iref_refs.specs.ComponentSteps.{guarded_reference, with_scheme, path_after_new_authority, with_authority, with_path, with_query, with_fragment, with_authority_step, with_path_step, with_normal_path, with_new_normal_path}
 use Rattle.iref_authority.specs.AuthoritySteps.{with_user_info, with_host, with_port}
 use Rattle.iref_refs.specs.Key.{key}
-use Rattle.iref_text.proofs.TextLemmas.{both, first_of_both, both_true}
-use Rattle.iref_text.proofs.ReadablePartsLemmas.{readable_parts, readable_from}
-use Rattle.iref_path.proofs.GuardLemmas.{guarded-fits}
-use Rattle.iref_path.proofs.RewritingLemmas.{path_removes_dot_segments}
-use Rattle.iref_path.specs.DotSegments.{RemovesDotSegments}
-use Rattle.iref_text.specs.Grammar.{slash}
-use Rattle.iref_text.specs.Texts.{lacks}
-use Rattle.iref_path.proofs.NormalPathLemmas.{normalized-normalized, path_key-normalized}
-use Rattle.iref_path.proofs.ReadableStepLemmas.{is_segment-dots}
-use Rattle.iref_path.proofs.FitsLemmas.{lazy_pushed-fits, popped-fits, pushed-fits, appended-fits, lazy_appended-fits, replaced-fits, joined-fits, normalized-fits, cleared-fits}
-use Rattle.iref_path.proofs.StepSegmentLemmas.{all_in, in-cond, guarded-in, lazy_pushed-in, popped-in, pushed-in, appended-in, lazy_appended-in, joined-in, normalized-in}
+use Rattle.iref_grammar.proofs.TextLemmas.{both, first_of_both, both_true}
+use Rattle.iref_grammar.proofs.ReadablePartsLemmas.{readable_parts, readable_from}
+use Rattle.iref_normal.proofs.GuardLemmas.{guarded-fits}
+use Rattle.iref_normal.proofs.RewritingLemmas.{path_removes_dot_segments}
+use Rattle.iref_normal.specs.DotSegments.{RemovesDotSegments}
+use Rattle.iref_grammar.specs.Grammar.{slash}
+use Rattle.iref_grammar.specs.Texts.{lacks}
+use Rattle.iref_normal.proofs.NormalPathLemmas.{normalized-normalized, path_key-normalized}
+use Rattle.iref_normal.proofs.ReadableStepLemmas.{is_segment-dots}
+use Rattle.iref_normal.proofs.FitsLemmas.{lazy_pushed-fits, popped-fits, pushed-fits, appended-fits, lazy_appended-fits, replaced-fits, joined-fits, normalized-fits, cleared-fits}
+use Rattle.iref_normal.proofs.StepSegmentLemmas.{all_in, in-cond, guarded-in, lazy_pushed-in, popped-in, pushed-in, appended-in, lazy_appended-in, joined-in, normalized-in}
 
 -- ---- path steps
 

@@ -4,24 +4,24 @@ use Rattle.std.specs.Option.{option_or}
 use Rattle.std.specs.Str.{str_to_ascii_lowercase}
 use mathlib.Core.Bool.{true≢false}
 use Rattle.percent_encoding.specs.Percent.{percent_decode}
-use Rattle.iref_text.specs.declared.common.PathContext.{PathContext}
-use Rattle.iref_text.specs.Rules.{Text}
-use Rattle.iref_text.specs.Texts.{is_empty, all_but_last}
-use Rattle.iref_text.specs.Authority.{AuthorityValue}
-use Rattle.iref_text.specs.PathValue.{PathValue}
-use Rattle.iref_path.specs.Guard.{guarded, with_dot}
-use Rattle.iref_text.specs.Contexts.{alone, follows_authority, reads_as_path}
-use Rattle.iref_path.specs.NormalList.{count_parents, normal, normal_segments, staying_names}
-use Rattle.iref_text.specs.Reference.{ReferenceValue, context_of}
+use Rattle.iref_grammar.specs.declared.places.PathContext.{PathContext}
+use Rattle.iref_grammar.specs.Rules.{Text}
+use Rattle.iref_grammar.specs.Texts.{is_empty, all_but_last}
+use Rattle.iref_grammar.specs.Authority.{AuthorityValue}
+use Rattle.iref_grammar.specs.PathValue.{PathValue}
+use Rattle.iref_normal.specs.Guard.{guarded, with_dot}
+use Rattle.iref_grammar.specs.Contexts.{alone, follows_authority, reads_as_path}
+use Rattle.iref_normal.specs.NormalList.{count_parents, normal, normal_segments, staying_names}
+use Rattle.iref_grammar.specs.Reference.{ReferenceValue, context_of}
 use Rattle.iref_refs.specs.Resolution.{resolved}
 use Rattle.iref_refs.specs.Key.{key, authority_key}
-use Rattle.iref_path.specs.PathKey.{path_key}
+use Rattle.iref_normal.specs.PathKey.{path_key}
 use Rattle.iref_refs.specs.Relative.{have_same_scheme, have_same_authority, have_same_path, schemes_agree, is_same_place, steps_between, directory_names, leading_path, with_only_path, relative_to}
 use Rattle.iref_refs.specs.RelativeLaws.{IsOnlyPath}
-use Rattle.iref_path.proofs.JoinedLemmas.{are_names}
-use Rattle.iref_text.proofs.TextLemmas.{both_true}
-use Rattle.iref_path.proofs.NormalPathLemmas.{normal-with_dot, normal-guarded, path_key-normalized}
-use Rattle.iref_path.proofs.SettledLemmas.{normal_again, names-normal, lone-normal}
+use Rattle.iref_normal.proofs.JoinedLemmas.{are_names}
+use Rattle.iref_grammar.proofs.TextLemmas.{both_true}
+use Rattle.iref_normal.proofs.NormalPathLemmas.{normal-with_dot, normal-guarded, path_key-normalized}
+use Rattle.iref_normal.proofs.SettledLemmas.{normal_again, names-normal, lone-normal}
 use Rattle.iref_refs.proofs.LeadingLemmas.{decoded, climb_between, steps_lead, dotted_steps_lead, parents-steps, parents-dotted, steps_least}
 use Rattle.iref_refs.proofs.KeyLemmas.{same_scheme, same_authority, same_path}
 

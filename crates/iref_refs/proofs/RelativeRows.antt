@@ -1,14 +1,14 @@
 -- Worked rows of relative references, computed.
 use Prim.Native.String.{String}
 use Rattle.std.specs.Prelude.{◌≡◌, List, [], ◌∷◌, map, codes, refl}
-use Rattle.iref_text.specs.Rules.{Text}
-use Rattle.iref_text.specs.Authority.{spell_authority, read_authority}
-use Rattle.iref_text.specs.PathValue.{spell_path, read_path}
-use Rattle.iref_text.specs.Reference.{spell, read_reference}
+use Rattle.iref_grammar.specs.Rules.{Text}
+use Rattle.iref_grammar.specs.Authority.{spell_authority, read_authority}
+use Rattle.iref_grammar.specs.PathValue.{spell_path, read_path}
+use Rattle.iref_grammar.specs.Reference.{spell, read_reference}
 use Rattle.percent_encoding.specs.Percent.{percent_decode}
-use Rattle.iref_path.specs.Guard.{guarded}
-use Rattle.iref_path.specs.NormalList.{normal_segments, excess, staying_names}
-use Rattle.iref_path.specs.PathKey.{path_key}
+use Rattle.iref_normal.specs.Guard.{guarded}
+use Rattle.iref_normal.specs.NormalList.{normal_segments, excess, staying_names}
+use Rattle.iref_normal.specs.PathKey.{path_key}
 use Rattle.iref_refs.specs.Key.{key}
 use Rattle.iref_refs.specs.Relative.{relative_to}
 

@@ -1,12 +1,12 @@
 -- Worked rows of resolution, computed (RFC 3986 section 5.4).
 use Prim.Native.String.{String}
 use Rattle.std.specs.Prelude.{◌≡◌, List, [], ◌∷◌, map, codes, refl}
-use Rattle.iref_text.specs.Rules.{Text}
-use Rattle.iref_text.specs.Authority.{spell_authority, read_authority}
-use Rattle.iref_text.specs.PathValue.{spell_path, read_path}
-use Rattle.iref_text.specs.Reference.{spell, read_reference}
-use Rattle.iref_path.specs.Guard.{guarded}
-use Rattle.iref_path.specs.NormalList.{normal_segments, excess, staying_names}
+use Rattle.iref_grammar.specs.Rules.{Text}
+use Rattle.iref_grammar.specs.Authority.{spell_authority, read_authority}
+use Rattle.iref_grammar.specs.PathValue.{spell_path, read_path}
+use Rattle.iref_grammar.specs.Reference.{spell, read_reference}
+use Rattle.iref_normal.specs.Guard.{guarded}
+use Rattle.iref_normal.specs.NormalList.{normal_segments, excess, staying_names}
 use Rattle.iref_refs.specs.Resolution.{resolved}
 
 -- the text that the reference resolves to under the base

@@ -3,17 +3,17 @@ use Rattle.std.proofs.Common.{◌≡◌, Bool, true, false, cond, ◌&&◌, ◌+
 use Rattle.std.specs.List.{list_all}
 use Rattle.std.specs.Option.{option_or}
 use Rattle.std.proofs.lemmas.List.Folds.{list_all-append}
-use Rattle.iref_text.specs.Characters.{CharTests}
-use Rattle.iref_text.specs.Rules.{Text}
-use Rattle.iref_text.specs.Texts.{is_empty, all_but_last}
-use Rattle.iref_text.specs.Tests.{is_segment, is_query, none_or}
-use Rattle.iref_text.specs.PathValue.{PathValue}
-use Rattle.iref_path.specs.NormalList.{normal}
-use Rattle.iref_text.specs.Reference.{ReferenceValue, is_readable}
+use Rattle.iref_grammar.specs.Characters.{CharTests}
+use Rattle.iref_grammar.specs.Rules.{Text}
+use Rattle.iref_grammar.specs.Texts.{is_empty, all_but_last}
+use Rattle.iref_grammar.specs.Tests.{is_segment, is_query, none_or}
+use Rattle.iref_grammar.specs.PathValue.{PathValue}
+use Rattle.iref_normal.specs.NormalList.{normal}
+use Rattle.iref_grammar.specs.Reference.{ReferenceValue, is_readable}
 use Rattle.iref_refs.specs.Resolution.{merged, is_no_path, target_path, target, resolved}
-use Rattle.iref_path.proofs.StepSegmentLemmas.{normal-in}
+use Rattle.iref_normal.proofs.StepSegmentLemmas.{normal-in}
 use Rattle.iref_refs.proofs.LeadingLemmas.{all_last}
-use Rattle.iref_path.proofs.ReadableStepLemmas.{is_segment-dots}
+use Rattle.iref_normal.proofs.ReadableStepLemmas.{is_segment-dots}
 use Rattle.iref_refs.proofs.ReferenceStepLemmas.{HasComponents, readable_components, guarded_reference-readable}
 
 module _ (set : CharTests) (base r : ReferenceValue) (own_base : HasComponents set base) (own : HasComponents set r) where

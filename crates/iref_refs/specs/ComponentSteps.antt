@@ -1,12 +1,12 @@
 -- The edits of a reference, each one step on its components (RFC 3986 section 3).
 use Rattle.std.specs.Prelude.{true, Option, Some, None, is_some, is_none, option_map, if◌then◌else◌}
-use Rattle.iref_text.specs.declared.common.PathContext.{PathContext}
-use Rattle.iref_text.specs.Rules.{Text}
-use Rattle.iref_text.specs.Authority.{AuthorityValue}
-use Rattle.iref_text.specs.PathValue.{PathValue}
-use Rattle.iref_path.specs.Guard.{guarded}
-use Rattle.iref_path.specs.NormalList.{normal}
-use Rattle.iref_text.specs.Reference.{ReferenceValue, context_of}
+use Rattle.iref_grammar.specs.declared.places.PathContext.{PathContext}
+use Rattle.iref_grammar.specs.Rules.{Text}
+use Rattle.iref_grammar.specs.Authority.{AuthorityValue}
+use Rattle.iref_grammar.specs.PathValue.{PathValue}
+use Rattle.iref_normal.specs.Guard.{guarded}
+use Rattle.iref_normal.specs.NormalList.{normal}
+use Rattle.iref_grammar.specs.Reference.{ReferenceValue, context_of}
 
 -- with the path guarded for where it stands (sections 3.3 and 4.2)
 abbrev pub guarded_reference : ReferenceValue → ReferenceValue

@@ -5,9 +5,9 @@ use Rattle.std.specs.Str.{str_to_ascii_lowercase}
 use Rattle.std.specs.declared.cmp.Ordering.{Ordering}
 use Rattle.std.specs.Ordering.{ordering_then, is_eq}
 use Rattle.percent_encoding.specs.Percent.{percent_decode}
-use Rattle.iref_text.specs.Authority.{AuthorityValue}
-use Rattle.iref_path.specs.PathKey.{text_cmp, path_key, path_key_cmp}
-use Rattle.iref_text.specs.Reference.{ReferenceValue}
+use Rattle.iref_grammar.specs.Authority.{AuthorityValue}
+use Rattle.iref_normal.specs.PathKey.{text_cmp, path_key, path_key_cmp}
+use Rattle.iref_grammar.specs.Reference.{ReferenceValue}
 
 -- user info and host as decoded bytes (section 6.2.2.2), the port as text
 abbrev pub authority_key : AuthorityValue → AuthorityValue

@@ -1,7 +1,7 @@
 -- A reference without its last components.
 use Rattle.std.specs.Prelude.{None}
-use Rattle.iref_path.specs.PathFunctions.{directory}
-use Rattle.iref_text.specs.Reference.{ReferenceValue}
+use Rattle.iref_normal.specs.PathFunctions.{directory}
+use Rattle.iref_grammar.specs.Reference.{ReferenceValue}
 
 -- `UriRef::without_fragment`
 abbrev pub without_fragment : ReferenceValue → ReferenceValue

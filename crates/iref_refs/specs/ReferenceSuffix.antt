@@ -1,9 +1,9 @@
 -- What is left of a reference after a prefix, by keys (RFC 3986 section 6.2.2).
 use Rattle.std.specs.Prelude.{◌&&◌, Option, None, if◌then◌else◌, option_map}
-use Rattle.iref_text.specs.Rules.{Text}
-use Rattle.iref_text.specs.PathValue.{PathValue}
-use Rattle.iref_path.specs.PathSuffix.{path_suffix}
-use Rattle.iref_text.specs.Reference.{ReferenceValue}
+use Rattle.iref_grammar.specs.Rules.{Text}
+use Rattle.iref_grammar.specs.PathValue.{PathValue}
+use Rattle.iref_normal.specs.PathSuffix.{path_suffix}
+use Rattle.iref_grammar.specs.Reference.{ReferenceValue}
 use Rattle.iref_refs.specs.Relative.{have_same_scheme, have_same_authority}
 
 -- where scheme and authority are equal: what is left of the path, with the query and fragment of the whole

@@ -1,10 +1,10 @@
 -- What callers see of references and of their parts.
 use Rattle.std.specs.Prelude.{Some, option_map}
-use Rattle.iref_text.specs.Rules.{Text}
-use Rattle.iref_text.specs.Views.{view_text}
+use Rattle.iref_grammar.specs.Rules.{Text}
+use Rattle.iref_parse.specs.Views.{view_text}
 use Rattle.iref_text.specs.Components.{scheme_text, query_text, fragment_text}
-use Rattle.iref_text.specs.ComponentTexts.{ComponentTexts}
-use Rattle.iref_text.specs.Reference.{ReferenceValue, read_reference}
+use Rattle.iref_grammar.specs.ComponentTexts.{ComponentTexts}
+use Rattle.iref_grammar.specs.Reference.{ReferenceValue, read_reference}
 use Rattle.iref_path.specs.Views.{path_text}
 use Rattle.iref_authority.specs.Views.{authority_text}
 use Rattle.iref_refs.specs.declared.reference.uri_ref.UriRef.{UriRef}

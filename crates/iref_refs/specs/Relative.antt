@@ -3,16 +3,16 @@ use Rattle.std.specs.Prelude.{◌-◌, Bool, false, not, ◌&&◌, ◌||◌, Lis
 use Rattle.std.specs.List.{common_prefix_len}
 use Rattle.std.specs.Option.{option_cmp}
 use Rattle.std.specs.Ordering.{is_eq}
-use Rattle.iref_text.specs.Rules.{Text}
-use Rattle.iref_text.specs.Texts.{is_empty, all_but_last}
-use Rattle.iref_text.specs.PathValue.{PathValue}
-use Rattle.iref_path.specs.Guard.{guarded}
-use Rattle.iref_text.specs.Contexts.{alone}
-use Rattle.iref_path.specs.NormalList.{normal, normal_segments, staying_names}
-use Rattle.iref_path.specs.PathSuffix.{same_decoded}
-use Rattle.iref_text.specs.Reference.{ReferenceValue}
+use Rattle.iref_grammar.specs.Rules.{Text}
+use Rattle.iref_grammar.specs.Texts.{is_empty, all_but_last}
+use Rattle.iref_grammar.specs.PathValue.{PathValue}
+use Rattle.iref_normal.specs.Guard.{guarded}
+use Rattle.iref_grammar.specs.Contexts.{alone}
+use Rattle.iref_normal.specs.NormalList.{normal, normal_segments, staying_names}
+use Rattle.iref_normal.specs.PathSuffix.{same_decoded}
+use Rattle.iref_grammar.specs.Reference.{ReferenceValue}
 use Rattle.iref_refs.specs.Key.{key, authority_key_cmp}
-use Rattle.iref_path.specs.PathKey.{text_cmp, path_key_cmp, path_key}
+use Rattle.iref_normal.specs.PathKey.{text_cmp, path_key_cmp, path_key}
 
 -- equality of single components, by their keys
 abbrev pub have_same_scheme : ReferenceValue → ReferenceValue → Bool

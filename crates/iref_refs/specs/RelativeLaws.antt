@@ -1,10 +1,10 @@
 -- What the laws of relative references speak of.
 use Rattle.std.specs.Prelude.{◌≡◌, ◌≤◌, false, List, IsTrue, IsFalse, None, is_some}
-use Rattle.iref_text.specs.Characters.{CharTests}
-use Rattle.iref_text.specs.Rules.{Text}
-use Rattle.iref_text.specs.Texts.{is_empty}
-use Rattle.iref_path.specs.NormalList.{count_parents}
-use Rattle.iref_text.specs.Reference.{ReferenceValue, is_readable}
+use Rattle.iref_grammar.specs.Characters.{CharTests}
+use Rattle.iref_grammar.specs.Rules.{Text}
+use Rattle.iref_grammar.specs.Texts.{is_empty}
+use Rattle.iref_normal.specs.NormalList.{count_parents}
+use Rattle.iref_grammar.specs.Reference.{ReferenceValue, is_readable}
 use Rattle.iref_refs.specs.Resolution.{resolved}
 use Rattle.iref_refs.specs.Key.{AreAlike}
 use Rattle.iref_refs.specs.Relative.{schemes_agree, have_same_authority, with_only_path}

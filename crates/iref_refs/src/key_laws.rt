@@ -3,7 +3,7 @@
 ghost use Rattle.std.specs.Prelude.{Decides};
 ghost use Rattle.std.specs.Cmp.{IsTotalOrder};
 ghost use Rattle.std.specs.Ordering.{on};
-ghost use Rattle.iref_text.specs.Reference.{ReferenceValue};
+ghost use Rattle.iref_grammar.specs.Reference.{ReferenceValue};
 ghost use Rattle.iref_refs.specs.Key.{AreAlike, are_alike, key, key_cmp};
 
 /// The comparison of two references is Equal exactly where their keys are the same.

@@ -1,6 +1,4 @@
 //! References and URIs (RFC 3986 sections 3 and 4.1).
 pub mod parts;
-#[cfg(test)]
-mod tests;
 pub mod uri;
 pub mod uri_ref;

@@ -1,8 +1,8 @@
 //! The laws of relative references.
 
 ghost use Rattle.std.specs.Prelude.{◌≡◌, IsTrue, IsFalse, is_some};
-ghost use Rattle.iref_text.specs.Characters.{CharTests, AreAboveAscii};
-ghost use Rattle.iref_text.specs.Reference.{ReferenceValue, IsReadable, is_readable, read_reference, spell};
+ghost use Rattle.iref_grammar.specs.Characters.{CharTests, AreAboveAscii};
+ghost use Rattle.iref_grammar.specs.Reference.{ReferenceValue, IsReadable, is_readable, read_reference, spell};
 ghost use Rattle.iref_refs.specs.Resolution.{resolved};
 ghost use Rattle.iref_refs.specs.Key.{AreAlike};
 ghost use Rattle.iref_refs.specs.Relative.{relative_to};

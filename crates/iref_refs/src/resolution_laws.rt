@@ -1,8 +1,8 @@
 //! The laws of resolution.
 
 ghost use Rattle.std.specs.Prelude.{IsTrue};
-ghost use Rattle.iref_text.specs.Characters.{CharTests};
-ghost use Rattle.iref_text.specs.Reference.{ReferenceValue, is_readable};
+ghost use Rattle.iref_grammar.specs.Characters.{CharTests};
+ghost use Rattle.iref_grammar.specs.Reference.{ReferenceValue, is_readable};
 ghost use Rattle.iref_refs.specs.Resolution.{resolved};
 
 /// What a readable reference resolves to under a readable base is readable.

@@ -2,17 +2,17 @@
 
 ghost use Rattle.std.specs.Prelude.{◌≡◌, true, List, [], Option, is_some};
 ghost use Rattle.std.specs.List.{list_all};
-ghost use Rattle.iref_text.specs.Characters.{CharTests};
-ghost use Rattle.iref_text.specs.Rules.{Text};
-ghost use Rattle.iref_text.specs.Grammar.{slash};
-ghost use Rattle.iref_text.specs.Tests.{is_scheme, is_segment, is_query, is_fragment, is_user_info, is_host, is_port, none_or};
-ghost use Rattle.iref_text.specs.Texts.{lacks};
-ghost use Rattle.iref_text.specs.Authority.{AuthorityValue, has_authority_parts};
-ghost use Rattle.iref_text.specs.PathValue.{PathValue, spell_path};
-ghost use Rattle.iref_text.specs.Reference.{ReferenceValue, is_readable};
+ghost use Rattle.iref_grammar.specs.Characters.{CharTests};
+ghost use Rattle.iref_grammar.specs.Rules.{Text};
+ghost use Rattle.iref_grammar.specs.Grammar.{slash};
+ghost use Rattle.iref_grammar.specs.Tests.{is_scheme, is_segment, is_query, is_fragment, is_user_info, is_host, is_port, none_or};
+ghost use Rattle.iref_grammar.specs.Texts.{lacks};
+ghost use Rattle.iref_grammar.specs.Authority.{AuthorityValue, has_authority_parts};
+ghost use Rattle.iref_grammar.specs.PathValue.{PathValue, spell_path};
+ghost use Rattle.iref_grammar.specs.Reference.{ReferenceValue, is_readable};
 ghost use Rattle.iref_authority.specs.AuthoritySteps.{with_user_info, with_host, with_port};
-ghost use Rattle.iref_path.specs.PathSteps.{lazy_pushed, popped, pushed, appended, lazy_appended, replaced, joined, normalized, cleared};
-ghost use Rattle.iref_path.specs.DotSegments.{RemovesDotSegments};
+ghost use Rattle.iref_normal.specs.PathSteps.{lazy_pushed, popped, pushed, appended, lazy_appended, replaced, joined, normalized, cleared};
+ghost use Rattle.iref_normal.specs.DotSegments.{RemovesDotSegments};
 ghost use Rattle.iref_refs.specs.ComponentSteps.{with_scheme, with_authority, with_path, with_query, with_fragment, with_authority_step, with_path_step, with_normal_path, with_new_normal_path};
 ghost use Rattle.iref_refs.specs.Key.{key};
 

@@ -1,10 +1,10 @@
 -- The empty text is in these rules.
 use Rattle.std.proofs.Common.{◌≡◌, true, [], refl}
 use Rattle.std.specs.Str.{chars, is_utf8}
-use Rattle.iref_text.specs.Characters.{CharTests}
-use Rattle.iref_text.specs.Tests.{is_query, is_fragment, is_port, is_pct_str}
-use Rattle.iref_text.specs.Reference.{is_reference, is_readable, read_reference}
-use Rattle.iref_text.specs.PathValue.{read_path}
+use Rattle.iref_grammar.specs.Characters.{CharTests}
+use Rattle.iref_grammar.specs.Tests.{is_query, is_fragment, is_port, is_pct_str}
+use Rattle.iref_grammar.specs.Reference.{is_reference, is_readable, read_reference}
+use Rattle.iref_grammar.specs.PathValue.{read_path}
 
 pub is_query_empty : (set : CharTests) → is_query set [] ≡ true
 unfolding is_query is_utf8 chars

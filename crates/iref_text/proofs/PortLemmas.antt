@@ -6,8 +6,8 @@ use Rattle.std.specs.Str.Parse.{digits_value, ParsesUnsigned}
 use Rattle.std.proofs.lemmas.Str.Parse.{IsNumeralModel, numerals_by_value, parse_digits}
 use Rattle.std.proofs.lemmas.Bool.Decides.{nat_tests}
 use Rattle.std.proofs.lemmas.Fmt.{decimal_is_IsNumeral_wide}
-use Rattle.iref_text.specs.Rules.{Text}
-use Rattle.iref_text.specs.Tests.{is_port}
+use Rattle.iref_grammar.specs.Rules.{Text}
+use Rattle.iref_grammar.specs.Tests.{is_port}
 use Rattle.iref_text.specs.Ports.{port_value, fitting, port_number, port_text}
 use Rattle.iref_text.specs.declared.common.port.PortError.{PortError}
 use Rattle.iref_text.specs.declared.common.port.PortError.TheVariants.{OutOfRange}

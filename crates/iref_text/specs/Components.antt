@@ -1,6 +1,6 @@
 -- The texts of components, borrowed and owned. A port's text is its digits.
-use Rattle.iref_text.specs.Rules.{Text}
-use Rattle.iref_text.specs.Views.{view_text, owned_text}
+use Rattle.iref_grammar.specs.Rules.{Text}
+use Rattle.iref_parse.specs.Views.{view_text, owned_text}
 use Rattle.iref_text.specs.declared.common.scheme.Scheme.{Scheme}
 use Rattle.iref_text.specs.declared.common.scheme.SchemeBuf.{SchemeBuf}
 use Rattle.iref_text.specs.declared.common.port.Port.{Port}

@@ -1,35 +1,10 @@
 //! What the components have in common: what stands before a path, where each stands, and why an edit is refused.
 #![tactic(auto)]
 
-pub mod error;
 pub mod port;
 pub mod scheme;
 
-pub use error::{Memory, TryError};
+pub use iref_grammar::places::{Offsets, PathContext};
+pub use iref_parse::error::{Memory, TryError};
 pub use port::{InvalidPort, Port, PortBuf, PortError};
 pub use scheme::{InvalidScheme, Scheme, SchemeBuf};
-use std::ops::Range;
-
-/// What stands before a path (RFC 3986 sections 3.3 and 4.2).
-#[derive(Clone, Copy, Debug, Default)]
-pub struct PathContext {
-    /// A scheme does.
-    pub has_scheme: bool,
-    /// An authority does.
-    pub has_authority: bool,
-}
-
-/// Where the components of a reference stand in its text, in bytes, without `:`, `//`, `?` and `#` (RFC 3986 section 5.3).
-#[derive(Clone, Debug, PartialEq, Eq, Drop)]
-pub struct Offsets {
-    /// The scheme, if there is one.
-    pub scheme: Option<Range<usize>>,
-    /// The authority, if there is one.
-    pub authority: Option<Range<usize>>,
-    /// The path, which may be empty.
-    pub path: Range<usize>,
-    /// The query, if there is one.
-    pub query: Option<Range<usize>>,
-    /// The fragment, if there is one.
-    pub fragment: Option<Range<usize>>,
-}

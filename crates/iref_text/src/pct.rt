@@ -3,19 +3,17 @@ ghost use Rattle.std.specs.Prelude.{◌≡◌, true, [], Some, IfOk};
 ghost use Rattle.std.specs.String.{string_bytes};
 ghost use Rattle.percent_encoding.specs.Percent.{percent_decode};
 ghost use Rattle.percent_encoding.specs.Iter.{decoded_bytes};
-ghost use Rattle.iref_text.specs.Rules.{InUtf8};
-ghost use Rattle.iref_text.specs.Grammar.{IsPctStr};
-ghost use Rattle.iref_text.specs.Tests.{is_pct_str};
-ghost use Rattle.iref_text.specs.Makers.{Parses};
+ghost use Rattle.iref_grammar.specs.Rules.{InUtf8};
+ghost use Rattle.iref_grammar.specs.Grammar.{IsPctStr};
+ghost use Rattle.iref_grammar.specs.Tests.{is_pct_str};
+ghost use Rattle.iref_parse.specs.Makers.{Parses};
 ghost use Rattle.iref_text.specs.Components.{pct_text, pct_string_text};
 
-pub mod decoded;
-
-use crate::chars::UriChars;
-use crate::common::Memory;
-use crate::parse::owned::TextBuf;
-use crate::parse::rules::PctStrRule;
-use crate::parse::view::View;
+use iref_grammar::chars::UriChars;
+use iref_parse::error::Memory;
+use iref_parse::owned::TextBuf;
+use iref_parse::rules::PctStrRule;
+use iref_parse::view::View;
 use percent_encoding::{PercentDecode, percent_decode_str};
 use std::alloc::Global;
 use std::convert::TryFrom;

@@ -1,17 +1,17 @@
 //! Queries (RFC 3986 section 3.4).
 ghost use Rattle.std.specs.Prelude.{◌≡◌, true, [], Some, IfOk};
 ghost use Rattle.std.specs.String.{string_bytes};
-ghost use Rattle.iref_text.specs.Rules.{InUtf8};
-ghost use Rattle.iref_text.specs.Grammar.{IsQuery};
-ghost use Rattle.iref_text.specs.Tests.{is_query};
-ghost use Rattle.iref_text.specs.Makers.{Parses};
+ghost use Rattle.iref_grammar.specs.Rules.{InUtf8};
+ghost use Rattle.iref_grammar.specs.Grammar.{IsQuery};
+ghost use Rattle.iref_grammar.specs.Tests.{is_query};
+ghost use Rattle.iref_parse.specs.Makers.{Parses};
 ghost use Rattle.iref_text.specs.Components.{query_text, query_buf_text, pct_text, pct_string_text};
 
-use crate::chars::CharSet;
-use crate::common::Memory;
-use crate::parse::owned::TextBuf;
-use crate::parse::rules::QueryRule;
-use crate::parse::view::View;
+use iref_grammar::chars::CharSet;
+use iref_parse::error::Memory;
+use iref_parse::owned::TextBuf;
+use iref_parse::rules::QueryRule;
+use iref_parse::view::View;
 use crate::pct::{PctStr, PctString};
 use std::alloc::Global;
 use std::convert::TryFrom;
@@ -83,7 +83,7 @@ impl<'a, C: CharSet> Query<'a, C> {
     }
 
     /// The text as a percent-encoded text.
-    #[tactic(auto, using(crate::proofs::PctLemmas::query_is_pct_str))]
+    #[tactic(auto, using(iref_grammar::proofs::PctLemmas::query_is_pct_str))]
     pub fn as_pct_str(&self) -> PctStr<'a>
         ensures { pct_text result ≡ query_text self.now }
     {
@@ -205,7 +205,7 @@ impl<C: CharSet> QueryBuf<C> {
     }
 
     /// The text as a percent-encoded text, with no copy.
-    #[tactic(auto, using(crate::proofs::PctLemmas::query_is_pct_str))]
+    #[tactic(auto, using(iref_grammar::proofs::PctLemmas::query_is_pct_str))]
     pub fn into_pct_string(self) -> PctString
         ensures { pct_string_text result ≡ query_buf_text self }
     {

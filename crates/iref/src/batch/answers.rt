@@ -1,7 +1,7 @@
 //! The answer to a line.
 ghost use Rattle.std.specs.Prelude.{◌≡◌, ◌++◌, ◌∷◌, [], Some, option_map, OnOk, OnErr};
 ghost use Rattle.std.specs.Option.{option_copied};
-ghost use Rattle.iref_text.specs.Rules.{Text};
+ghost use Rattle.iref_grammar.specs.Rules.{Text};
 ghost use Rattle.iref.specs.Lines.{Answered, answer, answer_text, answer_if_valid, newline, part_field, part_fields, program_verbs, tab, Parts};
 ghost use Rattle.iref_text.specs.Components.{scheme_text, query_text, fragment_text};
 ghost use Rattle.iref_authority.specs.Views.{authority_text};
@@ -13,11 +13,11 @@ use super::request::{Request, read_request};
 use iref_authority::authority::Authority;
 use iref_refs::reference::parts::UriRefParts;
 use iref_refs::reference::uri_ref::UriRef;
-use iref_text::chars::UriChars;
+use iref_grammar::chars::UriChars;
 use iref_text::common::Scheme;
 use iref_text::fragment::Fragment;
 use iref_text::query::Query;
-use iref_text::reference_laws::reference_grammar;
+use iref_grammar::reference_laws::reference_grammar;
 use std::alloc::AllocError;
 
 /// Puts the text.

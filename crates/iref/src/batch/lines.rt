@@ -1,7 +1,7 @@
 //! Lines as their bytes come in, and the replies to them.
 ghost use Rattle.std.specs.Prelude.{◌≡◌, ◌++◌, ◌∷◌, [], true, false, is_err, OnOk, OnErr, codes};
-ghost use Rattle.iref_text.specs.Rules.{Text};
-ghost use Rattle.iref_text.specs.Texts.{is_empty};
+ghost use Rattle.iref_grammar.specs.Rules.{Text};
+ghost use Rattle.iref_grammar.specs.Texts.{is_empty};
 ghost use Rattle.iref.specs.Lines.{newline, lines_of};
 ghost use Rattle.iref.specs.Runs.{AnswersAll, AnswersBegun};
 ghost use Rattle.iref.specs.Gathering.{Lacks, Writes, WritesPart, Gains, Replies, RepliesPart, InRun};

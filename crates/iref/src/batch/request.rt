@@ -1,8 +1,8 @@
 //! What a line asks for.
 ghost use Rattle.std.specs.Prelude.{◌≡◌, ◌∷◌, bytes_eq, option_map};
 ghost use Rattle.std.specs.Option.{option_copied};
-ghost use Rattle.iref_text.specs.Rules.{Text};
-ghost use Rattle.iref_text.specs.Texts.{pieces_at};
+ghost use Rattle.iref_grammar.specs.Rules.{Text};
+ghost use Rattle.iref_grammar.specs.Texts.{pieces_at};
 ghost use Rattle.iref.specs.Fields.{fields_of};
 ghost use Rattle.iref.specs.Requests.{request_of};
 ghost use Rattle.iref.specs.Lines as spec;

@@ -1,19 +1,19 @@
 //! The components of references and of URIs.
 ghost use Rattle.std.specs.Prelude.{◌≡◌, true, option_map};
 ghost use Rattle.std.specs.Option.{option_copied};
-ghost use Rattle.iref_text.specs.Tests.{is_scheme, is_query, is_fragment, none_or};
-ghost use Rattle.iref_text.specs.Authority.{is_authority};
+ghost use Rattle.iref_grammar.specs.Tests.{is_scheme, is_query, is_fragment, none_or};
+ghost use Rattle.iref_grammar.specs.Authority.{is_authority};
 ghost use Rattle.iref_text.specs.Components.{scheme_text, query_text, fragment_text};
-ghost use Rattle.iref_text.specs.ComponentTexts.{AreComponents};
-ghost use Rattle.iref_text.specs.ReferenceSlices.{texts_of};
+ghost use Rattle.iref_grammar.specs.ComponentTexts.{AreComponents};
+ghost use Rattle.iref_parse.specs.ReferenceSlices.{texts_of};
 ghost use Rattle.iref_authority.specs.Views.{authority_text};
 
 use iref_authority::authority::Authority;
 use iref_path::path::Path;
-use iref_text::chars::CharSet;
+use iref_grammar::chars::CharSet;
 use iref_text::common::Scheme;
 use iref_text::fragment::Fragment;
-use iref_text::parse::split::ReferenceSlices;
+use iref_parse::split::ReferenceSlices;
 use iref_text::query::Query;
 
 /// The components of a reference (RFC 3986 section 4.1).

@@ -1,11 +1,11 @@
 //! URIs (RFC 3986 section 3).
 ghost use Rattle.std.specs.Prelude.{◌≡◌, true, [], ◌∷◌, Some, None, MatchResult, is_some, option_map};
-ghost use Rattle.iref_text.specs.Rules.{InUtf8};
-ghost use Rattle.iref_text.specs.Grammar.{IsUri, hash_sign};
-ghost use Rattle.iref_text.specs.Texts.{before};
-ghost use Rattle.iref_text.specs.Makers.{Parses};
-ghost use Rattle.iref_text.specs.Reference.{hierarchy, is_full_reference, spell};
-ghost use Rattle.iref_text.specs.ComponentTexts.{read_components, spell_components};
+ghost use Rattle.iref_grammar.specs.Rules.{InUtf8};
+ghost use Rattle.iref_grammar.specs.Grammar.{IsUri, hash_sign};
+ghost use Rattle.iref_grammar.specs.Texts.{before};
+ghost use Rattle.iref_parse.specs.Makers.{Parses};
+ghost use Rattle.iref_grammar.specs.Reference.{hierarchy, is_full_reference, spell};
+ghost use Rattle.iref_grammar.specs.ComponentTexts.{read_components, spell_components};
 ghost use Rattle.iref_text.specs.Components.{scheme_text, query_text, fragment_text};
 ghost use Rattle.iref_path.specs.Views.{path_text};
 ghost use Rattle.iref_refs.specs.ComponentSteps.{with_query, with_fragment};
@@ -15,11 +15,11 @@ use crate::reference::parts::UriParts;
 use crate::reference::uri_ref::UriRef;
 use iref_authority::authority::Authority;
 use iref_path::path::Path;
-use iref_text::chars::CharSet;
+use iref_grammar::chars::CharSet;
 use iref_text::common::Scheme;
 use iref_text::fragment::Fragment;
-use iref_text::parse::rules::FullReferenceRule;
-use iref_text::parse::view::View;
+use iref_parse::rules::FullReferenceRule;
+use iref_parse::view::View;
 use iref_text::query::Query;
 use std::convert::TryFrom;
 use std::fmt;
@@ -82,7 +82,7 @@ impl<'a, C: CharSet> Uri<'a, C> {
     }
 
     /// The reference of the same text, which has a scheme.
-    #[tactic(auto, using(iref_text::proofs::ComponentLemmas::full))]
+    #[tactic(auto, using(iref_grammar::proofs::ComponentLemmas::full))]
     pub fn as_uri_ref(&self) -> UriRef<'a, C>
         ensures text { uri_ref_text result ≡ uri_text self.now }
         ensures scheme { is_some (uri_ref_value result).scheme ≡ true }

@@ -1,19 +1,19 @@
 //! Ports (RFC 3986 section 3.2.3).
-ghost use Rattle.std.specs.Prelude.{◌≡◌, ◌^◌, true, [], Some, IfOk, codes};
+ghost use Rattle.std.specs.Prelude.{◌≡◌, ℕ, ◌<◌, ◌^◌, true, [], Some, IfOk, codes};
 ghost use Rattle.std.specs.Result.{result_ok};
 ghost use Rattle.std.specs.String.{string_bytes};
-ghost use Rattle.iref_text.specs.Rules.{InUtf8};
-ghost use Rattle.iref_text.specs.Grammar.{IsPort};
-ghost use Rattle.iref_text.specs.Tests.{is_port};
-ghost use Rattle.iref_text.specs.Makers.{Parses};
-ghost use Rattle.iref_text.specs.Ports.{port_number, signed_port_number, port_text};
+ghost use Rattle.iref_grammar.specs.Rules.{InUtf8};
+ghost use Rattle.iref_grammar.specs.Grammar.{IsPort};
+ghost use Rattle.iref_grammar.specs.Tests.{is_port};
+ghost use Rattle.iref_parse.specs.Makers.{Parses};
+ghost use Rattle.iref_text.specs.Ports.{port_value, port_number, signed_port_number, port_text};
 ghost use Rattle.iref_text.specs.Components.{port_digits, port_buf_digits};
 
-use crate::chars::UriChars;
-use crate::common::error::Memory;
-use crate::parse::owned::TextBuf;
-use crate::parse::rules::PortRule;
-use crate::parse::view::View;
+use iref_grammar::chars::UriChars;
+use iref_parse::error::Memory;
+use iref_parse::owned::TextBuf;
+use iref_parse::rules::PortRule;
+use iref_parse::view::View;
 use std::alloc::Global;
 use std::convert::TryFrom;
 use std::fmt;
@@ -24,6 +24,11 @@ use thiserror::Error;
 #[error_bound(T: fmt::Display)]
 #[error("{0}")]
 pub struct InvalidPort<T>(pub T);
+
+/// The port of a number has that number.
+pub fn numbers_as_ports()
+    ensures { (n : ℕ) → n < 2 ^ 128 → port_value (port_text n) ≡ Some n }
+{}
 
 /// Why a port is no number of a type.
 #[derive(Clone, Copy, Debug, PartialEq, Eq, Error)]
@@ -103,7 +108,7 @@ impl<'a> Port<'a> {
     }
 }
 
-#[tactic(auto, unfolding(crate::specs::Tests::is_port))]
+#[tactic(auto, unfolding(iref_grammar::specs::Tests::is_port))]
 impl Port<'static> {
     /// The port of the scheme `http`.
     pub fn http() -> Self

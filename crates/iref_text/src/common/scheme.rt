@@ -1,17 +1,17 @@
 //! Schemes (RFC 3986 section 3.1).
 ghost use Rattle.std.specs.Prelude.{◌≡◌, true, Some, IfOk, codes};
 ghost use Rattle.std.specs.String.{string_bytes};
-ghost use Rattle.iref_text.specs.Rules.{InUtf8};
-ghost use Rattle.iref_text.specs.Grammar.{IsScheme};
-ghost use Rattle.iref_text.specs.Tests.{is_scheme};
-ghost use Rattle.iref_text.specs.Makers.{Parses};
+ghost use Rattle.iref_grammar.specs.Rules.{InUtf8};
+ghost use Rattle.iref_grammar.specs.Grammar.{IsScheme};
+ghost use Rattle.iref_grammar.specs.Tests.{is_scheme};
+ghost use Rattle.iref_parse.specs.Makers.{Parses};
 ghost use Rattle.iref_text.specs.Components.{scheme_text, scheme_buf_text};
 
-use crate::chars::UriChars;
-use crate::common::error::Memory;
-use crate::parse::owned::TextBuf;
-use crate::parse::rules::SchemeRule;
-use crate::parse::view::View;
+use iref_grammar::chars::UriChars;
+use iref_parse::error::Memory;
+use iref_parse::owned::TextBuf;
+use iref_parse::rules::SchemeRule;
+use iref_parse::view::View;
 use std::alloc::Global;
 use std::convert::TryFrom;
 use std::fmt;
@@ -82,7 +82,7 @@ impl<'a> Scheme<'a> {
     }
 }
 
-#[tactic(auto, unfolding(crate::specs::Tests::is_scheme))]
+#[tactic(auto, unfolding(iref_grammar::specs::Tests::is_scheme))]
 impl Scheme<'static> {
     /// The scheme `http`.
     pub fn http() -> Self

@@ -1,5 +1,5 @@
 use Rattle.std.proofs.Common.{◌≡◌, [], false, Some}
-use Rattle.iref_text.specs.Rules.{Text}
+use Rattle.iref_grammar.specs.Rules.{Text}
 use Rattle.iref.specs.Gathering.{InInput}
 use Rattle.iref.proofs.batch.run.Given as goal
 

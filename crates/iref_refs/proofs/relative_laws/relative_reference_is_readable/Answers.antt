@@ -1,5 +1,5 @@
 use Rattle.iref_refs.proofs.ReadableRelativeLemmas.{relative_to-readable, relative_to-IsReadable}
-use Rattle.iref_text.proofs.ReadableLemmas.{readable_read}
+use Rattle.iref_grammar.proofs.ReadableLemmas.{readable_read}
 use Rattle.iref_refs.specs.Relative.{relative_to}
 use Rattle.iref_refs.proofs.relative_laws.relative_reference_is_readable.Goals as goal
 

@@ -1,4 +1,4 @@
-use Rattle.iref_text.specs.AuthoritySlices.{authority_of}
+use Rattle.iref_parse.specs.AuthoritySlices.{authority_of}
 use Rattle.iref_authority.proofs.PartLemmas.{user_info_in_rule, host_in_rule, port_in_rule}
 use Rattle.iref_authority.proofs.authority.Authority.parts.Goals as goal
 

@@ -1,5 +1,5 @@
 use Rattle.std.proofs.Common.{◌≡◌, ◌++◌, false, length}
-use Rattle.iref_text.specs.Rules.{Text}
+use Rattle.iref_grammar.specs.Rules.{Text}
 use Rattle.iref.specs.Gathering.{InRun}
 use Rattle.iref.proofs.batch.lines.Lines.take.Given as goal
 

@@ -1,7 +1,7 @@
 use Rattle.std.proofs.Common.{◌≡◌, true, rules}
 use Rattle.std.specs.Prelude.{is_some}
-use Rattle.iref_text.specs.Reference.{read_reference}
-use Rattle.iref_text.proofs.ComponentLemmas.{full_if_scheme}
+use Rattle.iref_grammar.specs.Reference.{read_reference}
+use Rattle.iref_grammar.proofs.ComponentLemmas.{full_if_scheme}
 use Rattle.iref_refs.proofs.reference.uri_ref.UriRef.as_uri.Goals as goal
 
 pub new_unchecked-requires : goal.new_unchecked-requires

@@ -1,4 +1,4 @@
-use Rattle.iref_text.proofs.ReferenceCutLemmas.{read_reference-spelled}
+use Rattle.iref_grammar.proofs.ReferenceCutLemmas.{read_reference-spelled}
 use Rattle.iref_refs.specs.References.{uri_ref_text}
 use Rattle.iref_refs.proofs.reference.uri_ref.UriRef.parts.Goals as goal
 

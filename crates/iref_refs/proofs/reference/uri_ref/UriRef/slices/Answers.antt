@@ -1,4 +1,4 @@
-use Rattle.iref_text.specs.ReferenceSlices.{texts_of}
+use Rattle.iref_parse.specs.ReferenceSlices.{texts_of}
 use Rattle.iref_refs.proofs.reference.uri_ref.UriRef.slices.Goals as goal
 
 pub returns-clause-components : goal.returns-clause-components

@@ -1,8 +1,8 @@
 use Rattle.std.proofs.Common.{[], ◌∷◌, ap, ◌∙◌}
-use Rattle.iref_text.specs.Grammar.{question_mark}
-use Rattle.iref_text.specs.Texts.{before}
-use Rattle.iref_text.specs.Reference.{hierarchy, is_reference, read_reference}
-use Rattle.iref_text.proofs.FrontLemmas.{read_reference-hierarchy, is_reference-hierarchy}
+use Rattle.iref_grammar.specs.Grammar.{question_mark}
+use Rattle.iref_grammar.specs.Texts.{before}
+use Rattle.iref_grammar.specs.Reference.{hierarchy, is_reference, read_reference}
+use Rattle.iref_grammar.proofs.FrontLemmas.{read_reference-hierarchy, is_reference-hierarchy}
 use Rattle.iref_refs.specs.References.{uri_ref_text}
 use Rattle.iref_refs.proofs.reference.uri_ref.UriRef.without_query_and_fragment.Goals as goal
 

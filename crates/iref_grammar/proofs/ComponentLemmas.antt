@@ -1,0 +1,93 @@
+-- A text is a reference exactly if each of its components is in its rule.
+use Rattle.std.proofs.Common.{◌≡◌, Bool, true, false, refl, sym, ◌∙◌, ap}
+use Rattle.std.specs.Prelude.{◌&&◌, Option, Some, None, option_map, is_some}
+use Rattle.std.specs.Borrow.{Bor}
+use Rattle.std.specs.Option.{option_copied}
+use Rattle.std.specs.Bool.{Decides}
+use Rattle.iref_grammar.specs.Characters.{CharTests, AreAboveAscii}
+use Rattle.iref_grammar.specs.Rules.{Text}
+use Rattle.iref_grammar.specs.Tests.{none_or}
+use Rattle.iref_grammar.specs.Authority.{spell_authority, read_authority, has_authority_parts, is_authority}
+use Rattle.iref_grammar.specs.Contexts.{follows_authority, reads_as_path}
+use Rattle.iref_grammar.specs.Reference.{ReferenceValue, context_of, is_readable, read_reference, is_reference, is_full_reference}
+use Rattle.iref_grammar.specs.ComponentTexts.{ComponentTexts, spell_components, read_components, AreComponents}
+use Rattle.iref_grammar.proofs.TextLemmas.{both, both_true}
+use Rattle.iref_grammar.proofs.AuthorityLemmas.{read_authority-spelled}
+use Rattle.iref_grammar.proofs.PathLemmas.{read_path-reads}
+use Rattle.iref_grammar.proofs.ReadablePartsLemmas.{readable_parts, readable_from}
+use Rattle.iref_grammar.proofs.PathTestLemmas.{is_path-segments}
+use Rattle.iref_grammar.proofs.ContextLemmas.{read_follows, read_reads_as_path}
+
+authority_tested : (set : CharTests) (o : Option Text) → none_or (has_authority_parts set) (option_map read_authority o) ≡ none_or (is_authority set) o
+unfolding is_authority
+authority_tested set None = refl
+authority_tested set (Some text) = refl
+
+authority_spelled : (o : Option Text) → o ≡ option_map spell_authority (option_map read_authority o)
+authority_spelled None = refl
+authority_spelled (Some text) = ap (λ t. Some t) (sym (read_authority-spelled text))
+
+-- the texts are those that the reference of them spells
+spell_components-read : (s : ComponentTexts) → s ≡ spell_components (read_components s)
+spell_components-read s = λ i. record { scheme = s.scheme; authority = authority_spelled s.authority i; path = sym (read_path-reads s.path).spelled i; query = s.query; fragment = s.fragment }
+
+pub spelled_as_read : (s : ComponentTexts) (r : ReferenceValue) → read_components s ≡ r → s ≡ spell_components r
+spelled_as_read s r e = spell_components-read s ∙ ap spell_components e
+
+-- a URI is a reference with a scheme
+pub is_some-copied : (slice : Option (Bor Text)) → is_some slice ≡ is_some (option_copied slice)
+is_some-copied None = refl
+is_some-copied (Some text) = refl
+
+pub full_by_scheme : (set : CharTests) (text : Text) (s : ComponentTexts) → read_components s ≡ read_reference text → true ≡ is_reference set text → is_some s.scheme ≡ is_full_reference set text
+unfolding is_full_reference read_reference
+full_by_scheme set text s e h = by (is_some s.scheme) ∙ (λ i. is_some (e i).scheme && h i)
+  where
+    by : (b : Bool) → b ≡ (b && true)
+    by true = refl
+    by false = refl
+
+pub not_full : (set : CharTests) (text : Text) → false ≡ is_reference set text → false ≡ is_full_reference set text
+unfolding is_full_reference read_reference
+not_full set text h = by (is_some (read_reference text).scheme) ∙ ap (λ b. is_some (read_reference text).scheme && b) h
+  where
+    by : (b : Bool) → false ≡ (b && false)
+    by true = refl
+    by false = refl
+
+pub full_if_scheme : (set : CharTests) (text : Text) → is_reference set text ≡ true → is_some (read_reference text).scheme ≡ true → is_full_reference set text ≡ true
+unfolding is_full_reference read_reference
+full_if_scheme set text h k = both _ _ k h
+
+pub reference_if_full : (set : CharTests) (text : Text) → is_full_reference set text ≡ true → is_reference set text ≡ true
+unfolding is_full_reference
+reference_if_full set text h = (both_true _ _ h).1
+
+pub scheme_if_full : (set : CharTests) (text : Text) → is_full_reference set text ≡ true → is_some (read_reference text).scheme ≡ true
+unfolding is_full_reference read_reference
+scheme_if_full set text h = (both_true _ _ h).0
+
+pub ruleset full = (reference_if_full, scheme_if_full)
+
+module _ (set : CharTests) (above : AreAboveAscii set) where
+  pub Decides-AreComponents : (text : Text) (s : ComponentTexts) → read_components s ≡ read_reference text → Decides (is_reference set text) (AreComponents set s)
+  unfolding is_reference
+  Decides-AreComponents text s e =
+      let same_authority = authority_tested set s.authority in
+      let same_path = is_path-segments set above s.path in (
+        λ h.
+            let parts = readable_parts set (read_components s) (ap (is_readable set) e ∙ h) in
+            record { scheme = parts.scheme; authority = sym same_authority ∙ parts.authority; path = same_path ∙ parts.segments; query = parts.query; fragment = parts.fragment },
+        λ components.
+            ap (is_readable set) (sym e)
+            ∙ readable_from set (read_components s)
+            (record {
+              scheme = components.scheme;
+              authority = same_authority ∙ components.authority;
+              segments = sym same_path ∙ components.path;
+              query = components.query;
+              fragment = components.fragment;
+              follows = ap (λ (r : ReferenceValue). follows_authority (context_of r) r.path) e ∙ read_follows text;
+              reads = ap (λ (r : ReferenceValue). reads_as_path (context_of r) r.path) e ∙ read_reads_as_path text;
+            }),
+      )

@@ -1,0 +1,99 @@
+-- Cuts of a text at its first mark.
+use Rattle.std.proofs.Common.{◌≡◌, ℕ, ◌+◌, suc, Bool, true, false, not, cond, ◌||◌, List, [], ◌∷◌, ◌++◌, take, drop, refl, sym, ◌∙◌, ap, arith, inl, inr}
+use Rattle.std.specs.Prelude.{◌==◌, Option, Some, None}
+use Rattle.std.specs.Char.{char_set_contains}
+use Rattle.std.specs.List.{position_or_len}
+use Rattle.std.proofs.lemmas.Bool.Decides.{eqb_tells}
+use Rattle.std.proofs.lemmas.List.{take-append-drop}
+use mathlib.Core.Bool.{true≢false}
+use Rattle.iref_grammar.specs.Rules.{Text}
+use Rattle.iref_grammar.specs.Texts.{before, from_first, after, after_first_char, then_part}
+use Rattle.iref_grammar.proofs.TextLemmas.{lacks}
+
+-- what stands before the marks, and from the first of them on
+pub before-from_first : (marks : List ℕ) (text : Text) → before marks text ++ from_first marks text ≡ text
+before-from_first marks text = take-append-drop (position_or_len (char_set_contains marks) text) text
+
+one_more_suc : (n : ℕ) → 1 + n ≡ suc n
+one_more_suc n = omega arith
+
+-- at a character that is no mark, and at one that is
+pub before-no : (marks : List ℕ) (c : ℕ) (cs : Text) → char_set_contains marks c ≡ false → before marks (c ∷ cs) ≡ c ∷ before marks cs
+before-no marks c cs h =
+    let n = position_or_len (char_set_contains marks) cs in
+    ap (λ b. take (cond (not b) (1 + n) 0) (c ∷ cs)) h ∙ ap (λ k. take k (c ∷ cs)) (one_more_suc n)
+
+pub from_first-no : (marks : List ℕ) (c : ℕ) (cs : Text) → char_set_contains marks c ≡ false → from_first marks (c ∷ cs) ≡ from_first marks cs
+from_first-no marks c cs h =
+    let n = position_or_len (char_set_contains marks) cs in
+    ap (λ b. drop (cond (not b) (1 + n) 0) (c ∷ cs)) h ∙ ap (λ k. drop k (c ∷ cs)) (one_more_suc n)
+
+pub before-yes : (marks : List ℕ) (c : ℕ) (cs : Text) → char_set_contains marks c ≡ true → before marks (c ∷ cs) ≡ []
+before-yes marks c cs h = ap (λ b. take (cond (not b) (1 + position_or_len (char_set_contains marks) cs) 0) (c ∷ cs)) h
+
+pub from_first-yes : (marks : List ℕ) (c : ℕ) (cs : Text) → char_set_contains marks c ≡ true → from_first marks (c ∷ cs) ≡ c ∷ cs
+from_first-yes marks c cs h = ap (λ b. drop (cond (not b) (1 + position_or_len (char_set_contains marks) cs) 0) (c ∷ cs)) h
+
+-- a text cut at its first mark
+pub cut : (mark : ℕ) (text : Text) → before (mark ∷ []) text ++ then_part (mark ∷ []) (after mark text) ≡ text
+cut mark [] = refl
+cut mark (c ∷ cs) = elim (eqb_tells mark c) [
+  | inl e ↦
+      let yes : char_set_contains (mark ∷ []) c ≡ true = λ i. e.0 i || false in
+      (λ i. before-yes (mark ∷ []) c cs yes i ++ then_part (mark ∷ []) (after_first_char (from_first-yes (mark ∷ []) c cs yes i))) ∙ (λ i. e.1 i ∷ cs)
+  | inr e ↦
+      let no : char_set_contains (mark ∷ []) c ≡ false = λ i. e.0 i || false in
+      (λ i. before-no (mark ∷ []) c cs no i ++ then_part (mark ∷ []) (after_first_char (from_first-no (mark ∷ []) c cs no i))) ∙ ap (λ t. c ∷ t) (cut mark cs)
+]
+
+-- a first character other than the mark, and the rest without it
+pub first_lacks : (mark c : ℕ) (cs : Text) → lacks mark (c ∷ cs) ≡ true → (mark == c) ≡ false
+first_lacks mark c cs h = elim (eqb_tells mark c) [
+  | inl e ↦ elim (eqb_tells c mark) [
+    | inl f ↦ absurd (true≢false (sym h ∙ (λ i. not (f.0 i || char_set_contains cs mark))))
+    | inr f ↦ absurd (f.1 (sym e.1))
+  ]
+  | inr e ↦ e.0
+]
+
+pub rest_lacks : (mark c : ℕ) (cs : Text) → lacks mark (c ∷ cs) ≡ true → lacks mark cs ≡ true
+rest_lacks mark c cs h = by (c == mark) h
+  where
+    by : (b : Bool) → not (b || char_set_contains cs mark) ≡ true → lacks mark cs ≡ true
+    by true k = absurd (true≢false (sym k))
+    by false k = k
+
+pub no_mark : (mark c : ℕ) (cs : Text) → lacks mark (c ∷ cs) ≡ true → char_set_contains (mark ∷ []) c ≡ false
+no_mark mark c cs h = λ i. first_lacks mark c cs h i || false
+
+pub is_mark : (mark : ℕ) → char_set_contains (mark ∷ []) mark ≡ true
+is_mark mark = elim (eqb_tells mark mark) [ inl e ↦ λ i. e.0 i || false | inr e ↦ absurd (e.1 refl) ]
+
+-- a text without the mark, and one that goes on with it
+pub before-lacking : (mark : ℕ) (front : Text) → lacks mark front ≡ true → before (mark ∷ []) front ≡ front
+before-lacking mark [] h = refl
+before-lacking mark (c ∷ cs) h = before-no (mark ∷ []) c cs (no_mark mark c cs h) ∙ ap (λ t. c ∷ t) (before-lacking mark cs (rest_lacks mark c cs h))
+
+pub from_first-lacking : (mark : ℕ) (front : Text) → lacks mark front ≡ true → from_first (mark ∷ []) front ≡ []
+from_first-lacking mark [] h = refl
+from_first-lacking mark (c ∷ cs) h = from_first-no (mark ∷ []) c cs (no_mark mark c cs h) ∙ from_first-lacking mark cs (rest_lacks mark c cs h)
+
+pub before-mark : (mark : ℕ) (front rest : Text) → lacks mark front ≡ true → before (mark ∷ []) (front ++ mark ∷ rest) ≡ front
+before-mark mark [] rest h = before-yes (mark ∷ []) mark rest (is_mark mark)
+before-mark mark (c ∷ cs) rest h = before-no (mark ∷ []) c (cs ++ mark ∷ rest) (no_mark mark c cs h) ∙ ap (λ t. c ∷ t) (before-mark mark cs rest (rest_lacks mark c cs h))
+
+pub from_first-mark : (mark : ℕ) (front rest : Text) → lacks mark front ≡ true → from_first (mark ∷ []) (front ++ mark ∷ rest) ≡ mark ∷ rest
+from_first-mark mark [] rest h = from_first-yes (mark ∷ []) mark rest (is_mark mark)
+from_first-mark mark (c ∷ cs) rest h = from_first-no (mark ∷ []) c (cs ++ mark ∷ rest) (no_mark mark c cs h) ∙ from_first-mark mark cs rest (rest_lacks mark c cs h)
+
+pub append_nil : (t : Text) → t ++ [] ≡ t
+append_nil [] = refl
+append_nil (c ∷ cs) = ap (λ t. c ∷ t) (append_nil cs)
+
+pub before-part : (mark : ℕ) (front : Text) (o : Option Text) → lacks mark front ≡ true → before (mark ∷ []) (front ++ then_part (mark ∷ []) o) ≡ front
+before-part mark front None h = ap (before (mark ∷ [])) (append_nil front) ∙ before-lacking mark front h
+before-part mark front (Some rest) h = before-mark mark front rest h
+
+pub after-part : (mark : ℕ) (front : Text) (o : Option Text) → lacks mark front ≡ true → after mark (front ++ then_part (mark ∷ []) o) ≡ o
+after-part mark front None h = ap (after mark) (append_nil front) ∙ ap after_first_char (from_first-lacking mark front h)
+after-part mark front (Some rest) h = ap after_first_char (from_first-mark mark front rest h)

@@ -1,0 +1,48 @@
+-- Parts that may be left out, lists of parts, and the parts that are ASCII.
+use Rattle.std.proofs.Common.{◌≡◌, ℕ, Bool, true, false, List, [], ◌∷◌, refl, arith, ◌≤◌}
+use Rattle.std.specs.Prelude.{Option, Some, None, IfSome}
+use Rattle.std.specs.Char.{is_ascii_alphabetic, is_ascii_digit, is_ascii}
+use Rattle.std.specs.List.{list_all, AllByRecursion}
+use Rattle.std.proofs.lemmas.Bool.Decides.{nat_tests, Decides-like, Decides-and}
+use Rattle.iref_grammar.specs.Rules.{Text, InUtf8}
+use Rattle.iref_grammar.specs.Grammar.{is_scheme_char, IsScheme, IsPort}
+use Rattle.std.specs.Bool.{Decides}
+use Rattle.iref_grammar.specs.Tests.{none_or, is_port, is_scheme}
+use Rattle.iref_grammar.proofs.LackLemmas.{all_lacks}
+use Rattle.iref_grammar.proofs.LeafLemmas.{Decides-is_scheme, Decides-is_port}
+use Rattle.iref_grammar.proofs.ComponentLackLemmas.{scheme_lacks}
+use Rattle.iref_grammar.proofs.Utf8RuleLemmas.{in_utf8-ascii, ascii_from_lacks}
+
+-- ---- options and lists
+
+pub Decides-none_or : {A : Type 0} (test : A → Bool) (P : A → Type 0) → ((x : A) → Decides (test x) (P x)) → (o : Option A) → Decides (none_or test o) (IfSome o P)
+Decides-none_or test P d None = (λ h. tt, λ h. refl)
+Decides-none_or test P d (Some x) = d x
+
+pub Decides-all : {A : Type 0} (test : A → Bool) (P : A → Type 0) → ((x : A) → Decides (test x) (P x)) → (xs : List A) → Decides (list_all test xs) (AllByRecursion P xs)
+Decides-all test P d [] = (λ h. tt, λ h. refl)
+Decides-all test P d (x ∷ xs) = Decides-and (test x) (list_all test xs) (d x) (Decides-all test P d xs)
+
+-- ---- schemes and ports, of bytes
+
+no_letter : (mark : ℕ) → 128 ≤ mark → is_ascii_alphabetic mark ≡ false
+no_letter mark h = grind (arith, nat_tests)
+
+no_scheme_char : (mark : ℕ) → 128 ≤ mark → is_scheme_char mark ≡ false
+no_scheme_char mark h = grind (arith, nat_tests)
+
+no_digit : (mark : ℕ) → 128 ≤ mark → is_ascii_digit mark ≡ false
+no_digit mark h = grind (arith, nat_tests)
+
+scheme_ascii : (text : Text) → IsScheme text → list_all is_ascii text ≡ true
+scheme_ascii text z = ascii_from_lacks text (λ m h. scheme_lacks m (no_letter m h) (no_scheme_char m h) text ((Decides-is_scheme text).1 z))
+
+port_ascii : (text : Text) → IsPort text → list_all is_ascii text ≡ true
+unfolding is_port
+port_ascii text z = ascii_from_lacks text (λ m h. all_lacks is_ascii_digit m (no_digit m h) text ((Decides-is_port text).1 z))
+
+pub Decides-is_scheme_bytes : (bytes : Text) → Decides (is_scheme bytes) (InUtf8 IsScheme bytes)
+Decides-is_scheme_bytes bytes = Decides-like (is_scheme bytes) (in_utf8-ascii IsScheme scheme_ascii bytes).1 (in_utf8-ascii IsScheme scheme_ascii bytes).0 (Decides-is_scheme bytes)
+
+pub Decides-is_port_bytes : (bytes : Text) → Decides (is_port bytes) (InUtf8 IsPort bytes)
+Decides-is_port_bytes bytes = Decides-like (is_port bytes) (in_utf8-ascii IsPort port_ascii bytes).1 (in_utf8-ascii IsPort port_ascii bytes).0 (Decides-is_port bytes)

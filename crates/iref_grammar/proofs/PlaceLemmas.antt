@@ -1,0 +1,133 @@
+-- Each component of a reference stands at its place in the spelling.
+use Rattle.std.proofs.Common.{◌≡◌, ℕ, ◌+◌, ◌-◌, [], ◌∷◌, ◌++◌, length, take, refl, sym, ◌∙◌, ap, arith, append_assoc}
+use Rattle.std.specs.Prelude.{codes, Option, Some, None, option_map}
+use Rattle.std.specs.List.{slice_range}
+use Rattle.std.proofs.lemmas.List.{append-nil, length-append}
+use Rattle.std.proofs.Math.Seq.{take-append_seam, drop-append_seam}
+use Rattle.iref_grammar.specs.Rules.{Text}
+use Rattle.iref_grammar.specs.Grammar.{hash_sign, colon, question_mark}
+use Rattle.iref_grammar.specs.Texts.{part_then, then_part}
+use Rattle.iref_grammar.specs.Authority.{spell_authority}
+use Rattle.iref_grammar.specs.PathValue.{spell_path}
+use Rattle.iref_grammar.specs.Reference.{ReferenceValue, spell, read_reference}
+use Rattle.iref_grammar.specs.Places.{place_from, authority_mark, path_start, places_in, places_of, text_at}
+use Rattle.iref_grammar.proofs.ReferenceCutLemmas.{read_reference-spelled}
+
+-- what stands between two parts of a text stands at its place
+text_between : (text before part behind : Text) (start : ℕ) → before ++ (part ++ behind) ≡ text → start ≡ length before → text_at text (place_from start part) ≡ part
+text_between text before part behind start spelled at =
+    (λ i. slice_range (sym spelled i) (at i) (at i + length part))
+    ∙ ap (take (length before + length part - length before)) (drop-append_seam before (part ++ behind))
+    ∙ ap (λ n. take n (part ++ behind)) (same (length before) (length part)) ∙ take-append_seam part behind
+  where
+    same : (n m : ℕ) → n + m - n ≡ m
+    same n m = omega arith
+
+-- a part and the mark after it, if there is one, at the start
+part_before : (mark : Text) (o : Option Text) (behind : Text) → option_map (text_at (part_then mark o ++ behind)) (option_map (place_from 0) o) ≡ o
+part_before mark None behind = refl
+part_before mark (Some part) behind =
+    ap (λ t. Some t) (text_between ((part ++ mark) ++ behind) [] part (mark ++ behind) 0 (sym (append_assoc part mark behind)) refl)
+
+-- a mark and the part after it, if there is one
+part_after : (before mark : Text) (o : Option Text) (behind : Text)
+    → option_map (text_at (before ++ (then_part mark o ++ behind))) (option_map (place_from (length before + length mark)) o) ≡ o
+part_after before mark None behind = refl
+part_after before mark (Some part) behind = ap (λ t. Some t)
+    (text_between (before ++ ((mark ++ part) ++ behind)) (before ++ mark) part behind (length before + length mark)
+    (append_assoc before mark (part ++ behind) ∙ ap (λ t. before ++ t) (sym (append_assoc mark part behind))) (sym (length-append before mark)))
+
+-- the five parts of a spelling, grouped round the one that is looked at
+module _ (s a p q f : Text) where
+  around_scheme : s ++ a ++ p ++ q ++ f ≡ s ++ (a ++ p ++ q ++ f)
+  around_scheme = simp append_assoc
+
+  around_authority : s ++ a ++ p ++ q ++ f ≡ s ++ (a ++ (p ++ q ++ f))
+  around_authority = simp append_assoc
+
+  around_path : s ++ a ++ p ++ q ++ f ≡ (s ++ a) ++ (p ++ (q ++ f))
+  around_path = simp append_assoc
+
+  around_query : s ++ a ++ p ++ q ++ f ≡ (s ++ a ++ p) ++ (q ++ f)
+  around_query = simp append_assoc
+
+  around_fragment : s ++ a ++ p ++ q ++ f ≡ (s ++ a ++ p ++ q) ++ (f ++ [])
+  around_fragment = simp (append_assoc, append-nil)
+
+  path_begins : length s + length a ≡ length (s ++ a)
+  path_begins = sym (length-append s a)
+
+  query_begins : length s + length a + length p ≡ length (s ++ a ++ p)
+  query_begins = simp length-append
+
+  fragment_begins : length s + length a + length p + length q ≡ length (s ++ a ++ p ++ q)
+  fragment_begins = simp length-append
+
+module _ (r : ReferenceValue) where
+  abbrev scheme_part : Text
+  scheme_part = part_then (colon ∷ []) r.scheme
+
+  abbrev authority_part : Text
+  authority_part = then_part (codes "//") (option_map spell_authority r.authority)
+
+  abbrev query_part : Text
+  query_part = then_part (question_mark ∷ []) r.query
+
+  abbrev fragment_part : Text
+  fragment_part = then_part (hash_sign ∷ []) r.fragment
+
+  scheme_stands : option_map (text_at (spell r)) (places_in r).scheme ≡ r.scheme
+  unfolding spell places_in
+  scheme_stands =
+      ap (λ t. option_map (text_at t) (option_map (place_from 0) r.scheme)) (around_scheme scheme_part authority_part (spell_path r.path) query_part fragment_part)
+      ∙ part_before (colon ∷ []) r.scheme (authority_part ++ spell_path r.path ++ query_part ++ fragment_part)
+
+  authority_stands : option_map (text_at (spell r)) (places_in r).authority ≡ option_map spell_authority r.authority
+  unfolding spell places_in
+  authority_stands =
+      ap (λ t. option_map (text_at t) (option_map (place_from (authority_mark r + 2)) (option_map spell_authority r.authority)))
+      (around_authority scheme_part authority_part (spell_path r.path) query_part fragment_part)
+      ∙ part_after scheme_part (codes "//") (option_map spell_authority r.authority) (spell_path r.path ++ query_part ++ fragment_part)
+
+  path_stands : text_at (spell r) (places_in r).path ≡ spell_path r.path
+  unfolding spell places_in
+  path_stands =
+      text_between (spell r) (scheme_part ++ authority_part) (spell_path r.path) (query_part ++ fragment_part) (path_start r)
+      (sym (around_path scheme_part authority_part (spell_path r.path) query_part fragment_part))
+      (path_begins scheme_part authority_part (spell_path r.path) query_part fragment_part)
+
+  query_stands : option_map (text_at (spell r)) (places_in r).query ≡ r.query
+  unfolding spell places_in
+  query_stands =
+      let begins = query_begins scheme_part authority_part (spell_path r.path) query_part fragment_part in
+      (λ i. option_map (text_at (around_query scheme_part authority_part (spell_path r.path) query_part fragment_part i)) (option_map (place_from (begins i + 1)) r.query))
+      ∙ part_after (scheme_part ++ authority_part ++ spell_path r.path) (question_mark ∷ []) r.query fragment_part
+
+  fragment_stands : option_map (text_at (spell r)) (places_in r).fragment ≡ r.fragment
+  unfolding spell places_in
+  fragment_stands =
+      let begins = fragment_begins scheme_part authority_part (spell_path r.path) query_part fragment_part in
+      (λ i. option_map (text_at (around_fragment scheme_part authority_part (spell_path r.path) query_part fragment_part i)) (option_map (place_from (begins i + 1)) r.fragment))
+      ∙ part_after (scheme_part ++ authority_part ++ spell_path r.path ++ query_part) (hash_sign ∷ []) r.fragment []
+
+-- the components that are read from a text stand in it at their places
+module _ (text : Text) where
+  pub scheme_place : option_map (text_at text) (places_of text).scheme ≡ (read_reference text).scheme
+  unfolding places_of
+  scheme_place = ap (λ t. option_map (text_at t) (places_of text).scheme) (sym (read_reference-spelled text)) ∙ scheme_stands (read_reference text)
+
+  pub authority_place : option_map (text_at text) (places_of text).authority ≡ option_map spell_authority (read_reference text).authority
+  unfolding places_of
+  authority_place = ap (λ t. option_map (text_at t) (places_of text).authority) (sym (read_reference-spelled text)) ∙ authority_stands (read_reference text)
+
+  pub path_place : text_at text (places_of text).path ≡ spell_path (read_reference text).path
+  unfolding places_of
+  path_place = ap (λ t. text_at t (places_of text).path) (sym (read_reference-spelled text)) ∙ path_stands (read_reference text)
+
+  pub query_place : option_map (text_at text) (places_of text).query ≡ (read_reference text).query
+  unfolding places_of
+  query_place = ap (λ t. option_map (text_at t) (places_of text).query) (sym (read_reference-spelled text)) ∙ query_stands (read_reference text)
+
+  pub fragment_place : option_map (text_at text) (places_of text).fragment ≡ (read_reference text).fragment
+  unfolding places_of
+  fragment_place = ap (λ t. option_map (text_at t) (places_of text).fragment) (sym (read_reference-spelled text)) ∙ fragment_stands (read_reference text)

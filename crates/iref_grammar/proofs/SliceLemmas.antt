@@ -1,0 +1,45 @@
+-- Slices of a text that end at a mark.
+use Rattle.std.proofs.Common.{◌≡◌, ℕ, ◌+◌, ◌<◌, zero, suc, Bool, true, false, not, cond, [], ◌∷◌, ◌++◌, length, get_or, drop, refl, sym, ◌∙◌, ap, subst, arith}
+use Rattle.std.specs.Prelude.{◌==◌, Option, Some, None}
+use Rattle.std.specs.Char.{char_set_contains}
+use Rattle.std.specs.Str.{IsCharBoundary}
+use Rattle.std.specs.List.{position_or_len, after_first, onto_first}
+use Rattle.std.proofs.lemmas.Grind.{common_steps}
+use Rattle.std.proofs.lemmas.Str.{IsCharBoundary-end, IsCharBoundary-before_ascii}
+use Rattle.std.proofs.lemmas.List.{append-nil}
+use Rattle.iref_grammar.specs.Rules.{Text}
+use Rattle.iref_grammar.specs.Texts.{after, after_first_char, then_part, pieces_at}
+
+-- a mark is found by its number as by the set of it alone
+position-mark : (mark : ℕ) (text : Text) → position_or_len (char_set_contains (mark ∷ [])) text ≡ position_or_len (λ b. b == mark) text
+position-mark mark [] = refl
+position-mark mark (c ∷ cs) = grind (arith, common_steps, position-mark mark cs)
+
+after_first_char-drop : (text : Text) (n : ℕ) → n < length text → after_first_char (drop n text) ≡ Some (drop (n + 1) text)
+after_first_char-drop [] n h = absurd (omega arith)
+after_first_char-drop (c ∷ cs) zero h = refl
+after_first_char-drop (c ∷ cs) (suc n) h = grind (arith, common_steps, after_first_char-drop cs n (omega arith))
+
+-- what follows a mark that was found
+pub after-found : (mark : ℕ) (text : Text) → position_or_len (λ b. b == mark) text < length text → after mark text ≡ Some (after_first (λ b. b == mark) text)
+after-found mark text h = ap (λ n. after_first_char (drop n text)) (position-mark mark text) ∙ after_first_char-drop text (position_or_len (λ b. b == mark) text) h
+
+-- a text may be cut before an ASCII mark, and at its end
+pub mark_boundary : (mark : ℕ) (front : Text) (back : Option Text) (text : Text) → mark < 128 → front ++ then_part (mark ∷ []) back ≡ text → IsCharBoundary text (length front)
+mark_boundary mark front None text m e =
+    let whole : front ≡ text = sym (append-nil front) ∙ e in
+    subst (λ t. IsCharBoundary t (length front)) whole (IsCharBoundary-end front)
+mark_boundary mark front (Some back) text m e =
+    let here : get_or (front ++ mark ∷ back) (length front) 0 < 128 = grind (arith, common_steps) in
+    let inside : length front < length (front ++ mark ∷ back) = grind (arith, common_steps) in
+    subst (λ t. IsCharBoundary t (length front)) e (IsCharBoundary-before_ascii (front ++ mark ∷ back) (length front) inside here)
+
+-- a text without the mark is its one piece
+pub pieces_at-whole : (mark : ℕ) (text : Text) → position_or_len (λ b. b == mark) text ≡ length text → pieces_at mark text ≡ text ∷ []
+pieces_at-whole mark [] h = refl
+pieces_at-whole mark (c ∷ cs) h = by (c == mark) h (λ k. pieces_at-whole mark cs k)
+  where
+    by : (b : Bool) → cond (not b) (1 + position_or_len (λ d. d == mark) cs) 0 ≡ suc (length cs) → (position_or_len (λ d. d == mark) cs ≡ length cs → pieces_at mark cs ≡ cs ∷ [])
+        → cond b ([] ∷ pieces_at mark cs) (onto_first c (pieces_at mark cs)) ≡ (c ∷ cs) ∷ []
+    by true k r = absurd (omega arith)
+    by false k r = let rest : position_or_len (λ d. d == mark) cs ≡ length cs = omega arith in ap (onto_first c) (r rest)

@@ -1,0 +1,12 @@
+pub mod Characters
+pub mod Rules
+pub mod IpAddresses
+pub mod Grammar
+pub mod Texts
+pub mod Tests
+pub mod Contexts
+pub mod Authority
+pub mod PathValue
+pub mod Places
+pub mod Reference
+pub mod ComponentTexts

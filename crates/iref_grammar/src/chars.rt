@@ -1,0 +1,57 @@
+//! The characters that a grammar adds to those of ASCII.
+#![tactic(auto)]
+
+ghost use Rattle.std.specs.Prelude.{◌≡◌};
+ghost use Rattle.iref_grammar.specs.Characters.{CharTests, AreAboveAscii, uri_chars, iri_chars, uri_above_ascii, iri_above_ascii};
+
+/// The characters that a grammar adds to those of ASCII.
+pub trait CharSet {
+    /// What proofs see of the set.
+    ghost tests: { CharTests };
+
+    /// Whether `unreserved` also has the character.
+    fn is_extra(c: char) -> bool
+        ensures { result ≡ tests.extra c };
+
+    /// Whether the query also has it.
+    fn is_private(c: char) -> bool
+        ensures { result ≡ tests.private c };
+
+    /// Both are false of ASCII.
+    ghost above_ascii: { AreAboveAscii tests };
+}
+
+/// The characters of URIs.
+pub struct UriChars;
+
+impl CharSet for UriChars {
+    ghost tests = { uri_chars };
+
+    ghost above_ascii = { uri_above_ascii };
+
+    fn is_extra(_c: char) -> bool {
+        false
+    }
+
+    fn is_private(_c: char) -> bool {
+        false
+    }
+}
+
+/// The characters of IRIs.
+pub struct IriChars;
+
+impl CharSet for IriChars {
+    ghost tests = { iri_chars };
+
+    ghost above_ascii = { iri_above_ascii };
+
+    fn is_extra(c: char) -> bool {
+        matches!(c, '\u{A0}'..='\u{D7FF}' | '\u{F900}'..='\u{FDCF}' | '\u{FDF0}'..='\u{FFEF}' | '\u{E1000}'..='\u{EFFFD}')
+            || (matches!(c, '\u{10000}'..='\u{DFFFD}') && (c as u32) % 0x1_0000 <= 0xFFFD)
+    }
+
+    fn is_private(c: char) -> bool {
+        matches!(c, '\u{E000}'..='\u{F8FF}' | '\u{F0000}'..='\u{FFFFD}' | '\u{100000}'..='\u{10FFFD}')
+    }
+}

@@ -1,0 +1,28 @@
+//! What stands before a path, and where each component of a reference stands.
+#![tactic(auto)]
+
+use std::ops::Range;
+
+/// What stands before a path (RFC 3986 sections 3.3 and 4.2).
+#[derive(Clone, Copy, Debug, Default)]
+pub struct PathContext {
+    /// A scheme does.
+    pub has_scheme: bool,
+    /// An authority does.
+    pub has_authority: bool,
+}
+
+/// Where the components of a reference stand in its text, in bytes, without `:`, `//`, `?` and `#` (RFC 3986 section 5.3).
+#[derive(Clone, Debug, PartialEq, Eq, Drop)]
+pub struct Offsets {
+    /// The scheme, if there is one.
+    pub scheme: Option<Range<usize>>,
+    /// The authority, if there is one.
+    pub authority: Option<Range<usize>>,
+    /// The path, which may be empty.
+    pub path: Range<usize>,
+    /// The query, if there is one.
+    pub query: Option<Range<usize>>,
+    /// The fragment, if there is one.
+    pub fragment: Option<Range<usize>>,
+}

@@ -1,0 +1,19 @@
+-- Words of the worked rows.
+use Prim.Native.String.{String}
+use Rattle.std.specs.Prelude.{codes, Option, option_map}
+use Rattle.iref_grammar.specs.declared.places.PathContext.{PathContext}
+use Rattle.iref_grammar.specs.Rules.{Text}
+use Rattle.iref_grammar.specs.Contexts.{context_from}
+use Rattle.iref_grammar.specs.PathValue.{PathValue, spell_path, read_path}
+
+-- the path that is quoted
+abbrev pub path : String → PathValue
+path text = read_path (codes text)
+
+-- the context of a path after the quoted text
+abbrev pub after : String → PathContext
+after text = context_from (codes text)
+
+-- the text of a path, if there is one
+abbrev pub spelled : Option PathValue → Option Text
+spelled p = option_map spell_path p

@@ -1,0 +1,15 @@
+use Rattle.std.proofs.Common.{◌≡◌, true, length}
+use Rattle.iref_normal.specs.Pieces.{pieces_if_some}
+use Rattle.iref_normal.specs.Remaining.{IsReadable, KeepsEnds, is_settled, names_left}
+use Rattle.iref_normal.proofs.remaining.Remaining.next_name.Given as goal
+
+abbrev pub invariant-loop-self : goal.invariant-loop-self
+invariant-loop-self l = record {
+  same : names_left l.self ≡ names_left l.fn.self;
+  ends : KeepsEnds l.fn.self l.self;
+  readable : IsReadable l.self;
+  settled : is_settled l.self ≡ true;
+}
+
+abbrev pub decreases-loop-self : goal.decreases-loop-self
+decreases-loop-self l = length (pieces_if_some l.self.rest)

@@ -1,0 +1,12 @@
+pub mod Pieces
+pub mod Guard
+pub mod NormalList
+pub mod NormalReading
+pub mod PathFunctions
+pub mod PathSteps
+pub mod PathSuffix
+pub mod DotSegments
+pub mod CountedEquality
+pub mod PathKey
+pub mod Unread
+pub mod Remaining

@@ -1,0 +1,87 @@
+-- The table of ASCII characters, checked entry by entry.
+use Rattle.std.proofs.Common.{◌≡◌, ℕ, zero, suc, ◌<◌, Bool, true, ◌&&◌, ◌||◌, false, refl, sym, ◌∙◌}
+use Rattle.std.specs.Prelude.{◌==◌, nat_le, codes}
+use Rattle.std.specs.List.{slice_index}
+use Rattle.std.specs.Char.{is_ascii, is_ascii_alphanumeric, char_set_contains}
+use Rattle.std.specs.Cmp.{booleans_Decides}
+use mathlib.Core.Bool.{beq}
+use Rattle.std.proofs.lemmas.Bool.{ltb-true}
+use Rattle.std.proofs.lemmas.Bool.Decides.{Decides-below_and}
+use Rattle.iref_parse.specs.declared.ascii.TheConstants.{FIRST_RULES}
+use Rattle.iref_grammar.specs.Characters.{CharTests, AreAboveAscii, uri_chars}
+use Rattle.iref_grammar.specs.Grammar.{colon, at_sign, slash, question_mark, is_not_percent, is_sub_delim, is_reg_name_char, is_user_info_char, is_path_char, is_fragment_char, is_query_char}
+
+-- whether the rule of this number has the byte, by the table
+abbrev listed : ℕ → ℕ → Bool
+listed n b = nat_le (slice_index FIRST_RULES b) n
+
+-- whether it has it, by the grammar
+abbrev allowed : (ℕ → Bool) → ℕ → Bool
+allowed test b = is_ascii b && (is_not_percent b && test b)
+
+abbrev entries_match : (ℕ → Bool) → ℕ → ℕ → Bool
+entries_match test n zero = true
+entries_match test n (suc b) = beq (listed n b) (allowed test b) && entries_match test n b
+
+entry : (test : ℕ → Bool) (n : ℕ) → entries_match test n 256 ≡ true → (b : ℕ) → b < 256 → listed n b ≡ allowed test b
+entry test n h =
+    (Decides-below_and (λ b. beq (listed n b) (allowed test b)) (λ b. listed n b ≡ allowed test b) (entries_match test n) (λ b. booleans_Decides _ _) refl (λ _. refl) 256).0 h
+
+-- tests that agree on ASCII
+if_ascii : (test other : ℕ → Bool) (b : ℕ) → (b < 128 → test b ≡ other b) → allowed test b ≡ allowed other b
+if_ascii test other b same = by (is_ascii b) refl
+  where
+    by : (ascii : Bool) → is_ascii b ≡ ascii → (ascii && (is_not_percent b && test b)) ≡ (ascii && (is_not_percent b && other b))
+    by true e = λ i. is_not_percent b && same (ltb-true b 128 e) i
+    by false e = refl
+
+module _ (set : CharTests) (above : AreAboveAscii set) where
+  -- of ASCII, each set has the same characters
+  reg_name_same : (c : ℕ) → c < 128 → is_reg_name_char set c ≡ is_reg_name_char uri_chars c
+  unfolding is_reg_name_char
+  reg_name_same c h = λ i. (is_ascii_alphanumeric c || char_set_contains (codes "-._~") c || above.extra c h i) || is_sub_delim c
+
+  user_info_same : (c : ℕ) → c < 128 → is_user_info_char set c ≡ is_user_info_char uri_chars c
+  unfolding is_user_info_char
+  user_info_same c h = λ i. reg_name_same c h i || c == colon
+
+  path_same : (c : ℕ) → c < 128 → is_path_char set c ≡ is_path_char uri_chars c
+  unfolding is_path_char
+  path_same c h = λ i. user_info_same c h i || c == at_sign
+
+  fragment_same : (c : ℕ) → c < 128 → is_fragment_char set c ≡ is_fragment_char uri_chars c
+  unfolding is_fragment_char
+  fragment_same c h = λ i. path_same c h i || c == slash || c == question_mark
+
+  query_same : (c : ℕ) → c < 128 → is_query_char set c ≡ is_query_char uri_chars c
+  unfolding is_query_char
+  query_same c h = λ i. fragment_same c h i || above.private c h i
+
+  pub reg_name_byte : (b : ℕ) → b < 256 → listed 0 b ≡ allowed (is_reg_name_char set) b
+  unfolding is_reg_name_char
+  reg_name_byte b h = entry (is_reg_name_char uri_chars) 0 refl b h ∙ if_ascii (is_reg_name_char uri_chars) (is_reg_name_char set) b (λ k. sym (reg_name_same b k))
+
+  pub user_info_byte : (b : ℕ) → b < 256 → listed 1 b ≡ allowed (is_user_info_char set) b
+  unfolding is_user_info_char is_reg_name_char
+  user_info_byte b h = entry (is_user_info_char uri_chars) 1 refl b h ∙ if_ascii (is_user_info_char uri_chars) (is_user_info_char set) b (λ k. sym (user_info_same b k))
+
+  pub segment_byte : (b : ℕ) → b < 256 → listed 2 b ≡ allowed (is_path_char set) b
+  unfolding is_path_char is_user_info_char is_reg_name_char
+  segment_byte b h = entry (is_path_char uri_chars) 2 refl b h ∙ if_ascii (is_path_char uri_chars) (is_path_char set) b (λ k. sym (path_same b k))
+
+  pub path_byte : (b : ℕ) → b < 256 → listed 3 b ≡ allowed (λ c. is_path_char set c || c == slash) b
+  unfolding is_path_char is_user_info_char is_reg_name_char
+  path_byte b h =
+      entry (λ c. is_path_char uri_chars c || c == slash) 3 refl b h
+      ∙ if_ascii (λ c. is_path_char uri_chars c || c == slash) (λ c. is_path_char set c || c == slash) b (λ k. λ i. sym (path_same b k) i || b == slash)
+
+  pub fragment_byte : (b : ℕ) → b < 256 → listed 4 b ≡ allowed (is_fragment_char set) b
+  unfolding is_fragment_char is_path_char is_user_info_char is_reg_name_char
+  fragment_byte b h = entry (is_fragment_char uri_chars) 4 refl b h ∙ if_ascii (is_fragment_char uri_chars) (is_fragment_char set) b (λ k. sym (fragment_same b k))
+
+  pub query_byte : (b : ℕ) → b < 256 → listed 4 b ≡ allowed (is_query_char set) b
+  unfolding is_query_char is_fragment_char is_path_char is_user_info_char is_reg_name_char
+  query_byte b h = entry (is_query_char uri_chars) 4 refl b h ∙ if_ascii (is_query_char uri_chars) (is_query_char set) b (λ k. sym (query_same b k))
+
+pub pct_str_byte : (b : ℕ) → b < 256 → listed 5 b ≡ allowed is_not_percent b
+pct_str_byte = entry is_not_percent 5 refl

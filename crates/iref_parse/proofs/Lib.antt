@@ -1,0 +1,9 @@
+pub mod AsciiLemmas
+pub mod ScanLemmas
+pub mod DigitLemmas
+pub mod OctetLemmas
+pub mod GroupLemmas
+pub mod DoubleColonLemmas
+pub mod LiteralLemmas
+pub mod PlacesLemmas
+pub mod KeyLemmas

@@ -1,0 +1,30 @@
+-- Texts that begin as no IP literal and no address of a future version does.
+use Rattle.std.proofs.Common.{◌≡◌, ◌≢◌, false, [], ◌∷◌, refl, ap, sym, inl, inr, cond}
+use Rattle.std.specs.Prelude.{◌==◌, ◌&&◌, ◌||◌, Some, None, codes}
+use Rattle.std.specs.Char.{char_set_contains}
+use Rattle.std.proofs.lemmas.Bool.Decides.{eqb_tells}
+use Rattle.iref_grammar.specs.Rules.{Text}
+use Rattle.iref_grammar.specs.Grammar.{left_bracket, right_bracket, full_stop}
+use Rattle.iref_grammar.specs.Texts.{before, after}
+use Rattle.iref_grammar.specs.Tests.{in_brackets, ends_here, is_ipvfuture, is_future_version, is_future_address}
+
+pub in_brackets-unbracketed : (text : Text) → ((rest : Text) → text ≢ left_bracket ∷ rest) → in_brackets text ≡ None
+in_brackets-unbracketed [] h = refl
+in_brackets-unbracketed (c ∷ cs) h = elim (eqb_tells c left_bracket) [
+  | inl e ↦ absurd (h cs (ap (λ b. b ∷ cs) e.1))
+  | inr e ↦ λ i. cond (e.0 i && ends_here (after right_bracket cs)) (Some (before (right_bracket ∷ []) cs)) None
+]
+
+pub is_ipvfuture-without_v : (text : Text) → ((rest : Text) → text ≢ 118 ∷ rest) → ((rest : Text) → text ≢ 86 ∷ rest) → is_ipvfuture text ≡ false
+unfolding is_ipvfuture
+is_ipvfuture-without_v [] small large = refl
+is_ipvfuture-without_v (c ∷ cs) small large = ap (λ b. b && is_future_version (before (full_stop ∷ []) cs) && is_future_address (after full_stop cs)) no_v
+  where
+    no_v : char_set_contains (codes "vV") c ≡ false
+    no_v = elim (eqb_tells 118 c) [
+      | inl e ↦ absurd (small cs (ap (λ b. b ∷ cs) (sym e.1)))
+      | inr e ↦ elim (eqb_tells 86 c) [
+        | inl f ↦ absurd (large cs (ap (λ b. b ∷ cs) (sym f.1)))
+        | inr f ↦ λ i. e.0 i || (f.0 i || false)
+      ]
+    ]

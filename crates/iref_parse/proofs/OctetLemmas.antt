@@ -1,0 +1,114 @@
+-- An IPv4 address read octet by octet.
+use Rattle.std.proofs.Common.{◌≡◌, ◌≢◌, ℕ, ◌+◌, ◌*◌, ◌<◌, suc, Bool, true, false, cond, List, [], ◌∷◌, length, map, refl, sym, ◌∙◌, ap, subst, arith, lit<}
+use Rattle.std.specs.Prelude.{◌==◌, Option, Some, None, option_map, option_and_then, IfSome, decimal}
+use Rattle.std.specs.List.{position_or_len, before_first, after_first, join_with_byte}
+use Rattle.std.specs.Int.{from_be_bytes}
+use mir.Syntax.{w32}
+use Rattle.std.proofs.lemmas.Bool.Decides.{nat_tests}
+use Rattle.std.proofs.lemmas.List.Splits.{slice_split_first}
+use Rattle.iref_grammar.specs.Rules.{Text}
+use Rattle.iref_grammar.specs.Texts.{pieces_at}
+use Rattle.iref_grammar.specs.IpAddresses.{number_of, all_some, octet_value, octet_values, four_octets, ipv4_value}
+use Rattle.iref_grammar.proofs.TextLemmas.{pieces_at-one, join-pieces_at}
+use Rattle.iref_grammar.proofs.SliceLemmas.{pieces_at-whole}
+use Rattle.iref_grammar.proofs.Ipv4Lemmas.{octet_text, decimal_lacks_stop}
+
+abbrev is_stop : ℕ → Bool
+is_stop c = c == 46
+
+-- one octet more
+abbrev more : ℕ → Option (List ℕ) → Option (List ℕ)
+more n o = option_map (λ ns. n ∷ ns) o
+
+abbrev AreFewer : ℕ → Option (List ℕ) → Type 0
+AreFewer k o = IfSome o (λ ns. length ns < k)
+
+-- the octet before the first `.`, and those after it
+pub octet_values-first : (text front back : Text) (n : ℕ) → position_or_len is_stop text < length text → front ≡ before_first is_stop text → back ≡ after_first is_stop text → octet_value front ≡ Some n → octet_values text ≡ more n (octet_values back)
+octet_values-first text front back n found e f v =
+    ap (λ ps. all_some (map octet_value ps)) (slice_split_first is_stop text 0 found)
+    ∙ (λ i. option_and_then (λ x. option_map (λ xs. x ∷ xs) (octet_values (sym f i))) (octet_value (sym e i)))
+    ∙ ap (λ o. option_and_then (λ x. option_map (λ xs. x ∷ xs) (octet_values back)) o) v
+
+pub octet_values-refused : (text front : Text) → position_or_len is_stop text < length text → front ≡ before_first is_stop text → octet_value front ≡ None → AreFewer 2 (octet_values text)
+octet_values-refused text front found e v =
+    subst (AreFewer 2) (sym (ap (λ ps. all_some (map octet_value ps)) (slice_split_first is_stop text 0 found)
+    ∙ ap (λ o. option_and_then (λ x. option_map (λ xs. x ∷ xs) (octet_values (after_first is_stop text))) o) (ap octet_value (sym e) ∙ v))) tt
+
+pub octet_values-one : (text : Text) → position_or_len is_stop text ≡ length text → AreFewer 2 (octet_values text)
+octet_values-one text h = subst (λ ps. AreFewer 2 (all_some (map octet_value ps))) (sym (pieces_at-whole 46 text h)) (by (octet_value text))
+  where
+    by : (o : Option ℕ) → AreFewer 2 (option_and_then (λ x. option_map (λ xs. x ∷ xs) (Some [])) o)
+    by None = tt
+    by (Some n) = lit< tt
+
+-- the last octet
+octet_values-last : (text : Text) (n : ℕ) → octet_value text ≡ Some n → octet_values text ≡ Some (n ∷ [])
+octet_values-last text n h =
+    let z = octet_text text n h in
+    let one : pieces_at 46 text ≡ text ∷ [] = ap (pieces_at 46) z.1 ∙ pieces_at-one 46 (decimal n) (decimal_lacks_stop n z.0) ∙ ap (λ t. t ∷ []) (sym z.1) in
+    ap (λ ps. all_some (map octet_value ps)) one ∙ ap (λ o. option_and_then (λ x. option_map (λ xs. x ∷ xs) (Some [])) o) h
+
+-- a text that is no octet is not read as one
+octet_values-not_last : (text : Text) → octet_value text ≡ None → IfSome (octet_values text) (λ ns. length ns ≢ 1)
+octet_values-not_last text h = by (pieces_at 46 text) (join-pieces_at 46 text)
+  where
+    two : (o p : Option ℕ) (q : Option (List ℕ)) → IfSome (option_and_then (λ x. option_map (λ xs. x ∷ xs) (option_and_then (λ y. option_map (λ ys. y ∷ ys) q) p)) o) (λ ns. length ns ≢ 1)
+    two None p q = tt
+    two (Some x) None q = tt
+    two (Some x) (Some y) None = tt
+    two (Some x) (Some y) (Some ys) = λ e. absurd (omega arith)
+
+    by : (ps : List Text) → join_with_byte 46 ps ≡ text → IfSome (all_some (map octet_value ps)) (λ ns. length ns ≢ 1)
+    by [] e = λ k. absurd (omega arith)
+    by (p ∷ []) e = subst (λ o. IfSome (option_and_then (λ x. option_map (λ xs. x ∷ xs) (Some [])) o) (λ ns. length ns ≢ 1)) (sym (ap octet_value e ∙ h)) tt
+    by (p ∷ q ∷ ps) e = two (octet_value p) (octet_value q) (all_some (map octet_value ps))
+
+-- ---- the address, after some octets
+
+not_four : (o : Option (List ℕ)) → IfSome o (λ ns. length ns ≢ 4) → option_and_then four_octets o ≡ None
+not_four None h = refl
+not_four (Some ns) h = let no : (length ns == 4) ≡ false = grind (arith, nat_tests) in ap (λ b. cond b (Some (number_of 256 ns)) None) no
+
+ipv4_value-refused : (text : Text) (o : Option (List ℕ)) → octet_values text ≡ o → IfSome o (λ ns. length ns ≢ 4) → ipv4_value text ≡ None
+unfolding ipv4_value
+ipv4_value-refused text o e h = ap (option_and_then four_octets) e ∙ not_four o h
+
+pub after_none : (text : Text) → AreFewer 2 (octet_values text) → ipv4_value text ≡ None
+after_none text h = ipv4_value-refused text (octet_values text) refl (by (octet_values text) h)
+  where
+    by : (o : Option (List ℕ)) → AreFewer 2 o → IfSome o (λ ns. length ns ≢ 4)
+    by None k = tt
+    by (Some ns) k = λ e. absurd (omega arith)
+
+pub after_one : (text rest : Text) (a : ℕ) → octet_values text ≡ more a (octet_values rest) → AreFewer 2 (octet_values rest) → ipv4_value text ≡ None
+after_one text rest a e h = ipv4_value-refused text (more a (octet_values rest)) e (by (octet_values rest) h)
+  where
+    by : (o : Option (List ℕ)) → AreFewer 2 o → IfSome (more a o) (λ ns. length ns ≢ 4)
+    by None k = tt
+    by (Some ns) k = λ e. absurd (omega arith)
+
+pub after_two : (text second rest : Text) (a b : ℕ) → octet_values text ≡ more a (octet_values second) → octet_values second ≡ more b (octet_values rest) → AreFewer 2 (octet_values rest) → ipv4_value text ≡ None
+after_two text second rest a b e f h = ipv4_value-refused text (more a (more b (octet_values rest))) (e ∙ ap (more a) f) (by (octet_values rest) h)
+  where
+    by : (o : Option (List ℕ)) → AreFewer 2 o → IfSome (more a (more b o)) (λ ns. length ns ≢ 4)
+    by None k = tt
+    by (Some ns) k = λ e. absurd (omega arith)
+
+module _ (text second third rest : Text) (a b c : ℕ) (e : octet_values text ≡ more a (octet_values second)) (f : octet_values second ≡ more b (octet_values third)) (g : octet_values third ≡ more c (octet_values rest)) where
+  three : octet_values text ≡ more a (more b (more c (octet_values rest)))
+  three = e ∙ ap (more a) (f ∙ ap (more b) g)
+
+  pub after_three-refused : octet_value rest ≡ None → ipv4_value text ≡ None
+  after_three-refused h = ipv4_value-refused text (more a (more b (more c (octet_values rest)))) three (by (octet_values rest) (octet_values-not_last rest h))
+    where
+      by : (o : Option (List ℕ)) → IfSome o (λ ns. length ns ≢ 1) → IfSome (more a (more b (more c o))) (λ ns. length ns ≢ 4)
+      by None k = tt
+      by (Some ns) k = λ l. let one : length ns ≡ 1 = omega arith in k one
+
+  pub after_three : (d : ℕ) → octet_value rest ≡ Some d → ipv4_value text ≡ Some (from_be_bytes w32 (a ∷ b ∷ c ∷ d ∷ []))
+  unfolding ipv4_value
+  after_three d h = ap (option_and_then four_octets) (three ∙ ap (λ o. more a (more b (more c o))) (octet_values-last rest d h)) ∙ ap (λ n. Some n) same
+    where
+      same : number_of 256 (a ∷ b ∷ c ∷ d ∷ []) ≡ from_be_bytes w32 (a ∷ b ∷ c ∷ d ∷ [])
+      same = omega arith

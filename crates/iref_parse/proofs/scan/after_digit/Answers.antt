@@ -1,0 +1,21 @@
+use Rattle.std.proofs.Common.{sym, subst, ◌∙◌, ap, chars, ◌+◌}
+use Rattle.std.specs.Prelude.{Some, None, if◌then◌else◌}
+use Rattle.iref_grammar.specs.Tests.{is_encoded_after, ScansTo}
+use Rattle.iref_parse.proofs.ScanLemmas.{after_hexdigit, none_is_owed}
+use Rattle.iref_parse.proofs.scan.after_digit.Goals as goal
+
+pub returns-then-is_ascii_hexdigit : goal.returns-then-is_ascii_hexdigit
+returns-then-is_ascii_hexdigit c allowed owed =
+    let rest = chars c.in_ok-c.rest.now in (
+      after_hexdigit allowed owed c.in_ok-c.c _ _ _ c.in_ok-c.ensures.0 c.is_ascii_hexdigit.ensures.value ∙ ap (λ b. is_encoded_after allowed (if b then Some owed else None) rest) c.if-is_ascii_hexdigit.true,
+      c.in_ok-c.ensures.1,
+    )
+
+pub returns-else-is_ascii_hexdigit : goal.returns-else-is_ascii_hexdigit
+returns-else-is_ascii_hexdigit c allowed owed =
+    let rest = chars c.in_ok-c.rest.now in
+    after_hexdigit allowed owed c.in_ok-c.c _ _ _ c.in_ok-c.ensures.0 c.is_ascii_hexdigit.ensures.value ∙ ap (λ b. is_encoded_after allowed (if b then Some owed else None) rest) c.if-is_ascii_hexdigit.false
+
+pub returns-in_err-c : goal.returns-in_err-c
+returns-in_err-c c allowed owed =
+    subst (ScansTo allowed (owed + 1) owed c.args.text.now) (sym c.from_residual.ensures) (none_is_owed allowed owed c.args.text.now c.in_err-c.ensures)

@@ -1,0 +1,93 @@
+//! The split of an authority (RFC 3986 section 3.2), and whether a text is one.
+
+ghost use Rattle.std.specs.Prelude.{◌≡◌};
+ghost use Rattle.std.specs.Option.{option_copied};
+ghost use Rattle.iref_grammar.specs.Authority.{read_authority, read_host_and_port, bracketed, after_bracketed};
+ghost use Rattle.iref_grammar.specs.Authority as authority;
+ghost use Rattle.iref_grammar.specs.Tests as test;
+ghost use Rattle.iref_grammar.specs.Tests.{none_or};
+ghost use Rattle.iref_parse.specs.AuthoritySlices.{authority_of};
+
+use iref_grammar::chars::CharSet;
+use crate::cut::{cut, split_before};
+use crate::host::is_host;
+use crate::scan::{is_port, is_user_info};
+
+/// The parts of an authority, as slices of its text.
+#[derive(Clone, Copy)]
+pub struct AuthoritySlices<'a> {
+    /// What stands before the first `@`.
+    pub user_info: Option<&'a str>,
+    /// What stands before the port.
+    pub host: &'a str,
+    /// What follows the `:` after the host.
+    pub port: Option<&'a str>,
+}
+
+// The front in which no `:` ends the host, up to the `]` of a bracketed address, and what follows.
+fn split_address(text: &str) -> (&str, &str)
+    ensures front { result.0.now ≡ bracketed text.now }
+    ensures back { result.1.now ≡ after_bracketed text.now }
+{
+    if text.starts_with('[') {
+        split_before(text, ']')
+    } else {
+        ("", text)
+    }
+}
+
+// The host and the port, beside the user info that stands before them.
+fn split_host<'a>(user_info: Option<&'a str>, text: &'a str) -> AuthoritySlices<'a>
+    ensures { authority_of result ≡ read_host_and_port (option_copied user_info.entry) text.now }
+{
+    let (address, rest) = split_address(text);
+    let (name, port) = cut(rest, ':');
+    let (host, _) = text.split_at(address.len() + name.len());
+    AuthoritySlices {
+        user_info,
+        host,
+        port,
+    }
+}
+
+/// The parts of the text as an authority.
+#[tactic(auto, unfolding(iref_grammar::specs::Authority::read_authority))]
+pub fn split_authority(text: &str) -> AuthoritySlices<'_>
+    ensures { authority_of result ≡ read_authority text.now }
+{
+    match cut(text, '@') {
+        (user_info, Some(rest)) => split_host(Some(user_info), rest),
+        (_, None) => split_host(None, text),
+    }
+}
+
+// Whether the user info is in its rule, where there is one.
+fn is_user_info_or_none<C: CharSet>(text: Option<&str>) -> bool
+    ensures { result ≡ none_or (test.is_user_info C.tests) (option_copied text.entry) }
+{
+    match text {
+        Some(text) => is_user_info::<C>(text),
+        None => true,
+    }
+}
+
+// Whether the port is in its rule, where there is one.
+fn is_port_or_none(text: Option<&str>) -> bool
+    ensures { result ≡ none_or test.is_port (option_copied text.entry) }
+{
+    match text {
+        Some(text) => is_port(text),
+        None => true,
+    }
+}
+
+/// Whether the text is an authority (RFC 3986 section 3.2).
+#[tactic(auto, unfolding(iref_grammar::specs::Authority::is_authority, iref_grammar::specs::Authority::has_authority_parts))]
+pub fn is_authority<C: CharSet>(text: &str) -> bool
+    ensures { result ≡ authority.is_authority C.tests text.now }
+{
+    let parts = split_authority(text);
+    is_user_info_or_none::<C>(parts.user_info)
+        && is_host::<C>(parts.host)
+        && is_port_or_none(parts.port)
+}

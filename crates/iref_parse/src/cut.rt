@@ -1,0 +1,27 @@
+//! A text cut at the first of a mark.
+
+ghost use Rattle.std.specs.Prelude.{◌≡◌, ◌<◌, [], ◌∷◌};
+ghost use Rattle.std.specs.Option.{option_copied};
+ghost use Rattle.iref_grammar.specs.Texts.{before, from_first, after};
+
+/// What stands before the first of the mark, or all of the text, and what follows it.
+pub fn cut(text: &str, mark: char) -> (&str, Option<&str>)
+    requires { mark < 128 }
+    ensures before { result.0.now ≡ before (mark ∷ []) text.now }
+    ensures after { option_copied result.1 ≡ after mark text.now }
+{
+    match text.split_once(mark) {
+        Some((front, back)) => (front, Some(back)),
+        None => (text, None),
+    }
+}
+
+/// What stands before the first of the mark, or all of the text, and the text from the mark on.
+pub fn split_before(text: &str, mark: char) -> (&str, &str)
+    requires { mark < 128 }
+    ensures before { result.0.now ≡ before (mark ∷ []) text.now }
+    ensures from_first { result.1.now ≡ from_first (mark ∷ []) text.now }
+{
+    let (front, _) = cut(text, mark);
+    text.split_at(front.len())
+}

@@ -1,0 +1,365 @@
+//! Whether a text is in a rule of single characters and escapes.
+
+ghost use Rattle.std.specs.Prelude.{◌≡◌, ◌==◌, ◌&&◌, ◌||◌, ℕ, ◌+◌, ◌<◌, Bool, ◌∷◌, chars, length, slice_index, MatchOption};
+ghost use Rattle.std.specs.List.{list_all};
+ghost use Rattle.std.specs.Char.{is_ascii};
+ghost use Rattle.iref_grammar.specs.Grammar as grammar;
+ghost use Rattle.iref_grammar.specs.Grammar.{slash, is_not_percent};
+ghost use Rattle.iref_grammar.specs.Tests as test;
+ghost use Rattle.iref_grammar.specs.Tests.{ScansTo};
+
+use iref_grammar::chars::CharSet;
+use crate::ascii::first_rule;
+use std::marker::PhantomData;
+
+/// The characters that stand for themselves in a rule of characters and escapes.
+pub trait CharRule {
+    /// What proofs see of them.
+    ghost allowed: { ℕ → Bool };
+
+    /// Whether the character is one of them.
+    fn allows(c: char) -> bool
+        ensures { result ≡ allowed c };
+
+    /// Whether the byte is one of them that is ASCII, and no `%`.
+    fn allows_byte(byte: u8) -> bool
+        ensures { result ≡ (is_ascii byte && (is_not_percent byte && allowed byte)) };
+}
+
+/// Those of registered names (RFC 3986 section 3.2.2).
+pub struct RegNameChars<C: CharSet>(PhantomData<C>);
+
+/// Those of user infos (RFC 3986 section 3.2.1).
+pub struct UserInfoChars<C: CharSet>(PhantomData<C>);
+
+/// Those of segments (RFC 3986 section 3.3).
+pub struct SegmentChars<C: CharSet>(PhantomData<C>);
+
+/// Those of paths (RFC 3986 section 3.3).
+pub struct PathChars<C: CharSet>(PhantomData<C>);
+
+/// Those of queries (RFC 3986 section 3.4).
+pub struct QueryChars<C: CharSet>(PhantomData<C>);
+
+/// Those of fragments (RFC 3986 section 3.5).
+pub struct FragmentChars<C: CharSet>(PhantomData<C>);
+
+/// Those of percent-encoded texts: all but `%`.
+pub struct PctStrChars;
+
+/// Whether the character is `unreserved` (RFC 3986 section 2.3).
+pub fn is_unreserved<C: CharSet>(c: char) -> bool
+    ensures { result ≡ grammar.is_unreserved C.tests c }
+{
+    c.is_ascii_alphanumeric() || matches!(c, '-' | '.' | '_' | '~') || C::is_extra(c)
+}
+
+/// Whether the character is one of `sub-delims` (RFC 3986 section 2.2).
+pub fn is_sub_delim(c: char) -> bool
+    ensures { result ≡ grammar.is_sub_delim c }
+{
+    matches!(
+        c,
+        '!' | '$' | '&' | '\'' | '(' | ')' | '*' | '+' | ',' | ';' | '='
+    )
+}
+
+#[tactic(auto, unfolding(iref_grammar::specs::Grammar::is_reg_name_char))]
+/// Whether a registered name may hold the character beside escapes.
+pub fn is_reg_name_char<C: CharSet>(c: char) -> bool
+    ensures { result ≡ grammar.is_reg_name_char C.tests c }
+{
+    is_unreserved::<C>(c) || is_sub_delim(c)
+}
+
+#[tactic(auto, unfolding(iref_grammar::specs::Grammar::is_user_info_char))]
+/// Whether a user info may hold the character beside escapes.
+pub fn is_user_info_char<C: CharSet>(c: char) -> bool
+    ensures { result ≡ grammar.is_user_info_char C.tests c }
+{
+    is_reg_name_char::<C>(c) || c == ':'
+}
+
+#[tactic(auto, unfolding(iref_grammar::specs::Grammar::is_path_char))]
+/// Whether a segment may hold the character beside escapes.
+pub fn is_path_char<C: CharSet>(c: char) -> bool
+    ensures { result ≡ grammar.is_path_char C.tests c }
+{
+    is_user_info_char::<C>(c) || c == '@'
+}
+
+#[tactic(auto, unfolding(iref_grammar::specs::Grammar::is_fragment_char))]
+/// Whether a fragment may hold the character beside escapes.
+pub fn is_fragment_char<C: CharSet>(c: char) -> bool
+    ensures { result ≡ grammar.is_fragment_char C.tests c }
+{
+    is_path_char::<C>(c) || c == '/' || c == '?'
+}
+
+#[tactic(auto, unfolding(iref_grammar::specs::Grammar::is_query_char))]
+/// Whether a query may hold the character beside escapes.
+pub fn is_query_char<C: CharSet>(c: char) -> bool
+    ensures { result ≡ grammar.is_query_char C.tests c }
+{
+    is_fragment_char::<C>(c) || C::is_private(c)
+}
+
+/// Whether a scheme may hold the character after its first letter (RFC 3986 section 3.1).
+pub fn is_scheme_char(c: char) -> bool
+    ensures { result ≡ grammar.is_scheme_char c }
+{
+    c.is_ascii_alphanumeric() || matches!(c, '+' | '-' | '.')
+}
+
+/// Whether an IPvFuture address may hold the character after its version (RFC 3986 section 3.2.2).
+pub fn is_future_char(c: char) -> bool
+    ensures { result ≡ grammar.is_future_char c }
+{
+    c.is_ascii_alphanumeric() || matches!(c, '-' | '.' | '_' | '~') || is_sub_delim(c) || c == ':'
+}
+
+#[tactic(auto, using(crate::proofs::AsciiLemmas::reg_name_byte))]
+impl<C: CharSet> CharRule for RegNameChars<C> {
+    ghost allowed = { grammar.is_reg_name_char C.tests };
+
+    fn allows(c: char) -> bool {
+        is_reg_name_char::<C>(c)
+    }
+
+    fn allows_byte(byte: u8) -> bool {
+        first_rule(byte) <= 0
+    }
+}
+
+#[tactic(auto, using(crate::proofs::AsciiLemmas::user_info_byte))]
+impl<C: CharSet> CharRule for UserInfoChars<C> {
+    ghost allowed = { grammar.is_user_info_char C.tests };
+
+    fn allows(c: char) -> bool {
+        is_user_info_char::<C>(c)
+    }
+
+    fn allows_byte(byte: u8) -> bool {
+        first_rule(byte) <= 1
+    }
+}
+
+#[tactic(auto, using(crate::proofs::AsciiLemmas::segment_byte))]
+impl<C: CharSet> CharRule for SegmentChars<C> {
+    ghost allowed = { grammar.is_path_char C.tests };
+
+    fn allows(c: char) -> bool {
+        is_path_char::<C>(c)
+    }
+
+    fn allows_byte(byte: u8) -> bool {
+        first_rule(byte) <= 2
+    }
+}
+
+#[tactic(auto, using(crate::proofs::AsciiLemmas::path_byte))]
+impl<C: CharSet> CharRule for PathChars<C> {
+    ghost allowed = { λ c. grammar.is_path_char C.tests c || c == slash };
+
+    fn allows(c: char) -> bool {
+        is_path_char::<C>(c) || c == '/'
+    }
+
+    fn allows_byte(byte: u8) -> bool {
+        first_rule(byte) <= 3
+    }
+}
+
+#[tactic(auto, using(crate::proofs::AsciiLemmas::query_byte))]
+impl<C: CharSet> CharRule for QueryChars<C> {
+    ghost allowed = { grammar.is_query_char C.tests };
+
+    fn allows(c: char) -> bool {
+        is_query_char::<C>(c)
+    }
+
+    fn allows_byte(byte: u8) -> bool {
+        first_rule(byte) <= 4
+    }
+}
+
+#[tactic(auto, using(crate::proofs::AsciiLemmas::fragment_byte))]
+impl<C: CharSet> CharRule for FragmentChars<C> {
+    ghost allowed = { grammar.is_fragment_char C.tests };
+
+    fn allows(c: char) -> bool {
+        is_fragment_char::<C>(c)
+    }
+
+    fn allows_byte(byte: u8) -> bool {
+        first_rule(byte) <= 4
+    }
+}
+
+#[tactic(auto, using(crate::proofs::AsciiLemmas::pct_str_byte))]
+impl CharRule for PctStrChars {
+    ghost allowed = { is_not_percent };
+
+    fn allows(c: char) -> bool {
+        c != '%'
+    }
+
+    fn allows_byte(byte: u8) -> bool {
+        first_rule(byte) <= 5
+    }
+}
+
+// The first character, and what follows it.
+fn split_first_char(text: &str) -> Option<(char, &str)>
+    ensures { MatchOption result (length text.now ≡ 0)
+        (λ x. (chars text.now ≡ x.0 ∷ chars x.1.now) × (length x.1.now < length text.now)) }
+{
+    let mut chars = text.chars();
+    let c = chars.next()?;
+    Some((c, chars.as_str()))
+}
+
+// What follows the first character, if that is a hexadecimal digit.
+fn after_digit(text: &str) -> Option<&str>
+    ensures { (allowed : ℕ → Bool) (owed : ℕ) → ScansTo allowed (owed + 1) owed text.now result }
+{
+    let (c, rest) = split_first_char(text)?;
+    if c.is_ascii_hexdigit() {
+        Some(rest)
+    } else {
+        None
+    }
+}
+
+// What follows the first character or escape, if the rule has it.
+fn after_char_or_escape<R: CharRule>(text: &str) -> Option<&str>
+    requires { 0 < length text.now }
+    ensures { ScansTo R.allowed 0 0 text.now result }
+{
+    let (c, rest) = split_first_char(text)?;
+    if c == '%' {
+        after_digit(after_digit(rest)?)
+    } else if R::allows(c) {
+        Some(rest)
+    } else {
+        None
+    }
+}
+
+// What follows the first character, which is ASCII.
+fn after_ascii(text: &str) -> &str
+    requires not_empty { 0 < length text.now }
+    requires ascii { slice_index text.now 0 < 128 }
+    ensures chars { chars text.now ≡ slice_index text.now 0 ∷ chars result.now }
+    ensures shorter { length result.now < length text.now }
+{
+    &text[1..]
+}
+
+// The same. Most often the first character is one byte, for which the table serves.
+fn after_first<R: CharRule>(text: &str) -> Option<&str>
+    requires { 0 < length text.now }
+    ensures { ScansTo R.allowed 0 0 text.now result }
+{
+    if R::allows_byte(text.as_bytes()[0]) {
+        Some(after_ascii(text))
+    } else {
+        after_char_or_escape::<R>(text)
+    }
+}
+
+/// Whether the text is one of characters that the rule allows, and of escapes.
+fn is_encoded<R: CharRule>(text: &str) -> bool
+    ensures { result ≡ test.is_encoded R.allowed (chars text.now) }
+{
+    let mut rest = text;
+    while !rest.is_empty() {
+        match after_first::<R>(rest) {
+            Some(after) => rest = after,
+            None => return false,
+        }
+    }
+    true
+}
+
+#[tactic(auto, using(crate::proofs::ScanLemmas::utf8), unfolding(iref_grammar::specs::Tests::is_user_info))]
+/// Whether the text is a user info (RFC 3986 section 3.2.1).
+pub fn is_user_info<C: CharSet>(text: &str) -> bool
+    ensures { result ≡ test.is_user_info C.tests text.now }
+{
+    is_encoded::<UserInfoChars<C>>(text)
+}
+
+#[tactic(auto, using(crate::proofs::ScanLemmas::utf8), unfolding(iref_grammar::specs::Tests::is_reg_name))]
+/// Whether the text is a registered name (RFC 3986 section 3.2.2).
+pub fn is_reg_name<C: CharSet>(text: &str) -> bool
+    ensures { result ≡ test.is_reg_name C.tests text.now }
+{
+    is_encoded::<RegNameChars<C>>(text)
+}
+
+#[tactic(auto, using(crate::proofs::ScanLemmas::utf8), unfolding(iref_grammar::specs::Tests::is_segment))]
+/// Whether the text is a segment (RFC 3986 section 3.3).
+pub fn is_segment<C: CharSet>(text: &str) -> bool
+    ensures { result ≡ test.is_segment C.tests text.now }
+{
+    is_encoded::<SegmentChars<C>>(text)
+}
+
+#[tactic(auto, using(crate::proofs::ScanLemmas::utf8), unfolding(iref_grammar::specs::Tests::is_path))]
+/// Whether the text is a path: any text of the characters of segments and `/`.
+pub fn is_path<C: CharSet>(text: &str) -> bool
+    ensures { result ≡ test.is_path C.tests text.now }
+{
+    is_encoded::<PathChars<C>>(text)
+}
+
+#[tactic(auto, using(crate::proofs::ScanLemmas::utf8), unfolding(iref_grammar::specs::Tests::is_query))]
+/// Whether the text is a query (RFC 3986 section 3.4).
+pub fn is_query<C: CharSet>(text: &str) -> bool
+    ensures { result ≡ test.is_query C.tests text.now }
+{
+    is_encoded::<QueryChars<C>>(text)
+}
+
+#[tactic(auto, using(crate::proofs::ScanLemmas::utf8), unfolding(iref_grammar::specs::Tests::is_fragment))]
+/// Whether the text is a fragment (RFC 3986 section 3.5).
+pub fn is_fragment<C: CharSet>(text: &str) -> bool
+    ensures { result ≡ test.is_fragment C.tests text.now }
+{
+    is_encoded::<FragmentChars<C>>(text)
+}
+
+// Whether a scheme may hold each of the bytes after its first letter.
+fn are_scheme_chars(bytes: &[u8]) -> bool
+    ensures { result ≡ list_all grammar.is_scheme_char bytes.now }
+{
+    bytes.iter().all(|b| is_scheme_char(char::from(*b)))
+}
+
+#[tactic(auto, unfolding(iref_grammar::specs::Tests::is_scheme))]
+/// Whether the text is a scheme (RFC 3986 section 3.1).
+pub fn is_scheme(text: &str) -> bool
+    ensures { result ≡ test.is_scheme text.now }
+{
+    let Some((first, others)) = text.as_bytes().split_first() else {
+        return false;
+    };
+    first.is_ascii_alphabetic() && are_scheme_chars(others)
+}
+
+#[tactic(auto, unfolding(iref_grammar::specs::Tests::is_port))]
+/// Whether the text is a port (RFC 3986 section 3.2.3).
+pub fn is_port(text: &str) -> bool
+    ensures { result ≡ test.is_port text.now }
+{
+    text.as_bytes().iter().all(|b| b.is_ascii_digit())
+}
+
+#[tactic(auto, using(crate::proofs::ScanLemmas::utf8), unfolding(iref_grammar::specs::Tests::is_pct_str))]
+/// Whether each `%` of the text stands before two hexadecimal digits (RFC 3986 section 2.1).
+pub fn is_pct_str(text: &str) -> bool
+    ensures { result ≡ test.is_pct_str text.now }
+{
+    is_encoded::<PctStrChars>(text)
+}

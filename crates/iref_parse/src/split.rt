@@ -1,0 +1,146 @@
+//! The one split of a reference into its components (RFC 3986 section 4.1 and appendix B).
+
+ghost use Rattle.std.specs.Prelude.{◌≡◌, ◌<◌, [], ◌∷◌, IfSome, is_some};
+ghost use Rattle.std.specs.Bool.{Decides};
+ghost use Rattle.std.specs.Option.{option_copied};
+ghost use Rattle.iref_grammar.specs.Grammar.{hash_sign, question_mark};
+ghost use Rattle.iref_grammar.specs.Texts.{before, from_first, after};
+ghost use Rattle.iref_grammar.specs.Reference as spec;
+ghost use Rattle.iref_grammar.specs.Reference.{hierarchy, read_reference, is_reference};
+ghost use Rattle.iref_grammar.specs.ComponentTexts.{spell_components, AreComponents};
+ghost use Rattle.iref_parse.specs.ReferenceSlices.{texts_of, value_of};
+
+use iref_grammar::chars::CharSet;
+use crate::authority::is_authority;
+use crate::cut::{cut, split_before};
+use crate::scan::{is_fragment, is_path, is_query, is_scheme};
+
+/// The components of a reference, as slices of its text.
+#[derive(Clone, Copy, Debug, PartialEq, Eq)]
+pub struct ReferenceSlices<'a> {
+    /// What stands before the first `:`.
+    pub scheme: Option<&'a str>,
+    /// What stands between `//` and the path.
+    pub authority: Option<&'a str>,
+    /// What stands between the authority and the query.
+    pub path: &'a str,
+    /// What stands between `?` and the fragment.
+    pub query: Option<&'a str>,
+    /// What follows `#`.
+    pub fragment: Option<&'a str>,
+}
+
+// What stands before the first of two marks, and the text from there on.
+fn split_before_either(text: &str, first: u8, second: u8) -> (&str, &str)
+    requires first_is_ascii { first < 128 }
+    requires second_is_ascii { second < 128 }
+    ensures front { result.0.now ≡ before (first ∷ second ∷ []) text.now }
+    ensures back { result.1.now ≡ from_first (first ∷ second ∷ []) text.now }
+{
+    let place = text
+        .bytes()
+        .position(|byte| byte == first || byte == second);
+    text.split_at(place.unwrap_or(text.len()))
+}
+
+// The scheme, if a `:` stands before each `/`, and what follows it.
+fn split_scheme(text: &str) -> (Option<&str>, &str)
+    ensures scheme { option_copied result.0 ≡ (spec.split_scheme text.now).0 }
+    ensures rest { result.1.now ≡ (spec.split_scheme text.now).1 }
+{
+    let (scheme, rest) = split_before_either(text, b':', b'/');
+    match rest.strip_prefix(':') {
+        Some(rest) => (Some(scheme), rest),
+        None => (None, text),
+    }
+}
+
+// The authority between `//` and the next `/`, and the path.
+fn split_authority(text: &str) -> (Option<&str>, &str)
+    ensures authority { option_copied result.0 ≡ (spec.split_authority text.now).0 }
+    ensures path { result.1.now ≡ (spec.split_authority text.now).1 }
+{
+    match text.strip_prefix("//") {
+        Some(rest) => {
+            let (authority, path) = split_before(rest, '/');
+            (Some(authority), path)
+        }
+        None => (None, text),
+    }
+}
+
+// What stands before the query and the fragment, and these two.
+fn split_tail(text: &str) -> (&str, Option<&str>, Option<&str>)
+    ensures front { result.0.now ≡ hierarchy text.now }
+    ensures query { option_copied result.1 ≡ after question_mark (before (hash_sign ∷ []) text.now) }
+    ensures fragment { option_copied result.2 ≡ after hash_sign text.now }
+{
+    let (front, tail) = split_before_either(text, b'?', b'#');
+    let (query, fragment) = cut(tail, '#');
+    (front, query.strip_prefix('?'), fragment)
+}
+
+/// Splits a text into the components that it has as a reference (RFC 3986 section 4.1).
+#[tactic(auto, unfolding(iref_grammar::specs::Reference::read_reference))]
+pub fn split_reference(text: &str) -> ReferenceSlices<'_>
+    ensures value { value_of result ≡ read_reference text.now }
+    ensures texts { texts_of result ≡ spell_components (read_reference text.now) }
+{
+    let (text, query, fragment) = split_tail(text);
+    let (scheme, text) = split_scheme(text);
+    let (authority, path) = split_authority(text);
+    ReferenceSlices {
+        scheme,
+        authority,
+        path,
+        query,
+        fragment,
+    }
+}
+
+// Whether each slice is in the rule of its component.
+fn are_components<C: CharSet>(slices: ReferenceSlices<'_>) -> bool
+    ensures { Decides result (AreComponents C.tests (texts_of slices.entry)) }
+{
+    slices.scheme.is_none_or(|scheme| is_scheme(scheme))
+        && slices
+            .authority
+            .is_none_or(|authority| is_authority::<C>(authority))
+        && is_path::<C>(slices.path)
+        && slices.query.is_none_or(|query| is_query::<C>(query))
+        && slices
+            .fragment
+            .is_none_or(|fragment| is_fragment::<C>(fragment))
+}
+
+/// The components of a text that is a reference (RFC 3986 section 4.1).
+pub fn parse_reference<C: CharSet>(text: &str) -> Option<ReferenceSlices<'_>>
+    ensures accepted { is_some result ≡ is_reference C.tests text.now }
+    ensures value { IfSome result (λ s. value_of s ≡ read_reference text.now) }
+    ensures texts { IfSome result (λ s. texts_of s ≡ spell_components (read_reference text.now)) }
+    ensures components { IfSome result (λ s. AreComponents C.tests (texts_of s)) }
+{
+    let slices = split_reference(text);
+    if are_components::<C>(slices) {
+        Some(slices)
+    } else {
+        None
+    }
+}
+
+/// Whether the text is a reference (RFC 3986 section 4.1).
+pub fn is_reference<C: CharSet>(text: &str) -> bool
+    ensures { result ≡ spec.is_reference C.tests text.now }
+{
+    parse_reference::<C>(text).is_some()
+}
+
+/// Whether the text is a reference with a scheme (RFC 3986 section 3).
+pub fn is_full_reference<C: CharSet>(text: &str) -> bool
+    ensures { result ≡ spec.is_full_reference C.tests text.now }
+{
+    match parse_reference::<C>(text) {
+        Some(slices) => slices.scheme.is_some(),
+        None => false,
+    }
+}

@@ -1,0 +1,7 @@
+//! Tests of what no clause says, by the calls of the crates below: outside rows, printed texts, refused growths.
+#![tactic(auto)]
+
+#[cfg(test)]
+mod references;
+#[cfg(test)]
+mod small_types;

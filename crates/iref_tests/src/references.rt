@@ -1,0 +1,61 @@
+use iref_refs::reference::uri::Uri;
+use iref_refs::reference::uri_ref::UriRef;
+use iref_grammar::chars::{CharSet, IriChars, UriChars};
+
+// Whether the text is a reference with these components, in the order of the text, `-` for one that is not there.
+fn has_components<C: CharSet>(text: &str, want: [&str; 5]) -> bool {
+    let Ok(reference) = UriRef::<C>::new(text) else {
+        return false;
+    };
+    let parts = reference.parts();
+    parts.scheme.map_or("-", |scheme| scheme.as_str()) == want[0]
+        && parts.authority.map_or("-", |authority| authority.as_str()) == want[1]
+        && parts.path.as_str() == want[2]
+        && parts.query.map_or("-", |query| query.as_str()) == want[3]
+        && parts.fragment.map_or("-", |fragment| fragment.as_str()) == want[4]
+}
+
+const ROWS: [(&str, [&str; 5]); 5] = [
+    ("", ["-", "-", "", "-", "-"]),
+    ("scheme:////", ["scheme", "", "//", "-", "-"]),
+    ("a/:", ["-", "-", "a/:", "-", "-"]),
+    ("http://h/a?q#f", ["http", "h", "/a", "q", "f"]),
+    (
+        "//user:1@host.org:80/a//b?#",
+        ["-", "user:1@host.org:80", "/a//b", "", ""],
+    ),
+];
+
+#[test]
+fn references_have_their_components(rt: HostRuntime) {
+    for (text, want) in ROWS {
+        assert!(rt; has_components::<UriChars>(text, want), "URI {text}");
+        assert!(rt; has_components::<IriChars>(text, want), "IRI {text}");
+    }
+}
+
+#[test]
+fn texts_outside_the_grammar_are_refused(rt: HostRuntime) {
+    for text in ["1:2", "http://[::1", "a%4", "a b", "#a#"] {
+        assert!(rt; UriRef::<UriChars>::new(text).is_err(), "URI {text}");
+        assert!(rt; UriRef::<IriChars>::new(text).is_err(), "IRI {text}");
+    }
+    assert!(rt; UriRef::<UriChars>::from_bytes(&[0xff]).is_err());
+    assert!(rt; UriRef::<IriChars>::new("\u{e000}").is_err());
+    assert!(rt; UriRef::<IriChars>::new("?\u{e000}").is_ok());
+}
+
+#[test]
+fn uris_are_references_with_a_scheme(rt: HostRuntime) {
+    assert!(rt; Uri::<UriChars>::new("").is_err());
+    assert!(rt; UriRef::<UriChars>::empty().as_uri().is_none());
+    let text = "http://h/a?q#f";
+    let uri = UriRef::<UriChars>::new(text)
+        .ok()
+        .and_then(|reference| reference.as_uri());
+    let fronts = uri.map(|uri| (
+        uri.without_fragment().as_str(),
+        uri.without_query_and_fragment().as_str(),
+    ));
+    assert_eq!(rt; fronts, Some(("http://h/a?q", "http://h/a")));
+}

@@ -1,7 +1,0 @@
-use Rattle.iref_text.specs.Texts.{after}
-use Rattle.iref_text.proofs.CutLemmas.{cut}
-use Rattle.iref_text.proofs.SliceLemmas.{mark_boundary}
-use Rattle.iref_text.proofs.parse.cut.split_before.Goals as goal
-
-pub split_at-requires : goal.split_at-requires
-split_at-requires c = rw c.cut.ensures.before (mark_boundary c.args.mark _ (after c.args.mark c.args.text.now) c.args.text.now c.requires (cut c.args.mark c.args.text.now))

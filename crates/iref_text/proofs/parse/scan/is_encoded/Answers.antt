@@ -1,6 +1,0 @@
-use Rattle.std.proofs.Common.{◌∙◌, rules}
-use Rattle.iref_text.proofs.ScanLemmas.{nothing_left}
-use Rattle.iref_text.proofs.parse.scan.is_encoded.Goals as goal
-
-pub returns : goal.returns
-returns g c = nothing_left g.R.CharRule.allowed c.loop-rest.rest.now (search rules) ∙ c.loop-rest.invariant.1

@@ -1,8 +1,0 @@
-use Rattle.std.proofs.Common.{rules}
-use Rattle.iref_text.specs.Reference.{read_reference}
-use Rattle.iref_text.proofs.ComponentLemmas.{spelled_as_read}
-use Rattle.iref_text.proofs.parse.split.split_reference.Goals as goal
-
-pub returns-clause-texts : goal.returns-clause-texts
-unfolding read_reference
-returns-clause-texts c = spelled_as_read _ (read_reference c.args.text.now) (search rules)

@@ -1,5 +1,0 @@
-use Rattle.iref_text.proofs.PlaceLemmas.{scheme_place, authority_place, path_place, query_place, fragment_place}
-use Rattle.iref_text.proofs.reference_laws.places_hold_the_components.Goals as goal
-
-pub returns : goal.returns
-returns c = record { scheme = scheme_place; authority = authority_place; path = path_place; query = query_place; fragment = fragment_place }

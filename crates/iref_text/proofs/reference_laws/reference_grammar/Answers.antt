@@ -1,5 +1,0 @@
-use Rattle.iref_text.proofs.ReferenceRuleLemmas.{Decides-is_uri_reference}
-use Rattle.iref_text.proofs.reference_laws.reference_grammar.Goals as goal
-
-pub returns : goal.returns
-returns g c = Decides-is_uri_reference g.S.CharSet.tests g.met.S.CharSet.above_ascii

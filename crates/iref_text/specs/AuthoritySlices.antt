@@ -1,8 +1,0 @@
--- What proofs see of the slices of an authority.
-use Rattle.std.specs.Option.{option_copied}
-use Rattle.iref_text.specs.Authority.{AuthorityValue}
-use Rattle.iref_text.specs.declared.parse.authority.AuthoritySlices.{AuthoritySlices}
-
--- the parts that they show
-abbrev pub authority_of : AuthoritySlices → AuthorityValue
-authority_of a = record { user_info = option_copied a.user_info; host = a.host.now; port = option_copied a.port }
