@@ -4,8 +4,8 @@ use Rattle.iref_grammar.specs.Rules.{Text}
 use Rattle.iref_grammar.specs.PathValue.{PathValue, read_path}
 use Rattle.iref_parse.specs.Views.{view_text, owned_text}
 use Rattle.iref_path.specs.declared.segment.Segment.{Segment}
-use Rattle.iref_path.specs.declared.segment.SegmentBuf.{SegmentBuf}
-use Rattle.iref_path.specs.declared.path.PathBuf.{PathBuf}
+use Rattle.iref_path.specs.declared.segment_buf.SegmentBuf.{SegmentBuf}
+use Rattle.iref_path.specs.declared.path_buf.PathBuf.{PathBuf}
 use Rattle.iref_normal.specs.Pieces.{pieces_if_some}
 use Rattle.iref_path.specs.declared.path.Path.{Path}
 use Rattle.iref_path.specs.declared.segments.Segments.{Segments}

@@ -8,10 +8,9 @@ ghost use Rattle.iref_path.specs.Views.{path_value};
 
 use crate::path::Path;
 use iref_grammar::chars::CharSet;
+pub use iref_normal::equality::Steps;
 use iref_normal::equality::path_texts_eq;
 use iref_normal::pieces::segments_fit;
-
-pub use iref_normal::equality::Steps;
 
 /// A new count has room for the segments of any two paths.
 pub fn new_steps_have_room<C: CharSet>(a: Path<'_, C>, b: Path<'_, C>)

@@ -9,9 +9,9 @@ ghost use Rattle.iref_normal.specs.NormalList.{normal_segments};
 ghost use Rattle.iref_normal.specs.Remaining.{IsReadable, is_settled, normal_left};
 
 use crate::path::Path;
-use iref_normal::remaining::Remaining;
 use crate::segment::Segment;
 use iref_grammar::chars::CharSet;
+use iref_normal::remaining::Remaining;
 use std::marker::PhantomData;
 
 /// The normal segments of a path that are left.

@@ -1,7 +1,6 @@
 //! Paths (RFC 3986 section 3.3).
 
-ghost use Rattle.std.specs.Prelude.{◌≡◌, ◌<◌, ◌^◌, true, not, [], Some, IfOk, length, codes, option_map};
-ghost use Rattle.std.specs.String.{string_bytes};
+ghost use Rattle.std.specs.Prelude.{◌≡◌, ◌<◌, ◌^◌, true, not, [], Some, length, codes, option_map};
 ghost use Rattle.std.specs.Ordering.{eq_by_cmp, on};
 ghost use Rattle.std.specs.Cmp.Rules.{comparing};
 ghost use Rattle.std.proofs.Common.{rules};
@@ -11,20 +10,17 @@ ghost use Rattle.iref_grammar.specs.Tests.{is_path};
 ghost use Rattle.iref_parse.specs.Makers.{Parses};
 ghost use Rattle.iref_grammar.specs.Texts.{is_empty};
 ghost use Rattle.iref_normal.specs.PathFunctions as function;
-ghost use Rattle.iref_path.specs.Views.{path_text, path_buf_text, path_value, path_buf_value, segment_text, segments_left};
+ghost use Rattle.iref_path.specs.Views.{path_text, path_value, segment_text, segments_left};
 ghost use Rattle.iref_normal.specs.PathKey.{path_key, path_key_cmp, path_keys_total};
 
 use crate::equality::{Steps, new_steps_have_room, path_eq_counted};
-use iref_normal::path_text::{directory_text, looks_like_scheme, parent_text};
-use iref_normal::pieces::split_root;
 use crate::rules::PathRule;
 use crate::segment::Segment;
 use crate::segments::Segments;
 use iref_grammar::chars::CharSet;
-use iref_parse::error::Memory;
-use iref_parse::owned::TextBuf;
+use iref_normal::path_text::{directory_text, looks_like_scheme, parent_text};
+use iref_normal::pieces::split_root;
 use iref_parse::view::View;
-use std::alloc::Global;
 use std::convert::TryFrom;
 use std::fmt;
 use thiserror::Error;
@@ -38,7 +34,7 @@ pub struct InvalidPath<T>(pub T);
 /// A path.
 #[derive_where(Clone, Copy, Debug)]
 pub struct Path<'a, C: CharSet> {
-    text: View<'a, PathRule, C>,
+    pub(crate) text: View<'a, PathRule, C>,
 }
 
 impl<'a, C: CharSet> Path<'a, C> {
@@ -214,14 +210,6 @@ impl<'a, C: CharSet> Path<'a, C> {
     {
         looks_like_scheme(self.as_str())
     }
-
-    /// An owner of a copy.
-    pub fn to_owned(&self, alloc: Global) -> Result<PathBuf<C>, Memory>
-        ensures { IfOk result (λ copy. path_buf_text copy ≡ path_text self.now) }
-    {
-        let text = TextBuf::from_view(self.text, alloc)?;
-        Ok(PathBuf { text })
-    }
 }
 
 impl<C: CharSet> Default for Path<'_, C> {
@@ -286,122 +274,4 @@ impl<'a, C: CharSet> IntoIterator for Path<'a, C> {
     fn into_iter(self) -> Segments<'a, C> {
         self.segments()
     }
-}
-
-/// A path that owns its text.
-#[derive(Drop)]
-#[derive_where(Debug)]
-pub struct PathBuf<C: CharSet> {
-    text: TextBuf<PathRule, C>,
-}
-
-impl<C: CharSet> PathBuf<C> {
-    /// The path of this text, with no copy, or the text.
-    pub fn new(text: String) -> Result<Self, InvalidPath<String>>
-        ensures { Parses (InUtf8 (IsPath C.tests)) (string_bytes text) path_buf_text (λ fault. fault.0 ≡ text) result }
-    {
-        TextBuf::new(text)
-            .map(|text| PathBuf { text })
-            .map_err(InvalidPath)
-    }
-
-    /// The path of these bytes of UTF-8, with no copy, or the bytes.
-    pub fn from_bytes(bytes: Vec<u8>) -> Result<Self, InvalidPath<Vec<u8>>>
-        ensures { Parses (InUtf8 (IsPath C.tests)) bytes.items path_buf_text (λ fault. fault.0 ≡ bytes) result }
-    {
-        TextBuf::from_bytes(bytes)
-            .map(|text| PathBuf { text })
-            .map_err(InvalidPath)
-    }
-
-    /// The empty path, which takes no memory.
-    #[tactic(auto, using(iref_normal::proofs::GrammarLemmas::empty_paths))]
-    pub fn empty(alloc: Global) -> Self
-        ensures { path_buf_text result ≡ [] }
-    {
-        PathBuf {
-            text: TextBuf::empty(alloc),
-        }
-    }
-
-    /// The view.
-    pub fn as_path(&self) -> Path<'_, C>
-        ensures { path_text result ≡ path_buf_text self.now }
-    {
-        Path {
-            text: self.text.as_view(),
-        }
-    }
-
-    /// The text.
-    pub fn as_str(&self) -> &str
-        ensures text { result.now ≡ path_buf_text self.now }
-        ensures in_rule { is_path C.tests result.now ≡ true }
-    {
-        self.as_path().as_str()
-    }
-
-    /// The bytes of the text.
-    pub fn as_bytes(&self) -> &[u8]
-        ensures { result.now ≡ path_buf_text self.now }
-    {
-        self.as_str().as_bytes()
-    }
-
-    /// The text, with no copy.
-    pub fn into_string(self) -> String
-        ensures { string_bytes result ≡ path_buf_text self }
-    {
-        let PathBuf { text } = self;
-        text.into_string()
-    }
-
-    /// The bytes of the text, with no copy.
-    pub fn into_bytes(self) -> Vec<u8>
-        ensures { result.items ≡ path_buf_text self }
-    {
-        self.into_string().into_bytes()
-    }
-}
-
-impl<C: CharSet> TryFrom<String> for PathBuf<C> {
-    type Error = InvalidPath<String>;
-
-    ghost try_from_gives = { λ text result. Parses (InUtf8 (IsPath C.tests)) (string_bytes text) path_buf_text (λ fault. fault.0 ≡ text) result };
-
-    fn try_from(text: String) -> Result<Self, InvalidPath<String>> {
-        PathBuf::new(text)
-    }
-}
-
-impl<C: CharSet> TryFrom<Vec<u8>> for PathBuf<C> {
-    type Error = InvalidPath<Vec<u8>>;
-
-    ghost try_from_gives = { λ bytes result. Parses (InUtf8 (IsPath C.tests)) bytes.items path_buf_text (λ fault. fault.0 ≡ bytes) result };
-
-    fn try_from(bytes: Vec<u8>) -> Result<Self, InvalidPath<Vec<u8>>> {
-        PathBuf::from_bytes(bytes)
-    }
-}
-
-impl<C: CharSet> fmt::Display for PathBuf<C> {
-    ghost output = { λ path. Some (path_buf_text path) };
-
-    fn fmt<W: fmt::Write>(&self, f: &mut fmt::Formatter<W>) -> fmt::Result {
-        f.write_str(self.as_str())
-    }
-}
-
-impl<C: CharSet> PartialEq for PathBuf<C> {
-    ghost eq = { eq_by_cmp (on (λ p. path_key (path_buf_value p)) path_key_cmp) };
-
-    ghost laws = { Prim.search (path_keys_total, comparing, rules) };
-
-    fn eq(&self, other: &Self) -> bool {
-        self.as_path() == other.as_path()
-    }
-}
-
-impl<C: CharSet> Eq for PathBuf<C> {
-    ghost laws = { Prim.search (path_keys_total, comparing, rules) };
 }

@@ -1,22 +1,20 @@
 //! The segments of paths (RFC 3986 section 3.3).
 
-ghost use Rattle.std.specs.Prelude.{◌≡◌, true, [], Some, IfOk, length, codes};
-ghost use Rattle.std.specs.String.{string_bytes};
+ghost use Rattle.std.specs.Prelude.{◌≡◌, true, [], Some, length, codes};
 ghost use Rattle.iref_grammar.specs.Rules.{InUtf8};
 ghost use Rattle.iref_grammar.specs.Grammar.{IsSegment};
 ghost use Rattle.iref_grammar.specs.Tests.{is_segment};
 ghost use Rattle.iref_parse.specs.Makers.{Parses};
 ghost use Rattle.iref_grammar.specs.Texts.{is_empty};
 ghost use Rattle.iref_normal.specs.PathFunctions as function;
-ghost use Rattle.iref_path.specs.Views.{segment_text, segment_buf_text};
+ghost use Rattle.iref_text.specs.Components.{pct_text};
+ghost use Rattle.iref_path.specs.Views.{segment_text};
 
-use iref_normal::path_text::looks_like_scheme;
 use crate::rules::SegmentRule;
 use iref_grammar::chars::CharSet;
-use iref_parse::error::Memory;
-use iref_parse::owned::TextBuf;
+use iref_normal::path_text::looks_like_scheme;
 use iref_parse::view::View;
-use std::alloc::Global;
+use iref_text::pct::PctStr;
 use std::convert::TryFrom;
 use std::fmt;
 use thiserror::Error;
@@ -30,7 +28,7 @@ pub struct InvalidSegment<T>(pub T);
 /// A segment of a path.
 #[derive_where(Clone, Copy, PartialEq, Eq, PartialOrd, Ord, Hash, Debug)]
 pub struct Segment<'a, C: CharSet> {
-    text: View<'a, SegmentRule, C>,
+    pub(crate) text: View<'a, SegmentRule, C>,
 }
 
 impl<'a, C: CharSet> Segment<'a, C> {
@@ -122,12 +120,20 @@ impl<'a, C: CharSet> Segment<'a, C> {
         looks_like_scheme(self.as_str())
     }
 
-    /// An owner of a copy.
-    pub fn to_owned(&self, alloc: Global) -> Result<SegmentBuf<C>, Memory>
-        ensures { IfOk result (λ copy. segment_buf_text copy ≡ segment_text self.now) }
+    /// The text as a percent-encoded text.
+    #[tactic(auto, using(iref_grammar::proofs::PctLemmas::segment_is_pct_str))]
+    pub fn as_pct_str(&self) -> PctStr<'a>
+        ensures { pct_text result ≡ segment_text self.now }
     {
-        let text = TextBuf::from_view(self.text, alloc)?;
-        Ok(SegmentBuf { text })
+        PctStr::new_unchecked(self.as_str())
+    }
+}
+
+impl<C: CharSet> Default for Segment<'_, C> {
+    ghost is_default = { λ segment. segment_text segment ≡ [] };
+
+    fn default() -> Self {
+        Segment::empty()
     }
 }
 
@@ -153,110 +159,6 @@ impl<'a, C: CharSet> TryFrom<&'a [u8]> for Segment<'a, C> {
 
 impl<C: CharSet> fmt::Display for Segment<'_, C> {
     ghost output = { λ segment. Some (segment_text segment) };
-
-    fn fmt<W: fmt::Write>(&self, f: &mut fmt::Formatter<W>) -> fmt::Result {
-        f.write_str(self.as_str())
-    }
-}
-
-/// A segment that owns its text.
-#[derive(Drop)]
-#[derive_where(Debug, PartialEq, Eq, PartialOrd, Ord, Hash)]
-pub struct SegmentBuf<C: CharSet> {
-    text: TextBuf<SegmentRule, C>,
-}
-
-impl<C: CharSet> SegmentBuf<C> {
-    /// The segment of this text, with no copy, or the text.
-    pub fn new(text: String) -> Result<Self, InvalidSegment<String>>
-        ensures { Parses (InUtf8 (IsSegment C.tests)) (string_bytes text) segment_buf_text (λ fault. fault.0 ≡ text) result }
-    {
-        TextBuf::new(text)
-            .map(|text| SegmentBuf { text })
-            .map_err(InvalidSegment)
-    }
-
-    /// The segment of these bytes of UTF-8, with no copy, or the bytes.
-    pub fn from_bytes(bytes: Vec<u8>) -> Result<Self, InvalidSegment<Vec<u8>>>
-        ensures { Parses (InUtf8 (IsSegment C.tests)) bytes.items segment_buf_text (λ fault. fault.0 ≡ bytes) result }
-    {
-        TextBuf::from_bytes(bytes)
-            .map(|text| SegmentBuf { text })
-            .map_err(InvalidSegment)
-    }
-
-    /// The empty segment, which takes no memory.
-    #[tactic(auto, using(iref_normal::proofs::GrammarLemmas::short_segments))]
-    pub fn empty(alloc: Global) -> Self
-        ensures { segment_buf_text result ≡ [] }
-    {
-        SegmentBuf {
-            text: TextBuf::empty(alloc),
-        }
-    }
-
-    /// The view.
-    pub fn as_segment(&self) -> Segment<'_, C>
-        ensures { segment_text result ≡ segment_buf_text self.now }
-    {
-        Segment {
-            text: self.text.as_view(),
-        }
-    }
-
-    /// The text.
-    pub fn as_str(&self) -> &str
-        ensures text { result.now ≡ segment_buf_text self.now }
-        ensures in_rule { is_segment C.tests result.now ≡ true }
-    {
-        self.as_segment().as_str()
-    }
-
-    /// The bytes of the text.
-    pub fn as_bytes(&self) -> &[u8]
-        ensures { result.now ≡ segment_buf_text self.now }
-    {
-        self.as_str().as_bytes()
-    }
-
-    /// The text, with no copy.
-    pub fn into_string(self) -> String
-        ensures { string_bytes result ≡ segment_buf_text self }
-    {
-        let SegmentBuf { text } = self;
-        text.into_string()
-    }
-
-    /// The bytes of the text, with no copy.
-    pub fn into_bytes(self) -> Vec<u8>
-        ensures { result.items ≡ segment_buf_text self }
-    {
-        self.into_string().into_bytes()
-    }
-}
-
-impl<C: CharSet> TryFrom<String> for SegmentBuf<C> {
-    type Error = InvalidSegment<String>;
-
-    ghost try_from_gives = { λ text result. Parses (InUtf8 (IsSegment C.tests)) (string_bytes text) segment_buf_text (λ fault. fault.0 ≡ text) result };
-
-    fn try_from(text: String) -> Result<Self, InvalidSegment<String>> {
-        SegmentBuf::new(text)
-    }
-}
-
-impl<C: CharSet> TryFrom<Vec<u8>> for SegmentBuf<C> {
-    type Error = InvalidSegment<Vec<u8>>;
-
-    ghost try_from_gives = { λ bytes result. Parses (InUtf8 (IsSegment C.tests)) bytes.items segment_buf_text (λ fault. fault.0 ≡ bytes) result };
-
-    fn try_from(bytes: Vec<u8>) -> Result<Self, InvalidSegment<Vec<u8>>> {
-        SegmentBuf::from_bytes(bytes)
-    }
-}
-
-impl<C: CharSet> fmt::Display for SegmentBuf<C> {
-    ghost output = { λ segment. Some (segment_buf_text segment) };
 
     fn fmt<W: fmt::Write>(&self, f: &mut fmt::Formatter<W>) -> fmt::Result {
         f.write_str(self.as_str())

@@ -6,9 +6,9 @@ ghost use Rattle.std.specs.Iterator.{YieldsFirstBy, YieldsLastBy, item_count};
 ghost use Rattle.iref_grammar.specs.Tests.{is_segment};
 ghost use Rattle.iref_normal.specs.Pieces.{pieces_if_some};
 
-use iref_normal::pieces::{first_piece, last_piece, piece_count};
 use crate::segment::Segment;
 use iref_grammar::chars::CharSet;
+use iref_normal::pieces::{first_piece, last_piece, piece_count};
 use std::marker::PhantomData;
 
 /// The segments of a path that are left.

@@ -1,0 +1,257 @@
+//! Paths that own their text (RFC 3986 section 3.3).
+
+ghost use Rattle.std.specs.Prelude.{◌≡◌, ◌<◌, ◌^◌, true, not, [], Some, IfOk, length, option_map};
+ghost use Rattle.std.specs.String.{string_bytes};
+ghost use Rattle.std.specs.Ordering.{eq_by_cmp, on};
+ghost use Rattle.std.specs.Cmp.Rules.{comparing};
+ghost use Rattle.std.proofs.Common.{rules};
+ghost use Rattle.iref_grammar.specs.Rules.{InUtf8};
+ghost use Rattle.iref_grammar.specs.Grammar.{IsPath};
+ghost use Rattle.iref_grammar.specs.Tests.{is_path};
+ghost use Rattle.iref_grammar.specs.Texts.{is_empty};
+ghost use Rattle.iref_parse.specs.Makers.{Parses};
+ghost use Rattle.iref_normal.specs.NormalList.{normal_segments};
+ghost use Rattle.iref_normal.specs.PathFunctions as function;
+ghost use Rattle.iref_normal.specs.PathKey.{path_key, path_key_cmp, path_keys_total};
+ghost use Rattle.iref_path.specs.Views.{path_text, path_buf_text, path_value, path_buf_value, segment_text, segments_left};
+ghost use Rattle.iref_path.specs.NormalViews.{normal_segments_left};
+
+use crate::normal::NormalizedSegments;
+use crate::path::{InvalidPath, Path};
+use crate::rules::PathRule;
+use crate::segment::Segment;
+use crate::segments::Segments;
+use iref_grammar::chars::CharSet;
+use iref_parse::error::Memory;
+use iref_parse::owned::TextBuf;
+use std::alloc::Global;
+use std::convert::TryFrom;
+use std::fmt;
+
+impl<C: CharSet> Path<'_, C> {
+    /// An owner of a copy.
+    pub fn to_owned(&self, alloc: Global) -> Result<PathBuf<C>, Memory>
+        ensures { IfOk result (λ copy. path_buf_text copy ≡ path_text self.now) }
+    {
+        let text = TextBuf::from_view(self.text, alloc)?;
+        Ok(PathBuf { text })
+    }
+}
+
+/// A path that owns its text.
+#[derive(Drop)]
+#[derive_where(Debug)]
+pub struct PathBuf<C: CharSet> {
+    text: TextBuf<PathRule, C>,
+}
+
+impl<C: CharSet> PathBuf<C> {
+    /// The path of this text, with no copy, or the text.
+    pub fn new(text: String) -> Result<Self, InvalidPath<String>>
+        ensures { Parses (InUtf8 (IsPath C.tests)) (string_bytes text) path_buf_text (λ fault. fault.0 ≡ text) result }
+    {
+        TextBuf::new(text)
+            .map(|text| PathBuf { text })
+            .map_err(InvalidPath)
+    }
+
+    /// The path of these bytes of UTF-8, with no copy, or the bytes.
+    pub fn from_bytes(bytes: Vec<u8>) -> Result<Self, InvalidPath<Vec<u8>>>
+        ensures { Parses (InUtf8 (IsPath C.tests)) bytes.items path_buf_text (λ fault. fault.0 ≡ bytes) result }
+    {
+        TextBuf::from_bytes(bytes)
+            .map(|text| PathBuf { text })
+            .map_err(InvalidPath)
+    }
+
+    /// The empty path, which takes no memory.
+    #[tactic(auto, using(iref_normal::proofs::GrammarLemmas::empty_paths))]
+    pub fn empty(alloc: Global) -> Self
+        ensures { path_buf_text result ≡ [] }
+    {
+        PathBuf {
+            text: TextBuf::empty(alloc),
+        }
+    }
+
+    /// The view.
+    pub fn as_path(&self) -> Path<'_, C>
+        ensures { path_text result ≡ path_buf_text self.now }
+    {
+        Path {
+            text: self.text.as_view(),
+        }
+    }
+
+    /// The text.
+    pub fn as_str(&self) -> &str
+        ensures text { result.now ≡ path_buf_text self.now }
+        ensures in_rule { is_path C.tests result.now ≡ true }
+    {
+        self.as_path().as_str()
+    }
+
+    /// The bytes of the text.
+    pub fn as_bytes(&self) -> &[u8]
+        ensures { result.now ≡ path_buf_text self.now }
+    {
+        self.as_str().as_bytes()
+    }
+
+    /// How many bytes the text has.
+    pub fn len(&self) -> usize
+        ensures { result ≡ length (path_buf_text self.now) }
+    {
+        self.as_path().len()
+    }
+
+    /// Whether the path has no segments.
+    pub fn is_empty(&self) -> bool
+        ensures { result ≡ is_empty (path_buf_value self.now).segments }
+    {
+        self.as_path().is_empty()
+    }
+
+    /// Whether the path begins with `/`.
+    pub fn is_absolute(&self) -> bool
+        ensures { result ≡ (path_buf_value self.now).absolute }
+    {
+        self.as_path().is_absolute()
+    }
+
+    /// Whether the path does not begin with `/`.
+    pub fn is_relative(&self) -> bool
+        ensures { result ≡ not (path_buf_value self.now).absolute }
+    {
+        self.as_path().is_relative()
+    }
+
+    /// The segments.
+    pub fn segments(&self) -> Segments<'_, C>
+        ensures left { segments_left result ≡ (path_buf_value self.now).segments }
+        ensures fits { length (segments_left result) < 2 ^ 64 }
+    {
+        self.as_path().segments()
+    }
+
+    /// The normal segments: the `..` that nothing cancels stand first where the path is relative.
+    pub fn normalized_segments(&self) -> NormalizedSegments<'_, C>
+        ensures { normal_segments_left result ≡ normal_segments (path_buf_value self.now) }
+    {
+        self.as_path().normalized_segments()
+    }
+
+    /// How many segments the path has.
+    pub fn segment_count(&self) -> usize
+        ensures { result ≡ function.segment_count (path_buf_value self.now) }
+    {
+        self.as_path().segment_count()
+    }
+
+    /// The first segment.
+    pub fn first(&self) -> Option<Segment<'_, C>>
+        ensures { option_map segment_text result ≡ function.first (path_buf_value self.now) }
+    {
+        self.as_path().first()
+    }
+
+    /// The last segment.
+    pub fn last(&self) -> Option<Segment<'_, C>>
+        ensures { option_map segment_text result ≡ function.last (path_buf_value self.now) }
+    {
+        self.as_path().last()
+    }
+
+    /// The last segment unless it is empty.
+    pub fn file_name(&self) -> Option<Segment<'_, C>>
+        ensures { option_map segment_text result ≡ function.file_name (path_buf_value self.now) }
+    {
+        self.as_path().file_name()
+    }
+
+    /// All up to and with the last `/` (RFC 3986 section 5.2.3): the empty path where there is none.
+    pub fn directory(&self) -> Path<'_, C>
+        ensures { path_text result ≡ function.directory_text (path_buf_text self.now) }
+    {
+        self.as_path().directory()
+    }
+
+    /// The path without its last segment, but for the empty path and one relative segment.
+    pub fn parent(&self) -> Option<Path<'_, C>>
+        ensures { option_map path_value result ≡ function.parent (path_buf_value self.now) }
+    {
+        self.as_path().parent()
+    }
+
+    /// The parent, or else the empty path that is absolute where this one is.
+    pub fn parent_or_empty(&self) -> Path<'_, C>
+        ensures { path_value result ≡ function.parent_or_empty (path_buf_value self.now) }
+    {
+        self.as_path().parent_or_empty()
+    }
+
+    /// Whether what stands before the first `:` is a scheme (RFC 3986 section 4.2).
+    pub fn looks_like_scheme(&self) -> bool
+        ensures { result ≡ function.looks_like_scheme (path_buf_text self.now) }
+    {
+        self.as_path().looks_like_scheme()
+    }
+
+    /// The text, with no copy.
+    pub fn into_string(self) -> String
+        ensures text { string_bytes result ≡ path_buf_text self }
+        ensures in_rule { is_path C.tests (string_bytes result) ≡ true }
+    {
+        let PathBuf { text } = self;
+        text.into_string()
+    }
+
+    /// The bytes of the text, with no copy.
+    pub fn into_bytes(self) -> Vec<u8>
+        ensures { result.items ≡ path_buf_text self }
+    {
+        self.into_string().into_bytes()
+    }
+}
+
+impl<C: CharSet> TryFrom<String> for PathBuf<C> {
+    type Error = InvalidPath<String>;
+
+    ghost try_from_gives = { λ text result. Parses (InUtf8 (IsPath C.tests)) (string_bytes text) path_buf_text (λ fault. fault.0 ≡ text) result };
+
+    fn try_from(text: String) -> Result<Self, InvalidPath<String>> {
+        PathBuf::new(text)
+    }
+}
+
+impl<C: CharSet> TryFrom<Vec<u8>> for PathBuf<C> {
+    type Error = InvalidPath<Vec<u8>>;
+
+    ghost try_from_gives = { λ bytes result. Parses (InUtf8 (IsPath C.tests)) bytes.items path_buf_text (λ fault. fault.0 ≡ bytes) result };
+
+    fn try_from(bytes: Vec<u8>) -> Result<Self, InvalidPath<Vec<u8>>> {
+        PathBuf::from_bytes(bytes)
+    }
+}
+
+impl<C: CharSet> fmt::Display for PathBuf<C> {
+    ghost output = { λ path. Some (path_buf_text path) };
+
+    fn fmt<W: fmt::Write>(&self, f: &mut fmt::Formatter<W>) -> fmt::Result {
+        f.write_str(self.as_str())
+    }
+}
+
+impl<C: CharSet> PartialEq for PathBuf<C> {
+    ghost eq = { eq_by_cmp (on (λ p. path_key (path_buf_value p)) path_key_cmp) };
+
+    ghost laws = { Prim.search (path_keys_total, comparing, rules) };
+
+    fn eq(&self, other: &Self) -> bool {
+        self.as_path() == other.as_path()
+    }
+}
+
+impl<C: CharSet> Eq for PathBuf<C> {
+    ghost laws = { Prim.search (path_keys_total, comparing, rules) };
+}
