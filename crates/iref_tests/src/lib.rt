@@ -2,6 +2,8 @@
 #![tactic(auto)]
 
 #[cfg(test)]
+mod recording;
+#[cfg(test)]
 mod references;
 #[cfg(test)]
 mod small_types;

@@ -1,13 +1,11 @@
 //! Tests of schemes, ports, queries and fragments.
+use crate::recording::agree;
 use iref_grammar::chars::{IriChars, UriChars};
 use iref_text::common::{InvalidPort, InvalidScheme, Port, PortBuf, PortError, Scheme, TryError};
 use iref_text::fragment::{Fragment, FragmentBuf, InvalidFragment};
 use iref_text::query::{InvalidQuery, Query, QueryBuf};
 use std::alloc::{AllocError, Global};
-use std::cmp::Ordering;
 use std::convert::TryFrom;
-use std::hash::{BuildHasher, BuildHasherDefault, DefaultHasher, Hash};
-use std::process::Abort;
 use std::test::Fail;
 
 const LETTERS: [char; 13] = [
@@ -168,15 +166,6 @@ fn ports_of_numbers(rt: HostRuntime) -> Result<(), Fail> {
     Ok(())
 }
 
-// Whether two are equal, and their order and hash say so too.
-fn are_equal<T: Ord + Hash>(rt: &impl Abort, a: &T, b: &T) -> bool {
-    let state = BuildHasherDefault::<DefaultHasher>::default();
-    let equal = a == b;
-    assert!(rt; (a.cmp(b) == Ordering::Equal) == equal);
-    assert!(rt; (state.hash_one(a) == state.hash_one(b)) == equal);
-    equal
-}
-
 #[test]
 fn schemes_compare_without_case(rt: HostRuntime) -> Result<(), Fail> {
     for (a, b, equal) in [
@@ -185,11 +174,7 @@ fn schemes_compare_without_case(rt: HostRuntime) -> Result<(), Fail> {
         ("ftp", "http", false),
         ("a-", "a", false),
     ] {
-        assert_eq!(rt;
-            are_equal(&rt, &Scheme::new(a)?, &Scheme::new(b)?),
-            equal,
-            "{a} {b}"
-        );
+        assert!(rt; agree(&Scheme::new(a)?, &Scheme::new(b)?, equal), "{a} {b}");
     }
     assert!(rt; Scheme::new("A")? < Scheme::new("b")?);
     Ok(())
@@ -198,11 +183,7 @@ fn schemes_compare_without_case(rt: HostRuntime) -> Result<(), Fail> {
 #[test]
 fn ports_compare_as_texts(rt: HostRuntime) -> Result<(), Fail> {
     for (a, b, equal) in [("80", "80", true), ("80", "080", false), ("", "0", false)] {
-        assert_eq!(rt;
-            are_equal(&rt, &Port::new(a)?, &Port::new(b)?),
-            equal,
-            "{a} {b}"
-        );
+        assert!(rt; agree(&Port::new(a)?, &Port::new(b)?, equal), "{a} {b}");
     }
     Ok(())
 }
@@ -216,16 +197,10 @@ fn queries_compare_decoded(rt: HostRuntime) -> Result<(), Fail> {
         ("a", "A", false),
         ("a", "%2561", false),
     ] {
-        assert_eq!(rt;
-            are_equal(&rt, &Query::<IriChars>::new(a)?, &Query::new(b)?),
-            equal,
-            "{a} {b}"
-        );
-        assert_eq!(rt;
-            are_equal(&rt, &Fragment::<IriChars>::new(a)?, &Fragment::new(b)?),
-            equal,
-            "{a} {b}"
-        );
+        let (query, other) = (Query::<IriChars>::new(a)?, Query::new(b)?);
+        assert!(rt; agree(&query, &other, equal), "query {a} {b}");
+        let (fragment, other) = (Fragment::<IriChars>::new(a)?, Fragment::new(b)?);
+        assert!(rt; agree(&fragment, &other, equal), "fragment {a} {b}");
     }
     Ok(())
 }
