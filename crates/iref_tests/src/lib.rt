@@ -1,6 +1,7 @@
 //! Tests of what no clause says, by the calls of the crates below: outside rows, printed texts, refused growths.
 #![tactic(auto)]
 
+pub mod callers;
 #[cfg(test)]
 mod recording;
 #[cfg(test)]
