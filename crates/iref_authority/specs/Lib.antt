@@ -1,3 +1,4 @@
 pub mod HostNumbers
 pub mod AuthoritySteps
+pub mod AuthorityKey
 pub mod Views

@@ -2,8 +2,9 @@
 use Rattle.iref_grammar.specs.Rules.{Text}
 use Rattle.iref_parse.specs.Views.{view_text, owned_text}
 use Rattle.std.specs.Prelude.{option_map}
-use Rattle.iref_grammar.specs.Authority.{AuthorityValue}
+use Rattle.iref_grammar.specs.Authority.{AuthorityValue, read_authority}
 use Rattle.iref_text.specs.Components.{port_digits}
+use Rattle.iref_authority.specs.AuthorityKey.{authority_key}
 use Rattle.iref_authority.specs.declared.authority.Authority.{Authority}
 use Rattle.iref_authority.specs.declared.authority.AuthorityBuf.{AuthorityBuf}
 use Rattle.iref_authority.specs.declared.authority.AuthorityParts.{AuthorityParts}
@@ -35,3 +36,13 @@ authority_buf_text a = owned_text a.text
 
 abbrev pub parts_value : {C : _} {c : _} → AuthorityParts C c → AuthorityValue
 parts_value p = record { user_info = option_map user_info_text p.user_info; host = host_text p.host; port = option_map port_digits p.port }
+
+-- what each of them is compared by
+abbrev pub parts_key : {C : _} {c : _} → AuthorityParts C c → AuthorityValue
+parts_key p = authority_key (parts_value p)
+
+abbrev pub key_of_authority : {C : _} {c : _} → Authority C c → AuthorityValue
+key_of_authority a = authority_key (read_authority (authority_text a))
+
+abbrev pub key_of_authority_buf : {C : _} {c : _} → AuthorityBuf C c → AuthorityValue
+key_of_authority_buf a = authority_key (read_authority (authority_buf_text a))

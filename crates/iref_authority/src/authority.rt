@@ -14,11 +14,11 @@ use crate::host::Host;
 use crate::rules::AuthorityRule;
 use crate::user_info::UserInfo;
 use iref_grammar::chars::CharSet;
-use iref_parse::error::Memory;
-use iref_text::common::port::Port;
 use iref_parse::authority::split_authority;
+use iref_parse::error::Memory;
 use iref_parse::owned::TextBuf;
 use iref_parse::view::View;
+use iref_text::common::port::Port;
 use std::alloc::Global;
 use std::convert::TryFrom;
 use std::fmt;
@@ -31,7 +31,7 @@ use thiserror::Error;
 pub struct InvalidAuthority<T>(pub T);
 
 /// The parts of an authority.
-#[derive_where(Clone, Copy, Debug, PartialEq, Eq, PartialOrd, Ord, Hash)]
+#[derive_where(Clone, Copy, Debug)]
 pub struct AuthorityParts<'a, C: CharSet> {
     /// What stands before the first `@`.
     pub user_info: Option<UserInfo<'a, C>>,

@@ -2,6 +2,7 @@
 #![tactic(auto)]
 
 pub mod authority;
+mod authority_order;
 pub mod host;
 pub mod rules;
 pub mod user_info;

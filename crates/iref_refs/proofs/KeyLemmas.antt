@@ -3,12 +3,13 @@ use Rattle.std.proofs.Common.{Decides, ◌≡◌, true, false, [], ◌∷◌, re
 use Rattle.std.specs.Option.{option_cmp}
 use Rattle.std.specs.Ordering.{ordering_then, bool_cmp, on}
 use Rattle.std.specs.Cmp.{IsTotalOrder, on_total, then_total, tied_itself}
-use Rattle.std.specs.Cmp.Lexicographic.{slice_cmp, bytes_decides, on_texts, nat_list_cmp_total, options_total}
+use Rattle.std.specs.Cmp.Lexicographic.{slice_cmp, bytes_decides, nat_list_cmp_total, options_total}
 use Rattle.iref_grammar.specs.Authority.{AuthorityValue}
 use Rattle.std.proofs.lemmas.Map.Text.{is_eq-slice_cmp}
 use mathlib.Core.Bool.{true≢false}
 use Rattle.iref_grammar.specs.Reference.{ReferenceValue}
-use Rattle.iref_refs.specs.Key.{key, key_cmp, AreAlike, are_alike, authority_key_cmp}
+use Rattle.iref_authority.specs.AuthorityKey.{authority_key_cmp, authority_keys_total}
+use Rattle.iref_refs.specs.Key.{key, key_cmp, AreAlike, are_alike}
 use Rattle.iref_normal.specs.PathKey.{text_cmp, path_key_cmp, path_key, path_keys_total}
 use Rattle.iref_refs.specs.Relative.{have_same_scheme, have_same_authority, have_same_path}
 
@@ -85,16 +86,11 @@ Tells-key r s h =
 
 -- ---- keys are in a total order
 
-authorities_total : IsTotalOrder authority_key_cmp
-authorities_total =
-    then_total (on_total (λ (a : AuthorityValue). a.user_info) (options_total nat_list_cmp_total))
-    (then_total (on_texts (λ (a : AuthorityValue). a.host)) (on_total (λ (a : AuthorityValue). a.port) (options_total nat_list_cmp_total)))
-
 keys_total : IsTotalOrder key_cmp
 unfolding key_cmp
 keys_total =
     then_total (on_total (λ (r : ReferenceValue). r.scheme) (options_total nat_list_cmp_total))
-    (then_total (on_total (λ (r : ReferenceValue). r.authority) (options_total authorities_total))
+    (then_total (on_total (λ (r : ReferenceValue). r.authority) (options_total authority_keys_total))
     (then_total (on_total (λ (r : ReferenceValue). r.path) path_keys_total)
     (then_total (on_total (λ (r : ReferenceValue). r.query) (options_total nat_list_cmp_total))
     (on_total (λ (r : ReferenceValue). r.fragment) (options_total nat_list_cmp_total)))))

@@ -14,7 +14,8 @@ use Rattle.iref_grammar.specs.Contexts.{alone, follows_authority, reads_as_path}
 use Rattle.iref_normal.specs.NormalList.{count_parents, normal, normal_segments, staying_names}
 use Rattle.iref_grammar.specs.Reference.{ReferenceValue, context_of}
 use Rattle.iref_refs.specs.Resolution.{resolved}
-use Rattle.iref_refs.specs.Key.{key, authority_key}
+use Rattle.iref_authority.specs.AuthorityKey.{authority_key}
+use Rattle.iref_refs.specs.Key.{key}
 use Rattle.iref_normal.specs.PathKey.{path_key}
 use Rattle.iref_refs.specs.Relative.{have_same_scheme, have_same_authority, have_same_path, schemes_agree, is_same_place, steps_between, directory_names, leading_path, with_only_path, relative_to}
 use Rattle.iref_refs.specs.RelativeLaws.{IsOnlyPath}

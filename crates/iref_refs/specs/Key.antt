@@ -5,13 +5,9 @@ use Rattle.std.specs.Str.{str_to_ascii_lowercase}
 use Rattle.std.specs.declared.cmp.Ordering.{Ordering}
 use Rattle.std.specs.Ordering.{ordering_then, is_eq}
 use Rattle.percent_encoding.specs.Percent.{percent_decode}
-use Rattle.iref_grammar.specs.Authority.{AuthorityValue}
+use Rattle.iref_authority.specs.AuthorityKey.{authority_key, authority_key_cmp}
 use Rattle.iref_normal.specs.PathKey.{text_cmp, path_key, path_key_cmp}
 use Rattle.iref_grammar.specs.Reference.{ReferenceValue}
-
--- user info and host as decoded bytes (section 6.2.2.2), the port as text
-abbrev pub authority_key : AuthorityValue → AuthorityValue
-authority_key a = record { user_info = option_map percent_decode a.user_info; host = percent_decode a.host; port = a.port }
 
 -- scheme in lower case (section 6.2.2.1), the normal path; user info, host, segments, query and fragment as decoded bytes
 unfoldable pub key : ReferenceValue → ReferenceValue
@@ -25,10 +21,6 @@ key r =
     }
 
 -- the order of keys, component by component, one that is absent first
-abbrev pub authority_key_cmp : AuthorityValue → AuthorityValue → Ordering
-authority_key_cmp a b =
-    ordering_then (option_cmp text_cmp a.user_info b.user_info) (ordering_then (text_cmp a.host b.host) (option_cmp text_cmp a.port b.port))
-
 unfoldable pub key_cmp : ReferenceValue → ReferenceValue → Ordering
 key_cmp r s =
     ordering_then (option_cmp text_cmp r.scheme s.scheme)

@@ -11,7 +11,8 @@ use Rattle.iref_grammar.specs.Contexts.{alone}
 use Rattle.iref_normal.specs.NormalList.{normal, normal_segments, staying_names}
 use Rattle.iref_normal.specs.PathSuffix.{same_decoded}
 use Rattle.iref_grammar.specs.Reference.{ReferenceValue}
-use Rattle.iref_refs.specs.Key.{key, authority_key_cmp}
+use Rattle.iref_authority.specs.AuthorityKey.{authority_key_cmp}
+use Rattle.iref_refs.specs.Key.{key}
 use Rattle.iref_normal.specs.PathKey.{text_cmp, path_key_cmp, path_key}
 
 -- equality of single components, by their keys
