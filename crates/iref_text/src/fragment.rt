@@ -7,12 +7,12 @@ ghost use Rattle.iref_grammar.specs.Tests.{is_fragment};
 ghost use Rattle.iref_parse.specs.Makers.{Parses};
 ghost use Rattle.iref_text.specs.Components.{fragment_text, fragment_buf_text, pct_text, pct_string_text};
 
+use crate::pct::{PctStr, PctString};
 use iref_grammar::chars::CharSet;
 use iref_parse::error::Memory;
 use iref_parse::owned::TextBuf;
 use iref_parse::rules::FragmentRule;
 use iref_parse::view::View;
-use crate::pct::{PctStr, PctString};
 use std::alloc::Global;
 use std::convert::TryFrom;
 use std::fmt;
@@ -193,6 +193,13 @@ impl<C: CharSet> FragmentBuf<C> {
         ensures { result.now ≡ fragment_buf_text self.now }
     {
         self.as_str().as_bytes()
+    }
+
+    /// The text as a percent-encoded text.
+    pub fn as_pct_str(&self) -> PctStr<'_>
+        ensures { pct_text result ≡ fragment_buf_text self.now }
+    {
+        self.as_fragment().as_pct_str()
     }
 
     /// The text, with no copy.

@@ -198,7 +198,8 @@ impl PctString {
 
     /// The text, with no copy.
     pub fn into_string(self) -> String
-        ensures { string_bytes result ≡ pct_string_text self }
+        ensures text { string_bytes result ≡ pct_string_text self }
+        ensures in_rule { is_pct_str (string_bytes result) ≡ true }
     {
         let PctString { text } = self;
         text.into_string()

@@ -451,9 +451,80 @@ impl PortBuf {
         self.as_str().as_bytes()
     }
 
+    /// The number, if it fits a `u8`.
+    pub fn as_u8(&self) -> Option<u8>
+        ensures { result ≡ result_ok (port_number (2 ^ 8) (port_buf_digits self.now)) }
+    {
+        self.as_port().as_u8()
+    }
+
+    /// The number, if it fits a `u16`.
+    pub fn as_u16(&self) -> Option<u16>
+        ensures { result ≡ result_ok (port_number (2 ^ 16) (port_buf_digits self.now)) }
+    {
+        self.as_port().as_u16()
+    }
+
+    /// The number, if it fits a `u32`.
+    pub fn as_u32(&self) -> Option<u32>
+        ensures { result ≡ result_ok (port_number (2 ^ 32) (port_buf_digits self.now)) }
+    {
+        self.as_port().as_u32()
+    }
+
+    /// The number, if it fits a `u64`.
+    pub fn as_u64(&self) -> Option<u64>
+        ensures { result ≡ result_ok (port_number (2 ^ 64) (port_buf_digits self.now)) }
+    {
+        self.as_port().as_u64()
+    }
+
+    /// The number, if it fits a `u128`.
+    pub fn as_u128(&self) -> Option<u128>
+        ensures { result ≡ result_ok (port_number (2 ^ 128) (port_buf_digits self.now)) }
+    {
+        self.as_port().as_u128()
+    }
+
+    /// The number, if it fits an `i8`.
+    pub fn as_i8(&self) -> Option<i8>
+        ensures { result ≡ result_ok (signed_port_number (2 ^ 7) (port_buf_digits self.now)) }
+    {
+        self.as_port().as_i8()
+    }
+
+    /// The number, if it fits an `i16`.
+    pub fn as_i16(&self) -> Option<i16>
+        ensures { result ≡ result_ok (signed_port_number (2 ^ 15) (port_buf_digits self.now)) }
+    {
+        self.as_port().as_i16()
+    }
+
+    /// The number, if it fits an `i32`.
+    pub fn as_i32(&self) -> Option<i32>
+        ensures { result ≡ result_ok (signed_port_number (2 ^ 31) (port_buf_digits self.now)) }
+    {
+        self.as_port().as_i32()
+    }
+
+    /// The number, if it fits an `i64`.
+    pub fn as_i64(&self) -> Option<i64>
+        ensures { result ≡ result_ok (signed_port_number (2 ^ 63) (port_buf_digits self.now)) }
+    {
+        self.as_port().as_i64()
+    }
+
+    /// The number, if it fits an `i128`.
+    pub fn as_i128(&self) -> Option<i128>
+        ensures { result ≡ result_ok (signed_port_number (2 ^ 127) (port_buf_digits self.now)) }
+    {
+        self.as_port().as_i128()
+    }
+
     /// The text, with no copy.
     pub fn into_string(self) -> String
-        ensures { string_bytes result ≡ port_buf_digits self }
+        ensures text { string_bytes result ≡ port_buf_digits self }
+        ensures in_rule { is_port (string_bytes result) ≡ true }
     {
         let PortBuf { text } = self;
         text.into_string()

@@ -213,7 +213,8 @@ impl SchemeBuf {
 
     /// The text, with no copy.
     pub fn into_string(self) -> String
-        ensures { string_bytes result ≡ scheme_buf_text self }
+        ensures text { string_bytes result ≡ scheme_buf_text self }
+        ensures in_rule { is_scheme (string_bytes result) ≡ true }
     {
         let SchemeBuf { text } = self;
         text.into_string()
