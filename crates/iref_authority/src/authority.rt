@@ -260,6 +260,34 @@ impl<C: CharSet> AuthorityBuf<C> {
         self.as_str().as_bytes()
     }
 
+    /// Its parts, as slices of its text.
+    pub fn parts(&self) -> AuthorityParts<'_, C>
+        ensures { parts_value result ≡ read_authority (authority_buf_text self.now) }
+    {
+        self.as_authority().parts()
+    }
+
+    /// The user info, if there is one.
+    pub fn user_info(&self) -> Option<UserInfo<'_, C>>
+        ensures { option_map user_info_text result ≡ (read_authority (authority_buf_text self.now)).user_info }
+    {
+        self.as_authority().user_info()
+    }
+
+    /// The host.
+    pub fn host(&self) -> Host<'_, C>
+        ensures { host_text result ≡ (read_authority (authority_buf_text self.now)).host }
+    {
+        self.as_authority().host()
+    }
+
+    /// The port, if there is one.
+    pub fn port(&self) -> Option<Port<'_>>
+        ensures { option_map port_digits result ≡ (read_authority (authority_buf_text self.now)).port }
+    {
+        self.as_authority().port()
+    }
+
     /// The text, with no copy.
     pub fn into_string(self) -> String
         ensures text { string_bytes result ≡ authority_buf_text self }

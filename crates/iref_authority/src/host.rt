@@ -7,6 +7,7 @@ ghost use Rattle.iref_grammar.specs.IpAddresses.{ipv4_value};
 ghost use Rattle.iref_grammar.specs.Tests.{is_host, is_ip_literal, is_ipv4};
 ghost use Rattle.iref_authority.specs.HostNumbers.{literal_value};
 ghost use Rattle.iref_parse.specs.Makers.{Parses};
+ghost use Rattle.iref_text.specs.Components.{pct_text, pct_string_text};
 ghost use Rattle.iref_authority.specs.Views.{host_text, host_buf_text};
 
 use crate::rules::HostRule;
@@ -15,6 +16,7 @@ use iref_parse::error::Memory;
 use iref_parse::owned::TextBuf;
 use iref_parse::view::View;
 use iref_parse::{host, ip};
+use iref_text::pct::{PctStr, PctString};
 use std::alloc::Global;
 use std::convert::TryFrom;
 use std::fmt;
@@ -122,6 +124,14 @@ impl<'a, C: CharSet> Host<'a, C> {
         }
     }
 
+    /// The text as a percent-encoded text.
+    #[tactic(auto, using(iref_grammar::proofs::PctLemmas::host_is_pct_str))]
+    pub fn as_pct_str(&self) -> PctStr<'a>
+        ensures { pct_text result ≡ host_text self.now }
+    {
+        PctStr::new_unchecked(self.as_str())
+    }
+
     /// An owner of a copy.
     pub fn to_owned(&self, alloc: Global) -> Result<HostBuf<C>, Memory>
         ensures { IfOk result (λ copy. host_buf_text copy ≡ host_text self.now) }
@@ -227,6 +237,48 @@ impl<C: CharSet> HostBuf<C> {
         self.as_str().as_bytes()
     }
 
+    /// Whether it is an IP address in brackets.
+    pub fn is_ip_literal(&self) -> bool
+        ensures { result ≡ is_ip_literal (host_buf_text self.now) }
+    {
+        self.as_host().is_ip_literal()
+    }
+
+    /// Whether it is an IPv4 address.
+    pub fn is_ipv4(&self) -> bool
+        ensures { result ≡ is_ipv4 (host_buf_text self.now) }
+    {
+        self.as_host().is_ipv4()
+    }
+
+    /// Whether it is an IPv6 address in brackets.
+    pub fn is_ipv6(&self) -> bool
+        ensures { result ≡ is_some (literal_value (host_buf_text self.now)) }
+    {
+        self.as_host().is_ipv6()
+    }
+
+    /// The number of the IPv4 address, its first octet highest.
+    pub fn to_ipv4(&self) -> Option<u32>
+        ensures { result ≡ ipv4_value (host_buf_text self.now) }
+    {
+        self.as_host().to_ipv4()
+    }
+
+    /// The number of the IPv6 address in brackets, its first group highest.
+    pub fn to_ipv6(&self) -> Option<u128>
+        ensures { result ≡ literal_value (host_buf_text self.now) }
+    {
+        self.as_host().to_ipv6()
+    }
+
+    /// The text as a percent-encoded text.
+    pub fn as_pct_str(&self) -> PctStr<'_>
+        ensures { pct_text result ≡ host_buf_text self.now }
+    {
+        self.as_host().as_pct_str()
+    }
+
     /// The text, with no copy.
     pub fn into_string(self) -> String
         ensures text { string_bytes result ≡ host_buf_text self }
@@ -234,6 +286,14 @@ impl<C: CharSet> HostBuf<C> {
     {
         let HostBuf { text } = self;
         text.into_string()
+    }
+
+    /// The text as a percent-encoded text, with no copy.
+    #[tactic(auto, using(iref_grammar::proofs::PctLemmas::host_is_pct_str))]
+    pub fn into_pct_string(self) -> PctString
+        ensures { pct_string_text result ≡ host_buf_text self }
+    {
+        PctString::new_unchecked(self.into_string())
     }
 
     /// The bytes of the text, with no copy.

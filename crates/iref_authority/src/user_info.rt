@@ -5,6 +5,7 @@ ghost use Rattle.iref_grammar.specs.Rules.{InUtf8};
 ghost use Rattle.iref_grammar.specs.Grammar.{IsUserInfo};
 ghost use Rattle.iref_grammar.specs.Tests.{is_user_info};
 ghost use Rattle.iref_parse.specs.Makers.{Parses};
+ghost use Rattle.iref_text.specs.Components.{pct_text, pct_string_text};
 ghost use Rattle.iref_authority.specs.Views.{user_info_text, user_info_buf_text};
 
 use crate::rules::UserInfoRule;
@@ -12,6 +13,7 @@ use iref_grammar::chars::CharSet;
 use iref_parse::error::Memory;
 use iref_parse::owned::TextBuf;
 use iref_parse::view::View;
+use iref_text::pct::{PctStr, PctString};
 use std::alloc::Global;
 use std::convert::TryFrom;
 use std::fmt;
@@ -79,6 +81,14 @@ impl<'a, C: CharSet> UserInfo<'a, C> {
         ensures text { result.now ≡ user_info_text self.now }
     {
         self.as_str().as_bytes()
+    }
+
+    /// The text as a percent-encoded text.
+    #[tactic(auto, using(iref_grammar::proofs::PctLemmas::user_info_is_pct_str))]
+    pub fn as_pct_str(&self) -> PctStr<'a>
+        ensures { pct_text result ≡ user_info_text self.now }
+    {
+        PctStr::new_unchecked(self.as_str())
     }
 
     /// An owner of a copy.
@@ -186,6 +196,13 @@ impl<C: CharSet> UserInfoBuf<C> {
         self.as_str().as_bytes()
     }
 
+    /// The text as a percent-encoded text.
+    pub fn as_pct_str(&self) -> PctStr<'_>
+        ensures { pct_text result ≡ user_info_buf_text self.now }
+    {
+        self.as_user_info().as_pct_str()
+    }
+
     /// The text, with no copy.
     pub fn into_string(self) -> String
         ensures text { string_bytes result ≡ user_info_buf_text self }
@@ -193,6 +210,14 @@ impl<C: CharSet> UserInfoBuf<C> {
     {
         let UserInfoBuf { text } = self;
         text.into_string()
+    }
+
+    /// The text as a percent-encoded text, with no copy.
+    #[tactic(auto, using(iref_grammar::proofs::PctLemmas::user_info_is_pct_str))]
+    pub fn into_pct_string(self) -> PctString
+        ensures { pct_string_text result ≡ user_info_buf_text self }
+    {
+        PctString::new_unchecked(self.into_string())
     }
 
     /// The bytes of the text, with no copy.
