@@ -7,4 +7,6 @@ mod recording;
 #[cfg(test)]
 mod references;
 #[cfg(test)]
+mod short_texts;
+#[cfg(test)]
 mod small_types;

@@ -1,30 +1,12 @@
 //! Tests of schemes, ports, queries and fragments.
 use crate::recording::agree;
+use crate::short_texts::{TEXTS, text_of_number};
 use iref_grammar::chars::{IriChars, UriChars};
 use iref_text::common::{InvalidPort, InvalidScheme, Port, PortBuf, PortError, Scheme, TryError};
 use iref_text::fragment::{Fragment, FragmentBuf, InvalidFragment};
 use iref_text::query::{InvalidQuery, Query, QueryBuf};
-use std::alloc::{AllocError, Global};
 use std::convert::TryFrom;
 use std::test::Fail;
-
-const LETTERS: [char; 13] = [
-    'a', '1', '%', '[', ']', ':', '/', '?', '#', '@', '.', 'v', 'é',
-];
-
-// How many texts of at most four of the letters there are.
-const TEXTS: u32 = 1 + 13 + 169 + 2197 + 28561;
-
-// The text with this number: the numbers below `TEXTS` give each text of at most four letters once.
-fn text_of_number(number: u32, alloc: Global) -> Result<String, AllocError> {
-    let mut left = number;
-    let mut text = String::new(alloc);
-    while left > 0 {
-        text.push(LETTERS[(left - 1) as usize % 13])?;
-        left = (left - 1) / 13;
-    }
-    Ok(text)
-}
 
 // How many of the texts are accepted; each other one comes back.
 macro_rules! accepted {
