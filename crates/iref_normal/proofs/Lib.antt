@@ -25,3 +25,4 @@ pub mod PathKeyLemmas
 pub mod PathTextLemmas
 pub mod RemainingLemmas
 pub mod NormalGrammarLemmas
+pub mod OrderLemmas

@@ -8,5 +8,6 @@ pub mod PathSuffix
 pub mod DotSegments
 pub mod CountedEquality
 pub mod PathKey
+pub mod PathHash
 pub mod Unread
 pub mod Remaining

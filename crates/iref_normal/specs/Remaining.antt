@@ -1,7 +1,8 @@
 -- What is left of a normal list that is read from both ends of a path's text.
-use Rattle.std.specs.Prelude.{◌≡◌, ◌≢◌, ℕ, ◌+◌, ◌<◌, ◌≤◌, ◌^◌, Bool, true, not, ◌&&◌, ◌||◌, ◌==◌, List, [], ◌∷◌, Option, MatchOption, length}
+use Rattle.std.specs.Prelude.{◌≡◌, ◌≢◌, ℕ, ◌+◌, ◌<◌, ◌≤◌, ◌^◌, Bool, true, not, ◌&&◌, ◌||◌, ◌==◌, List, [], ◌∷◌, Option, MatchOption, length, map}
 use Rattle.std.specs.Borrow.{Bor}
 use Rattle.std.specs.List.{list_all}
+use Rattle.percent_encoding.specs.Percent.{percent_decode}
 use Rattle.iref_grammar.specs.Rules.{Text}
 use Rattle.iref_normal.specs.Pieces.{pieces_if_some}
 use Rattle.iref_normal.specs.NormalList.{is_dot_dot}
@@ -50,3 +51,7 @@ IsFate r fate =
 abbrev pub first_or : Text → List Text → Text
 first_or s [] = s
 first_or s (t ∷ ts) = t
+
+-- the items that are left, decoded
+abbrev pub decoded_left : Remaining → List Text
+decoded_left r = map percent_decode (normal_left r)

@@ -2,6 +2,7 @@
 #![tactic(auto)]
 
 pub mod equality;
+pub mod order;
 pub mod path_laws;
 pub mod path_text;
 pub mod pieces;

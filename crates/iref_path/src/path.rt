@@ -1,7 +1,8 @@
 //! Paths (RFC 3986 section 3.3).
 
 ghost use Rattle.std.specs.Prelude.{◌≡◌, ◌<◌, ◌^◌, true, not, [], Some, length, codes, option_map};
-ghost use Rattle.std.specs.Ordering.{eq_by_cmp, on};
+ghost use Rattle.std.specs.Cmp.{partial_order_from_own_ties};
+ghost use Rattle.std.specs.Ordering.{as_partial_cmp, eq_by_cmp, on};
 ghost use Rattle.std.specs.Cmp.Rules.{comparing};
 ghost use Rattle.std.proofs.Common.{rules};
 ghost use Rattle.iref_grammar.specs.Rules.{InUtf8};
@@ -12,17 +13,22 @@ ghost use Rattle.iref_grammar.specs.Texts.{is_empty};
 ghost use Rattle.iref_normal.specs.PathFunctions as function;
 ghost use Rattle.iref_path.specs.Views.{path_text, path_value, segment_text, segments_left};
 ghost use Rattle.iref_normal.specs.PathKey.{path_key, path_key_cmp, path_keys_total};
+ghost use Rattle.iref_normal.specs.PathHash.{fed_path};
+ghost use Rattle.iref_normal.proofs.OrderLemmas.{fed_where_tied};
 
 use crate::equality::{Steps, new_steps_have_room, path_eq_counted};
 use crate::rules::PathRule;
 use crate::segment::Segment;
 use crate::segments::Segments;
 use iref_grammar::chars::CharSet;
+use iref_normal::order::{hash_path_text, path_texts_cmp};
 use iref_normal::path_text::{directory_text, looks_like_scheme, parent_text};
 use iref_normal::pieces::split_root;
 use iref_parse::view::View;
+use std::cmp::Ordering;
 use std::convert::TryFrom;
 use std::fmt;
+use std::hash::{Hash, Hasher};
 use thiserror::Error;
 
 /// The text or the bytes are no path.
@@ -262,6 +268,40 @@ impl<C: CharSet> PartialEq for Path<'_, C> {
 
 impl<C: CharSet> Eq for Path<'_, C> {
     ghost laws = { Prim.search (path_keys_total, comparing, rules) };
+}
+
+impl<C: CharSet> Ord for Path<'_, C> {
+    ghost cmp = { on (λ p. path_key (path_value p)) path_key_cmp };
+
+    ghost total = { Prim.search (path_keys_total, comparing, rules) };
+
+    ghost matches_partial_cmp = { Prim.search (comparing, rules) };
+
+    ghost matches_eq = { Prim.search (comparing, rules) };
+
+    fn cmp(&self, other: &Self) -> Ordering {
+        path_texts_cmp(self.as_str(), other.as_str())
+    }
+}
+
+impl<C: CharSet> PartialOrd for Path<'_, C> {
+    ghost partial_cmp = { as_partial_cmp (on (λ p. path_key (path_value p)) path_key_cmp) };
+
+    ghost laws = { partial_order_from_own_ties (Prim.search (path_keys_total, comparing, rules)) (Prim.search (comparing, rules)) };
+
+    fn partial_cmp(&self, other: &Self) -> Option<Ordering> {
+        Some(self.cmp(other))
+    }
+}
+
+impl<C: CharSet> Hash for Path<'_, C> {
+    ghost hash_input = { λ path. fed_path (path_key (path_value path)) };
+
+    ghost respects_eq = { λ p q. fed_where_tied (path_key (path_value p)) (path_key (path_value q)) };
+
+    fn hash<H: Hasher>(&self, state: &mut H) {
+        hash_path_text(self.as_str(), state);
+    }
 }
 
 impl<'a, C: CharSet> IntoIterator for Path<'a, C> {

@@ -2,7 +2,8 @@
 
 ghost use Rattle.std.specs.Prelude.{◌≡◌, ◌<◌, ◌^◌, true, not, [], Some, IfOk, length, option_map};
 ghost use Rattle.std.specs.String.{string_bytes};
-ghost use Rattle.std.specs.Ordering.{eq_by_cmp, on};
+ghost use Rattle.std.specs.Cmp.{partial_order_from_own_ties};
+ghost use Rattle.std.specs.Ordering.{as_partial_cmp, eq_by_cmp, on};
 ghost use Rattle.std.specs.Cmp.Rules.{comparing};
 ghost use Rattle.std.proofs.Common.{rules};
 ghost use Rattle.iref_grammar.specs.Rules.{InUtf8};
@@ -13,6 +14,8 @@ ghost use Rattle.iref_parse.specs.Makers.{Parses};
 ghost use Rattle.iref_normal.specs.NormalList.{normal_segments};
 ghost use Rattle.iref_normal.specs.PathFunctions as function;
 ghost use Rattle.iref_normal.specs.PathKey.{path_key, path_key_cmp, path_keys_total};
+ghost use Rattle.iref_normal.specs.PathHash.{fed_path};
+ghost use Rattle.iref_normal.proofs.OrderLemmas.{fed_where_tied};
 ghost use Rattle.iref_path.specs.Views.{path_text, path_buf_text, path_value, path_buf_value, segment_text, segments_left};
 ghost use Rattle.iref_path.specs.NormalViews.{normal_segments_left};
 
@@ -25,8 +28,10 @@ use iref_grammar::chars::CharSet;
 use iref_parse::error::Memory;
 use iref_parse::owned::TextBuf;
 use std::alloc::Global;
+use std::cmp::Ordering;
 use std::convert::TryFrom;
 use std::fmt;
+use std::hash::{Hash, Hasher};
 
 impl<C: CharSet> Path<'_, C> {
     /// An owner of a copy.
@@ -254,4 +259,38 @@ impl<C: CharSet> PartialEq for PathBuf<C> {
 
 impl<C: CharSet> Eq for PathBuf<C> {
     ghost laws = { Prim.search (path_keys_total, comparing, rules) };
+}
+
+impl<C: CharSet> Ord for PathBuf<C> {
+    ghost cmp = { on (λ p. path_key (path_buf_value p)) path_key_cmp };
+
+    ghost total = { Prim.search (path_keys_total, comparing, rules) };
+
+    ghost matches_partial_cmp = { Prim.search (comparing, rules) };
+
+    ghost matches_eq = { Prim.search (comparing, rules) };
+
+    fn cmp(&self, other: &Self) -> Ordering {
+        self.as_path().cmp(&other.as_path())
+    }
+}
+
+impl<C: CharSet> PartialOrd for PathBuf<C> {
+    ghost partial_cmp = { as_partial_cmp (on (λ p. path_key (path_buf_value p)) path_key_cmp) };
+
+    ghost laws = { partial_order_from_own_ties (Prim.search (path_keys_total, comparing, rules)) (Prim.search (comparing, rules)) };
+
+    fn partial_cmp(&self, other: &Self) -> Option<Ordering> {
+        Some(self.cmp(other))
+    }
+}
+
+impl<C: CharSet> Hash for PathBuf<C> {
+    ghost hash_input = { λ path. fed_path (path_key (path_buf_value path)) };
+
+    ghost respects_eq = { λ p q. fed_where_tied (path_key (path_buf_value p)) (path_key (path_buf_value q)) };
+
+    fn hash<H: Hasher>(&self, state: &mut H) {
+        self.as_path().hash(state);
+    }
 }
