@@ -1,5 +1,5 @@
 -- What texts are compared by: bytes. Equal keys are equal texts, the order is that of bytes, and a hasher is fed each byte.
-use Rattle.std.specs.Prelude.{◌++◌, Bool, ◌==◌}
+use Rattle.std.specs.Prelude.{◌≡◌, ◌++◌, Bool, ◌==◌}
 use Rattle.std.specs.List.{flat_map}
 use Rattle.std.specs.Hash.{HashWrites, u8}
 use Rattle.std.specs.Ordering.{nat_cmp}
@@ -18,3 +18,10 @@ text_order = slice_cmp nat_cmp
 -- what a hasher is fed: each byte, and then one that no UTF-8 has
 unfoldable pub fed_bytes : Text → HashWrites
 fed_bytes bytes = flat_map u8 bytes ++ u8 255
+
+-- values are equal, in order and hashed by a key of theirs
+abbrev pub ComparesBy : {V : Type 0} → (V → Text) → (V → V → Bool) → (V → V → Ordering) → (V → HashWrites) → Type 0
+ComparesBy {V} key eq cmp hash_input =
+    ((a b : V) → eq a b ≡ is_same_text (key a) (key b))
+    × ((a b : V) → cmp a b ≡ text_order (key a) (key b))
+    × ((v : V) → hash_input v ≡ fed_bytes (key v))

@@ -8,10 +8,10 @@ ghost use Rattle.iref_grammar.specs.Tests as test;
 ghost use Rattle.iref_grammar.specs.Tests.{none_or};
 ghost use Rattle.iref_parse.specs.AuthoritySlices.{authority_of};
 
-use iref_grammar::chars::CharSet;
 use crate::cut::{cut, split_before};
 use crate::host::is_host;
 use crate::scan::{is_port, is_user_info};
+use iref_grammar::chars::CharSet;
 
 /// The parts of an authority, as slices of its text.
 #[derive(Clone, Copy)]

@@ -7,10 +7,10 @@ ghost use Rattle.iref_grammar.specs.Grammar as grammar;
 ghost use Rattle.iref_grammar.specs.Texts.{before, after};
 ghost use Rattle.iref_grammar.specs.Tests as test;
 
-use iref_grammar::chars::CharSet;
 use crate::cut::cut;
 use crate::ip::{are_hexadecimal, ipv4_value, ipv6_value};
 use crate::scan::{is_future_char, is_reg_name};
+use iref_grammar::chars::CharSet;
 
 // Whether the text is hexadecimal digits, one at least.
 fn is_future_version(text: &str) -> bool

@@ -9,9 +9,9 @@ ghost use Rattle.iref_grammar.specs.Rules.{InUtf8};
 ghost use Rattle.iref_parse.specs.Keys.{is_same_text, text_order, fed_bytes};
 ghost use Rattle.iref_parse.specs.Makers.{Parses};
 
-use iref_grammar::chars::CharSet;
 use crate::error::Memory;
 use crate::view::{Keyed, Rule, View};
+use iref_grammar::chars::CharSet;
 use std::alloc::Global;
 use std::cmp::Ordering;
 use std::fmt;

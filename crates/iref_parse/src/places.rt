@@ -9,8 +9,8 @@ ghost use Rattle.iref_grammar.specs.Reference.{spell};
 ghost use Rattle.iref_parse.specs.ReferenceSlices.{value_of};
 ghost use Rattle.iref_grammar.specs.Places.{place_from, places_in};
 
-use iref_grammar::places::Offsets;
 use crate::split::ReferenceSlices;
+use iref_grammar::places::Offsets;
 use std::ops::Range;
 
 // Where a part that begins at `start` stands.

@@ -1,12 +1,16 @@
 //! The rules of components, each with its recogniser and what its texts are compared by.
+ghost use Rattle.std.specs.Prelude.{◌≡◌};
+ghost use Rattle.std.specs.Str.{str_to_ascii_lowercase};
+ghost use Rattle.percent_encoding.specs.Percent.{percent_decode};
+ghost use Rattle.iref_grammar.specs.Rules.{Text};
 ghost use Rattle.iref_grammar.specs.Grammar.{IsScheme, IsPort, IsQuery, IsFragment, IsPctStr, IsUri, IsUriReference};
 ghost use Rattle.iref_grammar.specs.Tests.{is_scheme, is_port, is_query, is_fragment, is_pct_str};
 ghost use Rattle.iref_grammar.specs.Reference.{is_reference, is_full_reference};
 
-use iref_grammar::chars::CharSet;
-use crate::key::{DecodedBytes, LowerCase, SameText};
+use crate::key::{DecodedBytes, Key, LowerCase, SameText};
 use crate::view::{Keyed, Rule};
 use crate::{scan, split};
+use iref_grammar::chars::CharSet;
 use iref_grammar::reference_laws::{reference_grammar, uri_grammar};
 use iref_grammar::text_laws::{
     fragment_grammar, pct_str_grammar, port_grammar, query_grammar, scheme_grammar,
@@ -150,3 +154,13 @@ impl Rule for FullReferenceRule {
         uri_grammar::<C>()
     }
 }
+
+/// Schemes compare in lower case, ports as they are, and queries, fragments and percent-encoded texts by what they
+/// decode to.
+pub fn keys_of_rules()
+    ensures schemes { (text : Text) → ⟦<<SchemeRule as Keyed>::Key as Key>⟧.key text ≡ str_to_ascii_lowercase text }
+    ensures ports { (text : Text) → ⟦<<PortRule as Keyed>::Key as Key>⟧.key text ≡ text }
+    ensures queries { (text : Text) → ⟦<<QueryRule as Keyed>::Key as Key>⟧.key text ≡ percent_decode text }
+    ensures fragments { (text : Text) → ⟦<<FragmentRule as Keyed>::Key as Key>⟧.key text ≡ percent_decode text }
+    ensures pct_strs { (text : Text) → ⟦<<PctStrRule as Keyed>::Key as Key>⟧.key text ≡ percent_decode text }
+{}

@@ -8,8 +8,8 @@ ghost use Rattle.iref_grammar.specs.Grammar.{slash, is_not_percent};
 ghost use Rattle.iref_grammar.specs.Tests as test;
 ghost use Rattle.iref_grammar.specs.Tests.{ScansTo};
 
-use iref_grammar::chars::CharSet;
 use crate::ascii::first_rule;
+use iref_grammar::chars::CharSet;
 use std::marker::PhantomData;
 
 /// The characters that stand for themselves in a rule of characters and escapes.

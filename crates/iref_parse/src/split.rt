@@ -10,10 +10,10 @@ ghost use Rattle.iref_grammar.specs.Reference.{hierarchy, read_reference, is_ref
 ghost use Rattle.iref_grammar.specs.ComponentTexts.{spell_components, AreComponents};
 ghost use Rattle.iref_parse.specs.ReferenceSlices.{texts_of, value_of};
 
-use iref_grammar::chars::CharSet;
 use crate::authority::is_authority;
 use crate::cut::{cut, split_before};
 use crate::scan::{is_fragment, is_path, is_query, is_scheme};
+use iref_grammar::chars::CharSet;
 
 /// The components of a reference, as slices of its text.
 #[derive(Clone, Copy, Debug, PartialEq, Eq)]

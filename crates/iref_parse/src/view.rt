@@ -10,8 +10,8 @@ ghost use Rattle.iref_grammar.specs.Rules.{Text, InUtf8};
 ghost use Rattle.iref_parse.specs.Keys.{is_same_text, text_order, fed_bytes};
 ghost use Rattle.iref_parse.specs.Makers.{Parses};
 
-use iref_grammar::chars::CharSet;
 use crate::key::Key;
+use iref_grammar::chars::CharSet;
 use std::alloc::AllocError;
 use std::cmp::Ordering;
 use std::hash::{Hash, Hasher};

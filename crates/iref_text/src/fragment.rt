@@ -1,9 +1,11 @@
 //! Fragments (RFC 3986 section 3.5).
 ghost use Rattle.std.specs.Prelude.{◌≡◌, true, [], Some, IfOk};
 ghost use Rattle.std.specs.String.{string_bytes};
+ghost use Rattle.percent_encoding.specs.Percent.{percent_decode};
 ghost use Rattle.iref_grammar.specs.Rules.{InUtf8};
 ghost use Rattle.iref_grammar.specs.Grammar.{IsFragment};
 ghost use Rattle.iref_grammar.specs.Tests.{is_fragment};
+ghost use Rattle.iref_parse.specs.Keys.{ComparesBy};
 ghost use Rattle.iref_parse.specs.Makers.{Parses};
 ghost use Rattle.iref_text.specs.Components.{fragment_text, fragment_buf_text, pct_text, pct_string_text};
 
@@ -16,6 +18,7 @@ use iref_parse::view::View;
 use std::alloc::Global;
 use std::convert::TryFrom;
 use std::fmt;
+use std::hash::Hash;
 use thiserror::Error;
 
 /// The input is not a fragment.
@@ -254,3 +257,9 @@ impl<C: CharSet> fmt::Display for FragmentBuf<C> {
         f.write_str(self.as_str())
     }
 }
+
+/// Fragments are equal, in order and hashed by the bytes that they decode to (RFC 3986 section 6.2.2.2).
+pub fn fragments_compare_decoded<C: CharSet>()
+    ensures view { ComparesBy (λ v. percent_decode (fragment_text v)) ⟦<Fragment<'static, C> as PartialEq>⟧.eq ⟦<Fragment<'static, C> as Ord>⟧.cmp ⟦<Fragment<'static, C> as Hash>⟧.hash_input }
+    ensures owner { ComparesBy (λ v. percent_decode (fragment_buf_text v)) ⟦<FragmentBuf<C> as PartialEq>⟧.eq ⟦<FragmentBuf<C> as Ord>⟧.cmp ⟦<FragmentBuf<C> as Hash>⟧.hash_input }
+{}

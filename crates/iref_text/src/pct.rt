@@ -6,6 +6,7 @@ ghost use Rattle.percent_encoding.specs.Iter.{decoded_bytes};
 ghost use Rattle.iref_grammar.specs.Rules.{InUtf8};
 ghost use Rattle.iref_grammar.specs.Grammar.{IsPctStr};
 ghost use Rattle.iref_grammar.specs.Tests.{is_pct_str};
+ghost use Rattle.iref_parse.specs.Keys.{ComparesBy};
 ghost use Rattle.iref_parse.specs.Makers.{Parses};
 ghost use Rattle.iref_text.specs.Components.{pct_text, pct_string_text};
 
@@ -18,6 +19,7 @@ use percent_encoding::{PercentDecode, percent_decode_str};
 use std::alloc::Global;
 use std::convert::TryFrom;
 use std::fmt;
+use std::hash::Hash;
 use thiserror::Error;
 
 /// The input is not percent-encoded: a `%` stands before less than two hexadecimal digits.
@@ -240,6 +242,12 @@ impl fmt::Display for PctString {
         f.write_str(self.as_str())
     }
 }
+
+/// Percent-encoded texts are equal, in order and hashed by the bytes that they decode to (RFC 3986 section 6.2.2.2).
+pub fn pct_strs_compare_decoded()
+    ensures view { ComparesBy (λ v. percent_decode (pct_text v)) ⟦<PctStr<'static> as PartialEq>⟧.eq ⟦<PctStr<'static> as Ord>⟧.cmp ⟦<PctStr<'static> as Hash>⟧.hash_input }
+    ensures owner { ComparesBy (λ v. percent_decode (pct_string_text v)) ⟦<PctString as PartialEq>⟧.eq ⟦<PctString as Ord>⟧.cmp ⟦<PctString as Hash>⟧.hash_input }
+{}
 
 #[cfg(test)]
 mod tests {

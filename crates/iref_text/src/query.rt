@@ -1,9 +1,11 @@
 //! Queries (RFC 3986 section 3.4).
 ghost use Rattle.std.specs.Prelude.{◌≡◌, true, [], Some, IfOk};
 ghost use Rattle.std.specs.String.{string_bytes};
+ghost use Rattle.percent_encoding.specs.Percent.{percent_decode};
 ghost use Rattle.iref_grammar.specs.Rules.{InUtf8};
 ghost use Rattle.iref_grammar.specs.Grammar.{IsQuery};
 ghost use Rattle.iref_grammar.specs.Tests.{is_query};
+ghost use Rattle.iref_parse.specs.Keys.{ComparesBy};
 ghost use Rattle.iref_parse.specs.Makers.{Parses};
 ghost use Rattle.iref_text.specs.Components.{query_text, query_buf_text, pct_text, pct_string_text};
 
@@ -16,6 +18,7 @@ use iref_parse::view::View;
 use std::alloc::Global;
 use std::convert::TryFrom;
 use std::fmt;
+use std::hash::Hash;
 use thiserror::Error;
 
 /// The input is not a query.
@@ -254,3 +257,9 @@ impl<C: CharSet> fmt::Display for QueryBuf<C> {
         f.write_str(self.as_str())
     }
 }
+
+/// Queries are equal, in order and hashed by the bytes that they decode to (RFC 3986 section 6.2.2.2).
+pub fn queries_compare_decoded<C: CharSet>()
+    ensures view { ComparesBy (λ v. percent_decode (query_text v)) ⟦<Query<'static, C> as PartialEq>⟧.eq ⟦<Query<'static, C> as Ord>⟧.cmp ⟦<Query<'static, C> as Hash>⟧.hash_input }
+    ensures owner { ComparesBy (λ v. percent_decode (query_buf_text v)) ⟦<QueryBuf<C> as PartialEq>⟧.eq ⟦<QueryBuf<C> as Ord>⟧.cmp ⟦<QueryBuf<C> as Hash>⟧.hash_input }
+{}

@@ -5,6 +5,7 @@ ghost use Rattle.std.specs.String.{string_bytes};
 ghost use Rattle.iref_grammar.specs.Rules.{InUtf8};
 ghost use Rattle.iref_grammar.specs.Grammar.{IsPort};
 ghost use Rattle.iref_grammar.specs.Tests.{is_port};
+ghost use Rattle.iref_parse.specs.Keys.{ComparesBy};
 ghost use Rattle.iref_parse.specs.Makers.{Parses};
 ghost use Rattle.iref_text.specs.Ports.{port_value, port_number, signed_port_number, port_text};
 ghost use Rattle.iref_text.specs.Components.{port_digits, port_buf_digits};
@@ -17,6 +18,7 @@ use iref_parse::view::View;
 use std::alloc::Global;
 use std::convert::TryFrom;
 use std::fmt;
+use std::hash::Hash;
 use thiserror::Error;
 
 /// The input is not a port.
@@ -565,3 +567,9 @@ impl fmt::Display for PortBuf {
         f.write_str(self.as_str())
     }
 }
+
+/// Ports are equal, in order and hashed by their texts: `80` is not `080`.
+pub fn ports_compare_as_texts()
+    ensures view { ComparesBy port_digits ⟦<Port<'static> as PartialEq>⟧.eq ⟦<Port<'static> as Ord>⟧.cmp ⟦<Port<'static> as Hash>⟧.hash_input }
+    ensures owner { ComparesBy port_buf_digits ⟦<PortBuf as PartialEq>⟧.eq ⟦<PortBuf as Ord>⟧.cmp ⟦<PortBuf as Hash>⟧.hash_input }
+{}

@@ -1,9 +1,11 @@
 //! Schemes (RFC 3986 section 3.1).
 ghost use Rattle.std.specs.Prelude.{◌≡◌, true, Some, IfOk, codes};
+ghost use Rattle.std.specs.Str.{str_to_ascii_lowercase};
 ghost use Rattle.std.specs.String.{string_bytes};
 ghost use Rattle.iref_grammar.specs.Rules.{InUtf8};
 ghost use Rattle.iref_grammar.specs.Grammar.{IsScheme};
 ghost use Rattle.iref_grammar.specs.Tests.{is_scheme};
+ghost use Rattle.iref_parse.specs.Keys.{ComparesBy};
 ghost use Rattle.iref_parse.specs.Makers.{Parses};
 ghost use Rattle.iref_text.specs.Components.{scheme_text, scheme_buf_text};
 
@@ -15,6 +17,7 @@ use iref_parse::view::View;
 use std::alloc::Global;
 use std::convert::TryFrom;
 use std::fmt;
+use std::hash::Hash;
 use thiserror::Error;
 
 /// The input is not a scheme.
@@ -255,3 +258,9 @@ impl fmt::Display for SchemeBuf {
         f.write_str(self.as_str())
     }
 }
+
+/// Schemes are equal, in order and hashed by their texts in lower case (RFC 3986 section 6.2.2.1).
+pub fn schemes_compare_in_lower_case()
+    ensures view { ComparesBy (λ v. str_to_ascii_lowercase (scheme_text v)) ⟦<Scheme<'static> as PartialEq>⟧.eq ⟦<Scheme<'static> as Ord>⟧.cmp ⟦<Scheme<'static> as Hash>⟧.hash_input }
+    ensures owner { ComparesBy (λ v. str_to_ascii_lowercase (scheme_buf_text v)) ⟦<SchemeBuf as PartialEq>⟧.eq ⟦<SchemeBuf as Ord>⟧.cmp ⟦<SchemeBuf as Hash>⟧.hash_input }
+{}
