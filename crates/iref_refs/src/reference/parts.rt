@@ -1,20 +1,26 @@
 //! The components of references and of URIs.
-ghost use Rattle.std.specs.Prelude.{◌≡◌, true, option_map};
+ghost use Rattle.std.specs.Prelude.{◌≡◌, true, option_map, MatchResult};
 ghost use Rattle.std.specs.Option.{option_copied};
 ghost use Rattle.iref_grammar.specs.Tests.{is_scheme, is_query, is_fragment, none_or};
 ghost use Rattle.iref_grammar.specs.Authority.{is_authority};
 ghost use Rattle.iref_text.specs.Components.{scheme_text, query_text, fragment_text};
-ghost use Rattle.iref_grammar.specs.ComponentTexts.{AreComponents};
+ghost use Rattle.iref_grammar.specs.Rules.{InUtf8};
+ghost use Rattle.iref_grammar.specs.Grammar.{IsUriReference};
+ghost use Rattle.iref_grammar.specs.Reference.{read_reference};
+ghost use Rattle.iref_grammar.specs.ComponentTexts.{AreComponents, spell_components};
 ghost use Rattle.iref_parse.specs.ReferenceSlices.{texts_of};
 ghost use Rattle.iref_authority.specs.Views.{authority_text};
 
+use crate::reference::uri_ref::InvalidUriRef;
 use iref_authority::authority::Authority;
-use iref_path::path::Path;
 use iref_grammar::chars::CharSet;
+use iref_grammar::reference_laws::reference_grammar;
+use iref_parse::split::{ReferenceSlices, parse_reference};
+use iref_path::path::Path;
 use iref_text::common::Scheme;
 use iref_text::fragment::Fragment;
-use iref_parse::split::ReferenceSlices;
 use iref_text::query::Query;
+use std::str;
 
 /// The components of a reference (RFC 3986 section 4.1).
 #[derive_where(Clone, Copy, Debug)]
@@ -48,6 +54,22 @@ pub struct UriParts<'a, C: CharSet> {
 
 impl<'a, C: CharSet> UriRefParts<'a, C> {
     ghost use Rattle.iref_refs.specs.References.{uri_ref_part_texts};
+
+    /// The components of the reference of these bytes of UTF-8, or the bytes: `UriRef::from_bytes` and `parts` by one split.
+    pub fn from_bytes(bytes: &'a [u8]) -> Result<Self, InvalidUriRef<&'a [u8]>>
+        ensures { MatchResult result
+            (λ parts. InUtf8 (IsUriReference C.tests) bytes.now × (uri_ref_part_texts parts ≡ spell_components (read_reference bytes.now)))
+            (λ fault. ¬ (InUtf8 (IsUriReference C.tests) bytes.now) × (fault.0 ≡ bytes.entry)) }
+    {
+        reference_grammar::<C>();
+        let Ok(text) = str::from_utf8(bytes) else {
+            return Err(InvalidUriRef(bytes));
+        };
+        let Some(slices) = parse_reference::<C>(text) else {
+            return Err(InvalidUriRef(bytes));
+        };
+        Ok(UriRefParts::from_slices(slices))
+    }
 
     /// The components of slices that are known to be in their rules.
     pub fn from_slices(slices: ReferenceSlices<'a>) -> Self
