@@ -1,3 +1,6 @@
 mod NumberRows
 pub mod EmptyLemmas
+pub mod HostNumberLemmas
+pub mod Ipv6TextLemmas
 pub mod PartLemmas
+pub mod ZeroRunLemmas

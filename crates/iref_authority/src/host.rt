@@ -5,11 +5,12 @@ ghost use Rattle.iref_grammar.specs.Rules.{InUtf8};
 ghost use Rattle.iref_grammar.specs.Grammar.{IsHost};
 ghost use Rattle.iref_grammar.specs.IpAddresses.{ipv4_value};
 ghost use Rattle.iref_grammar.specs.Tests.{is_host, is_ip_literal, is_ipv4};
-ghost use Rattle.iref_authority.specs.HostNumbers.{literal_value};
+ghost use Rattle.iref_authority.specs.HostNumbers.{ipv4_text, ipv6_host_text, literal_value};
 ghost use Rattle.iref_parse.specs.Makers.{Parses};
 ghost use Rattle.iref_text.specs.Components.{pct_text, pct_string_text};
 ghost use Rattle.iref_authority.specs.Views.{host_text, host_buf_text};
 
+use crate::host_numbers::{ipv4_string, ipv6_string};
 use crate::rules::HostRule;
 use iref_grammar::chars::CharSet;
 use iref_parse::error::Memory;
@@ -211,6 +212,30 @@ impl<C: CharSet> HostBuf<C> {
         HostBuf {
             text: TextBuf::empty(alloc),
         }
+    }
+
+    /// The host of the IPv4 address with this number, its first octet highest.
+    #[tactic(auto, using(crate::proofs::HostNumberLemmas::ipv4_host, crate::proofs::HostNumberLemmas::ipv4_read_back))]
+    pub fn from_ipv4(number: u32, alloc: Global) -> Result<Self, Memory>
+        ensures text { IfOk result (λ host. host_buf_text host ≡ ipv4_text number) }
+        ensures read_back { IfOk result (λ host. ipv4_value (host_buf_text host) ≡ Some number) }
+    {
+        let text = ipv4_string(number, alloc)?;
+        Ok(HostBuf {
+            text: TextBuf::new_unchecked(text),
+        })
+    }
+
+    /// The host of the IPv6 address with this number, its first group highest, in brackets and in the form of RFC 5952 section 4.
+    #[tactic(auto, using(crate::proofs::Ipv6TextLemmas::ipv6_host, crate::proofs::Ipv6TextLemmas::ipv6_read_back))]
+    pub fn from_ipv6(number: u128, alloc: Global) -> Result<Self, Memory>
+        ensures text { IfOk result (λ host. host_buf_text host ≡ ipv6_host_text number) }
+        ensures read_back { IfOk result (λ host. literal_value (host_buf_text host) ≡ Some number) }
+    {
+        let text = ipv6_string(number, alloc)?;
+        Ok(HostBuf {
+            text: TextBuf::new_unchecked(text),
+        })
     }
 
     /// The view.

@@ -4,5 +4,6 @@
 pub mod authority;
 mod authority_order;
 pub mod host;
+mod host_numbers;
 pub mod rules;
 pub mod user_info;
