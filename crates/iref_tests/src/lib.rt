@@ -3,6 +3,8 @@
 
 pub mod callers;
 #[cfg(test)]
+mod paths;
+#[cfg(test)]
 mod recording;
 #[cfg(test)]
 mod references;
