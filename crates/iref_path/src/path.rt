@@ -172,7 +172,8 @@ impl<'a, C: CharSet> Path<'a, C> {
 
     /// All up to and with the last `/` (RFC 3986 section 5.2.3): the empty path where there is none.
     pub fn directory(&self) -> Self
-        ensures { path_text result ≡ function.directory_text (path_text self.now) }
+        ensures text { path_text result ≡ function.directory_text (path_text self.now) }
+        ensures value { path_value result ≡ function.directory (path_value self.now) }
     {
         Path::new_unchecked(directory_text::<C>(self.as_str()))
     }

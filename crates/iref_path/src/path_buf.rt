@@ -176,7 +176,8 @@ impl<C: CharSet> PathBuf<C> {
 
     /// All up to and with the last `/` (RFC 3986 section 5.2.3): the empty path where there is none.
     pub fn directory(&self) -> Path<'_, C>
-        ensures { path_text result ≡ function.directory_text (path_buf_text self.now) }
+        ensures text { path_text result ≡ function.directory_text (path_buf_text self.now) }
+        ensures value { path_value result ≡ function.directory (path_buf_value self.now) }
     {
         self.as_path().directory()
     }

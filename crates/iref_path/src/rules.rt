@@ -1,11 +1,14 @@
 //! The rules of segments and paths, each with its recogniser.
 
+ghost use Rattle.std.specs.Prelude.{◌≡◌};
+ghost use Rattle.percent_encoding.specs.Percent.{percent_decode};
+ghost use Rattle.iref_grammar.specs.Rules.{Text};
 ghost use Rattle.iref_grammar.specs.Grammar.{IsPath, IsSegment};
 ghost use Rattle.iref_grammar.specs.Tests.{is_path, is_segment};
 
 use iref_grammar::chars::CharSet;
 use iref_grammar::text_laws::{path_grammar, segment_grammar};
-use iref_parse::key::DecodedBytes;
+use iref_parse::key::{DecodedBytes, Key};
 use iref_parse::scan;
 use iref_parse::view::{Keyed, Rule};
 
@@ -46,3 +49,8 @@ impl Rule for PathRule {
         path_grammar::<C>()
     }
 }
+
+/// Segments compare by what they decode to.
+pub fn key_of_segments()
+    ensures { (text : Text) → ⟦<<SegmentRule as Keyed>::Key as Key>⟧.key text ≡ percent_decode text }
+{}

@@ -2,10 +2,12 @@
 
 ghost use Rattle.std.specs.Prelude.{◌≡◌, true, [], Some, IfOk, length};
 ghost use Rattle.std.specs.String.{string_bytes};
+ghost use Rattle.percent_encoding.specs.Percent.{percent_decode};
 ghost use Rattle.iref_grammar.specs.Rules.{InUtf8};
 ghost use Rattle.iref_grammar.specs.Grammar.{IsSegment};
 ghost use Rattle.iref_grammar.specs.Tests.{is_segment};
 ghost use Rattle.iref_grammar.specs.Texts.{is_empty};
+ghost use Rattle.iref_parse.specs.Keys.{ComparesBy};
 ghost use Rattle.iref_parse.specs.Makers.{Parses};
 ghost use Rattle.iref_text.specs.Components.{pct_text};
 ghost use Rattle.iref_normal.specs.PathFunctions as function;
@@ -20,6 +22,7 @@ use iref_text::pct::PctStr;
 use std::alloc::Global;
 use std::convert::TryFrom;
 use std::fmt;
+use std::hash::Hash;
 
 impl<C: CharSet> Segment<'_, C> {
     /// An owner of a copy.
@@ -163,3 +166,9 @@ impl<C: CharSet> fmt::Display for SegmentBuf<C> {
         f.write_str(self.as_str())
     }
 }
+
+/// Segments are equal, in order and hashed by the bytes that they decode to (RFC 3986 section 6.2.2.2).
+pub fn segments_compare_decoded<C: CharSet>()
+    ensures view { ComparesBy (λ v. percent_decode (segment_text v)) ⟦<Segment<'static, C> as PartialEq>⟧.eq ⟦<Segment<'static, C> as Ord>⟧.cmp ⟦<Segment<'static, C> as Hash>⟧.hash_input }
+    ensures owner { ComparesBy (λ v. percent_decode (segment_buf_text v)) ⟦<SegmentBuf<C> as PartialEq>⟧.eq ⟦<SegmentBuf<C> as Ord>⟧.cmp ⟦<SegmentBuf<C> as Hash>⟧.hash_input }
+{}
