@@ -1,5 +1,6 @@
 pub mod LeadingLemmas
 pub mod KeyLemmas
+pub mod HeldLemmas
 pub mod RelativeLemmas
 pub mod ReadableRelativeLemmas
 pub mod ResolvedLemmas

@@ -6,3 +6,5 @@ pub mod RelativeLaws
 pub mod ReferenceSuffix
 pub mod ReferenceParts
 pub mod References
+pub mod PlaceTexts
+pub mod Owners

@@ -1,5 +1,5 @@
 //! URIs (RFC 3986 section 3).
-ghost use Rattle.std.specs.Prelude.{◌≡◌, true, [], ◌∷◌, Some, None, MatchResult, is_some, option_map};
+ghost use Rattle.std.specs.Prelude.{◌≡◌, true, [], ◌∷◌, Some, None, IfOk, MatchResult, is_some, option_map};
 ghost use Rattle.iref_grammar.specs.Rules.{InUtf8};
 ghost use Rattle.iref_grammar.specs.Grammar.{IsUri, hash_sign};
 ghost use Rattle.iref_grammar.specs.Texts.{before};
@@ -11,16 +11,20 @@ ghost use Rattle.iref_path.specs.Views.{path_text};
 ghost use Rattle.iref_refs.specs.ComponentSteps.{with_query, with_fragment};
 ghost use Rattle.iref_authority.specs.Views.{authority_text};
 
+use crate::buf::held::Held;
+use crate::buf::uri_buf::UriBuf;
 use crate::reference::parts::UriParts;
 use crate::reference::uri_ref::UriRef;
 use iref_authority::authority::Authority;
-use iref_path::path::Path;
 use iref_grammar::chars::CharSet;
-use iref_text::common::Scheme;
-use iref_text::fragment::Fragment;
+use iref_parse::error::Memory;
 use iref_parse::rules::FullReferenceRule;
 use iref_parse::view::View;
+use iref_path::path::Path;
+use iref_text::common::Scheme;
+use iref_text::fragment::Fragment;
 use iref_text::query::Query;
+use std::alloc::Global;
 use std::convert::TryFrom;
 use std::fmt;
 use thiserror::Error;
@@ -39,6 +43,7 @@ pub struct Uri<'a, C: CharSet> {
 
 impl<'a, C: CharSet> Uri<'a, C> {
     ghost use Rattle.iref_refs.specs.References.{uri_text, uri_value, uri_part_texts, uri_ref_text, uri_ref_value};
+    ghost use Rattle.iref_refs.specs.Owners.{uri_buf_text};
 
     /// The URI of this text, or the text.
     pub fn new(text: &'a str) -> Result<Self, InvalidUri<&'a str>>
@@ -158,6 +163,14 @@ impl<'a, C: CharSet> Uri<'a, C> {
         ensures value { uri_ref_value result ≡ with_query None (with_fragment None (uri_value self.now)) }
     {
         self.as_uri_ref().without_query_and_fragment()
+    }
+
+    /// An owner of a copy, with the places of the components, found in one scan.
+    pub fn to_owned(&self, alloc: Global) -> Result<UriBuf<C>, Memory>
+        ensures { IfOk result (λ copy. uri_buf_text copy ≡ uri_text self.now) }
+    {
+        let text = String::from_str(alloc, self.as_str())?;
+        Ok(UriBuf::from_held(Held::new_unchecked(text)))
     }
 }
 

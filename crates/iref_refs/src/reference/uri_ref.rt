@@ -1,5 +1,5 @@
 //! References (RFC 3986 section 4.1).
-ghost use Rattle.std.specs.Prelude.{◌≡◌, true, [], ◌∷◌, Some, None, IfSome, is_some, option_map};
+ghost use Rattle.std.specs.Prelude.{◌≡◌, true, [], ◌∷◌, Some, None, IfOk, IfSome, is_some, option_map};
 ghost use Rattle.iref_grammar.specs.Rules.{InUtf8};
 ghost use Rattle.iref_grammar.specs.Grammar.{IsUriReference, hash_sign};
 ghost use Rattle.iref_grammar.specs.Texts.{before};
@@ -12,19 +12,23 @@ ghost use Rattle.iref_path.specs.Views.{path_text};
 ghost use Rattle.iref_refs.specs.ComponentSteps.{with_query, with_fragment};
 ghost use Rattle.iref_authority.specs.Views.{authority_text};
 
+use crate::buf::held::Held;
+use crate::buf::uri_ref_buf::UriRefBuf;
 use crate::reference::parts::UriRefParts;
 use crate::reference::uri::Uri;
 use iref_authority::authority::Authority;
-use iref_path::path::Path;
 use iref_grammar::chars::CharSet;
-use iref_text::common::Scheme;
-use iref_text::fragment::Fragment;
+use iref_grammar::reference_laws::components_tested;
 use iref_parse::cut::cut;
+use iref_parse::error::Memory;
 use iref_parse::rules::ReferenceRule;
 use iref_parse::split::{ReferenceSlices, split_reference};
 use iref_parse::view::View;
+use iref_path::path::Path;
+use iref_text::common::Scheme;
+use iref_text::fragment::Fragment;
 use iref_text::query::Query;
-use iref_grammar::reference_laws::components_tested;
+use std::alloc::Global;
 use std::convert::TryFrom;
 use std::fmt;
 use thiserror::Error;
@@ -43,6 +47,7 @@ pub struct UriRef<'a, C: CharSet> {
 
 impl<'a, C: CharSet> UriRef<'a, C> {
     ghost use Rattle.iref_refs.specs.References.{uri_ref_text, uri_ref_value, uri_ref_part_texts, uri_text};
+    ghost use Rattle.iref_refs.specs.Owners.{uri_ref_buf_text};
 
     /// The reference of this text, or the text.
     pub fn new(text: &'a str) -> Result<Self, InvalidUriRef<&'a str>>
@@ -168,6 +173,14 @@ impl<'a, C: CharSet> UriRef<'a, C> {
         } else {
             None
         }
+    }
+
+    /// An owner of a copy, with the places of the components, found in one scan.
+    pub fn to_owned(&self, alloc: Global) -> Result<UriRefBuf<C>, Memory>
+        ensures { IfOk result (λ copy. uri_ref_buf_text copy ≡ uri_ref_text self.now) }
+    {
+        let text = String::from_str(alloc, self.as_str())?;
+        Ok(UriRefBuf::from_held(Held::new_unchecked(text)))
     }
 
     fn slices(&self) -> ReferenceSlices<'a>
