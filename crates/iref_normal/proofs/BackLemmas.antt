@@ -10,7 +10,7 @@ use Rattle.iref_normal.specs.NormalList.{is_dot_dot, is_name, counted, ends_in_d
 use Rattle.iref_normal.specs.NormalReading.{open_before, staying_before, leading_parents, closing, items}
 use Rattle.iref_normal.specs.CountedEquality.{ItemRead, last_read, item_before, items_read, all_items_read}
 use Rattle.iref_normal.proofs.StayingLemmas.{open_before-append, staying_before-append}
-use Rattle.iref_normal.proofs.ItemLemmas.{normal_segments-is}
+use Rattle.iref_normal.proofs.ItemLemmas.{ends-last, normal_segments-is}
 
 abbrev pub item_of : ItemRead → Text
 item_of e = e.item
@@ -46,11 +46,6 @@ items_read-is absolute behind (s ∷ before) =
     by : (b : Bool) (later : List ItemRead) (front : List Text) → map item_of later ≡ reverse front → map item_of (item_before b s before later) ≡ reverse (front ++ cond b (s ∷ []) [])
     by true later front h = ap (λ xs. s ∷ xs) h ∙ sym (reverse-append front (s ∷ []))
     by false later front h = h ∙ ap reverse (sym (append-nil front))
-
-ends-last : (front : List Text) (s : Text) → ends_in_dots (front ++ s ∷ []) ≡ not (is_name s)
-ends-last [] s = refl
-ends-last (t ∷ []) s = refl
-ends-last (t ∷ u ∷ front) s = ends-last (u ∷ front) s
 
 -- the items of a path that has segments, last first
 all_items_of_some : (absolute : Bool) (s : Text) (before : List Text) → map item_of (all_items_read absolute (s ∷ before)) ≡ reverse (items (record { absolute = absolute; segments = reverse (s ∷ before) }))

@@ -1,14 +1,30 @@
 -- The normal list is the items that are read from the back, unless these are one empty segment.
-use Rattle.std.proofs.Common.{◌≡◌, Bool, true, false, cond, List, [], ◌∷◌, ◌++◌, refl, sym, ◌∙◌, ap, append_assoc}
+use Rattle.std.proofs.Common.{◌≡◌, Bool, true, false, not, cond, ◌&&◌, List, [], ◌∷◌, ◌++◌, refl, sym, ◌∙◌, ap, append_assoc}
 use Rattle.std.proofs.lemmas.List.{append-nil}
+use mathlib.Core.Bool.{true≢false}
 use Rattle.iref_grammar.specs.Rules.{Text}
 use Rattle.iref_grammar.specs.Texts.{is_empty}
 use Rattle.iref_grammar.specs.PathValue.{PathValue}
-use Rattle.iref_normal.specs.NormalList.{ends_in_dots, closed, without_lone_empty, kept_segments, normal_segments}
+use Rattle.iref_normal.specs.NormalList.{is_dot, is_dot_dot, is_name, ends_in_dots, closed, without_lone_empty, kept_segments, normal_segments}
 use Rattle.iref_normal.specs.NormalReading.{open_before, staying_before, leading_parents, closing, items}
 use Rattle.iref_normal.proofs.NormalLemmas.{excess-is}
 use Rattle.iref_normal.proofs.StayingLemmas.{open_parents-is, staying_names-is}
 use Rattle.iref_normal.proofs.SettledLemmas.{last_stays}
+
+-- a name is no `..`
+pub name_no_parent : (s : Text) → is_name s ≡ true → is_dot_dot s ≡ false
+name_no_parent s h = by (is_dot s) (is_dot_dot s) h
+  where
+    by : (dot parent : Bool) → (not dot && not parent) ≡ true → parent ≡ false
+    by true parent h = absurd (true≢false (sym h))
+    by false true h = absurd (true≢false (sym h))
+    by false false h = refl
+
+-- whether a list ends in `.` or `..` is told by its last segment
+pub ends-last : (front : List Text) (s : Text) → ends_in_dots (front ++ s ∷ []) ≡ not (is_name s)
+ends-last [] s = refl
+ends-last (t ∷ []) s = refl
+ends-last (t ∷ u ∷ front) s = ends-last (u ∷ front) s
 
 kept-read : (absolute : Bool) (segments : List Text) → kept_segments (record { absolute = absolute; segments = segments }) ≡ leading_parents absolute (open_before segments 0) ++ staying_before segments 0
 kept-read absolute segments =

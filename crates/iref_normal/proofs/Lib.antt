@@ -26,3 +26,4 @@ pub mod PathTextLemmas
 pub mod RemainingLemmas
 pub mod NormalGrammarLemmas
 pub mod OrderLemmas
+pub mod SpellLemmas

@@ -35,7 +35,7 @@ is_some-after mark (c ∷ cs) = elim (eqb_tells c mark) [
       ∙ sym (λ i. e.0 i || char_set_contains cs mark)
 ]
 
-same : (rest : Option (Bor Text)) → is_some rest ≡ is_some (option_copied rest)
+pub same : (rest : Option (Bor Text)) → is_some rest ≡ is_some (option_copied rest)
 same None = refl
 same (Some x) = refl
 

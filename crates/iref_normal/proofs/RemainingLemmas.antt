@@ -11,19 +11,11 @@ use Rattle.iref_grammar.proofs.TextLemmas.{first_of_both, second_of_both}
 use Rattle.iref_grammar.specs.Texts.{is_empty}
 use Rattle.iref_grammar.specs.PathValue.{PathValue, is_one_empty, read_path}
 use Rattle.iref_normal.specs.NormalList.{is_dot, is_dot_dot, is_name, counted, ends_in_dots, without_lone_empty, normal_segments}
-use Rattle.iref_normal.proofs.ItemLemmas.{normal_segments-is}
+use Rattle.iref_normal.proofs.ItemLemmas.{name_no_parent, normal_segments-is}
 use Rattle.std.proofs.lemmas.Grind.{common_steps}
 use Rattle.iref_normal.specs.NormalReading.{open_before, staying_before, leading_parents, closing}
 use Rattle.iref_normal.specs.Remaining.{are_no_parents, first_or}
 use Rattle.iref_normal.proofs.StayingLemmas.{open_before-append, staying_before-append}
-
-name_no_parent : (s : Text) → is_name s ≡ true → is_dot_dot s ≡ false
-name_no_parent s h = by (is_dot s) (is_dot_dot s) h
-  where
-    by : (dot parent : Bool) → (not dot && not parent) ≡ true → parent ≡ false
-    by true parent h = absurd (true≢false (sym h))
-    by false true h = absurd (true≢false (sym h))
-    by false false h = refl
 
 -- ---- the three parts
 
@@ -258,11 +250,6 @@ parts-whole p parents names closes h k l =
         ≡ without_lone_empty (leading_parents absolute (open_before p.segments 0) ++ (staying_before p.segments 0 ++ closing (ends_in_dots p.segments)))
     by true = refl
     by false = refl
-
-pub ends-last : (front : List Text) (s : Text) → ends_in_dots (front ++ s ∷ []) ≡ not (is_name s)
-ends-last [] s = refl
-ends-last (t ∷ []) s = refl
-ends-last (t ∷ u ∷ front) s = ends-last (u ∷ front) s
 
 -- ---- of a path's text
 

@@ -10,16 +10,9 @@ use Rattle.iref_grammar.specs.PathValue.{PathValue}
 use Rattle.iref_normal.specs.NormalList.{is_dot, is_dot_dot, is_name, counted}
 use Rattle.iref_normal.specs.CountedEquality.{item_before, items_read, all_items_read, Comparison, IsCountedAnswer, items_compared}
 use Rattle.iref_normal.proofs.CountedLemmas.{compared_same}
+use Rattle.iref_normal.proofs.ItemLemmas.{name_no_parent}
 use Rattle.iref_normal.specs.declared.equality.Unread.{Unread}
 use Rattle.iref_normal.specs.Unread.{GivesSegment, IsAnswer, segments_unread, items_unread, all_items_unread}
-
-name_no_parent : (s : Text) → is_name s ≡ true → is_dot_dot s ≡ false
-name_no_parent s h = by (is_dot s) (is_dot_dot s) h
-  where
-    by : (dot parent : Bool) → (not dot && not parent) ≡ true → parent ≡ false
-    by true parent h = absurd (true≢false (sym h))
-    by false true h = absurd (true≢false (sym h))
-    by false false h = refl
 
 -- what a read tells of the items
 pub after_read : (u v : Unread) (s : Bor Text) → GivesSegment u (Some s) v → items_unread u ≡ items_read v.absolute v.open_parents (s.now ∷ segments_unread v)

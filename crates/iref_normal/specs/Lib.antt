@@ -9,5 +9,6 @@ pub mod DotSegments
 pub mod CountedEquality
 pub mod PathKey
 pub mod PathHash
+pub mod Spelling
 pub mod Unread
 pub mod Remaining

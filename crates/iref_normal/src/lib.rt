@@ -7,3 +7,4 @@ pub mod path_laws;
 pub mod path_text;
 pub mod pieces;
 pub mod remaining;
+pub mod spell;

@@ -7,7 +7,9 @@ ghost use Rattle.std.specs.Ordering.{as_partial_cmp, eq_by_cmp, on};
 ghost use Rattle.std.specs.Cmp.Rules.{comparing};
 ghost use Rattle.std.proofs.Common.{rules};
 ghost use Rattle.iref_grammar.specs.Rules.{InUtf8};
+ghost use Rattle.iref_grammar.specs.Contexts.{alone};
 ghost use Rattle.iref_grammar.specs.Grammar.{IsPath};
+ghost use Rattle.iref_grammar.specs.PathValue.{spell_path};
 ghost use Rattle.iref_grammar.specs.Tests.{is_path};
 ghost use Rattle.iref_grammar.specs.Texts.{is_empty};
 ghost use Rattle.iref_parse.specs.Makers.{Parses};
@@ -15,6 +17,7 @@ ghost use Rattle.iref_normal.specs.NormalList.{normal_segments};
 ghost use Rattle.iref_normal.specs.PathFunctions as function;
 ghost use Rattle.iref_normal.specs.PathKey.{path_key, path_key_cmp, path_keys_total};
 ghost use Rattle.iref_normal.specs.PathHash.{fed_path};
+ghost use Rattle.iref_normal.specs.PathSteps as step;
 ghost use Rattle.iref_normal.proofs.OrderLemmas.{fed_where_tied};
 ghost use Rattle.iref_path.specs.Views.{path_text, path_buf_text, path_value, path_buf_value, segment_text, segments_left};
 ghost use Rattle.iref_path.specs.NormalViews.{normal_segments_left};
@@ -25,6 +28,8 @@ use crate::rules::PathRule;
 use crate::segment::Segment;
 use crate::segments::Segments;
 use iref_grammar::chars::CharSet;
+use iref_normal::path_laws::normalizing_keeps_the_key;
+use iref_normal::spell::normalized_text;
 use iref_parse::error::Memory;
 use iref_parse::owned::TextBuf;
 use std::alloc::Global;
@@ -40,6 +45,19 @@ impl<C: CharSet> Path<'_, C> {
     {
         let text = TextBuf::from_view(self.text, alloc)?;
         Ok(PathBuf { text })
+    }
+
+    /// The path of the normal segments, with a guard where one is needed (RFC 3986 section 5.2.4). It is equal to this path.
+    pub fn normalized(&self, alloc: Global) -> Result<PathBuf<C>, Memory>
+        ensures text { IfOk result (λ path. path_buf_text path ≡ spell_path (step.normalized alone (path_value self.now))) }
+        ensures value { IfOk result (λ path. path_buf_value path ≡ step.normalized alone (path_value self.now)) }
+        ensures equal { IfOk result (λ path. path_key (path_buf_value path) ≡ path_key (path_value self.now)) }
+    {
+        normalizing_keeps_the_key();
+        let text = normalized_text::<C>(self.as_str(), alloc)?;
+        Ok(PathBuf {
+            text: TextBuf::new_unchecked(text),
+        })
     }
 }
 
