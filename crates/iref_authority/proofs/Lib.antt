@@ -1,4 +1,5 @@
 mod NumberRows
+pub mod AuthorityKeyLemmas
 pub mod EmptyLemmas
 pub mod HostNumberLemmas
 pub mod Ipv6TextLemmas

@@ -1,8 +1,11 @@
 //! Authorities are compared, ordered and hashed by their keys (RFC 3986 section 6.2.2).
-ghost use Rattle.std.specs.Ordering.{on, as_partial_cmp};
-ghost use Rattle.std.specs.Cmp.{on_total, on_equiv, po, partial_equiv_from_equiv};
+ghost use Rattle.std.specs.Prelude.{◌≡◌};
+ghost use Rattle.std.specs.Bool.{Decides};
+ghost use Rattle.std.specs.Ordering.{on, as_partial_cmp, is_eq};
+ghost use Rattle.std.specs.Cmp.{IsTotalOrder, on_total, on_equiv, po, partial_equiv_from_equiv};
 ghost use Rattle.std.specs.Cmp.Rules.{comparing, hashing};
 ghost use Rattle.std.proofs.Common.{rules};
+ghost use Rattle.iref_grammar.specs.Authority.{AuthorityValue};
 ghost use Rattle.iref_authority.specs.AuthorityKey.{is_same_authority, authority_key_cmp, fed_authority};
 ghost use Rattle.iref_authority.specs.AuthorityKey.{authority_keys_total, authority_keys_equivalent, authority_keys_tie};
 
@@ -189,3 +192,10 @@ impl<C: CharSet> Hash for AuthorityBuf<C> {
         self.as_authority().hash(state);
     }
 }
+
+/// The keys of authorities are equal exactly where the test is true, and where neither comes before the other.
+pub fn authorities_tie_by_key()
+    ensures test { (a b : AuthorityValue) → Decides (is_same_authority a b) (a ≡ b) }
+    ensures order { (a b : AuthorityValue) → Decides (is_eq (authority_key_cmp a b)) (a ≡ b) }
+    ensures total { IsTotalOrder authority_key_cmp }
+{}

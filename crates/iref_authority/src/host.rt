@@ -1,11 +1,13 @@
 //! Hosts (RFC 3986 section 3.2.2).
 ghost use Rattle.std.specs.Prelude.{◌≡◌, true, [], Some, IfOk, is_some};
 ghost use Rattle.std.specs.String.{string_bytes};
+ghost use Rattle.percent_encoding.specs.Percent.{percent_decode};
 ghost use Rattle.iref_grammar.specs.Rules.{InUtf8};
 ghost use Rattle.iref_grammar.specs.Grammar.{IsHost};
 ghost use Rattle.iref_grammar.specs.IpAddresses.{ipv4_value};
 ghost use Rattle.iref_grammar.specs.Tests.{is_host, is_ip_literal, is_ipv4};
 ghost use Rattle.iref_authority.specs.HostNumbers.{ipv4_text, ipv6_host_text, literal_value};
+ghost use Rattle.iref_parse.specs.Keys.{ComparesBy};
 ghost use Rattle.iref_parse.specs.Makers.{Parses};
 ghost use Rattle.iref_text.specs.Components.{pct_text, pct_string_text};
 ghost use Rattle.iref_authority.specs.Views.{host_text, host_buf_text};
@@ -21,6 +23,7 @@ use iref_text::pct::{PctStr, PctString};
 use std::alloc::Global;
 use std::convert::TryFrom;
 use std::fmt;
+use std::hash::Hash;
 use thiserror::Error;
 
 /// The input is no host.
@@ -356,3 +359,9 @@ impl<C: CharSet> fmt::Display for HostBuf<C> {
         f.write_str(self.as_str())
     }
 }
+
+/// Hosts are equal, in order and hashed by the bytes that they decode to (RFC 3986 section 6.2.2.2); their case counts.
+pub fn hosts_compare_decoded<C: CharSet>()
+    ensures view { ComparesBy (λ v. percent_decode (host_text v)) ⟦<Host<'static, C> as PartialEq>⟧.eq ⟦<Host<'static, C> as Ord>⟧.cmp ⟦<Host<'static, C> as Hash>⟧.hash_input }
+    ensures owner { ComparesBy (λ v. percent_decode (host_buf_text v)) ⟦<HostBuf<C> as PartialEq>⟧.eq ⟦<HostBuf<C> as Ord>⟧.cmp ⟦<HostBuf<C> as Hash>⟧.hash_input }
+{}

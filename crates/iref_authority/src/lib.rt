@@ -2,7 +2,7 @@
 #![tactic(auto)]
 
 pub mod authority;
-mod authority_order;
+pub mod authority_order;
 pub mod host;
 mod host_numbers;
 pub mod rules;

@@ -1,9 +1,11 @@
 //! User infos (RFC 3986 section 3.2.1).
 ghost use Rattle.std.specs.Prelude.{◌≡◌, true, [], Some, IfOk};
 ghost use Rattle.std.specs.String.{string_bytes};
+ghost use Rattle.percent_encoding.specs.Percent.{percent_decode};
 ghost use Rattle.iref_grammar.specs.Rules.{InUtf8};
 ghost use Rattle.iref_grammar.specs.Grammar.{IsUserInfo};
 ghost use Rattle.iref_grammar.specs.Tests.{is_user_info};
+ghost use Rattle.iref_parse.specs.Keys.{ComparesBy};
 ghost use Rattle.iref_parse.specs.Makers.{Parses};
 ghost use Rattle.iref_text.specs.Components.{pct_text, pct_string_text};
 ghost use Rattle.iref_authority.specs.Views.{user_info_text, user_info_buf_text};
@@ -17,6 +19,7 @@ use iref_text::pct::{PctStr, PctString};
 use std::alloc::Global;
 use std::convert::TryFrom;
 use std::fmt;
+use std::hash::Hash;
 use thiserror::Error;
 
 /// The input is no user info.
@@ -255,3 +258,9 @@ impl<C: CharSet> fmt::Display for UserInfoBuf<C> {
         f.write_str(self.as_str())
     }
 }
+
+/// User infos are equal, in order and hashed by the bytes that they decode to (RFC 3986 section 6.2.2.2).
+pub fn user_infos_compare_decoded<C: CharSet>()
+    ensures view { ComparesBy (λ v. percent_decode (user_info_text v)) ⟦<UserInfo<'static, C> as PartialEq>⟧.eq ⟦<UserInfo<'static, C> as Ord>⟧.cmp ⟦<UserInfo<'static, C> as Hash>⟧.hash_input }
+    ensures owner { ComparesBy (λ v. percent_decode (user_info_buf_text v)) ⟦<UserInfoBuf<C> as PartialEq>⟧.eq ⟦<UserInfoBuf<C> as Ord>⟧.cmp ⟦<UserInfoBuf<C> as Hash>⟧.hash_input }
+{}
