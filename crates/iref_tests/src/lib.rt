@@ -3,6 +3,8 @@
 
 pub mod callers;
 #[cfg(test)]
+mod owners;
+#[cfg(test)]
 mod paths;
 #[cfg(test)]
 mod recording;
