@@ -3,6 +3,8 @@
 
 pub mod callers;
 #[cfg(test)]
+mod normal_forms;
+#[cfg(test)]
 mod owners;
 #[cfg(test)]
 mod paths;
