@@ -1,6 +1,6 @@
+use iref_grammar::chars::{CharSet, IriChars, UriChars};
 use iref_refs::reference::uri::Uri;
 use iref_refs::reference::uri_ref::UriRef;
-use iref_grammar::chars::{CharSet, IriChars, UriChars};
 
 // Whether the text is a reference with these components, in the order of the text, `-` for one that is not there.
 fn has_components<C: CharSet>(text: &str, want: [&str; 5]) -> bool {
@@ -32,6 +32,53 @@ fn references_have_their_components(rt: HostRuntime) {
         assert!(rt; has_components::<UriChars>(text, want), "URI {text}");
         assert!(rt; has_components::<IriChars>(text, want), "IRI {text}");
     }
+}
+
+// Whether the text is a reference with this user info, host and port, `-` for one that is not there.
+fn has_authority_parts<C: CharSet>(text: &str, want: [&str; 3]) -> bool {
+    let Ok(reference) = UriRef::<C>::new(text) else {
+        return false;
+    };
+    reference
+        .user_info()
+        .map_or("-", |user_info| user_info.as_str())
+        == want[0]
+        && reference.host().map_or("-", |host| host.as_str()) == want[1]
+        && reference.port().map_or("-", |port| port.as_str()) == want[2]
+}
+
+#[test]
+fn references_have_the_parts_of_their_authority(rt: HostRuntime) {
+    let rows = [
+        ("//user:1@host.org:80/a//b?#", ["user:1", "host.org", "80"]),
+        ("http://[::1]:", ["-", "[::1]", ""]),
+        ("s://@/a@b:1", ["", "", "-"]),
+        ("/a@b:1", ["-", "-", "-"]),
+    ];
+    for (text, want) in rows {
+        assert!(rt; has_authority_parts::<UriChars>(text, want), "URI {text}");
+        assert!(rt; has_authority_parts::<IriChars>(text, want), "IRI {text}");
+    }
+}
+
+fn has_base<C: CharSet>(text: &str, want: &str) -> bool {
+    UriRef::<C>::new(text).is_ok_and(|reference| reference.base().as_str() == want)
+}
+
+#[test]
+fn bases_end_with_the_directory_of_the_path(rt: HostRuntime) {
+    let rows = [
+        ("http://example.org/a", "http://example.org/"),
+        ("http://example.org", "http://example.org"),
+        ("//h/a/b/?q/#f/", "//h/a/b/"),
+        ("a/é", "a/"),
+        ("a?q", ""),
+    ];
+    for (text, want) in rows {
+        assert!(rt; has_base::<IriChars>(text, want), "{text}");
+    }
+    let uri = Uri::<UriChars>::new("http://example.org/a");
+    assert!(rt; uri.is_ok_and(|uri| uri.base().as_str() == "http://example.org/"));
 }
 
 #[test]

@@ -6,22 +6,26 @@ ghost use Rattle.iref_grammar.specs.Texts.{before};
 ghost use Rattle.iref_parse.specs.Makers.{Parses};
 ghost use Rattle.iref_grammar.specs.Reference.{hierarchy, is_full_reference, spell};
 ghost use Rattle.iref_grammar.specs.ComponentTexts.{read_components, spell_components};
-ghost use Rattle.iref_text.specs.Components.{scheme_text, query_text, fragment_text};
+ghost use Rattle.iref_text.specs.Components.{scheme_text, port_digits, query_text, fragment_text};
 ghost use Rattle.iref_path.specs.Views.{path_text};
 ghost use Rattle.iref_refs.specs.ComponentSteps.{with_query, with_fragment};
-ghost use Rattle.iref_authority.specs.Views.{authority_text};
+ghost use Rattle.iref_refs.specs.ReferenceParts.{user_info_of, host_of, port_of, base_of};
+ghost use Rattle.iref_authority.specs.Views.{authority_text, user_info_text, host_text};
 
 use crate::buf::held::Held;
 use crate::buf::uri_buf::UriBuf;
+use crate::reference::base::base_text;
 use crate::reference::parts::UriParts;
 use crate::reference::uri_ref::UriRef;
 use iref_authority::authority::Authority;
+use iref_authority::host::Host;
+use iref_authority::user_info::UserInfo;
 use iref_grammar::chars::CharSet;
 use iref_parse::error::Memory;
 use iref_parse::rules::FullReferenceRule;
 use iref_parse::view::View;
 use iref_path::path::Path;
-use iref_text::common::Scheme;
+use iref_text::common::{Port, Scheme};
 use iref_text::fragment::Fragment;
 use iref_text::query::Query;
 use std::alloc::Global;
@@ -128,6 +132,27 @@ impl<'a, C: CharSet> Uri<'a, C> {
         self.as_uri_ref().authority()
     }
 
+    /// The user info, if the URI has an authority with one (RFC 3986 section 3.2.1).
+    pub fn user_info(&self) -> Option<UserInfo<'a, C>>
+        ensures { option_map user_info_text result ≡ user_info_of (uri_value self.now) }
+    {
+        self.as_uri_ref().user_info()
+    }
+
+    /// The host, if the URI has an authority (RFC 3986 section 3.2.2).
+    pub fn host(&self) -> Option<Host<'a, C>>
+        ensures { option_map host_text result ≡ host_of (uri_value self.now) }
+    {
+        self.as_uri_ref().host()
+    }
+
+    /// The port, if the URI has an authority with one (RFC 3986 section 3.2.3).
+    pub fn port(&self) -> Option<Port<'a>>
+        ensures { option_map port_digits result ≡ port_of (uri_value self.now) }
+    {
+        self.as_uri_ref().port()
+    }
+
     /// The path, which may be empty.
     pub fn path(&self) -> Path<'a, C>
         ensures { path_text result ≡ (spell_components (uri_value self.now)).path }
@@ -171,6 +196,15 @@ impl<'a, C: CharSet> Uri<'a, C> {
     {
         let text = String::from_str(alloc, self.as_str())?;
         Ok(UriBuf::from_held(Held::new_unchecked(text)))
+    }
+
+    /// The URI up to the end of the path's directory (RFC 3986 section 5.2.3).
+    #[tactic(auto, using(iref_grammar::proofs::ComponentLemmas::full, crate::proofs::BaseLemmas::full_base))]
+    pub fn base(&self) -> Self
+        ensures text { uri_text result ≡ spell (base_of (uri_value self.now)) }
+        ensures value { uri_value result ≡ base_of (uri_value self.now) }
+    {
+        Uri::new_unchecked(base_text::<C>(self.as_str()))
     }
 }
 

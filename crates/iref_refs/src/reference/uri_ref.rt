@@ -7,16 +7,20 @@ ghost use Rattle.iref_parse.specs.Makers.{Parses};
 ghost use Rattle.iref_grammar.specs.Reference.{hierarchy, is_reference, spell};
 ghost use Rattle.iref_grammar.specs.ComponentTexts.{AreComponents, read_components, spell_components};
 ghost use Rattle.iref_parse.specs.ReferenceSlices.{texts_of, value_of};
-ghost use Rattle.iref_text.specs.Components.{scheme_text, query_text, fragment_text};
+ghost use Rattle.iref_text.specs.Components.{scheme_text, port_digits, query_text, fragment_text};
 ghost use Rattle.iref_path.specs.Views.{path_text};
 ghost use Rattle.iref_refs.specs.ComponentSteps.{with_query, with_fragment};
-ghost use Rattle.iref_authority.specs.Views.{authority_text};
+ghost use Rattle.iref_refs.specs.ReferenceParts.{user_info_of, host_of, port_of, base_of};
+ghost use Rattle.iref_authority.specs.Views.{authority_text, user_info_text, host_text, parts_value};
 
 use crate::buf::held::Held;
 use crate::buf::uri_ref_buf::UriRefBuf;
+use crate::reference::base::base_text;
 use crate::reference::parts::UriRefParts;
 use crate::reference::uri::Uri;
-use iref_authority::authority::Authority;
+use iref_authority::authority::{Authority, AuthorityParts};
+use iref_authority::host::Host;
+use iref_authority::user_info::UserInfo;
 use iref_grammar::chars::CharSet;
 use iref_grammar::reference_laws::components_tested;
 use iref_parse::cut::cut;
@@ -25,7 +29,7 @@ use iref_parse::rules::ReferenceRule;
 use iref_parse::split::{ReferenceSlices, split_reference};
 use iref_parse::view::View;
 use iref_path::path::Path;
-use iref_text::common::Scheme;
+use iref_text::common::{Port, Scheme};
 use iref_text::fragment::Fragment;
 use iref_text::query::Query;
 use std::alloc::Global;
@@ -123,6 +127,46 @@ impl<'a, C: CharSet> UriRef<'a, C> {
         self.parts().authority
     }
 
+    // The parts of the authority, if the reference has one.
+    fn authority_parts(&self) -> Option<AuthorityParts<'a, C>>
+        ensures { option_map parts_value result ≡ (uri_ref_value self.now).authority }
+    {
+        match self.parts().authority {
+            Some(authority) => Some(authority.parts()),
+            None => None,
+        }
+    }
+
+    /// The user info, if the reference has an authority with one (RFC 3986 section 3.2.1).
+    pub fn user_info(&self) -> Option<UserInfo<'a, C>>
+        ensures { option_map user_info_text result ≡ user_info_of (uri_ref_value self.now) }
+    {
+        match self.authority_parts() {
+            Some(parts) => parts.user_info,
+            None => None,
+        }
+    }
+
+    /// The host, if the reference has an authority (RFC 3986 section 3.2.2).
+    pub fn host(&self) -> Option<Host<'a, C>>
+        ensures { option_map host_text result ≡ host_of (uri_ref_value self.now) }
+    {
+        match self.authority_parts() {
+            Some(parts) => Some(parts.host),
+            None => None,
+        }
+    }
+
+    /// The port, if the reference has an authority with one (RFC 3986 section 3.2.3).
+    pub fn port(&self) -> Option<Port<'a>>
+        ensures { option_map port_digits result ≡ port_of (uri_ref_value self.now) }
+    {
+        match self.authority_parts() {
+            Some(parts) => parts.port,
+            None => None,
+        }
+    }
+
     /// The path, which may be empty.
     pub fn path(&self) -> Path<'a, C>
         ensures { path_text result ≡ (spell_components (uri_ref_value self.now)).path }
@@ -161,6 +205,14 @@ impl<'a, C: CharSet> UriRef<'a, C> {
         let (front, _) = cut(self.as_str(), '#');
         let (front, _) = cut(front, '?');
         UriRef::new_unchecked(front)
+    }
+
+    /// The reference up to the end of the path's directory (RFC 3986 section 5.2.3).
+    pub fn base(&self) -> Self
+        ensures text { uri_ref_text result ≡ spell (base_of (uri_ref_value self.now)) }
+        ensures value { uri_ref_value result ≡ base_of (uri_ref_value self.now) }
+    {
+        UriRef::new_unchecked(base_text::<C>(self.as_str()))
     }
 
     /// The URI of the same text, if the reference has a scheme.

@@ -1,0 +1,44 @@
+//! The base of a reference: its text up to the end of the path's directory (RFC 3986 section 5.2.3).
+ghost use Rattle.std.specs.Prelude.{◌≡◌, ◌++◌, true};
+ghost use Rattle.iref_grammar.specs.Reference.{is_reference, read_reference, spell};
+ghost use Rattle.iref_grammar.specs.ComponentTexts.{AreComponents};
+ghost use Rattle.iref_normal.specs.PathFunctions.{directory_text};
+ghost use Rattle.iref_parse.specs.ReferenceSlices.{texts_of, value_of};
+ghost use Rattle.iref_refs.specs.ReferenceParts.{base_of};
+
+use iref_grammar::chars::CharSet;
+use iref_grammar::reference_laws::components_tested;
+use iref_parse::places::places_of;
+use iref_parse::split::{ReferenceSlices, split_reference};
+
+// What follows the last `/` of a path, or all of the path.
+fn after_directory(path: &str) -> &str
+    ensures { directory_text path.now ++ result.now ≡ path.now }
+{
+    match path.rfind('/') {
+        Some(at) => &path[at + 1..],
+        None => path,
+    }
+}
+
+// The text of these components up to what follows the directory.
+fn base_slice<'a, C: CharSet>(text: &'a str, slices: ReferenceSlices<'a>) -> &'a str
+    requires value { value_of slices ≡ read_reference text.now }
+    requires components { AreComponents C.tests (texts_of slices) }
+    ensures { result.now ≡ spell (base_of (read_reference text.now)) }
+{
+    let file_name = after_directory(slices.path);
+    let end = places_of(slices).path.end - file_name.len();
+    &text[..end]
+}
+
+/// The text of a reference up to the end of the path's directory.
+pub fn base_text<C: CharSet>(text: &str) -> &str
+    requires { is_reference C.tests text.now ≡ true }
+    ensures text { result.now ≡ spell (base_of (read_reference text.now)) }
+    ensures value { read_reference result.now ≡ base_of (read_reference text.now) }
+    ensures in_rule { is_reference C.tests result.now ≡ true }
+{
+    components_tested::<C>();
+    base_slice::<C>(text, split_reference(text))
+}
