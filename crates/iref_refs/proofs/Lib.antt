@@ -1,6 +1,7 @@
 pub mod LeadingLemmas
 pub mod KeyLemmas
 pub mod HeldLemmas
+pub mod OrderLemmas
 pub mod BaseLemmas
 pub mod RelativeLemmas
 pub mod ReadableRelativeLemmas

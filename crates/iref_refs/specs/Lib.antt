@@ -1,6 +1,7 @@
 pub mod ComponentSteps
 pub mod Resolution
 pub mod Key
+pub mod KeyOrder
 pub mod Relative
 pub mod RelativeLaws
 pub mod ReferenceSuffix

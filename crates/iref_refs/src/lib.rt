@@ -2,6 +2,7 @@
 #![tactic(auto)]
 
 pub mod buf;
+pub mod error;
 pub mod key_laws;
 pub mod reference;
 pub mod relative_laws;
