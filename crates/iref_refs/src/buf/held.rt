@@ -5,16 +5,21 @@ ghost use Rattle.std.specs.String.{string_bytes};
 ghost use Rattle.iref_grammar.specs.Rules.{Text, InUtf8};
 ghost use Rattle.iref_grammar.specs.Grammar.{hash_sign};
 ghost use Rattle.iref_grammar.specs.Texts.{before};
-ghost use Rattle.iref_grammar.specs.Reference.{hierarchy, read_reference, is_reference};
+ghost use Rattle.iref_grammar.specs.Reference.{hierarchy, read_reference, is_reference, spell};
 ghost use Rattle.iref_grammar.specs.ComponentTexts.{AreComponents, spell_components};
 ghost use Rattle.iref_grammar.specs.Places.{places_of, text_at};
 ghost use Rattle.iref_parse.specs.Makers.{Parses};
 ghost use Rattle.iref_parse.specs.ReferenceSlices.{texts_of, value_of};
+ghost use Rattle.iref_authority.specs.Views.{parts_value};
+ghost use Rattle.iref_refs.specs.ReferenceParts.{base_of};
 ghost use Rattle.iref_refs.specs.ComponentSteps.{with_query, with_fragment};
 ghost use Rattle.iref_refs.specs.References.{uri_ref_text, uri_ref_value};
 ghost use Rattle.iref_refs.specs.PlaceTexts.{IsWithin, AreWithin, texts_at, front_end};
 
+use crate::reference::base::base_slice;
+use crate::reference::parts::UriRefParts;
 use crate::reference::uri_ref::UriRef;
+use iref_authority::authority::AuthorityParts;
 use iref_grammar::chars::CharSet;
 use iref_grammar::places::Offsets;
 use iref_grammar::reference_laws::components_tested;
@@ -154,6 +159,26 @@ impl<R: HeldRule, C: CharSet> Held<R, C> {
         ensures value { uri_ref_value result ≡ with_query None (with_fragment None (read_reference self.now)) }
     {
         UriRef::new_unchecked(self.hierarchy())
+    }
+
+    /// The reference up to the end of the path's directory.
+    pub fn base_text(&self) -> &str
+        ensures text { result.now ≡ spell (base_of (read_reference self.now)) }
+        ensures value { read_reference result.now ≡ base_of (read_reference self.now) }
+        ensures in_rule { is_reference C.tests result.now ≡ true }
+    {
+        R::is_of_references::<C>();
+        base_slice::<C>(self.as_str(), self.slices())
+    }
+
+    /// The parts of the authority, if there is one.
+    pub fn authority_parts(&self) -> Option<AuthorityParts<'_, C>>
+        ensures { option_map parts_value result ≡ (read_reference self.now).authority }
+    {
+        match UriRefParts::<C>::from_slices(self.slices()).authority {
+            Some(authority) => Some(authority.parts()),
+            None => None,
+        }
     }
 
     fn before_fragment(&self) -> &str

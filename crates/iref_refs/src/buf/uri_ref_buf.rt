@@ -8,9 +8,10 @@ ghost use Rattle.iref_grammar.specs.Reference.{hierarchy, is_reference, spell};
 ghost use Rattle.iref_grammar.specs.ComponentTexts.{read_components, spell_components};
 ghost use Rattle.iref_grammar.specs.Places.{places_of};
 ghost use Rattle.iref_parse.specs.Makers.{Parses};
-ghost use Rattle.iref_text.specs.Components.{scheme_text, query_text, fragment_text};
+ghost use Rattle.iref_text.specs.Components.{scheme_text, port_digits, query_text, fragment_text};
 ghost use Rattle.iref_path.specs.Views.{path_text};
-ghost use Rattle.iref_authority.specs.Views.{authority_text};
+ghost use Rattle.iref_authority.specs.Views.{authority_text, user_info_text, host_text};
+ghost use Rattle.iref_refs.specs.ReferenceParts.{user_info_of, host_of, port_of, base_of};
 ghost use Rattle.iref_refs.specs.ComponentSteps.{with_query, with_fragment};
 ghost use Rattle.iref_refs.specs.References.{uri_ref_text, uri_ref_value, uri_ref_part_texts};
 
@@ -20,11 +21,13 @@ use crate::reference::parts::UriRefParts;
 use crate::reference::uri::InvalidUri;
 use crate::reference::uri_ref::{InvalidUriRef, UriRef};
 use iref_authority::authority::Authority;
+use iref_authority::host::Host;
+use iref_authority::user_info::UserInfo;
 use iref_grammar::chars::CharSet;
 use iref_grammar::places::Offsets;
 use iref_parse::rules::ReferenceRule;
 use iref_path::path::Path;
-use iref_text::common::Scheme;
+use iref_text::common::{Port, Scheme};
 use iref_text::fragment::Fragment;
 use iref_text::query::Query;
 use std::alloc::Global;
@@ -129,6 +132,36 @@ impl<C: CharSet> UriRefBuf<C> {
         self.parts().authority
     }
 
+    /// The user info, if the reference has an authority with one (RFC 3986 section 3.2.1).
+    pub fn user_info(&self) -> Option<UserInfo<'_, C>>
+        ensures { option_map user_info_text result ≡ user_info_of (uri_ref_buf_value self.now) }
+    {
+        match self.held.authority_parts() {
+            Some(parts) => parts.user_info,
+            None => None,
+        }
+    }
+
+    /// The host, if the reference has an authority (RFC 3986 section 3.2.2).
+    pub fn host(&self) -> Option<Host<'_, C>>
+        ensures { option_map host_text result ≡ host_of (uri_ref_buf_value self.now) }
+    {
+        match self.held.authority_parts() {
+            Some(parts) => Some(parts.host),
+            None => None,
+        }
+    }
+
+    /// The port, if the reference has an authority with one (RFC 3986 section 3.2.3).
+    pub fn port(&self) -> Option<Port<'_>>
+        ensures { option_map port_digits result ≡ port_of (uri_ref_buf_value self.now) }
+    {
+        match self.held.authority_parts() {
+            Some(parts) => parts.port,
+            None => None,
+        }
+    }
+
     /// The path, which may be empty.
     pub fn path(&self) -> Path<'_, C>
         ensures { path_text result ≡ (spell_components (uri_ref_buf_value self.now)).path }
@@ -164,6 +197,14 @@ impl<C: CharSet> UriRefBuf<C> {
         ensures value { uri_ref_value result ≡ with_query None (with_fragment None (uri_ref_buf_value self.now)) }
     {
         self.held.without_query_and_fragment()
+    }
+
+    /// The reference up to the end of the path's directory (RFC 3986 section 5.2.3).
+    pub fn base(&self) -> UriRef<'_, C>
+        ensures text { uri_ref_text result ≡ spell (base_of (uri_ref_buf_value self.now)) }
+        ensures value { uri_ref_value result ≡ base_of (uri_ref_buf_value self.now) }
+    {
+        UriRef::new_unchecked(self.held.base_text())
     }
 
     /// The text, with no copy.

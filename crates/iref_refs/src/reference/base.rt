@@ -21,8 +21,8 @@ fn after_directory(path: &str) -> &str
     }
 }
 
-// The text of these components up to what follows the directory.
-fn base_slice<'a, C: CharSet>(text: &'a str, slices: ReferenceSlices<'a>) -> &'a str
+/// The text of these components up to the end of the path's directory.
+pub fn base_slice<'a, C: CharSet>(text: &'a str, slices: ReferenceSlices<'a>) -> &'a str
     requires value { value_of slices ≡ read_reference text.now }
     requires components { AreComponents C.tests (texts_of slices) }
     ensures { result.now ≡ spell (base_of (read_reference text.now)) }
