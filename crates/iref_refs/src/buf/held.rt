@@ -6,14 +6,14 @@ ghost use Rattle.iref_grammar.specs.Rules.{Text, InUtf8};
 ghost use Rattle.iref_grammar.specs.Grammar.{hash_sign};
 ghost use Rattle.iref_grammar.specs.Texts.{before};
 ghost use Rattle.iref_grammar.specs.Reference.{hierarchy, read_reference, is_reference, spell};
-ghost use Rattle.iref_grammar.specs.ComponentTexts.{AreComponents, spell_components};
+ghost use Rattle.iref_grammar.specs.ComponentTexts.{AreComponents, read_components, spell_components};
 ghost use Rattle.iref_grammar.specs.Places.{places_of, text_at};
 ghost use Rattle.iref_parse.specs.Makers.{Parses};
 ghost use Rattle.iref_parse.specs.ReferenceSlices.{texts_of, value_of};
 ghost use Rattle.iref_authority.specs.Views.{parts_value};
 ghost use Rattle.iref_refs.specs.ReferenceParts.{base_of};
 ghost use Rattle.iref_refs.specs.ComponentSteps.{with_query, with_fragment};
-ghost use Rattle.iref_refs.specs.References.{uri_ref_text, uri_ref_value};
+ghost use Rattle.iref_refs.specs.References.{uri_ref_text, uri_ref_value, uri_ref_part_texts};
 ghost use Rattle.iref_refs.specs.PlaceTexts.{IsWithin, AreWithin, texts_at, front_end};
 
 use crate::reference::base::base_slice;
@@ -175,7 +175,7 @@ impl<R: HeldRule, C: CharSet> Held<R, C> {
     pub fn authority_parts(&self) -> Option<AuthorityParts<'_, C>>
         ensures { option_map parts_value result ≡ (read_reference self.now).authority }
     {
-        match UriRefParts::<C>::from_slices(self.slices()).authority {
+        match self.parts().authority {
             Some(authority) => Some(authority.parts()),
             None => None,
         }
@@ -209,6 +209,14 @@ impl<R: HeldRule, C: CharSet> Held<R, C> {
             places,
             rule: PhantomData,
         }
+    }
+
+    /// The components.
+    pub fn parts(&self) -> UriRefParts<'_, C>
+        ensures texts { uri_ref_part_texts result ≡ spell_components (read_reference self.now) }
+        ensures value { read_components (uri_ref_part_texts result) ≡ read_reference self.now }
+    {
+        UriRefParts::from_slices(self.slices())
     }
 
     /// The text, with no copy.

@@ -17,7 +17,7 @@ ghost use Rattle.iref_refs.specs.References.{uri_ref_text, uri_ref_value, uri_te
 
 use crate::buf::held::Held;
 use crate::buf::uri_ref_buf::UriRefBuf;
-use crate::reference::parts::{UriParts, UriRefParts};
+use crate::reference::parts::UriParts;
 use crate::reference::uri::{InvalidUri, Uri};
 use crate::reference::uri_ref::UriRef;
 use iref_authority::authority::Authority;
@@ -35,7 +35,7 @@ use std::fmt;
 
 /// A URI that owns its text, and knows where its components stand.
 #[derive(Drop)]
-#[derive_where(Debug)]
+#[derive_where(Debug, PartialEq, Eq, PartialOrd, Ord, Hash)]
 pub struct UriBuf<C: CharSet> {
     held: Held<FullReferenceRule, C>,
 }
@@ -112,7 +112,7 @@ impl<C: CharSet> UriBuf<C> {
         ensures value { read_components (uri_part_texts result) ≡ uri_buf_value self.now }
         ensures spelled { spell (uri_buf_value self.now) ≡ uri_buf_text self.now }
     {
-        let parts = UriRefParts::from_slices(self.held.slices());
+        let parts = self.held.parts();
         UriParts {
             scheme: self.scheme(),
             authority: parts.authority,
@@ -128,7 +128,7 @@ impl<C: CharSet> UriBuf<C> {
         ensures { Some (scheme_text result) ≡ (spell_components (uri_buf_value self.now)).scheme }
     {
         let _text = self.as_str();
-        let parts = UriRefParts::<C>::from_slices(self.held.slices());
+        let parts = self.held.parts();
         match parts.scheme {
             Some(scheme) => scheme,
             None => unreachable!(),

@@ -36,7 +36,7 @@ use std::fmt;
 
 /// A reference that owns its text, and knows where its components stand.
 #[derive(Drop)]
-#[derive_where(Debug)]
+#[derive_where(Debug, PartialEq, Eq, PartialOrd, Ord, Hash)]
 pub struct UriRefBuf<C: CharSet> {
     held: Held<ReferenceRule, C>,
 }
@@ -115,7 +115,7 @@ impl<C: CharSet> UriRefBuf<C> {
         ensures value { read_components (uri_ref_part_texts result) ≡ uri_ref_buf_value self.now }
         ensures spelled { spell (uri_ref_buf_value self.now) ≡ uri_ref_buf_text self.now }
     {
-        UriRefParts::from_slices(self.held.slices())
+        self.held.parts()
     }
 
     /// The scheme, if the reference has one.
