@@ -1,2 +1,3 @@
 pub mod Views
 pub mod NormalViews
+pub mod PathOrder

@@ -21,6 +21,7 @@ ghost use Rattle.iref_normal.specs.PathSteps as step;
 ghost use Rattle.iref_normal.proofs.OrderLemmas.{fed_where_tied};
 ghost use Rattle.iref_path.specs.Views.{path_text, path_buf_text, path_value, path_buf_value, segment_text, segments_left};
 ghost use Rattle.iref_path.specs.NormalViews.{normal_segments_left};
+ghost use Rattle.iref_path.specs.PathOrder.{ComparesByPathKey};
 
 use crate::normal::NormalizedSegments;
 use crate::path::{InvalidPath, Path};
@@ -313,3 +314,10 @@ impl<C: CharSet> Hash for PathBuf<C> {
         self.as_path().hash(state);
     }
 }
+
+/// Paths are equal where their flags and their normal segments, decoded, are the same; they are in the order of these, and
+/// a hasher is fed them (RFC 3986 section 6.2.2).
+pub fn paths_compare_by_key<C: CharSet>()
+    ensures view { ComparesByPathKey path_value ⟦<Path<'static, C> as PartialEq>⟧.eq ⟦<Path<'static, C> as Ord>⟧.cmp ⟦<Path<'static, C> as Hash>⟧.hash_input }
+    ensures owner { ComparesByPathKey path_buf_value ⟦<PathBuf<C> as PartialEq>⟧.eq ⟦<PathBuf<C> as Ord>⟧.cmp ⟦<PathBuf<C> as Hash>⟧.hash_input }
+{}
