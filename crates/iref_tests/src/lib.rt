@@ -3,6 +3,8 @@
 
 pub mod callers;
 #[cfg(test)]
+mod errors;
+#[cfg(test)]
 mod normal_forms;
 #[cfg(test)]
 mod owners;

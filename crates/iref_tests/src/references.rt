@@ -1,3 +1,4 @@
+use crate::recording::{agree, are_fed_alike};
 use iref_grammar::chars::{CharSet, IriChars, UriChars};
 use iref_refs::reference::uri::Uri;
 use iref_refs::reference::uri_ref::UriRef;
@@ -105,4 +106,79 @@ fn uris_are_references_with_a_scheme(rt: HostRuntime) {
         uri.without_query_and_fragment().as_str(),
     ));
     assert_eq!(rt; fronts, Some(("http://h/a?q", "http://h/a")));
+}
+
+// Pairs of references, and whether they are equal.
+const PAIRS: [(&str, &str, bool); 15] = [
+    ("HTTP://a/%7Eb/./c", "http://a/~b/c", true),
+    ("../x", "%2E%2E/x", true),
+    ("/./", "/", true),
+    ("a/b/c", "a/../a/./b/../b/c", true),
+    ("http:a/b/../../../", "http:../", true),
+    ("http://exa%6dple.org", "http://example.org", true),
+    ("http:../", "http:", false),
+    ("http://example.org", "http://example.org:80", false),
+    ("/foo/bar", "/foo/bar/", false),
+    ("/%2E", "/.", false),
+    ("http://a", "http://a/", false),
+    ("http://A", "http://a", false),
+    ("http://a:80", "http://a:080", false),
+    ("/%2F", "//", false),
+    ("?", "#", false),
+];
+
+// Whether `==`, the order and what a hasher is fed agree on the two texts, as references and as their parts.
+fn compare<C: CharSet>(a: &str, b: &str, equal: bool) -> bool {
+    let (Ok(a), Ok(b)) = (UriRef::<C>::new(a), UriRef::<C>::new(b)) else {
+        return false;
+    };
+    agree(&a, &b, equal) && agree(&a.parts(), &b.parts(), equal)
+}
+
+#[test]
+fn references_compare_by_their_keys(rt: HostRuntime) {
+    for (a, b, equal) in PAIRS {
+        assert!(rt; compare::<UriChars>(a, b, equal), "URI {a} {b}");
+        assert!(rt; compare::<IriChars>(a, b, equal), "IRI {a} {b}");
+    }
+    assert!(rt; compare::<IriChars>("http://a/é", "http://a/%C3%A9", true));
+}
+
+// Whether the two texts compare so as URIs, and each is fed to a hasher as its reference.
+fn compare_uris<C: CharSet>(a: &str, b: &str, equal: bool) -> bool {
+    let (Ok(a), Ok(b)) = (Uri::<C>::new(a), Uri::<C>::new(b)) else {
+        return false;
+    };
+    agree(&a, &b, equal)
+        && agree(&a.parts(), &b.parts(), equal)
+        && are_fed_alike(&a, &a.as_uri_ref())
+        && are_fed_alike(&a.parts(), &a.as_uri_ref().parts())
+}
+
+#[test]
+fn uris_compare_and_hash_as_their_references(rt: HostRuntime) {
+    for (a, b, equal) in PAIRS {
+        if Uri::<UriChars>::new(a).is_ok() {
+            assert!(rt; compare_uris::<UriChars>(a, b, equal), "URI {a} {b}");
+            assert!(rt; compare_uris::<IriChars>(a, b, equal), "IRI {a} {b}");
+        }
+    }
+    assert!(rt; compare_uris::<IriChars>("http://a/é", "http://a/%C3%A9", true));
+}
+
+#[test]
+fn references_are_ordered_component_by_component(rt: HostRuntime) {
+    // Absent before present, relative before absolute, the shorter list first.
+    let ordered = [
+        "", "?", "a", "a#", "a?", "a/b", "b", "/", "//", "//u@", "a:", "a:?#", "a://", "b:",
+    ];
+    for (i, a) in ordered.iter().enumerate() {
+        for (j, b) in ordered.iter().enumerate() {
+            let order = UriRef::<UriChars>::new(a)
+                .ok()
+                .zip(UriRef::<UriChars>::new(b).ok())
+                .map(|(a, b)| a.cmp(&b));
+            assert_eq!(rt; order, Some(i.cmp(&j)), "{a} {b}");
+        }
+    }
 }
