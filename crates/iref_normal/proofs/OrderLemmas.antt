@@ -1,5 +1,5 @@
 -- Lists that are compared from the back.
-use Rattle.std.proofs.Common.{◌≡◌, ℕ, zero, suc, ◌+◌, ◌-◌, ◌<◌, ◌≤◌, List, [], ◌∷◌, ◌++◌, length, take, drop, map, reverse, fold, flat_map, refl, sym, ◌∙◌, ap, arith, append_assoc, length-append, Bool, true, false, not, cond, ◌==◌, nat_lt, min, Ordering, Less, Equal, Greater, is_eq}
+use Rattle.std.proofs.Common.{◌≡◌, ℕ, suc, ◌+◌, ◌-◌, ◌<◌, ◌≤◌, List, [], ◌∷◌, ◌++◌, length, take, drop, map, reverse, fold, flat_map, refl, sym, ◌∙◌, ap, arith, append_assoc, length-append, true, false, cond, ◌==◌, nat_lt, min, Ordering, Less, Equal, Greater, is_eq}
 use Rattle.std.specs.Prelude.{Option, Some, None, MatchOption}
 use Rattle.std.specs.Borrow.{Bor}
 use Rattle.std.specs.Ordering.{bool_cmp, is_ne, nat_cmp, ordering_then}
@@ -84,10 +84,6 @@ decoded = map percent_decode
 
 read : (us : List Text) (s : Text) (xs : List Text) → xs ≡ us ++ s ∷ [] → decoded xs ≡ decoded us ++ percent_decode s ∷ []
 read us s xs e = ap decoded e ∙ map-append percent_decode us (s ∷ [])
-
--- before any difference is known
-pub order-starts : (xs ys : List Text) → slice_cmp text_cmp xs ys ≡ ordering_then (slice_cmp text_cmp xs ys) Equal
-order-starts xs ys = sym (then-equal (slice_cmp text_cmp xs ys))
 
 pub order-before : (xs ys us vs : List Text) (s t : Text) (order : Ordering) → length xs ≡ length ys → xs ≡ us ++ s ∷ [] → ys ≡ vs ++ t ∷ []
     → (length us ≡ length vs) × (ordering_then (slice_cmp text_cmp (decoded xs) (decoded ys)) order ≡ ordering_then (slice_cmp text_cmp (decoded us) (decoded vs)) (ordering_then (text_cmp (percent_decode s) (percent_decode t)) order))

@@ -1,16 +1,15 @@
 -- One step of reading a normal list from either end.
-use Rattle.std.proofs.Common.{◌≡◌, ℕ, zero, suc, ◌+◌, ◌-◌, ◌<◌, ◌≤◌, Bool, true, false, not, cond, ◌&&◌, ◌||◌, List, [], ◌∷◌, ◌++◌, length, refl, sym, ◌∙◌, ap, arith, append_assoc, add-one}
+use Rattle.std.proofs.Common.{◌≡◌, ℕ, zero, suc, ◌+◌, ◌-◌, ◌≤◌, Bool, true, false, not, cond, ◌&&◌, ◌||◌, List, [], ◌∷◌, ◌++◌, length, refl, sym, ◌∙◌, ap, arith}
 use Rattle.std.specs.Prelude.{◌==◌, ◌≢◌, replicate, codes}
-use Rattle.std.specs.List.{list_all}
 use Rattle.std.proofs.lemmas.Bool.Decides.{nat_tests}
-use Rattle.std.proofs.lemmas.List.{append-nil, replicate_more}
+use Rattle.std.proofs.lemmas.List.{append-nil}
 use Rattle.std.proofs.lemmas.List.Folds.{list_all-append}
 use mathlib.Core.Bool.{true≢false}
 use Rattle.iref_grammar.specs.Rules.{Text}
 use Rattle.iref_grammar.proofs.TextLemmas.{first_of_both, second_of_both}
 use Rattle.iref_grammar.specs.Texts.{is_empty}
 use Rattle.iref_grammar.specs.PathValue.{PathValue, is_one_empty, read_path}
-use Rattle.iref_normal.specs.NormalList.{is_dot, is_dot_dot, is_name, counted, ends_in_dots, without_lone_empty, normal_segments}
+use Rattle.iref_normal.specs.NormalList.{is_dot_dot, is_name, counted, ends_in_dots, without_lone_empty, normal_segments}
 use Rattle.iref_normal.proofs.ItemLemmas.{name_no_parent, normal_segments-is}
 use Rattle.std.proofs.lemmas.Grind.{common_steps}
 use Rattle.iref_normal.specs.NormalReading.{open_before, staying_before, leading_parents, closing}
@@ -22,48 +21,9 @@ use Rattle.iref_normal.proofs.StayingLemmas.{open_before-append, staying_before-
 abbrev pub parts_left : ℕ → List Text → Bool → List Text
 parts_left parents names closes = replicate parents (codes "..") ++ (names ++ closing closes)
 
-pub after_parent : (n : ℕ) (names : List Text) (closes : Bool) → 0 < n → parts_left n names closes ≡ codes ".." ∷ parts_left (n - 1) names closes
-after_parent zero names closes h = absurd (omega (arith, h))
-after_parent (suc n) names closes h = let less : n ≡ suc n - 1 = omega arith in λ i. codes ".." ∷ parts_left (less i) names closes
-
-pub after_name : (n m : ℕ) (names rest : List Text) (s : Text) (closes same : Bool) → n ≡ 0 → m ≡ n → same ≡ closes → names ≡ s ∷ rest → parts_left n names closes ≡ s ∷ parts_left m rest same
-after_name n m names rest s closes same none e k h =
-    (λ i. parts_left (none i) (h i) (sym k i)) ∙ (λ i. s ∷ parts_left (sym (e ∙ none) i) rest same)
-
-pub after_closing : (n m : ℕ) (names rest : List Text) (closes : Bool) → n ≡ 0 → m ≡ n → closes ≡ true → names ≡ [] → rest ≡ [] → parts_left n names closes ≡ [] ∷ parts_left m rest false
-after_closing n m names rest closes none e k h l = (λ i. parts_left (none i) (h i) (k i)) ∙ (λ i. [] ∷ parts_left (sym (e ∙ none) i) (sym l i) false)
-
-pub nothing_after : (n : ℕ) (names : List Text) (closes : Bool) → n ≡ 0 → names ≡ [] → closes ≡ false → parts_left n names closes ≡ []
-nothing_after n names closes none h k = λ i. parts_left (none i) (h i) (k i)
-
-pub before_closing : (n : ℕ) (names : List Text) (closes : Bool) → closes ≡ true → parts_left n names closes ≡ parts_left n names false ++ [] ∷ []
-before_closing n names closes k =
-    (λ i. parts_left n names (k i)) ∙ (λ i. replicate n (codes "..") ++ (sym (append-nil names) i ++ [] ∷ [])) ∙ sym (append_assoc (replicate n (codes "..")) (names ++ []) ([] ∷ []))
-
-pub before_name : (n m : ℕ) (names rest : List Text) (s : Text) (closes same : Bool) → m ≡ n → closes ≡ false → same ≡ closes → names ≡ rest ++ s ∷ [] → parts_left n names closes ≡ parts_left m rest same ++ s ∷ []
-before_name n m names rest s closes same e k l h =
-    (λ i. parts_left (sym e i) (h i) (k i)) ∙ (λ i. replicate m (codes "..") ++ append-nil (rest ++ s ∷ []) i)
-    ∙ sym (append_assoc (replicate m (codes "..")) rest (s ∷ [])) ∙ (λ i. (replicate m (codes "..") ++ sym (append-nil rest) i) ++ s ∷ [])
-    ∙ (λ i. parts_left m rest (sym (l ∙ k) i) ++ s ∷ [])
-
-pub before_parent : (n m : ℕ) (names rest : List Text) (closes same : Bool) → 0 < m → m ≡ n → closes ≡ false → same ≡ closes → names ≡ [] → rest ≡ [] → parts_left n names closes ≡ parts_left (m - 1) rest same ++ codes ".." ∷ []
-before_parent n m names rest closes same h e k l none gone =
-    let more : m ≡ m - 1 + 1 = omega (arith, h) in
-    (λ i. parts_left (sym e i) (none i) (k i)) ∙ append-nil (replicate m (codes "..")) ∙ (λ i. replicate (more i) (codes "..")) ∙ sym (replicate_more (m - 1) (codes ".."))
-    ∙ (λ i. sym (append-nil (replicate (m - 1) (codes ".."))) i ++ codes ".." ∷ []) ∙ (λ i. parts_left (m - 1) (sym gone i) (sym (l ∙ k) i) ++ codes ".." ∷ [])
-
 -- ---- settled
 
 module _ (b : Bool) (n : ℕ) (front back : List Text) (s : Text) where
-  pub settled_rest : (not b || (n == 0) && are_no_parents (s ∷ back)) ≡ true → (not b || (n == 0) && are_no_parents back) ≡ true
-  settled_rest h = by b (n == 0) (not (is_dot_dot s)) h
-    where
-      by : (b z p : Bool) → (not b || z && (p && are_no_parents back)) ≡ true → (not b || z && are_no_parents back) ≡ true
-      by false z p h = refl
-      by true true true h = h
-      by true true false h = absurd (true≢false (sym h))
-      by true false p h = absurd (true≢false (sym h))
-
   pub settled_front : (not b || (n == 0) && are_no_parents (front ++ s ∷ [])) ≡ true → (not b || (n == 0) && are_no_parents front) ≡ true
   settled_front h = by b (n == 0) h
     where
@@ -117,69 +77,10 @@ open-settled true n segments h e =
 
 -- ---- from the front
 
-module _ (n : ℕ) (s : Text) (rest : List Text) where
-  pub name_stays : is_name s ≡ true → open_before rest n ≡ 0 → staying_before (s ∷ rest) n ≡ s ∷ staying_before rest n
-  name_stays h none =
-      let zero_open : (open_before rest n == 0) ≡ true = grind (arith, nat_tests) in
-      λ i. cond (h i && zero_open i) (s ∷ staying_before rest n) (staying_before rest n)
-
-  pub name_goes : open_before rest n ≢ 0 → staying_before (s ∷ rest) n ≡ staying_before rest n
-  name_goes some = by (is_name s)
-    where
-      by : (b : Bool) → cond (b && (open_before rest n == 0)) (s ∷ staying_before rest n) (staying_before rest n) ≡ staying_before rest n
-      by false = refl
-      by true = let z : (open_before rest n == 0) ≡ false = grind (arith, nat_tests) in λ i. cond (z i) (s ∷ staying_before rest n) (staying_before rest n)
-
-  pub dots_go : is_name s ≡ false → staying_before (s ∷ rest) n ≡ staying_before rest n
-  dots_go h = λ i. cond (h i && (open_before rest n == 0)) (s ∷ staying_before rest n) (staying_before rest n)
-
 -- What a scan of the segments after a name has told: so many names are open, of these `..` and names in all.
 pub record IsScanned (opened : ℕ) (names : List Text) (n count : ℕ) (rest : List Text) : Type 0 where
   pub open_is : opened ≡ open_before rest n - count
   pub names_are : count ≤ open_before rest n → names ≡ staying_before rest n
-
-pub scan_starts : (n : ℕ) (rest : List Text) → IsScanned (open_before rest n) (staying_before rest n) n 0 rest
-scan_starts n rest = record { open_is = omega arith; names_are = λ h. refl }
-
-module _ (opened : ℕ) (names : List Text) (n count : ℕ) (s : Text) (rest : List Text) (so_far : IsScanned opened names n count (s ∷ rest)) where
-  pub scan_name : is_name s ≡ true → IsScanned opened names n (count + 1) rest
-  scan_name h =
-      let less : open_before (s ∷ rest) n ≡ open_before rest n - 1 = λ i. counted (name_no_parent s h i) (h i) (open_before rest n) in
-      let before = so_far.open_is in
-      record {
-        open_is = omega (arith, before, less);
-        names_are = λ k. so_far.names_are (omega (arith, k, less)) ∙ name_goes n s rest (omega (arith, k));
-      }
-
-  pub scan_parent : is_name s ≡ false → is_dot_dot s ≡ true → count ≢ 0 → IsScanned opened names n (count - 1) rest
-  scan_parent h e some =
-      let more : open_before (s ∷ rest) n ≡ open_before rest n + 1 = λ i. counted (e i) (is_name s) (open_before rest n) in
-      let before = so_far.open_is in
-      record {
-        open_is = omega (arith, before, more, some);
-        names_are = λ k. so_far.names_are (omega (arith, k, more, some)) ∙ dots_go n s rest h;
-      }
-
-  pub scan_dot : is_name s ≡ false → is_dot_dot s ≡ false → IsScanned opened names n count rest
-  scan_dot h e =
-      let same : open_before (s ∷ rest) n ≡ open_before rest n = λ i. counted (e i) (h i) (open_before rest n) in
-      let before = so_far.open_is in
-      record {
-        open_is = omega (arith, before, same);
-        names_are = λ k. so_far.names_are (omega (arith, k, same)) ∙ dots_go n s rest h;
-      }
-
-  pub scan_takes : is_name s ≡ false → is_dot_dot s ≡ true → count ≡ 0 → (opened ≢ 0) × (names ≡ staying_before rest n)
-  scan_takes h e none =
-      let more : open_before (s ∷ rest) n ≡ open_before rest n + 1 = λ i. counted (e i) (is_name s) (open_before rest n) in
-      let before = so_far.open_is in
-      (omega (arith, before, more, none), so_far.names_are (omega (arith, none)) ∙ dots_go n s rest h)
-
-pub scan_ends_taken : (opened : ℕ) (names : List Text) (n count : ℕ) → IsScanned opened names n count [] → count < n → (opened ≢ 0) × (names ≡ [])
-scan_ends_taken opened names n count so_far h = let before = so_far.open_is in (omega (arith, before, h), so_far.names_are (omega (arith, h)))
-
-pub scan_ends : (opened : ℕ) (names : List Text) (n count : ℕ) → IsScanned opened names n count [] → n ≤ count → opened ≡ 0
-scan_ends opened names n count so_far h = let before = so_far.open_is in omega (arith, before, h)
 
 -- ---- from the back
 
@@ -217,10 +118,6 @@ module _ (n : ℕ) (front : List Text) (s : Text) where
   }
 
 -- ---- the whole list
-
-pub first_or-push : (d s : Text) (front : List Text) → first_or d (front ++ s ∷ []) ≡ first_or s front
-first_or-push d s [] = refl
-first_or-push d s (t ∷ front) = refl
 
 -- when all are one empty segment
 pub one_empty : (parents : ℕ) (names : List Text) (closes : Bool) → ((parents == 0) && (is_empty (first_or [] names) && (length names + cond closes 1 0 == 1))) ≡ is_one_empty (parts_left parents names closes)

@@ -1,26 +1,26 @@
 -- The text of a normal path: what it is made of, and how long it is.
-use Rattle.std.proofs.Common.{◌≡◌, ℕ, zero, suc, ◌+◌, ◌-◌, ◌<◌, ◌≤◌, Bool, true, false, not, cond, ◌&&◌, ◌||◌, List, [], ◌∷◌, ◌++◌, length, take, drop, flat_map, refl, sym, ◌∙◌, ap, arith, append_assoc, length-append}
+use Rattle.std.proofs.Common.{◌≡◌, ℕ, zero, suc, ◌+◌, ◌-◌, ◌≤◌, Bool, true, false, not, cond, ◌&&◌, List, [], ◌∷◌, ◌++◌, length, take, drop, refl, sym, ◌∙◌, ap, arith, append_assoc, length-append}
 use Rattle.std.specs.Prelude.{◌==◌, nat_lt, replicate, codes, IsUtf8}
 use Rattle.std.specs.Char.{char_set_contains}
 use Rattle.std.specs.List.{join_with_byte, list_all}
 use Rattle.std.proofs.lemmas.Bool.Decides.{nat_tests}
-use Rattle.std.proofs.lemmas.List.{append-nil, take_at}
-use Rattle.std.proofs.lemmas.Grind.{common_steps, flat_map-append}
+use Rattle.std.proofs.lemmas.List.{take_at}
+use Rattle.std.proofs.lemmas.Grind.{flat_map-append}
 use Rattle.std.proofs.lemmas.Slice.Eq.{bytes_eq-Decides}
 use Rattle.std.proofs.lemmas.Str.{IsUtf8-from_is_utf8}
 use mathlib.Core.Bool.{true≢false}
 use Rattle.iref_grammar.specs.Characters.{CharTests, AreAboveAscii}
 use Rattle.iref_grammar.specs.Rules.{Text}
 use Rattle.iref_grammar.specs.Grammar.{slash, colon}
-use Rattle.iref_grammar.specs.Texts.{is_empty, lacks, pieces_at}
+use Rattle.iref_grammar.specs.Texts.{lacks}
 use Rattle.iref_grammar.specs.Tests.{is_path, is_segment}
 use Rattle.iref_grammar.specs.Contexts.{alone, fits, follows_authority, is_no_authority, is_no_scheme, reads_as_path}
 use Rattle.iref_grammar.specs.PathValue.{PathValue, is_one_empty, read_path, segments_of, shows_its_list, spell_path}
-use Rattle.iref_grammar.proofs.TextLemmas.{both, first_of_both, second_of_both, join-pieces_at}
+use Rattle.iref_grammar.proofs.TextLemmas.{first_of_both, second_of_both, join-pieces_at}
 use Rattle.iref_grammar.proofs.PathLemmas.{read_path-reads, read-spelled}
 use Rattle.iref_grammar.proofs.PathTestLemmas.{is_path-segments}
 use Rattle.iref_normal.specs.Guard.{guarded, with_dot}
-use Rattle.iref_normal.specs.NormalList.{is_dot, is_dot_dot, is_name, counted, ends_in_dots, normal, normal_segments, without_lone_empty}
+use Rattle.iref_normal.specs.NormalList.{is_dot_dot, is_name, counted, ends_in_dots, normal, normal_segments, without_lone_empty}
 use Rattle.iref_normal.specs.NormalReading.{open_before, staying_before, leading_parents, closing, items}
 use Rattle.iref_normal.specs.PathSteps.{normalized}
 use Rattle.iref_normal.specs.Remaining.{first_or}

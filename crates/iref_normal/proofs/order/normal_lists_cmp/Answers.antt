@@ -1,5 +1,5 @@
-use Rattle.std.proofs.Common.{ap, sym, ◌∙◌, map, take, length, ◌-◌, ◌≡◌}
-use Rattle.std.specs.Ordering.{ordering_then, nat_cmp}
+use Rattle.std.proofs.Common.{ap, ◌∙◌, map, take, length, ◌-◌}
+use Rattle.std.specs.Ordering.{ordering_then}
 use Rattle.std.specs.Cmp.Lexicographic.{slice_cmp}
 use Rattle.percent_encoding.specs.Percent.{percent_decode}
 use Rattle.iref_normal.specs.PathKey.{text_cmp}

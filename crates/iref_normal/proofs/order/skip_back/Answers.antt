@@ -1,4 +1,4 @@
-use Rattle.std.proofs.Common.{arith, sym, ap, ◌∙◌, take, ◌-◌, ◌+◌, ◌≡◌, length}
+use Rattle.std.proofs.Common.{arith, ap, ◌∙◌, take, ◌-◌, ◌+◌, ◌≡◌, length}
 use Rattle.iref_normal.specs.Remaining.{normal_left}
 use Rattle.iref_normal.proofs.OrderLemmas.{one_less}
 use Rattle.iref_normal.proofs.order.skip_back.Goals as goal

@@ -1,4 +1,4 @@
-use Rattle.std.proofs.Common.{◌≡◌, ◌+◌, ◌-◌, ◌++◌, drop, length, arith, sym, ap, ◌∙◌}
+use Rattle.std.proofs.Common.{◌≡◌, ◌++◌, drop, arith, sym, ap, ◌∙◌}
 use Rattle.iref_normal.specs.Remaining.{normal_left}
 use Rattle.iref_normal.proofs.SpellLemmas.{length-join}
 use Rattle.iref_normal.proofs.spell.fill.Goals as goal

@@ -1,4 +1,4 @@
-use Rattle.std.proofs.Common.{ap, sym, ◌∙◌}
+use Rattle.std.proofs.Common.{ap, ◌∙◌}
 use Rattle.std.specs.Prelude.{is_some}
 use Rattle.iref_grammar.specs.Grammar.{colon}
 use Rattle.iref_normal.proofs.PathTextLemmas.{is_some-after, same}

@@ -1,4 +1,4 @@
-use Rattle.std.proofs.Common.{◌≡◌, ◌+◌, ◌++◌, ◌∷◌, [], drop, length, arith, sym, ap, ◌∙◌}
+use Rattle.std.proofs.Common.{◌++◌, length, arith, sym, ap, ◌∙◌}
 use Rattle.std.proofs.lemmas.List.{append-nil, drop_all}
 use Rattle.std.specs.List.{join_with_byte}
 use Rattle.iref_grammar.specs.Grammar.{slash}

@@ -1,4 +1,4 @@
-use Rattle.std.proofs.Common.{◌≡◌, ◌+◌, arith, length, refl, sym, ap, ◌∙◌, cond}
+use Rattle.std.proofs.Common.{◌≡◌, ◌+◌, length, sym, ap, ◌∙◌, cond}
 use Rattle.iref_normal.specs.Pieces.{pieces_if_some}
 use Rattle.iref_normal.specs.NormalReading.{staying_before}
 use Rattle.iref_normal.specs.Remaining.{normal_left}

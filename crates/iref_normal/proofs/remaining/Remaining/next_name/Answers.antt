@@ -1,1 +1,0 @@
-use Rattle.iref_normal.proofs.remaining.Remaining.next_name.Goals as goal
