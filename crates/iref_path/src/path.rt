@@ -260,7 +260,6 @@ impl<C: CharSet> PartialEq for Path<'_, C> {
 
     ghost laws = { Prim.search (path_keys_total, comparing, rules) };
 
-    #[tactic(auto, using(iref_normal::proofs::PathKeyLemmas::tie_from_decides))]
     fn eq(&self, other: &Self) -> bool {
         new_steps_have_room(*self, *other);
         path_eq_counted(*self, *other, &mut Steps::new())

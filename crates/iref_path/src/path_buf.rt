@@ -165,6 +165,15 @@ impl<C: CharSet> PathBuf<C> {
         self.as_path().normalized_segments()
     }
 
+    /// The path of the normal segments, with a guard where one is needed (RFC 3986 section 5.2.4). It is equal to this path.
+    pub fn normalized(&self, alloc: Global) -> Result<PathBuf<C>, Memory>
+        ensures text { IfOk result (λ path. path_buf_text path ≡ spell_path (step.normalized alone (path_buf_value self.now))) }
+        ensures value { IfOk result (λ path. path_buf_value path ≡ step.normalized alone (path_buf_value self.now)) }
+        ensures equal { IfOk result (λ path. path_key (path_buf_value path) ≡ path_key (path_buf_value self.now)) }
+    {
+        self.as_path().normalized(alloc)
+    }
+
     /// How many segments the path has.
     pub fn segment_count(&self) -> usize
         ensures { result ≡ function.segment_count (path_buf_value self.now) }
