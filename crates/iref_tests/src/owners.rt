@@ -130,3 +130,23 @@ fn copies_are_printed(rt: HostRuntime) -> Result<(), Fail> {
     assert_eq!(rt; uri.into_bytes().as_slice(), b"urn:x".as_slice());
     Ok(())
 }
+
+#[test]
+fn parts_of_authorities_and_bases(rt: HostRuntime) -> Result<(), Fail> {
+    let text = "//user:1@host.org:80/a//b?#";
+    let reference = UriRefBuf::<UriChars>::new(String::from_str(rt.alloc(), text)?)?;
+    assert_eq!(rt;
+        reference.user_info().map(|user| user.as_str()),
+        Some("user:1")
+    );
+    assert_eq!(rt;
+        reference.host().map(|host| host.as_str()),
+        Some("host.org")
+    );
+    assert_eq!(rt; reference.port().map(|port| port.as_str()), Some("80"));
+    assert_eq!(rt; reference.base().as_str(), "//user:1@host.org:80/a//");
+    let uri = UriBuf::<IriChars>::new(String::from_str(rt.alloc(), "s:a/b#f")?)?;
+    assert!(rt; uri.host().is_none());
+    assert_eq!(rt; uri.base().as_str(), "s:a/");
+    Ok(())
+}
