@@ -1,6 +1,8 @@
 //! Tests of what no clause says, by the calls of the crates below: outside rows, printed texts, refused growths.
 #![tactic(auto)]
 
+#[cfg(test)]
+mod authorities;
 pub mod callers;
 #[cfg(test)]
 mod errors;
