@@ -1,4 +1,5 @@
 //! Tests of the owners of references and of URIs.
+use crate::recording::agree;
 use iref_grammar::chars::{CharSet, IriChars, UriChars};
 use iref_grammar::places::Offsets;
 use iref_refs::buf::uri_buf::UriBuf;
@@ -128,6 +129,26 @@ fn copies_are_printed(rt: HostRuntime) -> Result<(), Fail> {
     let shown = format!(in rt.alloc(); "{reference} {uri}")?;
     assert_eq!(rt; shown.as_str(), "//é/?# urn:x");
     assert_eq!(rt; uri.into_bytes().as_slice(), b"urn:x".as_slice());
+    Ok(())
+}
+
+#[test]
+fn owners_compare_as_their_views(rt: HostRuntime) -> Result<(), Fail> {
+    for (a, b, equal) in [
+        ("HTTP://a/%7Eb/./c", "http://a/~b/c", true),
+        ("/./", "/", true),
+        ("../x", "%2E%2E/x", true),
+        ("http:../", "http:", false),
+        ("http://a", "http://a/", false),
+        ("http://A", "http://a", false),
+    ] {
+        let first = UriRefBuf::<UriChars>::new(String::from_str(rt.alloc(), a)?)?;
+        let other = UriRefBuf::new(String::from_str(rt.alloc(), b)?)?;
+        assert!(rt; agree(&first, &other, equal), "{a} {b}");
+    }
+    let iri = UriBuf::<IriChars>::new(String::from_str(rt.alloc(), "http://a/é")?)?;
+    let same = UriBuf::new(String::from_str(rt.alloc(), "http://a/%C3%A9")?)?;
+    assert!(rt; agree(&iri, &same, true));
     Ok(())
 }
 
