@@ -1,12 +1,19 @@
 -- Answers to lines.
-use Rattle.std.proofs.Common.{◌≡◌, Bool, true, false, refl, sym, ◌∙◌, List, [], ◌∷◌, ◌++◌, Option, Some, None, ap, append_assoc, codes}
+use Rattle.std.proofs.Common.{◌≡◌, Bool, true, false, refl, sym, ◌∙◌, List, [], ◌∷◌, ◌++◌, ◌&&◌, Option, Some, None, ap, append_assoc, codes}
 use Rattle.std.specs.Bool.{Decides}
 use Rattle.std.specs.List.{join_with_byte}
 use Rattle.iref_grammar.specs.Rules.{Text}
 use Rattle.iref_grammar.specs.Characters.{uri_chars}
+use Rattle.iref_grammar.specs.Tests.{is_path}
+use Rattle.iref_grammar.specs.PathValue.{spell_path, read_path}
+use Rattle.iref_grammar.specs.Contexts.{alone}
 use Rattle.iref_grammar.specs.Reference.{is_reference, read_reference}
-use Rattle.iref_grammar.specs.ComponentTexts.{ComponentTexts, spell_components}
-use Rattle.iref.specs.Lines.{Request, answer_if_valid, read_line, answer, BadCommand, InvalidText, Answered, Parts, answer_to, is_valid, answer_text, part_fields, tab, program_verbs}
+use Rattle.iref_grammar.specs.ComponentTexts.{ComponentTexts, spell_components, read_components}
+use Rattle.iref_normal.specs.Guard.{guarded}
+use Rattle.iref_normal.specs.NormalList.{normal}
+use Rattle.iref_refs.specs.Key.{are_alike}
+use Rattle.iref_refs.proofs.HeldLemmas.{read_components-spelled}
+use Rattle.iref.specs.Lines.{Request, answer_if_valid, read_line, answer, BadCommand, InvalidText, Answered, Parts, Normal, Equal, answer_to, is_valid, answer_text, part_fields, yes_or_no, tab, program_verbs}
 
 pub answer_of : (line : Text) (request : Request) → read_line program_verbs line ≡ Some request → answer program_verbs line ≡ answer_if_valid request
 unfolding answer
@@ -16,6 +23,13 @@ pub no_answer : (line : Text) → read_line program_verbs line ≡ None → answ
 unfolding answer
 no_answer line e = ap (λ (r : Option Request). elim r [ None ↦ BadCommand | Some request ↦ answer_if_valid request ]) e
 
+-- the answer to a request whose texts are in their grammars, and to another
+valid : (request : Request) → is_valid request ≡ true → answer_if_valid request ≡ answer_to request
+valid request h = ap (λ (b : Bool). elim b [ true ↦ answer_to request | false ↦ InvalidText ]) h
+
+invalid : (request : Request) → is_valid request ≡ false → answer_if_valid request ≡ InvalidText
+invalid request h = ap (λ (b : Bool). elim b [ true ↦ answer_to request | false ↦ InvalidText ]) h
+
 regroup : (out k a b c d e : Text) → (((((out ++ k) ++ a) ++ b) ++ c) ++ d) ++ e ≡ out ++ (k ++ (a ++ (b ++ (c ++ (d ++ e)))))
 regroup out k a b c d e = simp append_assoc
 
@@ -24,17 +38,40 @@ pub five_fields : (out m0 m1 m2 m3 m4 m5 a b c d e : Text) → m0 ≡ out ++ cod
 five_fields out m0 m1 m2 m3 m4 m5 a b c d e e0 e1 e2 e3 e4 e5 =
     rw (e5, e4, e3, e2, e1, e0) (regroup out (codes "ok") (tab ∷ a) (tab ∷ b) (tab ∷ c) (tab ∷ d) (tab ∷ e))
 
-valid_parts : (text : Text) → is_reference uri_chars text ≡ true → answer_if_valid (Parts text) ≡ Answered (part_fields (spell_components (read_reference text)))
+pub parts_answer : (text : Text) (t : ComponentTexts) → is_reference uri_chars text ≡ true → t ≡ spell_components (read_reference text) → answer_if_valid (Parts text) ≡ Answered (part_fields t)
 unfolding is_valid answer_to
-valid_parts text h = ap (λ (b : Bool). elim b [ true ↦ answer_to (Parts text) | false ↦ InvalidText ]) h
-
-pub parts_answer : (text same : Text) (t : ComponentTexts) → is_reference uri_chars text ≡ true → same ≡ text → t ≡ spell_components (read_reference same) → answer_if_valid (Parts text) ≡ Answered (part_fields t)
-parts_answer text same t h e k =
-    valid_parts text h ∙ ap (λ (s : Text). Answered (part_fields (spell_components (read_reference s)))) (sym e) ∙ ap (λ (u : ComponentTexts). Answered (part_fields u)) (sym k)
+parts_answer text t h k = valid (Parts text) h ∙ ap (λ (u : ComponentTexts). Answered (part_fields u)) (sym k)
 
 pub no_parts_answer : (text : Text) → is_reference uri_chars text ≡ false → answer_if_valid (Parts text) ≡ InvalidText
 unfolding is_valid
-no_parts_answer text h = ap (λ (b : Bool). elim b [ true ↦ answer_to (Parts text) | false ↦ InvalidText ]) h
+no_parts_answer text h = invalid (Parts text) h
+
+pub normal_answer : (text same written : Text) → is_path uri_chars text ≡ true → same ≡ text → written ≡ spell_path (guarded alone (normal (read_path same))) → answer_if_valid (Normal text) ≡ Answered written
+unfolding is_valid answer_to
+normal_answer text same written h e w = valid (Normal text) h ∙ ap Answered (ap (λ (s : Text). spell_path (guarded alone (normal (read_path s)))) (sym e) ∙ sym w)
+
+pub no_normal_answer : (text : Text) → is_path uri_chars text ≡ false → answer_if_valid (Normal text) ≡ InvalidText
+unfolding is_valid
+no_normal_answer text h = invalid (Normal text) h
+
+pub equal_answer : (left right : Text) (t u : ComponentTexts) (alike : Bool) → is_reference uri_chars left ≡ true → is_reference uri_chars right ≡ true → t ≡ spell_components (read_reference left) → u ≡ spell_components (read_reference right) → alike ≡ are_alike (read_components t) (read_components u) → answer_if_valid (Equal left right) ≡ Answered (yes_or_no alike)
+unfolding is_valid answer_to
+equal_answer left right t u alike h k e f a =
+    let same_left = ap read_components e ∙ read_components-spelled left in
+    let same_right = ap read_components f ∙ read_components-spelled right in
+    valid (Equal left right) (rw (h, k) refl) ∙ ap (λ (b : Bool). Answered (yes_or_no b)) (sym (a ∙ (λ i. are_alike (same_left i) (same_right i))))
+
+pub no_left_answer : (left right : Text) → is_reference uri_chars left ≡ false → answer_if_valid (Equal left right) ≡ InvalidText
+unfolding is_valid
+no_left_answer left right h = invalid (Equal left right) (rw h refl)
+
+and_false : (a b : Bool) → b ≡ false → (a && b) ≡ false
+and_false true b h = h
+and_false false b h = refl
+
+pub no_right_answer : (left right : Text) → is_reference uri_chars right ≡ false → answer_if_valid (Equal left right) ≡ InvalidText
+unfolding is_valid
+no_right_answer left right h = invalid (Equal left right) (and_false (is_reference uri_chars left) _ h)
 
 pub not_decided : (b : Bool) (P : Type 0) → Decides b P → ¬ P → b ≡ false
 not_decided true P d no_p = absurd (no_p (d.0 refl))

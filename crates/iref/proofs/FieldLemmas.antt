@@ -3,7 +3,7 @@ use Rattle.std.proofs.Common.{◌≡◌, ◌==◌, ◌<◌, ◌+◌, Bool, true,
 use Rattle.std.proofs.lemmas.List.Splits.{slice_split_at, slice_split_none, length-slice_split}
 use Rattle.iref_grammar.specs.Rules.{Text}
 use Rattle.iref_grammar.specs.Texts.{pieces_at, is_empty}
-use Rattle.iref.specs.Lines.{Request, Parts, tab, read_line, read_fields, one_text, program_verbs}
+use Rattle.iref.specs.Lines.{Request, Parts, Normal, Equal, tab, read_line, one_text, two_texts, program_verbs}
 use Rattle.iref.specs.Gathering.{Lacks}
 use Rattle.iref.specs.Fields.{fields_of}
 
@@ -23,10 +23,19 @@ more_fields request text field rest e =
     ap (one_text request) e ∙
     ap (λ (b : Bool). if b then Some (request field) else None) (not_empty (pieces_at tab rest) (omega (arith, length-slice_split (λ c. c == tab) rest)))
 
+-- the request of each verb, which the verbs before it are not
 pub parts_read : (line verb : Text) (fields : Option Text) → pieces_at tab line ≡ verb ∷ fields_of fields → true ≡ bytes_eq (codes "parts") verb → read_line program_verbs line ≡ one_text Parts (fields_of fields)
 unfolding read_line
 parts_read line verb fields e h = rw (e, ← h) refl
 
-pub nothing_read : (line verb : Text) (fields : Option Text) → pieces_at tab line ≡ verb ∷ fields_of fields → false ≡ bytes_eq (codes "parts") verb → read_line program_verbs line ≡ None
+pub normal_read : (line verb : Text) (fields : Option Text) → pieces_at tab line ≡ verb ∷ fields_of fields → false ≡ bytes_eq (codes "parts") verb → true ≡ bytes_eq (codes "normal") verb → read_line program_verbs line ≡ one_text Normal (fields_of fields)
 unfolding read_line
-nothing_read line verb fields e h = rw (e, ← h) refl
+normal_read line verb fields e parts h = rw (e, ← parts, ← h) refl
+
+pub equal_read : (line verb : Text) (fields : Option Text) → pieces_at tab line ≡ verb ∷ fields_of fields → false ≡ bytes_eq (codes "parts") verb → false ≡ bytes_eq (codes "normal") verb → true ≡ bytes_eq (codes "equal") verb → read_line program_verbs line ≡ two_texts Equal (fields_of fields)
+unfolding read_line
+equal_read line verb fields e parts normal h = rw (e, ← parts, ← normal, ← h) refl
+
+pub nothing_read : (line verb : Text) (fields : Option Text) → pieces_at tab line ≡ verb ∷ fields_of fields → false ≡ bytes_eq (codes "parts") verb → false ≡ bytes_eq (codes "normal") verb → false ≡ bytes_eq (codes "equal") verb → read_line program_verbs line ≡ None
+unfolding read_line
+nothing_read line verb fields e parts normal equal = rw (e, ← parts, ← normal, ← equal) refl

@@ -86,7 +86,7 @@ all_verbs =
 
 -- the verbs that the program has so far
 abbrev pub program_verbs : Verbs
-program_verbs = (codes "parts", one_text Parts) ∷ []
+program_verbs = (codes "parts", one_text Parts) ∷ (codes "normal", one_text Normal) ∷ (codes "equal", two_texts Equal) ∷ []
 
 abbrev pub read_fields : Verbs → List Text → Option Request
 read_fields verbs [] = None
@@ -137,12 +137,15 @@ abbrev pub edits_answer : EditsOutcome → LineAnswer
 edits_answer (Ok r) = Answered (spell r)
 edits_answer (Err refused) = RefusedEdit
 
+abbrev pub yes_or_no : Bool → Text
+yes_or_no alike = if alike then codes "yes" else codes "no"
+
 unfoldable pub answer_to : Request → LineAnswer
 answer_to (Parts r) = Answered (part_fields (spell_components (read_reference r)))
 answer_to (Resolve r base) = Answered (spell (resolved (read_reference base) (read_reference r)))
 answer_to (Relative target base) = Answered (spell (relative_to (read_reference target) (read_reference base)))
 answer_to (Normal p) = Answered (spell_path (guarded alone (normal (read_path p))))
-answer_to (Equal r s) = Answered (if are_alike (read_reference r) (read_reference s) then codes "yes" else codes "no")
+answer_to (Equal r s) = Answered (yes_or_no (are_alike (read_reference r) (read_reference s)))
 answer_to (Edit r edits) = edits_answer (edited_all edits (read_reference r))
 
 -- first the command is looked at, then the texts, then the edits

@@ -2,7 +2,7 @@
 ghost use Rattle.std.specs.Prelude.{◌≡◌, ◌++◌, ◌∷◌, [], Some, option_map, OnOk, OnErr};
 ghost use Rattle.std.specs.Option.{option_copied};
 ghost use Rattle.iref_grammar.specs.Rules.{Text};
-ghost use Rattle.iref.specs.Lines.{Answered, answer, answer_text, answer_if_valid, newline, part_field, part_fields, program_verbs, tab, Parts};
+ghost use Rattle.iref.specs.Lines.{Answered, answer, answer_text, answer_if_valid, newline, part_field, part_fields, program_verbs, tab, yes_or_no, Parts, Normal, Equal};
 ghost use Rattle.iref_text.specs.Components.{scheme_text, query_text, fragment_text};
 ghost use Rattle.iref_authority.specs.Views.{authority_text};
 ghost use Rattle.iref_refs.specs.References.{uri_ref_part_texts};
@@ -11,13 +11,14 @@ ghost use Rattle.iref.specs.Requests.{request_of};
 
 use super::request::{Request, read_request};
 use iref_authority::authority::Authority;
-use iref_refs::reference::parts::UriRefParts;
-use iref_refs::reference::uri_ref::UriRef;
 use iref_grammar::chars::UriChars;
+use iref_grammar::reference_laws::reference_grammar;
+use iref_grammar::text_laws::path_grammar;
+use iref_path::path::Path;
+use iref_refs::reference::parts::UriRefParts;
 use iref_text::common::Scheme;
 use iref_text::fragment::Fragment;
 use iref_text::query::Query;
-use iref_grammar::reference_laws::reference_grammar;
 use std::alloc::AllocError;
 
 /// Puts the text.
@@ -85,10 +86,56 @@ fn put_answer_to_parts(text: &[u8], out: &mut Vec<u8>) -> Result<(), AllocError>
     ensures err { OnErr result (Extends out.old.items out.new.items) }
 {
     reference_grammar::<UriChars>();
-    let Ok(reference) = UriRef::<UriChars>::from_bytes(text) else {
+    let Ok(parts) = UriRefParts::<UriChars>::from_bytes(text) else {
         return put_text(b"error invalid", out);
     };
-    put_parts(&reference.parts(), out)
+    put_parts(&parts, out)
+}
+
+/// Puts an answer of this text.
+fn put_answered(text: &[u8], out: &mut Vec<u8>) -> Result<(), AllocError>
+    ensures ok { OnOk result (out.new.items ≡ out.old.items ++ answer_text (Answered text.now)) }
+    ensures err { OnErr result (Extends out.old.items out.new.items) }
+{
+    out.extend_from_slice(b"ok\t")?;
+    out.extend_from_slice(text)?;
+    Ok(())
+}
+
+/// Puts the answer to `normal`.
+fn put_answer_to_normal(text: &[u8], out: &mut Vec<u8>) -> Result<(), AllocError>
+    ensures ok { OnOk result (out.new.items ≡ out.old.items ++ answer_text (answer_if_valid (Normal text.now))) }
+    ensures err { OnErr result (Extends out.old.items out.new.items) }
+{
+    path_grammar::<UriChars>();
+    let Ok(path) = Path::<UriChars>::from_bytes(text) else {
+        return put_text(b"error invalid", out);
+    };
+    let Ok(normal) = path.normalized(*out.allocator()) else {
+        return Err(AllocError);
+    };
+    put_answered(normal.as_bytes(), out)
+}
+
+fn yes_or_no(alike: bool) -> &'static [u8]
+    ensures { result.now ≡ yes_or_no alike }
+{
+    if alike { b"yes" } else { b"no" }
+}
+
+/// Puts the answer to `equal`.
+fn put_answer_to_equal(left: &[u8], right: &[u8], out: &mut Vec<u8>) -> Result<(), AllocError>
+    ensures ok { OnOk result (out.new.items ≡ out.old.items ++ answer_text (answer_if_valid (Equal left.now right.now))) }
+    ensures err { OnErr result (Extends out.old.items out.new.items) }
+{
+    reference_grammar::<UriChars>();
+    let Ok(left) = UriRefParts::<UriChars>::from_bytes(left) else {
+        return put_text(b"error invalid", out);
+    };
+    let Ok(right) = UriRefParts::<UriChars>::from_bytes(right) else {
+        return put_text(b"error invalid", out);
+    };
+    put_answered(yes_or_no(left == right), out)
 }
 
 /// Puts the answer to a request.
@@ -98,6 +145,8 @@ fn put_answer_to(request: Request<'_>, out: &mut Vec<u8>) -> Result<(), AllocErr
 {
     match request {
         Request::Parts(text) => put_answer_to_parts(text, out),
+        Request::Normal(text) => put_answer_to_normal(text, out),
+        Request::Equal(left, right) => put_answer_to_equal(left, right, out),
     }
 }
 

@@ -6,7 +6,7 @@ ghost use Rattle.iref_grammar.specs.Texts.{pieces_at};
 ghost use Rattle.iref.specs.Fields.{fields_of};
 ghost use Rattle.iref.specs.Requests.{request_of};
 ghost use Rattle.iref.specs.Lines as spec;
-ghost use Rattle.iref.specs.Lines.{tab, read_line, program_verbs, one_text};
+ghost use Rattle.iref.specs.Lines.{tab, read_line, program_verbs, one_text, two_texts};
 
 use super::cut::cut_at;
 
@@ -15,6 +15,10 @@ use super::cut::cut_at;
 pub enum Request<'a> {
     /// The components of a reference.
     Parts(&'a [u8]),
+    /// The normal form of a path.
+    Normal(&'a [u8]),
+    /// Whether two references are equal.
+    Equal(&'a [u8], &'a [u8]),
 }
 
 /// The first field, and the text of the others, if there are any.
@@ -38,6 +42,15 @@ fn one_field(fields: Option<&[u8]>) -> Option<&[u8]>
     }
 }
 
+/// The two fields, if there are two and no other.
+fn two_fields(fields: Option<&[u8]>) -> Option<(&[u8], &[u8])>
+    ensures { (request : Text → Text → spec.Request) → two_texts request (fields_of (option_copied fields.entry)) ≡ option_map (λ texts. request texts.0.now texts.1.now) result }
+{
+    let (first, others) = first_field(fields?);
+    let second = one_field(others)?;
+    Some((first, second))
+}
+
 /// Whether the field is the name.
 fn is_name(name: &[u8], field: &[u8]) -> bool
     ensures { result ≡ bytes_eq name.now field.now }
@@ -53,6 +66,14 @@ pub fn read_request(line: &[u8]) -> Option<Request<'_>>
     if is_name(b"parts", verb) {
         let text = one_field(fields)?;
         return Some(Request::Parts(text));
+    }
+    if is_name(b"normal", verb) {
+        let text = one_field(fields)?;
+        return Some(Request::Normal(text));
+    }
+    if is_name(b"equal", verb) {
+        let (left, right) = two_fields(fields)?;
+        return Some(Request::Equal(left, right));
     }
     None
 }

@@ -5,7 +5,7 @@ use std::io::{self, ErrorKind, Read, Write};
 use std::test::Fail;
 
 /// Lines, each with its answer.
-const ROWS: [(&str, &str); 21] = [
+const ROWS: [(&str, &str); 53] = [
     (
         "parts\t//user:1@host.org:80/a//b?#",
         "ok\t-\t=user:1@host.org:80\t=/a//b\t=\t=",
@@ -33,6 +33,38 @@ const ROWS: [(&str, &str); 21] = [
         "parts\thttp://example.org/%7Ea?x=y&z#f/?",
         "ok\t=http\t=example.org\t=/%7Ea\t=x=y&z\t=f/?",
     ),
+    ("normal\t..", "ok\t../"),
+    ("normal\t//b", "ok\t/.//b"),
+    ("normal\ta/..//b", "ok\t.//b"),
+    ("normal\t/a/../", "ok\t/"),
+    ("normal\ta/../..", "ok\t../"),
+    ("normal\ta/b/c/.", "ok\ta/b/c/"),
+    ("normal\ta/..", "ok\t"),
+    ("normal\t%2E/%2e%2e", "ok\t%2E/%2e%2e"),
+    ("normal\t", "ok\t"),
+    ("normal\t%zz", "error invalid"),
+    ("normal\ta?b", "error invalid"),
+    ("normal", "error command"),
+    ("normal\ta\tb", "error command"),
+    ("equal\thttp://exa%6dple.org\thttp://example.org", "ok\tyes"),
+    ("equal\t/%2F\t//", "ok\tno"),
+    ("equal\thttp://a\thttp://a/", "ok\tno"),
+    ("equal\tHTTP://a/%7Eb/./c\thttp://a/~b/c", "ok\tyes"),
+    ("equal\t../x\t%2E%2E/x", "ok\tyes"),
+    ("equal\t/./\t/", "ok\tyes"),
+    ("equal\ta/b/c\ta/../a/./b/../b/c", "ok\tyes"),
+    ("equal\thttp:a/b/../../../\thttp:../", "ok\tyes"),
+    ("equal\thttp:../\thttp:", "ok\tno"),
+    ("equal\thttp://example.org\thttp://example.org:80", "ok\tno"),
+    ("equal\t/foo/bar\t/foo/bar/", "ok\tno"),
+    ("equal\t/%2E\t/.", "ok\tno"),
+    ("equal\thttp://A\thttp://a", "ok\tno"),
+    ("equal\t//h:80\t//h:080", "ok\tno"),
+    ("equal\t\t", "ok\tyes"),
+    ("equal\t1:2\ta", "error invalid"),
+    ("equal\ta\t1:2", "error invalid"),
+    ("equal\ta", "error command"),
+    ("equal\ta\tb\tc", "error command"),
 ];
 
 /// A reader that gives some bytes a call, and then fails or ends.
