@@ -1,5 +1,5 @@
 -- The front of a reference, before its fragment or its query, is a reference.
-use Rattle.std.proofs.Common.{◌≡◌, true, [], ◌∷◌, refl, sym, ◌∙◌, ap}
+use Rattle.std.proofs.Common.{◌≡◌, true, refl, sym, ◌∙◌, ap}
 use Rattle.std.specs.Prelude.{ℕ, Option, None, option_map}
 use Rattle.iref_grammar.specs.Characters.{CharTests}
 use Rattle.iref_grammar.specs.Rules.{Text}

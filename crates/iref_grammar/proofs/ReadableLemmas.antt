@@ -1,5 +1,5 @@
 -- A readable reference is delimited, so it is the one that is read from its text.
-use Rattle.std.proofs.Common.{◌≡◌, ℕ, Bool, true, false, ◌&&◌, List, [], ◌∷◌, ◌++◌, refl, sym, ◌∙◌, ap}
+use Rattle.std.proofs.Common.{◌≡◌, ℕ, Bool, true, false, ◌&&◌, List, [], ◌∷◌, ◌++◌, refl}
 use Rattle.std.specs.Prelude.{◌==◌, Option, Some, None, option_map, codes, IfSome}
 use Rattle.std.specs.Char.{is_ascii_alphabetic}
 use Rattle.std.specs.List.{list_all, join_with_byte}
@@ -7,13 +7,11 @@ use Rattle.iref_grammar.specs.Rules.{Text}
 use Rattle.iref_grammar.specs.Grammar.{hash_sign, slash, colon, question_mark, at_sign, is_scheme_char}
 use Rattle.iref_grammar.specs.Texts.{part_then, then_part}
 use Rattle.iref_grammar.specs.Authority.{AuthorityValue, spell_authority, has_authority_parts}
-use Rattle.iref_grammar.specs.Reference.{spell, read_reference, ReferenceValue, context_of, is_readable, is_reference}
+use Rattle.iref_grammar.specs.Reference.{spell, read_reference, ReferenceValue, context_of, is_readable}
 use Rattle.iref_grammar.specs.PathValue.{spell_path, shows_its_list}
 use Rattle.iref_grammar.specs.Contexts.{is_no_authority, is_no_scheme}
 use Rattle.iref_grammar.proofs.TextLemmas.{lacks, both_true}
 use Rattle.iref_grammar.proofs.ReadablePartsLemmas.{readable_parts}
-use Rattle.iref_grammar.proofs.ReferenceCutLemmas.{read_reference-spelled}
-use Rattle.std.specs.Bool.{Decides}
 use Rattle.iref_grammar.specs.Characters.{CharTests, AreAboveAscii}
 use Rattle.iref_grammar.specs.Tests.{none_or, is_scheme, is_segment, is_query}
 use Rattle.iref_grammar.proofs.LackLemmas.{lacks_more, lacks-append}
@@ -70,15 +68,3 @@ module _ (set : CharTests) (above : AreAboveAscii set) where
   -- so the text of a readable reference is in the grammar, and is read as that reference
   pub readable_read : (r : ReferenceValue) → is_readable set r ≡ true → read_reference (spell r) ≡ r
   readable_read r h = read_reference-back r (readable_delimited r h)
-
-  -- a text is taken exactly if some readable reference spells it
-  pub Decides-is_reference : (text : Text) → Decides (is_reference set text) ((r : ReferenceValue) × (is_readable set r ≡ true) × (spell r ≡ text))
-  unfolding is_readable is_reference
-  Decides-is_reference text = (
-    λ h. (read_reference text, h, read_reference-spelled text),
-    λ z. ap (λ t. is_readable set (read_reference t)) (sym z.2) ∙ ap (is_readable set) (readable_read z.0 z.1) ∙ z.1,
-  )
-
-  -- and no two spell one text
-  pub one_readable : (r s : ReferenceValue) → is_readable set r ≡ true → is_readable set s ≡ true → spell r ≡ spell s → r ≡ s
-  one_readable r s h k e = sym (readable_read r h) ∙ ap read_reference e ∙ readable_read s k

@@ -17,9 +17,8 @@ use Rattle.iref_grammar.specs.Contexts.{follows_authority, reads_as_path}
 use Rattle.iref_grammar.specs.Reference.{ReferenceValue, context_of, spell, IsReadable, IsReadAsReference, is_readable, read_reference, is_reference, is_full_reference}
 use Rattle.iref_grammar.proofs.TextLemmas.{both, first_of_both, second_of_both}
 use Rattle.iref_grammar.proofs.ReferenceCutLemmas.{regroup, read_reference-spelled}
-use Rattle.iref_grammar.proofs.OnlyLemmas.{IsDelimited}
 use Rattle.iref_grammar.proofs.LeafLemmas.{Decides-is_segment, Decides-is_query, Decides-is_fragment}
-use Rattle.iref_grammar.proofs.ReadableLemmas.{readable_delimited, readable_read}
+use Rattle.iref_grammar.proofs.ReadableLemmas.{readable_read}
 use Rattle.iref_grammar.proofs.Utf8RuleLemmas.{in_utf8-joined, in_utf8-or, in_utf8-mark, in_utf8-then_part}
 use Rattle.iref_grammar.proofs.PartRuleLemmas.{Decides-none_or, Decides-all, Decides-is_scheme_bytes}
 use Rattle.iref_grammar.proofs.AuthorityRuleLemmas.{Decides-has_authority_parts, in_utf8-authority}
@@ -81,10 +80,6 @@ module _ (set : CharTests) (above : AreAboveAscii set) where
       (Decides-all (is_segment set) (InUtf8 (IsSegment set)) (Decides-is_segment set above) r.path.segments))
       (Decides-none_or (is_query set) (InUtf8 (IsQuery set)) (Decides-is_query set above) r.query))
       (Decides-none_or (is_fragment set) (InUtf8 (IsFragment set)) (Decides-is_fragment set above) r.fragment)) (Decides-itself fa)) (Decides-itself rp))
-
-  -- each component lacks the marks that end it
-  pub delimited : (r : ReferenceValue) → IsReadable set r → IsDelimited r
-  delimited r v = readable_delimited set above r ((Decides-is_readable r).1 v)
 
   -- so a readable reference is the one that is read from its text, and no two spell one text
   pub reference_read : (r : ReferenceValue) → IsReadable set r → read_reference (spell r) ≡ r

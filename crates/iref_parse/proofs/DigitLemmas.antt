@@ -1,10 +1,10 @@
 -- Octets and groups, as std parses them.
-use Rattle.std.proofs.Common.{◌≡◌, ◌≢◌, ℕ, ◌^◌, ◌<◌, ◌≤◌, zero, suc, Bool, true, false, not, cond, ◌&&◌, List, [], ◌∷◌, length, get_or, refl, sym, ◌∙◌, ap, subst, arith, lit<}
-use Rattle.std.specs.Prelude.{◌==◌, nat_lt, nat_le, decimal, bytes_eq, slice_index, Option, Some, None, Result, Ok, Err}
+use Rattle.std.proofs.Common.{◌≡◌, ◌≢◌, ℕ, ◌^◌, ◌<◌, ◌≤◌, zero, suc, true, false, cond, ◌&&◌, [], ◌∷◌, length, get_or, refl, sym, ◌∙◌, ap, subst, arith, lit<}
+use Rattle.std.specs.Prelude.{◌==◌, nat_lt, nat_le, decimal, slice_index, Option, Some, None, Result, Ok, Err}
 use Rattle.std.specs.Result.{result_ok, OkIff}
 use Rattle.std.specs.List.{list_all}
 use Rattle.std.specs.Char.{is_ascii_hexdigit, digit_value}
-use Rattle.std.specs.Str.Parse.{AllDigits, IsNumeral, ParsesUnsigned, digits_value, without_leading_plus}
+use Rattle.std.specs.Str.Parse.{AllDigits, IsNumeral, ParsesUnsigned, digits_value}
 use Rattle.std.proofs.Math.Nat.{pow-le-pow_right}
 use native.Mathlib.Nat.{lt_of_lt_of_le}
 use Rattle.std.proofs.lemmas.Bool.Decides.{nat_tests}
@@ -13,7 +13,6 @@ use Rattle.std.proofs.lemmas.Int.Digits.{digits_value-lt}
 use Rattle.std.proofs.lemmas.Fmt.{decimal_is_IsNumeral, decimal_nonempty, decimal_digit, first_decimal, decimal-digits_value}
 use Rattle.std.proofs.lemmas.Str.Parse.{IsNumeralModel, numerals_by_value, tells_digits, digit_at, without_leading_plus_none}
 use Rattle.iref_grammar.specs.Rules.{Text}
-use Rattle.iref_grammar.specs.Texts.{is_empty}
 use Rattle.iref_grammar.specs.IpAddresses.{octet_value, group_value}
 use mathlib.Core.Bool.{true≢false}
 use Rattle.iref_grammar.proofs.TextLemmas.{first_of_both, second_of_both}
@@ -99,10 +98,3 @@ group_value-parsed {E} text r h test = by text r (subst (λ t. OkIff r (IsNumera
     by [] (Err e) k d s = refl
     by (c ∷ cs) (Ok x) k d s = (λ i. cond (s i && d i) (Some (digits_value 16 (c ∷ cs))) None) ∙ ap (λ n. Some n) (sym k.1)
     by (c ∷ cs) (Err e) k d s = absurd (k ((omega arith, hex_digits (c ∷ cs) d), fits (c ∷ cs) d s))
-
-pub group_value-refused : (text : Text) → (nat_le (length text) 4 && list_all is_ascii_hexdigit text) ≡ false → group_value text ≡ None
-group_value-refused text h = by (not (is_empty text)) (nat_le (length text) 4) (list_all is_ascii_hexdigit text) h
-  where
-    by : (a b d : Bool) → (b && d) ≡ false → cond (a && b && d) (Some (digits_value 16 text)) None ≡ None
-    by true b d k = ap (λ x. cond x (Some (digits_value 16 text)) None) k
-    by false b d k = refl

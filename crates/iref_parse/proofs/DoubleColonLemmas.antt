@@ -1,5 +1,5 @@
 -- An IPv6 address cut at its first `::`.
-use Rattle.std.proofs.Common.{◌≡◌, ◌≢◌, ℕ, ◌<◌, ◌≤◌, zero, suc, Bool, true, false, cond, List, [], ◌∷◌, ◌++◌, length, take, drop, map, refl, sym, ◌∙◌, ap, arith}
+use Rattle.std.proofs.Common.{◌≡◌, ℕ, ◌<◌, ◌≤◌, zero, suc, Bool, true, false, cond, List, [], ◌∷◌, ◌++◌, length, take, drop, map, refl, sym, ◌∙◌, ap, arith}
 use Rattle.std.specs.Prelude.{◌==◌, codes, Option, Some, None, option_map, option_and_then}
 use Rattle.std.specs.Str.Pattern.{LacksTextAt, FindsText}
 use Rattle.iref_grammar.specs.Rules.{Text}

@@ -5,5 +5,5 @@ pub mod OctetLemmas
 pub mod GroupLemmas
 pub mod DoubleColonLemmas
 pub mod LiteralLemmas
-pub mod PlacesLemmas
+pub mod SlicePlaceLemmas
 pub mod KeyLemmas

@@ -1,6 +1,6 @@
 -- Texts that begin as no IP literal and no address of a future version does.
 use Rattle.std.proofs.Common.{◌≡◌, ◌≢◌, false, [], ◌∷◌, refl, ap, sym, inl, inr, cond}
-use Rattle.std.specs.Prelude.{◌==◌, ◌&&◌, ◌||◌, Some, None, codes}
+use Rattle.std.specs.Prelude.{◌&&◌, ◌||◌, Some, None, codes}
 use Rattle.std.specs.Char.{char_set_contains}
 use Rattle.std.proofs.lemmas.Bool.Decides.{eqb_tells}
 use Rattle.iref_grammar.specs.Rules.{Text}

@@ -1,5 +1,5 @@
 -- An IPv4 address read octet by octet.
-use Rattle.std.proofs.Common.{◌≡◌, ◌≢◌, ℕ, ◌+◌, ◌*◌, ◌<◌, suc, Bool, true, false, cond, List, [], ◌∷◌, length, map, refl, sym, ◌∙◌, ap, subst, arith, lit<}
+use Rattle.std.proofs.Common.{◌≡◌, ◌≢◌, ℕ, ◌<◌, Bool, false, cond, List, [], ◌∷◌, length, map, refl, sym, ◌∙◌, ap, subst, arith, lit<}
 use Rattle.std.specs.Prelude.{◌==◌, Option, Some, None, option_map, option_and_then, IfSome, decimal}
 use Rattle.std.specs.List.{position_or_len, before_first, after_first, join_with_byte}
 use Rattle.std.specs.Int.{from_be_bytes}

@@ -1,5 +1,5 @@
 use Rattle.std.proofs.Common.{◌∙◌, sym}
-use Rattle.iref_parse.proofs.DigitLemmas.{group_value-parsed, group_value-refused}
+use Rattle.iref_parse.proofs.DigitLemmas.{group_value-parsed}
 use Rattle.iref_parse.proofs.ip.group_value.Goals as goal
 
 pub returns-then-is_short_hexadecimal : goal.returns-then-is_short_hexadecimal

@@ -1,5 +1,5 @@
 use Rattle.std.proofs.Common.{ap, arith}
-use Rattle.iref_parse.proofs.PlacesLemmas.{length-spelled, places_in-following}
+use Rattle.iref_parse.proofs.SlicePlaceLemmas.{length-spelled, places_in-following}
 use Rattle.iref_parse.proofs.places.places_of.Goals as goal
 
 pub place_of_scheme-scheme-requires : goal.place_of_scheme-scheme-requires

@@ -17,6 +17,9 @@ pub returns-clause-ok : goal.returns-clause-ok
 returns-clause-ok c =
     let left = c.args.left.now in
     let right = c.args.right.now in
-    rw (equal_answer left right (uri_ref_part_texts c.in-Ok.left) (uri_ref_part_texts c.in-Ok-from_bytes.right) c.eq.result
-        ((c.reference_grammar.ensures left).1 c.in-Ok.ensures.0) ((c.reference_grammar.ensures right).1 c.in-Ok-from_bytes.ensures.0)
-        c.in-Ok.ensures.1 c.in-Ok-from_bytes.ensures.1 c.eq.ensures, ← c.yes_or_no.ensures) c.put_answered.ensures.ok
+    rw (
+      equal_answer left right (uri_ref_part_texts c.in-Ok.left) (uri_ref_part_texts c.in-Ok-from_bytes.right) c.eq.result
+          ((c.reference_grammar.ensures left).1 c.in-Ok.ensures.0) ((c.reference_grammar.ensures right).1 c.in-Ok-from_bytes.ensures.0)
+          c.in-Ok.ensures.1 c.in-Ok-from_bytes.ensures.1 c.eq.ensures,
+      ← c.yes_or_no.ensures,
+    ) c.put_answered.ensures.ok

@@ -11,5 +11,8 @@ returns-in_default-clause-ok c =
 pub returns-clause-ok : goal.returns-clause-ok
 returns-clause-ok c =
     let text = c.args.text.now in
-    rw (normal_answer text (path_text c.in-Ok.path) (path_buf_text c.in-Ok-normalized.normal) ((c.path_grammar.ensures text).1 c.in-Ok.ensures.0)
-        c.in-Ok.ensures.1 c.in-Ok-normalized.ensures.text, ← c.as_bytes.ensures) c.put_answered.ensures.ok
+    rw (
+      normal_answer text (path_text c.in-Ok.path) (path_buf_text c.in-Ok-normalized.normal) ((c.path_grammar.ensures text).1 c.in-Ok.ensures.0)
+          c.in-Ok.ensures.1 c.in-Ok-normalized.ensures.text,
+      ← c.as_bytes.ensures,
+    ) c.put_answered.ensures.ok

@@ -1,4 +1,4 @@
-use Rattle.std.proofs.Common.{◌-◌, ◌*◌, ◌^◌, ◌<◌, arith}
+use Rattle.std.proofs.Common.{◌*◌, ◌^◌, ◌<◌, arith}
 use Rattle.iref_parse.proofs.GroupLemmas.{zeros_fit}
 use Rattle.iref_parse.proofs.ip.Groups.followed_by_zeros.Goals as goal
 

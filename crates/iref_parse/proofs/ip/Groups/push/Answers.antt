@@ -1,4 +1,4 @@
-use Rattle.std.proofs.Common.{◌<◌, ◌^◌, ◌*◌, ◌+◌, arith, lit<}
+use Rattle.std.proofs.Common.{arith, lit<}
 use Rattle.iref_parse.proofs.GroupLemmas.{pushed_fits}
 use Rattle.iref_parse.proofs.ip.Groups.push.Goals as goal
 

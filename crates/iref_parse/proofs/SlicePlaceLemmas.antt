@@ -1,9 +1,8 @@
 -- Where the components of a reference stand, by the lengths of its slices.
-use Rattle.std.proofs.Common.{◌≡◌, ◌+◌, ◌++◌, ℕ, [], ◌∷◌, length, refl, ap, ◌∙◌, length-append}
+use Rattle.std.proofs.Common.{◌≡◌, ◌+◌, ℕ, [], ◌∷◌, length, refl, ap, length-append}
 use Rattle.std.specs.Prelude.{codes, option_map, Option, Some, None}
 use Rattle.std.specs.Option.{option_copied}
 use Rattle.std.specs.declared.ops.Range.{Range}
-use Rattle.iref_grammar.specs.declared.places.Offsets.{Offsets}
 use Rattle.iref_parse.specs.declared.split.ReferenceSlices.{ReferenceSlices}
 use Rattle.iref_grammar.specs.Rules.{Text}
 use Rattle.iref_grammar.specs.Grammar.{colon, question_mark, hash_sign}
