@@ -2,6 +2,8 @@
 #![tactic(auto)]
 
 pub mod batch;
+#[cfg(test)]
+mod example;
 pub mod iri;
 pub mod uri;
 
