@@ -269,35 +269,30 @@ const PARTS: [(&str, &str, Option<&str>, Option<&str>, Option<&str>); 9] = [
     ("", "", None, None, None),
 ];
 
+fn text_of<'a>(segment: Option<Segment<'a, UriChars>>) -> Option<&'a str> {
+    segment.map(|segment| segment.as_str())
+}
+
 #[test]
 fn parts_of_paths(rt: HostRuntime) -> Result<(), Fail> {
     for (text, directory, first, last, file_name) in PARTS {
         let path = Path::<UriChars>::new(text)?;
-        assert_eq!(rt; path.directory().as_str(), directory, "{text}");
-        assert_eq!(rt;
-            path.first().map(|segment| segment.as_str()),
-            first,
-            "{text}"
-        );
-        assert_eq!(rt; path.last().map(|segment| segment.as_str()), last, "{text}");
-        assert_eq!(rt;
-            path.file_name().map(|segment| segment.as_str()),
-            file_name,
-            "{text}"
-        );
-        let path = path.to_owned(rt.alloc())?;
-        assert_eq!(rt; path.directory().as_str(), directory, "{text}");
-        assert_eq!(rt;
-            path.first().map(|segment| segment.as_str()),
-            first,
-            "{text}"
-        );
-        assert_eq!(rt; path.last().map(|segment| segment.as_str()), last, "{text}");
-        assert_eq!(rt;
-            path.file_name().map(|segment| segment.as_str()),
-            file_name,
-            "{text}"
-        );
+        let ends = (text_of(path.first()), text_of(path.last()));
+        assert_eq!(rt; ends, (first, last), "{text}");
+        let parts = (path.directory().as_str(), text_of(path.file_name()));
+        assert_eq!(rt; parts, (directory, file_name), "{text}");
+    }
+    Ok(())
+}
+
+#[test]
+fn parts_of_owned_paths(rt: HostRuntime) -> Result<(), Fail> {
+    for (text, directory, first, last, file_name) in PARTS {
+        let path = Path::<UriChars>::new(text)?.to_owned(rt.alloc())?;
+        let ends = (text_of(path.first()), text_of(path.last()));
+        assert_eq!(rt; ends, (first, last), "{text}");
+        let parts = (path.directory().as_str(), text_of(path.file_name()));
+        assert_eq!(rt; parts, (directory, file_name), "{text}");
     }
     Ok(())
 }
