@@ -9,11 +9,11 @@ use Rattle.iref_grammar.specs.PathValue.{spell_path, read_path}
 use Rattle.iref_grammar.specs.Contexts.{alone}
 use Rattle.iref_grammar.specs.Reference.{is_reference, read_reference}
 use Rattle.iref_grammar.specs.ComponentTexts.{ComponentTexts, spell_components, read_components}
-use Rattle.iref_normal.specs.Guard.{guarded}
-use Rattle.iref_normal.specs.NormalList.{normal}
-use Rattle.iref_refs.specs.Key.{are_alike}
-use Rattle.iref_refs.proofs.HeldLemmas.{read_components-spelled}
-use Rattle.iref.specs.Lines.{Request, answer_if_valid, read_line, answer, BadCommand, InvalidText, Answered, Parts, Normal, Equal, answer_to, is_valid, answer_text, part_fields, yes_or_no, tab, program_verbs}
+use Rattle.iref_model.specs.Guard.{guarded}
+use Rattle.iref_model.specs.NormalList.{normal}
+use Rattle.iref_model.specs.Key.{are_alike}
+use Rattle.iref_held.proofs.HeldLemmas.{read_components-spelled}
+use Rattle.iref_model.specs.Lines.{Request, answer_if_valid, read_line, answer, BadCommand, InvalidText, Answered, Parts, Normal, Equal, answer_to, is_valid, answer_text, part_fields, yes_or_no, tab, program_verbs}
 
 pub answer_of : (line : Text) (request : Request) → read_line program_verbs line ≡ Some request → answer program_verbs line ≡ answer_if_valid request
 unfolding answer

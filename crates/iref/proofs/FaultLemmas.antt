@@ -5,7 +5,7 @@ use Rattle.std.proofs.lemmas.List.Concat.{flat_map-append}
 use Rattle.std.proofs.lemmas.List.Elements.{AllZip-push}
 use Rattle.iref_grammar.specs.Rules.{Text}
 use Rattle.iref_grammar.specs.Texts.{is_empty}
-use Rattle.iref.specs.Lines.{newline, lines_of, answer, answer_text, program_verbs}
+use Rattle.iref_model.specs.Lines.{newline, lines_of, answer, answer_text, program_verbs}
 use Rattle.iref.specs.Runs.{IsReply, with_newlines, ended_lines, AnswersAll, AnswersRead, AnswersBegun}
 use Rattle.iref.specs.Gathering.{IsLine, WritesPart, RepliesPart, InRun}
 use Rattle.iref.proofs.LineLemmas.{ended_lines_of, lines_of_lines, lines_of_ended, lines_of_begun, lines_of_next}

@@ -3,7 +3,7 @@ use Rattle.std.proofs.Common.{◌≡◌, ◌==◌, ◌<◌, ◌+◌, Bool, true,
 use Rattle.std.proofs.lemmas.List.Splits.{slice_split_at, slice_split_none, length-slice_split}
 use Rattle.iref_grammar.specs.Rules.{Text}
 use Rattle.iref_grammar.specs.Texts.{pieces_at, is_empty}
-use Rattle.iref.specs.Lines.{Request, Parts, Normal, Equal, tab, read_line, one_text, two_texts, program_verbs}
+use Rattle.iref_model.specs.Lines.{Request, Parts, Normal, Equal, tab, read_line, one_text, two_texts, program_verbs}
 use Rattle.iref.specs.Gathering.{Lacks}
 use Rattle.iref.specs.Fields.{fields_of}
 

@@ -1,7 +1,7 @@
 -- Replies gathered and written.
 use Rattle.std.proofs.Common.{◌≡◌, ◌∷◌, ◌++◌, [], Option, refl, inl, inr, subst, sym, ◌∙◌, ap, codes}
 use Rattle.iref_grammar.specs.Rules.{Text}
-use Rattle.iref.specs.Lines.{answer, answer_text, newline, program_verbs}
+use Rattle.iref_model.specs.Lines.{answer, answer_text, newline, program_verbs}
 use Rattle.iref.specs.Gathering.{Writes, WritesPart, Replies, RepliesPart}
 use Rattle.iref.proofs.Writing.{gains_gathered, gains_written, written_is, part_is}
 

@@ -3,7 +3,7 @@ use Rattle.std.specs.Prelude.{◌≡◌, ◌==◌, ℕ, Bool, true, false, List,
 use Rattle.std.specs.List.{All, AllZip}
 use Rattle.iref_grammar.specs.Rules.{Text}
 use Rattle.iref_grammar.specs.Texts.{is_empty}
-use Rattle.iref.specs.Lines.{newline}
+use Rattle.iref_model.specs.Lines.{newline}
 use Rattle.iref.specs.Runs.{IsReply, with_newlines}
 
 -- a text without the mark

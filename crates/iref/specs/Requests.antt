@@ -1,5 +1,5 @@
 -- What the program has read of a line.
-use Rattle.iref.specs.Lines as spec
+use Rattle.iref_model.specs.Lines as spec
 use Rattle.iref.specs.declared.batch.request.Request.{Request}
 use Rattle.iref.specs.declared.batch.request.Request.TheVariants.{Parts, Normal, Equal}
 

@@ -3,7 +3,7 @@ use Rattle.std.specs.Prelude.{◌≡◌, ◌≤◌, ◌-◌, ◌^◌, ◌⊎◌,
 use Rattle.std.specs.List.{flat_map, AllZip}
 use Rattle.iref_grammar.specs.Rules.{Text}
 use Rattle.iref_grammar.specs.Texts.{pieces_at, all_but_last}
-use Rattle.iref.specs.Lines.{newline, answer, answer_text, lines_of, program_verbs}
+use Rattle.iref_model.specs.Lines.{newline, answer, answer_text, lines_of, program_verbs}
 
 -- the reply to a line is its answer, or says that memory was refused for it
 abbrev pub IsReply : Text → Text → Type 0

@@ -1,7 +1,7 @@
 //! The first example of the README.
 ghost use Rattle.std.specs.Prelude.{◌≡◌, IfSome};
 ghost use Rattle.iref_grammar.specs.Reference.{read_reference};
-ghost use Rattle.iref_refs.specs.Key.{are_alike};
+ghost use Rattle.iref_model.specs.Key.{are_alike};
 
 use crate::uri::UriRef;
 

@@ -6,8 +6,8 @@ use iref_grammar::chars::IriChars;
 pub use iref_path::equality::{Steps, path_eq_counted};
 pub use iref_path::path::InvalidPath;
 pub use iref_path::segment::InvalidSegment;
-pub use iref_refs::error::{InvalidIri, InvalidIriRef, IriError};
-pub use iref_text::common::{InvalidScheme, Scheme, SchemeBuf};
+pub use iref_error::{InvalidIri, InvalidIriRef, IriError};
+pub use iref_common::{InvalidScheme, Scheme, SchemeBuf};
 pub use iref_text::fragment::InvalidFragment;
 pub use iref_text::query::InvalidQuery;
 

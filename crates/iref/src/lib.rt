@@ -8,7 +8,7 @@ pub mod iri;
 pub mod uri;
 
 pub use iref_grammar::chars;
-pub use iref_text::common::{
+pub use iref_common::{
     InvalidPort, InvalidScheme, Memory, Offsets, PathContext, Port, PortBuf, PortError, Scheme,
     SchemeBuf, TryError,
 };

@@ -6,8 +6,8 @@ use iref_grammar::chars::UriChars;
 pub use iref_path::equality::{Steps, path_eq_counted};
 pub use iref_path::path::InvalidPath;
 pub use iref_path::segment::InvalidSegment;
-pub use iref_refs::error::{InvalidUri, InvalidUriRef, UriError};
-pub use iref_text::common::{InvalidScheme, Scheme, SchemeBuf};
+pub use iref_error::{InvalidUri, InvalidUriRef, UriError};
+pub use iref_common::{InvalidScheme, Scheme, SchemeBuf};
 pub use iref_text::fragment::InvalidFragment;
 pub use iref_text::query::InvalidQuery;
 

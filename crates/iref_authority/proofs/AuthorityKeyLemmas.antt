@@ -7,8 +7,8 @@ use mathlib.Core.Bool.{true≢false}
 use Rattle.iref_grammar.specs.Authority.{AuthorityValue}
 use Rattle.iref_grammar.specs.Rules.{Text}
 use Rattle.iref_grammar.proofs.TextLemmas.{first_of_both, second_of_both}
-use Rattle.iref_parse.specs.Keys.{is_same_text}
-use Rattle.iref_authority.specs.AuthorityKey.{is_same_authority, authority_key_cmp, authority_keys_equivalent, authority_keys_tie}
+use Rattle.iref_grammar.specs.Keys.{is_same_text}
+use Rattle.iref_model.specs.AuthorityKey.{is_same_authority, authority_key_cmp, authority_keys_equivalent, authority_keys_tie}
 
 same_part : (a b : Option Text) → option_eq is_same_text a b ≡ true → a ≡ b
 same_part None None h = refl

@@ -19,7 +19,7 @@ use Rattle.iref_grammar.proofs.TextLemmas.{both}
 use Rattle.iref_grammar.proofs.CutLemmas.{before-part, after-part}
 use Rattle.iref_grammar.proofs.HostLemmas.{IsOutside, address_lacks}
 use Rattle.iref_grammar.proofs.Ipv6CompleteLemmas.{ipv6_value-complete}
-use Rattle.iref_authority.specs.HostNumbers.{groups_of, groups_text, ipv6_text, ipv6_host_text, longest_run, run_start, literal_value}
+use Rattle.iref_model.specs.HostNumbers.{groups_of, groups_text, ipv6_text, ipv6_host_text, longest_run, run_start, literal_value}
 use Rattle.iref_authority.proofs.ZeroRunLemmas.{first_longest_run}
 
 -- ---- a group

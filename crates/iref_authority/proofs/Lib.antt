@@ -1,4 +1,3 @@
-mod NumberRows
 pub mod AuthorityKeyLemmas
 pub mod EmptyLemmas
 pub mod HostNumberLemmas

@@ -3,7 +3,7 @@ use Rattle.std.proofs.Common.{◌≡◌, ℕ, suc, ◌+◌, ◌<◌, ◌≤◌, 
 use Rattle.std.specs.Prelude.{nat_lt, nat_le as leb, ◌==◌}
 use Rattle.std.specs.List.{prefix_len}
 use Rattle.std.proofs.lemmas.Bool.Decides.{nat_tests, eqb_tells, leb_tells}
-use Rattle.iref_authority.specs.HostNumbers.{zero_runs, longest_run, run_start}
+use Rattle.iref_model.specs.HostNumbers.{zero_runs, longest_run, run_start}
 
 -- how many zeros stand at the front
 abbrev zeros : List ℕ → ℕ

@@ -1,4 +1,1 @@
-pub mod HostNumbers
-pub mod AuthoritySteps
-pub mod AuthorityKey
 pub mod Views

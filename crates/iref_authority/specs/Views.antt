@@ -1,10 +1,9 @@
 -- What callers see of authorities and their parts.
 use Rattle.iref_grammar.specs.Rules.{Text}
-use Rattle.iref_parse.specs.Views.{view_text, owned_text}
+use Rattle.iref_core.specs.Views.{view_text, owned_text}
 use Rattle.std.specs.Prelude.{option_map}
 use Rattle.iref_grammar.specs.Authority.{AuthorityValue, read_authority}
-use Rattle.iref_text.specs.Components.{port_digits}
-use Rattle.iref_authority.specs.AuthorityKey.{authority_key}
+use Rattle.iref_model.specs.AuthorityKey.{authority_key}
 use Rattle.iref_authority.specs.declared.authority.Authority.{Authority}
 use Rattle.iref_authority.specs.declared.authority.AuthorityBuf.{AuthorityBuf}
 use Rattle.iref_authority.specs.declared.authority.AuthorityParts.{AuthorityParts}
@@ -12,6 +11,7 @@ use Rattle.iref_authority.specs.declared.host.Host.{Host}
 use Rattle.iref_authority.specs.declared.host.HostBuf.{HostBuf}
 use Rattle.iref_authority.specs.declared.user_info.UserInfo.{UserInfo}
 use Rattle.iref_authority.specs.declared.user_info.UserInfoBuf.{UserInfoBuf}
+use Rattle.iref_common.specs.Components.{port_digits}
 
 -- the text of a user info, borrowed and owned
 abbrev pub user_info_text : {C : _} {c : _} → UserInfo C c → Text

@@ -6,8 +6,8 @@ ghost use Rattle.std.specs.Cmp.{IsTotalOrder, on_total, on_equiv, po, partial_eq
 ghost use Rattle.std.specs.Cmp.Rules.{comparing, hashing};
 ghost use Rattle.std.proofs.Common.{rules};
 ghost use Rattle.iref_grammar.specs.Authority.{AuthorityValue};
-ghost use Rattle.iref_authority.specs.AuthorityKey.{is_same_authority, authority_key_cmp, fed_authority};
-ghost use Rattle.iref_authority.specs.AuthorityKey.{authority_keys_total, authority_keys_equivalent, authority_keys_tie};
+ghost use Rattle.iref_model.specs.AuthorityKey.{is_same_authority, authority_key_cmp, fed_authority};
+ghost use Rattle.iref_model.specs.AuthorityKey.{authority_keys_total, authority_keys_equivalent, authority_keys_tie};
 
 use crate::authority::{Authority, AuthorityBuf, AuthorityParts};
 use iref_grammar::chars::CharSet;

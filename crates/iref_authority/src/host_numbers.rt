@@ -2,9 +2,9 @@
 ghost use Rattle.std.specs.Prelude.{◌≡◌, ◌+◌, ◌≤◌, ◌++◌, ◌==◌, length, IfOk};
 ghost use Rattle.std.specs.List.{prefix_len};
 ghost use Rattle.std.specs.String.{string_bytes};
-ghost use Rattle.iref_authority.specs.HostNumbers.{ipv4_text, groups_of, groups_text, longest_run, run_start, ipv6_text, ipv6_host_text};
+ghost use Rattle.iref_model.specs.HostNumbers.{ipv4_text, groups_of, groups_text, longest_run, run_start, ipv6_text, ipv6_host_text};
 
-use iref_parse::error::Memory;
+use iref_core::error::Memory;
 use std::alloc::{AllocError, Global};
 use std::fmt::Write;
 

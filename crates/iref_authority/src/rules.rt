@@ -7,8 +7,8 @@ ghost use Rattle.iref_grammar.specs.Authority.{is_authority};
 use iref_grammar::authority_laws::authority_grammar;
 use iref_grammar::chars::CharSet;
 use iref_grammar::text_laws::{host_grammar, user_info_grammar};
-use iref_parse::key::DecodedBytes;
-use iref_parse::view::{Keyed, Rule};
+use iref_core::key::DecodedBytes;
+use iref_core::view::{Keyed, Rule};
 use iref_parse::{authority, host, scan};
 
 /// The rule of user infos (RFC 3986 section 3.2.1).

@@ -37,3 +37,4 @@ pub mod ContextLemmas
 pub mod ComponentLemmas
 pub mod FrontLemmas
 pub mod PctLemmas
+pub mod EmptyLemmas

@@ -10,3 +10,4 @@ pub mod PathValue
 pub mod Places
 pub mod Reference
 pub mod ComponentTexts
+pub mod Keys

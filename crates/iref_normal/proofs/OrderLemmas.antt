@@ -10,14 +10,14 @@ use Rattle.std.proofs.lemmas.List.{length-take-le, take_at, take_min, length-map
 use Rattle.std.proofs.lemmas.Bool.Decides.{nat_tests}
 use Rattle.std.proofs.lemmas.List.Concat.{flat_map-cons}
 use Rattle.std.specs.Hash.{bool, fed_then, usize}
-use Rattle.iref_parse.specs.Keys.{fed_bytes}
-use Rattle.iref_normal.specs.PathHash.{fed_from_the_back, fed_path}
+use Rattle.iref_grammar.specs.Keys.{fed_bytes, text_order}
+use Rattle.iref_model.specs.PathHash.{fed_from_the_back, fed_path}
 use Rattle.percent_encoding.specs.Percent.{percent_decode}
 use Rattle.iref_grammar.specs.Rules.{Text}
 use Rattle.iref_grammar.specs.PathValue.{PathValue}
-use Rattle.iref_normal.specs.NormalList.{normal_segments}
-use Rattle.iref_normal.specs.PathKey.{path_key, path_key_cmp, text_cmp}
-use Rattle.iref_normal.proofs.PathKeyLemmas.{Tells-path}
+use Rattle.iref_model.specs.NormalList.{normal_segments}
+use Rattle.iref_model.specs.PathKey.{path_key, path_key_cmp}
+use Rattle.iref_model.proofs.PathKeyLemmas.{Tells-path}
 
 -- ---- the last items passed over
 
@@ -86,29 +86,29 @@ read : (us : List Text) (s : Text) (xs : List Text) → xs ≡ us ++ s ∷ [] �
 read us s xs e = ap decoded e ∙ map-append percent_decode us (s ∷ [])
 
 pub order-before : (xs ys us vs : List Text) (s t : Text) (order : Ordering) → length xs ≡ length ys → xs ≡ us ++ s ∷ [] → ys ≡ vs ++ t ∷ []
-    → (length us ≡ length vs) × (ordering_then (slice_cmp text_cmp (decoded xs) (decoded ys)) order ≡ ordering_then (slice_cmp text_cmp (decoded us) (decoded vs)) (ordering_then (text_cmp (percent_decode s) (percent_decode t)) order))
+    → (length us ≡ length vs) × (ordering_then (slice_cmp text_order (decoded xs) (decoded ys)) order ≡ ordering_then (slice_cmp text_order (decoded us) (decoded vs)) (ordering_then (text_order (percent_decode s) (percent_decode t)) order))
 order-before xs ys us vs s t order h e f =
     let whole = sym (length-append us (s ∷ [])) ∙ sym (ap length e) ∙ h ∙ ap length f ∙ length-append vs (t ∷ []) in
     let same : length us ≡ length vs = omega (arith, whole) in
     let sizes : length (decoded us) ≡ length (decoded vs) = length-map us percent_decode ∙ same ∙ sym (length-map vs percent_decode) in (
       same,
-      (λ i. ordering_then (slice_cmp text_cmp (read us s xs e i) (read vs t ys f i)) order)
-          ∙ ap (λ o. ordering_then o order) (slice_cmp-last text_cmp (decoded us) (decoded vs) (percent_decode s) (percent_decode t) sizes)
-          ∙ sym (then-assoc (slice_cmp text_cmp (decoded us) (decoded vs)) (text_cmp (percent_decode s) (percent_decode t)) order),
+      (λ i. ordering_then (slice_cmp text_order (read us s xs e i) (read vs t ys f i)) order)
+          ∙ ap (λ o. ordering_then o order) (slice_cmp-last text_order (decoded us) (decoded vs) (percent_decode s) (percent_decode t) sizes)
+          ∙ sym (then-assoc (slice_cmp text_order (decoded us) (decoded vs)) (text_order (percent_decode s) (percent_decode t)) order),
     )
 
 -- what is known of two lists when their longer one has been cut
 pub order-cut : (xs ys us vs : List Text) (n m : ℕ) → n ≡ length xs → m ≡ length ys → us ≡ take (length xs - (n - m)) xs → vs ≡ take (length ys - (m - n)) ys
-    → (length us ≡ length vs) × (ordering_then (slice_cmp text_cmp (decoded us) (decoded vs)) (nat_cmp n m) ≡ slice_cmp text_cmp (decoded xs) (decoded ys))
+    → (length us ≡ length vs) × (ordering_then (slice_cmp text_order (decoded us) (decoded vs)) (nat_cmp n m) ≡ slice_cmp text_order (decoded xs) (decoded ys))
 order-cut xs ys us vs n m h k e f =
     let left : us ≡ take (length ys) xs = e ∙ (λ i. take (length xs - (h i - k i)) xs) ∙ cut_to xs (length ys) in
     let right : vs ≡ take (length xs) ys = f ∙ (λ i. take (length ys - (k i - h i)) ys) ∙ cut_to ys (length xs) in
     let left_size = ap length left ∙ length-take (length ys) xs in
     let right_size = ap length right ∙ length-take (length xs) ys in (
       omega (arith, left_size, right_size),
-      (λ i. ordering_then (slice_cmp text_cmp (decoded (left i)) (decoded (right i))) (nat_cmp (h i) (k i)))
-          ∙ (λ i. ordering_then (slice_cmp text_cmp (cut xs ys i) (cut ys xs i)) (nat_cmp (sym (length-map xs percent_decode) i) (sym (length-map ys percent_decode) i)))
-          ∙ sym (slice_cmp-cut text_cmp (decoded xs) (decoded ys)),
+      (λ i. ordering_then (slice_cmp text_order (decoded (left i)) (decoded (right i))) (nat_cmp (h i) (k i)))
+          ∙ (λ i. ordering_then (slice_cmp text_order (cut xs ys i) (cut ys xs i)) (nat_cmp (sym (length-map xs percent_decode) i) (sym (length-map ys percent_decode) i)))
+          ∙ sym (slice_cmp-cut text_order (decoded xs) (decoded ys)),
     )
   where
     cut : (xs ys : List Text) → decoded (take (length ys) xs) ≡ take (length (decoded ys)) (decoded xs)
@@ -128,16 +128,16 @@ fed_before write s t xs us x e h =
 module _ (p q : PathValue) (flags : Ordering) (flags_are : flags ≡ bool_cmp p.absolute q.absolute) where
   pub flags_decide : is_ne flags ≡ true → flags ≡ path_key_cmp (path_key p) (path_key q)
   unfolding path_key
-  flags_decide h = by flags (slice_cmp text_cmp (decoded (normal_segments p)) (decoded (normal_segments q))) h ∙ ap (λ o. ordering_then o (slice_cmp text_cmp (decoded (normal_segments p)) (decoded (normal_segments q)))) flags_are
+  flags_decide h = by flags (slice_cmp text_order (decoded (normal_segments p)) (decoded (normal_segments q))) h ∙ ap (λ o. ordering_then o (slice_cmp text_order (decoded (normal_segments p)) (decoded (normal_segments q)))) flags_are
     where
       by : (o rest : Ordering) → is_ne o ≡ true → o ≡ ordering_then o rest
       by Less rest h = refl
       by Equal rest h = absurd (true≢false (sym h))
       by Greater rest h = refl
 
-  pub lists_decide : (lists : Ordering) → is_ne flags ≡ false → lists ≡ slice_cmp text_cmp (decoded (normal_segments p)) (decoded (normal_segments q)) → lists ≡ path_key_cmp (path_key p) (path_key q)
+  pub lists_decide : (lists : Ordering) → is_ne flags ≡ false → lists ≡ slice_cmp text_order (decoded (normal_segments p)) (decoded (normal_segments q)) → lists ≡ path_key_cmp (path_key p) (path_key q)
   unfolding path_key
-  lists_decide lists h e = e ∙ by flags (slice_cmp text_cmp (decoded (normal_segments p)) (decoded (normal_segments q))) h ∙ ap (λ o. ordering_then o (slice_cmp text_cmp (decoded (normal_segments p)) (decoded (normal_segments q)))) flags_are
+  lists_decide lists h e = e ∙ by flags (slice_cmp text_order (decoded (normal_segments p)) (decoded (normal_segments q))) h ∙ ap (λ o. ordering_then o (slice_cmp text_order (decoded (normal_segments p)) (decoded (normal_segments q)))) flags_are
     where
       by : (o rest : Ordering) → is_ne o ≡ false → rest ≡ ordering_then o rest
       by Less rest h = absurd (true≢false h)

@@ -17,10 +17,11 @@ use Rattle.iref_grammar.specs.PathValue.{PathValue, read_path, segments_of, show
 use Rattle.iref_grammar.specs.Tests.{is_path, is_scheme}
 use Rattle.iref_grammar.proofs.CutLemmas.{from_first-yes, from_first-no, is_mark}
 use Rattle.iref_grammar.proofs.PathLemmas.{read_path-reads}
-use Rattle.iref_normal.specs.Guard.{guarded_list, with_dot}
-use Rattle.iref_normal.specs.PathFunctions.{directory_text, parent, looks_like_scheme}
-use Rattle.iref_normal.proofs.PieceLemmas.{LacksSlash, pieces-whole, pieces-append, some_piece}
-use Rattle.iref_normal.proofs.GrammarLemmas.{path_parts, path_joined, is_path-empty}
+use Rattle.iref_model.specs.Guard.{guarded_list, with_dot}
+use Rattle.iref_model.specs.PathFunctions.{directory_text, parent, looks_like_scheme}
+use Rattle.iref_model.proofs.PieceLemmas.{pieces-append, some_piece}
+use Rattle.iref_normal.proofs.SlashLemmas.{LacksSlash, pieces-whole}
+use Rattle.iref_model.proofs.PathGrammarLemmas.{path_parts, path_joined, is_path-empty}
 
 -- ---- a mark that the text has
 

@@ -9,12 +9,12 @@ use Rattle.iref_grammar.specs.Rules.{Text}
 use Rattle.iref_grammar.proofs.TextLemmas.{first_of_both, second_of_both}
 use Rattle.iref_grammar.specs.Texts.{is_empty}
 use Rattle.iref_grammar.specs.PathValue.{PathValue, is_one_empty, read_path}
-use Rattle.iref_normal.specs.NormalList.{is_dot_dot, is_name, counted, ends_in_dots, without_lone_empty, normal_segments}
-use Rattle.iref_normal.proofs.ItemLemmas.{name_no_parent, normal_segments-is}
+use Rattle.iref_model.specs.NormalList.{is_dot_dot, is_name, counted, ends_in_dots, without_lone_empty, normal_segments}
+use Rattle.iref_model.proofs.ItemLemmas.{name_no_parent, normal_segments-is}
 use Rattle.std.proofs.lemmas.Grind.{common_steps}
-use Rattle.iref_normal.specs.NormalReading.{open_before, staying_before, leading_parents, closing}
+use Rattle.iref_model.specs.NormalReading.{open_before, staying_before, leading_parents, closing}
 use Rattle.iref_normal.specs.Remaining.{are_no_parents, first_or}
-use Rattle.iref_normal.proofs.StayingLemmas.{open_before-append, staying_before-append}
+use Rattle.iref_model.proofs.StayingLemmas.{open_before-append, staying_before-append}
 
 -- ---- the three parts
 

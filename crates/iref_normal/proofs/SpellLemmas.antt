@@ -19,18 +19,18 @@ use Rattle.iref_grammar.specs.PathValue.{PathValue, is_one_empty, read_path, seg
 use Rattle.iref_grammar.proofs.TextLemmas.{first_of_both, second_of_both, join-pieces_at}
 use Rattle.iref_grammar.proofs.PathLemmas.{read_path-reads, read-spelled}
 use Rattle.iref_grammar.proofs.PathTestLemmas.{is_path-segments}
-use Rattle.iref_normal.specs.Guard.{guarded, with_dot}
-use Rattle.iref_normal.specs.NormalList.{is_dot_dot, is_name, counted, ends_in_dots, normal, normal_segments, without_lone_empty}
-use Rattle.iref_normal.specs.NormalReading.{open_before, staying_before, leading_parents, closing, items}
-use Rattle.iref_normal.specs.PathSteps.{normalized}
+use Rattle.iref_model.specs.Guard.{guarded, with_dot}
+use Rattle.iref_model.specs.NormalList.{is_dot_dot, is_name, counted, ends_in_dots, normal, normal_segments, without_lone_empty}
+use Rattle.iref_model.specs.NormalReading.{open_before, staying_before, leading_parents, closing, items}
+use Rattle.iref_model.specs.PathSteps.{normalized}
 use Rattle.iref_normal.specs.Remaining.{first_or}
 use Rattle.iref_normal.specs.Spelling.{each_closed, lead, needs_guard}
-use Rattle.iref_normal.proofs.GuardLemmas.{guarded-fits}
-use Rattle.iref_normal.proofs.PieceLemmas.{some_piece}
-use Rattle.iref_normal.proofs.ItemLemmas.{name_no_parent, normal_segments-is}
-use Rattle.iref_normal.proofs.NormalGrammarLemmas.{takes_dots}
-use Rattle.iref_normal.proofs.StepSegmentLemmas.{TakesDots, normalized-in}
-use Rattle.iref_normal.proofs.GrammarLemmas.{segments_of_path}
+use Rattle.iref_model.proofs.GuardLemmas.{guarded-fits}
+use Rattle.iref_model.proofs.PieceLemmas.{some_piece}
+use Rattle.iref_model.proofs.ItemLemmas.{name_no_parent, normal_segments-is}
+use Rattle.iref_model.proofs.NormalGrammarLemmas.{takes_dots}
+use Rattle.iref_model.proofs.StepSegmentLemmas.{TakesDots, normalized-in}
+use Rattle.iref_model.proofs.PathGrammarLemmas.{segments_of_path}
 
 -- ---- segments with a `/` after each
 

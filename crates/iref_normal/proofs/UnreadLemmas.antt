@@ -7,10 +7,10 @@ use Rattle.std.proofs.lemmas.Bool.Decides.{nat_tests}
 use mathlib.Core.Bool.{true≢false, beq}
 use Rattle.iref_grammar.specs.Rules.{Text}
 use Rattle.iref_grammar.specs.PathValue.{PathValue}
-use Rattle.iref_normal.specs.NormalList.{is_dot_dot, is_name, counted}
-use Rattle.iref_normal.specs.CountedEquality.{item_before, items_read, all_items_read, Comparison, IsCountedAnswer, items_compared}
-use Rattle.iref_normal.proofs.CountedLemmas.{compared_same}
-use Rattle.iref_normal.proofs.ItemLemmas.{name_no_parent}
+use Rattle.iref_model.specs.NormalList.{is_dot_dot, is_name, counted}
+use Rattle.iref_model.specs.CountedEquality.{item_before, items_read, all_items_read, Comparison, IsCountedAnswer, items_compared}
+use Rattle.iref_model.proofs.CountedLemmas.{compared_same}
+use Rattle.iref_model.proofs.ItemLemmas.{name_no_parent}
 use Rattle.iref_normal.specs.declared.equality.Unread.{Unread}
 use Rattle.iref_normal.specs.Unread.{GivesSegment, IsAnswer, segments_unread, items_unread, all_items_unread}
 

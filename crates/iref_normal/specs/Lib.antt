@@ -1,14 +1,4 @@
 pub mod Pieces
-pub mod Guard
-pub mod NormalList
-pub mod NormalReading
-pub mod PathFunctions
-pub mod PathSteps
-pub mod PathSuffix
-pub mod DotSegments
-pub mod CountedEquality
-pub mod PathKey
-pub mod PathHash
 pub mod Spelling
 pub mod Unread
 pub mod Remaining

@@ -5,8 +5,8 @@ use Rattle.std.specs.List.{list_all}
 use Rattle.percent_encoding.specs.Percent.{percent_decode}
 use Rattle.iref_grammar.specs.Rules.{Text}
 use Rattle.iref_normal.specs.Pieces.{pieces_if_some}
-use Rattle.iref_normal.specs.NormalList.{is_dot_dot}
-use Rattle.iref_normal.specs.NormalReading.{NormalRest, items_left, open_before, staying_before}
+use Rattle.iref_model.specs.NormalList.{is_dot_dot}
+use Rattle.iref_model.specs.NormalReading.{NormalRest, items_left, open_before, staying_before}
 use Rattle.iref_normal.specs.declared.remaining.Remaining.{Remaining}
 
 abbrev pub rest_of : Remaining → NormalRest

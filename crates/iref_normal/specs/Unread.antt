@@ -3,7 +3,7 @@ use Rattle.std.specs.Prelude.{◌≡◌, ℕ, ◌+◌, ◌<◌, ◌≤◌, ◌^�
 use Rattle.std.specs.Borrow.{Bor}
 use Rattle.iref_grammar.specs.Rules.{Text}
 use Rattle.iref_normal.specs.Pieces.{pieces_if_some}
-use Rattle.iref_normal.specs.CountedEquality.{ItemRead, Comparison, items_read, all_items_read}
+use Rattle.iref_model.specs.CountedEquality.{ItemRead, Comparison, items_read, all_items_read}
 use Rattle.iref_normal.specs.declared.equality.Steps.{Steps}
 use Rattle.iref_normal.specs.declared.equality.Unread.{Unread}
 

@@ -2,12 +2,13 @@
 
 ghost use Rattle.std.specs.Prelude.{◌≡◌, ◌+◌, ◌-◌, ◌<◌, ◌≤◌, ◌^◌, ◌∷◌, length, reverse};
 ghost use Rattle.iref_grammar.specs.PathValue.{read_path};
-ghost use Rattle.iref_normal.specs.PathFunctions.{segment_count};
-ghost use Rattle.iref_normal.specs.CountedEquality.{items_compared, IsCountedAnswer};
-ghost use Rattle.iref_normal.specs.NormalList.{is_name};
+ghost use Rattle.iref_model.specs.PathFunctions.{segment_count};
+ghost use Rattle.iref_model.specs.CountedEquality.{items_compared, IsCountedAnswer};
+ghost use Rattle.iref_model.specs.NormalList.{is_name};
+ghost use Rattle.iref_normal.specs.Unread.{AreCounted, HaveRoom, IsAnswer, IsCountable, IsShorter, all_items_unread, items_unread, segments_unread, steps_count};
 
 use crate::pieces::{last_piece, segments_fit, split_root};
-use iref_parse::decoded::decoded_eq;
+use iref_core::decoded::decoded_eq;
 
 /// How many segments comparisons have read.
 #[derive(Clone, Copy, Debug)]
@@ -141,7 +142,6 @@ impl<'a> Unread<'a> {
     }
 }
 
-ghost use Rattle.iref_normal.specs.Unread.{AreCounted, HaveRoom, IsAnswer, IsCountable, IsShorter, all_items_unread, items_unread, segments_unread, steps_count};
 
 /// Whether what is left of both paths decodes to the same items.
 fn items_eq(left: &mut Unread<'_>, right: &mut Unread<'_>, steps: &mut Steps) -> bool

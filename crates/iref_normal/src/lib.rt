@@ -3,7 +3,6 @@
 
 pub mod equality;
 pub mod order;
-pub mod path_laws;
 pub mod path_text;
 pub mod pieces;
 pub mod remaining;

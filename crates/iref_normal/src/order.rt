@@ -4,14 +4,15 @@ ghost use Rattle.std.specs.Prelude.{◌≡◌, ◌-◌, ◌≤◌, true, fold, l
 ghost use Rattle.std.specs.Cmp.Lexicographic.{slice_cmp};
 ghost use Rattle.percent_encoding.specs.Percent.{percent_decode};
 ghost use Rattle.iref_grammar.specs.PathValue.{read_path};
-ghost use Rattle.iref_normal.specs.NormalList.{normal_segments};
-ghost use Rattle.iref_normal.specs.PathKey.{path_key, path_key_cmp, text_cmp};
-ghost use Rattle.iref_normal.specs.PathHash.{fed_from_the_back, fed_path};
+ghost use Rattle.iref_model.specs.NormalList.{normal_segments};
+ghost use Rattle.iref_model.specs.PathKey.{path_key, path_key_cmp};
+ghost use Rattle.iref_model.specs.PathHash.{fed_from_the_back, fed_path};
 ghost use Rattle.iref_normal.specs.Remaining.{IsReadable, decoded_left, is_settled, normal_left};
+ghost use Rattle.iref_grammar.specs.Keys.{text_order};
 
 use crate::pieces::split_root;
 use crate::remaining::Remaining;
-use iref_parse::decoded::{decoded_cmp, hash_decoded};
+use iref_core::decoded::{decoded_cmp, hash_decoded};
 use std::cmp::Ordering;
 use std::hash::{Hash, Hasher};
 
@@ -43,7 +44,7 @@ fn same_length_cmp(left: &mut Remaining<'_>, right: &mut Remaining<'_>) -> Order
     requires right { IsReadable right.old }
     requires right_settled { is_settled right.old ≡ true }
     requires same_length { length (normal_left left.old) ≡ length (normal_left right.old) }
-    ensures { result ≡ slice_cmp text_cmp (decoded_left left.old) (decoded_left right.old) }
+    ensures { result ≡ slice_cmp text_order (decoded_left left.old) (decoded_left right.old) }
 {
     let mut order = Ordering::Equal;
     while let Some(item) = left.next_back() {
@@ -57,7 +58,7 @@ fn same_length_cmp(left: &mut Remaining<'_>, right: &mut Remaining<'_>) -> Order
 
 /// The order of the decoded normal lists of two paths, the shorter first.
 fn normal_lists_cmp(a: &str, b: &str) -> Ordering
-    ensures { result ≡ slice_cmp text_cmp (map percent_decode (normal_segments (read_path a.now))) (map percent_decode (normal_segments (read_path b.now))) }
+    ensures { result ≡ slice_cmp text_order (map percent_decode (normal_segments (read_path a.now))) (map percent_decode (normal_segments (read_path b.now))) }
 {
     let (mut left, left_count) = Remaining::new(a);
     let (mut right, right_count) = Remaining::new(b);

@@ -3,7 +3,7 @@
 ghost use Rattle.std.specs.Prelude.{◌≡◌, true, None, Some, MatchOption, IfSome};
 ghost use Rattle.iref_grammar.specs.Tests.{is_path};
 ghost use Rattle.iref_grammar.specs.PathValue.{read_path};
-ghost use Rattle.iref_normal.specs.PathFunctions as function;
+ghost use Rattle.iref_model.specs.PathFunctions as function;
 
 use iref_grammar::chars::CharSet;
 use iref_parse::cut::cut;

@@ -27,7 +27,7 @@ pub fn last_piece(text: &str) -> (Option<&str>, &str)
 }
 
 /// The text, unless it is empty: the empty text of a path has no segment.
-#[tactic(auto, using(crate::proofs::PieceLemmas::counts))]
+#[tactic(auto, using(crate::proofs::SlashLemmas::counts))]
 fn unless_empty(text: &str) -> Option<&str>
     ensures segments { pieces_if_some result ≡ segments_of text.now }
     ensures fits { length (pieces_if_some result) < 2 ^ 64 }
@@ -54,7 +54,7 @@ fn slash_count(text: &str) -> usize
 }
 
 /// How many segments the text has.
-#[tactic(auto, using(crate::proofs::PieceLemmas::counts))]
+#[tactic(auto, using(crate::proofs::SlashLemmas::counts))]
 pub fn piece_count(text: &str) -> usize
     ensures { result ≡ length (pieces_at slash text.now) }
 {

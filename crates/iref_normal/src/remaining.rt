@@ -4,9 +4,9 @@ ghost use Rattle.std.specs.Prelude.{◌≡◌, ◌+◌, ◌<◌, ◌≤◌, ◌^
 ghost use Rattle.iref_grammar.specs.PathValue.{read_path};
 ghost use Rattle.iref_grammar.specs.Texts.{is_empty};
 ghost use Rattle.iref_normal.specs.Pieces.{pieces_if_some};
-ghost use Rattle.iref_normal.specs.NormalList.{normal_segments};
-ghost use Rattle.iref_normal.specs.NormalList as list;
-ghost use Rattle.iref_normal.specs.NormalReading.{open_before, staying_before};
+ghost use Rattle.iref_model.specs.NormalList.{normal_segments};
+ghost use Rattle.iref_model.specs.NormalList as list;
+ghost use Rattle.iref_model.specs.NormalReading.{open_before, staying_before};
 ghost use Rattle.iref_normal.specs.Remaining.{IsFate, IsReadable, KeepsEnds, first_or, is_settled, names_left, normal_left, open_at_start};
 
 use crate::equality::is_name;
@@ -50,7 +50,7 @@ fn survey(rest: Option<&str>) -> (usize, usize, &str)
 }
 
 /// The segments of a text and one more can be counted.
-#[tactic(auto, using(crate::proofs::PieceLemmas::counts))]
+#[tactic(auto, using(crate::proofs::SlashLemmas::counts))]
 fn room_for_one_more(rest: Option<&str>)
     ensures { length (pieces_if_some rest.entry) + 1 < 2 ^ 64 }
 {

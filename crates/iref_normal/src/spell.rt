@@ -7,8 +7,8 @@ ghost use Rattle.iref_grammar.specs.Contexts.{alone};
 ghost use Rattle.iref_grammar.specs.Grammar.{slash};
 ghost use Rattle.iref_grammar.specs.PathValue.{read_path, spell_path};
 ghost use Rattle.iref_grammar.specs.Tests.{is_path};
-ghost use Rattle.iref_normal.specs.NormalList.{normal_segments};
-ghost use Rattle.iref_normal.specs.PathSteps.{normalized};
+ghost use Rattle.iref_model.specs.NormalList.{normal_segments};
+ghost use Rattle.iref_model.specs.PathSteps.{normalized};
 ghost use Rattle.iref_normal.specs.Remaining.{IsReadable, first_or, is_settled, normal_left};
 ghost use Rattle.iref_normal.specs.Spelling.{each_closed};
 ghost use Rattle.iref_normal.specs.Spelling as spelling;
@@ -17,7 +17,7 @@ use crate::pieces::split_root;
 use crate::remaining::Remaining;
 use iref_grammar::chars::CharSet;
 use iref_parse::cut::cut;
-use iref_parse::error::Memory;
+use iref_core::error::Memory;
 use std::alloc::Global;
 
 /// How many bytes the items have with a `/` after each, and the first of them, or nothing.

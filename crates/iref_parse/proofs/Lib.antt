@@ -6,4 +6,3 @@ pub mod GroupLemmas
 pub mod DoubleColonLemmas
 pub mod LiteralLemmas
 pub mod SlicePlaceLemmas
-pub mod KeyLemmas

@@ -3,8 +3,8 @@ use Rattle.std.specs.Prelude.{◌≡◌, Bool, Decides}
 use Rattle.std.specs.Hash.{HashWrites}
 use Rattle.std.specs.declared.cmp.Ordering.{Ordering}
 use Rattle.iref_grammar.specs.PathValue.{PathValue}
-use Rattle.iref_normal.specs.PathHash.{fed_path}
-use Rattle.iref_normal.specs.PathKey.{path_key, path_key_cmp}
+use Rattle.iref_model.specs.PathHash.{fed_path}
+use Rattle.iref_model.specs.PathKey.{path_key, path_key_cmp}
 
 -- values are equal exactly where their paths have the same key, in the order of the keys, and a hasher is fed the key
 abbrev pub ComparesByPathKey : {V : Type 0} → (V → PathValue) → (V → V → Bool) → (V → V → Ordering) → (V → HashWrites) → Type 0

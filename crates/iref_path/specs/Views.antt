@@ -2,7 +2,7 @@
 use Rattle.std.specs.Prelude.{List}
 use Rattle.iref_grammar.specs.Rules.{Text}
 use Rattle.iref_grammar.specs.PathValue.{PathValue, read_path}
-use Rattle.iref_parse.specs.Views.{view_text, owned_text}
+use Rattle.iref_core.specs.Views.{view_text, owned_text}
 use Rattle.iref_path.specs.declared.segment.Segment.{Segment}
 use Rattle.iref_path.specs.declared.segment_buf.SegmentBuf.{SegmentBuf}
 use Rattle.iref_path.specs.declared.path_buf.PathBuf.{PathBuf}

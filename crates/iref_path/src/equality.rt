@@ -1,8 +1,8 @@
 //! Equality of paths: one scan of both from the back, with a count of the segments read.
 ghost use Rattle.std.specs.Prelude.{◌≡◌, ◌+◌, ◌-◌, ◌<◌, ◌≤◌, ◌^◌, Decides};
-ghost use Rattle.iref_normal.specs.PathKey.{path_key};
-ghost use Rattle.iref_normal.specs.PathFunctions.{segment_count};
-ghost use Rattle.iref_normal.specs.CountedEquality.{IsCountedAnswer};
+ghost use Rattle.iref_model.specs.PathKey.{path_key};
+ghost use Rattle.iref_model.specs.PathFunctions.{segment_count};
+ghost use Rattle.iref_model.specs.CountedEquality.{IsCountedAnswer};
 ghost use Rattle.iref_normal.specs.Unread.{steps_count};
 ghost use Rattle.iref_path.specs.Views.{path_value};
 
@@ -22,7 +22,7 @@ pub fn new_steps_have_room<C: CharSet>(a: Path<'_, C>, b: Path<'_, C>)
 
 /// Whether two paths are equal: their flags and their normal lists, each segment decoded. The count grows by the segments
 /// that are read, each of them once.
-#[tactic(auto, using(iref_normal::proofs::CountedLemmas::decided))]
+#[tactic(auto, using(iref_model::proofs::CountedLemmas::decided))]
 pub fn path_eq_counted<C: CharSet>(a: Path<'_, C>, b: Path<'_, C>, steps: &mut Steps) -> bool
     requires { steps_count steps.old + segment_count (path_value a) + segment_count (path_value b) < 2 ^ 128 }
     ensures equal { Decides result (path_key (path_value a.entry) ≡ path_key (path_value b.entry)) }

@@ -5,7 +5,7 @@ ghost use Rattle.std.specs.List.{list_all};
 ghost use Rattle.std.specs.Iterator.{YieldsFirstBy, YieldsLastBy, item_count};
 ghost use Rattle.iref_grammar.specs.PathValue.{read_path};
 ghost use Rattle.iref_grammar.specs.Tests.{is_path, is_segment};
-ghost use Rattle.iref_normal.specs.NormalList.{normal_segments};
+ghost use Rattle.iref_model.specs.NormalList.{normal_segments};
 ghost use Rattle.iref_normal.specs.Remaining.{IsReadable, is_settled, normal_left};
 
 use crate::path::Path;

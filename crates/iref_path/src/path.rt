@@ -8,12 +8,12 @@ ghost use Rattle.std.proofs.Common.{rules};
 ghost use Rattle.iref_grammar.specs.Rules.{InUtf8};
 ghost use Rattle.iref_grammar.specs.Grammar.{IsPath};
 ghost use Rattle.iref_grammar.specs.Tests.{is_path};
-ghost use Rattle.iref_parse.specs.Makers.{Parses};
+ghost use Rattle.iref_core.specs.Makers.{Parses};
 ghost use Rattle.iref_grammar.specs.Texts.{is_empty};
-ghost use Rattle.iref_normal.specs.PathFunctions as function;
+ghost use Rattle.iref_model.specs.PathFunctions as function;
 ghost use Rattle.iref_path.specs.Views.{path_text, path_value, segment_text, segments_left};
-ghost use Rattle.iref_normal.specs.PathKey.{path_key, path_key_cmp, path_keys_total};
-ghost use Rattle.iref_normal.specs.PathHash.{fed_path};
+ghost use Rattle.iref_model.specs.PathKey.{path_key, path_key_cmp, path_keys_total};
+ghost use Rattle.iref_model.specs.PathHash.{fed_path};
 ghost use Rattle.iref_normal.proofs.OrderLemmas.{fed_where_tied};
 
 use crate::equality::{Steps, new_steps_have_room, path_eq_counted};
@@ -24,7 +24,7 @@ use iref_grammar::chars::CharSet;
 use iref_normal::order::{hash_path_text, path_texts_cmp};
 use iref_normal::path_text::{directory_text, looks_like_scheme, parent_text};
 use iref_normal::pieces::split_root;
-use iref_parse::view::View;
+use iref_core::view::View;
 use std::cmp::Ordering;
 use std::convert::TryFrom;
 use std::fmt;
@@ -88,7 +88,7 @@ impl<'a, C: CharSet> Path<'a, C> {
     }
 
     /// The relative path without segments.
-    #[tactic(auto, using(iref_normal::proofs::GrammarLemmas::empty_paths))]
+    #[tactic(auto, using(iref_model::proofs::PathGrammarLemmas::empty_paths))]
     pub fn empty_relative() -> Self
         ensures { path_text result ≡ [] }
     {
@@ -96,7 +96,7 @@ impl<'a, C: CharSet> Path<'a, C> {
     }
 
     /// The absolute path without segments.
-    #[tactic(auto, using(iref_normal::proofs::GrammarLemmas::empty_paths))]
+    #[tactic(auto, using(iref_model::proofs::PathGrammarLemmas::empty_paths))]
     pub fn empty_absolute() -> Self
         ensures { path_text result ≡ codes "/" }
     {
@@ -111,7 +111,7 @@ impl<'a, C: CharSet> Path<'a, C> {
     }
 
     /// Whether the path has no segments.
-    #[tactic(auto, using(iref_normal::proofs::PieceLemmas::some_pieces))]
+    #[tactic(auto, using(iref_normal::proofs::SlashLemmas::some_pieces))]
     pub fn is_empty(&self) -> bool
         ensures { result ≡ is_empty (path_value self.now).segments }
     {
@@ -162,7 +162,7 @@ impl<'a, C: CharSet> Path<'a, C> {
     }
 
     /// The last segment unless it is empty.
-    #[tactic(auto, unfolding(iref_normal::specs::PathFunctions::file_name))]
+    #[tactic(auto, unfolding(iref_model::specs::PathFunctions::file_name))]
     pub fn file_name(&self) -> Option<Segment<'a, C>>
         ensures { option_map segment_text result ≡ function.file_name (path_value self.now) }
     {
@@ -189,7 +189,7 @@ impl<'a, C: CharSet> Path<'a, C> {
     }
 
     /// The parent, or else the empty path that is absolute where this one is.
-    #[tactic(auto, unfolding(iref_normal::specs::PathFunctions::parent_or_empty))]
+    #[tactic(auto, unfolding(iref_model::specs::PathFunctions::parent_or_empty))]
     pub fn parent_or_empty(&self) -> Self
         ensures { path_value result ≡ function.parent_or_empty (path_value self.now) }
     {

@@ -12,12 +12,12 @@ ghost use Rattle.iref_grammar.specs.Grammar.{IsPath};
 ghost use Rattle.iref_grammar.specs.PathValue.{spell_path};
 ghost use Rattle.iref_grammar.specs.Tests.{is_path};
 ghost use Rattle.iref_grammar.specs.Texts.{is_empty};
-ghost use Rattle.iref_parse.specs.Makers.{Parses};
-ghost use Rattle.iref_normal.specs.NormalList.{normal_segments};
-ghost use Rattle.iref_normal.specs.PathFunctions as function;
-ghost use Rattle.iref_normal.specs.PathKey.{path_key, path_key_cmp, path_keys_total};
-ghost use Rattle.iref_normal.specs.PathHash.{fed_path};
-ghost use Rattle.iref_normal.specs.PathSteps as step;
+ghost use Rattle.iref_core.specs.Makers.{Parses};
+ghost use Rattle.iref_model.specs.NormalList.{normal_segments};
+ghost use Rattle.iref_model.specs.PathFunctions as function;
+ghost use Rattle.iref_model.specs.PathKey.{path_key, path_key_cmp, path_keys_total};
+ghost use Rattle.iref_model.specs.PathHash.{fed_path};
+ghost use Rattle.iref_model.specs.PathSteps as step;
 ghost use Rattle.iref_normal.proofs.OrderLemmas.{fed_where_tied};
 ghost use Rattle.iref_path.specs.Views.{path_text, path_buf_text, path_value, path_buf_value, segment_text, segments_left};
 ghost use Rattle.iref_path.specs.NormalViews.{normal_segments_left};
@@ -29,10 +29,10 @@ use crate::rules::PathRule;
 use crate::segment::Segment;
 use crate::segments::Segments;
 use iref_grammar::chars::CharSet;
-use iref_normal::path_laws::normalizing_keeps_the_key;
+use iref_model::path_laws::normalizing_keeps_the_key;
 use iref_normal::spell::normalized_text;
-use iref_parse::error::Memory;
-use iref_parse::owned::TextBuf;
+use iref_core::error::Memory;
+use iref_core::owned::TextBuf;
 use std::alloc::Global;
 use std::cmp::Ordering;
 use std::convert::TryFrom;
@@ -89,7 +89,7 @@ impl<C: CharSet> PathBuf<C> {
     }
 
     /// The empty path, which takes no memory.
-    #[tactic(auto, using(iref_normal::proofs::GrammarLemmas::empty_paths))]
+    #[tactic(auto, using(iref_model::proofs::PathGrammarLemmas::empty_paths))]
     pub fn empty(alloc: Global) -> Self
         ensures { path_buf_text result ≡ [] }
     {

@@ -8,9 +8,9 @@ ghost use Rattle.iref_grammar.specs.Tests.{is_path, is_segment};
 
 use iref_grammar::chars::CharSet;
 use iref_grammar::text_laws::{path_grammar, segment_grammar};
-use iref_parse::key::{DecodedBytes, Key};
+use iref_core::key::{DecodedBytes, Key};
 use iref_parse::scan;
-use iref_parse::view::{Keyed, Rule};
+use iref_core::view::{Keyed, Rule};
 
 /// The rule of segments.
 pub struct SegmentRule;

@@ -4,16 +4,16 @@ ghost use Rattle.std.specs.Prelude.{◌≡◌, true, [], Some, length, codes};
 ghost use Rattle.iref_grammar.specs.Rules.{InUtf8};
 ghost use Rattle.iref_grammar.specs.Grammar.{IsSegment};
 ghost use Rattle.iref_grammar.specs.Tests.{is_segment};
-ghost use Rattle.iref_parse.specs.Makers.{Parses};
+ghost use Rattle.iref_core.specs.Makers.{Parses};
 ghost use Rattle.iref_grammar.specs.Texts.{is_empty};
-ghost use Rattle.iref_normal.specs.PathFunctions as function;
+ghost use Rattle.iref_model.specs.PathFunctions as function;
 ghost use Rattle.iref_text.specs.Components.{pct_text};
 ghost use Rattle.iref_path.specs.Views.{segment_text};
 
 use crate::rules::SegmentRule;
 use iref_grammar::chars::CharSet;
 use iref_normal::path_text::looks_like_scheme;
-use iref_parse::view::View;
+use iref_core::view::View;
 use iref_text::pct::PctStr;
 use std::convert::TryFrom;
 use std::fmt;
@@ -76,7 +76,7 @@ impl<'a, C: CharSet> Segment<'a, C> {
     }
 
     /// The empty segment.
-    #[tactic(auto, using(iref_normal::proofs::GrammarLemmas::short_segments))]
+    #[tactic(auto, using(iref_model::proofs::PathGrammarLemmas::short_segments))]
     pub fn empty() -> Self
         ensures { segment_text result ≡ [] }
     {
@@ -84,7 +84,7 @@ impl<'a, C: CharSet> Segment<'a, C> {
     }
 
     /// The segment `.`.
-    #[tactic(auto, using(iref_normal::proofs::GrammarLemmas::short_segments))]
+    #[tactic(auto, using(iref_model::proofs::PathGrammarLemmas::short_segments))]
     pub fn current() -> Self
         ensures { segment_text result ≡ codes "." }
     {
@@ -92,7 +92,7 @@ impl<'a, C: CharSet> Segment<'a, C> {
     }
 
     /// The segment `..`.
-    #[tactic(auto, using(iref_normal::proofs::GrammarLemmas::short_segments))]
+    #[tactic(auto, using(iref_model::proofs::PathGrammarLemmas::short_segments))]
     pub fn parent() -> Self
         ensures { segment_text result ≡ codes ".." }
     {

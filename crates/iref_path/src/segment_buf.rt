@@ -7,17 +7,17 @@ ghost use Rattle.iref_grammar.specs.Rules.{InUtf8};
 ghost use Rattle.iref_grammar.specs.Grammar.{IsSegment};
 ghost use Rattle.iref_grammar.specs.Tests.{is_segment};
 ghost use Rattle.iref_grammar.specs.Texts.{is_empty};
-ghost use Rattle.iref_parse.specs.Keys.{ComparesBy};
-ghost use Rattle.iref_parse.specs.Makers.{Parses};
+ghost use Rattle.iref_grammar.specs.Keys.{ComparesBy};
+ghost use Rattle.iref_core.specs.Makers.{Parses};
 ghost use Rattle.iref_text.specs.Components.{pct_text};
-ghost use Rattle.iref_normal.specs.PathFunctions as function;
+ghost use Rattle.iref_model.specs.PathFunctions as function;
 ghost use Rattle.iref_path.specs.Views.{segment_text, segment_buf_text};
 
 use crate::rules::SegmentRule;
 use crate::segment::{InvalidSegment, Segment};
 use iref_grammar::chars::CharSet;
-use iref_parse::error::Memory;
-use iref_parse::owned::TextBuf;
+use iref_core::error::Memory;
+use iref_core::owned::TextBuf;
 use iref_text::pct::PctStr;
 use std::alloc::Global;
 use std::convert::TryFrom;
@@ -61,7 +61,7 @@ impl<C: CharSet> SegmentBuf<C> {
     }
 
     /// The empty segment, which takes no memory.
-    #[tactic(auto, using(iref_normal::proofs::GrammarLemmas::short_segments))]
+    #[tactic(auto, using(iref_model::proofs::PathGrammarLemmas::short_segments))]
     pub fn empty(alloc: Global) -> Self
         ensures { segment_buf_text result ≡ [] }
     {

@@ -5,9 +5,10 @@ use Rattle.std.specs.Option.{option_cmp, option_eq}
 use Rattle.std.specs.Ordering.{ordering_then, is_ne}
 use mathlib.Core.Bool.{true≢false}
 use Rattle.iref_grammar.specs.Reference.{ReferenceValue}
-use Rattle.iref_authority.specs.AuthorityKey.{authority_key_cmp}
-use Rattle.iref_normal.specs.PathKey.{text_cmp, path_key_cmp}
-use Rattle.iref_refs.specs.Key.{key_cmp}
+use Rattle.iref_model.specs.AuthorityKey.{authority_key_cmp}
+use Rattle.iref_model.specs.PathKey.{path_key_cmp}
+use Rattle.iref_model.specs.Key.{key_cmp}
+use Rattle.iref_grammar.specs.Keys.{text_order}
 
 -- of values that may be absent: the order of their keys, with two steps from a value to its key
 pub option_cmp-by : {A B K : Type 0} (R : A → A → Ordering) (S : K → K → Ordering) (f : A → B) (g : B → K) → ((x y : A) → R x y ≡ S (g (f x)) (g (f y)))
@@ -86,28 +87,28 @@ module _ (s a p q f : Ordering) where
 
 module _ (k l : ReferenceValue) where
   abbrev front : Ordering
-  front = ordering_then (option_cmp text_cmp k.scheme l.scheme) (option_cmp authority_key_cmp k.authority l.authority)
+  front = ordering_then (option_cmp text_order k.scheme l.scheme) (option_cmp authority_key_cmp k.authority l.authority)
 
   abbrev tail : Ordering
-  tail = ordering_then (option_cmp text_cmp k.query l.query) (option_cmp text_cmp k.fragment l.fragment)
+  tail = ordering_then (option_cmp text_order k.query l.query) (option_cmp text_order k.fragment l.fragment)
 
   pub by_front : is_ne front ≡ true → front ≡ key_cmp k l
   unfolding key_cmp
   by_front =
-      front_decides (option_cmp text_cmp k.scheme l.scheme) (option_cmp authority_key_cmp k.authority l.authority) (path_key_cmp k.path l.path)
-      (option_cmp text_cmp k.query l.query) (option_cmp text_cmp k.fragment l.fragment)
+      front_decides (option_cmp text_order k.scheme l.scheme) (option_cmp authority_key_cmp k.authority l.authority) (path_key_cmp k.path l.path)
+      (option_cmp text_order k.query l.query) (option_cmp text_order k.fragment l.fragment)
 
   pub by_path : is_ne front ≡ false → is_ne (path_key_cmp k.path l.path) ≡ true → path_key_cmp k.path l.path ≡ key_cmp k l
   unfolding key_cmp
   by_path =
-      path_decides (option_cmp text_cmp k.scheme l.scheme) (option_cmp authority_key_cmp k.authority l.authority) (path_key_cmp k.path l.path)
-      (option_cmp text_cmp k.query l.query) (option_cmp text_cmp k.fragment l.fragment)
+      path_decides (option_cmp text_order k.scheme l.scheme) (option_cmp authority_key_cmp k.authority l.authority) (path_key_cmp k.path l.path)
+      (option_cmp text_order k.query l.query) (option_cmp text_order k.fragment l.fragment)
 
   pub by_tail : is_ne front ≡ false → is_ne (path_key_cmp k.path l.path) ≡ false → tail ≡ key_cmp k l
   unfolding key_cmp
   by_tail =
-      tail_decides (option_cmp text_cmp k.scheme l.scheme) (option_cmp authority_key_cmp k.authority l.authority) (path_key_cmp k.path l.path)
-      (option_cmp text_cmp k.query l.query) (option_cmp text_cmp k.fragment l.fragment)
+      tail_decides (option_cmp text_order k.scheme l.scheme) (option_cmp authority_key_cmp k.authority l.authority) (path_key_cmp k.path l.path)
+      (option_cmp text_order k.query l.query) (option_cmp text_order k.fragment l.fragment)
 
 -- ---- and whether they all tie
 
@@ -123,12 +124,12 @@ all_tie Equal Equal Equal Greater f = refl
 all_tie Equal Equal Equal Equal f = refl
 
 pub tied_by_components : (k l : ReferenceValue) → is_eq (key_cmp k l)
-    ≡ (is_eq (option_cmp text_cmp k.scheme l.scheme) && (is_eq (option_cmp authority_key_cmp k.authority l.authority)
-    && (is_eq (path_key_cmp k.path l.path) && (is_eq (option_cmp text_cmp k.query l.query) && is_eq (option_cmp text_cmp k.fragment l.fragment)))))
+    ≡ (is_eq (option_cmp text_order k.scheme l.scheme) && (is_eq (option_cmp authority_key_cmp k.authority l.authority)
+    && (is_eq (path_key_cmp k.path l.path) && (is_eq (option_cmp text_order k.query l.query) && is_eq (option_cmp text_order k.fragment l.fragment)))))
 unfolding key_cmp
 tied_by_components k l =
-    all_tie (option_cmp text_cmp k.scheme l.scheme) (option_cmp authority_key_cmp k.authority l.authority) (path_key_cmp k.path l.path)
-    (option_cmp text_cmp k.query l.query) (option_cmp text_cmp k.fragment l.fragment)
+    all_tie (option_cmp text_order k.scheme l.scheme) (option_cmp authority_key_cmp k.authority l.authority) (path_key_cmp k.path l.path)
+    (option_cmp text_order k.query l.query) (option_cmp text_order k.fragment l.fragment)
 
 and_no : (b rest : Bool) → b ≡ false → (b && rest) ≡ false
 and_no b rest h = ap (λ c. c && rest) h
@@ -149,7 +150,7 @@ not_unequal false h = h
 
 module _ (k l : ReferenceValue) where
   abbrev schemes_tie : Bool
-  schemes_tie = is_eq (option_cmp text_cmp k.scheme l.scheme)
+  schemes_tie = is_eq (option_cmp text_order k.scheme l.scheme)
 
   abbrev authorities_tie : Bool
   authorities_tie = is_eq (option_cmp authority_key_cmp k.authority l.authority)
@@ -158,7 +159,7 @@ module _ (k l : ReferenceValue) where
   paths_tie = is_eq (path_key_cmp k.path l.path)
 
   abbrev queries_tie : Bool
-  queries_tie = is_eq (option_cmp text_cmp k.query l.query)
+  queries_tie = is_eq (option_cmp text_order k.query l.query)
 
   pub schemes_differ : schemes_tie ≡ false → false ≡ is_eq (key_cmp k l)
   schemes_differ s = sym (tied_by_components k l ∙ and_no schemes_tie _ s)
@@ -172,6 +173,6 @@ module _ (k l : ReferenceValue) where
   pub queries_differ : schemes_tie ≡ true → authorities_tie ≡ true → paths_tie ≡ true → queries_tie ≡ false → false ≡ is_eq (key_cmp k l)
   queries_differ s a p q = sym (tied_by_components k l ∙ and_yes schemes_tie _ s ∙ and_yes authorities_tie _ a ∙ and_yes paths_tie _ p ∙ and_no queries_tie _ q)
 
-  pub fragments_decide : schemes_tie ≡ true → authorities_tie ≡ true → paths_tie ≡ true → queries_tie ≡ true → is_eq (option_cmp text_cmp k.fragment l.fragment) ≡ is_eq (key_cmp k l)
+  pub fragments_decide : schemes_tie ≡ true → authorities_tie ≡ true → paths_tie ≡ true → queries_tie ≡ true → is_eq (option_cmp text_order k.fragment l.fragment) ≡ is_eq (key_cmp k l)
   fragments_decide s a p q =
       sym (tied_by_components k l ∙ and_yes schemes_tie _ s ∙ and_yes authorities_tie _ a ∙ and_yes paths_tie _ p ∙ and_yes queries_tie _ q)

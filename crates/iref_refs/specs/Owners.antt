@@ -1,7 +1,7 @@
 -- What callers see of the owners of references.
 use Rattle.iref_grammar.specs.Rules.{Text}
 use Rattle.iref_grammar.specs.Reference.{ReferenceValue, read_reference}
-use Rattle.iref_refs.specs.Key.{key}
+use Rattle.iref_model.specs.Key.{key}
 use Rattle.iref_refs.specs.declared.buf.uri_ref_buf.UriRefBuf.{UriRefBuf}
 use Rattle.iref_refs.specs.declared.buf.uri_buf.UriBuf.{UriBuf}
 
@@ -20,5 +20,8 @@ abbrev pub uri_buf_value : {C : _} → UriBuf C → ReferenceValue
 uri_buf_value u = read_reference (uri_buf_text u)
 
 -- what owners are compared by
-abbrev pub key_of_text : Text → ReferenceValue
-key_of_text text = key (read_reference text)
+abbrev pub key_of_uri_ref_buf : {C : _} → UriRefBuf C → ReferenceValue
+key_of_uri_ref_buf r = key (uri_ref_buf_value r)
+
+abbrev pub key_of_uri_buf : {C : _} → UriBuf C → ReferenceValue
+key_of_uri_buf u = key (uri_buf_value u)

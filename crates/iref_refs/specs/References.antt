@@ -1,17 +1,18 @@
 -- What callers see of references and of their parts.
 use Rattle.std.specs.Prelude.{Some, option_map}
 use Rattle.iref_grammar.specs.Rules.{Text}
-use Rattle.iref_parse.specs.Views.{view_text}
-use Rattle.iref_text.specs.Components.{scheme_text, query_text, fragment_text}
+use Rattle.iref_core.specs.Views.{view_text}
+use Rattle.iref_text.specs.Components.{query_text, fragment_text}
 use Rattle.iref_grammar.specs.ComponentTexts.{ComponentTexts, read_components}
 use Rattle.iref_grammar.specs.Reference.{ReferenceValue, read_reference}
 use Rattle.iref_path.specs.Views.{path_text}
 use Rattle.iref_authority.specs.Views.{authority_text}
-use Rattle.iref_refs.specs.Key.{key}
+use Rattle.iref_model.specs.Key.{key}
 use Rattle.iref_refs.specs.declared.reference.uri_ref.UriRef.{UriRef}
 use Rattle.iref_refs.specs.declared.reference.uri.Uri.{Uri}
 use Rattle.iref_refs.specs.declared.reference.parts.UriRefParts.{UriRefParts}
 use Rattle.iref_refs.specs.declared.reference.parts.UriParts.{UriParts}
+use Rattle.iref_common.specs.Components.{scheme_text}
 
 -- the text of a reference, and what it is read as
 abbrev pub uri_ref_text : {C : _} {c : _} → UriRef C c → Text

@@ -1,5 +1,4 @@
 //! References and URIs (RFC 3986 sections 3 and 4.1).
-pub mod base;
 pub mod order;
 pub mod parts;
 pub mod uri;

@@ -5,7 +5,7 @@ use iref_authority::authority::{Authority, AuthorityBuf, InvalidAuthority};
 use iref_authority::host::{Host, HostBuf, InvalidHost};
 use iref_authority::user_info::{InvalidUserInfo, UserInfo, UserInfoBuf};
 use iref_grammar::chars::{CharSet, IriChars, UriChars};
-use iref_text::common::Port;
+use iref_common::Port;
 use std::convert::TryFrom;
 use std::process::Abort;
 use std::test::Fail;

@@ -2,7 +2,7 @@
 
 ghost use Rattle.std.specs.Prelude.{◌≡◌, IfOk, count_by, fold, length, map, max, reverse};
 ghost use Rattle.iref_grammar.specs.Texts.{is_empty};
-ghost use Rattle.iref_normal.specs.NormalList.{normal_segments};
+ghost use Rattle.iref_model.specs.NormalList.{normal_segments};
 ghost use Rattle.iref_path.specs.Views.{path_value, segment_text};
 
 use iref_grammar::chars::CharSet;

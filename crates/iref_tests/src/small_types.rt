@@ -2,7 +2,7 @@
 use crate::recording::agree;
 use crate::short_texts::{TEXTS, text_of_number};
 use iref_grammar::chars::{IriChars, UriChars};
-use iref_text::common::{
+use iref_common::{
     InvalidPort, InvalidScheme, Port, PortBuf, PortError, Scheme, SchemeBuf, TryError,
 };
 use iref_text::fragment::{Fragment, FragmentBuf, InvalidFragment};

@@ -1,2 +1,1 @@
 pub mod Components
-pub mod Ports

@@ -1,7 +1,7 @@
-//! The texts of URIs and IRIs (RFC 3986, RFC 3987): what each small type accepts, and how it compares.
+//! Percent-encoded texts, queries and fragments (RFC 3986 sections 2.1, 3.4 and 3.5).
 #![tactic(auto)]
 
-pub mod common;
 pub mod fragment;
 pub mod pct;
 pub mod query;
+pub mod rules;

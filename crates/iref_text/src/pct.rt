@@ -6,15 +6,15 @@ ghost use Rattle.percent_encoding.specs.Iter.{decoded_bytes};
 ghost use Rattle.iref_grammar.specs.Rules.{InUtf8};
 ghost use Rattle.iref_grammar.specs.Grammar.{IsPctStr};
 ghost use Rattle.iref_grammar.specs.Tests.{is_pct_str};
-ghost use Rattle.iref_parse.specs.Keys.{ComparesBy};
-ghost use Rattle.iref_parse.specs.Makers.{Parses};
+ghost use Rattle.iref_grammar.specs.Keys.{ComparesBy};
+ghost use Rattle.iref_core.specs.Makers.{Parses};
 ghost use Rattle.iref_text.specs.Components.{pct_text, pct_string_text};
 
 use iref_grammar::chars::UriChars;
-use iref_parse::error::Memory;
-use iref_parse::owned::TextBuf;
-use iref_parse::rules::PctStrRule;
-use iref_parse::view::View;
+use iref_core::error::Memory;
+use iref_core::owned::TextBuf;
+use crate::rules::PctStrRule;
+use iref_core::view::View;
 use percent_encoding::{PercentDecode, percent_decode_str};
 use std::alloc::Global;
 use std::convert::TryFrom;
@@ -158,7 +158,7 @@ impl PctString {
     }
 
     /// The empty text, which takes no memory.
-    #[tactic(auto, using(crate::proofs::EmptyLemmas::is_pct_str_empty))]
+    #[tactic(auto, using(iref_grammar::proofs::EmptyLemmas::is_pct_str_empty))]
     pub fn empty(alloc: Global) -> Self
         ensures { pct_string_text result ≡ [] }
     {

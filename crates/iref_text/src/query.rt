@@ -5,16 +5,16 @@ ghost use Rattle.percent_encoding.specs.Percent.{percent_decode};
 ghost use Rattle.iref_grammar.specs.Rules.{InUtf8};
 ghost use Rattle.iref_grammar.specs.Grammar.{IsQuery};
 ghost use Rattle.iref_grammar.specs.Tests.{is_query};
-ghost use Rattle.iref_parse.specs.Keys.{ComparesBy};
-ghost use Rattle.iref_parse.specs.Makers.{Parses};
+ghost use Rattle.iref_grammar.specs.Keys.{ComparesBy};
+ghost use Rattle.iref_core.specs.Makers.{Parses};
 ghost use Rattle.iref_text.specs.Components.{query_text, query_buf_text, pct_text, pct_string_text};
 
 use crate::pct::{PctStr, PctString};
 use iref_grammar::chars::CharSet;
-use iref_parse::error::Memory;
-use iref_parse::owned::TextBuf;
-use iref_parse::rules::QueryRule;
-use iref_parse::view::View;
+use iref_core::error::Memory;
+use iref_core::owned::TextBuf;
+use crate::rules::QueryRule;
+use iref_core::view::View;
 use std::alloc::Global;
 use std::convert::TryFrom;
 use std::fmt;
@@ -63,7 +63,7 @@ impl<'a, C: CharSet> Query<'a, C> {
     }
 
     /// The empty query.
-    #[tactic(auto, using(crate::proofs::EmptyLemmas::is_query_empty))]
+    #[tactic(auto, using(iref_grammar::proofs::EmptyLemmas::is_query_empty))]
     pub fn empty() -> Self
         ensures { query_text result ≡ [] }
     {
@@ -165,7 +165,7 @@ impl<C: CharSet> QueryBuf<C> {
     }
 
     /// The empty query, which takes no memory.
-    #[tactic(auto, using(crate::proofs::EmptyLemmas::is_query_empty))]
+    #[tactic(auto, using(iref_grammar::proofs::EmptyLemmas::is_query_empty))]
     pub fn empty(alloc: Global) -> Self
         ensures { query_buf_text result ≡ [] }
     {

@@ -2,12 +2,13 @@
 ghost use Rattle.std.specs.Prelude.{◌≡◌, ◌++◌, ◌∷◌, [], Some, option_map, OnOk, OnErr};
 ghost use Rattle.std.specs.Option.{option_copied};
 ghost use Rattle.iref_grammar.specs.Rules.{Text};
-ghost use Rattle.iref.specs.Lines.{Answered, answer, answer_text, answer_if_valid, newline, part_field, part_fields, program_verbs, tab, yes_or_no, Parts, Normal, Equal};
-ghost use Rattle.iref_text.specs.Components.{scheme_text, query_text, fragment_text};
+ghost use Rattle.iref_model.specs.Lines.{Answered, answer, answer_text, answer_if_valid, newline, part_field, part_fields, program_verbs, tab, yes_or_no, Parts, Normal, Equal};
+ghost use Rattle.iref_text.specs.Components.{query_text, fragment_text};
 ghost use Rattle.iref_authority.specs.Views.{authority_text};
 ghost use Rattle.iref_refs.specs.References.{uri_ref_part_texts};
 ghost use Rattle.iref.specs.Gathering.{Extends};
 ghost use Rattle.iref.specs.Requests.{request_of};
+ghost use Rattle.iref_common.specs.Components.{scheme_text};
 
 use super::request::{Request, read_request};
 use iref_authority::authority::Authority;
@@ -16,7 +17,7 @@ use iref_grammar::reference_laws::reference_grammar;
 use iref_grammar::text_laws::path_grammar;
 use iref_path::path::Path;
 use iref_refs::reference::parts::UriRefParts;
-use iref_text::common::Scheme;
+use iref_common::Scheme;
 use iref_text::fragment::Fragment;
 use iref_text::query::Query;
 use std::alloc::AllocError;

@@ -2,7 +2,7 @@
 ghost use Rattle.std.specs.Prelude.{◌≡◌, ◌++◌, ◌∷◌, [], true, false, is_err, OnOk, OnErr, codes};
 ghost use Rattle.iref_grammar.specs.Rules.{Text};
 ghost use Rattle.iref_grammar.specs.Texts.{is_empty};
-ghost use Rattle.iref.specs.Lines.{newline, lines_of};
+ghost use Rattle.iref_model.specs.Lines.{newline, lines_of};
 ghost use Rattle.iref.specs.Runs.{AnswersAll, AnswersBegun};
 ghost use Rattle.iref.specs.Gathering.{Lacks, Writes, WritesPart, Gains, Replies, RepliesPart, InRun};
 

@@ -7,17 +7,18 @@ ghost use Rattle.iref_grammar.specs.Texts.{before};
 ghost use Rattle.iref_grammar.specs.Reference.{hierarchy, is_full_reference, spell};
 ghost use Rattle.iref_grammar.specs.ComponentTexts.{read_components, spell_components};
 ghost use Rattle.iref_grammar.specs.Places.{places_of};
-ghost use Rattle.iref_parse.specs.Makers.{Parses};
-ghost use Rattle.iref_text.specs.Components.{scheme_text, port_digits, query_text, fragment_text};
+ghost use Rattle.iref_core.specs.Makers.{Parses};
+ghost use Rattle.iref_text.specs.Components.{query_text, fragment_text};
 ghost use Rattle.iref_path.specs.Views.{path_text};
 ghost use Rattle.iref_authority.specs.Views.{authority_text, user_info_text, host_text};
-ghost use Rattle.iref_refs.specs.ReferenceParts.{user_info_of, host_of, port_of, base_of};
-ghost use Rattle.iref_refs.specs.ComponentSteps.{with_query, with_fragment};
-ghost use Rattle.iref_refs.specs.References.{uri_ref_text, uri_ref_value, uri_text, uri_value, uri_part_texts};
+ghost use Rattle.iref_model.specs.ReferenceParts.{user_info_of, host_of, port_of, base_of};
+ghost use Rattle.iref_model.specs.ComponentSteps.{with_query, with_fragment};
+ghost use Rattle.iref_refs.specs.References.{uri_ref_text, uri_ref_value, uri_text, uri_value, uri_part_texts, uri_ref_part_texts};
+ghost use Rattle.iref_common.specs.Components.{scheme_text, port_digits};
 
-use crate::buf::held::Held;
+use iref_held::held::Held;
 use crate::buf::uri_ref_buf::UriRefBuf;
-use crate::reference::parts::UriParts;
+use crate::reference::parts::{UriParts, UriRefParts};
 use crate::reference::uri::{InvalidUri, Uri};
 use crate::reference::uri_ref::UriRef;
 use iref_authority::authority::Authority;
@@ -25,9 +26,9 @@ use iref_authority::host::Host;
 use iref_authority::user_info::UserInfo;
 use iref_grammar::chars::CharSet;
 use iref_grammar::places::Offsets;
-use iref_parse::rules::FullReferenceRule;
+use iref_held::rules::FullReferenceRule;
 use iref_path::path::Path;
-use iref_text::common::{Port, Scheme};
+use iref_common::{Port, Scheme};
 use iref_text::fragment::Fragment;
 use iref_text::query::Query;
 use std::convert::TryFrom;
@@ -35,7 +36,7 @@ use std::fmt;
 
 /// A URI that owns its text, and knows where its components stand.
 #[derive(Drop)]
-#[derive_where(Debug, PartialEq, Eq, PartialOrd, Ord, Hash)]
+#[derive_where(Debug)]
 pub struct UriBuf<C: CharSet> {
     held: Held<FullReferenceRule, C>,
 }
@@ -106,13 +107,13 @@ impl<C: CharSet> UriBuf<C> {
     }
 
     /// The components, as slices of the text: they are those of the one reference that spells it.
-    #[tactic(auto, using(crate::proofs::HeldLemmas::spelled))]
+    #[tactic(auto, using(iref_held::proofs::HeldLemmas::spelled))]
     pub fn parts(&self) -> UriParts<'_, C>
         ensures texts { uri_part_texts result ≡ spell_components (uri_buf_value self.now) }
         ensures value { read_components (uri_part_texts result) ≡ uri_buf_value self.now }
         ensures spelled { spell (uri_buf_value self.now) ≡ uri_buf_text self.now }
     {
-        let parts = self.held.parts();
+        let parts = self.reference_parts();
         UriParts {
             scheme: self.scheme(),
             authority: parts.authority,
@@ -122,13 +123,21 @@ impl<C: CharSet> UriBuf<C> {
         }
     }
 
+    // The same, as those of the URI's reference.
+    pub(crate) fn reference_parts(&self) -> UriRefParts<'_, C>
+        ensures texts { uri_ref_part_texts result ≡ spell_components (uri_buf_value self.now) }
+        ensures value { read_components (uri_ref_part_texts result) ≡ uri_buf_value self.now }
+    {
+        UriRefParts::from_slices(self.held.slices())
+    }
+
     /// The scheme.
     #[tactic(auto, using(iref_grammar::proofs::ComponentLemmas::full))]
     pub fn scheme(&self) -> Scheme<'_>
         ensures { Some (scheme_text result) ≡ (spell_components (uri_buf_value self.now)).scheme }
     {
         let _text = self.as_str();
-        let parts = self.held.parts();
+        let parts = self.reference_parts();
         match parts.scheme {
             Some(scheme) => scheme,
             None => unreachable!(),
@@ -146,7 +155,7 @@ impl<C: CharSet> UriBuf<C> {
     pub fn user_info(&self) -> Option<UserInfo<'_, C>>
         ensures { option_map user_info_text result ≡ user_info_of (uri_buf_value self.now) }
     {
-        match self.held.authority_parts() {
+        match self.reference_parts().authority_parts() {
             Some(parts) => parts.user_info,
             None => None,
         }
@@ -156,7 +165,7 @@ impl<C: CharSet> UriBuf<C> {
     pub fn host(&self) -> Option<Host<'_, C>>
         ensures { option_map host_text result ≡ host_of (uri_buf_value self.now) }
     {
-        match self.held.authority_parts() {
+        match self.reference_parts().authority_parts() {
             Some(parts) => Some(parts.host),
             None => None,
         }
@@ -166,7 +175,7 @@ impl<C: CharSet> UriBuf<C> {
     pub fn port(&self) -> Option<Port<'_>>
         ensures { option_map port_digits result ≡ port_of (uri_buf_value self.now) }
     {
-        match self.held.authority_parts() {
+        match self.reference_parts().authority_parts() {
             Some(parts) => parts.port,
             None => None,
         }
@@ -198,7 +207,7 @@ impl<C: CharSet> UriBuf<C> {
         ensures text { uri_ref_text result ≡ before (hash_sign ∷ []) (uri_buf_text self.now) }
         ensures value { uri_ref_value result ≡ with_fragment None (uri_buf_value self.now) }
     {
-        self.held.without_fragment()
+        UriRef::new_unchecked(self.held.without_fragment())
     }
 
     /// The reference up to the query and the fragment.
@@ -206,11 +215,11 @@ impl<C: CharSet> UriBuf<C> {
         ensures text { uri_ref_text result ≡ hierarchy (uri_buf_text self.now) }
         ensures value { uri_ref_value result ≡ with_query None (with_fragment None (uri_buf_value self.now)) }
     {
-        self.held.without_query_and_fragment()
+        UriRef::new_unchecked(self.held.without_query_and_fragment())
     }
 
     /// The URI up to the end of the path's directory (RFC 3986 section 5.2.3).
-    #[tactic(auto, using(iref_grammar::proofs::ComponentLemmas::full, crate::proofs::BaseLemmas::full_base))]
+    #[tactic(auto, using(iref_grammar::proofs::ComponentLemmas::full, iref_held::proofs::BaseLemmas::full_base))]
     pub fn base(&self) -> Uri<'_, C>
         ensures text { uri_text result ≡ spell (base_of (uri_buf_value self.now)) }
         ensures value { uri_value result ≡ base_of (uri_buf_value self.now) }

@@ -7,15 +7,16 @@ ghost use Rattle.iref_grammar.specs.Texts.{before};
 ghost use Rattle.iref_grammar.specs.Reference.{hierarchy, is_reference, spell};
 ghost use Rattle.iref_grammar.specs.ComponentTexts.{read_components, spell_components};
 ghost use Rattle.iref_grammar.specs.Places.{places_of};
-ghost use Rattle.iref_parse.specs.Makers.{Parses};
-ghost use Rattle.iref_text.specs.Components.{scheme_text, port_digits, query_text, fragment_text};
+ghost use Rattle.iref_core.specs.Makers.{Parses};
+ghost use Rattle.iref_text.specs.Components.{query_text, fragment_text};
 ghost use Rattle.iref_path.specs.Views.{path_text};
 ghost use Rattle.iref_authority.specs.Views.{authority_text, user_info_text, host_text};
-ghost use Rattle.iref_refs.specs.ReferenceParts.{user_info_of, host_of, port_of, base_of};
-ghost use Rattle.iref_refs.specs.ComponentSteps.{with_query, with_fragment};
+ghost use Rattle.iref_model.specs.ReferenceParts.{user_info_of, host_of, port_of, base_of};
+ghost use Rattle.iref_model.specs.ComponentSteps.{with_query, with_fragment};
 ghost use Rattle.iref_refs.specs.References.{uri_ref_text, uri_ref_value, uri_ref_part_texts};
+ghost use Rattle.iref_common.specs.Components.{scheme_text, port_digits};
 
-use crate::buf::held::Held;
+use iref_held::held::Held;
 use crate::buf::uri_buf::UriBuf;
 use crate::reference::parts::UriRefParts;
 use crate::reference::uri::InvalidUri;
@@ -25,9 +26,9 @@ use iref_authority::host::Host;
 use iref_authority::user_info::UserInfo;
 use iref_grammar::chars::CharSet;
 use iref_grammar::places::Offsets;
-use iref_parse::rules::ReferenceRule;
+use iref_held::rules::ReferenceRule;
 use iref_path::path::Path;
-use iref_text::common::{Port, Scheme};
+use iref_common::{Port, Scheme};
 use iref_text::fragment::Fragment;
 use iref_text::query::Query;
 use std::alloc::Global;
@@ -36,7 +37,7 @@ use std::fmt;
 
 /// A reference that owns its text, and knows where its components stand.
 #[derive(Drop)]
-#[derive_where(Debug, PartialEq, Eq, PartialOrd, Ord, Hash)]
+#[derive_where(Debug)]
 pub struct UriRefBuf<C: CharSet> {
     held: Held<ReferenceRule, C>,
 }
@@ -63,7 +64,7 @@ impl<C: CharSet> UriRefBuf<C> {
     }
 
     /// The empty reference, which takes no memory.
-    #[tactic(auto, using(iref_text::proofs::EmptyLemmas::is_reference_empty))]
+    #[tactic(auto, using(iref_grammar::proofs::EmptyLemmas::is_reference_empty))]
     pub fn empty(alloc: Global) -> Self
         ensures { uri_ref_buf_text result ≡ [] }
     {
@@ -109,13 +110,13 @@ impl<C: CharSet> UriRefBuf<C> {
     }
 
     /// The components, as slices of the text: they are those of the one reference that spells it.
-    #[tactic(auto, using(crate::proofs::HeldLemmas::spelled))]
+    #[tactic(auto, using(iref_held::proofs::HeldLemmas::spelled))]
     pub fn parts(&self) -> UriRefParts<'_, C>
         ensures texts { uri_ref_part_texts result ≡ spell_components (uri_ref_buf_value self.now) }
         ensures value { read_components (uri_ref_part_texts result) ≡ uri_ref_buf_value self.now }
         ensures spelled { spell (uri_ref_buf_value self.now) ≡ uri_ref_buf_text self.now }
     {
-        self.held.parts()
+        UriRefParts::from_slices(self.held.slices())
     }
 
     /// The scheme, if the reference has one.
@@ -136,7 +137,7 @@ impl<C: CharSet> UriRefBuf<C> {
     pub fn user_info(&self) -> Option<UserInfo<'_, C>>
         ensures { option_map user_info_text result ≡ user_info_of (uri_ref_buf_value self.now) }
     {
-        match self.held.authority_parts() {
+        match self.parts().authority_parts() {
             Some(parts) => parts.user_info,
             None => None,
         }
@@ -146,7 +147,7 @@ impl<C: CharSet> UriRefBuf<C> {
     pub fn host(&self) -> Option<Host<'_, C>>
         ensures { option_map host_text result ≡ host_of (uri_ref_buf_value self.now) }
     {
-        match self.held.authority_parts() {
+        match self.parts().authority_parts() {
             Some(parts) => Some(parts.host),
             None => None,
         }
@@ -156,7 +157,7 @@ impl<C: CharSet> UriRefBuf<C> {
     pub fn port(&self) -> Option<Port<'_>>
         ensures { option_map port_digits result ≡ port_of (uri_ref_buf_value self.now) }
     {
-        match self.held.authority_parts() {
+        match self.parts().authority_parts() {
             Some(parts) => parts.port,
             None => None,
         }
@@ -188,7 +189,7 @@ impl<C: CharSet> UriRefBuf<C> {
         ensures text { uri_ref_text result ≡ before (hash_sign ∷ []) (uri_ref_buf_text self.now) }
         ensures value { uri_ref_value result ≡ with_fragment None (uri_ref_buf_value self.now) }
     {
-        self.held.without_fragment()
+        UriRef::new_unchecked(self.held.without_fragment())
     }
 
     /// The reference up to its query and its fragment.
@@ -196,7 +197,7 @@ impl<C: CharSet> UriRefBuf<C> {
         ensures text { uri_ref_text result ≡ hierarchy (uri_ref_buf_text self.now) }
         ensures value { uri_ref_value result ≡ with_query None (with_fragment None (uri_ref_buf_value self.now)) }
     {
-        self.held.without_query_and_fragment()
+        UriRef::new_unchecked(self.held.without_query_and_fragment())
     }
 
     /// The reference up to the end of the path's directory (RFC 3986 section 5.2.3).

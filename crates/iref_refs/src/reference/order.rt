@@ -4,9 +4,9 @@ ghost use Rattle.std.specs.Ordering.{on, as_partial_cmp, eq_by_cmp};
 ghost use Rattle.std.specs.Cmp.{partial_order_from_own_ties};
 ghost use Rattle.std.specs.Cmp.Rules.{comparing, hashing};
 ghost use Rattle.std.proofs.Common.{rules};
-ghost use Rattle.iref_refs.specs.Key.{key_cmp, fed_reference, ComparesByKey};
+ghost use Rattle.iref_model.specs.Key.{key_cmp, fed_reference, ComparesByKey};
 ghost use Rattle.iref_refs.specs.References.{uri_ref_value, uri_value, uri_ref_parts_value, uri_parts_value};
-ghost use Rattle.iref_refs.specs.KeyOrder.{keys_total, fed_where_tied};
+ghost use Rattle.iref_model.proofs.KeyOrderLemmas.{keys_total, fed_where_tied};
 
 use crate::reference::parts::{UriParts, UriRefParts};
 use crate::reference::uri::Uri;
@@ -91,7 +91,7 @@ impl<C: CharSet> Hash for UriRefParts<'_, C> {
 
     ghost respects_eq = { λ a b. fed_where_tied (key_of_uri_ref_parts a) (key_of_uri_ref_parts b) };
 
-    #[tactic(auto, unfolding(crate::specs::Key::key, crate::specs::Key::fed_reference))]
+    #[tactic(auto, unfolding(iref_model::specs::Key::key, iref_model::specs::Key::fed_reference))]
     fn hash<H: Hasher>(&self, state: &mut H) {
         self.scheme.hash(state);
         self.authority.hash(state);

@@ -3,21 +3,22 @@ ghost use Rattle.std.specs.Prelude.{◌≡◌, true, option_map, MatchResult};
 ghost use Rattle.std.specs.Option.{option_copied};
 ghost use Rattle.iref_grammar.specs.Tests.{is_scheme, is_query, is_fragment, none_or};
 ghost use Rattle.iref_grammar.specs.Authority.{is_authority};
-ghost use Rattle.iref_text.specs.Components.{scheme_text, query_text, fragment_text};
+ghost use Rattle.iref_text.specs.Components.{query_text, fragment_text};
 ghost use Rattle.iref_grammar.specs.Rules.{InUtf8};
 ghost use Rattle.iref_grammar.specs.Grammar.{IsUriReference};
 ghost use Rattle.iref_grammar.specs.Reference.{read_reference};
 ghost use Rattle.iref_grammar.specs.ComponentTexts.{AreComponents, spell_components};
 ghost use Rattle.iref_parse.specs.ReferenceSlices.{texts_of};
-ghost use Rattle.iref_authority.specs.Views.{authority_text};
+ghost use Rattle.iref_authority.specs.Views.{authority_text, parts_value};
+ghost use Rattle.iref_common.specs.Components.{scheme_text};
 
 use crate::reference::uri_ref::InvalidUriRef;
-use iref_authority::authority::Authority;
+use iref_authority::authority::{Authority, AuthorityParts};
 use iref_grammar::chars::CharSet;
 use iref_grammar::reference_laws::reference_grammar;
 use iref_parse::split::{ReferenceSlices, parse_reference};
 use iref_path::path::Path;
-use iref_text::common::Scheme;
+use iref_common::Scheme;
 use iref_text::fragment::Fragment;
 use iref_text::query::Query;
 use std::str;
@@ -53,7 +54,7 @@ pub struct UriParts<'a, C: CharSet> {
 }
 
 impl<'a, C: CharSet> UriRefParts<'a, C> {
-    ghost use Rattle.iref_refs.specs.References.{uri_ref_part_texts};
+    ghost use Rattle.iref_refs.specs.References.{uri_ref_part_texts, uri_ref_parts_value};
 
     /// The components of the reference of these bytes of UTF-8, or the bytes: `UriRef::from_bytes` and `parts` by one split.
     pub fn from_bytes(bytes: &'a [u8]) -> Result<Self, InvalidUriRef<&'a [u8]>>
@@ -69,6 +70,16 @@ impl<'a, C: CharSet> UriRefParts<'a, C> {
             return Err(InvalidUriRef(bytes));
         };
         Ok(UriRefParts::from_slices(slices))
+    }
+
+    /// The parts of the authority, if there is one (RFC 3986 section 3.2).
+    pub fn authority_parts(&self) -> Option<AuthorityParts<'a, C>>
+        ensures { option_map parts_value result ≡ (uri_ref_parts_value self.now).authority }
+    {
+        match self.authority {
+            Some(authority) => Some(authority.parts()),
+            None => None,
+        }
     }
 
     /// The components of slices that are known to be in their rules.

@@ -3,29 +3,30 @@ ghost use Rattle.std.specs.Prelude.{◌≡◌, true, [], ◌∷◌, Some, None, 
 ghost use Rattle.iref_grammar.specs.Rules.{InUtf8};
 ghost use Rattle.iref_grammar.specs.Grammar.{IsUri, hash_sign};
 ghost use Rattle.iref_grammar.specs.Texts.{before};
-ghost use Rattle.iref_parse.specs.Makers.{Parses};
+ghost use Rattle.iref_core.specs.Makers.{Parses};
 ghost use Rattle.iref_grammar.specs.Reference.{hierarchy, is_full_reference, spell};
 ghost use Rattle.iref_grammar.specs.ComponentTexts.{read_components, spell_components};
-ghost use Rattle.iref_text.specs.Components.{scheme_text, port_digits, query_text, fragment_text};
+ghost use Rattle.iref_text.specs.Components.{query_text, fragment_text};
 ghost use Rattle.iref_path.specs.Views.{path_text};
-ghost use Rattle.iref_refs.specs.ComponentSteps.{with_query, with_fragment};
-ghost use Rattle.iref_refs.specs.ReferenceParts.{user_info_of, host_of, port_of, base_of};
+ghost use Rattle.iref_model.specs.ComponentSteps.{with_query, with_fragment};
+ghost use Rattle.iref_model.specs.ReferenceParts.{user_info_of, host_of, port_of, base_of};
 ghost use Rattle.iref_authority.specs.Views.{authority_text, user_info_text, host_text};
+ghost use Rattle.iref_common.specs.Components.{scheme_text, port_digits};
 
-use crate::buf::held::Held;
+use iref_held::held::Held;
 use crate::buf::uri_buf::UriBuf;
-use crate::reference::base::base_text;
+use iref_held::base::base_text;
 use crate::reference::parts::UriParts;
 use crate::reference::uri_ref::UriRef;
 use iref_authority::authority::Authority;
 use iref_authority::host::Host;
 use iref_authority::user_info::UserInfo;
 use iref_grammar::chars::CharSet;
-use iref_parse::error::Memory;
-use iref_parse::rules::FullReferenceRule;
-use iref_parse::view::View;
+use iref_core::error::Memory;
+use iref_held::rules::FullReferenceRule;
+use iref_core::view::View;
 use iref_path::path::Path;
-use iref_text::common::{Port, Scheme};
+use iref_common::{Port, Scheme};
 use iref_text::fragment::Fragment;
 use iref_text::query::Query;
 use std::alloc::Global;
@@ -199,7 +200,7 @@ impl<'a, C: CharSet> Uri<'a, C> {
     }
 
     /// The URI up to the end of the path's directory (RFC 3986 section 5.2.3).
-    #[tactic(auto, using(iref_grammar::proofs::ComponentLemmas::full, crate::proofs::BaseLemmas::full_base))]
+    #[tactic(auto, using(iref_grammar::proofs::ComponentLemmas::full, iref_held::proofs::BaseLemmas::full_base))]
     pub fn base(&self) -> Self
         ensures text { uri_text result ≡ spell (base_of (uri_value self.now)) }
         ensures value { uri_value result ≡ base_of (uri_value self.now) }

@@ -3,33 +3,34 @@ ghost use Rattle.std.specs.Prelude.{◌≡◌, true, [], ◌∷◌, Some, None, 
 ghost use Rattle.iref_grammar.specs.Rules.{InUtf8};
 ghost use Rattle.iref_grammar.specs.Grammar.{IsUriReference, hash_sign};
 ghost use Rattle.iref_grammar.specs.Texts.{before};
-ghost use Rattle.iref_parse.specs.Makers.{Parses};
+ghost use Rattle.iref_core.specs.Makers.{Parses};
 ghost use Rattle.iref_grammar.specs.Reference.{hierarchy, is_reference, spell};
 ghost use Rattle.iref_grammar.specs.ComponentTexts.{AreComponents, read_components, spell_components};
 ghost use Rattle.iref_parse.specs.ReferenceSlices.{texts_of, value_of};
-ghost use Rattle.iref_text.specs.Components.{scheme_text, port_digits, query_text, fragment_text};
+ghost use Rattle.iref_text.specs.Components.{query_text, fragment_text};
 ghost use Rattle.iref_path.specs.Views.{path_text};
-ghost use Rattle.iref_refs.specs.ComponentSteps.{with_query, with_fragment};
-ghost use Rattle.iref_refs.specs.ReferenceParts.{user_info_of, host_of, port_of, base_of};
-ghost use Rattle.iref_authority.specs.Views.{authority_text, user_info_text, host_text, parts_value};
+ghost use Rattle.iref_model.specs.ComponentSteps.{with_query, with_fragment};
+ghost use Rattle.iref_model.specs.ReferenceParts.{user_info_of, host_of, port_of, base_of};
+ghost use Rattle.iref_authority.specs.Views.{authority_text, user_info_text, host_text};
+ghost use Rattle.iref_common.specs.Components.{scheme_text, port_digits};
 
-use crate::buf::held::Held;
+use iref_held::held::Held;
 use crate::buf::uri_ref_buf::UriRefBuf;
-use crate::reference::base::base_text;
+use iref_held::base::base_text;
 use crate::reference::parts::UriRefParts;
 use crate::reference::uri::Uri;
-use iref_authority::authority::{Authority, AuthorityParts};
+use iref_authority::authority::Authority;
 use iref_authority::host::Host;
 use iref_authority::user_info::UserInfo;
 use iref_grammar::chars::CharSet;
 use iref_grammar::reference_laws::components_tested;
 use iref_parse::cut::cut;
-use iref_parse::error::Memory;
-use iref_parse::rules::ReferenceRule;
+use iref_core::error::Memory;
+use iref_held::rules::ReferenceRule;
 use iref_parse::split::{ReferenceSlices, split_reference};
-use iref_parse::view::View;
+use iref_core::view::View;
 use iref_path::path::Path;
-use iref_text::common::{Port, Scheme};
+use iref_common::{Port, Scheme};
 use iref_text::fragment::Fragment;
 use iref_text::query::Query;
 use std::alloc::Global;
@@ -82,7 +83,7 @@ impl<'a, C: CharSet> UriRef<'a, C> {
     }
 
     /// The empty reference.
-    #[tactic(auto, using(iref_text::proofs::EmptyLemmas::is_reference_empty))]
+    #[tactic(auto, using(iref_grammar::proofs::EmptyLemmas::is_reference_empty))]
     pub fn empty() -> Self
         ensures { uri_ref_text result ≡ [] }
     {
@@ -127,21 +128,11 @@ impl<'a, C: CharSet> UriRef<'a, C> {
         self.parts().authority
     }
 
-    // The parts of the authority, if the reference has one.
-    fn authority_parts(&self) -> Option<AuthorityParts<'a, C>>
-        ensures { option_map parts_value result ≡ (uri_ref_value self.now).authority }
-    {
-        match self.parts().authority {
-            Some(authority) => Some(authority.parts()),
-            None => None,
-        }
-    }
-
     /// The user info, if the reference has an authority with one (RFC 3986 section 3.2.1).
     pub fn user_info(&self) -> Option<UserInfo<'a, C>>
         ensures { option_map user_info_text result ≡ user_info_of (uri_ref_value self.now) }
     {
-        match self.authority_parts() {
+        match self.parts().authority_parts() {
             Some(parts) => parts.user_info,
             None => None,
         }
@@ -151,7 +142,7 @@ impl<'a, C: CharSet> UriRef<'a, C> {
     pub fn host(&self) -> Option<Host<'a, C>>
         ensures { option_map host_text result ≡ host_of (uri_ref_value self.now) }
     {
-        match self.authority_parts() {
+        match self.parts().authority_parts() {
             Some(parts) => Some(parts.host),
             None => None,
         }
@@ -161,7 +152,7 @@ impl<'a, C: CharSet> UriRef<'a, C> {
     pub fn port(&self) -> Option<Port<'a>>
         ensures { option_map port_digits result ≡ port_of (uri_ref_value self.now) }
     {
-        match self.authority_parts() {
+        match self.parts().authority_parts() {
             Some(parts) => parts.port,
             None => None,
         }

@@ -1,5 +1,5 @@
 use Rattle.std.proofs.Common.{◌≡◌, length}
-use Rattle.iref_normal.specs.CountedEquality.{items_compared}
+use Rattle.iref_model.specs.CountedEquality.{items_compared}
 use Rattle.iref_normal.specs.Unread.{HaveRoom, IsCountable, AreCounted, IsShorter, items_unread}
 use Rattle.iref_normal.proofs.equality.items_eq.Given as goal
 

@@ -2,7 +2,7 @@ use Rattle.std.proofs.Common.{◌≡◌, ◌-◌, ◌+◌, length, arith, sym, �
 use Rattle.std.proofs.lemmas.List.{length-reverse}
 use Rattle.iref_grammar.specs.PathValue.{read_path}
 use Rattle.iref_normal.specs.Unread.{segments_unread, steps_count}
-use Rattle.iref_normal.proofs.CountedLemmas.{flags_apart}
+use Rattle.iref_model.proofs.CountedLemmas.{flags_apart}
 use Rattle.iref_normal.proofs.UnreadLemmas.{counted_by_items, same_flags, other_flags}
 use mathlib.Core.Bool.{beq}
 use Rattle.iref_normal.proofs.equality.path_texts_eq.Goals as goal

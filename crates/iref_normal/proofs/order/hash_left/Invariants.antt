@@ -1,5 +1,5 @@
 use Rattle.std.proofs.Common.{◌≡◌, true, fold, length}
-use Rattle.iref_normal.specs.PathHash.{fed_from_the_back}
+use Rattle.iref_model.specs.PathHash.{fed_from_the_back}
 use Rattle.iref_normal.specs.Remaining.{IsReadable, decoded_left, is_settled, normal_left}
 use Rattle.iref_normal.proofs.order.hash_left.Given as goal
 

@@ -1,13 +1,13 @@
 use Rattle.std.proofs.Common.{◌≡◌, true, length}
 use Rattle.std.specs.Ordering.{ordering_then}
 use Rattle.std.specs.Cmp.Lexicographic.{slice_cmp}
-use Rattle.iref_normal.specs.PathKey.{text_cmp}
 use Rattle.iref_normal.specs.Remaining.{IsReadable, decoded_left, is_settled, normal_left}
 use Rattle.iref_normal.proofs.order.same_length_cmp.Given as goal
+use Rattle.iref_grammar.specs.Keys.{text_order}
 
 abbrev pub invariant-loop-item : goal.invariant-loop-item
 invariant-loop-item l = record {
-  order : slice_cmp text_cmp (decoded_left l.fn.left) (decoded_left l.fn.right) ≡ ordering_then (slice_cmp text_cmp (decoded_left l.left) (decoded_left l.right)) l.order;
+  order : slice_cmp text_order (decoded_left l.fn.left) (decoded_left l.fn.right) ≡ ordering_then (slice_cmp text_order (decoded_left l.left) (decoded_left l.right)) l.order;
   same_length : length (normal_left l.left) ≡ length (normal_left l.right);
   left : IsReadable l.left;
   left_settled : is_settled l.left ≡ true;

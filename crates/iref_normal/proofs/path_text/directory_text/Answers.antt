@@ -2,7 +2,7 @@ use Rattle.std.proofs.Common.{arith, ◌≡◌, ◌+◌, ◌-◌, take, Some, No
 use Rattle.std.proofs.lemmas.Str.Pattern.{rfind_char}
 use Rattle.iref_grammar.specs.Grammar.{slash}
 use Rattle.iref_grammar.specs.Tests.{is_path}
-use Rattle.iref_normal.proofs.GrammarLemmas.{is_path-empty}
+use Rattle.iref_model.proofs.PathGrammarLemmas.{is_path-empty}
 use Rattle.iref_normal.proofs.PathTextLemmas.{directory-cut, directory-uncut, is_path-directory}
 use Rattle.iref_normal.proofs.path_text.directory_text.Goals as goal
 

@@ -1,8 +1,8 @@
 use Rattle.std.proofs.Common.{sym, ap, ◌∙◌}
 use Rattle.std.specs.Cmp.Lexicographic.{same_text, other_text}
 use Rattle.iref_grammar.specs.Tests.{is_path}
-use Rattle.iref_normal.proofs.PieceLemmas.{cut_last, lacks_if_none}
-use Rattle.iref_normal.proofs.GrammarLemmas.{path_parts, is_path-root, is_path-guard}
+use Rattle.iref_normal.proofs.SlashLemmas.{cut_last, lacks_if_none}
+use Rattle.iref_model.proofs.PathGrammarLemmas.{path_parts, is_path-root, is_path-guard}
 use Rattle.iref_normal.proofs.PathTextLemmas.{parent-slice, parent-guarded, parent-root, parent-none, parent-uncut, nothing, something}
 use Rattle.iref_normal.proofs.path_text.parent_text.Goals as goal
 

@@ -1,7 +1,7 @@
 use Rattle.std.proofs.Common.{arith, Some, None}
 use Rattle.std.proofs.lemmas.Str.Pattern.{split_parts}
 use Rattle.iref_grammar.specs.Grammar.{slash}
-use Rattle.iref_normal.proofs.PieceLemmas.{pieces-cut, pieces-uncut}
+use Rattle.iref_normal.proofs.SlashLemmas.{pieces-cut, pieces-uncut}
 use Rattle.iref_normal.proofs.pieces.first_piece.Goals as goal
 
 pub returns-in-Some : goal.returns-in-Some

@@ -1,4 +1,4 @@
-use Rattle.iref_normal.proofs.PieceLemmas.{pieces-cut_last, pieces-uncut_last}
+use Rattle.iref_normal.proofs.SlashLemmas.{pieces-cut_last, pieces-uncut_last}
 use Rattle.iref_normal.proofs.pieces.last_piece.Goals as goal
 
 pub returns-in-Some : goal.returns-in-Some

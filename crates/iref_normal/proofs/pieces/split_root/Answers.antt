@@ -1,7 +1,7 @@
 use Rattle.std.proofs.Common.{arith, Some, None}
 use Rattle.std.proofs.lemmas.Str.Pattern.{strip_prefix_char}
 use Rattle.iref_grammar.specs.Grammar.{slash}
-use Rattle.iref_normal.proofs.PieceLemmas.{read-absolute, read-relative}
+use Rattle.iref_normal.proofs.SlashLemmas.{read-absolute, read-relative}
 use Rattle.iref_normal.proofs.pieces.split_root.Goals as goal
 
 pub returns-in-Some-clause-path : goal.returns-in-Some-clause-path

@@ -1,7 +1,7 @@
 use Rattle.std.proofs.Common.{sym, ap, ◌∙◌, not}
 use Rattle.iref_normal.specs.Pieces.{pieces_if_some}
-use Rattle.iref_normal.specs.NormalList.{ends_in_dots}
-use Rattle.iref_normal.proofs.ItemLemmas.{ends-last}
+use Rattle.iref_model.specs.NormalList.{ends_in_dots}
+use Rattle.iref_model.proofs.ItemLemmas.{ends-last}
 use Rattle.iref_normal.proofs.remaining.ends_in_dots.Goals as goal
 
 pub returns-in-Some : goal.returns-in-Some

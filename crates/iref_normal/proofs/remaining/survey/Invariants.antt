@@ -2,7 +2,7 @@ use Rattle.std.proofs.Common.{◌≡◌, ◌+◌, ◌≤◌, true, [], length}
 use denote.Shadow.{shadow}
 use denote.Text.{Utf8}
 use Rattle.iref_normal.specs.Pieces.{pieces_if_some}
-use Rattle.iref_normal.specs.NormalReading.{open_before, staying_before}
+use Rattle.iref_model.specs.NormalReading.{open_before, staying_before}
 use Rattle.iref_normal.specs.Remaining.{IsReadable, first_or, is_settled, names_left, open_at_start}
 use Rattle.iref_normal.proofs.remaining.survey.Given as goal
 

@@ -1,5 +1,5 @@
 use Rattle.std.proofs.Common.{refl}
-use Rattle.iref_normal.specs.PathKey.{path_key}
+use Rattle.iref_model.specs.PathKey.{path_key}
 use Rattle.iref_path.specs.Views.{path_buf_value, path_value}
 use Rattle.iref_path.proofs.PathOrderLemmas.{Decides-tied}
 use Rattle.iref_path.proofs.path_buf.paths_compare_by_key.Goals as goal

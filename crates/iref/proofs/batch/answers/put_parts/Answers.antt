@@ -1,6 +1,6 @@
 use Rattle.std.proofs.Common.{◌≡◌, ap, Some}
 use Rattle.iref.proofs.AnswerLemmas.{five_fields}
-use Rattle.iref.specs.Lines.{part_field}
+use Rattle.iref_model.specs.Lines.{part_field}
 use Rattle.iref.proofs.batch.answers.put_parts.Goals as goal
 
 pub returns-clause-ok : goal.returns-clause-ok

@@ -1,6 +1,6 @@
 use Rattle.std.proofs.Common.{◌≡◌, ◌+◌, length, sym, ap, ◌∙◌, cond}
 use Rattle.iref_normal.specs.Pieces.{pieces_if_some}
-use Rattle.iref_normal.specs.NormalReading.{staying_before}
+use Rattle.iref_model.specs.NormalReading.{staying_before}
 use Rattle.iref_normal.specs.Remaining.{normal_left}
 use Rattle.iref_normal.proofs.RemainingLemmas.{all_items, lone_items, length-parts}
 use Rattle.iref_normal.proofs.remaining.Remaining.new.Goals as goal

@@ -1,7 +1,7 @@
 use Rattle.std.proofs.Common.{◌≡◌, ◌+◌, ◌++◌, ◌∷◌, ◌||◌, ◌&&◌, [], true, false, not, length, length-append, arith, sym, ap, ◌∙◌}
 use Rattle.std.specs.Prelude.{◌==◌}
 use Rattle.iref_normal.specs.Pieces.{pieces_if_some}
-use Rattle.iref_normal.specs.NormalReading.{open_before, staying_before}
+use Rattle.iref_model.specs.NormalReading.{open_before, staying_before}
 use Rattle.iref_normal.specs.Remaining.{are_no_parents}
 use Rattle.iref_normal.proofs.RemainingLemmas.{any_where_unsettled, back_dots_go, back_name_goes, back_name_stays, settled_front, unsettled_parent, unsettled_taken}
 use Rattle.iref_normal.proofs.remaining.Remaining.next_back_name.Goals as goal

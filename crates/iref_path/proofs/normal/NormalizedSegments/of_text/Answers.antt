@@ -1,5 +1,5 @@
 use Rattle.iref_normal.specs.Remaining.{normal_left}
-use Rattle.iref_normal.proofs.NormalGrammarLemmas.{normal_in_grammar}
+use Rattle.iref_model.proofs.NormalGrammarLemmas.{normal_in_grammar}
 use Rattle.iref_path.proofs.normal.NormalizedSegments.of_text.Goals as goal
 
 pub invariant_of-result-clause-in_grammar : goal.invariant_of-result-clause-in_grammar

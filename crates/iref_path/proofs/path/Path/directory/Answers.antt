@@ -1,7 +1,7 @@
 use Rattle.std.proofs.Common.{ap, ◌∙◌}
 use Rattle.iref_grammar.specs.PathValue.{read_path}
-use Rattle.iref_normal.specs.PathFunctions.{directory_text}
-use Rattle.iref_normal.proofs.DirectoryLemmas.{directory-read}
+use Rattle.iref_model.specs.PathFunctions.{directory_text}
+use Rattle.iref_model.proofs.DirectoryLemmas.{directory-read}
 use Rattle.iref_path.proofs.path.Path.directory.Goals as goal
 
 pub returns-clause-value : goal.returns-clause-value

@@ -1,7 +1,7 @@
 use Rattle.std.proofs.Common.{ap, ◌∙◌, None}
 use Rattle.std.specs.List.{last_or}
 use Rattle.iref_path.specs.Views.{segment_text, segments_left}
-use Rattle.iref_normal.proofs.PieceLemmas.{last_given}
+use Rattle.iref_normal.proofs.SlashLemmas.{last_given}
 use Rattle.iref_path.proofs.path.Path.last.Goals as goal
 
 pub returns : goal.returns

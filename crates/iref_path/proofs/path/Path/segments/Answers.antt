@@ -1,4 +1,4 @@
-use Rattle.iref_normal.proofs.GrammarLemmas.{segments_of_path}
+use Rattle.iref_model.proofs.PathGrammarLemmas.{segments_of_path}
 use Rattle.iref_path.proofs.path.Path.segments.Goals as goal
 
 pub of_text-requires : goal.of_text-requires

@@ -1,4 +1,4 @@
-use Rattle.iref_normal.proofs.PathKeyLemmas.{tie_from_decides}
+use Rattle.iref_model.proofs.PathKeyLemmas.{tie_from_decides}
 use Rattle.iref_path.proofs.path.PathPartialEq.eq.Goals as goal
 
 pub returns : goal.returns

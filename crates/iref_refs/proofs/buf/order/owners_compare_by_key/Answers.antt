@@ -1,6 +1,6 @@
 use Rattle.std.proofs.Common.{refl}
 use Rattle.iref_refs.specs.Owners.{uri_ref_buf_value, uri_buf_value}
-use Rattle.iref_refs.proofs.KeyLemmas.{Decides-are_alike}
+use Rattle.iref_model.proofs.KeyLemmas.{Decides-are_alike}
 use Rattle.iref_refs.proofs.buf.order.owners_compare_by_key.Goals as goal
 
 pub returns-clause-references : goal.returns-clause-references

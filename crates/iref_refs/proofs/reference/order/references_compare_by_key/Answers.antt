@@ -1,6 +1,6 @@
 use Rattle.std.proofs.Common.{refl}
 use Rattle.iref_refs.specs.References.{uri_ref_value, uri_value, uri_ref_parts_value, uri_parts_value}
-use Rattle.iref_refs.proofs.KeyLemmas.{Decides-are_alike}
+use Rattle.iref_model.proofs.KeyLemmas.{Decides-are_alike}
 use Rattle.iref_refs.proofs.reference.order.references_compare_by_key.Goals as goal
 
 pub returns-clause-references : goal.returns-clause-references

@@ -1,6 +1,6 @@
 use Rattle.std.proofs.Common.{◌∷◌, ◌++◌, [], refl}
 use Rattle.std.proofs.lemmas.Result.{err_from_is_err_and}
-use Rattle.iref.specs.Lines.{newline}
+use Rattle.iref_model.specs.Lines.{newline}
 use Rattle.iref.proofs.RunLemmas.{no_byte}
 use Rattle.iref.proofs.FaultLemmas.{some_begun, last_line, begun_same}
 use Rattle.iref.proofs.batch.lines.Lines.end_last.Goals as goal

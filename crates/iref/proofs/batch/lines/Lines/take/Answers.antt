@@ -1,6 +1,6 @@
 use Rattle.std.proofs.Common.{◌∷◌, ◌++◌, [], refl, append_assoc}
 use Rattle.std.proofs.lemmas.Result.{err_from_is_err_and}
-use Rattle.iref.specs.Lines.{newline}
+use Rattle.iref_model.specs.Lines.{newline}
 use Rattle.iref.proofs.RunLemmas.{in_run_nothing, in_run_next, in_run_more, in_run_written, in_run_is, line_taken, line_seen, line_is_less}
 use Rattle.iref.proofs.FaultLemmas.{begun_by_flush, begun_is}
 use Rattle.iref.proofs.batch.lines.Lines.take.Goals as goal

@@ -1,0 +1,244 @@
+//! A text in a rule of references, with the places of its components beside it.
+ghost use Rattle.std.specs.Prelude.{◌≡◌, true, [], ◌∷◌, None, IfSome, is_some, option_map};
+ghost use Rattle.std.specs.Option.{option_copied};
+ghost use Rattle.std.specs.String.{string_bytes};
+ghost use Rattle.iref_grammar.specs.Rules.{Text, InUtf8};
+ghost use Rattle.iref_grammar.specs.Grammar.{hash_sign};
+ghost use Rattle.iref_grammar.specs.Texts.{before};
+ghost use Rattle.iref_grammar.specs.Reference.{hierarchy, read_reference, is_reference, spell};
+ghost use Rattle.iref_grammar.specs.ComponentTexts.{AreComponents, spell_components};
+ghost use Rattle.iref_grammar.specs.Places.{places_of, text_at};
+ghost use Rattle.iref_core.specs.Makers.{Parses};
+ghost use Rattle.iref_parse.specs.ReferenceSlices.{texts_of, value_of};
+ghost use Rattle.iref_model.specs.ReferenceParts.{base_of};
+ghost use Rattle.iref_model.specs.ComponentSteps.{with_query, with_fragment};
+ghost use Rattle.iref_held.specs.PlaceTexts.{IsWithin, AreWithin, texts_at, front_end};
+
+use crate::base::base_slice;
+use iref_grammar::chars::CharSet;
+use iref_grammar::places::Offsets;
+use iref_grammar::reference_laws::components_tested;
+use iref_parse::places::places_of;
+use crate::rules::{FullReferenceRule, ReferenceRule};
+use iref_parse::split::{ReferenceSlices, parse_reference, split_reference};
+use iref_core::view::Rule;
+use std::fmt;
+use std::marker::{Model, PhantomData};
+use std::ops::Range;
+
+/// A rule of references: of all of them, or of those with a scheme.
+pub trait HeldRule: Rule {
+    /// The components of a text that is in the rule.
+    fn parse<C: CharSet>(text: &str) -> Option<ReferenceSlices<'_>>
+        ensures accepted { is_some result ≡ Self.test C.tests text.now }
+        ensures value { IfSome result (λ s. value_of s ≡ read_reference text.now) };
+
+    /// What is in the rule is a reference.
+    fn is_of_references<C: CharSet>()
+        ensures { (text : Text) → Self.test C.tests text ≡ true → is_reference C.tests text ≡ true };
+}
+
+impl HeldRule for ReferenceRule {
+    fn parse<C: CharSet>(text: &str) -> Option<ReferenceSlices<'_>> {
+        parse_reference::<C>(text)
+    }
+
+    fn is_of_references<C: CharSet>() {}
+}
+
+#[tactic(auto, using(iref_grammar::proofs::ComponentLemmas::full))]
+impl HeldRule for FullReferenceRule {
+    fn parse<C: CharSet>(text: &str) -> Option<ReferenceSlices<'_>> {
+        match parse_reference::<C>(text) {
+            Some(slices) if slices.scheme.is_some() => Some(slices),
+            _ => None,
+        }
+    }
+
+    fn is_of_references<C: CharSet>() {}
+}
+
+/// A text in a rule of references, with the places of its components beside it.
+#[derive(Drop)]
+pub struct Held<R: HeldRule, C: CharSet> {
+    text: String,
+    places: Offsets,
+    rule: PhantomData<(R, C)>,
+}
+
+impl<R: HeldRule, C: CharSet> Model for Held<R, C> {
+    ghost Value = { Text };
+
+    ghost view = { λ h. string_bytes h.text };
+
+    ghost invariant = { λ h. (R.test C.tests (string_bytes h.text) ≡ true) × (h.places ≡ places_of (string_bytes h.text)) };
+}
+
+impl<R: HeldRule, C: CharSet> Held<R, C> {
+    /// The text, if it is in the rule, with the places found in one scan, or the text.
+    pub fn new(text: String) -> Result<Self, String>
+        ensures { Parses (InUtf8 (R.rule C.tests)) (string_bytes text) (λ held. held) (λ input. input ≡ text) result }
+    {
+        R::decided::<C>();
+        let Some(slices) = R::parse::<C>(text.as_str()) else {
+            return Err(text);
+        };
+        let places = places_of(slices);
+        Ok(Held {
+            text,
+            places,
+            rule: PhantomData,
+        })
+    }
+
+    /// The text, which is known to be in the rule, with the places found in one scan.
+    pub fn new_unchecked(text: String) -> Self
+        requires { R.test C.tests (string_bytes text) ≡ true }
+        ensures { result ≡ string_bytes text }
+    {
+        let places = places_of(split_reference(text.as_str()));
+        Held {
+            text,
+            places,
+            rule: PhantomData,
+        }
+    }
+
+    /// The text of these bytes of UTF-8, if it is in the rule, or the bytes.
+    pub fn from_bytes(bytes: Vec<u8>) -> Result<Self, Vec<u8>>
+        ensures { Parses (InUtf8 (R.rule C.tests)) bytes.items (λ held. held) (λ input. input ≡ bytes) result }
+    {
+        match String::from_utf8(bytes) {
+            Ok(text) => Held::new(text).map_err(|text| text.into_bytes()),
+            Err(fault) => Err(fault.into_bytes()),
+        }
+    }
+
+    /// The text.
+    pub fn as_str(&self) -> &str
+        ensures text { result.now ≡ self.now }
+        ensures in_rule { R.test C.tests self.now ≡ true }
+    {
+        self.text.as_str()
+    }
+
+    /// Where the components stand.
+    pub fn places(&self) -> Offsets
+        ensures { result ≡ places_of self.now }
+    {
+        self.places.clone().unwrap()
+    }
+
+    /// The components, read at their places.
+    pub fn slices(&self) -> ReferenceSlices<'_>
+        ensures texts { texts_of result ≡ spell_components (read_reference self.now) }
+        ensures value { value_of result ≡ read_reference self.now }
+        ensures components { AreComponents C.tests (texts_of result) }
+    {
+        components_tested::<C>();
+        R::is_of_references::<C>();
+        slices_at(self.text.as_str(), &self.places)
+    }
+
+    /// The text up to the fragment.
+    pub fn without_fragment(&self) -> &str
+        ensures text { result.now ≡ before (hash_sign ∷ []) self.now }
+        ensures value { read_reference result.now ≡ with_fragment None (read_reference self.now) }
+        ensures in_rule { is_reference C.tests result.now ≡ true }
+    {
+        R::is_of_references::<C>();
+        let end = front_end(&self.places);
+        &self.text.as_str()[..end]
+    }
+
+    /// The text up to the query and the fragment.
+    pub fn without_query_and_fragment(&self) -> &str
+        ensures text { result.now ≡ hierarchy self.now }
+        ensures value { read_reference result.now ≡ with_query None (with_fragment None (read_reference self.now)) }
+        ensures in_rule { is_reference C.tests result.now ≡ true }
+    {
+        R::is_of_references::<C>();
+        &self.text.as_str()[..self.places.path.end]
+    }
+
+    /// The text up to the end of the path's directory.
+    pub fn base_text(&self) -> &str
+        ensures text { result.now ≡ spell (base_of (read_reference self.now)) }
+        ensures value { read_reference result.now ≡ base_of (read_reference self.now) }
+        ensures in_rule { is_reference C.tests result.now ≡ true }
+    {
+        R::is_of_references::<C>();
+        base_slice::<C>(self.as_str(), self.slices())
+    }
+
+    /// The same text under another rule that it is in, with its places.
+    pub fn into_rule<S: HeldRule>(self) -> Held<S, C>
+        requires { S.test C.tests self ≡ true }
+        ensures { result ≡ self }
+    {
+        let Held { text, places, .. } = self;
+        Held {
+            text,
+            places,
+            rule: PhantomData,
+        }
+    }
+
+    /// The text, with no copy.
+    pub fn into_string(self) -> String
+        ensures text { string_bytes result ≡ self }
+        ensures in_rule { R.test C.tests self ≡ true }
+    {
+        let Held { text, .. } = self;
+        text
+    }
+}
+
+impl<R: HeldRule, C: CharSet> fmt::Debug for Held<R, C> {
+    fn fmt<W: fmt::Write>(&self, f: &mut fmt::Formatter<W>) -> fmt::Result {
+        fmt::Debug::fmt(&self.as_str(), f)
+    }
+}
+
+// Where the query ends, or the path without one.
+fn front_end(places: &Offsets) -> usize
+    ensures { result ≡ front_end places.now }
+{
+    match &places.query {
+        Some(query) => query.end,
+        None => places.path.end,
+    }
+}
+
+// What stands at a place.
+fn slice_at<'a>(text: &'a str, place: &Range<usize>) -> &'a str
+    requires { IsWithin text.now place.now }
+    ensures { result.now ≡ text_at text.now place.now }
+{
+    &text[place.start..place.end]
+}
+
+// What stands at a place, if there is one.
+fn slice_if<'a>(text: &'a str, place: &Option<Range<usize>>) -> Option<&'a str>
+    requires { IfSome place.now (IsWithin text.now) }
+    ensures { option_copied result ≡ option_map (text_at text.now) place.now }
+{
+    match place {
+        Some(place) => Some(slice_at(text, place)),
+        None => None,
+    }
+}
+
+// What stands at the places.
+fn slices_at<'a>(text: &'a str, places: &Offsets) -> ReferenceSlices<'a>
+    requires { AreWithin text.now places.now }
+    ensures { texts_of result ≡ texts_at text.now places.now }
+{
+    ReferenceSlices {
+        scheme: slice_if(text, &places.scheme),
+        authority: slice_if(text, &places.authority),
+        path: slice_at(text, &places.path),
+        query: slice_if(text, &places.query),
+        fragment: slice_if(text, &places.fragment),
+    }
+}

@@ -1,0 +1,6 @@
+//! Texts of references, with the places of their components beside them.
+#![tactic(auto)]
+
+pub mod base;
+pub mod held;
+pub mod rules;

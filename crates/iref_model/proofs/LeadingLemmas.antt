@@ -1,0 +1,292 @@
+-- The segments that lead from a directory to a normal list, and that no others climb less.
+use Rattle.std.proofs.Common.{◌≡◌, ℕ, zero, suc, ◌+◌, ◌-◌, ◌≤◌, Bool, true, false, not, cond, ◌&&◌, List, [], ◌∷◌, ◌++◌, map, length, take, drop, refl, sym, ◌∙◌, ap, arith, codes, append_assoc, inl, inr, take_at, take-append-drop, length-take-le}
+use Rattle.std.specs.List.{list_all, common_prefix_len}
+use Rattle.std.specs.Cmp.Lexicographic.{bytes_decides}
+use Rattle.std.proofs.lemmas.List.{take-map, map-append, length-map, length-append, take-append-le}
+use Rattle.std.proofs.lemmas.List.Sums.{common_prefix_len-le}
+use Rattle.std.proofs.lemmas.List.Folds.{list_all-append}
+use Rattle.std.proofs.lemmas.Bool.{cases_lt}
+use mathlib.Core.Bool.{true≢false}
+use Rattle.percent_encoding.specs.Percent.{percent_decode}
+use Rattle.iref_grammar.specs.Rules.{Text}
+use Rattle.iref_grammar.specs.Texts.{is_empty, all_but_last}
+use Rattle.iref_grammar.specs.PathValue.{PathValue, is_one_empty}
+use Rattle.iref_model.specs.NormalList.{is_name, count_parents, staying_names, ends_in_dots, closed, without_lone_empty, normal_segments, open_parents}
+use Rattle.iref_model.specs.PathSuffix.{same_decoded}
+use Rattle.iref_model.specs.Relative.{last_or_empty, steps_between}
+use Rattle.iref_model.proofs.NormalLemmas.{parents-cons}
+use Rattle.iref_model.proofs.JoinedLemmas.{without_last, staying-append, are_names, all_first, climbs, open-most, parents-climbs, parents-names}
+use Rattle.iref_model.proofs.SettledLemmas.{ends-append, last_stays, staying-settled, open-settled, normal_from}
+
+-- a list by its decoded segments
+abbrev pub decoded : List Text → List Text
+decoded list = map percent_decode list
+
+abbrev pub shared : List Text → List Text → ℕ
+shared one other = common_prefix_len same_decoded one other
+
+-- ---- the longest common beginning
+
+next : (n : ℕ) → 1 + n ≡ suc n
+next n = omega arith
+
+pub decoded-shared : (xs ys : List Text) → decoded (take (shared xs ys) xs) ≡ decoded (take (shared xs ys) ys)
+decoded-shared [] ys = refl
+decoded-shared (x ∷ xs) [] = refl
+decoded-shared (x ∷ xs) (y ∷ ys) = by (same_decoded x y) refl (decoded-shared xs ys)
+  where
+    by : (b : Bool) → same_decoded x y ≡ b → decoded (take (shared xs ys) xs) ≡ decoded (take (shared xs ys) ys)
+        → decoded (take (cond b (1 + shared xs ys) 0) (x ∷ xs)) ≡ decoded (take (cond b (1 + shared xs ys) 0) (y ∷ ys))
+    by true e h =
+        (λ i. decoded (take (next (shared xs ys) i) (x ∷ xs)))
+        ∙ (λ i. (bytes_decides (percent_decode x) (percent_decode y)).0 e i ∷ h i)
+        ∙ (λ i. decoded (take (sym (next (shared xs ys)) i) (y ∷ ys)))
+    by false e h = refl
+
+pub shared-most : (n : ℕ) (xs ys : List Text) → n ≤ length xs → n ≤ length ys → decoded (take n xs) ≡ decoded (take n ys) → n ≤ shared xs ys
+shared-most zero xs ys h k e = omega arith
+shared-most (suc n) [] ys h k e = absurd (omega arith)
+shared-most (suc n) (x ∷ xs) [] h k e = absurd (omega arith)
+shared-most (suc n) (x ∷ xs) (y ∷ ys) h k e =
+    let heads : percent_decode x ≡ percent_decode y = cc in
+    let tails : decoded (take n xs) ≡ decoded (take n ys) = cc in
+    let below : n ≤ shared xs ys = shared-most n xs ys (omega arith) (omega arith) tails in
+    by (same_decoded x y) ((bytes_decides (percent_decode x) (percent_decode y)).1 heads) below
+  where
+    by : (b : Bool) → b ≡ true → n ≤ shared xs ys → suc n ≤ cond b (1 + shared xs ys) 0
+    by true e h = omega arith
+    by false e h = absurd (true≢false (sym e))
+
+-- ---- the last item
+
+pub divided_last : (s : Text) (rest : List Text) → all_but_last (s ∷ rest) ++ last_or_empty (s ∷ rest) ∷ [] ≡ s ∷ rest
+divided_last s [] = refl
+divided_last s (t ∷ rest) = λ i. s ∷ divided_last t rest i
+
+pub long_not_lone : (list : List Text) → 2 ≤ length list → is_one_empty list ≡ false
+long_not_lone [] h = refl
+long_not_lone (s ∷ []) h = absurd (omega arith)
+long_not_lone (s ∷ t ∷ rest) h = by (is_empty s)
+  where
+    by : (b : Bool) → (b && false) ≡ false
+    by true = refl
+    by false = refl
+
+pub long_without_lone : (list : List Text) → 2 ≤ length list → without_lone_empty list ≡ list
+long_without_lone list h = λ i. cond (long_not_lone list h i) [] list
+
+-- a list that is not one empty segment, divided and put together
+pub together : (list : List Text) → without_lone_empty list ≡ list → without_lone_empty (all_but_last list ++ last_or_empty list ∷ []) ≡ list
+together [] e = refl
+together (s ∷ rest) e = ap without_lone_empty (divided_last s rest) ∙ e
+
+-- ---- what the steps lead to
+
+-- of an absolute path, what a list after a front leaves
+pub walked : (front list tail : List Text) (n : ℕ) → staying_names list ≡ tail → open_parents list ≡ n → ends_in_dots (front ++ list) ≡ false
+    → let p : PathValue = record { absolute = true; segments = front ++ list } in normal_segments p ≡ without_lone_empty (without_last n (staying_names front) ++ tail)
+walked front list tail n stay opened ends =
+    normal_from (record { absolute = true; segments = front ++ list }) false (without_last n (staying_names front) ++ tail) ends
+    (staying-append front list ∙ (λ i. without_last (opened i) (staying_names front) ++ stay i))
+
+-- the directory as far as it is shared, then the rest of the list
+abbrev pub reached : List Text → List Text → Text → List Text
+reached directory middle last = take (shared directory middle) directory ++ (drop (shared directory middle) middle ++ last ∷ [])
+
+decoded-reached : (directory middle : List Text) (last : Text) → decoded (reached directory middle last) ≡ decoded (middle ++ last ∷ [])
+decoded-reached directory middle last =
+    let c = shared directory middle in
+    let rest = drop c middle ++ last ∷ [] in
+    map-append percent_decode (take c directory) rest
+    ∙ (λ i. decoded-shared directory middle i ++ decoded rest)
+    ∙ sym (map-append percent_decode (take c middle) rest)
+    ∙ ap decoded (sym (append_assoc (take c middle) (drop c middle) (last ∷ [])) ∙ (λ i. take-append-drop c middle i ++ last ∷ []))
+
+reached-without_lone : (directory middle : List Text) (last : Text) → decoded (without_lone_empty (reached directory middle last)) ≡ decoded (without_lone_empty (middle ++ last ∷ []))
+reached-without_lone directory [] last =
+    let within = common_prefix_len-le same_decoded directory [] in
+    let none : shared directory [] ≡ 0 = omega (arith, within.1) in
+    λ i. decoded (without_lone_empty (take (none i) directory ++ (drop (none i) [] ++ last ∷ [])))
+reached-without_lone directory (s ∷ middle) last =
+    let same = decoded-reached directory (s ∷ middle) last in
+    let one = length-map (reached directory (s ∷ middle) last) percent_decode in
+    let other = length-append middle (last ∷ []) in
+    let mapped = length-map (middle ++ last ∷ []) percent_decode in
+    let long : 2 ≤ length (reached directory (s ∷ middle) last) = omega (arith, one, ap length same, other, mapped) in
+    let whole : 2 ≤ length (s ∷ middle ++ last ∷ []) = omega (arith, other) in
+    ap decoded (long_without_lone (reached directory (s ∷ middle) last) long) ∙ same ∙ ap decoded (sym (long_without_lone (s ∷ middle ++ last ∷ []) whole))
+
+-- what each passes, and the empty segment
+pub all_last : (test : Text → Bool) → test [] ≡ true → (list : List Text) → list_all test list ≡ true → (list_all test (all_but_last list) ≡ true) × (test (last_or_empty list) ≡ true)
+all_last test empty [] h = (refl, empty)
+all_last test empty (s ∷ []) h = (refl, (all_first test s [] h).0)
+all_last test empty (s ∷ t ∷ rest) h =
+    let both = all_first test s (t ∷ rest) h in
+    let later = all_last test empty (t ∷ rest) both.1 in
+    ((λ i. both.0 i && later.0 i), later.1)
+
+pub all_drop : (test : Text → Bool) (n : ℕ) (list : List Text) → list_all test list ≡ true → list_all test (drop n list) ≡ true
+all_drop test zero list h = h
+all_drop test (suc n) [] h = refl
+all_drop test (suc n) (s ∷ rest) h = all_drop test n rest (all_first test s rest h).1
+
+-- the names of the steps, after the `..`
+abbrev pub names_down : List Text → List Text → List Text
+names_down directory list = drop (shared directory (all_but_last list)) (all_but_last list) ++ last_or_empty list ∷ []
+
+abbrev pub climb_between : List Text → List Text → ℕ
+climb_between directory list = length directory - shared directory (all_but_last list)
+
+pub names_down-all : (test : Text → Bool) → test [] ≡ true → (directory list : List Text) → list_all test list ≡ true → list_all test (names_down directory list) ≡ true
+names_down-all test empty directory list h =
+    let both = all_last test empty list h in
+    let c = shared directory (all_but_last list) in
+    list_all-append test (drop c (all_but_last list)) (last_or_empty list ∷ [])
+    ∙ (λ i. all_drop test c (all_but_last list) both.0 i && (both.1 i && true))
+
+pub names_down-names : (directory list : List Text) → are_names list ≡ true → are_names (names_down directory list) ≡ true
+names_down-names = names_down-all is_name refl
+
+pub steps-are : (directory list : List Text) → steps_between directory list ≡ climbs (climb_between directory list) ++ names_down directory list
+steps-are directory list =
+    append_assoc (climbs (climb_between directory list)) (drop (shared directory (all_but_last list)) (all_but_last list)) (last_or_empty list ∷ [])
+
+left_over : (directory : List Text) (c : ℕ) → c ≤ length directory → without_last (length directory - c) directory ≡ take c directory
+left_over directory c h = let e : length directory - (length directory - c) ≡ c = omega (arith, h) in λ i. take (e i) directory
+
+-- what stands last is a name
+ends-steps : (front list : List Text) → are_names list ≡ true → ends_in_dots (front ++ last_or_empty list ∷ []) ≡ false
+ends-steps front list h = ends-append front (last_or_empty list) [] ∙ ap not (all_last is_name refl list h).1
+
+-- a list that walks as the steps do leads to the list
+leads_as : (front list walk before : List Text) → are_names list ≡ true → without_lone_empty list ≡ list
+    → staying_names walk ≡ names_down (staying_names front) list → open_parents walk ≡ climb_between (staying_names front) list
+    → walk ≡ before ++ last_or_empty list ∷ []
+    → let p : PathValue = record { absolute = true; segments = front ++ walk } in decoded (normal_segments p) ≡ decoded list
+leads_as front list walk before h lone stay opened last =
+    let directory = staying_names front in
+    let middle = all_but_last list in
+    let within = common_prefix_len-le same_decoded directory middle in
+    let ends : ends_in_dots (front ++ walk) ≡ false =
+    (λ i. ends_in_dots (front ++ last i)) ∙ (λ i. ends_in_dots (sym (append_assoc front before (last_or_empty list ∷ [])) i)) ∙ ends-steps (front ++ before) list h in
+    ap decoded (walked front walk (names_down directory list) (climb_between directory list) stay opened ends)
+    ∙ (λ i. decoded (without_lone_empty (left_over directory (shared directory middle) within.0 i ++ names_down directory list)))
+    ∙ reached-without_lone directory middle (last_or_empty list)
+    ∙ ap decoded (together list lone)
+
+staying-steps : (directory list : List Text) → are_names list ≡ true → staying_names (steps_between directory list) ≡ names_down directory list
+staying-steps directory list h = ap staying_names (steps-are directory list) ∙ staying-settled (climb_between directory list) (names_down directory list) (names_down-names directory list h)
+
+open-steps : (directory list : List Text) → are_names list ≡ true → open_parents (steps_between directory list) ≡ climb_between directory list
+open-steps directory list h = ap open_parents (steps-are directory list) ∙ open-settled (climb_between directory list) (names_down directory list) (names_down-names directory list h)
+
+abbrev before_last : List Text → List Text → List Text
+before_last directory list = climbs (climb_between directory list) ++ drop (shared directory (all_but_last list)) (all_but_last list)
+
+-- the steps lead to the list, also after `.`
+pub steps_lead : (front list : List Text) → are_names list ≡ true → without_lone_empty list ≡ list
+    → let p : PathValue = record { absolute = true; segments = front ++ steps_between (staying_names front) list } in decoded (normal_segments p) ≡ decoded list
+steps_lead front list h lone =
+    let directory = staying_names front in
+    leads_as front list (steps_between directory list) (before_last directory list) h lone (staying-steps directory list h) (open-steps directory list h) refl
+
+pub dotted_steps_lead : (front list : List Text) → are_names list ≡ true → without_lone_empty list ≡ list
+    → let p : PathValue = record { absolute = true; segments = front ++ codes "." ∷ steps_between (staying_names front) list } in decoded (normal_segments p) ≡ decoded list
+unfolding staying_names
+dotted_steps_lead front list h lone =
+    let directory = staying_names front in
+    leads_as front list (codes "." ∷ steps_between directory list) (codes "." ∷ before_last directory list) h lone (staying-steps directory list h) (open-steps directory list h) refl
+
+-- how many `..` the steps have
+pub parents-steps : (directory list : List Text) → are_names list ≡ true → count_parents (steps_between directory list) ≡ climb_between directory list
+parents-steps directory list h =
+    ap count_parents (steps-are directory list) ∙ parents-climbs (climb_between directory list) (names_down directory list)
+    ∙ (let none = parents-names (names_down directory list) (names_down-names directory list h) in omega (arith, none))
+
+pub parents-dotted : (list : List Text) → count_parents (codes "." ∷ list) ≡ count_parents list
+parents-dotted list = parents-cons (codes ".") list ∙ omega arith
+
+-- ---- no list climbs less
+
+length-some : (list : List Text) → is_empty list ≡ false → 1 ≤ length list
+length-some [] h = absurd (true≢false h)
+length-some (s ∷ rest) h = omega arith
+
+-- a list that begins with n segments of the directory and goes on shares them
+shared_enough : (directory kept tail list : List Text) (n : ℕ) → take n directory ≡ kept → length kept ≡ n → n ≤ length directory → 1 ≤ length tail
+    → decoded (kept ++ tail) ≡ decoded list → n ≤ shared directory (all_but_last list)
+shared_enough directory kept tail [] n front size within some same =
+    let joined = length-append kept tail in
+    let mapped = length-map (kept ++ tail) percent_decode in
+    let none : length (decoded (kept ++ tail)) ≡ 0 = ap length same in
+    absurd (omega (arith, joined, mapped, none, some))
+shared_enough directory kept tail (s ∷ rest) n front size within some same =
+    let list = s ∷ rest in
+    let middle = all_but_last list in
+    let joined = length-append kept tail in
+    let mapped = length-map (kept ++ tail) percent_decode in
+    let other = length-map list percent_decode in
+    let ended = length-append middle (last_or_empty list ∷ []) in
+    let put = ap length (divided_last s rest) in
+    let sizes = ap length same in
+    let long : n ≤ length middle = omega (arith, joined, mapped, other, ended, put, sizes, size, some) in
+    let fronts : decoded (take n directory) ≡ decoded (take n middle) =
+    ap decoded (front ∙ sym (take_at kept tail n size)) ∙ sym (take-map percent_decode n (kept ++ tail)) ∙ ap (take n) same ∙ take-map percent_decode n list
+    ∙ (λ i. decoded (take n (sym (divided_last s rest) i))) ∙ ap decoded (take-append-le n middle (last_or_empty list ∷ []) long) in
+    shared-most n directory middle within long fronts
+
+closed_long : (list : List Text) → 1 ≤ length list → closed list ≡ list ++ [] ∷ []
+closed_long [] h = absurd (omega arith)
+closed_long (s ∷ rest) h = refl
+
+-- what is left of the directory is shared, if the list leads on from there
+kept_shared : (front : List Text) (s : Text) (rest list : List Text) (ends : Bool) → ends_in_dots (s ∷ rest) ≡ ends
+    → (let p : PathValue = record { absolute = true; segments = front ++ s ∷ rest } in decoded (normal_segments p) ≡ decoded list)
+    → 1 ≤ length (staying_names front) - open_parents (s ∷ rest)
+    → length (staying_names front) - open_parents (s ∷ rest) ≤ shared (staying_names front) (all_but_last list)
+kept_shared front s rest list true ends leads some =
+    let walk = s ∷ rest in
+    let directory = staying_names front in
+    let n = length directory - open_parents walk in
+    let kept = take n directory in
+    let tail = staying_names walk ++ [] ∷ [] in
+    let size : length kept ≡ n = length-take-le n directory (omega arith) in
+    let joined = length-append kept (staying_names walk) in
+    let more = length-append kept tail in
+    let ended = length-append (staying_names walk) ([] ∷ []) in
+    let long : 1 ≤ length (kept ++ staying_names walk) = omega (arith, joined, size, some) in
+    let longer : 2 ≤ length (kept ++ tail) = omega (arith, more, ended, size, some) in
+    let nonempty : 1 ≤ length tail = omega (arith, ended) in
+    let is =
+    normal_from (record { absolute = true; segments = front ++ walk }) true (kept ++ staying_names walk) (ends-append front s rest ∙ ends) (staying-append front walk) in
+    let reads = is ∙ ap without_lone_empty (closed_long (kept ++ staying_names walk) long ∙ append_assoc kept (staying_names walk) ([] ∷ [])) ∙ long_without_lone (kept ++ tail) longer in
+    shared_enough directory kept tail list n refl size (omega arith) nonempty (sym (ap decoded reads) ∙ leads)
+kept_shared front s rest list false ends leads some =
+    let walk = s ∷ rest in
+    let directory = staying_names front in
+    let n = length directory - open_parents walk in
+    let kept = take n directory in
+    let tail = staying_names walk in
+    let size : length kept ≡ n = length-take-le n directory (omega arith) in
+    let more = length-append kept tail in
+    let nonempty : 1 ≤ length tail = length-some tail (last_stays s rest ends) in
+    let longer : 2 ≤ length (kept ++ tail) = omega (arith, more, nonempty, size, some) in
+    let is =
+    normal_from (record { absolute = true; segments = front ++ walk }) false (kept ++ tail) (ends-append front s rest ∙ ends) (staying-append front walk) in
+    let reads = is ∙ long_without_lone (kept ++ tail) longer in
+    shared_enough directory kept tail list n refl size (omega arith) nonempty (sym (ap decoded reads) ∙ leads)
+
+-- where a list after a front leads to another list, it has as many `..` as the steps
+pub steps_least : (front : List Text) (s : Text) (rest list : List Text)
+    → (let p : PathValue = record { absolute = true; segments = front ++ s ∷ rest } in decoded (normal_segments p) ≡ decoded list)
+    → climb_between (staying_names front) list ≤ count_parents (s ∷ rest)
+steps_least front s rest list leads =
+    let directory = staying_names front in
+    let walk = s ∷ rest in
+    let n = length directory - open_parents walk in
+    let most = open-most walk in
+    let enough : n ≤ shared directory (all_but_last list) = elim (cases_lt 0 n) [
+      | inr none ↦ omega (arith, none)
+      | inl some ↦ kept_shared front s rest list (ends_in_dots walk) refl leads some
+    ] in
+    omega (arith, most, enough)

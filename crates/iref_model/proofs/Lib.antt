@@ -1,0 +1,37 @@
+mod Rows
+mod FunctionRows
+mod StepRows
+mod NormalRows
+pub mod GuardLemmas
+pub mod NormalLemmas
+pub mod StayingLemmas
+pub mod ItemLemmas
+pub mod NormalPathLemmas
+pub mod BackLemmas
+pub mod ComparisonLemmas
+pub mod CountedLemmas
+pub mod FitsLemmas
+pub mod StepSegmentLemmas
+pub mod ReadableStepLemmas
+pub mod RewritingLemmas
+pub mod BothEndsLemmas
+pub mod JoinedLemmas
+pub mod SettledLemmas
+pub mod PieceLemmas
+pub mod DirectoryLemmas
+pub mod PathGrammarLemmas
+pub mod NormalGrammarLemmas
+pub mod PathKeyLemmas
+pub mod LeadingLemmas
+pub mod KeyOrderLemmas
+pub mod KeyLemmas
+pub mod RelativeLemmas
+pub mod ReadableRelativeLemmas
+pub mod ResolvedLemmas
+pub mod ReferenceStepLemmas
+mod ResolutionRows
+mod RelativeRows
+mod ReferenceRows
+mod NumberRows
+mod EditRows
+mod LineRows

@@ -1,0 +1,121 @@
+-- The stretches of a list, by one count from the back.
+use Rattle.std.proofs.Common.{◌≡◌, ℕ, ◌+◌, ◌-◌, ◌≤◌, ◌<◌, max, Bool, true, false, not, cond, ◌&&◌, ◌||◌, List, [], ◌∷◌, map, refl, sym, ◌∙◌, ap, arith, inl, inr}
+use Rattle.std.specs.Prelude.{nat_le, ◌==◌, ◌≢◌}
+use Rattle.std.specs.List.{list_any}
+use Rattle.std.proofs.lemmas.List.Sums.{sum_by-cons}
+use Rattle.std.proofs.lemmas.Bool.Decides.{nat_tests, eqb_tells}
+use Rattle.iref_grammar.specs.Rules.{Text}
+use Rattle.iref_grammar.specs.Texts.{beginnings, greatest}
+use Rattle.iref_model.specs.NormalList.{is_dot, is_dot_dot, is_name, count_parents, count_names, takes_one_name, stays_before, excess, counted, open_parents}
+
+-- a function of the longer beginnings, as one of the shorter
+over_longer : (s : Text) (g h : List Text → ℕ) → ((f : List Text) → g (s ∷ f) ≡ h f) → (fronts : List (List Text)) → greatest (map g (map (λ f. s ∷ f) fronts)) ≡ greatest (map h fronts)
+over_longer s g h e [] = refl
+over_longer s g h e (f ∷ fronts) = λ i. max (e f i) (over_longer s g h e fronts i)
+
+any_over_longer : (s : Text) (t u : List Text → Bool) → ((f : List Text) → t (s ∷ f) ≡ u f) → (fronts : List (List Text)) → list_any t (map (λ f. s ∷ f) fronts) ≡ list_any u fronts
+any_over_longer s t u e [] = refl
+any_over_longer s t u e (f ∷ fronts) = λ i. e f i || any_over_longer s t u e fronts i
+
+any_same : (t u : List Text → Bool) → ((f : List Text) → t f ≡ u f) → (fronts : List (List Text)) → list_any t fronts ≡ list_any u fronts
+any_same t u e [] = refl
+any_same t u e (f ∷ fronts) = λ i. e f i || any_same t u e fronts i
+
+greatest_same : (g h : List Text → ℕ) → ((f : List Text) → g f ≡ h f) → (fronts : List (List Text)) → greatest (map g fronts) ≡ greatest (map h fronts)
+greatest_same g h e [] = refl
+greatest_same g h e (f ∷ fronts) = λ i. max (e f i) (greatest_same g h e fronts i)
+
+pub parents-cons : (s : Text) (f : List Text) → count_parents (s ∷ f) ≡ cond (is_dot_dot s) 1 0 + count_parents f
+parents-cons s f = sum_by-cons (λ x. cond (is_dot_dot x) 1 0) s f
+
+names-cons : (s : Text) (f : List Text) → count_names (s ∷ f) ≡ cond (is_name s) 1 0 + count_names f
+names-cons s f = sum_by-cons (λ x. cond (is_name x) 1 0) s f
+
+-- the count of `..` above k less the count of names above m
+abbrev lead : ℕ → ℕ → List Text → ℕ
+lead k m f = k + count_parents f - (m + count_names f)
+
+abbrev levels : ℕ → ℕ → List Text → Bool
+levels k m f = (k + count_parents f) == (m + count_names f)
+
+lead-cons : (k m : ℕ) (s : Text) (f : List Text) → lead k m (s ∷ f) ≡ lead (k + cond (is_dot_dot s) 1 0) (m + cond (is_name s) 1 0) f
+lead-cons k m s f =
+    let p = parents-cons s f in
+    let n = names-cons s f in
+    omega arith
+
+levels-cons : (k m : ℕ) (s : Text) (f : List Text) → levels k m (s ∷ f) ≡ levels (k + cond (is_dot_dot s) 1 0) (m + cond (is_name s) 1 0) f
+levels-cons k m s f =
+    let p : k + count_parents (s ∷ f) ≡ k + cond (is_dot_dot s) 1 0 + count_parents f = (let h = parents-cons s f in omega arith) in
+    let n : m + count_names (s ∷ f) ≡ m + cond (is_name s) 1 0 + count_names f = (let h = names-cons s f in omega arith) in
+    λ i. p i == n i
+
+lead_by_kind : (parent dot : Bool) (k m n : ℕ) → max (k - m) (k + cond parent 1 0 + n - (m + cond (not dot && not parent) 1 0)) ≡ k + counted parent (not dot && not parent) n - m
+lead_by_kind true true k m n = omega arith
+lead_by_kind true false k m n = omega arith
+lead_by_kind false true k m n = omega arith
+lead_by_kind false false k m n = omega arith
+
+pub greatest_lead : (k m : ℕ) (segments : List Text) → greatest (map (lead k m) (beginnings segments)) ≡ k + open_parents segments - m
+greatest_lead k m [] = omega arith
+greatest_lead k m (s ∷ rest) =
+    let k' = k + cond (is_dot_dot s) 1 0 in
+    let m' = m + cond (is_name s) 1 0 in
+    let here : lead k m [] ≡ k - m = omega arith in
+    let later = over_longer s (lead k m) (lead k' m') (lead-cons k m s) (beginnings rest) ∙ greatest_lead k' m' rest in
+    (λ i. max (here i) (later i)) ∙ lead_by_kind (is_dot_dot s) (is_dot s) k m (open_parents rest)
+
+-- the excess is what the count leaves
+pub excess-is : (segments : List Text) → excess segments ≡ open_parents segments
+unfolding excess
+excess-is segments =
+    let same : (f : List Text) → count_parents f - count_names f ≡ lead 0 0 f = λ f. omega arith in
+    let all = greatest_lead 0 0 segments in
+    greatest_same _ _ same (beginnings segments) ∙ omega (arith, all)
+
+levels_by_kind : (parent dot : Bool) (k m n : ℕ) → k < m → nat_le (m + cond (not dot && not parent) 1 0) (k + cond parent 1 0 + n) ≡ nat_le m (k + counted parent (not dot && not parent) n)
+levels_by_kind true true k m n h = grind (arith, nat_tests)
+levels_by_kind true false k m n h = grind (arith, nat_tests)
+levels_by_kind false true k m n h = grind (arith, nat_tests)
+levels_by_kind false false k m n h = grind (arith, nat_tests)
+
+level_here : (k m n : ℕ) → k ≡ m → (r : Bool) (parent dot : Bool) → (((k + 0) == (m + 0)) || r) ≡ nat_le m (k + counted parent (not dot && not parent) n)
+level_here k m n e r parent dot =
+    let at : ((k + 0) == (m + 0)) ≡ true = grind (arith, nat_tests) in
+    let below : nat_le m (k + counted parent (not dot && not parent) n) ≡ true = grind (arith, nat_tests) in
+    (λ i. at i || r) ∙ sym below
+
+not_level : (k m : ℕ) → (k ≢ m) → (r : Bool) → (((k + 0) == (m + 0)) || r) ≡ r
+not_level k m h r =
+    let away : ((k + 0) == (m + 0)) ≡ false = grind (arith, nat_tests) in
+    λ i. away i || r
+
+step_within : (parent name : Bool) (k m : ℕ) → k < m → k + cond parent 1 0 ≤ m + cond name 1 0
+step_within true true k m h = omega arith
+step_within true false k m h = omega arith
+step_within false true k m h = omega arith
+step_within false false k m h = omega arith
+
+none_open : (n : ℕ) → not (nat_le 1 (0 + n)) ≡ (n == 0)
+none_open n = grind (arith, nat_tests)
+
+pub any_levels : (k m : ℕ) (segments : List Text) → k ≤ m → list_any (levels k m) (beginnings segments) ≡ nat_le m (k + open_parents segments)
+any_levels k m [] h = grind (arith, nat_tests)
+any_levels k m (s ∷ rest) h = elim (eqb_tells k m) [
+  | inl e ↦ level_here k m (open_parents rest) e.1 (list_any (levels k m) (map (λ f. s ∷ f) (beginnings rest))) (is_dot_dot s) (is_dot s)
+  | inr e ↦
+      let k' = k + cond (is_dot_dot s) 1 0 in
+      let m' = m + cond (is_name s) 1 0 in
+      let less : k < m = omega (arith, e.1) in
+      let within : k' ≤ m' = step_within (is_dot_dot s) (is_name s) k m less in
+      not_level k m e.1 (list_any (levels k m) (map (λ f. s ∷ f) (beginnings rest)))
+      ∙ any_over_longer s (levels k m) (levels k' m') (levels-cons k m s) (beginnings rest) ∙ any_levels k' m' rest within
+      ∙ levels_by_kind (is_dot_dot s) (is_dot s) k m (open_parents rest) less
+]
+
+-- a name stays where the count is 0
+pub stays_before-is : (rest : List Text) → stays_before rest ≡ (open_parents rest == 0)
+stays_before-is rest =
+    let same : (f : List Text) → takes_one_name f ≡ levels 0 1 f = λ f. grind (arith, nat_tests) in
+    let found = any_same takes_one_name (levels 0 1) same (beginnings rest) ∙ any_levels 0 1 rest (omega arith) in
+    ap not found ∙ none_open (open_parents rest)

@@ -1,0 +1,73 @@
+-- A relative reference to a readable target is readable.
+use Rattle.std.proofs.Common.{◌≡◌, ℕ, zero, suc, Bool, true, false, cond, ◌&&◌, List, [], refl, ◌∙◌, ap}
+use Rattle.std.specs.List.{list_all}
+use Rattle.std.proofs.lemmas.List.Folds.{list_all-append}
+use Rattle.iref_grammar.specs.Characters.{CharTests, AreAboveAscii}
+use Rattle.iref_grammar.specs.Rules.{Text}
+use Rattle.iref_grammar.specs.Tests.{is_segment}
+use Rattle.iref_grammar.specs.PathValue.{PathValue}
+use Rattle.iref_model.specs.Guard.{guarded}
+use Rattle.iref_grammar.specs.Contexts.{alone, follows_authority, reads_as_path}
+use Rattle.iref_model.specs.NormalList.{normal_segments, normal}
+use Rattle.iref_grammar.specs.Reference.{ReferenceValue, IsReadable, is_readable}
+use Rattle.iref_model.specs.Relative.{have_same_authority, schemes_agree, is_same_place, steps_between, directory_names, leading_path, with_only_path, relative_to}
+use Rattle.iref_grammar.proofs.TextLemmas.{both, both_true}
+use Rattle.iref_grammar.proofs.ReadablePartsLemmas.{readable_parts}
+use Rattle.iref_grammar.proofs.ReferenceRuleLemmas.{Decides-is_readable}
+use Rattle.iref_model.proofs.GuardLemmas.{guarded-fits}
+use Rattle.iref_model.proofs.JoinedLemmas.{climbs}
+use Rattle.iref_model.proofs.StepSegmentLemmas.{TakesDots, normal-in, guarded-in}
+use Rattle.iref_model.proofs.LeadingLemmas.{names_down, names_down-all, climb_between, steps-are}
+use Rattle.iref_model.proofs.RelativeLemmas.{at_no_root, path_down, stands}
+use Rattle.iref_model.proofs.ReadableStepLemmas.{is_segment-dots}
+
+-- ---- what each segment passes
+
+module _ (test : Text → Bool) (dots : TakesDots test) where
+  all_climbs : (n : ℕ) → list_all test (climbs n) ≡ true
+  all_climbs zero = refl
+  all_climbs (suc n) = both _ _ dots.parent (all_climbs n)
+
+  all_steps : (directory list : List Text) → list_all test list ≡ true → list_all test (steps_between directory list) ≡ true
+  all_steps directory list h =
+      ap (list_all test) (steps-are directory list)
+      ∙ list_all-append test (climbs (climb_between directory list)) (names_down directory list)
+      ∙ both _ _ (all_climbs (climb_between directory list)) (names_down-all test dots.empty directory list h)
+
+  pub all_leading : (target base : ReferenceValue) → list_all test target.path.segments ≡ true → list_all test (leading_path target base).segments ≡ true
+  all_leading target base h = by base.path.absolute (normal-in test dots target.path h)
+    where
+      by : (b : Bool) → list_all test (normal_segments target.path) ≡ true → list_all test (guarded alone (cond b (at_no_root (path_down base.path (normal_segments target.path))) (normal target.path))).segments ≡ true
+      by true k = guarded-in test dots alone (at_no_root (path_down base.path (normal_segments target.path))) (all_steps (directory_names base.path) (normal_segments target.path) k)
+      by false k = guarded-in test dots alone (normal target.path) k
+
+-- ---- the answer
+
+pub readable-stands : (set : CharTests) (r : ReferenceValue) → is_readable set r ≡ true → stands r
+readable-stands set r readable = (readable_parts set r readable).follows
+
+only_path-readable : (set : CharTests) (target : ReferenceValue) (p : PathValue) → is_readable set target ≡ true → list_all (is_segment set) p.segments ≡ true → (follows_authority alone p && reads_as_path alone p) ≡ true → is_readable set (with_only_path p target) ≡ true
+unfolding is_readable
+only_path-readable set target p readable segments fits =
+    let own = readable_parts set target readable in
+    let end = both_true (follows_authority alone p) (reads_as_path alone p) fits in
+    λ i. segments i && own.query i && own.fragment i && end.0 i && end.1 i
+
+leading_path-fits : (target base : ReferenceValue) → (follows_authority alone (leading_path target base) && reads_as_path alone (leading_path target base)) ≡ true
+leading_path-fits target base = guarded-fits alone (cond base.path.absolute (at_no_root (path_down base.path (normal_segments target.path))) (normal target.path))
+
+-- the answer is readable where the target is
+pub relative_to-readable : (set : CharTests) (target base : ReferenceValue) → is_readable set target ≡ true → is_readable set (relative_to target base) ≡ true
+unfolding relative_to Rattle.iref_model.specs.Key.key
+relative_to-readable set target base readable = by (schemes_agree target base && have_same_authority target base) (is_same_place target base) target.path.absolute
+  where
+    by : (agree place root : Bool) → is_readable set (cond agree (cond place (with_only_path (at_no_root []) target) (cond root (with_only_path (leading_path target base) target) target)) target) ≡ true
+    by false place root = readable
+    by true true root = only_path-readable set target (at_no_root []) readable refl refl
+    by true false true = only_path-readable set target (leading_path target base) readable (all_leading (is_segment set) (is_segment-dots set) target base (readable_parts set target readable).segments) (leading_path-fits target base)
+    by true false false = readable
+
+-- the same by the rules of the grammar
+pub relative_to-IsReadable : (set : CharTests) → AreAboveAscii set → (target base : ReferenceValue) → IsReadable set target → IsReadable set (relative_to target base)
+relative_to-IsReadable set above target base readable =
+    (Decides-is_readable set above (relative_to target base)).0 (relative_to-readable set target base ((Decides-is_readable set above target).1 readable))

@@ -1,0 +1,67 @@
+-- Each step of a path keeps it readable in its context.
+use Rattle.std.proofs.Common.{◌≡◌, Bool, true, List, refl}
+use Rattle.std.specs.List.{list_all}
+use Rattle.iref_grammar.specs.declared.places.PathContext.{PathContext}
+use Rattle.iref_grammar.specs.Characters.{CharTests}
+use Rattle.iref_grammar.specs.Rules.{Text}
+use Rattle.iref_grammar.specs.Tests.{is_segment}
+use Rattle.iref_grammar.specs.PathValue.{PathValue}
+use Rattle.iref_grammar.specs.Contexts.{fits, is_readable_path}
+use Rattle.iref_model.specs.Guard.{guarded}
+use Rattle.iref_model.specs.PathSteps.{lazy_pushed, popped, pushed, appended, lazy_appended, replaced, joined, normalized, cleared}
+use Rattle.iref_grammar.proofs.TextLemmas.{both, both_true}
+use Rattle.iref_model.proofs.PathGrammarLemmas.{is_segment-empty, is_segment-dot, is_segment-dot_dot}
+use Rattle.iref_model.proofs.GuardLemmas.{guarded-fits}
+use Rattle.iref_model.proofs.FitsLemmas.{lazy_pushed-fits, popped-fits, pushed-fits, appended-fits, lazy_appended-fits, joined-fits, normalized-fits, cleared-fits}
+use Rattle.iref_model.proofs.StepSegmentLemmas.{TakesDots, guarded-in, lazy_pushed-in, popped-in, pushed-in, appended-in, lazy_appended-in, joined-in, normalized-in}
+
+pub is_segment-dots : (set : CharTests) → TakesDots (is_segment set)
+is_segment-dots set = record { empty = is_segment-empty set; dot = is_segment-dot set; parent = is_segment-dot_dot set }
+
+module _ (set : CharTests) (context : PathContext) where
+  abbrev pub is_readable : PathValue → Bool
+  is_readable p = is_readable_path set context p
+
+  abbrev are_segments : List Text → Bool
+  are_segments segments = list_all (is_segment set) segments
+
+  -- a path with segments in their rule that fits is readable
+  readable_from : (p : PathValue) → are_segments p.segments ≡ true → fits context p ≡ true → is_readable p ≡ true
+  readable_from p segments fit = both (are_segments p.segments) (fits context p) segments fit
+
+  -- what keeps both keeps the path readable
+  kept : (p new : PathValue) → (are_segments p.segments ≡ true → are_segments new.segments ≡ true) → (fits context p ≡ true → fits context new ≡ true) → is_readable p ≡ true → is_readable new ≡ true
+  kept p new segments fit h =
+      let parts = both_true (are_segments p.segments) (fits context p) h in
+      readable_from new (segments parts.0) (fit parts.1)
+
+  pub guarded-readable : (p : PathValue) → are_segments p.segments ≡ true → is_readable (guarded context p) ≡ true
+  guarded-readable p h = readable_from (guarded context p) (guarded-in (is_segment set) (is_segment-dots set) context p h) (guarded-fits context p)
+
+  pub lazy_pushed-readable : (s : Text) (p : PathValue) → is_segment set s ≡ true → is_readable p ≡ true → is_readable (lazy_pushed context s p) ≡ true
+  lazy_pushed-readable s p k = kept p (lazy_pushed context s p) (lazy_pushed-in (is_segment set) (is_segment-dots set) context s p k) (lazy_pushed-fits context s p)
+
+  pub pushed-readable : (s : Text) (p : PathValue) → is_segment set s ≡ true → is_readable p ≡ true → is_readable (pushed context s p) ≡ true
+  pushed-readable s p k = kept p (pushed context s p) (pushed-in (is_segment set) (is_segment-dots set) context s p k) (pushed-fits context s p)
+
+  pub popped-readable : (p : PathValue) → is_readable p ≡ true → is_readable (popped context p) ≡ true
+  popped-readable p = kept p (popped context p) (popped-in (is_segment set) (is_segment-dots set) context p) (popped-fits context p)
+
+  pub appended-readable : (items : List Text) (p : PathValue) → are_segments items ≡ true → is_readable p ≡ true → is_readable (appended context items p) ≡ true
+  appended-readable items p k = kept p (appended context items p) (appended-in (is_segment set) (is_segment-dots set) context items p k) (appended-fits context items p)
+
+  pub lazy_appended-readable : (items : List Text) (p : PathValue) → are_segments items ≡ true → is_readable p ≡ true → is_readable (lazy_appended context items p) ≡ true
+  lazy_appended-readable items p k =
+      kept p (lazy_appended context items p) (lazy_appended-in (is_segment set) (is_segment-dots set) context items p k) (lazy_appended-fits context items p)
+
+  pub joined-readable : (new p : PathValue) → are_segments new.segments ≡ true → is_readable p ≡ true → is_readable (joined context new p) ≡ true
+  joined-readable new p k = kept p (joined context new p) (joined-in (is_segment set) (is_segment-dots set) context new p k) (joined-fits context new p)
+
+  pub replaced-readable : (new p : PathValue) → are_segments new.segments ≡ true → is_readable (replaced context new p) ≡ true
+  replaced-readable new p = guarded-readable new
+
+  pub normalized-readable : (p : PathValue) → are_segments p.segments ≡ true → is_readable (normalized context p) ≡ true
+  normalized-readable p k = readable_from (normalized context p) (normalized-in (is_segment set) (is_segment-dots set) context p k) (normalized-fits context p)
+
+  pub cleared-readable : (p : PathValue) → is_readable (cleared p) ≡ true
+  cleared-readable p = readable_from (cleared p) refl (cleared-fits context p)

@@ -1,0 +1,334 @@
+-- A relative reference leads back to its target, and none climbs less.
+use Rattle.std.proofs.Common.{arith, ◌≡◌, ◌≤◌, Bool, true, false, cond, ◌&&◌, ◌||◌, List, [], ◌∷◌, ◌++◌, refl, sym, ◌∙◌, ap, Option, Some, None, option_map, is_some, is_none, codes}
+use Rattle.std.specs.Option.{option_or}
+use Rattle.std.specs.Str.{str_to_ascii_lowercase}
+use mathlib.Core.Bool.{true≢false}
+use Rattle.percent_encoding.specs.Percent.{percent_decode}
+use Rattle.iref_grammar.specs.declared.places.PathContext.{PathContext}
+use Rattle.iref_grammar.specs.Rules.{Text}
+use Rattle.iref_grammar.specs.Texts.{is_empty, all_but_last}
+use Rattle.iref_grammar.specs.Authority.{AuthorityValue}
+use Rattle.iref_grammar.specs.PathValue.{PathValue}
+use Rattle.iref_model.specs.Guard.{guarded, with_dot}
+use Rattle.iref_grammar.specs.Contexts.{alone, follows_authority, reads_as_path}
+use Rattle.iref_model.specs.NormalList.{count_parents, normal, normal_segments, staying_names}
+use Rattle.iref_grammar.specs.Reference.{ReferenceValue, context_of}
+use Rattle.iref_model.specs.Resolution.{resolved}
+use Rattle.iref_model.specs.AuthorityKey.{authority_key}
+use Rattle.iref_model.specs.Key.{key}
+use Rattle.iref_model.specs.PathKey.{path_key}
+use Rattle.iref_model.specs.Relative.{have_same_scheme, have_same_authority, have_same_path, schemes_agree, is_same_place, steps_between, directory_names, leading_path, with_only_path, relative_to}
+use Rattle.iref_model.specs.RelativeLaws.{IsOnlyPath}
+use Rattle.iref_model.proofs.JoinedLemmas.{are_names}
+use Rattle.iref_grammar.proofs.TextLemmas.{both_true}
+use Rattle.iref_model.proofs.NormalPathLemmas.{normal-with_dot, normal-guarded, path_key-normalized}
+use Rattle.iref_model.proofs.SettledLemmas.{normal_again, names-normal, lone-normal}
+use Rattle.iref_model.proofs.LeadingLemmas.{decoded, climb_between, steps_lead, dotted_steps_lead, parents-steps, parents-dotted, steps_least}
+use Rattle.iref_model.proofs.KeyLemmas.{same_scheme, same_authority, same_path}
+
+abbrev pub parts : Option Text → Option AuthorityValue → PathValue → Option Text → Option Text → ReferenceValue
+parts scheme authority path query fragment = record { scheme = scheme; authority = authority; path = path; query = query; fragment = fragment }
+
+-- the path stands where it may, after an authority
+abbrev pub stands : ReferenceValue → Type 0
+stands r = follows_authority (context_of r) r.path ≡ true
+
+-- ---- paths
+
+abbrev pub at_root : List Text → PathValue
+at_root segments = record { absolute = true; segments = segments }
+
+abbrev pub at_no_root : List Text → PathValue
+at_no_root segments = record { absolute = false; segments = segments }
+
+abbrev decoded_path : PathValue → PathValue
+decoded_path p = record { absolute = p.absolute; segments = decoded p.segments }
+
+path_key-guarded : (context : PathContext) (p : PathValue) → follows_authority context p ≡ true → path_key (guarded context p) ≡ path_key p
+unfolding path_key
+path_key-guarded context p h = ap decoded_path (normal-guarded context p h)
+
+path_key-normal : (p : PathValue) → path_key (normal p) ≡ path_key p
+unfolding path_key
+path_key-normal p = ap decoded_path (normal_again p)
+
+under_root : (has_scheme has_authority : Bool) (segments : List Text) → let context : PathContext = record { has_scheme = has_scheme; has_authority = has_authority } in follows_authority context (at_root segments) ≡ true
+under_root has_scheme true segments = refl
+under_root has_scheme false segments = refl
+
+path_key-rooted : (context : PathContext) (segments : List Text) → path_key (guarded context (normal (at_root segments))) ≡ path_key (at_root segments)
+path_key-rooted context segments = path_key-normalized context (at_root segments) (under_root context.has_scheme context.has_authority segments)
+
+-- ---- what a reference resolves to
+
+-- a key by its path, query and fragment
+abbrev pub key_of : Option Text → Option AuthorityValue → PathValue → Option Text → Option Text → ReferenceValue
+key_of scheme authority path query fragment = parts scheme authority path (option_map percent_decode query) (option_map percent_decode fragment)
+
+-- the key that a reference has where it takes scheme and authority of the base
+abbrev pub key_under : ReferenceValue → PathValue → Option Text → Option Text → ReferenceValue
+key_under base path query fragment = key_of (key base).scheme (key base).authority path query fragment
+
+-- a reference with a scheme, to itself
+pub resolved-full : (base r : ReferenceValue) → is_some r.scheme ≡ true → stands r → key (resolved base r) ≡ key r
+unfolding key resolved guarded
+resolved-full base r full stand = by r.scheme r.authority r.path r.query r.fragment full stand
+  where
+    by : (scheme : Option Text) (authority : Option AuthorityValue) (path : PathValue) (query fragment : Option Text) → is_some scheme ≡ true → let r = parts scheme authority path query fragment in stands r → key (resolved base r) ≡ key r
+    by None authority path query fragment full stand = absurd (true≢false (sym full))
+    by (Some s) authority path query fragment full stand =
+        ap (λ p. key_of (Some (str_to_ascii_lowercase s)) (option_map authority_key authority) p query fragment)
+        (path_key-normalized (context_of (parts (Some s) authority path query fragment)) path stand)
+
+-- a path from the root, to that path
+pub resolved-rooted : (base : ReferenceValue) (segments : List Text) (query fragment : Option Text) → key (resolved base (parts None None (at_root segments) query fragment)) ≡ key_under base (path_key (at_root segments)) query fragment
+unfolding key resolved guarded
+resolved-rooted base segments query fragment = ap (λ p. key_under base p query fragment) (path_key-rooted (context_of base) segments)
+
+-- a reference with an authority, to itself under the base's scheme
+resolved-authority : (base : ReferenceValue) (authority : AuthorityValue) (path : PathValue) (query fragment : Option Text) → let r = parts None (Some authority) path query fragment in
+    stands r → key (resolved base r) ≡ key_of (key base).scheme (Some (authority_key authority)) (path_key path) query fragment
+unfolding key resolved guarded
+resolved-authority base authority path query fragment stand =
+    ap (λ p. key_of (key base).scheme (Some (authority_key authority)) p query fragment)
+    (path_key-normalized (record { has_scheme = is_some base.scheme; has_authority = true }) path stand)
+
+-- the empty path, to the base's path
+pub resolved-empty : (base : ReferenceValue) (query fragment : Option Text) → stands base → key (resolved base (parts None None (at_no_root []) query fragment)) ≡ key_under base (path_key base.path) (option_or query base.query) fragment
+unfolding key resolved guarded
+resolved-empty base query fragment stand = ap (λ p. key_under base p (option_or query base.query) fragment) (path_key-guarded (context_of base) base.path stand)
+
+-- another relative path, to that path after the base's directory
+pub resolved-relative : (base : ReferenceValue) (segments : List Text) (query fragment : Option Text) → base.path.absolute ≡ true → is_empty segments ≡ false
+    → key (resolved base (parts None None (at_no_root segments) query fragment)) ≡ key_under base (path_key (at_root (all_but_last base.path.segments ++ segments))) query fragment
+unfolding key resolved guarded
+resolved-relative base [] query fragment root some = absurd (true≢false some)
+resolved-relative base (s ∷ rest) query fragment root some = by base.authority base.path.segments base.path.absolute root
+  where
+    by : (authority : Option AuthorityValue) (own : List Text) (absolute : Bool) → absolute ≡ true
+        → let base = parts base.scheme authority (record { absolute = absolute; segments = own }) base.query base.fragment in key (resolved base (parts None None (at_no_root (s ∷ rest)) query fragment)) ≡ key_under base (path_key (at_root (all_but_last own ++ s ∷ rest))) query fragment
+    by authority own false root = absurd (true≢false (sym root))
+    by None own true root = ap (λ p. key_of (key base).scheme None p query fragment) (path_key-rooted (record { has_scheme = is_some base.scheme; has_authority = false }) (all_but_last own ++ s ∷ rest))
+    by (Some a) [] true root = ap (λ p. key_of (key base).scheme (Some (authority_key a)) p query fragment) (path_key-rooted (record { has_scheme = is_some base.scheme; has_authority = true }) (s ∷ rest))
+    by (Some a) (t ∷ own) true root =
+        ap (λ p. key_of (key base).scheme (Some (authority_key a)) p query fragment)
+        (path_key-rooted (record { has_scheme = is_some base.scheme; has_authority = true }) (all_but_last (t ∷ own) ++ s ∷ rest))
+
+-- ---- where scheme and authority agree
+
+some_of_key : {A B : Type 0} (f : A → B) (x y : Option A) → option_map f x ≡ option_map f y → is_some y ≡ true → is_some x ≡ true
+some_of_key f x None e h = absurd (true≢false (sym h))
+some_of_key f None (Some y) e h = cc
+some_of_key f (Some x) (Some y) e h = refl
+
+-- a target that takes its scheme from the base has an authority or begins at the root
+pub takes_scheme : (target base : ReferenceValue) → is_some base.scheme ≡ true → schemes_agree target base ≡ true → (is_some target.scheme || is_some target.authority || target.path.absolute) ≡ true
+unfolding key
+takes_scheme target base full agree = by (have_same_scheme target base) refl target.scheme refl (is_some target.authority) target.path.absolute agree
+  where
+    by : (same : Bool) → have_same_scheme target base ≡ same → (scheme : Option Text) → target.scheme ≡ scheme → (authority absolute : Bool) → (same || is_none scheme && (authority || absolute)) ≡ true → (is_some scheme || authority || absolute) ≡ true
+    by same e (Some s) f true absolute h = refl
+    by same e (Some s) f false true h = refl
+    by same e (Some s) f false false h = refl
+    by same e None f true absolute h = refl
+    by same e None f false true h = refl
+    by true e None f false false h = absurd (true≢false (sym (ap is_some (sym f) ∙ some_of_key str_to_ascii_lowercase target.scheme base.scheme (same_scheme target base e) full)))
+    by false e None f false false h = absurd (true≢false (sym h))
+
+scheme_of_full : (target base : ReferenceValue) → is_some target.scheme ≡ true → schemes_agree target base ≡ true → (key target).scheme ≡ (key base).scheme
+scheme_of_full target base full agree = by target.scheme (have_same_scheme target base) refl (is_some target.authority || target.path.absolute) full agree
+  where
+    by : (scheme : Option Text) (same : Bool) → have_same_scheme target base ≡ same → (from_base : Bool) → is_some scheme ≡ true → (same || is_none scheme && from_base) ≡ true → (key target).scheme ≡ (key base).scheme
+    by scheme true e from_base full h = same_scheme target base e
+    by (Some s) false e from_base full h = absurd (true≢false (sym h))
+    by None false e from_base full h = absurd (true≢false (sym full))
+
+-- a target that agrees with the base resolves to its own path, query and fragment under the base
+pub resolved-agreeing : (target base : ReferenceValue) → is_some base.scheme ≡ true → schemes_agree target base ≡ true → have_same_authority target base ≡ true → stands target
+    → key (resolved base target) ≡ key_under base (path_key target.path) target.query target.fragment
+unfolding key
+resolved-agreeing target base full agree same stand = by target.scheme target.authority target.path target.query target.fragment agree same stand
+  where
+    rooted : (absolute : Bool) (segments : List Text) (query fragment : Option Text) → (false || false || absolute) ≡ true → let path : PathValue = record { absolute = absolute; segments = segments } in
+        key (resolved base (parts None None path query fragment)) ≡ key_under base (path_key path) query fragment
+    rooted true segments query fragment h = resolved-rooted base segments query fragment
+    rooted false segments query fragment h = absurd (true≢false (sym h))
+
+    by : (scheme : Option Text) (authority : Option AuthorityValue) (path : PathValue) (query fragment : Option Text) → let target = parts scheme authority path query fragment in
+        schemes_agree target base ≡ true → have_same_authority target base ≡ true → stands target → key (resolved base target) ≡ key_under base (path_key path) query fragment
+    by (Some s) authority path query fragment agree same stand =
+        let target = parts (Some s) authority path query fragment in
+        let own = resolved-full base target refl stand in
+        let scheme = scheme_of_full target base refl agree in
+        let authority_same = same_authority target base same in
+        own ∙ (λ i. key_of (scheme i) (authority_same i) (path_key path) query fragment)
+    by None (Some a) path query fragment agree same stand =
+        let target = parts None (Some a) path query fragment in
+        let authority_same = same_authority target base same in
+        resolved-authority base a path query fragment stand
+        ∙ (λ i. key_of (key base).scheme (authority_same i) (path_key path) query fragment)
+    by None None path query fragment agree same stand = rooted path.absolute path.segments query fragment (takes_scheme (parts None None path query fragment) base full agree)
+
+-- ---- each case of the answer
+
+query_kept : (query own : Option Text) → (is_some query || is_none own) ≡ true → option_map percent_decode (option_or query own) ≡ option_map percent_decode query
+query_kept (Some q) own h = refl
+query_kept None None h = refl
+query_kept None (Some q) h = absurd (true≢false (sym h))
+
+-- the empty path leads to the base's own place
+pub same_place-leads : (target base : ReferenceValue) → stands base → is_same_place target base ≡ true
+    → key (resolved base (with_only_path (at_no_root []) target)) ≡ key_under base (path_key target.path) target.query target.fragment
+same_place-leads target base stand h =
+    let first = both_true (have_same_path target base && (is_some target.query || is_none base.query)) _ h in
+    let second = both_true (have_same_path target base) (is_some target.query || is_none base.query) first.0 in
+    let path = same_path target base second.0 in
+    let query = query_kept target.query base.query second.1 in
+    resolved-empty base target.query target.fragment stand
+    ∙ (λ i. parts (key base).scheme (key base).authority (sym path i) (query i) (option_map percent_decode target.fragment))
+
+not_empty : (front : List Text) (s : Text) → is_empty (front ++ s ∷ []) ≡ false
+not_empty [] s = refl
+not_empty (t ∷ front) s = refl
+
+abbrev pub path_down : PathValue → List Text → List Text
+path_down base list = steps_between (directory_names base) list
+
+-- the steps lead down from the base's directory, behind a guard or not
+pub steps-lead : (base : ReferenceValue) (segments : List Text) (query fragment : Option Text) → base.path.absolute ≡ true
+    → key (resolved base (parts None None (guarded alone (at_no_root (path_down base.path (normal_segments (at_root segments))))) query fragment)) ≡ key_under base (path_key (at_root segments)) query fragment
+unfolding path_key guarded staying_names
+steps-lead base segments query fragment root = by (reads_as_path alone (at_no_root steps))
+  where
+    list : List Text
+    list = normal_segments (at_root segments)
+
+    steps : List Text
+    steps = path_down base.path list
+
+    by : (b : Bool) → key (resolved base (parts None None (cond b (at_no_root steps) (with_dot (at_no_root steps))) query fragment)) ≡ key_under base (path_key (at_root segments)) query fragment
+    by true =
+        resolved-relative base steps query fragment root (not_empty _ _)
+        ∙ (λ i. key_under base (at_root (steps_lead (all_but_last base.path.segments) list (names-normal segments) (lone-normal (at_root segments)) i)) query fragment)
+    by false =
+        resolved-relative base (codes "." ∷ steps) query fragment root refl
+        ∙ (λ i. key_under base (at_root (dotted_steps_lead (all_but_last base.path.segments) list (names-normal segments) (lone-normal (at_root segments)) i)) query fragment)
+
+-- the whole path leads there from a base with no root
+pub path-leads : (base : ReferenceValue) (segments : List Text) (query fragment : Option Text)
+    → key (resolved base (parts None None (guarded alone (normal (at_root segments))) query fragment)) ≡ key_under base (path_key (at_root segments)) query fragment
+unfolding path_key guarded normal_segments
+path-leads base segments query fragment = by (reads_as_path alone (normal (at_root segments)))
+  where
+    by : (b : Bool) → key (resolved base (parts None None (cond b (normal (at_root segments)) (with_dot (normal (at_root segments)))) query fragment)) ≡ key_under base (path_key (at_root segments)) query fragment
+    by true = resolved-rooted base (normal_segments (at_root segments)) query fragment ∙ (λ i. key_under base (path_key-normal (at_root segments) i) query fragment)
+    by false =
+        resolved-rooted base (codes "." ∷ normal_segments (at_root segments)) query fragment
+        ∙ (λ i. key_under base (ap decoded_path (normal-with_dot (normal (at_root segments))) i) query fragment)
+        ∙ (λ i. key_under base (path_key-normal (at_root segments) i) query fragment)
+
+pub leading_path-leads : (target base : ReferenceValue) → target.path.absolute ≡ true
+    → key (resolved base (with_only_path (leading_path target base) target)) ≡ key_under base (path_key target.path) target.query target.fragment
+leading_path-leads target base root = by target.path.absolute target.path.segments base.path.absolute refl root
+  where
+    by : (absolute : Bool) (segments : List Text) (from_root : Bool) → base.path.absolute ≡ from_root → absolute ≡ true → let path : PathValue = record { absolute = absolute; segments = segments } in
+        key (resolved base (parts None None (guarded alone (cond from_root (at_no_root (path_down base.path (normal_segments path))) (normal path))) target.query target.fragment)) ≡ key_under base (path_key path) target.query target.fragment
+    by false segments from_root e root = absurd (true≢false (sym root))
+    by true segments true e root = steps-lead base segments target.query target.fragment e
+    by true segments false e root = path-leads base segments target.query target.fragment
+
+-- ---- the whole
+
+-- the relative reference leads where the target does
+pub relative_to-leads : (target base : ReferenceValue) → is_some base.scheme ≡ true → stands target → stands base → key (resolved base (relative_to target base)) ≡ key (resolved base target)
+unfolding relative_to key
+relative_to-leads target base full stand own =
+    by (schemes_agree target base) (have_same_authority target base) (is_same_place target base) target.path.absolute refl refl refl refl
+  where
+    by : (agree same place root : Bool) → schemes_agree target base ≡ agree → have_same_authority target base ≡ same → is_same_place target base ≡ place → target.path.absolute ≡ root
+        → key (resolved base (cond (agree && same) (cond place (with_only_path (at_no_root []) target) (cond root (with_only_path (leading_path target base) target) target)) target)) ≡ key (resolved base target)
+    by false same place root e f g h = refl
+    by true false place root e f g h = refl
+    by true true true root e f g h = same_place-leads target base own g ∙ sym (resolved-agreeing target base full e f stand)
+    by true true false true e f g h = leading_path-leads target base h ∙ sym (resolved-agreeing target base full e f stand)
+    by true true false false e f g h = refl
+
+-- where the target has a scheme, the key is its own
+pub relative_to-leads_full : (target base : ReferenceValue) → is_some target.scheme ≡ true → is_some base.scheme ≡ true → stands target → stands base → key (resolved base (relative_to target base)) ≡ key target
+relative_to-leads_full target base own full stand base_stand = relative_to-leads target base full stand base_stand ∙ resolved-full base target own stand
+
+relative_guarded : (segments : List Text) → (guarded alone (at_no_root segments)).absolute ≡ false
+unfolding guarded
+relative_guarded segments = by (reads_as_path alone (at_no_root segments))
+  where
+    by : (b : Bool) → (cond b (at_no_root segments) (with_dot (at_no_root segments))).absolute ≡ false
+    by true = refl
+    by false = refl
+
+-- where scheme and authority agree and the target begins at the root, neither is written
+pub relative_to-only_path : (target base : ReferenceValue) → schemes_agree target base ≡ true → have_same_authority target base ≡ true → target.path.absolute ≡ true → IsOnlyPath (relative_to target base)
+unfolding relative_to key
+relative_to-only_path target base agree same root = by (schemes_agree target base) (have_same_authority target base) (is_same_place target base) target.path.absolute agree same root
+  where
+    by : (agree same place root : Bool) → agree ≡ true → same ≡ true → root ≡ true
+        → IsOnlyPath (cond (agree && same) (cond place (with_only_path (at_no_root []) target) (cond root (with_only_path (leading_path target base) target) target)) target)
+    by false same place root e f h = absurd (true≢false (sym e))
+    by true false place root e f h = absurd (true≢false (sym f))
+    by true true place false e f h = absurd (true≢false (sym h))
+    by true true true true e f h = record { scheme = refl; authority = refl }
+    by true true false true e f h = record { scheme = refl; authority = refl }
+
+-- where the base begins there too, the answer does not
+pub relative_to-no_root : (target base : ReferenceValue) → schemes_agree target base ≡ true → have_same_authority target base ≡ true → target.path.absolute ≡ true → base.path.absolute ≡ true → (relative_to target base).path.absolute ≡ false
+unfolding relative_to key
+relative_to-no_root target base agree same root base_root =
+    by (schemes_agree target base) (have_same_authority target base) (is_same_place target base) target.path.absolute base.path.absolute agree same root base_root
+  where
+    by : (agree same place root base_root : Bool) → agree ≡ true → same ≡ true → root ≡ true → base_root ≡ true
+        → (cond (agree && same) (cond place (with_only_path (at_no_root []) target) (cond root (with_only_path (guarded alone (cond base_root (at_no_root (path_down base.path (normal_segments target.path))) (normal target.path))) target) target)) target).path.absolute ≡ false
+    by false same place root base_root e f h k = absurd (true≢false (sym e))
+    by true false place root base_root e f h k = absurd (true≢false (sym f))
+    by true true place false base_root e f h k = absurd (true≢false (sym h))
+    by true true place true false e f h k = absurd (true≢false (sym k))
+    by true true true true true e f h k = refl
+    by true true false true true e f h k = relative_guarded (path_down base.path (normal_segments target.path))
+
+-- how many `..` the answer has, at most
+parents_guarded : (directory list : List Text) → are_names list ≡ true → count_parents (guarded alone (at_no_root (steps_between directory list))).segments ≡ climb_between directory list
+unfolding guarded
+parents_guarded directory list h = by (reads_as_path alone (at_no_root (steps_between directory list)))
+  where
+    by : (b : Bool) → count_parents (cond b (at_no_root (steps_between directory list)) (with_dot (at_no_root (steps_between directory list)))).segments ≡ climb_between directory list
+    by true = parents-steps directory list h
+    by false = parents-dotted (steps_between directory list) ∙ parents-steps directory list h
+
+answer_parents : (target base : ReferenceValue) → schemes_agree target base ≡ true → have_same_authority target base ≡ true → target.path.absolute ≡ true → base.path.absolute ≡ true
+    → count_parents (relative_to target base).path.segments ≤ climb_between (directory_names base.path) (normal_segments target.path)
+unfolding relative_to key
+answer_parents target base agree same root base_root =
+    by (schemes_agree target base) (have_same_authority target base) (is_same_place target base) target.path.absolute base.path.absolute agree same root base_root (normal_segments target.path) (names target.path.absolute target.path.segments root)
+  where
+    names : (absolute : Bool) (segments : List Text) → absolute ≡ true → let p : PathValue = record { absolute = absolute; segments = segments } in are_names (normal_segments p) ≡ true
+    names true segments e = names-normal segments
+    names false segments e = absurd (true≢false (sym e))
+
+    by : (agree same place root base_root : Bool) → agree ≡ true → same ≡ true → root ≡ true → base_root ≡ true → (list : List Text) → are_names list ≡ true
+        → count_parents (cond (agree && same) (cond place (with_only_path (at_no_root []) target) (cond root (with_only_path (guarded alone (cond base_root (at_no_root (path_down base.path list)) (normal target.path))) target) target)) target).path.segments ≤ climb_between (directory_names base.path) list
+    by false same place root base_root e f h k list names = absurd (true≢false (sym e))
+    by true false place root base_root e f h k list names = absurd (true≢false (sym f))
+    by true true place false base_root e f h k list names = absurd (true≢false (sym h))
+    by true true place true false e f h k list names = absurd (true≢false (sym k))
+    by true true true true true e f h k list names = omega arith
+    by true true false true true e f h k list names = (let is = parents_guarded (directory_names base.path) list names in omega (arith, is))
+
+-- no relative path that leads to the target climbs less
+pub relative_to-least : (target base : ReferenceValue) → is_some base.scheme ≡ true → stands target → schemes_agree target base ≡ true → have_same_authority target base ≡ true → target.path.absolute ≡ true → base.path.absolute ≡ true
+    → (segments : List Text) → is_empty segments ≡ false → key (resolved base (with_only_path (at_no_root segments) target)) ≡ key (resolved base target)
+    → count_parents (relative_to target base).path.segments ≤ count_parents segments
+unfolding normal_segments path_key
+relative_to-least target base full stand agree same root base_root [] some leads = absurd (true≢false some)
+relative_to-least target base full stand agree same root base_root (s ∷ rest) some leads =
+    let there = sym (resolved-relative base (s ∷ rest) target.query target.fragment base_root some) ∙ leads ∙ resolved-agreeing target base full agree same stand in
+    let least = steps_least (all_but_last base.path.segments) s rest (normal_segments target.path) (ap (λ r. r.path.segments) there) in
+    let most = answer_parents target base agree same root base_root in
+    omega (arith, least, most)

@@ -1,0 +1,387 @@
+-- `remove_dot_segments` on the text of an absolute path gives the text of its normal path.
+use Rattle.std.proofs.Common.{◌≡◌, ℕ, zero, suc, ◌+◌, ◌≤◌, Bool, true, false, not, cond, ◌&&◌, ◌||◌, List, [], ◌∷◌, ◌++◌, length, take, drop, refl, sym, ◌∙◌, ap, subst, arith, inl, inr, append_assoc}
+use Rattle.std.specs.Prelude.{◌==◌, codes, bytes_eq}
+use Rattle.std.specs.List.{list_all, join_with_byte}
+use Rattle.std.specs.Char.{char_set_contains}
+use Rattle.std.proofs.lemmas.List.{append-nil, length-append}
+use Rattle.std.proofs.lemmas.Bool.Decides.{eqb_tells}
+use Rattle.std.proofs.lemmas.Slice.Eq.{bytes_eq-Decides}
+use mathlib.Core.Bool.{true≢false}
+use Rattle.iref_grammar.specs.declared.places.PathContext.{PathContext}
+use Rattle.iref_grammar.specs.Rules.{Text}
+use Rattle.iref_grammar.specs.Grammar.{slash}
+use Rattle.iref_grammar.specs.Texts.{is_empty, before, from_first, pieces_at, begins_with, all_but_last}
+use Rattle.iref_grammar.specs.PathValue.{PathValue, spell_path, is_one_empty}
+use Rattle.iref_model.specs.Guard.{guarded}
+use Rattle.iref_model.specs.NormalList.{is_dot, is_dot_dot, is_name, counted, ends_in_dots, without_lone_empty, normal_segments, normal}
+use Rattle.iref_model.specs.NormalReading.{staying_before, closing, items}
+use Rattle.iref_model.specs.PathSteps.{normalized}
+use Rattle.iref_model.specs.DotSegments.{Buffers, without_last_segment, first_segment_moved, rewritten_once, rewritten, RemovesDotSegments, dot_segments_removed}
+use Rattle.iref_grammar.proofs.TextLemmas.{lacks, first_of_both, second_of_both, pieces_at-join}
+use Rattle.iref_grammar.proofs.CutLemmas.{before-no, before-yes, from_first-no, from_first-yes}
+use Rattle.iref_model.proofs.StayingLemmas.{staying_before-append, takes_last}
+use Rattle.iref_model.proofs.ItemLemmas.{normal_segments-is, some_name}
+use Rattle.iref_model.proofs.StepSegmentLemmas.{in-staying, in-snoc}
+
+-- each segment with a `/` before it
+abbrev pub slashed : List Text → Text
+slashed [] = []
+slashed (s ∷ rest) = slash ∷ s ++ slashed rest
+
+slashed-joined : (s : Text) (rest : List Text) → slash ∷ join_with_byte slash (s ∷ rest) ≡ slashed (s ∷ rest)
+slashed-joined s [] = ap (λ x. slash ∷ x) (sym (append-nil s))
+slashed-joined s (t ∷ rest) = ap (λ x. slash ∷ s ++ x) (slashed-joined t rest)
+
+slashed-append : (front back : List Text) → slashed (front ++ back) ≡ slashed front ++ slashed back
+slashed-append [] back = refl
+slashed-append (s ∷ front) back = ap (λ x. slash ∷ s ++ x) (slashed-append front back) ∙ ap (λ x. slash ∷ x) (sym (append_assoc s (slashed front) (slashed back)))
+
+slashed-snoc : (front : List Text) (s : Text) → slashed front ++ slash ∷ s ≡ slashed (front ++ s ∷ [])
+slashed-snoc front s = ap (λ x. slashed front ++ slash ∷ x) (sym (append-nil s)) ∙ sym (slashed-append front (s ∷ []))
+
+-- the output without its last segment
+joined-shorter : (names : List Text) → join_with_byte slash ([] ∷ all_but_last names) ≡ slashed (all_but_last names)
+joined-shorter [] = refl
+joined-shorter (s ∷ []) = refl
+joined-shorter (s ∷ t ∷ names) = slashed-joined s (all_but_last (t ∷ names))
+
+without_last-slashed : (names : List Text) → list_all (lacks slash) names ≡ true → without_last_segment (slashed names) ≡ slashed (all_but_last names)
+without_last-slashed [] h = refl
+without_last-slashed (s ∷ names) h =
+    let whole : slashed (s ∷ names) ≡ join_with_byte slash ([] ∷ s ∷ names) = sym (slashed-joined s names) in
+    let pieces : pieces_at slash (slashed (s ∷ names)) ≡ [] ∷ s ∷ names = ap (pieces_at slash) whole ∙ pieces_at-join slash [] (s ∷ names) h in
+    ap (λ ps. join_with_byte slash (all_but_last ps)) pieces ∙ joined-shorter (s ∷ names)
+
+-- ---- the tests of one step
+
+abbrev head_or : ℕ → Text → ℕ
+head_or d [] = d
+head_or d (c ∷ cs) = c
+
+abbrev tail_of : Text → Text
+tail_of [] = []
+tail_of (c ∷ cs) = cs
+
+abbrev item_at_2 : Text → ℕ
+item_at_2 x = head_or 0 (tail_of x)
+
+abbrev item_at_3 : Text → ℕ
+item_at_3 x = head_or 0 (tail_of (tail_of x))
+
+abbrev item_at_4 : Text → ℕ
+item_at_4 x = head_or 0 (tail_of (tail_of (tail_of x)))
+
+dot_is_no_slash : ◌≡◌ {A = ℕ} 46 47 → ⊥
+dot_is_no_slash e = true≢false (ap (λ n. n == 46) e)
+
+none_is_no_slash : ◌≡◌ {A = ℕ} 0 47 → ⊥
+none_is_no_slash e = true≢false (ap (λ n. n == 0) e)
+
+lacks_later : (c : ℕ) (s : Text) → lacks slash (c ∷ s) ≡ true → lacks slash s ≡ true
+lacks_later c s h = by (c == slash) h
+  where
+    by : (b : Bool) → not (b || char_set_contains s slash) ≡ true → lacks slash s ≡ true
+    by true h = absurd (true≢false (sym h))
+    by false h = h
+
+lacks_first_slash : (c : ℕ) (s : Text) → lacks slash (c ∷ s) ≡ true → 47 ≡ c → ⊥
+lacks_first_slash c s h e = true≢false (sym h ∙ (λ i. not ((sym e i == slash) || char_set_contains s slash)))
+
+not_dot : (s : Text) → is_name s ≡ true → s ≡ codes "." → ⊥
+not_dot s h e = true≢false (sym h ∙ ap is_name e)
+
+not_dot_dot : (s : Text) → is_name s ≡ true → s ≡ codes ".." → ⊥
+not_dot_dot s h e = true≢false (sym h ∙ ap is_name e)
+
+refused : (front text : Text) → (front ≡ text → ⊥) → bytes_eq front text ≡ false
+refused front text h = by (bytes_eq front text) refl
+  where
+    by : (b : Bool) → bytes_eq front text ≡ b → b ≡ false
+    by true e = absurd (h ((bytes_eq-Decides front text).0 e))
+    by false e = refl
+
+-- a name with a segment after it
+dot_middle : (s y : Text) → lacks slash s ≡ true → is_name s ≡ true → begins_with (codes "/./") (slash ∷ s ++ slash ∷ y) ≡ false
+dot_middle s y h k = refused (codes "/./") (take 3 (slash ∷ s ++ slash ∷ y)) (by s h k)
+  where
+    by : (s : Text) → lacks slash s ≡ true → is_name s ≡ true → codes "/./" ≡ take 3 (slash ∷ s ++ slash ∷ y) → ⊥
+    by [] h k e = dot_is_no_slash (ap item_at_2 e)
+    by (c ∷ []) h k e = not_dot (c ∷ []) k (ap (λ n. n ∷ []) (sym (ap item_at_2 e)))
+    by (c ∷ d ∷ s) h k e = lacks_first_slash d s (lacks_later c (d ∷ s) h) (ap item_at_3 e)
+
+dot_end_middle : (s y : Text) → bytes_eq (slash ∷ s ++ slash ∷ y) (codes "/.") ≡ false
+dot_end_middle s y = refused (slash ∷ s ++ slash ∷ y) (codes "/.") (by s)
+  where
+    by : (s : Text) → slash ∷ s ++ slash ∷ y ≡ codes "/." → ⊥
+    by [] e = dot_is_no_slash (sym (ap item_at_2 e))
+    by (c ∷ []) e = none_is_no_slash (sym (ap item_at_3 e))
+    by (c ∷ d ∷ s) e = true≢false (sym (ap (λ x. is_empty (tail_of (tail_of x))) e))
+
+parent_middle : (s y : Text) → lacks slash s ≡ true → is_name s ≡ true → begins_with (codes "/../") (slash ∷ s ++ slash ∷ y) ≡ false
+parent_middle s y h k = refused (codes "/../") (take 4 (slash ∷ s ++ slash ∷ y)) (by s h k)
+  where
+    by : (s : Text) → lacks slash s ≡ true → is_name s ≡ true → codes "/../" ≡ take 4 (slash ∷ s ++ slash ∷ y) → ⊥
+    by [] h k e = dot_is_no_slash (ap item_at_2 e)
+    by (c ∷ []) h k e = dot_is_no_slash (ap item_at_3 e)
+    by (c ∷ d ∷ []) h k e = not_dot_dot (c ∷ d ∷ []) k (λ i. sym (ap item_at_2 e) i ∷ sym (ap item_at_3 e) i ∷ [])
+    by (c ∷ d ∷ f ∷ s) h k e = lacks_first_slash f s (lacks_later d (f ∷ s) (lacks_later c (d ∷ f ∷ s) h)) (ap item_at_4 e)
+
+parent_end_middle : (s y : Text) → bytes_eq (slash ∷ s ++ slash ∷ y) (codes "/..") ≡ false
+parent_end_middle s y = refused (slash ∷ s ++ slash ∷ y) (codes "/..") (by s)
+  where
+    by : (s : Text) → slash ∷ s ++ slash ∷ y ≡ codes "/.." → ⊥
+    by [] e = dot_is_no_slash (sym (ap item_at_2 e))
+    by (c ∷ []) e = dot_is_no_slash (sym (ap item_at_3 e))
+    by (c ∷ d ∷ []) e = none_is_no_slash (sym (ap item_at_4 e))
+    by (c ∷ d ∷ f ∷ s) e = true≢false (sym (ap (λ x. is_empty (tail_of (tail_of (tail_of x)))) e))
+
+-- the last name
+dot_last : (s : Text) → lacks slash s ≡ true → begins_with (codes "/./") (slash ∷ s) ≡ false
+dot_last s h = refused (codes "/./") (take 3 (slash ∷ s)) (by s h)
+  where
+    by : (s : Text) → lacks slash s ≡ true → codes "/./" ≡ take 3 (slash ∷ s) → ⊥
+    by [] h e = true≢false (sym (ap (λ x. is_empty (tail_of x)) e))
+    by (c ∷ []) h e = true≢false (sym (ap (λ x. is_empty (tail_of (tail_of x))) e))
+    by (c ∷ d ∷ s) h e = lacks_first_slash d s (lacks_later c (d ∷ s) h) (ap item_at_3 e)
+
+dot_end_last : (s : Text) → is_name s ≡ true → bytes_eq (slash ∷ s) (codes "/.") ≡ false
+dot_end_last s k = refused (slash ∷ s) (codes "/.") (λ e. not_dot s k (ap tail_of e))
+
+parent_last : (s : Text) → lacks slash s ≡ true → begins_with (codes "/../") (slash ∷ s) ≡ false
+parent_last s h = refused (codes "/../") (take 4 (slash ∷ s)) (by s h)
+  where
+    by : (s : Text) → lacks slash s ≡ true → codes "/../" ≡ take 4 (slash ∷ s) → ⊥
+    by [] h e = true≢false (sym (ap (λ x. is_empty (tail_of x)) e))
+    by (c ∷ []) h e = true≢false (sym (ap (λ x. is_empty (tail_of (tail_of x))) e))
+    by (c ∷ d ∷ []) h e = true≢false (sym (ap (λ x. is_empty (tail_of (tail_of (tail_of x)))) e))
+    by (c ∷ d ∷ f ∷ s) h e = lacks_first_slash f s (lacks_later d (f ∷ s) (lacks_later c (d ∷ f ∷ s) h)) (ap item_at_4 e)
+
+parent_end_last : (s : Text) → is_name s ≡ true → bytes_eq (slash ∷ s) (codes "/..") ≡ false
+parent_end_last s k = refused (slash ∷ s) (codes "/..") (λ e. not_dot_dot s k (ap tail_of e))
+
+-- ---- the first segment, cut off
+
+no_slash : (c : ℕ) (s : Text) → lacks slash (c ∷ s) ≡ true → char_set_contains (slash ∷ []) c ≡ false
+no_slash c s h = elim (eqb_tells slash c) [
+  | inl e ↦ absurd (lacks_first_slash c s h e.1)
+  | inr e ↦ λ i. e.0 i || false
+]
+
+before-segment : (s y : Text) → lacks slash s ≡ true → before (slash ∷ []) (s ++ slash ∷ y) ≡ s
+before-segment [] y h = before-yes (slash ∷ []) slash y refl
+before-segment (c ∷ s) y h = before-no (slash ∷ []) c (s ++ slash ∷ y) (no_slash c s h) ∙ ap (λ x. c ∷ x) (before-segment s y (lacks_later c s h))
+
+from_first-segment : (s y : Text) → lacks slash s ≡ true → from_first (slash ∷ []) (s ++ slash ∷ y) ≡ slash ∷ y
+from_first-segment [] y h = from_first-yes (slash ∷ []) slash y refl
+from_first-segment (c ∷ s) y h = from_first-no (slash ∷ []) c (s ++ slash ∷ y) (no_slash c s h) ∙ from_first-segment s y (lacks_later c s h)
+
+before-all : (s : Text) → lacks slash s ≡ true → before (slash ∷ []) s ≡ s
+before-all [] h = refl
+before-all (c ∷ s) h = before-no (slash ∷ []) c s (no_slash c s h) ∙ ap (λ x. c ∷ x) (before-all s (lacks_later c s h))
+
+from_first-all : (s : Text) → lacks slash s ≡ true → from_first (slash ∷ []) s ≡ []
+from_first-all [] h = refl
+from_first-all (c ∷ s) h = from_first-no (slash ∷ []) c s (no_slash c s h) ∙ from_first-all s (lacks_later c s h)
+
+-- ---- one step
+
+-- a name moves to the output
+name_middle : (s y output : Text) → lacks slash s ≡ true → is_name s ≡ true → rewritten_once (record { input = slash ∷ s ++ slash ∷ y; output = output }) ≡ record { input = slash ∷ y; output = output ++ slash ∷ s }
+name_middle s y output h k =
+    (λ i. cond (dot_middle s y h k i) (record { input = drop 2 (slash ∷ s ++ slash ∷ y); output = output })
+    (cond (dot_end_middle s y i) (record { input = codes "/"; output = output })
+    (cond (parent_middle s y h k i) (record { input = drop 3 (slash ∷ s ++ slash ∷ y); output = without_last_segment output })
+    (cond (parent_end_middle s y i) (record { input = codes "/"; output = without_last_segment output })
+    (first_segment_moved (slash ∷ s ++ slash ∷ y) output)))))
+    ∙ (λ i. record { input = from_first-segment s y h i; output = output ++ slash ∷ before-segment s y h i })
+
+name_last : (s output : Text) → lacks slash s ≡ true → is_name s ≡ true → rewritten_once (record { input = slash ∷ s; output = output }) ≡ record { input = []; output = output ++ slash ∷ s }
+name_last s output h k =
+    (λ i. cond (dot_last s h i) (record { input = drop 2 (slash ∷ s); output = output })
+    (cond (dot_end_last s k i) (record { input = codes "/"; output = output })
+    (cond (parent_last s h i) (record { input = drop 3 (slash ∷ s); output = without_last_segment output })
+    (cond (parent_end_last s k i) (record { input = codes "/"; output = without_last_segment output })
+    (first_segment_moved (slash ∷ s) output)))))
+    ∙ (λ i. record { input = from_first-all s h i; output = output ++ slash ∷ before-all s h i })
+
+-- ---- what one segment does to the names that stay so far
+
+stay_dot : (front : List Text) → staying_before (front ++ codes "." ∷ []) 0 ≡ staying_before front 0
+stay_dot front = staying_before-append front (codes "." ∷ []) 0 ∙ append-nil (staying_before front 0)
+
+stay_parent : (front : List Text) → staying_before (front ++ codes ".." ∷ []) 0 ≡ all_but_last (staying_before front 0)
+stay_parent front = staying_before-append front (codes ".." ∷ []) 0 ∙ append-nil (staying_before front 1) ∙ (takes_last front 0).names
+
+stay_name : (front : List Text) (s : Text) → is_name s ≡ true → staying_before (front ++ s ∷ []) 0 ≡ staying_before front 0 ++ s ∷ []
+stay_name front s h = staying_before-append front (s ∷ []) 0 ∙ by (is_dot s) (is_dot_dot s) h
+  where
+    by : (dot parent : Bool) → (not dot && not parent) ≡ true → staying_before front (counted parent (not dot && not parent) 0) ++ cond ((not dot && not parent) && true) (s ∷ []) [] ≡ staying_before front 0 ++ s ∷ []
+    by true parent h = absurd (true≢false (sym h))
+    by false true h = absurd (true≢false (sym h))
+    by false false h = refl
+
+-- the output, with the names that stay so far
+abbrev output_of : List Text → Text
+output_of front = slashed (staying_before front 0)
+
+shorter_output : (front : List Text) → list_all (lacks slash) front ≡ true → without_last_segment (output_of front) ≡ output_of (front ++ codes ".." ∷ [])
+shorter_output front h = without_last-slashed (staying_before front 0) (in-staying (lacks slash) front 0 h) ∙ ap slashed (sym (stay_parent front))
+
+longer_output : (front : List Text) (s : Text) → is_name s ≡ true → output_of front ++ slash ∷ s ≡ output_of (front ++ s ∷ [])
+longer_output front s h = slashed-snoc (staying_before front 0) s ∙ ap slashed (sym (stay_name front s h))
+
+closed_output : (front : List Text) → output_of front ++ slash ∷ [] ≡ slashed (staying_before front 0 ++ [] ∷ [])
+closed_output front = slashed-snoc (staying_before front 0) []
+
+-- a segment is `.`, `..` or a name
+by_kind : (P : Text → Type 0) → P (codes ".") → P (codes "..") → ((s : Text) → is_name s ≡ true → P s) → (s : Text) → P s
+by_kind P dot parent name s = by (is_dot s) refl (is_dot_dot s) refl
+  where
+    by : (a : Bool) → is_dot s ≡ a → (b : Bool) → is_dot_dot s ≡ b → P s
+    by true e b f = subst P (sym ((bytes_eq-Decides s (codes ".")).0 e)) dot
+    by false e true f = subst P (sym ((bytes_eq-Decides s (codes "..")).0 f)) parent
+    by false e false f = name s (λ i. not (e i) && not (f i))
+
+-- a segment with another after it
+middle_step : (front : List Text) (t : Text) (rest : List Text) → list_all (lacks slash) front ≡ true → (s : Text) → lacks slash s ≡ true
+    → rewritten_once (record { input = slashed (s ∷ t ∷ rest); output = output_of front }) ≡ record { input = slashed (t ∷ rest); output = output_of (front ++ s ∷ []) }
+middle_step front t rest h =
+    by_kind (λ s. lacks slash s ≡ true → rewritten_once (record { input = slashed (s ∷ t ∷ rest); output = output_of front }) ≡ record { input = slashed (t ∷ rest); output = output_of (front ++ s ∷ []) })
+    (λ k i. record { input = slashed (t ∷ rest); output = slashed (sym (stay_dot front) i) })
+    (λ k i. record { input = slashed (t ∷ rest); output = shorter_output front h i })
+    (λ s name k. name_middle s (t ++ slashed rest) (output_of front) k name ∙ (λ i. record { input = slashed (t ∷ rest); output = longer_output front s name i }))
+
+-- Some steps, no more than the input has characters, use the input up and leave the output.
+pub record UsesUp (input output result : Text) : Type 0 where
+  pub steps : ℕ
+  pub within : steps ≤ length input
+  pub leaves : rewritten steps (record { input = input; output = output }) ≡ record { input = []; output = result }
+
+abbrev result_of : List Text → Bool → Text
+result_of segments ends = slashed (staying_before segments 0 ++ closing ends)
+
+last_steps : (front : List Text) → list_all (lacks slash) front ≡ true → (s : Text) → lacks slash s ≡ true → UsesUp (slashed (s ∷ [])) (output_of front) (result_of (front ++ s ∷ []) (ends_in_dots (s ∷ [])))
+last_steps front h =
+    by_kind (λ s. lacks slash s ≡ true → UsesUp (slashed (s ∷ [])) (output_of front) (result_of (front ++ s ∷ []) (ends_in_dots (s ∷ []))))
+    (λ k. record {
+      steps = 2;
+      within = omega arith;
+      leaves = name_last [] (output_of front) refl refl
+          ∙ (λ i. record { input = []; output = closed_output front i })
+          ∙ (λ i. record { input = []; output = slashed (sym (stay_dot front) i ++ [] ∷ []) });
+    })
+    (λ k. record {
+      steps = 2;
+      within = omega arith;
+      leaves = name_last [] (without_last_segment (output_of front)) refl refl
+          ∙ (λ i. record { input = []; output = shorter_output front h i ++ slash ∷ [] })
+          ∙ (λ i. record { input = []; output = closed_output (front ++ codes ".." ∷ []) i });
+    })
+    (λ s name k. record {
+      steps = 1;
+      within = omega arith;
+      leaves = (λ i. rewritten_once (record { input = slash ∷ append-nil s i; output = output_of front })) ∙ name_last s (output_of front) k name
+          ∙ (λ i. record { input = []; output = longer_output front s name i })
+          ∙ (λ i. record { input = []; output = slashed (sym (append-nil (staying_before (front ++ s ∷ []) 0)) i) })
+          ∙ (λ i. record { input = []; output = result_of (front ++ s ∷ []) (not (sym name i)) });
+    })
+
+-- the names so far are those that stay in what has been read
+uses_up : (front : List Text) (s : Text) (rest : List Text) → list_all (lacks slash) front ≡ true → list_all (lacks slash) (s ∷ rest) ≡ true → UsesUp (slashed (s ∷ rest)) (output_of front) (result_of (front ++ s ∷ rest) (ends_in_dots (s ∷ rest)))
+uses_up front s [] h k = last_steps front h s (first_of_both (lacks slash s) true k)
+uses_up front s (t ∷ rest) h k =
+    let here = first_of_both (lacks slash s) (list_all (lacks slash) (t ∷ rest)) k in
+    let later = uses_up (front ++ s ∷ []) t rest (in-snoc (lacks slash) front s h here) (second_of_both (lacks slash s) (list_all (lacks slash) (t ∷ rest)) k) in
+    let size : length (slashed (s ∷ t ∷ rest)) ≡ suc (length s + length (slashed (t ∷ rest))) = ap suc (length-append s (slashed (t ∷ rest))) in
+    let within = later.within in
+    record {
+      steps = suc later.steps;
+      within = omega (arith, size, within);
+      leaves = ap (rewritten later.steps) (middle_step front t rest h s here) ∙ later.leaves
+          ∙ (λ i. record { input = []; output = result_of (append_assoc front (s ∷ []) (t ∷ rest) i) (ends_in_dots (t ∷ rest)) });
+    }
+
+-- ---- the whole path
+
+spelled_items : (list : List Text) → is_empty list ≡ false → slashed list ≡ spell_path (record { absolute = true; segments = without_lone_empty list })
+unfolding spell_path
+spelled_items [] h = absurd (true≢false h)
+spelled_items ([] ∷ []) h = refl
+spelled_items ([] ∷ t ∷ list) h = sym (slashed-joined [] (t ∷ list))
+spelled_items ((c ∷ s) ∷ list) h = sym (slashed-joined (c ∷ s) list)
+
+pub path_uses_up : (segments : List Text) → list_all (lacks slash) segments ≡ true → let p : PathValue = record { absolute = true; segments = segments } in UsesUp (spell_path p) [] (spell_path (normal p))
+unfolding spell_path normal_segments Rattle.iref_model.specs.NormalList.staying_names
+path_uses_up [] h = record { steps = 1; within = omega arith; leaves = refl }
+path_uses_up (s ∷ rest) h =
+    let p : PathValue = record { absolute = true; segments = s ∷ rest } in
+    let up = uses_up [] s rest refl h in
+    let spelled : slashed (items p) ≡ spell_path (normal p) =
+    spelled_items (items p) (some_name s rest) ∙ (λ i. spell_path (record { absolute = true; segments = sym (normal_segments-is p) i })) in
+    let text : spell_path p ≡ slashed (s ∷ rest) = slashed-joined s rest in
+    record {
+      steps = up.steps;
+      within = subst (λ x. up.steps ≤ length x) (sym text) up.within;
+      leaves = (λ i. rewritten up.steps (record { input = text i; output = [] })) ∙ up.leaves ∙ (λ i. record { input = []; output = spelled i });
+    }
+
+used_up_stays : (n : ℕ) (output : Text) → rewritten n (record { input = []; output = output }) ≡ record { input = []; output = output }
+used_up_stays zero output = refl
+used_up_stays (suc n) output = used_up_stays n output
+
+more_steps : (n k : ℕ) (b : Buffers) (output : Text) → n ≤ k → rewritten n b ≡ record { input = []; output = output } → rewritten k b ≡ record { input = []; output = output }
+more_steps zero k b output h e = ap (rewritten k) e ∙ used_up_stays k output
+more_steps (suc n) zero b output h e = absurd (omega (arith, h))
+more_steps (suc n) (suc k) b output h e = more_steps n k (rewritten_once b) output (omega (arith, h)) e
+
+not_lone : (list : List Text) → is_one_empty (without_lone_empty list) ≡ false
+not_lone [] = refl
+not_lone (s ∷ list) = by (is_one_empty (s ∷ list)) refl
+  where
+    by : (b : Bool) → is_one_empty (s ∷ list) ≡ b → is_one_empty (cond b [] (s ∷ list)) ≡ false
+    by true e = refl
+    by false e = e
+
+-- under an authority an absolute normal path needs no guard
+pub normalized-under_authority : (scheme : Bool) (segments : List Text) → let p : PathValue = record { absolute = true; segments = segments } in normalized (record { has_scheme = scheme; has_authority = true }) p ≡ normal p
+unfolding guarded
+normalized-under_authority scheme segments = by scheme (normal_segments (record { absolute = true; segments = segments })) (ap is_one_empty (normal_segments-is (record { absolute = true; segments = segments })) ∙ not_lone (items (record { absolute = true; segments = segments })))
+  where
+    by : (scheme : Bool) (list : List Text) → is_one_empty list ≡ false → guarded (record { has_scheme = scheme; has_authority = true }) (record { absolute = true; segments = list }) ≡ record { absolute = true; segments = list }
+    by true list e = λ i. cond (not (e i) && true && true) (record { absolute = true; segments = list }) (record { absolute = true; segments = codes "." ∷ list })
+    by false list e = λ i. cond (not (e i) && true && true) (record { absolute = true; segments = list }) (record { absolute = true; segments = codes "." ∷ list })
+
+-- `normalize` on an absolute path under an authority leaves what the rewriting leaves
+pub removes_dot_segments : (scheme : Bool) (segments : List Text) → list_all (lacks slash) segments ≡ true
+    → let p : PathValue = record { absolute = true; segments = segments } in RemovesDotSegments (spell_path p) [] (spell_path (normalized (record { has_scheme = scheme; has_authority = true }) p))
+removes_dot_segments scheme segments h =
+    let up = path_uses_up segments h in
+    (up.steps, up.leaves ∙ (λ i. record { input = []; output = spell_path (sym (normalized-under_authority scheme segments) i) }))
+
+-- and what is computed by the rewriting
+pub dot_segments_removed-is : (scheme : Bool) (segments : List Text) → list_all (lacks slash) segments ≡ true
+    → let p : PathValue = record { absolute = true; segments = segments } in dot_segments_removed (spell_path p) ≡ spell_path (normalized (record { has_scheme = scheme; has_authority = true }) p)
+dot_segments_removed-is scheme segments h =
+    let p : PathValue = record { absolute = true; segments = segments } in
+    let up = path_uses_up segments h in
+    (λ i. (more_steps up.steps (length (spell_path p)) (record { input = spell_path p; output = [] }) (spell_path (normal p)) up.within up.leaves i).output)
+    ∙ (λ i. spell_path (sym (normalized-under_authority scheme segments) i))
+
+-- the rewriting leaves one output
+pub removes-one : (input output one other : Text) → RemovesDotSegments input output one → RemovesDotSegments input output other → one ≡ other
+removes-one input output one other a b =
+    let start : Buffers = record { input = input; output = output } in
+    let first = more_steps a.0 (a.0 + b.0) start one (omega arith) a.1 in
+    let second = more_steps b.0 (a.0 + b.0) start other (omega arith) b.1 in
+    λ i. ((sym first ∙ second) i).output
+
+-- the same, wherever an authority stands before an absolute path
+pub path_removes_dot_segments : (context : PathContext) (p : PathValue) → context.has_authority ≡ true → p.absolute ≡ true → list_all (lacks slash) p.segments ≡ true
+    → RemovesDotSegments (spell_path p) [] (spell_path (normalized context p))
+path_removes_dot_segments context p a b h = by context.has_authority p.absolute a b
+  where
+    by : (authority absolute : Bool) → authority ≡ true → absolute ≡ true → let before : PathContext = record { has_scheme = context.has_scheme; has_authority = authority } in let q : PathValue = record { absolute = absolute; segments = p.segments } in
+        RemovesDotSegments (spell_path q) [] (spell_path (normalized before q))
+    by true true a b = removes_dot_segments context.has_scheme p.segments h
+    by true false a b = absurd (true≢false (sym b))
+    by false absolute a b = absurd (true≢false (sym a))

@@ -1,0 +1,51 @@
+-- What references are compared by (RFC 3986 section 6.2.2), with no rules of schemes.
+use Rattle.std.specs.Prelude.{◌≡◌, ◌++◌, Bool, Decides, option_map}
+use Rattle.std.specs.Option.{option_cmp}
+use Rattle.std.specs.Str.{str_to_ascii_lowercase}
+use Rattle.std.specs.declared.cmp.Ordering.{Ordering}
+use Rattle.std.specs.Ordering.{ordering_then, is_eq}
+use Rattle.std.specs.Hash.{HashWrites, option}
+use Rattle.percent_encoding.specs.Percent.{percent_decode}
+use Rattle.iref_grammar.specs.Keys.{fed_bytes, text_order}
+use Rattle.iref_model.specs.AuthorityKey.{authority_key, authority_key_cmp, fed_authority}
+use Rattle.iref_model.specs.PathKey.{path_key, path_key_cmp}
+use Rattle.iref_model.specs.PathHash.{fed_path}
+use Rattle.iref_grammar.specs.Reference.{ReferenceValue}
+
+-- scheme in lower case (section 6.2.2.1), the normal path; user info, host, segments, query and fragment as decoded bytes
+unfoldable pub key : ReferenceValue → ReferenceValue
+key r =
+    record {
+      scheme = option_map str_to_ascii_lowercase r.scheme;
+      authority = option_map authority_key r.authority;
+      path = path_key r.path;
+      query = option_map percent_decode r.query;
+      fragment = option_map percent_decode r.fragment;
+    }
+
+-- the order of keys, component by component, one that is absent first
+unfoldable pub key_cmp : ReferenceValue → ReferenceValue → Ordering
+key_cmp r s =
+    ordering_then (option_cmp text_order r.scheme s.scheme)
+    (ordering_then (option_cmp authority_key_cmp r.authority s.authority)
+    (ordering_then (path_key_cmp r.path s.path)
+    (ordering_then (option_cmp text_order r.query s.query) (option_cmp text_order r.fragment s.fragment))))
+
+-- `==`, as a fact and as a test
+abbrev pub AreAlike : ReferenceValue → ReferenceValue → Type 0
+AreAlike r s = key r ≡ key s
+
+abbrev pub are_alike : ReferenceValue → ReferenceValue → Bool
+are_alike r s = is_eq (key_cmp (key r) (key s))
+
+-- what a hasher is fed of a key: component by component, and of one that may be absent whether it is there
+unfoldable pub fed_reference : ReferenceValue → HashWrites
+fed_reference k =
+    option fed_bytes k.scheme ++ option fed_authority k.authority ++ fed_path k.path ++ option fed_bytes k.query ++ option fed_bytes k.fragment
+
+-- values are equal where their keys are the same, in the order of their keys, and a hasher is fed the key
+abbrev pub ComparesByKey : {V : Type 0} → (V → ReferenceValue) → (V → V → Bool) → (V → V → Ordering) → (V → HashWrites) → Type 0
+ComparesByKey {V} value eq cmp hash_input =
+    ((a b : V) → Decides (eq a b) (AreAlike (value a) (value b)))
+    × ((a b : V) → cmp a b ≡ key_cmp (key (value a)) (key (value b)))
+    × ((v : V) → hash_input v ≡ fed_reference (key (value v)))

@@ -1,0 +1,15 @@
+-- What a hasher is fed of a path (RFC 3986 section 6.2.2).
+use Rattle.std.specs.Prelude.{◌++◌, List, length, reverse}
+use Rattle.std.specs.List.{flat_map}
+use Rattle.std.specs.Hash.{HashWrites, bool, usize}
+use Rattle.iref_grammar.specs.Keys.{fed_bytes}
+use Rattle.iref_grammar.specs.Rules.{Text}
+use Rattle.iref_grammar.specs.PathValue.{PathValue}
+
+-- texts, from the last to the first
+abbrev pub fed_from_the_back : List Text → HashWrites
+fed_from_the_back texts = flat_map fed_bytes (reverse texts)
+
+-- of a key: the flag, the segments from the last to the first, and how many they are
+unfoldable pub fed_path : PathValue → HashWrites
+fed_path key = bool key.absolute ++ fed_from_the_back key.segments ++ usize (length key.segments)

@@ -1,0 +1,41 @@
+-- What the laws of relative references speak of.
+use Rattle.std.specs.Prelude.{◌≡◌, ◌≤◌, false, List, IsTrue, IsFalse, None, is_some}
+use Rattle.iref_grammar.specs.Characters.{CharTests}
+use Rattle.iref_grammar.specs.Rules.{Text}
+use Rattle.iref_grammar.specs.Texts.{is_empty}
+use Rattle.iref_model.specs.NormalList.{count_parents}
+use Rattle.iref_grammar.specs.Reference.{ReferenceValue, is_readable}
+use Rattle.iref_model.specs.Resolution.{resolved}
+use Rattle.iref_model.specs.Key.{AreAlike}
+use Rattle.iref_model.specs.Relative.{schemes_agree, have_same_authority, with_only_path}
+
+-- a readable target, and a readable base with a scheme
+pub record AreTargetAndBase (set : CharTests) (target base : ReferenceValue) : Type 0 where
+  pub readable_target : IsTrue (is_readable set target)
+  pub readable_base : IsTrue (is_readable set base)
+  pub full_base : IsTrue (is_some base.scheme)
+
+-- scheme and authority agree, and the target's path begins at the root
+pub record DoAgree (target base : ReferenceValue) : Type 0 where
+  pub scheme : IsTrue (schemes_agree target base)
+  pub authority : IsTrue (have_same_authority target base)
+  pub root : IsTrue target.path.absolute
+
+-- neither scheme nor authority
+pub record IsOnlyPath (r : ReferenceValue) : Type 0 where
+  pub scheme : r.scheme ≡ None
+  pub authority : r.authority ≡ None
+
+-- from the base, the reference leads where the target leads
+abbrev pub Leads : ReferenceValue → ReferenceValue → ReferenceValue → Type 0
+Leads base r target = AreAlike (resolved base r) (resolved base target)
+
+-- a relative path with the target's query and fragment
+abbrev pub relative_path_to : ReferenceValue → List Text → ReferenceValue
+relative_path_to target segments = with_only_path (record { absolute = false; segments = segments }) target
+
+-- no relative path that leads to the target has fewer `..`
+abbrev pub ClimbsLeast : ReferenceValue → ReferenceValue → ReferenceValue → Type 0
+ClimbsLeast target base answer =
+    (segments : List Text) → IsFalse (is_empty segments) → Leads base (relative_path_to target segments) target
+    → count_parents answer.path.segments ≤ count_parents segments

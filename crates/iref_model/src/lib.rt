@@ -1,0 +1,8 @@
+//! What the calls mean (RFC 3986 sections 5 and 6): normal forms, steps of edits, resolution, comparison, relative references, lines; with the laws about them.
+#![tactic(auto)]
+
+pub mod key_laws;
+pub mod path_laws;
+pub mod relative_laws;
+pub mod resolution_laws;
+pub mod step_laws;

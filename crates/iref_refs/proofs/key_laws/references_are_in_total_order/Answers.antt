@@ -1,5 +1,0 @@
-use Rattle.iref_refs.proofs.KeyLemmas.{references_total}
-use Rattle.iref_refs.proofs.key_laws.references_are_in_total_order.Goals as goal
-
-pub returns : goal.returns
-returns c = references_total

@@ -1,2 +1,0 @@
-pub mod EmptyLemmas
-pub mod PortLemmas
