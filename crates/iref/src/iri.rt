@@ -2,12 +2,12 @@
 pub use iref_authority::authority::InvalidAuthority;
 pub use iref_authority::host::InvalidHost;
 pub use iref_authority::user_info::InvalidUserInfo;
+pub use iref_common::{InvalidScheme, Scheme, SchemeBuf};
+pub use iref_error::{InvalidIri, InvalidIriRef, IriError};
 use iref_grammar::chars::IriChars;
 pub use iref_path::equality::{Steps, path_eq_counted};
 pub use iref_path::path::InvalidPath;
 pub use iref_path::segment::InvalidSegment;
-pub use iref_error::{InvalidIri, InvalidIriRef, IriError};
-pub use iref_common::{InvalidScheme, Scheme, SchemeBuf};
 pub use iref_text::fragment::InvalidFragment;
 pub use iref_text::query::InvalidQuery;
 

@@ -14,10 +14,10 @@ ghost use Rattle.iref_authority.specs.Views.{host_text, host_buf_text};
 
 use crate::host_numbers::{ipv4_string, ipv6_string};
 use crate::rules::HostRule;
-use iref_grammar::chars::CharSet;
 use iref_core::error::Memory;
 use iref_core::owned::TextBuf;
 use iref_core::view::View;
+use iref_grammar::chars::CharSet;
 use iref_parse::{host, ip};
 use iref_text::pct::{PctStr, PctString};
 use std::alloc::Global;

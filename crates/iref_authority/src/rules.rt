@@ -4,11 +4,11 @@ ghost use Rattle.iref_grammar.specs.Grammar.{IsUserInfo, IsHost, IsAuthority};
 ghost use Rattle.iref_grammar.specs.Tests.{is_user_info, is_host};
 ghost use Rattle.iref_grammar.specs.Authority.{is_authority};
 
+use iref_core::key::DecodedBytes;
+use iref_core::view::{Keyed, Rule};
 use iref_grammar::authority_laws::authority_grammar;
 use iref_grammar::chars::CharSet;
 use iref_grammar::text_laws::{host_grammar, user_info_grammar};
-use iref_core::key::DecodedBytes;
-use iref_core::view::{Keyed, Rule};
 use iref_parse::{authority, host, scan};
 
 /// The rule of user infos (RFC 3986 section 3.2.1).

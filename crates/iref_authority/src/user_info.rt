@@ -11,10 +11,10 @@ ghost use Rattle.iref_text.specs.Components.{pct_text, pct_string_text};
 ghost use Rattle.iref_authority.specs.Views.{user_info_text, user_info_buf_text};
 
 use crate::rules::UserInfoRule;
-use iref_grammar::chars::CharSet;
 use iref_core::error::Memory;
 use iref_core::owned::TextBuf;
 use iref_core::view::View;
+use iref_grammar::chars::CharSet;
 use iref_text::pct::{PctStr, PctString};
 use std::alloc::Global;
 use std::convert::TryFrom;

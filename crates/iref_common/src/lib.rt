@@ -5,7 +5,7 @@ pub mod port;
 pub mod rules;
 pub mod scheme;
 
-pub use iref_grammar::places::{Offsets, PathContext};
 pub use iref_core::error::{Memory, TryError};
+pub use iref_grammar::places::{Offsets, PathContext};
 pub use port::{InvalidPort, Port, PortBuf, PortError};
 pub use scheme::{InvalidScheme, Scheme, SchemeBuf};

@@ -11,11 +11,11 @@ ghost use Rattle.iref_common.specs.Ports.{port_number, signed_port_number};
 ghost use Rattle.iref_model.specs.PortNumbers.{port_value, port_text};
 ghost use Rattle.iref_common.specs.Components.{port_digits, port_buf_digits};
 
-use iref_grammar::chars::UriChars;
+use crate::rules::PortRule;
 use iref_core::error::Memory;
 use iref_core::owned::TextBuf;
-use crate::rules::PortRule;
 use iref_core::view::View;
+use iref_grammar::chars::UriChars;
 use std::alloc::Global;
 use std::convert::TryFrom;
 use std::fmt;

@@ -9,11 +9,11 @@ ghost use Rattle.iref_grammar.specs.Keys.{ComparesBy};
 ghost use Rattle.iref_core.specs.Makers.{Parses};
 ghost use Rattle.iref_common.specs.Components.{scheme_text, scheme_buf_text};
 
-use iref_grammar::chars::UriChars;
+use crate::rules::SchemeRule;
 use iref_core::error::Memory;
 use iref_core::owned::TextBuf;
-use crate::rules::SchemeRule;
 use iref_core::view::View;
+use iref_grammar::chars::UriChars;
 use std::alloc::Global;
 use std::convert::TryFrom;
 use std::fmt;

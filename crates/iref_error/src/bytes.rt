@@ -6,9 +6,9 @@ use super::{InvalidIri, InvalidIriRef, InvalidUri, InvalidUriRef, IriError, UriE
 use iref_authority::authority::InvalidAuthority;
 use iref_authority::host::InvalidHost;
 use iref_authority::user_info::InvalidUserInfo;
+use iref_common::{InvalidPort, InvalidScheme};
 use iref_path::path::InvalidPath;
 use iref_path::segment::InvalidSegment;
-use iref_common::{InvalidPort, InvalidScheme};
 use iref_text::fragment::InvalidFragment;
 use iref_text::query::InvalidQuery;
 use std::borrow::CowSlice;

@@ -6,14 +6,14 @@ ghost use Rattle.std.specs.Prelude.{◌≡◌};
 mod bytes;
 mod texts;
 
-pub use iref_refs::reference::uri::{InvalidUri, InvalidUri as InvalidIri};
-pub use iref_refs::reference::uri_ref::{InvalidUriRef, InvalidUriRef as InvalidIriRef};
 use iref_authority::authority::InvalidAuthority;
 use iref_authority::host::InvalidHost;
 use iref_authority::user_info::InvalidUserInfo;
+use iref_common::{InvalidPort, InvalidScheme};
 use iref_path::path::InvalidPath;
 use iref_path::segment::InvalidSegment;
-use iref_common::{InvalidPort, InvalidScheme};
+pub use iref_refs::reference::uri::{InvalidUri, InvalidUri as InvalidIri};
+pub use iref_refs::reference::uri_ref::{InvalidUriRef, InvalidUriRef as InvalidIriRef};
 use iref_text::fragment::InvalidFragment;
 use iref_text::query::InvalidQuery;
 use std::fmt;

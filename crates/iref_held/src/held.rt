@@ -15,13 +15,13 @@ ghost use Rattle.iref_model.specs.ComponentSteps.{with_query, with_fragment};
 ghost use Rattle.iref_held.specs.PlaceTexts.{IsWithin, AreWithin, texts_at, front_end};
 
 use crate::base::base_slice;
+use crate::rules::{FullReferenceRule, ReferenceRule};
+use iref_core::view::Rule;
 use iref_grammar::chars::CharSet;
 use iref_grammar::places::Offsets;
 use iref_grammar::reference_laws::components_tested;
 use iref_parse::places::places_of;
-use crate::rules::{FullReferenceRule, ReferenceRule};
 use iref_parse::split::{ReferenceSlices, parse_reference, split_reference};
-use iref_core::view::Rule;
 use std::fmt;
 use std::marker::{Model, PhantomData};
 use std::ops::Range;

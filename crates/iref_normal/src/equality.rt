@@ -142,7 +142,6 @@ impl<'a> Unread<'a> {
     }
 }
 
-
 /// Whether what is left of both paths decodes to the same items.
 fn items_eq(left: &mut Unread<'_>, right: &mut Unread<'_>, steps: &mut Steps) -> bool
     requires left { IsCountable left.old }

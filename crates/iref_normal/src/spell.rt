@@ -15,9 +15,9 @@ ghost use Rattle.iref_normal.specs.Spelling as spelling;
 
 use crate::pieces::split_root;
 use crate::remaining::Remaining;
+use iref_core::error::Memory;
 use iref_grammar::chars::CharSet;
 use iref_parse::cut::cut;
-use iref_core::error::Memory;
 use std::alloc::Global;
 
 /// How many bytes the items have with a `/` after each, and the first of them, or nothing.

@@ -6,11 +6,11 @@ ghost use Rattle.iref_grammar.specs.Rules.{Text};
 ghost use Rattle.iref_grammar.specs.Grammar.{IsPath, IsSegment};
 ghost use Rattle.iref_grammar.specs.Tests.{is_path, is_segment};
 
+use iref_core::key::{DecodedBytes, Key};
+use iref_core::view::{Keyed, Rule};
 use iref_grammar::chars::CharSet;
 use iref_grammar::text_laws::{path_grammar, segment_grammar};
-use iref_core::key::{DecodedBytes, Key};
 use iref_parse::scan;
-use iref_core::view::{Keyed, Rule};
 
 /// The rule of segments.
 pub struct SegmentRule;

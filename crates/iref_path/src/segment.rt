@@ -11,9 +11,9 @@ ghost use Rattle.iref_text.specs.Components.{pct_text};
 ghost use Rattle.iref_path.specs.Views.{segment_text};
 
 use crate::rules::SegmentRule;
+use iref_core::view::View;
 use iref_grammar::chars::CharSet;
 use iref_normal::path_text::looks_like_scheme;
-use iref_core::view::View;
 use iref_text::pct::PctStr;
 use std::convert::TryFrom;
 use std::fmt;

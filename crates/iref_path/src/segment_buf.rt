@@ -15,9 +15,9 @@ ghost use Rattle.iref_path.specs.Views.{segment_text, segment_buf_text};
 
 use crate::rules::SegmentRule;
 use crate::segment::{InvalidSegment, Segment};
-use iref_grammar::chars::CharSet;
 use iref_core::error::Memory;
 use iref_core::owned::TextBuf;
+use iref_grammar::chars::CharSet;
 use iref_text::pct::PctStr;
 use std::alloc::Global;
 use std::convert::TryFrom;

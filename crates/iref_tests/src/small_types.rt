@@ -1,10 +1,10 @@
 //! Tests of schemes, ports, queries, fragments and percent-encoded texts.
 use crate::recording::agree;
 use crate::short_texts::{TEXTS, text_of_number};
-use iref_grammar::chars::{IriChars, UriChars};
 use iref_common::{
     InvalidPort, InvalidScheme, Port, PortBuf, PortError, Scheme, SchemeBuf, TryError,
 };
+use iref_grammar::chars::{IriChars, UriChars};
 use iref_text::fragment::{Fragment, FragmentBuf, InvalidFragment};
 use iref_text::pct::{InvalidPctStr, PctStr, PctString};
 use iref_text::query::{InvalidQuery, Query, QueryBuf};

@@ -10,11 +10,11 @@ ghost use Rattle.iref_core.specs.Makers.{Parses};
 ghost use Rattle.iref_text.specs.Components.{fragment_text, fragment_buf_text, pct_text, pct_string_text};
 
 use crate::pct::{PctStr, PctString};
-use iref_grammar::chars::CharSet;
+use crate::rules::FragmentRule;
 use iref_core::error::Memory;
 use iref_core::owned::TextBuf;
-use crate::rules::FragmentRule;
 use iref_core::view::View;
+use iref_grammar::chars::CharSet;
 use std::alloc::Global;
 use std::convert::TryFrom;
 use std::fmt;

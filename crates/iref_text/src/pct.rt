@@ -10,11 +10,11 @@ ghost use Rattle.iref_grammar.specs.Keys.{ComparesBy};
 ghost use Rattle.iref_core.specs.Makers.{Parses};
 ghost use Rattle.iref_text.specs.Components.{pct_text, pct_string_text};
 
-use iref_grammar::chars::UriChars;
+use crate::rules::PctStrRule;
 use iref_core::error::Memory;
 use iref_core::owned::TextBuf;
-use crate::rules::PctStrRule;
 use iref_core::view::View;
+use iref_grammar::chars::UriChars;
 use percent_encoding::{PercentDecode, percent_decode_str};
 use std::alloc::Global;
 use std::convert::TryFrom;

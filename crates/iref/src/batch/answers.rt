@@ -12,12 +12,12 @@ ghost use Rattle.iref_common.specs.Components.{scheme_text};
 
 use super::request::{Request, read_request};
 use iref_authority::authority::Authority;
+use iref_common::Scheme;
 use iref_grammar::chars::UriChars;
 use iref_grammar::reference_laws::reference_grammar;
 use iref_grammar::text_laws::path_grammar;
 use iref_path::path::Path;
 use iref_refs::reference::parts::UriRefParts;
-use iref_common::Scheme;
 use iref_text::fragment::Fragment;
 use iref_text::query::Query;
 use std::alloc::AllocError;

@@ -14,11 +14,11 @@ ghost use Rattle.iref_common.specs.Components.{scheme_text};
 
 use crate::reference::uri_ref::InvalidUriRef;
 use iref_authority::authority::{Authority, AuthorityParts};
+use iref_common::Scheme;
 use iref_grammar::chars::CharSet;
 use iref_grammar::reference_laws::reference_grammar;
 use iref_parse::split::{ReferenceSlices, parse_reference};
 use iref_path::path::Path;
-use iref_common::Scheme;
 use iref_text::fragment::Fragment;
 use iref_text::query::Query;
 use std::str;

@@ -13,20 +13,20 @@ ghost use Rattle.iref_model.specs.ReferenceParts.{user_info_of, host_of, port_of
 ghost use Rattle.iref_authority.specs.Views.{authority_text, user_info_text, host_text};
 ghost use Rattle.iref_common.specs.Components.{scheme_text, port_digits};
 
-use iref_held::held::Held;
 use crate::buf::uri_buf::UriBuf;
-use iref_held::base::base_text;
 use crate::reference::parts::UriParts;
 use crate::reference::uri_ref::UriRef;
 use iref_authority::authority::Authority;
 use iref_authority::host::Host;
 use iref_authority::user_info::UserInfo;
-use iref_grammar::chars::CharSet;
-use iref_core::error::Memory;
-use iref_held::rules::FullReferenceRule;
-use iref_core::view::View;
-use iref_path::path::Path;
 use iref_common::{Port, Scheme};
+use iref_core::error::Memory;
+use iref_core::view::View;
+use iref_grammar::chars::CharSet;
+use iref_held::base::base_text;
+use iref_held::held::Held;
+use iref_held::rules::FullReferenceRule;
+use iref_path::path::Path;
 use iref_text::fragment::Fragment;
 use iref_text::query::Query;
 use std::alloc::Global;
