@@ -1,5 +1,6 @@
 -- Answers to lines.
 use Rattle.std.proofs.Common.{◌≡◌, Bool, true, false, refl, sym, ◌∙◌, List, [], ◌∷◌, ◌++◌, ◌&&◌, Option, Some, None, ap, append_assoc, codes}
+use Rattle.std.proofs.lemmas.Bool.{and_right}
 use Rattle.std.specs.Bool.{Decides}
 use Rattle.std.specs.List.{join_with_byte}
 use Rattle.iref_grammar.specs.Rules.{Text}
@@ -65,13 +66,9 @@ pub no_left_answer : (left right : Text) → is_reference uri_chars left ≡ fal
 unfolding is_valid
 no_left_answer left right h = invalid (Equal left right) (rw h refl)
 
-and_false : (a b : Bool) → b ≡ false → (a && b) ≡ false
-and_false true b h = h
-and_false false b h = refl
-
 pub no_right_answer : (left right : Text) → is_reference uri_chars right ≡ false → answer_if_valid (Equal left right) ≡ InvalidText
 unfolding is_valid
-no_right_answer left right h = invalid (Equal left right) (and_false (is_reference uri_chars left) _ h)
+no_right_answer left right h = invalid (Equal left right) (and_right (is_reference uri_chars left) _ h)
 
 pub not_decided : (b : Bool) (P : Type 0) → Decides b P → ¬ P → b ≡ false
 not_decided true P d no_p = absurd (no_p (d.0 refl))

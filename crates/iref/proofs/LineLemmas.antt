@@ -9,6 +9,7 @@ use Rattle.iref_grammar.specs.Texts.{pieces_at, all_but_last, is_empty}
 use Rattle.iref_model.specs.Lines.{newline, lines_of, without_empty_last}
 use Rattle.iref.specs.Runs.{with_newlines, ended_lines}
 use Rattle.iref.specs.Gathering.{IsLine}
+use Rattle.iref_model.proofs.DirectoryLemmas.{all_but_last-snoc}
 
 with_newlines-front : (line rest : Text) (lines : List Text) → with_newlines (line ∷ lines) ++ rest ≡ line ++ newline ∷ (with_newlines lines ++ rest)
 with_newlines-front line rest lines = simp append_assoc
@@ -19,11 +20,6 @@ pieces_of_lines (line ∷ lines) rest h =
     ap (pieces_at newline) (with_newlines-front line rest lines) ∙
     slice_split_at (λ c. c == newline) line newline (with_newlines lines ++ rest) (All-head IsLine line lines h) refl ∙
     ap (λ (t : List Text). line ∷ t) (pieces_of_lines lines rest (All-tail IsLine line lines h))
-
-all_but_last-snoc : (lines : List Text) (line : Text) → all_but_last (lines ++ line ∷ []) ≡ lines
-all_but_last-snoc [] line = refl
-all_but_last-snoc (l ∷ []) line = refl
-all_but_last-snoc (l ∷ k ∷ lines) line = ap (λ (t : List Text). l ∷ t) (all_but_last-snoc (k ∷ lines) line)
 
 pub ended_lines_of : (lines : List Text) (begun : Text) → All IsLine lines → IsLine begun → ended_lines (with_newlines lines ++ begun) ≡ lines
 ended_lines_of lines begun h l =

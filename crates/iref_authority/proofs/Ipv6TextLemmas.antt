@@ -10,17 +10,18 @@ use Rattle.std.specs.Char.{is_ascii_hexdigit, digit_value}
 use Rattle.std.specs.Str.Parse.{AllDigits}
 use Rattle.std.proofs.lemmas.Fmt.{digits_is_IsNumeral}
 use Rattle.std.proofs.lemmas.Bool.Decides.{nat_tests, eqb_tells, leb_tells}
+use Rattle.std.proofs.lemmas.Bool.{and_from}
 use Rattle.iref_grammar.specs.Characters.{CharTests}
 use Rattle.iref_grammar.specs.Rules.{Text}
 use Rattle.iref_grammar.specs.IpAddresses.{IsGroup, AreGroups, IsFullIpv6, IsShortIpv6, number_of, ipv6_value}
 use Rattle.iref_grammar.specs.Grammar.{right_bracket}
 use Rattle.iref_grammar.specs.Tests.{is_host, is_ip_literal, is_ip_address, is_ipvfuture, is_reg_name, in_brackets, ends_here, some_and}
-use Rattle.iref_grammar.proofs.TextLemmas.{both}
 use Rattle.iref_grammar.proofs.CutLemmas.{before-part, after-part}
-use Rattle.iref_grammar.proofs.HostLemmas.{IsOutside, address_lacks}
+use Rattle.iref_grammar.proofs.HostLemmas.{address_lacks}
 use Rattle.iref_grammar.proofs.Ipv6CompleteLemmas.{ipv6_value-complete}
 use Rattle.iref_model.specs.HostNumbers.{groups_of, groups_text, ipv6_text, ipv6_host_text, longest_run, run_start, literal_value}
 use Rattle.iref_authority.proofs.ZeroRunLemmas.{first_longest_run}
+use Rattle.iref_grammar.proofs.HostRuleLemmas.{right_outside}
 
 -- ---- a group
 
@@ -51,7 +52,7 @@ hexdigit c h = grind (arith, nat_tests)
 
 hexdigits : (text : Text) → AllDigits 16 text → list_all is_ascii_hexdigit text ≡ true
 hexdigits [] h = refl
-hexdigits (c ∷ cs) h = both (is_ascii_hexdigit c) (list_all is_ascii_hexdigit cs) (hexdigit c h.0) (hexdigits cs h.1)
+hexdigits (c ∷ cs) h = and_from (is_ascii_hexdigit c) (list_all is_ascii_hexdigit cs) (hexdigit c h.0) (hexdigits cs h.1)
 
 group_of_digits : (n : ℕ) → n < 65536 → IsGroup (digits 16 false n) n
 unfolding digits
@@ -126,9 +127,6 @@ address_read_back : (n : ℕ) → n < 2 ^ 128 → ipv6_value (ipv6_text (groups_
 address_read_back n h = ipv6_value-complete (ipv6_text (groups_of n)) n (groups_of n, spelled_groups (groups_of n) refl (groups_of_written n h), sym (number_of_groups n h))
 
 -- ---- in brackets
-
-right_outside : IsOutside right_bracket
-right_outside = record { hex = refl; digit = refl; not_colon = refl; not_stop = refl; future = refl }
 
 is_address : (n : ℕ) → n < 2 ^ 128 → is_ip_address (ipv6_text (groups_of n)) ≡ true
 is_address n h = ap (λ o. is_some o || is_ipvfuture (ipv6_text (groups_of n))) (address_read_back n h)

@@ -8,12 +8,12 @@ use mathlib.Core.Bool.{true≢false}
 use Rattle.iref_grammar.specs.Rules.{Text}
 use Rattle.iref_grammar.specs.Grammar.{hash_sign, slash, colon, question_mark, at_sign, left_bracket, right_bracket, percent_sign, is_sub_delim, is_scheme_char, is_reg_name_char, is_user_info_char, is_path_char, is_fragment_char, is_query_char}
 use Rattle.iref_grammar.specs.Texts.{before, after, part_then, then_part}
-use Rattle.iref_grammar.proofs.TextLemmas.{lacks, first_of_both, both, second_of_both}
+use Rattle.iref_grammar.proofs.TextLemmas.{lacks, first_of_both, second_of_both}
 use Rattle.iref_grammar.proofs.CutLemmas.{cut}
 use Rattle.iref_grammar.specs.Characters.{CharTests, AreAboveAscii}
 use Rattle.iref_grammar.specs.Tests.{in_brackets, is_ip_literal, is_ip_address, some_and, none_or, ends_here, is_host, is_reg_name, is_user_info, is_port, is_scheme, is_segment, is_query}
-use Rattle.std.proofs.lemmas.Bool.{eqb-true}
-use Rattle.iref_grammar.proofs.Ipv6Lemmas.{some_same}
+use Rattle.std.proofs.lemmas.Bool.{eqb-true, and_from}
+use Rattle.std.proofs.lemmas.Option.{same_Some}
 use Rattle.iref_grammar.proofs.LackLemmas.{lacks_more, lacks-append, all_lacks, IsRefused, in_utf8_lacks}
 use Rattle.iref_grammar.proofs.HostLemmas.{IsOutside, address_lacks, before_lacks}
 
@@ -70,7 +70,7 @@ module _ (set : CharTests) (above : AreAboveAscii set) where
 
   pub segments_lack : (mark : ℕ) → IsCut mark → (mark == at_sign) ≡ false → (ss : List Text) → list_all (is_segment set) ss ≡ true → list_all (lacks mark) ss ≡ true
   segments_lack mark m a [] h = refl
-  segments_lack mark m a (s ∷ ss) h = both (lacks mark s) (list_all (lacks mark) ss) (segment_lacks mark m a s (first_of_both (is_segment set s) (list_all (is_segment set) ss) h)) (segments_lack mark m a ss (second_of_both (is_segment set s) (list_all (is_segment set) ss) h))
+  segments_lack mark m a (s ∷ ss) h = and_from (lacks mark s) (list_all (lacks mark) ss) (segment_lacks mark m a s (first_of_both (is_segment set s) (list_all (is_segment set) ss) h)) (segments_lack mark m a ss (second_of_both (is_segment set s) (list_all (is_segment set) ss) h))
 
   pub query_lacks : (q : Text) → is_query set q ≡ true → lacks hash_sign q ≡ true
   unfolding is_query
@@ -92,7 +92,7 @@ bracket_parts (c ∷ cs) inside h = by (c == left_bracket) refl (after right_bra
     by true e None f k = cc
     by true e (Some (d ∷ rest)) f k = cc
     by true e (Some []) f k =
-        let same : before (right_bracket ∷ []) cs ≡ inside = some_same (before (right_bracket ∷ []) cs) inside k in (
+        let same : before (right_bracket ∷ []) cs ≡ inside = same_Some (before (right_bracket ∷ []) cs) inside k in (
           ap (lacks right_bracket) (sym same) ∙ before_lacks right_bracket cs,
           (λ i. sym (eqb-true c left_bracket e) i ∷ (sym same i ++ right_bracket ∷ [])) ∙ ap (λ t. c ∷ t) f,
         )

@@ -1,5 +1,6 @@
 -- A text is a reference exactly if each of its components is in its rule.
 use Rattle.std.proofs.Common.{◌≡◌, Bool, true, false, refl, sym, ◌∙◌, ap}
+use Rattle.std.proofs.lemmas.Bool.{and_from, and_parts}
 use Rattle.std.specs.Prelude.{◌&&◌, Option, Some, None, option_map, is_some}
 use Rattle.std.specs.Borrow.{Bor}
 use Rattle.std.specs.Option.{option_copied}
@@ -11,7 +12,6 @@ use Rattle.iref_grammar.specs.Authority.{spell_authority, read_authority, has_au
 use Rattle.iref_grammar.specs.Contexts.{follows_authority, reads_as_path}
 use Rattle.iref_grammar.specs.Reference.{ReferenceValue, context_of, is_readable, read_reference, is_reference, is_full_reference}
 use Rattle.iref_grammar.specs.ComponentTexts.{ComponentTexts, spell_components, read_components, AreComponents}
-use Rattle.iref_grammar.proofs.TextLemmas.{both, both_true}
 use Rattle.iref_grammar.proofs.AuthorityLemmas.{read_authority-spelled}
 use Rattle.iref_grammar.proofs.PathLemmas.{read_path-reads}
 use Rattle.iref_grammar.proofs.ReadablePartsLemmas.{readable_parts, readable_from}
@@ -57,15 +57,15 @@ not_full set text h = by (is_some (read_reference text).scheme) ∙ ap (λ b. is
 
 pub full_if_scheme : (set : CharTests) (text : Text) → is_reference set text ≡ true → is_some (read_reference text).scheme ≡ true → is_full_reference set text ≡ true
 unfolding is_full_reference read_reference
-full_if_scheme set text h k = both _ _ k h
+full_if_scheme set text h k = and_from _ _ k h
 
 pub reference_if_full : (set : CharTests) (text : Text) → is_full_reference set text ≡ true → is_reference set text ≡ true
 unfolding is_full_reference
-reference_if_full set text h = (both_true _ _ h).1
+reference_if_full set text h = (and_parts _ _ h).1
 
 pub scheme_if_full : (set : CharTests) (text : Text) → is_full_reference set text ≡ true → is_some (read_reference text).scheme ≡ true
 unfolding is_full_reference read_reference
-scheme_if_full set text h = (both_true _ _ h).0
+scheme_if_full set text h = (and_parts _ _ h).0
 
 pub ruleset full = (reference_if_full, scheme_if_full)
 

@@ -4,6 +4,8 @@ use Rattle.std.specs.Prelude.{◌==◌, Option, Some, None, option_map, is_some,
 use Rattle.std.specs.Char.{char_set_contains}
 use Rattle.std.specs.List.{onto_first}
 use Rattle.std.proofs.lemmas.Bool.Decides.{eqb_tells}
+use Rattle.std.proofs.lemmas.Bool.{and_from}
+use Rattle.std.proofs.lemmas.List.{append-nil}
 use mathlib.Core.Bool.{true≢false}
 use Rattle.iref_grammar.specs.Rules.{Text}
 use Rattle.iref_grammar.specs.Grammar.{slash, colon}
@@ -12,8 +14,7 @@ use Rattle.iref_grammar.specs.PathValue.{PathValue, begins_empty, shows_its_list
 use Rattle.iref_grammar.specs.Contexts.{begins_with_colon_segment, follows_authority, is_no_authority, is_no_scheme, reads_as_path}
 use Rattle.iref_grammar.specs.Authority.{read_authority}
 use Rattle.iref_grammar.specs.Reference.{context_of, scheme_of, split_scheme, split_authority, hierarchy, read_reference}
-use Rattle.iref_grammar.proofs.TextLemmas.{both, pieces_at-one, pieces_at-front}
-use Rattle.iref_grammar.proofs.CutLemmas.{append_nil}
+use Rattle.iref_grammar.proofs.TextLemmas.{pieces_at-one, pieces_at-front}
 use Rattle.iref_grammar.proofs.PathLemmas.{read_path-reads}
 use Rattle.iref_grammar.proofs.SplitLemmas.{ends_scheme, cut_in_two, lacks-before, begins_with_mark, scheme-found}
 
@@ -61,7 +62,7 @@ first_without_colon text none = by (from_first ends_scheme text) refl
     no_slash = lacks-before ends_scheme slash text refl
 
     by : (back : Text) → from_first ends_scheme text ≡ back → not (begins_with_colon_segment (pieces_at slash text)) ≡ true
-    by [] e = ap (λ t. not (begins_with_colon_segment (pieces_at slash t))) (cut_in_two ends_scheme text [] e ∙ append_nil front) ∙ ap (λ ps. not (begins_with_colon_segment ps)) (pieces_at-one slash front no_slash) ∙ no_colon
+    by [] e = ap (λ t. not (begins_with_colon_segment (pieces_at slash t))) (cut_in_two ends_scheme text [] e ∙ append-nil front) ∙ ap (λ ps. not (begins_with_colon_segment ps)) (pieces_at-one slash front no_slash) ∙ no_colon
     by (c ∷ rest) e = elim (eqb_tells colon c) [
       | inl f ↦ let found = scheme-found text rest (e ∙ ap (λ d. d ∷ rest) (sym f.1)) in let some : Some front ≡ None = sym (ap (λ s. s.0) found) ∙ none in cc
       | inr f ↦ elim (eqb_tells slash c) [
@@ -152,6 +153,6 @@ pub read_reads_as_path : (text : Text) → reads_as_path (context_of (read_refer
 unfolding read_reference
 read_reads_as_path text =
     let r = read_reference text in
-    both (shows_its_list r.path && is_no_authority (context_of r) r.path) (is_no_scheme (context_of r) r.path)
-    (both (shows_its_list r.path) (is_no_authority (context_of r) r.path) (read_path-reads (split_authority (split_scheme (hierarchy text)).1).1).shown (placed (hierarchy text)).no_authority)
+    and_from (shows_its_list r.path && is_no_authority (context_of r) r.path) (is_no_scheme (context_of r) r.path)
+    (and_from (shows_its_list r.path) (is_no_authority (context_of r) r.path) (read_path-reads (split_authority (split_scheme (hierarchy text)).1).1).shown (placed (hierarchy text)).no_authority)
     (placed (hierarchy text)).no_scheme

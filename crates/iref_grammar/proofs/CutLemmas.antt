@@ -1,10 +1,11 @@
 -- Cuts of a text at its first mark.
-use Rattle.std.proofs.Common.{◌≡◌, ℕ, ◌+◌, suc, Bool, true, false, not, cond, ◌||◌, List, [], ◌∷◌, ◌++◌, take, drop, refl, sym, ◌∙◌, ap, arith, inl, inr}
+use Rattle.std.proofs.Common.{◌≡◌, ℕ, ◌+◌, Bool, true, false, not, cond, ◌||◌, List, [], ◌∷◌, ◌++◌, take, drop, refl, sym, ◌∙◌, ap, inl, inr}
 use Rattle.std.specs.Prelude.{◌==◌, Option, Some, None}
 use Rattle.std.specs.Char.{char_set_contains}
 use Rattle.std.specs.List.{position_or_len}
 use Rattle.std.proofs.lemmas.Bool.Decides.{eqb_tells}
-use Rattle.std.proofs.lemmas.List.{take-append-drop}
+use Rattle.std.proofs.lemmas.List.{take-append-drop, append-nil}
+use Rattle.std.proofs.Math.Numerals.{one-add}
 use mathlib.Core.Bool.{true≢false}
 use Rattle.iref_grammar.specs.Rules.{Text}
 use Rattle.iref_grammar.specs.Texts.{before, from_first, after, after_first_char, then_part}
@@ -14,19 +15,16 @@ use Rattle.iref_grammar.proofs.TextLemmas.{lacks}
 pub before-from_first : (marks : List ℕ) (text : Text) → before marks text ++ from_first marks text ≡ text
 before-from_first marks text = take-append-drop (position_or_len (char_set_contains marks) text) text
 
-one_more_suc : (n : ℕ) → 1 + n ≡ suc n
-one_more_suc n = omega arith
-
 -- at a character that is no mark, and at one that is
 pub before-no : (marks : List ℕ) (c : ℕ) (cs : Text) → char_set_contains marks c ≡ false → before marks (c ∷ cs) ≡ c ∷ before marks cs
 before-no marks c cs h =
     let n = position_or_len (char_set_contains marks) cs in
-    ap (λ b. take (cond (not b) (1 + n) 0) (c ∷ cs)) h ∙ ap (λ k. take k (c ∷ cs)) (one_more_suc n)
+    ap (λ b. take (cond (not b) (1 + n) 0) (c ∷ cs)) h ∙ ap (λ k. take k (c ∷ cs)) (one-add n)
 
 pub from_first-no : (marks : List ℕ) (c : ℕ) (cs : Text) → char_set_contains marks c ≡ false → from_first marks (c ∷ cs) ≡ from_first marks cs
 from_first-no marks c cs h =
     let n = position_or_len (char_set_contains marks) cs in
-    ap (λ b. drop (cond (not b) (1 + n) 0) (c ∷ cs)) h ∙ ap (λ k. drop k (c ∷ cs)) (one_more_suc n)
+    ap (λ b. drop (cond (not b) (1 + n) 0) (c ∷ cs)) h ∙ ap (λ k. drop k (c ∷ cs)) (one-add n)
 
 pub before-yes : (marks : List ℕ) (c : ℕ) (cs : Text) → char_set_contains marks c ≡ true → before marks (c ∷ cs) ≡ []
 before-yes marks c cs h = ap (λ b. take (cond (not b) (1 + position_or_len (char_set_contains marks) cs) 0) (c ∷ cs)) h
@@ -86,14 +84,10 @@ pub from_first-mark : (mark : ℕ) (front rest : Text) → lacks mark front ≡ 
 from_first-mark mark [] rest h = from_first-yes (mark ∷ []) mark rest (is_mark mark)
 from_first-mark mark (c ∷ cs) rest h = from_first-no (mark ∷ []) c (cs ++ mark ∷ rest) (no_mark mark c cs h) ∙ from_first-mark mark cs rest (rest_lacks mark c cs h)
 
-pub append_nil : (t : Text) → t ++ [] ≡ t
-append_nil [] = refl
-append_nil (c ∷ cs) = ap (λ t. c ∷ t) (append_nil cs)
-
 pub before-part : (mark : ℕ) (front : Text) (o : Option Text) → lacks mark front ≡ true → before (mark ∷ []) (front ++ then_part (mark ∷ []) o) ≡ front
-before-part mark front None h = ap (before (mark ∷ [])) (append_nil front) ∙ before-lacking mark front h
+before-part mark front None h = ap (before (mark ∷ [])) (append-nil front) ∙ before-lacking mark front h
 before-part mark front (Some rest) h = before-mark mark front rest h
 
 pub after-part : (mark : ℕ) (front : Text) (o : Option Text) → lacks mark front ≡ true → after mark (front ++ then_part (mark ∷ []) o) ≡ o
-after-part mark front None h = ap (after mark) (append_nil front) ∙ ap after_first_char (from_first-lacking mark front h)
+after-part mark front None h = ap (after mark) (append-nil front) ∙ ap after_first_char (from_first-lacking mark front h)
 after-part mark front (Some rest) h = ap after_first_char (from_first-mark mark front rest h)

@@ -6,6 +6,7 @@ use Rattle.std.specs.Char.{char_set_contains, digit_value, is_ascii_hexdigit}
 use Rattle.std.specs.Str.Parse.{AllDigits}
 use Rattle.std.proofs.lemmas.Fmt.{decimal_is_IsNumeral}
 use Rattle.std.proofs.lemmas.Bool.Decides.{eqb_tells}
+use Rattle.std.proofs.lemmas.Bool.{and_from}
 use native.Mathlib.Nat.{lt_trans}
 use mathlib.Core.Bool.{true≢false}
 use Rattle.iref_grammar.specs.Rules.{Text}
@@ -13,7 +14,7 @@ use Rattle.iref_grammar.specs.Grammar.{full_stop, is_future_char}
 use Rattle.iref_grammar.specs.Texts.{before, after, is_empty, then_part}
 use Rattle.iref_grammar.specs.IpAddresses.{IsIpv4, IsGroup, AreGroups, AreLastGroups, IsFullIpv6, IsShortIpv6, ipv6_value}
 use Rattle.iref_grammar.specs.Tests.{is_ip_address, is_ipvfuture, is_future_version, is_future_address}
-use Rattle.iref_grammar.proofs.TextLemmas.{lacks, both, first_of_both, second_of_both}
+use Rattle.iref_grammar.proofs.TextLemmas.{lacks, first_of_both, second_of_both, list_all-snoc}
 use Rattle.iref_grammar.proofs.CutLemmas.{cut, before-no, before-yes}
 use Rattle.iref_grammar.proofs.LackLemmas.{lacks_more, lacks-append, all_lacks}
 use Rattle.iref_grammar.proofs.Ipv6Lemmas.{ipv6_value-sound}
@@ -51,17 +52,13 @@ ipv4_lacks mark m text n v =
     let l = decimal_lacks mark m.digit in
     subst (λ t. lacks mark t ≡ true) (sym v.spelled)
     (join_lacks mark 46 m.not_stop (decimal v.a ∷ decimal v.b ∷ decimal v.c ∷ decimal v.d ∷ [])
-    (both (lacks mark (decimal v.a)) _ (l v.a v.in_range.0) (both (lacks mark (decimal v.b)) _ (l v.b v.in_range.1) (both (lacks mark (decimal v.c)) _ (l v.c v.in_range.2) (both (lacks mark (decimal v.d)) true (l v.d v.in_range.3) refl)))))
+    (and_from (lacks mark (decimal v.a)) _ (l v.a v.in_range.0) (and_from (lacks mark (decimal v.b)) _ (l v.b v.in_range.1) (and_from (lacks mark (decimal v.c)) _ (l v.c v.in_range.2) (and_from (lacks mark (decimal v.d)) true (l v.d v.in_range.3) refl)))))
 
 pieces_lack : (mark : ℕ) → IsOutside mark → (pieces : List Text) (groups : List ℕ) → AllZip IsGroup pieces groups → list_all (lacks mark) pieces ≡ true
 pieces_lack mark m [] [] z = refl
 pieces_lack mark m [] (n ∷ ns) z = absurd z
 pieces_lack mark m (p ∷ pieces) [] z = absurd z
-pieces_lack mark m (p ∷ pieces) (n ∷ ns) z = both (lacks mark p) (list_all (lacks mark) pieces) (all_lacks is_ascii_hexdigit mark m.hex p z.0.digits) (pieces_lack mark m pieces ns z.1)
-
-list_all_last : (mark : ℕ) (pieces : List Text) (last : Text) → list_all (lacks mark) pieces ≡ true → lacks mark last ≡ true → list_all (lacks mark) (pieces ++ last ∷ []) ≡ true
-list_all_last mark [] last h k = both (lacks mark last) true k refl
-list_all_last mark (p ∷ pieces) last h k = both (lacks mark p) (list_all (lacks mark) (pieces ++ last ∷ [])) (first_of_both (lacks mark p) (list_all (lacks mark) pieces) h) (list_all_last mark pieces last (second_of_both (lacks mark p) (list_all (lacks mark) pieces) h) k)
+pieces_lack mark m (p ∷ pieces) (n ∷ ns) z = and_from (lacks mark p) (list_all (lacks mark) pieces) (all_lacks is_ascii_hexdigit mark m.hex p z.0.digits) (pieces_lack mark m pieces ns z.1)
 
 groups_lack : (mark : ℕ) → IsOutside mark → (text : Text) (groups : List ℕ) → AreGroups text groups → lacks mark text ≡ true
 groups_lack mark m text groups z = subst (λ t. lacks mark t ≡ true) (sym z.2) (join_lacks mark 58 m.not_colon z.0 (pieces_lack mark m z.0 groups z.1))
@@ -70,7 +67,7 @@ last_groups_lack : (mark : ℕ) → IsOutside mark → (text : Text) (groups : L
 last_groups_lack mark m text groups (inl z) = groups_lack mark m text groups z
 last_groups_lack mark m text groups (inr z) =
     subst (λ t. lacks mark t ≡ true) (sym z.spelled)
-    (join_lacks mark 58 m.not_colon (z.pieces ++ z.last ∷ []) (list_all_last mark z.pieces z.last (pieces_lack mark m z.pieces z.front z.groups_before) (ipv4_lacks mark m z.last z.n z.ipv4)))
+    (join_lacks mark 58 m.not_colon (z.pieces ++ z.last ∷ []) (list_all-snoc (lacks mark) z.pieces z.last (pieces_lack mark m z.pieces z.front z.groups_before) (ipv4_lacks mark m z.last z.n z.ipv4)))
 
 ipv6_lacks : (mark : ℕ) → IsOutside mark → (text : Text) (groups : List ℕ) → IsFullIpv6 text groups ⊎ IsShortIpv6 text groups → lacks mark text ≡ true
 ipv6_lacks mark m text groups (inl z) = last_groups_lack mark m text groups z.0

@@ -9,6 +9,7 @@ use Rattle.std.proofs.lemmas.Fmt.{decimal_is_IsNumeral}
 use Rattle.std.proofs.lemmas.Str.Parse.{digit_from_value}
 use Rattle.std.specs.Int.{IsInRange}
 use Rattle.std.proofs.lemmas.Bool.Decides.{nat_tests, Decides-like, Decides-or}
+use Rattle.std.proofs.lemmas.Bool.{and_from}
 use native.Mathlib.Nat.{lt_trans}
 use mathlib.Core.Bool.{true≢false}
 use Rattle.iref_grammar.specs.Characters.{CharTests, AreAboveAscii}
@@ -17,7 +18,7 @@ use Rattle.iref_grammar.specs.Grammar.{full_stop, left_bracket, right_bracket, p
 use Rattle.iref_grammar.specs.IpAddresses.{IsIpv4Address, IsIpv6Address, ipv4_value, ipv6_value}
 use Rattle.iref_grammar.specs.Texts.{before, after, is_empty, then_part}
 use Rattle.iref_grammar.specs.Tests.{is_encoded, is_future_version, is_future_address, is_ipvfuture, is_ip_address, is_ipv4, is_ipv6, in_brackets, is_ip_literal, some_and, ends_here, is_reg_name, is_host}
-use Rattle.iref_grammar.proofs.TextLemmas.{lacks, both, first_of_both, second_of_both}
+use Rattle.iref_grammar.proofs.TextLemmas.{lacks, first_of_both, second_of_both}
 use Rattle.iref_grammar.proofs.RuleLemmas.{Decides-ones}
 use Rattle.iref_grammar.proofs.EncodedLemmas.{take_char, Decides-is_encoded}
 use Rattle.iref_grammar.proofs.LackLemmas.{all_lacks, lacks_more, lacks-append}
@@ -38,7 +39,7 @@ Decides-one_or_more test text = (there text, λ z. subst (λ t. (not (is_empty t
     there (c ∷ cs) h = (c ∷ [], cs, (c, first_of_both (test c) (list_all test cs) h, refl), (Decides-ones test cs).0 (second_of_both (test c) (list_all test cs) h), refl)
 
     back : (front rest : Text) → OneOf test front → list_all test rest ≡ true → (not (is_empty (front ++ rest)) && list_all test (front ++ rest)) ≡ true
-    back front rest one h = ap (λ f. not (is_empty (f ++ rest)) && list_all test (f ++ rest)) one.2 ∙ both (test one.0) (list_all test rest) one.1 h
+    back front rest one h = ap (λ f. not (is_empty (f ++ rest)) && list_all test (f ++ rest)) one.2 ∙ and_from (test one.0) (list_all test rest) one.1 h
 
 -- ---- IPvFuture
 
@@ -63,7 +64,7 @@ future_parts c version address h k l =
     let stop = all_lacks is_ascii_hexdigit full_stop refl version (second_of_both (not (is_empty version)) (list_all is_ascii_hexdigit version) k) in
     let cs = version ++ full_stop ∷ address in
     (λ i. (char_set_contains (codes "vV") c && is_future_version (before-part full_stop version (Some address) stop i)) && is_future_address (after-part full_stop version (Some address) stop i))
-    ∙ both (char_set_contains (codes "vV") c && is_future_version version) (is_future_address (Some address)) (both (char_set_contains (codes "vV") c) (is_future_version version) h k) l
+    ∙ and_from (char_set_contains (codes "vV") c && is_future_version version) (is_future_address (Some address)) (and_from (char_set_contains (codes "vV") c) (is_future_version version) h k) l
 
 future_back : (text : Text) → IsIpvFuture text → is_ipvfuture text ≡ true
 future_back text z =
@@ -90,7 +91,7 @@ Decides-is_ipv6 text = (by (ipv6_value text) refl, λ z. ap is_some (ipv6_value-
 pub Decides-is_ip_address : (text : Text) → Decides (is_ip_address text) ((IsIpv6Address or IsIpvFuture) text)
 Decides-is_ip_address text = Decides-or (is_ipv6 text) (is_ipvfuture text) (Decides-is_ipv6 text) (Decides-is_ipvfuture text)
 
-right_outside : IsOutside right_bracket
+pub right_outside : IsOutside right_bracket
 right_outside = record { hex = refl; digit = refl; not_colon = refl; not_stop = refl; future = refl }
 
 brackets-read : (inside : Text) → lacks right_bracket inside ≡ true → in_brackets (left_bracket ∷ (inside ++ right_bracket ∷ [])) ≡ Some inside
@@ -176,11 +177,11 @@ join_all test sep h [] k = refl
 join_all test sep h (p ∷ []) k = first_of_both (list_all test p) true k
 join_all test sep h (p ∷ q ∷ pieces) k =
     append_all p (sep ∷ join_with_byte sep (q ∷ pieces)) (first_of_both (list_all test p) (list_all (list_all test) (q ∷ pieces)) k)
-    (both (test sep) (list_all test (join_with_byte sep (q ∷ pieces))) h (join_all test sep h (q ∷ pieces) (second_of_both (list_all test p) (list_all (list_all test) (q ∷ pieces)) k)))
+    (and_from (test sep) (list_all test (join_with_byte sep (q ∷ pieces))) h (join_all test sep h (q ∷ pieces) (second_of_both (list_all test p) (list_all (list_all test) (q ∷ pieces)) k)))
   where
     append_all : (xs ys : Text) → list_all test xs ≡ true → list_all test ys ≡ true → list_all test (xs ++ ys) ≡ true
     append_all [] ys a b = b
-    append_all (c ∷ xs) ys a b = both (test c) (list_all test (xs ++ ys)) (first_of_both (test c) (list_all test xs) a) (append_all xs ys (second_of_both (test c) (list_all test xs) a) b)
+    append_all (c ∷ xs) ys a b = and_from (test c) (list_all test (xs ++ ys)) (first_of_both (test c) (list_all test xs) a) (append_all xs ys (second_of_both (test c) (list_all test xs) a) b)
 
 digit_alphanumeric : (c : ℕ) → IsInRange 48 57 c → is_ascii_alphanumeric c ≡ true
 digit_alphanumeric c h = grind (arith, nat_tests)
@@ -196,7 +197,7 @@ module _ (set : CharTests) (above : AreAboveAscii set) where
 
   reg_name_digits : (ds : Text) → AllDigits 10 ds → list_all (is_reg_name_char set) ds ≡ true
   reg_name_digits [] h = refl
-  reg_name_digits (c ∷ cs) h = both (is_reg_name_char set c) (list_all (is_reg_name_char set) cs) (reg_name_digit c h.0) (reg_name_digits cs h.1)
+  reg_name_digits (c ∷ cs) h = and_from (is_reg_name_char set c) (list_all (is_reg_name_char set) cs) (reg_name_digit c h.0) (reg_name_digits cs h.1)
 
   pub ipv4_reg_name : (text : Text) → IsIpv4Address text → IsRegName set text
   ipv4_reg_name text z =
@@ -204,7 +205,7 @@ module _ (set : CharTests) (above : AreAboveAscii set) where
       let test = is_reg_name_char set in
       let d = λ (n : ℕ) (h : n < 256). reg_name_digits (decimal n) ((decimal_is_IsNumeral n (lt_trans h (lit< tt))).0.1) in
       let ones = join_all test 46 reg_name_stop (decimal v.a ∷ decimal v.b ∷ decimal v.c ∷ decimal v.d ∷ [])
-      (both (list_all test (decimal v.a)) _ (d v.a v.in_range.0) (both (list_all test (decimal v.b)) _ (d v.b v.in_range.1) (both (list_all test (decimal v.c)) _ (d v.c v.in_range.2) (both (list_all test (decimal v.d)) true (d v.d v.in_range.3) refl)))) in
+      (and_from (list_all test (decimal v.a)) _ (d v.a v.in_range.0) (and_from (list_all test (decimal v.b)) _ (d v.b v.in_range.1) (and_from (list_all test (decimal v.c)) _ (d v.c v.in_range.2) (and_from (list_all test (decimal v.d)) true (d v.d v.in_range.3) refl)))) in
       (Decides-is_encoded test (percent_refused set above) text).0 (ones_encoded test (percent_refused set above) text (ap (list_all test) v.spelled ∙ ones))
 
   -- ---- hosts

@@ -8,10 +8,11 @@ use native.Mathlib.Nat.{lt_trans}
 use Rattle.std.specs.Cmp.Lexicographic.{bytes_decides}
 use Rattle.std.proofs.lemmas.Fmt.{decimal_is_IsNumeral}
 use Rattle.std.proofs.lemmas.Bool.Decides.{nat_tests, eqb_tells}
+use Rattle.std.proofs.lemmas.Bool.{and_from}
 use Rattle.iref_grammar.specs.Rules.{Text}
 use Rattle.iref_grammar.specs.Texts.{pieces_at}
 use Rattle.iref_grammar.specs.IpAddresses.{IsIpv4, number_of, all_some, octet_value, four_octets, ipv4_value}
-use Rattle.iref_grammar.proofs.TextLemmas.{lacks, pieces_at-join, both, join-pieces_at}
+use Rattle.iref_grammar.proofs.TextLemmas.{lacks, pieces_at-join, join-pieces_at}
 
 -- the octet and its text
 pub octet_text : (text : Text) (n : ℕ) → octet_value text ≡ Some n → (n < 256) × (text ≡ decimal n)
@@ -111,7 +112,7 @@ ipv4_value-complete text n v =
     let lb = decimal_lacks_stop v.b v.in_range.1 in
     let lc = decimal_lacks_stop v.c v.in_range.2 in
     let ld = decimal_lacks_stop v.d v.in_range.3 in
-    let lack = both (lacks 46 (decimal v.a)) _ la (both (lacks 46 (decimal v.b)) _ lb (both (lacks 46 (decimal v.c)) _ lc (both (lacks 46 (decimal v.d)) true ld refl))) in
+    let lack = and_from (lacks 46 (decimal v.a)) _ la (and_from (lacks 46 (decimal v.b)) _ lb (and_from (lacks 46 (decimal v.c)) _ lc (and_from (lacks 46 (decimal v.d)) true ld refl))) in
     let pieces : pieces_at 46 text ≡ decimal v.a ∷ decimal v.b ∷ decimal v.c ∷ decimal v.d ∷ [] = ap (pieces_at 46) v.spelled ∙ pieces_at-join 46 (decimal v.a) (decimal v.b ∷ decimal v.c ∷ decimal v.d ∷ []) lack in
     ap (λ ps. option_and_then four_octets (all_some (map octet_value ps))) pieces
     ∙ (λ i. option_and_then four_octets (all_some (octet_of_decimal v.a v.in_range.0 i ∷ octet_of_decimal v.b v.in_range.1 i ∷ octet_of_decimal v.c v.in_range.2 i ∷ octet_of_decimal v.d v.in_range.3 i ∷ [])))

@@ -7,11 +7,12 @@ use Rattle.std.specs.Char.{is_ascii_hexdigit}
 use Rattle.std.specs.Str.Parse.{digits_value}
 use Rattle.std.proofs.lemmas.List.{append-nil}
 use Rattle.std.proofs.lemmas.Bool.Decides.{nat_tests}
+use Rattle.std.proofs.lemmas.Bool.{and_from}
 use mathlib.Core.Bool.{true≢false}
 use Rattle.iref_grammar.specs.Rules.{Text}
 use Rattle.iref_grammar.specs.Texts.{is_empty}
 use Rattle.iref_grammar.specs.IpAddresses.{IsIpv4, IsGroup, AreGroups, AreLastGroups, IsShortIpv6, IsFullIpv6, IsIpv6, number_of, filled_groups, all_some, ipv4_value, group_value, last_groups_of, group_pieces, around_double_colon, eight_groups, joined_groups, short_ipv6_groups, ipv6_groups, ipv6_value}
-use Rattle.iref_grammar.proofs.TextLemmas.{lacks, pieces_at-join, both, first_of_both, second_of_both}
+use Rattle.iref_grammar.proofs.TextLemmas.{lacks, pieces_at-join, first_of_both, second_of_both, list_all-snoc}
 use Rattle.iref_grammar.proofs.LackLemmas.{all_lacks}
 use Rattle.iref_grammar.proofs.CutLemmas.{first_lacks, rest_lacks}
 use Rattle.iref_grammar.proofs.HostLemmas.{join_lacks, decimal_lacks}
@@ -53,17 +54,12 @@ groups_are_pieces : (pieces : List Text) (groups : List ℕ) → AllZip IsGroup 
 groups_are_pieces [] [] z = refl
 groups_are_pieces [] (n ∷ ns) z = absurd z
 groups_are_pieces (p ∷ pieces) [] z = absurd z
-groups_are_pieces (p ∷ pieces) (n ∷ ns) z = both (is_piece 58 p) (list_all (is_piece 58) pieces) (group_is_piece p n z.0) (groups_are_pieces pieces ns z.1)
-
-pieces_and_last : (test : Text → Bool) (pieces : List Text) (last : Text) → list_all test pieces ≡ true → test last ≡ true → list_all test (pieces ++ last ∷ []) ≡ true
-pieces_and_last test [] last h k = both (test last) true k refl
-pieces_and_last test (p ∷ pieces) last h k =
-    both (test p) (list_all test (pieces ++ last ∷ [])) (first_of_both (test p) (list_all test pieces) h) (pieces_and_last test pieces last (second_of_both (test p) (list_all test pieces) h) k)
+groups_are_pieces (p ∷ pieces) (n ∷ ns) z = and_from (is_piece 58 p) (list_all (is_piece 58) pieces) (group_is_piece p n z.0) (groups_are_pieces pieces ns z.1)
 
 lacking : (mark : ℕ) (pieces : List Text) → list_all (is_piece mark) pieces ≡ true → list_all (lacks mark) pieces ≡ true
 lacking mark [] h = refl
 lacking mark (p ∷ pieces) h =
-    both (lacks mark p) (list_all (lacks mark) pieces) (second_of_both (not (is_empty p)) (lacks mark p) (first_of_both (is_piece mark p) (list_all (is_piece mark) pieces) h))
+    and_from (lacks mark p) (list_all (lacks mark) pieces) (second_of_both (not (is_empty p)) (lacks mark p) (first_of_both (is_piece mark p) (list_all (is_piece mark) pieces) h))
     (lacking mark pieces (second_of_both (is_piece mark p) (list_all (is_piece mark) pieces) h))
 
 -- the pieces are read back
@@ -99,10 +95,10 @@ ipv4_lacks_colon text n v =
     let l = decimal_lacks 58 refl in
     subst (λ t. lacks 58 t ≡ true) (sym v.spelled)
     (join_lacks 58 46 refl (decimal v.a ∷ decimal v.b ∷ decimal v.c ∷ decimal v.d ∷ [])
-    (both (lacks 58 (decimal v.a)) _ (l v.a v.in_range.0) (both (lacks 58 (decimal v.b)) _ (l v.b v.in_range.1) (both (lacks 58 (decimal v.c)) _ (l v.c v.in_range.2) (both (lacks 58 (decimal v.d)) true (l v.d v.in_range.3) refl)))))
+    (and_from (lacks 58 (decimal v.a)) _ (l v.a v.in_range.0) (and_from (lacks 58 (decimal v.b)) _ (l v.b v.in_range.1) (and_from (lacks 58 (decimal v.c)) _ (l v.c v.in_range.2) (and_from (lacks 58 (decimal v.d)) true (l v.d v.in_range.3) refl)))))
 
 ipv4_is_piece : (text : Text) (n : ℕ) → IsIpv4 text n → is_piece 58 text ≡ true
-ipv4_is_piece text n v = both (not (is_empty text)) (lacks 58 text) (ap (λ t. not (is_empty t)) v.spelled ∙ some (decimal v.a) (join_with_byte 46 (decimal v.b ∷ decimal v.c ∷ decimal v.d ∷ []))) (ipv4_lacks_colon text n v)
+ipv4_is_piece text n v = and_from (not (is_empty text)) (lacks 58 text) (ap (λ t. not (is_empty t)) v.spelled ∙ some (decimal v.a) (join_with_byte 46 (decimal v.b ∷ decimal v.c ∷ decimal v.d ∷ []))) (ipv4_lacks_colon text n v)
   where
     some : (a rest : Text) → not (is_empty (a ++ 46 ∷ rest)) ≡ true
     some [] rest = refl
@@ -136,7 +132,7 @@ cut_of : (text : Text) (groups : List ℕ) → AreLastGroups text groups → IsC
 cut_of text groups (inl z) = record { pieces = z.0; are_pieces = groups_are_pieces z.0 groups z.1; spelled = z.2; values = last_groups-plain z.0 groups z.1 }
 cut_of text groups (inr z) = record {
   pieces = z.pieces ++ z.last ∷ [];
-  are_pieces = pieces_and_last (is_piece 58) z.pieces z.last (groups_are_pieces z.pieces z.front z.groups_before) (ipv4_is_piece z.last z.n z.ipv4);
+  are_pieces = list_all-snoc (is_piece 58) z.pieces z.last (groups_are_pieces z.pieces z.front z.groups_before) (ipv4_is_piece z.last z.n z.ipv4);
   spelled = z.spelled;
   values = last_groups-ipv4 z.pieces z.front z.last z.n z.groups_before z.ipv4 ∙ ap (λ xs. Some xs) (sym z.value);
 }

@@ -7,6 +7,7 @@ use Rattle.std.specs.Char.{is_ascii_hexdigit}
 use Rattle.std.specs.Str.Parse.{digits_value}
 use Rattle.std.proofs.lemmas.Bool.Decides.{nat_tests, eqb_tells}
 use Rattle.std.proofs.lemmas.Bool.{eqb-true}
+use Rattle.std.proofs.lemmas.Option.{same_Some}
 use mathlib.Core.Bool.{true≢false}
 use Rattle.iref_grammar.specs.Rules.{Text}
 use Rattle.iref_grammar.specs.Texts.{is_empty, begins_with}
@@ -14,21 +15,12 @@ use Rattle.iref_grammar.specs.IpAddresses.{IsIpv4, IsGroup, AreGroups, AreLastGr
 use Rattle.iref_grammar.proofs.TextLemmas.{join-pieces_at}
 use Rattle.iref_grammar.proofs.Ipv4Lemmas.{ipv4_value-sound}
 
--- what stands in a `Some`
-value_of : {A : Type 0} → A → Option A → A
-value_of d None = d
-value_of d (Some x) = x
-
-pub some_same : {A : Type 0} (x y : A) → Some x ≡ Some y → x ≡ y
-unfolding value_of
-some_same x y e = ap (value_of x) e
-
 group_value-sound : (text : Text) (n : ℕ) → group_value text ≡ Some n → IsGroup text n
 group_value-sound text n h = by text (list_all is_ascii_hexdigit text) refl (nat_le (length text) 4) refl h
   where
     by : (t : Text) (a : Bool) → list_all is_ascii_hexdigit t ≡ a → (b : Bool) → nat_le (length t) 4 ≡ b → cond ((not (is_empty t) && b) && a) (Some (digits_value 16 t)) None ≡ Some n → IsGroup t n
     by [] a e b f k = cc
-    by (c ∷ cs) true e true f k = record { nonempty = omega arith; short = grind (arith, nat_tests); digits = e; value = sym (some_same (digits_value 16 (c ∷ cs)) n k) }
+    by (c ∷ cs) true e true f k = record { nonempty = omega arith; short = grind (arith, nat_tests); digits = e; value = sym (same_Some (digits_value 16 (c ∷ cs)) n k) }
     by (c ∷ cs) false e true f k = cc
     by (c ∷ cs) a e false f k = cc
 
@@ -41,7 +33,7 @@ groups_sound (p ∷ pieces) groups h = by (group_value p) refl (all_some (map gr
         → option_and_then (λ x. option_map (λ xs. x ∷ xs) os) o ≡ Some groups → AllZip IsGroup (p ∷ pieces) groups
     by None e os f r k = cc
     by (Some n) e None f r k = cc
-    by (Some n) e (Some ns) f r k = subst (λ xs. AllZip IsGroup (p ∷ pieces) xs) (some_same (n ∷ ns) groups k) (group_value-sound p n e, r ns f)
+    by (Some n) e (Some ns) f r k = subst (λ xs. AllZip IsGroup (p ∷ pieces) xs) (same_Some (n ∷ ns) groups k) (group_value-sound p n e, r ns f)
 
 join-group_pieces : (text : Text) → join_with_byte 58 (group_pieces text) ≡ text
 join-group_pieces [] = refl
@@ -69,8 +61,8 @@ unfolding LastPieces
 last_piece p groups h = by (group_value p) refl (ipv4_value p) refl h
   where
     by : (o : Option ℕ) → group_value p ≡ o → (q : Option ℕ) → ipv4_value p ≡ q → option_or (option_map (λ n. n ∷ []) o) (option_map (λ n. n / 65536 ∷ n % 65536 ∷ []) q) ≡ Some groups → AllZip IsGroup (p ∷ []) groups ⊎ EndsSo (p ∷ []) groups
-    by (Some n) e q f k = inl (subst (λ xs. AllZip IsGroup (p ∷ []) xs) (some_same (n ∷ []) groups k) (group_value-sound p n e, tt))
-    by None e (Some n) f k = inr (record { front_pieces = []; front = []; last = p; n = n; groups_before = tt; ipv4 = ipv4_value-sound p n f; split = refl; value = sym (some_same (n / 65536 ∷ n % 65536 ∷ []) groups k) })
+    by (Some n) e q f k = inl (subst (λ xs. AllZip IsGroup (p ∷ []) xs) (same_Some (n ∷ []) groups k) (group_value-sound p n e, tt))
+    by None e (Some n) f k = inr (record { front_pieces = []; front = []; last = p; n = n; groups_before = tt; ipv4 = ipv4_value-sound p n f; split = refl; value = sym (same_Some (n / 65536 ∷ n % 65536 ∷ []) groups k) })
     by None e None f k = cc
 
 last_pieces : (pieces : List Text) (groups : List ℕ) → last_groups_of pieces ≡ Some groups → LastPieces pieces groups
@@ -85,7 +77,7 @@ last_pieces (p ∷ q ∷ pieces) groups h = by (group_value p) refl (last_groups
     by None e os f r k = cc
     by (Some n) e None f r k = cc
     by (Some n) e (Some ns) f r k =
-        let same : n ∷ ns ≡ groups = some_same (n ∷ ns) groups k in
+        let same : n ∷ ns ≡ groups = same_Some (n ∷ ns) groups k in
         elim (r ns f) [
           | inl z ↦ inl (subst (λ xs. AllZip IsGroup (p ∷ q ∷ pieces) xs) same (group_value-sound p n e, z))
           | inr z ↦ inr (record {
@@ -139,22 +131,22 @@ around-sound (c ∷ cs) parts h = by (begins_with (codes "::") (c ∷ cs)) refl 
   where
     by : (b : Bool) → begins_with (codes "::") (c ∷ cs) ≡ b → (o : Option (Text × Text)) → around_double_colon cs ≡ o → ((p : Text × Text) → around_double_colon cs ≡ Some p → cs ≡ p.0 ++ (codes "::" ++ p.1))
         → cond b (Some ([], drop 1 cs)) (option_map (λ p. (c ∷ p.0, p.1)) o) ≡ Some parts → c ∷ cs ≡ parts.0 ++ (codes "::" ++ parts.1)
-    by true e o f r k = subst (λ (p : Text × Text). c ∷ cs ≡ p.0 ++ (codes "::" ++ p.1)) (some_same ([], drop 1 cs) parts k) (sym (colons (c ∷ cs) e))
+    by true e o f r k = subst (λ (p : Text × Text). c ∷ cs ≡ p.0 ++ (codes "::" ++ p.1)) (same_Some ([], drop 1 cs) parts k) (sym (colons (c ∷ cs) e))
     by false e None f r k = cc
-    by false e (Some p) f r k = subst (λ (q : Text × Text). c ∷ cs ≡ q.0 ++ (codes "::" ++ q.1)) (some_same (c ∷ p.0, p.1) parts k) (ap (λ t. c ∷ t) (r p f))
+    by false e (Some p) f r k = subst (λ (q : Text × Text). c ∷ cs ≡ q.0 ++ (codes "::" ++ q.1)) (same_Some (c ∷ p.0, p.1) parts k) (ap (λ t. c ∷ t) (r p f))
 
 eight-sound : (gs groups : List ℕ) → eight_groups gs ≡ Some groups → (gs ≡ groups) × (length groups ≡ 8)
 eight-sound gs groups h = by (length gs == 8) refl h
   where
     by : (b : Bool) → (length gs == 8) ≡ b → cond b (Some gs) None ≡ Some groups → (gs ≡ groups) × (length groups ≡ 8)
-    by true e k = let same : gs ≡ groups = some_same gs groups k in (same, ap length (sym same) ∙ eqb-true (length gs) 8 e)
+    by true e k = let same : gs ≡ groups = same_Some gs groups k in (same, ap length (sym same) ∙ eqb-true (length gs) 8 e)
     by false e k = cc
 
 joined-sound : (left right groups : List ℕ) → joined_groups left right ≡ Some groups → (length left + length right ≤ 7) × (groups ≡ filled_groups left right)
 joined-sound left right groups h = by (nat_le (length left + length right) 7) refl h
   where
     by : (b : Bool) → nat_le (length left + length right) 7 ≡ b → cond b (Some (filled_groups left right)) None ≡ Some groups → (length left + length right ≤ 7) × (groups ≡ filled_groups left right)
-    by true e k = (grind (arith, nat_tests), sym (some_same (filled_groups left right) groups k))
+    by true e k = (grind (arith, nat_tests), sym (same_Some (filled_groups left right) groups k))
     by false e k = cc
 
 short-sound : (text : Text) (parts : Text × Text) (groups : List ℕ) → text ≡ parts.0 ++ (codes "::" ++ parts.1) → short_ipv6_groups parts ≡ Some groups → IsShortIpv6 text groups
@@ -196,4 +188,4 @@ ipv6_value-sound text n h = by (ipv6_groups text) refl h
   where
     by : (o : Option (List ℕ)) → ipv6_groups text ≡ o → option_map (number_of 65536) o ≡ Some n → IsIpv6 text n
     by None e k = cc
-    by (Some groups) e k = (groups, groups-sound text groups e, sym (some_same (number_of 65536 groups) n k))
+    by (Some groups) e k = (groups, groups-sound text groups e, sym (same_Some (number_of 65536 groups) n k))

@@ -7,12 +7,13 @@ use Rattle.std.specs.List.{list_all}
 use Rattle.std.specs.Cmp.Lexicographic.{bytes_decides}
 use Rattle.std.specs.Char.{is_ascii_alphabetic, is_ascii_digit}
 use Rattle.std.proofs.lemmas.Str.{is_utf8-from_IsUtf8, chars-encodes}
+use Rattle.std.proofs.lemmas.Bool.{and_from}
 use mathlib.Core.Bool.{true≢false}
 use Rattle.iref_grammar.specs.Characters.{CharTests, AreAboveAscii}
 use Rattle.iref_grammar.specs.Rules.{Text, Rule, InUtf8, OneOf, ZeroOrMore}
 use Rattle.iref_grammar.specs.Grammar.{percent_sign, is_reg_name_char, is_user_info_char, is_path_char, is_fragment_char, is_query_char, is_scheme_char, IsUserInfo, IsRegName, IsSegment, IsQuery, IsFragment, IsScheme, IsPort}
 use Rattle.iref_grammar.specs.Tests.{in_utf8, is_user_info, is_reg_name, is_segment, is_query, is_fragment, is_scheme, is_port}
-use Rattle.iref_grammar.proofs.TextLemmas.{both, first_of_both, second_of_both}
+use Rattle.iref_grammar.proofs.TextLemmas.{first_of_both, second_of_both}
 use Rattle.iref_grammar.proofs.RuleLemmas.{Decides-ones}
 use Rattle.iref_grammar.proofs.EncodedLemmas.{Decides-is_encoded}
 
@@ -33,7 +34,7 @@ Decides-in_utf8 test A d bytes = (there, back)
     back : InUtf8 A bytes → in_utf8 test bytes ≡ true
     back z =
         let same : chars bytes ≡ z.0 = ap chars (sym z.2) ∙ chars-encodes z.0 z.1 in
-        both (is_utf8 bytes) (test (chars bytes)) (is_utf8-from_IsUtf8 bytes (z.0, (z.1, z.2))) (ap test same ∙ (d z.0).1 z.3)
+        and_from (is_utf8 bytes) (test (chars bytes)) (is_utf8-from_IsUtf8 bytes (z.0, (z.1, z.2))) (ap test same ∙ (d z.0).1 z.3)
 
 -- no class has `%`
 pub percent_refused : (set : CharTests) → AreAboveAscii set → is_reg_name_char set percent_sign ≡ false
@@ -93,7 +94,7 @@ Decides-is_scheme text = (there text, λ z. subst (λ t. is_scheme t ≡ true) z
 
     back : (front rest : Text) → OneOf is_ascii_alphabetic front → ZeroOrMore (OneOf is_scheme_char) rest → is_scheme (front ++ rest) ≡ true
     back front rest one more =
-        ap (λ f. is_scheme (f ++ rest)) one.2 ∙ both (is_ascii_alphabetic one.0) (list_all is_scheme_char rest) one.1 ((Decides-ones is_scheme_char rest).1 more)
+        ap (λ f. is_scheme (f ++ rest)) one.2 ∙ and_from (is_ascii_alphabetic one.0) (list_all is_scheme_char rest) one.1 ((Decides-ones is_scheme_char rest).1 more)
 
 pub Decides-is_port : (text : Text) → Decides (is_port text) (IsPort text)
 unfolding is_port

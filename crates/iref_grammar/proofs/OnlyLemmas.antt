@@ -4,6 +4,7 @@ use Rattle.std.specs.Prelude.{◌==◌, Option, Some, None, option_map, codes, i
 use Rattle.std.specs.Char.{char_set_contains}
 use Rattle.std.specs.List.{list_all, join_with_byte}
 use Rattle.std.proofs.lemmas.Bool.Decides.{eqb_tells}
+use Rattle.std.proofs.lemmas.List.{append-nil}
 use mathlib.Core.Bool.{true≢false}
 use Rattle.iref_grammar.specs.Rules.{Text}
 use Rattle.iref_grammar.specs.Grammar.{hash_sign, slash, colon, question_mark}
@@ -14,7 +15,7 @@ use Rattle.iref_grammar.proofs.PathLemmas.{read-spelled}
 use Rattle.iref_grammar.specs.PathValue.{PathValue, spell_path, read_path, shows_its_list, begins_empty, is_one_empty}
 use Rattle.iref_grammar.specs.Contexts.{follows_authority, is_no_authority, is_no_scheme, begins_with_colon_segment}
 use Rattle.iref_grammar.proofs.TextLemmas.{lacks, first_of_both}
-use Rattle.iref_grammar.proofs.CutLemmas.{before-no, first_lacks, rest_lacks, no_mark, before-lacking, from_first-lacking, before-mark, from_first-mark, append_nil, before-part, after-part}
+use Rattle.iref_grammar.proofs.CutLemmas.{before-no, first_lacks, rest_lacks, no_mark, before-lacking, from_first-lacking, before-mark, from_first-mark, before-part, after-part}
 use Rattle.iref_grammar.proofs.ReferenceCutLemmas.{regroup}
 use Rattle.iref_grammar.proofs.AuthorityLemmas.{IsDelimitedAuthority, read_authority-back}
 
@@ -66,7 +67,7 @@ ends_authority [] = true
 ends_authority (c ∷ cs) = c == slash
 
 authority-back : (a text : Text) → lacks slash a ≡ true → ends_authority text ≡ true → split_authority (slash ∷ slash ∷ (a ++ text)) ≡ (Some a, text)
-authority-back a [] h k = (λ i. (Some (before (slash ∷ []) (append_nil a i)), from_first (slash ∷ []) (append_nil a i))) ∙ (λ i. (Some (before-lacking slash a h i), from_first-lacking slash a h i))
+authority-back a [] h k = (λ i. (Some (before (slash ∷ []) (append-nil a i)), from_first (slash ∷ []) (append-nil a i))) ∙ (λ i. (Some (before-lacking slash a h i), from_first-lacking slash a h i))
 authority-back a (c ∷ cs) h k = elim (eqb_tells c slash) [
   | inl e ↦
       subst (λ d. split_authority (slash ∷ slash ∷ (a ++ d ∷ cs)) ≡ (Some a, d ∷ cs)) (sym e.1) (λ i. (Some (before-mark slash a cs h i), from_first-mark slash a cs h i))

@@ -3,6 +3,7 @@ use Rattle.std.proofs.Common.{◌≡◌, ℕ, Bool, true, false, not, ◌&&◌, 
 use Rattle.std.proofs.Math.Logic.{◌↔◌}
 use Rattle.std.specs.List.{AllByRecursion, concat, join_with_byte}
 use Rattle.std.proofs.lemmas.List.{append-nil}
+use Rattle.std.proofs.lemmas.Bool.{and_from, not-true}
 use mathlib.Core.Bool.{true≢false}
 use Rattle.iref_grammar.specs.declared.places.PathContext.{PathContext}
 use Rattle.iref_grammar.specs.Characters.{CharTests, AreAboveAscii}
@@ -11,7 +12,7 @@ use Rattle.iref_grammar.specs.Grammar.{slash, colon, IsPathChar, IsSegment, IsNo
 use Rattle.iref_grammar.specs.Texts.{is_empty}
 use Rattle.iref_grammar.specs.PathValue.{PathValue, spell_path, shows_its_list, begins_empty}
 use Rattle.iref_grammar.specs.Contexts.{follows_authority, is_no_authority, is_no_scheme, reads_as_path, begins_with_colon_segment}
-use Rattle.iref_grammar.proofs.TextLemmas.{lacks, both, first_of_both, second_of_both}
+use Rattle.iref_grammar.proofs.TextLemmas.{lacks, first_of_both, second_of_both}
 use Rattle.iref_grammar.proofs.RuleLemmas.{none_of, one_more}
 use Rattle.iref_grammar.proofs.Utf8RuleLemmas.{in_utf8-joined, in_utf8-or, in_utf8-more, in_utf8-empty, in_utf8-mark}
 use Rattle.iref_grammar.proofs.SegmentRuleLemmas.{in_utf8-nonempty, in_utf8-non_colon}
@@ -47,10 +48,6 @@ IsStart set has_scheme = IsFirst set has_scheme ⨾ IsAbEmptyPath set
 
 -- ---- tests of paths
 
-not_true : (b : Bool) → not b ≡ true → b ≡ false
-not_true true h = absurd (true≢false (sym h))
-not_true false h = refl
-
 absolute_no_scheme : (b x : Bool) → (((b || false) || true) || x) ≡ true
 absolute_no_scheme true x = refl
 absolute_no_scheme false x = refl
@@ -72,12 +69,12 @@ reads_after false p h = λ i. (h i && true) && true
 absolute_reads : (b : Bool) (ss : List Text) → begins_empty ss ≡ false → reads_as_path (record { has_scheme = b; has_authority = false }) (record { absolute = true; segments = ss }) ≡ true
 absolute_reads b [] h = absolute_no_scheme b true
 absolute_reads b (s ∷ ss) h =
-    both (not (is_empty s && is_empty ss) && not (is_empty s)) (((b || false) || true) || not (begins_with_colon_segment (s ∷ ss)))
-    (both (not (is_empty s && is_empty ss)) (not (is_empty s)) (λ i. not (h i && is_empty ss)) (ap not h)) (absolute_no_scheme b (not (begins_with_colon_segment (s ∷ ss))))
+    and_from (not (is_empty s && is_empty ss) && not (is_empty s)) (((b || false) || true) || not (begins_with_colon_segment (s ∷ ss)))
+    (and_from (not (is_empty s && is_empty ss)) (not (is_empty s)) (λ i. not (h i && is_empty ss)) (ap not h)) (absolute_no_scheme b (not (begins_with_colon_segment (s ∷ ss))))
 
 relative_reads : (b : Bool) (s : Text) (ss : List Text) → is_empty s ≡ false → (b || lacks colon s) ≡ true → reads_as_path (record { has_scheme = b; has_authority = false }) (record { absolute = false; segments = s ∷ ss }) ≡ true
 relative_reads b s ss h k =
-    both (not (is_empty s) && true) (((b || false) || false) || lacks colon s) (both (not (is_empty s)) true (ap not h) refl) (relative_no_scheme b (lacks colon s) k)
+    and_from (not (is_empty s) && true) (((b || false) || false) || lacks colon s) (and_from (not (is_empty s)) true (ap not h) refl) (relative_no_scheme b (lacks colon s) k)
 
 module _ (set : CharTests) (above : AreAboveAscii set) where
   -- ---- `*( "/" segment )`
@@ -209,11 +206,11 @@ module _ (set : CharTests) (above : AreAboveAscii set) where
           let p : PathValue = record { absolute = true; segments = s ∷ ss } in
           let context : PathContext = record { has_scheme = b; has_authority = false } in
           let n = second_of_both (shows_its_list p) (is_no_authority context p) (first_of_both (shows_its_list p && is_no_authority context p) (is_no_scheme context p) r) in
-          inl ((in_utf8-absolute bytes).1 (s ∷ ss, all, not_true (is_empty s) n, e))
+          inl ((in_utf8-absolute bytes).1 (s ∷ ss, all, not-true (is_empty s) n, e))
       back false [] all r e = inr ((in_utf8-or (IsStart set b) Empty bytes).1 (inr ((in_utf8-empty bytes).1 (sym e))))
       back false (s ∷ ss) all r e =
           let p : PathValue = record { absolute = false; segments = s ∷ ss } in
           let context : PathContext = record { has_scheme = b; has_authority = false } in
           let n = first_of_both (shows_its_list p) (is_no_authority context p) (first_of_both (shows_its_list p && is_no_authority context p) (is_no_scheme context p) r) in
           let k = no_scheme_relative b (lacks colon s) (second_of_both (shows_its_list p && is_no_authority context p) (is_no_scheme context p) r) in
-          inr ((in_utf8-or (IsStart set b) Empty bytes).1 (inl ((in_utf8-start b bytes).1 (s, ss, all.0, not_true (is_empty s) n, k, all.1, sym (join-slashed s ss) ∙ e))))
+          inr ((in_utf8-or (IsStart set b) Empty bytes).1 (inl ((in_utf8-start b bytes).1 (s, ss, all.0, not-true (is_empty s) n, k, all.1, sym (join-slashed s ss) ∙ e))))

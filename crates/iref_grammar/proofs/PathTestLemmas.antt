@@ -5,6 +5,7 @@ use Rattle.std.specs.Prelude.{◌==◌}
 use Rattle.std.specs.Bool.{Decides}
 use Rattle.std.specs.List.{AllByRecursion, concat, list_all, join_with_byte, onto_first}
 use Rattle.std.proofs.lemmas.Bool.Decides.{Decides-like, same_from_decides}
+use Rattle.std.proofs.lemmas.Bool.{and_from, and_parts}
 use Rattle.iref_grammar.specs.declared.places.PathContext.{PathContext}
 use Rattle.iref_grammar.specs.Characters.{CharTests, AreAboveAscii}
 use Rattle.iref_grammar.specs.Rules.{Text, Rule, Empty, Mark, ◌or◌, ZeroOrMore, InUtf8}
@@ -13,7 +14,7 @@ use Rattle.iref_grammar.specs.Texts.{pieces_at}
 use Rattle.iref_grammar.specs.Tests.{is_segment, is_path}
 use Rattle.iref_grammar.specs.PathValue.{PathValue, spell_path, shows_its_list, segments_of, read_path}
 use Rattle.iref_grammar.specs.Contexts.{follows_authority, is_no_authority, is_no_scheme, reads_as_path, fits, is_readable_path, is_path_in, alone}
-use Rattle.iref_grammar.proofs.TextLemmas.{lacks, both, first_of_both, second_of_both, pieces_at-join, both_true}
+use Rattle.iref_grammar.proofs.TextLemmas.{lacks, first_of_both, second_of_both, pieces_at-join}
 use Rattle.iref_grammar.proofs.RuleLemmas.{none_of, one_more, more_like, more-append}
 use Rattle.iref_grammar.proofs.LeafLemmas.{Decides-is_segment}
 use Rattle.iref_grammar.proofs.PathLemmas.{read_path-reads, read_path-only}
@@ -123,15 +124,15 @@ module _ (set : CharTests) (above : AreAboveAscii set) where
           let shown = first_of_both (shows_its_list p) (is_no_authority context p) (first_of_both (shows_its_list p && is_no_authority context p) (is_no_scheme context p) z.reads) in
           let read : read_path bytes ≡ p = read_path-only bytes p (record { segments = all_lack p.segments z.segments; shown = shown; spelled = z.spelled }) in
           ap (is_readable_path set context) read
-          ∙ both (list_all (is_segment set) p.segments) (fits context p) ((segments_tested p.segments).1 z.segments) (both (follows_authority context p) (reads_as_path context p) z.follows z.reads)
+          ∙ and_from (list_all (is_segment set) p.segments) (fits context p) ((segments_tested p.segments).1 z.segments) (and_from (follows_authority context p) (reads_as_path context p) z.follows z.reads)
 
   -- a readable path is the one that is read from its text
   pub readable_path_back : (context : PathContext) (p : PathValue) → is_readable_path set context p ≡ true → read_path (spell_path p) ≡ p
   readable_path_back context p h =
-      let parts = both_true (list_all (is_segment set) p.segments) (fits context p) h in
-      let shown = both_true (shows_its_list p && is_no_authority context p) (is_no_scheme context p) (both_true (follows_authority context p) (reads_as_path context p) parts.1).1 in
+      let parts = and_parts (list_all (is_segment set) p.segments) (fits context p) h in
+      let shown = and_parts (shows_its_list p && is_no_authority context p) (is_no_scheme context p) (and_parts (follows_authority context p) (reads_as_path context p) parts.1).1 in
       read_path-only (spell_path p) p
-      (record { segments = all_lack p.segments ((segments_tested p.segments).0 parts.0); shown = (both_true (shows_its_list p) (is_no_authority context p) shown.0).0; spelled = refl })
+      (record { segments = all_lack p.segments ((segments_tested p.segments).0 parts.0); shown = (and_parts (shows_its_list p) (is_no_authority context p) shown.0).0; spelled = refl })
 
   -- so its text is one of a path in the context
   pub readable_path_text : (context : PathContext) (p : PathValue) → is_readable_path set context p ≡ true → is_path_in set context (spell_path p) ≡ true

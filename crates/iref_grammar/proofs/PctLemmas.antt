@@ -1,5 +1,6 @@
 -- Percent-encoded texts, and the rules whose texts are among them.
 use Rattle.std.proofs.Common.{◌≡◌, ℕ, ◌-◌, Bool, true, false, not, ◌&&◌, ◌||◌, [], ◌∷◌, refl, sym, ◌∙◌, ap, inl, inr, ◌⊎◌, subst}
+use Rattle.std.proofs.lemmas.Bool.{and_from}
 use Rattle.std.specs.Prelude.{Option, Some, None, nat_lt, ◌==◌, chars, if◌then◌else◌}
 use Rattle.std.specs.Bool.{Decides}
 use Rattle.std.specs.Str.{is_utf8}
@@ -9,7 +10,7 @@ use Rattle.iref_grammar.specs.Rules.{Text, InUtf8}
 use Rattle.iref_grammar.specs.Characters.{CharTests}
 use Rattle.iref_grammar.specs.Grammar.{percent_sign, left_bracket, right_bracket, is_not_percent, is_user_info_char, is_reg_name_char, is_path_char, is_query_char, is_fragment_char, IsPctStr}
 use Rattle.iref_grammar.specs.Tests.{owed_after, is_encoded_after, is_encoded, in_utf8, is_pct_str, is_user_info, is_reg_name, is_segment, is_query, is_fragment, is_ip_literal, is_host}
-use Rattle.iref_grammar.proofs.TextLemmas.{lacks, both, first_of_both, second_of_both}
+use Rattle.iref_grammar.proofs.TextLemmas.{lacks, first_of_both, second_of_both}
 use Rattle.iref_grammar.proofs.LackLemmas.{lacks_more, lacks-append}
 use Rattle.iref_grammar.proofs.HostLemmas.{IsOutside, address_lacks}
 use Rattle.iref_grammar.proofs.ComponentLackLemmas.{literal_parts}
@@ -51,7 +52,7 @@ is_pct_str_after test (Some owed) (c ∷ cs) h = by (refused_or_same test owed c
 pub is_pct_str_if_encoded : (test : ℕ → Bool) (bytes : Text) → in_utf8 (is_encoded test) bytes ≡ true → is_pct_str bytes ≡ true
 unfolding is_pct_str
 is_pct_str_if_encoded test bytes h =
-    both (is_utf8 bytes) (is_encoded is_not_percent (chars bytes)) (first_of_both (is_utf8 bytes) (is_encoded test (chars bytes)) h)
+    and_from (is_utf8 bytes) (is_encoded is_not_percent (chars bytes)) (first_of_both (is_utf8 bytes) (is_encoded test (chars bytes)) h)
     (is_pct_str_after test (Some 0) (chars bytes) (second_of_both (is_utf8 bytes) (is_encoded test (chars bytes)) h))
 
 pub user_info_is_pct_str : (set : CharTests) (bytes : Text) → is_user_info set bytes ≡ true → is_pct_str bytes ≡ true

@@ -1,5 +1,6 @@
 -- A readable reference is delimited, so it is the one that is read from its text.
 use Rattle.std.proofs.Common.{◌≡◌, ℕ, Bool, true, false, ◌&&◌, List, [], ◌∷◌, ◌++◌, refl}
+use Rattle.std.proofs.lemmas.Bool.{and_parts}
 use Rattle.std.specs.Prelude.{◌==◌, Option, Some, None, option_map, codes, IfSome}
 use Rattle.std.specs.Char.{is_ascii_alphabetic}
 use Rattle.std.specs.List.{list_all, join_with_byte}
@@ -10,7 +11,7 @@ use Rattle.iref_grammar.specs.Authority.{AuthorityValue, spell_authority, has_au
 use Rattle.iref_grammar.specs.Reference.{spell, read_reference, ReferenceValue, context_of, is_readable}
 use Rattle.iref_grammar.specs.PathValue.{spell_path, shows_its_list}
 use Rattle.iref_grammar.specs.Contexts.{is_no_authority, is_no_scheme}
-use Rattle.iref_grammar.proofs.TextLemmas.{lacks, both_true}
+use Rattle.iref_grammar.proofs.TextLemmas.{lacks}
 use Rattle.iref_grammar.proofs.ReadablePartsLemmas.{readable_parts}
 use Rattle.iref_grammar.specs.Characters.{CharTests, AreAboveAscii}
 use Rattle.iref_grammar.specs.Tests.{none_or, is_scheme, is_segment, is_query}
@@ -50,8 +51,8 @@ module _ (set : CharTests) (above : AreAboveAscii set) where
   pub readable_delimited : (r : ReferenceValue) → is_readable set r ≡ true → IsDelimited r
   readable_delimited r h =
       let parts = readable_parts set r h in
-      let shown = both_true (shows_its_list r.path && is_no_authority (context_of r) r.path) (is_no_scheme (context_of r) r.path) parts.reads in
-      let list = both_true (shows_its_list r.path) (is_no_authority (context_of r) r.path) shown.0 in
+      let shown = and_parts (shows_its_list r.path && is_no_authority (context_of r) r.path) (is_no_scheme (context_of r) r.path) parts.reads in
+      let list = and_parts (shows_its_list r.path) (is_no_authority (context_of r) r.path) shown.0 in
       record {
         scheme = scheme_delimited r.scheme parts.scheme;
         authority = authority_delimited r.authority parts.authority;

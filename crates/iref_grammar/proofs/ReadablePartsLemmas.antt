@@ -1,12 +1,12 @@
 -- The conditions of a readable reference, one by one.
 use Rattle.std.proofs.Common.{◌≡◌, true}
+use Rattle.std.proofs.lemmas.Bool.{and_from, and_parts}
 use Rattle.std.specs.List.{list_all}
 use Rattle.iref_grammar.specs.Characters.{CharTests}
 use Rattle.iref_grammar.specs.Tests.{is_scheme, is_segment, is_query, is_fragment, none_or}
 use Rattle.iref_grammar.specs.Authority.{has_authority_parts}
 use Rattle.iref_grammar.specs.Contexts.{follows_authority, reads_as_path}
 use Rattle.iref_grammar.specs.Reference.{ReferenceValue, context_of, is_readable}
-use Rattle.iref_grammar.proofs.TextLemmas.{both, both_true}
 
 pub record HasReadableParts (set : CharTests) (r : ReferenceValue) : Type 0 where
   pub scheme : none_or is_scheme r.scheme ≡ true
@@ -20,15 +20,15 @@ pub record HasReadableParts (set : CharTests) (r : ReferenceValue) : Type 0 wher
 pub readable_parts : (set : CharTests) (r : ReferenceValue) → is_readable set r ≡ true → HasReadableParts set r
 unfolding is_readable
 readable_parts set r h =
-    let six = both_true _ _ h in
-    let five = both_true _ _ six.0 in
-    let four = both_true _ _ five.0 in
-    let three = both_true _ _ four.0 in
-    let two = both_true _ _ three.0 in
-    let one = both_true _ _ two.0 in
+    let six = and_parts _ _ h in
+    let five = and_parts _ _ six.0 in
+    let four = and_parts _ _ five.0 in
+    let three = and_parts _ _ four.0 in
+    let two = and_parts _ _ three.0 in
+    let one = and_parts _ _ two.0 in
     record { scheme = one.0; authority = one.1; segments = two.1; query = three.1; fragment = four.1; follows = five.1; reads = six.1 }
 
 pub readable_from : (set : CharTests) (r : ReferenceValue) → HasReadableParts set r → is_readable set r ≡ true
 unfolding is_readable
 readable_from set r parts =
-    both _ _ (both _ _ (both _ _ (both _ _ (both _ _ (both _ _ parts.scheme parts.authority) parts.segments) parts.query) parts.fragment) parts.follows) parts.reads
+    and_from _ _ (and_from _ _ (and_from _ _ (and_from _ _ (and_from _ _ (and_from _ _ parts.scheme parts.authority) parts.segments) parts.query) parts.fragment) parts.follows) parts.reads

@@ -5,6 +5,7 @@ use Rattle.std.specs.Prelude.{codes, Option, Some, None, option_map, IfSome, IsS
 use Rattle.std.specs.Bool.{Decides}
 use Rattle.std.specs.List.{list_all}
 use Rattle.std.proofs.lemmas.Bool.Decides.{Decides-like, Decides-and}
+use Rattle.std.proofs.lemmas.Bool.{and_from}
 use mathlib.Core.Bool.{true≢false}
 use Rattle.iref_grammar.specs.Characters.{CharTests, AreAboveAscii}
 use Rattle.iref_grammar.specs.Rules.{Text, Rule, Mark, ◌⨾◌, ◌or◌, Optional, InUtf8}
@@ -15,7 +16,7 @@ use Rattle.iref_grammar.specs.Texts.{part_then, then_part}
 use Rattle.iref_grammar.specs.PathValue.{PathValue, spell_path}
 use Rattle.iref_grammar.specs.Contexts.{follows_authority, reads_as_path}
 use Rattle.iref_grammar.specs.Reference.{ReferenceValue, context_of, spell, IsReadable, IsReadAsReference, is_readable, read_reference, is_reference, is_full_reference}
-use Rattle.iref_grammar.proofs.TextLemmas.{both, first_of_both, second_of_both}
+use Rattle.iref_grammar.proofs.TextLemmas.{first_of_both, second_of_both}
 use Rattle.iref_grammar.proofs.ReferenceCutLemmas.{regroup, read_reference-spelled}
 use Rattle.iref_grammar.proofs.LeafLemmas.{Decides-is_segment, Decides-is_query, Decides-is_fragment}
 use Rattle.iref_grammar.proofs.ReadableLemmas.{readable_read}
@@ -290,4 +291,4 @@ module _ (set : CharTests) (above : AreAboveAscii set) where
       back z =
           let s = (in_utf8-uri bytes).0 z in
           let read : read_reference bytes ≡ s.reference = ap read_reference (sym s.spelled) ∙ reference_read s.reference s.readable in
-          both (is_some (read_reference bytes).scheme) (is_reference set bytes) (ap (λ (r : ReferenceValue). is_some r.scheme) read ∙ s.scheme) (spelled_taken s.reference bytes s.readable s.spelled)
+          and_from (is_some (read_reference bytes).scheme) (is_reference set bytes) (ap (λ (r : ReferenceValue). is_some r.scheme) read ∙ s.scheme) (spelled_taken s.reference bytes s.readable s.spelled)

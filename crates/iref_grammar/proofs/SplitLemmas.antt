@@ -8,12 +8,13 @@ use Rattle.std.specs.List.{position_or_len}
 use Rattle.std.proofs.lemmas.Grind.{common_steps}
 use Rattle.std.proofs.lemmas.List.Sums.{prefix_len-le-length}
 use Rattle.std.proofs.lemmas.Bool.Decides.{eqb_tells}
+use Rattle.std.proofs.lemmas.List.{append-nil}
 use mathlib.Core.Bool.{true≢false}
 use Rattle.iref_grammar.specs.Rules.{Text}
 use Rattle.iref_grammar.specs.Grammar.{hash_sign, slash, colon, question_mark}
 use Rattle.iref_grammar.specs.Texts.{before, from_first, after, after_first_char, lacks}
 use Rattle.iref_grammar.specs.Reference.{split_scheme, hierarchy}
-use Rattle.iref_grammar.proofs.CutLemmas.{before-from_first, before-no, before-yes, from_first-no, from_first-yes, is_mark, append_nil}
+use Rattle.iref_grammar.proofs.CutLemmas.{before-from_first, before-no, before-yes, from_first-no, from_first-yes, is_mark}
 use Rattle.iref_grammar.proofs.LackLemmas.{lacks_more}
 use Rattle.iref_grammar.proofs.OnlyLemmas.{scheme-back, no_scheme, no_colon}
 
@@ -68,7 +69,7 @@ scheme-missing text none = by (from_first ends_scheme text) refl
     whole back e h = subst (λ t. split_scheme t ≡ (None, t)) (sym (cut_in_two ends_scheme text back e)) h
 
     by : (back : Text) → from_first ends_scheme text ≡ back → split_scheme text ≡ (None, text)
-    by [] e = whole [] e (subst (λ t. split_scheme t ≡ (None, t)) (sym (append_nil (before ends_scheme text))) (no_colon (before ends_scheme text) lacking))
+    by [] e = whole [] e (subst (λ t. split_scheme t ≡ (None, t)) (sym (append-nil (before ends_scheme text))) (no_colon (before ends_scheme text) lacking))
     by (c ∷ rest) e = elim (eqb_tells colon c) [
       | inl f ↦ absurd (none rest (e ∙ ap (λ d. d ∷ rest) (sym f.1)))
       | inr f ↦ elim (eqb_tells slash c) [

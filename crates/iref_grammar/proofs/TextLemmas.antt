@@ -5,24 +5,22 @@ use Rattle.std.specs.List.{list_all, join_with_byte, onto_first}
 use Rattle.std.specs.Char.{char_set_contains}
 use Rattle.std.proofs.lemmas.Bool.Decides.{eqb_tells}
 use Rattle.std.proofs.lemmas.List.Splits.{join_with_byte-slice_split}
+use Rattle.std.proofs.lemmas.Bool.{and_from, and_parts}
+use Rattle.std.proofs.lemmas.List.Folds.{list_all-append}
 use mathlib.Core.Bool.{true≢false}
 use Rattle.iref_grammar.specs.Rules.{Text}
 pub use Rattle.iref_grammar.specs.Texts.{lacks}
 use Rattle.iref_grammar.specs.Texts.{pieces_at}
 
-pub both : (a b : Bool) → a ≡ true → b ≡ true → (a && b) ≡ true
-both a b h k = (λ i. h i && b) ∙ k
-
 pub first_of_both : (a b : Bool) → (a && b) ≡ true → a ≡ true
-first_of_both true b h = refl
-first_of_both false b h = h
+first_of_both a b h = (and_parts a b h).0
 
 pub second_of_both : (a b : Bool) → (a && b) ≡ true → b ≡ true
-second_of_both true b h = h
-second_of_both false b h = elim b as (λ c. c ≡ true) [ true ↦ refl | false ↦ h ]
+second_of_both a b h = (and_parts a b h).1
 
-pub both_true : (a b : Bool) → (a && b) ≡ true → (a ≡ true) × (b ≡ true)
-both_true a b h = (first_of_both a b h, second_of_both a b h)
+-- a list with one more item at its end
+pub list_all-snoc : (test : Text → Bool) (list : List Text) (s : Text) → list_all test list ≡ true → test s ≡ true → list_all test (list ++ s ∷ []) ≡ true
+list_all-snoc test list s h k = list_all-append test list (s ∷ []) ∙ and_from _ _ h (and_from _ _ k refl)
 
 -- the pieces joined are the text
 pub join-pieces_at : (mark : ℕ) (text : Text) → join_with_byte mark (pieces_at mark text) ≡ text

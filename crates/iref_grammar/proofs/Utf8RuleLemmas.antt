@@ -8,22 +8,23 @@ use Rattle.std.specs.Char.{is_ascii}
 use Rattle.std.proofs.Math.Utf8.{scalar, low_scalar}
 use Rattle.std.proofs.lemmas.Str.{encodes-append, encode_ascii}
 use Rattle.std.proofs.lemmas.Bool.Decides.{nat_tests, eqb_tells, leb_tells}
+use Rattle.std.proofs.lemmas.Bool.{and_from}
 use mathlib.Core.Bool.{true≢false}
 use Rattle.iref_grammar.specs.Rules.{Text, Rule, Empty, Mark, ◌⨾◌, ◌or◌, Optional, ZeroOrMore, InUtf8}
 use Rattle.iref_grammar.specs.Texts.{part_then, then_part}
-use Rattle.iref_grammar.proofs.TextLemmas.{lacks, both, first_of_both, second_of_both}
+use Rattle.iref_grammar.proofs.TextLemmas.{lacks, first_of_both, second_of_both}
 use Rattle.iref_grammar.proofs.RuleLemmas.{none_of, one_more}
 use Rattle.iref_grammar.proofs.CutLemmas.{first_lacks, rest_lacks}
 
 scalars-append : (xs ys : Text) → all_scalars xs ≡ true → all_scalars ys ≡ true → all_scalars (xs ++ ys) ≡ true
 scalars-append [] ys h k = k
-scalars-append (c ∷ xs) ys h k = both (scalar c) (all_scalars (xs ++ ys)) (first_of_both (scalar c) (all_scalars xs) h) (scalars-append xs ys (second_of_both (scalar c) (all_scalars xs) h) k)
+scalars-append (c ∷ xs) ys h k = and_from (scalar c) (all_scalars (xs ++ ys)) (first_of_both (scalar c) (all_scalars xs) h) (scalars-append xs ys (second_of_both (scalar c) (all_scalars xs) h) k)
 
 scalars-split : (xs ys : Text) → all_scalars (xs ++ ys) ≡ true → (all_scalars xs ≡ true) × (all_scalars ys ≡ true)
 scalars-split [] ys h = (refl, h)
 scalars-split (c ∷ xs) ys h =
     let r = scalars-split xs ys (second_of_both (scalar c) (all_scalars (xs ++ ys)) h) in
-    (both (scalar c) (all_scalars xs) (first_of_both (scalar c) (all_scalars (xs ++ ys)) h) r.0, r.1)
+    (and_from (scalar c) (all_scalars xs) (first_of_both (scalar c) (all_scalars (xs ++ ys)) h) r.0, r.1)
 
 -- ---- the forms
 
@@ -80,7 +81,7 @@ in_utf8-empty bytes = (λ z. sym z.2 ∙ ap encode_utf8_all z.3, λ e. ([], refl
 -- a text that holds no character from 128 on
 pub ascii_from_lacks : (t : Text) → ((mark : ℕ) → 128 ≤ mark → lacks mark t ≡ true) → list_all is_ascii t ≡ true
 ascii_from_lacks [] h = refl
-ascii_from_lacks (c ∷ cs) h = both (is_ascii c) (list_all is_ascii cs) (elim (leb_tells 128 c) [
+ascii_from_lacks (c ∷ cs) h = and_from (is_ascii c) (list_all is_ascii cs) (elim (leb_tells 128 c) [
   | inl e ↦ absurd (not_itself (first_lacks c c cs (h c e.1)))
   | inr e ↦ below c e.1
 ]) (ascii_from_lacks cs (λ m k. rest_lacks m c cs (h m k)))
@@ -96,7 +97,7 @@ encodes_ascii [] h = (refl, refl)
 encodes_ascii (c ∷ cs) h =
     let low = below c (first_of_both (is_ascii c) (list_all is_ascii cs) h) in
     let r = encodes_ascii cs (second_of_both (is_ascii c) (list_all is_ascii cs) h) in
-    (both (scalar c) (all_scalars cs) (low_scalar c (omega arith)) r.0, λ i. encode_ascii c low i ++ r.1 i)
+    (and_from (scalar c) (all_scalars cs) (low_scalar c (omega arith)) r.0, λ i. encode_ascii c low i ++ r.1 i)
   where
     below : (n : ℕ) → nat_lt n 128 ≡ true → n < 128
     below n k = grind (arith, nat_tests)
@@ -109,7 +110,7 @@ in_utf8-ascii A ascii bytes = (
 )
 
 pub in_utf8-mark : (mark : ℕ) → is_ascii mark ≡ true → (bytes : Text) → InUtf8 (Mark mark) bytes ↔ Mark mark bytes
-in_utf8-mark mark low = in_utf8-ascii (Mark mark) (λ t e. ap (list_all is_ascii) e ∙ both (is_ascii mark) true low refl)
+in_utf8-mark mark low = in_utf8-ascii (Mark mark) (λ t e. ap (list_all is_ascii) e ∙ and_from (is_ascii mark) true low refl)
 
 -- ---- a part that may be left out, with its mark
 

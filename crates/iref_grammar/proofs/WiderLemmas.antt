@@ -4,6 +4,7 @@ use Rattle.std.specs.Prelude.{◌==◌, codes}
 use Rattle.std.specs.List.{AllByRecursion}
 use Rattle.std.specs.Char.{is_ascii_alphanumeric, char_set_contains}
 use Rattle.std.proofs.lemmas.Option.{IfSome_then}
+use Rattle.std.proofs.lemmas.Bool.{or_right}
 use mathlib.Core.Bool.{true≢false}
 use Rattle.iref_grammar.specs.Characters.{CharTests, AreAboveAscii, uri_chars, uri_above_ascii}
 use Rattle.iref_grammar.specs.Rules.{Text, InUtf8}
@@ -18,10 +19,6 @@ use Rattle.iref_grammar.proofs.ReferenceRuleLemmas.{Decides-is_readable}
 pub record IsWider (small large : CharTests) : Type 0 where
   pub extra : (c : ℕ) → small.extra c ≡ true → large.extra c ≡ true
   pub private : (c : ℕ) → small.private c ≡ true → large.private c ≡ true
-
-or_right : (a b : Bool) → b ≡ true → (a || b) ≡ true
-or_right true b h = refl
-or_right false b h = h
 
 or_wider : (a b c d : Bool) → (a ≡ true → c ≡ true) → (b ≡ true → d ≡ true) → (a || b) ≡ true → (c || d) ≡ true
 or_wider true b c d f g h = λ i. f refl i || d

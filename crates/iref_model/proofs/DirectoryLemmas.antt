@@ -7,13 +7,15 @@ use Rattle.std.proofs.lemmas.List.{reverse-append, length-append, length-reverse
 use Rattle.std.proofs.lemmas.List.Folds.{list_all-append}
 use Rattle.std.proofs.lemmas.Bool.Decides.{eqb_tells}
 use Rattle.std.proofs.Math.Seq.{take-append_seam}
+use Rattle.std.proofs.lemmas.Bool.{and_from}
+use Rattle.std.proofs.Math.Numerals.{one-add}
 use Rattle.iref_grammar.specs.Rules.{Text}
 use Rattle.iref_grammar.specs.Grammar.{slash}
 use Rattle.iref_grammar.specs.Texts.{pieces_at, lacks, all_but_last}
 use Rattle.iref_grammar.specs.PathValue.{PathValue, segments_of, spell_path, read_path}
 use Rattle.iref_model.specs.NormalList.{closed}
 use Rattle.iref_model.specs.PathFunctions.{directory, directory_text}
-use Rattle.iref_grammar.proofs.TextLemmas.{both, first_of_both, second_of_both, pieces_at-join}
+use Rattle.iref_grammar.proofs.TextLemmas.{first_of_both, second_of_both, pieces_at-join}
 use Rattle.iref_grammar.proofs.LackLemmas.{lacks_more}
 use Rattle.iref_grammar.proofs.PathLemmas.{read_path-reads}
 use Rattle.iref_model.proofs.PieceLemmas.{pieces-append}
@@ -53,22 +55,19 @@ all_reversed : (text : Text) → list_all is_other text ≡ true → list_all is
 all_reversed [] h = refl
 all_reversed (c ∷ cs) h =
     ap (list_all is_other) (reverse-append (c ∷ []) cs) ∙ list_all-append is_other (reverse cs) (c ∷ [])
-    ∙ both _ _ (all_reversed cs (second_of_both (is_other c) (list_all is_other cs) h)) (both _ true (first_of_both (is_other c) (list_all is_other cs) h) refl)
-
-one_more : (n : ℕ) → 1 + n ≡ Rattle.std.proofs.Common.suc n
-one_more n = omega arith
+    ∙ and_from _ _ (all_reversed cs (second_of_both (is_other c) (list_all is_other cs) h)) (and_from _ true (first_of_both (is_other c) (list_all is_other cs) h) refl)
 
 stops_at_slash : (front back : Text) → list_all is_other front ≡ true → prefix_len is_other (front ++ slash ∷ back) ≡ length front
 stops_at_slash [] back h = refl
 stops_at_slash (c ∷ cs) back h =
     (λ i. cond (first_of_both (is_other c) (list_all is_other cs) h i) (1 + stops_at_slash cs back (second_of_both (is_other c) (list_all is_other cs) h) i) 0)
-    ∙ one_more (length cs)
+    ∙ one-add (length cs)
 
 stops_at_end : (text : Text) → list_all is_other text ≡ true → prefix_len is_other text ≡ length text
 stops_at_end [] h = refl
 stops_at_end (c ∷ cs) h =
     (λ i. cond (first_of_both (is_other c) (list_all is_other cs) h i) (1 + stops_at_end cs (second_of_both (is_other c) (list_all is_other cs) h) i) 0)
-    ∙ one_more (length cs)
+    ∙ one-add (length cs)
 
 reversed_lacks : (text : Text) → lacks slash text ≡ true → list_all is_other (reverse text) ≡ true
 reversed_lacks text h = all_reversed text (sym (all_other text) ∙ h)
@@ -98,7 +97,7 @@ directory_text-none text h =
 
 -- ---- by segments
 
-all_but_last-snoc : (list : List Text) (s : Text) → all_but_last (list ++ s ∷ []) ≡ list
+pub all_but_last-snoc : (list : List Text) (s : Text) → all_but_last (list ++ s ∷ []) ≡ list
 all_but_last-snoc [] s = refl
 all_but_last-snoc (t ∷ []) s = refl
 all_but_last-snoc (t ∷ u ∷ list) s = ap (λ xs. t ∷ xs) (all_but_last-snoc (u ∷ list) s)
@@ -118,7 +117,7 @@ some_text [] back = refl
 some_text (c ∷ cs) back = refl
 
 whole_piece : (text : Text) → lacks slash text ≡ true → pieces_at slash text ≡ text ∷ []
-whole_piece text h = pieces_at-join slash text [] (both _ true h refl)
+whole_piece text h = pieces_at-join slash text [] (and_from _ true h refl)
 
 segments_cut : (front back : Text) → lacks slash back ≡ true → closed (all_but_last (segments_of (front ++ slash ∷ back))) ≡ segments_of (front ++ slash ∷ [])
 segments_cut front back h =

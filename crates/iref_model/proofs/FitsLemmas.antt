@@ -48,7 +48,7 @@ fits_by-dot false true false h = h
 fits_by-dot false false true h = refl
 fits_by-dot false false false h = refl
 
-is_empty-snoc : (ts : List Text) (s : Text) → is_empty (ts ++ s ∷ []) ≡ false
+pub is_empty-snoc : (ts : List Text) (s : Text) → is_empty (ts ++ s ∷ []) ≡ false
 is_empty-snoc [] s = refl
 is_empty-snoc (t ∷ ts) s = refl
 

@@ -6,6 +6,7 @@ use Rattle.std.proofs.lemmas.List.{take-map, map-append, length-map, length-appe
 use Rattle.std.proofs.lemmas.List.Sums.{common_prefix_len-le}
 use Rattle.std.proofs.lemmas.List.Folds.{list_all-append}
 use Rattle.std.proofs.lemmas.Bool.{cases_lt}
+use Rattle.std.proofs.Math.Numerals.{one-add}
 use mathlib.Core.Bool.{true≢false}
 use Rattle.percent_encoding.specs.Percent.{percent_decode}
 use Rattle.iref_grammar.specs.Rules.{Text}
@@ -27,9 +28,6 @@ shared one other = common_prefix_len same_decoded one other
 
 -- ---- the longest common beginning
 
-next : (n : ℕ) → 1 + n ≡ suc n
-next n = omega arith
-
 pub decoded-shared : (xs ys : List Text) → decoded (take (shared xs ys) xs) ≡ decoded (take (shared xs ys) ys)
 decoded-shared [] ys = refl
 decoded-shared (x ∷ xs) [] = refl
@@ -38,9 +36,9 @@ decoded-shared (x ∷ xs) (y ∷ ys) = by (same_decoded x y) refl (decoded-share
     by : (b : Bool) → same_decoded x y ≡ b → decoded (take (shared xs ys) xs) ≡ decoded (take (shared xs ys) ys)
         → decoded (take (cond b (1 + shared xs ys) 0) (x ∷ xs)) ≡ decoded (take (cond b (1 + shared xs ys) 0) (y ∷ ys))
     by true e h =
-        (λ i. decoded (take (next (shared xs ys) i) (x ∷ xs)))
+        (λ i. decoded (take (one-add (shared xs ys) i) (x ∷ xs)))
         ∙ (λ i. (bytes_decides (percent_decode x) (percent_decode y)).0 e i ∷ h i)
-        ∙ (λ i. decoded (take (sym (next (shared xs ys)) i) (y ∷ ys)))
+        ∙ (λ i. decoded (take (sym (one-add (shared xs ys)) i) (y ∷ ys)))
     by false e h = refl
 
 pub shared-most : (n : ℕ) (xs ys : List Text) → n ≤ length xs → n ≤ length ys → decoded (take n xs) ≡ decoded (take n ys) → n ≤ shared xs ys

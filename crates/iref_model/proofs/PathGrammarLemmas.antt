@@ -11,9 +11,10 @@ use Rattle.iref_grammar.specs.Texts.{pieces_at}
 use Rattle.iref_grammar.specs.Tests.{owed_after, is_encoded_after, is_segment, is_path}
 use Rattle.iref_grammar.specs.PathValue.{PathValue, read_path, segments_of}
 use Rattle.iref_grammar.proofs.PathTestLemmas.{is_path-segments}
-use Rattle.iref_grammar.proofs.TextLemmas.{both, first_of_both, second_of_both}
+use Rattle.iref_grammar.proofs.TextLemmas.{first_of_both, second_of_both}
 use Rattle.iref_model.proofs.PieceLemmas.{pieces-append}
 use Rattle.std.proofs.lemmas.List.Folds.{list_all-append}
+use Rattle.std.proofs.lemmas.Bool.{and_from}
 
 pub is_segment-empty : (set : CharTests) → is_segment set [] ≡ true
 unfolding is_segment is_utf8 chars
@@ -74,7 +75,7 @@ path_parts set above front back h =
 pub path_joined : (set : CharTests) → AreAboveAscii set → (front back : Text) → is_path set front ≡ true → is_path set back ≡ true → is_path set (front ++ slash ∷ back) ≡ true
 path_joined set above front back h k =
     is_path-pieces set above (front ++ slash ∷ back) ∙ ap (list_all (is_segment set)) (pieces-append front back) ∙ list_all-append (is_segment set) (pieces_at slash front) (pieces_at slash back)
-    ∙ both _ _ (sym (is_path-pieces set above front) ∙ h) (sym (is_path-pieces set above back) ∙ k)
+    ∙ and_from _ _ (sym (is_path-pieces set above front) ∙ h) (sym (is_path-pieces set above back) ∙ k)
 
 pub ruleset short_segments = (is_segment-empty, is_segment-dot, is_segment-dot_dot)
 

@@ -2,6 +2,7 @@
 use Rattle.std.proofs.Common.{◌≡◌, ℕ, zero, suc, Bool, true, false, cond, ◌&&◌, List, [], refl, ◌∙◌, ap}
 use Rattle.std.specs.List.{list_all}
 use Rattle.std.proofs.lemmas.List.Folds.{list_all-append}
+use Rattle.std.proofs.lemmas.Bool.{and_from, and_parts}
 use Rattle.iref_grammar.specs.Characters.{CharTests, AreAboveAscii}
 use Rattle.iref_grammar.specs.Rules.{Text}
 use Rattle.iref_grammar.specs.Tests.{is_segment}
@@ -11,7 +12,6 @@ use Rattle.iref_grammar.specs.Contexts.{alone, follows_authority, reads_as_path}
 use Rattle.iref_model.specs.NormalList.{normal_segments, normal}
 use Rattle.iref_grammar.specs.Reference.{ReferenceValue, IsReadable, is_readable}
 use Rattle.iref_model.specs.Relative.{have_same_authority, schemes_agree, is_same_place, steps_between, directory_names, leading_path, with_only_path, relative_to}
-use Rattle.iref_grammar.proofs.TextLemmas.{both, both_true}
 use Rattle.iref_grammar.proofs.ReadablePartsLemmas.{readable_parts}
 use Rattle.iref_grammar.proofs.ReferenceRuleLemmas.{Decides-is_readable}
 use Rattle.iref_model.proofs.GuardLemmas.{guarded-fits}
@@ -26,13 +26,13 @@ use Rattle.iref_model.proofs.ReadableStepLemmas.{is_segment-dots}
 module _ (test : Text → Bool) (dots : TakesDots test) where
   all_climbs : (n : ℕ) → list_all test (climbs n) ≡ true
   all_climbs zero = refl
-  all_climbs (suc n) = both _ _ dots.parent (all_climbs n)
+  all_climbs (suc n) = and_from _ _ dots.parent (all_climbs n)
 
   all_steps : (directory list : List Text) → list_all test list ≡ true → list_all test (steps_between directory list) ≡ true
   all_steps directory list h =
       ap (list_all test) (steps-are directory list)
       ∙ list_all-append test (climbs (climb_between directory list)) (names_down directory list)
-      ∙ both _ _ (all_climbs (climb_between directory list)) (names_down-all test dots.empty directory list h)
+      ∙ and_from _ _ (all_climbs (climb_between directory list)) (names_down-all test dots.empty directory list h)
 
   pub all_leading : (target base : ReferenceValue) → list_all test target.path.segments ≡ true → list_all test (leading_path target base).segments ≡ true
   all_leading target base h = by base.path.absolute (normal-in test dots target.path h)
@@ -50,7 +50,7 @@ only_path-readable : (set : CharTests) (target : ReferenceValue) (p : PathValue)
 unfolding is_readable
 only_path-readable set target p readable segments fits =
     let own = readable_parts set target readable in
-    let end = both_true (follows_authority alone p) (reads_as_path alone p) fits in
+    let end = and_parts (follows_authority alone p) (reads_as_path alone p) fits in
     λ i. segments i && own.query i && own.fragment i && end.0 i && end.1 i
 
 leading_path-fits : (target base : ReferenceValue) → (follows_authority alone (leading_path target base) && reads_as_path alone (leading_path target base)) ≡ true

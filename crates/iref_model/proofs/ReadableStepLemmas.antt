@@ -1,5 +1,6 @@
 -- Each step of a path keeps it readable in its context.
 use Rattle.std.proofs.Common.{◌≡◌, Bool, true, List, refl}
+use Rattle.std.proofs.lemmas.Bool.{and_from, and_parts}
 use Rattle.std.specs.List.{list_all}
 use Rattle.iref_grammar.specs.declared.places.PathContext.{PathContext}
 use Rattle.iref_grammar.specs.Characters.{CharTests}
@@ -9,7 +10,6 @@ use Rattle.iref_grammar.specs.PathValue.{PathValue}
 use Rattle.iref_grammar.specs.Contexts.{fits, is_readable_path}
 use Rattle.iref_model.specs.Guard.{guarded}
 use Rattle.iref_model.specs.PathSteps.{lazy_pushed, popped, pushed, appended, lazy_appended, replaced, joined, normalized, cleared}
-use Rattle.iref_grammar.proofs.TextLemmas.{both, both_true}
 use Rattle.iref_model.proofs.PathGrammarLemmas.{is_segment-empty, is_segment-dot, is_segment-dot_dot}
 use Rattle.iref_model.proofs.GuardLemmas.{guarded-fits}
 use Rattle.iref_model.proofs.FitsLemmas.{lazy_pushed-fits, popped-fits, pushed-fits, appended-fits, lazy_appended-fits, joined-fits, normalized-fits, cleared-fits}
@@ -27,12 +27,12 @@ module _ (set : CharTests) (context : PathContext) where
 
   -- a path with segments in their rule that fits is readable
   readable_from : (p : PathValue) → are_segments p.segments ≡ true → fits context p ≡ true → is_readable p ≡ true
-  readable_from p segments fit = both (are_segments p.segments) (fits context p) segments fit
+  readable_from p segments fit = and_from (are_segments p.segments) (fits context p) segments fit
 
-  -- what keeps both keeps the path readable
+  -- what keeps and_from keeps the path readable
   kept : (p new : PathValue) → (are_segments p.segments ≡ true → are_segments new.segments ≡ true) → (fits context p ≡ true → fits context new ≡ true) → is_readable p ≡ true → is_readable new ≡ true
   kept p new segments fit h =
-      let parts = both_true (are_segments p.segments) (fits context p) h in
+      let parts = and_parts (are_segments p.segments) (fits context p) h in
       readable_from new (segments parts.0) (fit parts.1)
 
   pub guarded-readable : (p : PathValue) → are_segments p.segments ≡ true → is_readable (guarded context p) ≡ true

@@ -1,5 +1,6 @@
 -- Each step of a reference keeps it readable.
 use Rattle.std.proofs.Common.{◌≡◌, Bool, true, ◌&&◌, List, [], refl}
+use Rattle.std.proofs.lemmas.Bool.{and_from, and_parts}
 use Rattle.std.specs.Prelude.{Option, Some, None, is_some, is_none, option_map}
 use Rattle.std.specs.List.{list_all}
 use Rattle.iref_grammar.specs.declared.places.PathContext.{PathContext}
@@ -14,7 +15,7 @@ use Rattle.iref_grammar.specs.Reference.{ReferenceValue, context_of, is_readable
 use Rattle.iref_model.specs.ComponentSteps.{guarded_reference, with_scheme, path_after_new_authority, with_authority, with_path, with_query, with_fragment, with_authority_step, with_path_step, with_normal_path, with_new_normal_path}
 use Rattle.iref_model.specs.AuthoritySteps.{with_user_info, with_host, with_port}
 use Rattle.iref_model.specs.Key.{key}
-use Rattle.iref_grammar.proofs.TextLemmas.{both, first_of_both, both_true}
+use Rattle.iref_grammar.proofs.TextLemmas.{first_of_both}
 use Rattle.iref_grammar.proofs.ReadablePartsLemmas.{readable_parts, readable_from}
 use Rattle.iref_model.proofs.GuardLemmas.{guarded-fits}
 use Rattle.iref_model.proofs.RewritingLemmas.{path_removes_dot_segments}
@@ -35,7 +36,7 @@ pub with_path_step-readable : (set : CharTests) (step : PathContext → PathValu
     → is_readable set r ≡ true → is_readable set (with_path_step step r) ≡ true
 with_path_step-readable set step r keeps_fit keeps_in h =
     let parts = readable_parts set r h in
-    let stepped = both_true _ _ (keeps_fit (both _ _ parts.follows parts.reads)) in
+    let stepped = and_parts _ _ (keeps_fit (and_from _ _ parts.follows parts.reads)) in
     readable_from set (with_path_step step r) (record {
       scheme = parts.scheme;
       authority = parts.authority;
@@ -91,7 +92,7 @@ readable_components set r h =
 -- a guard makes them a readable reference
 pub guarded_reference-readable : (set : CharTests) (r : ReferenceValue) → HasComponents set r → is_readable set (guarded_reference r) ≡ true
 guarded_reference-readable set r own =
-    let guarded_fits = both_true _ _ (guarded-fits (context_of r) r.path) in
+    let guarded_fits = and_parts _ _ (guarded-fits (context_of r) r.path) in
     readable_from set (guarded_reference r) (record {
       scheme = own.scheme;
       authority = own.authority;
@@ -104,7 +105,7 @@ guarded_reference-readable set r own =
 
 -- what reads as a path anywhere does so after a scheme, and what follows an authority follows it there
 reads-after_scheme : (shown no_authority no_scheme : Bool) → (shown && no_authority && no_scheme) ≡ true → (shown && no_authority && true) ≡ true
-reads-after_scheme shown no_authority no_scheme h = both _ _ (first_of_both (shown && no_authority) no_scheme h) refl
+reads-after_scheme shown no_authority no_scheme h = and_from _ _ (first_of_both (shown && no_authority) no_scheme h) refl
 
 pub with_scheme-readable : (set : CharTests) (scheme : Option Text) (r : ReferenceValue) → none_or is_scheme scheme ≡ true → is_readable set r ≡ true → is_readable set (with_scheme scheme r) ≡ true
 unfolding with_scheme
@@ -192,13 +193,13 @@ record HasParts (set : CharTests) (a : AuthorityValue) : Type 0 where
 authority_parts : (set : CharTests) (a : AuthorityValue) → has_authority_parts set a ≡ true → HasParts set a
 unfolding has_authority_parts
 authority_parts set a h =
-    let two = both_true (none_or (is_user_info set) a.user_info && is_host set a.host) (none_or is_port a.port) h in
-    let one = both_true (none_or (is_user_info set) a.user_info) (is_host set a.host) two.0 in
+    let two = and_parts (none_or (is_user_info set) a.user_info && is_host set a.host) (none_or is_port a.port) h in
+    let one = and_parts (none_or (is_user_info set) a.user_info) (is_host set a.host) two.0 in
     record { user_info = one.0; host = one.1; port = two.1 }
 
 authority_from : (set : CharTests) (a : AuthorityValue) → HasParts set a → has_authority_parts set a ≡ true
 unfolding has_authority_parts
-authority_from set a parts = both _ _ (both _ _ parts.user_info parts.host) parts.port
+authority_from set a parts = and_from _ _ (and_from _ _ parts.user_info parts.host) parts.port
 
 pub with_user_info-readable : (set : CharTests) (user_info : Option Text) (r : ReferenceValue) → none_or (is_user_info set) user_info ≡ true → is_readable set r ≡ true → is_readable set (with_authority_step (with_user_info user_info) r) ≡ true
 with_user_info-readable set user_info r k =

@@ -1,5 +1,6 @@
 -- A relative reference leads back to its target, and none climbs less.
 use Rattle.std.proofs.Common.{arith, ◌≡◌, ◌≤◌, Bool, true, false, cond, ◌&&◌, ◌||◌, List, [], ◌∷◌, ◌++◌, refl, sym, ◌∙◌, ap, Option, Some, None, option_map, is_some, is_none, codes}
+use Rattle.std.proofs.lemmas.Bool.{and_parts}
 use Rattle.std.specs.Option.{option_or}
 use Rattle.std.specs.Str.{str_to_ascii_lowercase}
 use mathlib.Core.Bool.{true≢false}
@@ -20,11 +21,11 @@ use Rattle.iref_model.specs.PathKey.{path_key}
 use Rattle.iref_model.specs.Relative.{have_same_scheme, have_same_authority, have_same_path, schemes_agree, is_same_place, steps_between, directory_names, leading_path, with_only_path, relative_to}
 use Rattle.iref_model.specs.RelativeLaws.{IsOnlyPath}
 use Rattle.iref_model.proofs.JoinedLemmas.{are_names}
-use Rattle.iref_grammar.proofs.TextLemmas.{both_true}
 use Rattle.iref_model.proofs.NormalPathLemmas.{normal-with_dot, normal-guarded, path_key-normalized}
 use Rattle.iref_model.proofs.SettledLemmas.{normal_again, names-normal, lone-normal}
 use Rattle.iref_model.proofs.LeadingLemmas.{decoded, climb_between, steps_lead, dotted_steps_lead, parents-steps, parents-dotted, steps_least}
 use Rattle.iref_model.proofs.KeyLemmas.{same_scheme, same_authority, same_path}
+use Rattle.iref_model.proofs.FitsLemmas.{is_empty-snoc}
 
 abbrev pub parts : Option Text → Option AuthorityValue → PathValue → Option Text → Option Text → ReferenceValue
 parts scheme authority path query fragment = record { scheme = scheme; authority = authority; path = path; query = query; fragment = fragment }
@@ -180,16 +181,12 @@ query_kept None (Some q) h = absurd (true≢false (sym h))
 pub same_place-leads : (target base : ReferenceValue) → stands base → is_same_place target base ≡ true
     → key (resolved base (with_only_path (at_no_root []) target)) ≡ key_under base (path_key target.path) target.query target.fragment
 same_place-leads target base stand h =
-    let first = both_true (have_same_path target base && (is_some target.query || is_none base.query)) _ h in
-    let second = both_true (have_same_path target base) (is_some target.query || is_none base.query) first.0 in
+    let first = and_parts (have_same_path target base && (is_some target.query || is_none base.query)) _ h in
+    let second = and_parts (have_same_path target base) (is_some target.query || is_none base.query) first.0 in
     let path = same_path target base second.0 in
     let query = query_kept target.query base.query second.1 in
     resolved-empty base target.query target.fragment stand
     ∙ (λ i. parts (key base).scheme (key base).authority (sym path i) (query i) (option_map percent_decode target.fragment))
-
-not_empty : (front : List Text) (s : Text) → is_empty (front ++ s ∷ []) ≡ false
-not_empty [] s = refl
-not_empty (t ∷ front) s = refl
 
 abbrev pub path_down : PathValue → List Text → List Text
 path_down base list = steps_between (directory_names base) list
@@ -208,7 +205,7 @@ steps-lead base segments query fragment root = by (reads_as_path alone (at_no_ro
 
     by : (b : Bool) → key (resolved base (parts None None (cond b (at_no_root steps) (with_dot (at_no_root steps))) query fragment)) ≡ key_under base (path_key (at_root segments)) query fragment
     by true =
-        resolved-relative base steps query fragment root (not_empty _ _)
+        resolved-relative base steps query fragment root (is_empty-snoc _ _)
         ∙ (λ i. key_under base (at_root (steps_lead (all_but_last base.path.segments) list (names-normal segments) (lone-normal (at_root segments)) i)) query fragment)
     by false =
         resolved-relative base (codes "." ∷ steps) query fragment root refl

@@ -17,11 +17,11 @@ use Rattle.iref_model.specs.NormalList.{is_dot, is_dot_dot, is_name, counted, en
 use Rattle.iref_model.specs.NormalReading.{staying_before, closing, items}
 use Rattle.iref_model.specs.PathSteps.{normalized}
 use Rattle.iref_model.specs.DotSegments.{Buffers, without_last_segment, first_segment_moved, rewritten_once, rewritten, RemovesDotSegments, dot_segments_removed}
-use Rattle.iref_grammar.proofs.TextLemmas.{lacks, first_of_both, second_of_both, pieces_at-join}
+use Rattle.iref_grammar.proofs.TextLemmas.{lacks, first_of_both, second_of_both, pieces_at-join, list_all-snoc}
 use Rattle.iref_grammar.proofs.CutLemmas.{before-no, before-yes, from_first-no, from_first-yes}
 use Rattle.iref_model.proofs.StayingLemmas.{staying_before-append, takes_last}
 use Rattle.iref_model.proofs.ItemLemmas.{normal_segments-is, some_name}
-use Rattle.iref_model.proofs.StepSegmentLemmas.{in-staying, in-snoc}
+use Rattle.iref_model.proofs.StepSegmentLemmas.{in-staying}
 
 -- each segment with a `/` before it
 abbrev pub slashed : List Text → Text
@@ -291,7 +291,7 @@ uses_up : (front : List Text) (s : Text) (rest : List Text) → list_all (lacks 
 uses_up front s [] h k = last_steps front h s (first_of_both (lacks slash s) true k)
 uses_up front s (t ∷ rest) h k =
     let here = first_of_both (lacks slash s) (list_all (lacks slash) (t ∷ rest)) k in
-    let later = uses_up (front ++ s ∷ []) t rest (in-snoc (lacks slash) front s h here) (second_of_both (lacks slash s) (list_all (lacks slash) (t ∷ rest)) k) in
+    let later = uses_up (front ++ s ∷ []) t rest (list_all-snoc (lacks slash) front s h here) (second_of_both (lacks slash s) (list_all (lacks slash) (t ∷ rest)) k) in
     let size : length (slashed (s ∷ t ∷ rest)) ≡ suc (length s + length (slashed (t ∷ rest))) = ap suc (length-append s (slashed (t ∷ rest))) in
     let within = later.within in
     record {
@@ -334,7 +334,7 @@ more_steps zero k b output h e = ap (rewritten k) e ∙ used_up_stays k output
 more_steps (suc n) zero b output h e = absurd (omega (arith, h))
 more_steps (suc n) (suc k) b output h e = more_steps n k (rewritten_once b) output (omega (arith, h)) e
 
-not_lone : (list : List Text) → is_one_empty (without_lone_empty list) ≡ false
+pub not_lone : (list : List Text) → is_one_empty (without_lone_empty list) ≡ false
 not_lone [] = refl
 not_lone (s ∷ list) = by (is_one_empty (s ∷ list)) refl
   where

@@ -3,6 +3,7 @@ use Rattle.std.proofs.Common.{◌≡◌, ℕ, zero, suc, Bool, true, false, not,
 use Rattle.std.specs.Prelude.{◌==◌, codes, replicate}
 use Rattle.std.specs.List.{list_all}
 use Rattle.std.proofs.lemmas.List.Folds.{list_all-append}
+use Rattle.std.proofs.lemmas.Bool.{and_from}
 use Rattle.iref_grammar.specs.declared.places.PathContext.{PathContext}
 use Rattle.iref_grammar.specs.Rules.{Text}
 use Rattle.iref_grammar.specs.Texts.{is_empty, all_but_last}
@@ -12,7 +13,7 @@ use Rattle.iref_grammar.specs.Contexts.{reads_as_path}
 use Rattle.iref_model.specs.NormalList.{is_dot, is_dot_dot, is_name, ends_in_dots, without_lone_empty, normal}
 use Rattle.iref_model.specs.NormalReading.{open_before, staying_before, leading_parents, closing, items}
 use Rattle.iref_model.specs.PathSteps.{lazy_pushed, ends_in_parent, popped, closed_path, followed, pushed, appended, lazy_appended, joined, normalized}
-use Rattle.iref_grammar.proofs.TextLemmas.{both, first_of_both, second_of_both}
+use Rattle.iref_grammar.proofs.TextLemmas.{first_of_both, second_of_both, list_all-snoc}
 use Rattle.iref_model.proofs.ItemLemmas.{normal_segments-is}
 
 -- the test takes the segments that steps write of their own
@@ -28,29 +29,26 @@ pub in-cond : (test : Text → Bool) (b : Bool) (p q : PathValue) → all_in tes
 in-cond test true p q h k = h
 in-cond test false p q h k = k
 
-pub in-snoc : (test : Text → Bool) (list : List Text) (s : Text) → list_all test list ≡ true → test s ≡ true → list_all test (list ++ s ∷ []) ≡ true
-in-snoc test list s h k = list_all-append test list (s ∷ []) ∙ both _ _ h (both _ _ k refl)
-
 pub guarded-in : (test : Text → Bool) → TakesDots test → (context : PathContext) (p : PathValue) → all_in test p ≡ true → all_in test (guarded context p) ≡ true
 unfolding guarded
-guarded-in test takes context p h = in-cond test (reads_as_path context (made_absolute context p)) (made_absolute context p) (with_dot (made_absolute context p)) h (both _ _ takes.dot h)
+guarded-in test takes context p h = in-cond test (reads_as_path context (made_absolute context p)) (made_absolute context p) (with_dot (made_absolute context p)) h (and_from _ _ takes.dot h)
 
 pub guarded_list-in : (test : Text → Bool) → TakesDots test → (p : PathValue) → all_in test p ≡ true → all_in test (guarded_list p) ≡ true
 unfolding guarded_list
-guarded_list-in test takes p h = in-cond test (shows_its_list p) p (with_dot p) h (both _ _ takes.dot h)
+guarded_list-in test takes p h = in-cond test (shows_its_list p) p (with_dot p) h (and_from _ _ takes.dot h)
 
 pub lazy_pushed-in : (test : Text → Bool) → TakesDots test → (context : PathContext) (s : Text) (p : PathValue) → test s ≡ true → all_in test p ≡ true → all_in test (lazy_pushed context s p) ≡ true
 unfolding lazy_pushed
 lazy_pushed-in test takes context s p k h =
     in-cond test (is_empty p.segments) (guarded context (record { absolute = p.absolute || context.has_authority; segments = s ∷ [] })) (record { absolute = p.absolute; segments = p.segments ++ s ∷ [] })
-    (guarded-in test takes context (record { absolute = p.absolute || context.has_authority; segments = s ∷ [] }) (both _ _ k refl))
-    (in-snoc test p.segments s h k)
+    (guarded-in test takes context (record { absolute = p.absolute || context.has_authority; segments = s ∷ [] }) (and_from _ _ k refl))
+    (list_all-snoc test p.segments s h k)
 
 in-shortened : (test : Text → Bool) (list : List Text) → list_all test list ≡ true → list_all test (all_but_last list) ≡ true
 in-shortened test [] h = refl
 in-shortened test (s ∷ []) h = refl
 in-shortened test (s ∷ t ∷ list) h =
-    both _ _ (first_of_both (test s) (list_all test (t ∷ list)) h) (in-shortened test (t ∷ list) (second_of_both (test s) (list_all test (t ∷ list)) h))
+    and_from _ _ (first_of_both (test s) (list_all test (t ∷ list)) h) (in-shortened test (t ∷ list) (second_of_both (test s) (list_all test (t ∷ list)) h))
 
 pub popped-in : (test : Text → Bool) → TakesDots test → (context : PathContext) (p : PathValue) → all_in test p ≡ true → all_in test (popped context p) ≡ true
 unfolding popped
@@ -103,19 +101,19 @@ in-staying test (s ∷ rest) behind h =
     by (is_name s && (open_before rest behind == 0)) (staying_before rest behind) (in-staying test rest behind (second_of_both (test s) (list_all test rest) h))
   where
     by : (b : Bool) (xs : List Text) → list_all test xs ≡ true → list_all test (cond b (s ∷ xs) xs) ≡ true
-    by true xs k = both _ _ (first_of_both (test s) (list_all test rest) h) k
+    by true xs k = and_from _ _ (first_of_both (test s) (list_all test rest) h) k
     by false xs k = k
 
 in-parents : (test : Text → Bool) → TakesDots test → (k : ℕ) → list_all test (replicate k (codes "..")) ≡ true
 in-parents test takes zero = refl
-in-parents test takes (suc k) = both _ _ takes.parent (in-parents test takes k)
+in-parents test takes (suc k) = and_from _ _ takes.parent (in-parents test takes k)
 
 in-leading : (test : Text → Bool) → TakesDots test → (absolute : Bool) (k : ℕ) → list_all test (leading_parents absolute k) ≡ true
 in-leading test takes true k = refl
 in-leading test takes false k = in-parents test takes k
 
 in-closing : (test : Text → Bool) → TakesDots test → (ends : Bool) → list_all test (closing ends) ≡ true
-in-closing test takes true = both _ _ takes.empty refl
+in-closing test takes true = and_from _ _ takes.empty refl
 in-closing test takes false = refl
 
 pub in-lone : (test : Text → Bool) (list : List Text) → list_all test list ≡ true → list_all test (without_lone_empty list) ≡ true
@@ -133,8 +131,8 @@ normal-in test takes p h =
     ap (list_all test) (normal_segments-is p)
     ∙ in-lone test (items p)
     (list_all-append test lead (names ++ ends)
-    ∙ both _ _ (in-leading test takes p.absolute (open_before p.segments 0))
-    (list_all-append test names ends ∙ both _ _ (in-staying test p.segments 0 h) (in-closing test takes (ends_in_dots p.segments))))
+    ∙ and_from _ _ (in-leading test takes p.absolute (open_before p.segments 0))
+    (list_all-append test names ends ∙ and_from _ _ (in-staying test p.segments 0 h) (in-closing test takes (ends_in_dots p.segments))))
 
 pub normalized-in : (test : Text → Bool) → TakesDots test → (context : PathContext) (p : PathValue) → all_in test p ≡ true → all_in test (normalized context p) ≡ true
 normalized-in test takes context p h = guarded-in test takes context (normal p) (normal-in test takes p h)

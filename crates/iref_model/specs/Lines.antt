@@ -12,7 +12,7 @@ use Rattle.iref_model.specs.Guard.{guarded}
 use Rattle.iref_grammar.specs.ComponentTexts.{ComponentTexts, spell_components}
 use Rattle.iref_grammar.specs.Contexts.{alone}
 use Rattle.iref_model.specs.NormalList.{normal}
-use Rattle.iref_grammar.specs.Reference.{ReferenceValue, spell, read_reference, is_reference, is_full_reference}
+use Rattle.iref_grammar.specs.Reference.{spell, read_reference, is_reference, is_full_reference}
 use Rattle.iref_model.specs.Resolution.{resolved}
 use Rattle.iref_model.specs.Key.{are_alike}
 use Rattle.iref_model.specs.Relative.{relative_to}

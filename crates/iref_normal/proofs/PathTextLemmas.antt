@@ -22,6 +22,9 @@ use Rattle.iref_model.specs.PathFunctions.{directory_text, parent, looks_like_sc
 use Rattle.iref_model.proofs.PieceLemmas.{pieces-append, some_piece}
 use Rattle.iref_normal.proofs.SlashLemmas.{LacksSlash, pieces-whole}
 use Rattle.iref_model.proofs.PathGrammarLemmas.{path_parts, path_joined, is_path-empty}
+use Rattle.iref_model.proofs.DirectoryLemmas.{all_but_last-snoc}
+use Rattle.iref_model.proofs.FitsLemmas.{is_empty-snoc}
+use Rattle.iref_grammar.proofs.ComponentLemmas.{is_some-copied}
 
 -- ---- a mark that the text has
 
@@ -36,19 +39,15 @@ is_some-after mark (c ∷ cs) = elim (eqb_tells c mark) [
       ∙ sym (λ i. e.0 i || char_set_contains cs mark)
 ]
 
-pub same : (rest : Option (Bor Text)) → is_some rest ≡ is_some (option_copied rest)
-same None = refl
-same (Some x) = refl
-
 -- a scheme before the first `:`
 pub looks_like-marked : (text : Text) (rest : Option (Bor Text)) → option_copied rest ≡ after colon text → true ≡ is_some rest → (b : Bool) → b ≡ is_scheme (before (colon ∷ []) text) → b ≡ looks_like_scheme text
 unfolding looks_like_scheme
 looks_like-marked text rest e some b h =
-    h ∙ (λ i. (some ∙ same rest ∙ ap is_some e ∙ is_some-after colon text) i && is_scheme (before (colon ∷ []) text))
+    h ∙ (λ i. (some ∙ is_some-copied rest ∙ ap is_some e ∙ is_some-after colon text) i && is_scheme (before (colon ∷ []) text))
 
 pub looks_like-unmarked : (text : Text) (rest : Option (Bor Text)) → option_copied rest ≡ after colon text → false ≡ is_some rest → false ≡ looks_like_scheme text
 unfolding looks_like_scheme
-looks_like-unmarked text rest e none = λ i. (none ∙ same rest ∙ ap is_some e ∙ is_some-after colon text) i && is_scheme (before (colon ∷ []) text)
+looks_like-unmarked text rest e none = λ i. (none ∙ is_some-copied rest ∙ ap is_some e ∙ is_some-after colon text) i && is_scheme (before (colon ∷ []) text)
 
 -- ---- the directory
 
@@ -82,15 +81,6 @@ is_path-directory set above text k within here h =
 
 -- ---- the parent
 
-all_but_last-push : (front : List Text) (last : Text) → all_but_last (front ++ last ∷ []) ≡ front
-all_but_last-push [] last = refl
-all_but_last-push (s ∷ []) last = refl
-all_but_last-push (s ∷ t ∷ front) last = ap (λ ss. s ∷ ss) (all_but_last-push (t ∷ front) last)
-
-is_empty-push : (front : List Text) (last : Text) → is_empty (front ++ last ∷ []) ≡ false
-is_empty-push [] last = refl
-is_empty-push (s ∷ front) last = refl
-
 -- a list with one segment more
 abbrev one_more : PathValue → Text → PathValue
 one_more q last = record { absolute = q.absolute; segments = q.segments ++ last ∷ [] }
@@ -98,8 +88,8 @@ one_more q last = record { absolute = q.absolute; segments = q.segments ++ last 
 parent-push : (q : PathValue) (last : Text) → (q.absolute || not (is_empty q.segments)) ≡ true → shows_its_list q ≡ true → parent (one_more q last) ≡ Some q
 unfolding parent guarded_list
 parent-push q last flag shown =
-    let kept = all_but_last-push q.segments last in
-    (λ i. cond (not (is_empty-push q.segments last i) && (q.absolute || not (is_empty (kept i)))) (Some (guarded_list (record { absolute = q.absolute; segments = kept i }))) None)
+    let kept = all_but_last-snoc q.segments last in
+    (λ i. cond (not (is_empty-snoc q.segments last i) && (q.absolute || not (is_empty (kept i)))) (Some (guarded_list (record { absolute = q.absolute; segments = kept i }))) None)
     ∙ (λ i. cond (flag i) (Some (guarded_list q)) None) ∙ (λ i. Some (cond (shown i) q (with_dot q)))
 
 -- the text of a path with one segment more

@@ -31,6 +31,7 @@ use Rattle.iref_model.proofs.ItemLemmas.{name_no_parent, normal_segments-is}
 use Rattle.iref_model.proofs.NormalGrammarLemmas.{takes_dots}
 use Rattle.iref_model.proofs.StepSegmentLemmas.{TakesDots, normalized-in}
 use Rattle.iref_model.proofs.PathGrammarLemmas.{segments_of_path}
+use Rattle.iref_model.proofs.RewritingLemmas.{not_lone}
 
 -- ---- segments with a `/` after each
 
@@ -173,13 +174,6 @@ guarded-spelled false (c ∷ s) rest h = by (char_set_contains (c ∷ s) colon)
     by true = refl
     by false = refl
 
-lone-gone : (list : List Text) → is_one_empty (without_lone_empty list) ≡ false
-lone-gone list = by (is_one_empty list) refl
-  where
-    by : (b : Bool) → is_one_empty list ≡ b → is_one_empty (cond b [] list) ≡ false
-    by true e = refl
-    by false e = e
-
 -- where there are segments
 some_guard : Bool → List Text → Bool
 some_guard absolute list = nat_lt 0 (length (each_closed list)) && needs_guard absolute (first_or [] list)
@@ -198,7 +192,7 @@ pub normalized-spelled : (p : PathValue) (list : List Text) (size : ℕ) (first 
     → guard ≡ (nat_lt 0 size && needs_guard p.absolute first) → lead p.absolute guard ++ join_with_byte slash list ≡ spell_path (normalized alone p)
 unfolding some_guard
 normalized-spelled p list size first guard e h k g =
-    let whole : is_one_empty list ≡ false = ap is_one_empty (e ∙ normal_segments-is p) ∙ lone-gone (items p) in
+    let whole : is_one_empty list ≡ false = ap is_one_empty (e ∙ normal_segments-is p) ∙ not_lone (items p) in
     (λ i. lead p.absolute (g i) ++ join_with_byte slash list)
     ∙ (λ i. lead p.absolute (nat_lt 0 (h i) && needs_guard p.absolute (k i)) ++ join_with_byte slash list)
     ∙ sym (list-spelled p.absolute list whole)

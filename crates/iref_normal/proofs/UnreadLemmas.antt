@@ -110,7 +110,3 @@ same_flags true true h = refl
 same_flags true false h = absurd (true≢false h)
 same_flags false true h = absurd (true≢false h)
 same_flags false false h = refl
-
-pub other_flags : (b : Bool) → not b ≡ true → b ≡ false
-other_flags true h = absurd (true≢false (sym h))
-other_flags false h = refl

@@ -42,6 +42,11 @@ fn short_user_infos(rt: HostRuntime) -> Result<(), Fail> {
         accepted!(rt, UserInfo<'_, UriChars>, UserInfoBuf<UriChars>),
         1 + 5 + 25 + 129 + 665
     );
+    Ok(())
+}
+
+#[test]
+fn short_user_infos_of_iris(rt: HostRuntime) -> Result<(), Fail> {
     assert_eq!(rt;
         accepted!(rt, UserInfo<'_, IriChars>, UserInfoBuf<IriChars>),
         1 + 6 + 36 + 220 + 1344

@@ -96,7 +96,7 @@ fn texts_outside_the_grammar_come_back(rt: HostRuntime) -> Result<(), Fail> {
 }
 
 #[test]
-fn uris_have_a_scheme(rt: HostRuntime) -> Result<(), Fail> {
+fn the_empty_text_is_a_reference_and_no_uri(rt: HostRuntime) -> Result<(), Fail> {
     assert_eq!(rt;
         UriRefBuf::<UriChars>::new(String::new(rt.alloc()))?.as_str(),
         ""
@@ -108,11 +108,21 @@ fn uris_have_a_scheme(rt: HostRuntime) -> Result<(), Fail> {
         ""
     );
     assert!(rt; UriBuf::<UriChars>::new(String::new(rt.alloc())).is_err());
+    Ok(())
+}
+
+#[test]
+fn references_without_a_scheme_are_no_uris(rt: HostRuntime) -> Result<(), Fail> {
     let refused = UriBuf::<IriChars>::new(String::from_str(rt.alloc(), "/p")?).err();
     assert_eq!(rt; refused.ok_or("accepted")?.0.as_str(), "/p");
     let relative = UriRefBuf::<UriChars>::new(String::from_str(rt.alloc(), "/p")?)?;
     let refused = UriBuf::try_from(relative).err();
     assert_eq!(rt; refused.ok_or("accepted")?.0.as_str(), "/p");
+    Ok(())
+}
+
+#[test]
+fn a_reference_with_a_scheme_is_a_uri(rt: HostRuntime) -> Result<(), Fail> {
     let reference = UriRefBuf::<UriChars>::new(String::from_str(rt.alloc(), "s:a?q#f")?)?;
     let uri = reference.try_into_uri()?;
     assert_eq!(rt; uri.scheme().as_str(), "s");

@@ -119,18 +119,43 @@ macro_rules! come_back {
 }
 
 #[test]
-fn bytes_that_are_no_utf8(rt: HostRuntime) -> Result<(), Fail> {
+fn bytes_that_are_no_scheme_come_back(rt: HostRuntime) -> Result<(), Fail> {
     come_back!(rt, Scheme<'_>, SchemeBuf);
+    Ok(())
+}
+
+#[test]
+fn bytes_that_are_no_port_come_back(rt: HostRuntime) -> Result<(), Fail> {
     come_back!(rt, Port<'_>, PortBuf);
+    Ok(())
+}
+
+#[test]
+fn bytes_that_are_no_pct_str_come_back(rt: HostRuntime) -> Result<(), Fail> {
     come_back!(rt, PctStr<'_>, PctString);
     Ok(())
 }
 
 #[test]
-fn queries_and_fragments_that_are_no_utf8(rt: HostRuntime) -> Result<(), Fail> {
+fn bytes_that_are_no_query_come_back(rt: HostRuntime) -> Result<(), Fail> {
     come_back!(rt, Query<'_, UriChars>, QueryBuf<UriChars>);
+    Ok(())
+}
+
+#[test]
+fn bytes_that_are_no_query_of_iris_come_back(rt: HostRuntime) -> Result<(), Fail> {
     come_back!(rt, Query<'_, IriChars>, QueryBuf<IriChars>);
+    Ok(())
+}
+
+#[test]
+fn bytes_that_are_no_fragment_come_back(rt: HostRuntime) -> Result<(), Fail> {
     come_back!(rt, Fragment<'_, UriChars>, FragmentBuf<UriChars>);
+    Ok(())
+}
+
+#[test]
+fn bytes_that_are_no_fragment_of_iris_come_back(rt: HostRuntime) -> Result<(), Fail> {
     come_back!(rt, Fragment<'_, IriChars>, FragmentBuf<IriChars>);
     Ok(())
 }
@@ -482,13 +507,18 @@ fn empty_texts(rt: HostRuntime) {
 }
 
 #[test]
-fn owners_give_back_their_texts(rt: HostRuntime) -> Result<(), Fail> {
+fn owned_schemes_and_ports_give_back_their_texts(rt: HostRuntime) -> Result<(), Fail> {
     let scheme = SchemeBuf::try_from(String::from_str(rt.alloc(), "Http")?)?;
     assert_eq!(rt; scheme.as_scheme().as_str(), "Http");
     assert_eq!(rt; scheme.into_bytes().as_slice(), b"Http".as_slice());
     let port = PortBuf::try_from(b"080".to_vec(rt.alloc())?)?;
     assert_eq!(rt; port.as_port().as_str(), "080");
     assert_eq!(rt; port.into_string().as_str(), "080");
+    Ok(())
+}
+
+#[test]
+fn owned_queries_and_fragments_give_back_their_texts(rt: HostRuntime) -> Result<(), Fail> {
     let query = QueryBuf::<IriChars>::try_from(String::from_str(rt.alloc(), "é%41")?)?;
     assert_eq!(rt; query.as_pct_str().as_str(), "é%41");
     assert_eq!(rt; query.into_pct_string().into_string().as_str(), "é%41");

@@ -1,16 +1,17 @@
 use Rattle.std.proofs.Common.{◌≡◌, ◌-◌, ◌+◌, length, arith, sym, ◌∙◌, ap}
 use Rattle.std.proofs.lemmas.List.{length-reverse}
+use Rattle.std.proofs.lemmas.Bool.{not-true}
 use Rattle.iref_grammar.specs.PathValue.{read_path}
 use Rattle.iref_normal.specs.Unread.{segments_unread, steps_count}
 use Rattle.iref_model.proofs.CountedLemmas.{flags_apart}
-use Rattle.iref_normal.proofs.UnreadLemmas.{counted_by_items, same_flags, other_flags}
+use Rattle.iref_normal.proofs.UnreadLemmas.{counted_by_items, same_flags}
 use mathlib.Core.Bool.{beq}
 use Rattle.iref_normal.proofs.equality.path_texts_eq.Goals as goal
 
 pub returns-then-left-right-clause-counted : goal.returns-then-left-right-clause-counted
 returns-then-left-right-clause-counted c =
     flags_apart (read_path c.args.a.now) (read_path c.args.b.now) _ (omega arith)
-    ((λ i. beq (sym c.new-left.ensures.absolute i) (sym c.new-right.ensures.absolute i)) ∙ other_flags _ c.if-left-right.true)
+    ((λ i. beq (sym c.new-left.ensures.absolute i) (sym c.new-right.ensures.absolute i)) ∙ not-true _ c.if-left-right.true)
 
 pub returns-clause-counted : goal.returns-clause-counted
 returns-clause-counted c =
