@@ -1,6 +1,6 @@
 -- Characters and escapes: the test decides the rule.
 use Rattle.std.proofs.Common.{◌≡◌, ℕ, ◌-◌, zero, suc, Bool, true, false, cond, List, [], ◌∷◌, ◌++◌, refl, sym, ◌∙◌, ap, subst, arith, inl, inr}
-use Rattle.std.specs.Prelude.{nat_lt, IsTrue, ◌==◌, if◌then◌else◌, Some, None}
+use Rattle.std.specs.Prelude.{nat_lt, ◌==◌, if◌then◌else◌, Some, None}
 use Rattle.std.specs.List.{AllByRecursion, concat}
 use Rattle.std.specs.Bool.{Decides}
 use Rattle.std.specs.Char.{is_ascii_hexdigit}
@@ -17,9 +17,9 @@ Piece test = OneOf test or IsPctEncoded
 -- hexadecimal digits that are owed, and then pieces
 abbrev Owed : (ℕ → Bool) → ℕ → Rule
 Owed test zero text = IsEncoded test text
-Owed test (suc n) text = (c : ℕ) × (rest : Text) × IsTrue (is_ascii_hexdigit c) × (c ∷ rest ≡ text) × Owed test n rest
+Owed test (suc n) text = (c : ℕ) × (rest : Text) × (is_ascii_hexdigit c ≡ true) × (c ∷ rest ≡ text) × Owed test n rest
 
-escape : (h l : ℕ) → IsTrue (is_ascii_hexdigit h) → IsTrue (is_ascii_hexdigit l) → IsPctEncoded (percent_sign ∷ h ∷ l ∷ [])
+escape : (h l : ℕ) → is_ascii_hexdigit h ≡ true → is_ascii_hexdigit l ≡ true → IsPctEncoded (percent_sign ∷ h ∷ l ∷ [])
 escape h l p q = (percent_sign ∷ [], h ∷ l ∷ [], refl, (h ∷ [], l ∷ [], (h, p, refl), (l, q, refl), refl), refl)
 
 after_escape : (test : ℕ → Bool) (rest : Text) → Owed test 2 rest → IsEncoded test (percent_sign ∷ rest)
@@ -76,10 +76,10 @@ take_char test safe c rest h k = elim (eqb_tells c percent_sign) [
   | inr e ↦ ap (λ o. is_encoded_after test o rest) (by_char test c e.0 ∙ ap (λ b. if b then Some 0 else None) h) ∙ k
 ]
 
-take_digit : (test : ℕ → Bool) (owed h : ℕ) (rest : Text) → IsTrue (is_ascii_hexdigit h) → is_encoded_after test (Some owed) rest ≡ true → is_encoded_after test (Some (suc owed)) (h ∷ rest) ≡ true
+take_digit : (test : ℕ → Bool) (owed h : ℕ) (rest : Text) → is_ascii_hexdigit h ≡ true → is_encoded_after test (Some owed) rest ≡ true → is_encoded_after test (Some (suc owed)) (h ∷ rest) ≡ true
 take_digit test owed h rest p k = ap (λ o. is_encoded_after test o rest) (by_digit test owed h ∙ ap (λ b. if b then Some owed else None) p) ∙ k
 
-take_escape : (test : ℕ → Bool) → (h l : ℕ) (rest : Text) → IsTrue (is_ascii_hexdigit h) → IsTrue (is_ascii_hexdigit l) → is_encoded test rest ≡ true → is_encoded test (percent_sign ∷ h ∷ l ∷ rest) ≡ true
+take_escape : (test : ℕ → Bool) → (h l : ℕ) (rest : Text) → is_ascii_hexdigit h ≡ true → is_ascii_hexdigit l ≡ true → is_encoded test rest ≡ true → is_encoded test (percent_sign ∷ h ∷ l ∷ rest) ≡ true
 take_escape test h l rest p q k =
     ap (λ o. is_encoded_after test o (h ∷ l ∷ rest)) (by_percent test percent_sign refl) ∙ take_digit test 1 h (l ∷ rest) p (take_digit test 0 l rest q k)
 

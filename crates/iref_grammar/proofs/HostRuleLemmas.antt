@@ -14,8 +14,8 @@ use native.Mathlib.Nat.{lt_trans}
 use mathlib.Core.Bool.{true≢false}
 use Rattle.iref_grammar.specs.Characters.{CharTests, AreAboveAscii}
 use Rattle.iref_grammar.specs.Rules.{Text, Rule, OneOf, OneOrMore, ◌or◌, InUtf8}
-use Rattle.iref_grammar.specs.Grammar.{full_stop, left_bracket, right_bracket, percent_sign, is_future_char, is_reg_name_char, IsIpvFuture, IsIpLiteral, IsRegName, IsHost}
-use Rattle.iref_grammar.specs.IpAddresses.{IsIpv4Address, IsIpv6Address, ipv4_value, ipv6_value}
+use Rattle.iref_grammar.specs.Grammar.{full_stop, left_bracket, right_bracket, percent_sign, is_future_char, is_reg_name_char, IsIpv4Address, IsIpv6Address, IsIpvFuture, IsIpLiteral, IsRegName, IsHost}
+use Rattle.iref_grammar.specs.IpAddresses.{ipv4_value, ipv6_value}
 use Rattle.iref_grammar.specs.Texts.{before, after, is_empty, then_part}
 use Rattle.iref_grammar.specs.Tests.{is_encoded, is_future_version, is_future_address, is_ipvfuture, is_ip_address, is_ipv4, is_ipv6, in_brackets, is_ip_literal, some_and, ends_here, is_reg_name, is_host}
 use Rattle.iref_grammar.proofs.TextLemmas.{lacks, first_of_both, second_of_both}
@@ -27,8 +27,10 @@ use Rattle.iref_grammar.proofs.CutLemmas.{cut, before-part, after-part}
 use Rattle.iref_grammar.proofs.HostLemmas.{IsOutside, ipv4_lacks, address_lacks}
 use Rattle.iref_grammar.proofs.ComponentLackLemmas.{literal_parts}
 use Rattle.iref_grammar.proofs.Ipv4Lemmas.{ipv4_value-sound, ipv4_value-complete}
+use Rattle.iref_grammar.proofs.Ipv4RuleLemmas.{ipv4_number, ipv4_in_rule}
 use Rattle.iref_grammar.proofs.Ipv6Lemmas.{ipv6_value-sound}
 use Rattle.iref_grammar.proofs.Ipv6CompleteLemmas.{ipv6_value-complete}
+use Rattle.iref_grammar.proofs.Ipv6RuleLemmas.{ipv6_number, ipv6_in_rule}
 use Rattle.iref_grammar.proofs.Utf8RuleLemmas.{in_utf8-ascii, ascii_from_lacks}
 
 pub Decides-one_or_more : (test : ℕ → Bool) (text : Text) → Decides (not (is_empty text) && list_all test text) (OneOrMore (OneOf test) text)
@@ -82,11 +84,11 @@ Decides-is_ipvfuture text = (future_there text, future_back text)
 -- ---- IP literals
 
 pub Decides-is_ipv6 : (text : Text) → Decides (is_ipv6 text) (IsIpv6Address text)
-Decides-is_ipv6 text = (by (ipv6_value text) refl, λ z. ap is_some (ipv6_value-complete text z.0 z.1))
+Decides-is_ipv6 text = (by (ipv6_value text) refl, λ h. let z = ipv6_number text h in ap is_some (ipv6_value-complete text z.0 z.1))
   where
     by : (o : Option ℕ) → ipv6_value text ≡ o → is_some o ≡ true → IsIpv6Address text
     by None e h = absurd (true≢false (sym h))
-    by (Some n) e h = (n, ipv6_value-sound text n e)
+    by (Some n) e h = ipv6_in_rule text n (ipv6_value-sound text n e)
 
 pub Decides-is_ip_address : (text : Text) → Decides (is_ip_address text) ((IsIpv6Address or IsIpvFuture) text)
 Decides-is_ip_address text = Decides-or (is_ipv6 text) (is_ipvfuture text) (Decides-is_ipv6 text) (Decides-is_ipvfuture text)
@@ -140,11 +142,11 @@ literal_ascii text z = ascii_from_lacks text (λ m h. lack m h)
 
 Decides-is_ipv4 : (text : Text) → Decides (is_ipv4 text) (IsIpv4Address text)
 unfolding is_ipv4
-Decides-is_ipv4 text = (by (ipv4_value text) refl, λ z. ap is_some (ipv4_value-complete text z.0 z.1))
+Decides-is_ipv4 text = (by (ipv4_value text) refl, λ h. let z = ipv4_number text h in ap is_some (ipv4_value-complete text z.0 z.1))
   where
     by : (o : Option ℕ) → ipv4_value text ≡ o → is_some o ≡ true → IsIpv4Address text
     by None e h = absurd (true≢false (sym h))
-    by (Some n) e h = (n, ipv4_value-sound text n e)
+    by (Some n) e h = ipv4_in_rule text n (ipv4_value-sound text n e)
 
 -- a test that decides a rule of ASCII decides it of bytes
 Decides-ascii : (test : Text → Bool) (A : Rule) → ((t : Text) → A t → list_all is_ascii t ≡ true) → ((t : Text) → Decides (test t) (A t))
@@ -157,8 +159,11 @@ address_ascii text z = ascii_from_lacks text (λ m h. address_lacks m (high_outs
 pub Decides-is_ip_literal_bytes : (bytes : Text) → Decides (is_ip_literal bytes) (InUtf8 IsIpLiteral bytes)
 Decides-is_ip_literal_bytes = Decides-ascii is_ip_literal IsIpLiteral literal_ascii Decides-is_ip_literal
 
+ipv4_ascii : (text : Text) → IsIpv4Address text → list_all is_ascii text ≡ true
+ipv4_ascii text h = let z = ipv4_number text h in ascii_from_lacks text (λ m outside. ipv4_lacks m (high_outside m outside) text z.0 z.1)
+
 pub Decides-is_ipv4_bytes : (bytes : Text) → Decides (is_ipv4 bytes) (InUtf8 IsIpv4Address bytes)
-Decides-is_ipv4_bytes = Decides-ascii is_ipv4 IsIpv4Address (λ t z. ascii_from_lacks t (λ m h. ipv4_lacks m (high_outside m h) t z.0 z.1)) Decides-is_ipv4
+Decides-is_ipv4_bytes = Decides-ascii is_ipv4 IsIpv4Address ipv4_ascii Decides-is_ipv4
 
 pub Decides-is_ipv6_bytes : (bytes : Text) → Decides (is_ipv6 bytes) (InUtf8 IsIpv6Address bytes)
 Decides-is_ipv6_bytes = Decides-ascii is_ipv6 IsIpv6Address (λ t z. address_ascii t (inl z)) Decides-is_ipv6
@@ -200,8 +205,8 @@ module _ (set : CharTests) (above : AreAboveAscii set) where
   reg_name_digits (c ∷ cs) h = and_from (is_reg_name_char set c) (list_all (is_reg_name_char set) cs) (reg_name_digit c h.0) (reg_name_digits cs h.1)
 
   pub ipv4_reg_name : (text : Text) → IsIpv4Address text → IsRegName set text
-  ipv4_reg_name text z =
-      let v = z.1 in
+  ipv4_reg_name text h =
+      let v = (ipv4_number text h).1 in
       let test = is_reg_name_char set in
       let d = λ (n : ℕ) (h : n < 256). reg_name_digits (decimal n) ((decimal_is_IsNumeral n (lt_trans h (lit< tt))).0.1) in
       let ones = join_all test 46 reg_name_stop (decimal v.a ∷ decimal v.b ∷ decimal v.c ∷ decimal v.d ∷ [])

@@ -7,9 +7,11 @@ pub mod LeafLemmas
 pub mod CutLemmas
 pub mod SliceLemmas
 pub mod Ipv4Lemmas
+pub mod Ipv4RuleLemmas
 pub mod Ipv6Lemmas
 pub mod HostLemmas
 pub mod Ipv6CompleteLemmas
+pub mod Ipv6RuleLemmas
 pub mod ComponentLackLemmas
 pub mod Utf8RuleLemmas
 pub mod HostRuleLemmas

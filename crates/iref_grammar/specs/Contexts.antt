@@ -1,5 +1,5 @@
 -- What stands before a path, and which paths may stand there (RFC 3986 sections 3.3 and 4.2).
-use Rattle.std.specs.Prelude.{Bool, false, not, ◌&&◌, ◌||◌, cond, codes, List, [], ◌∷◌}
+use Rattle.std.specs.Prelude.{Bool, false, not, ◌&&◌, ◌||◌, if◌then◌else◌, codes, List, [], ◌∷◌}
 use Rattle.std.specs.Char.{char_set_contains}
 use Rattle.std.specs.List.{list_all}
 use Rattle.iref_grammar.specs.declared.places.PathContext.{PathContext}
@@ -22,7 +22,7 @@ begins_with_scheme bytes = char_set_contains (before (codes "/?#") bytes) colon
 abbrev pub has_slashes : Text → Bool
 has_slashes bytes =
     let scheme = begins_with_scheme bytes in
-    begins_with (cond scheme (codes "://") (codes "//")) (cond scheme (from_first (colon ∷ []) bytes) bytes)
+    begins_with (if scheme then codes "://" else codes "//") (if scheme then from_first (colon ∷ []) bytes else bytes)
 
 -- `PathContext::from_bytes`
 unfoldable pub context_from : Text → PathContext

@@ -2,8 +2,8 @@
 use Rattle.std.specs.Prelude.{ℕ, Bool, not, ◌||◌, ◌==◌, codes}
 use Rattle.std.specs.Char.{is_ascii_alphabetic, is_ascii_alphanumeric, is_ascii_digit, is_ascii_hexdigit, char_set_contains}
 use Rattle.iref_grammar.specs.Characters.{CharTests}
-use Rattle.iref_grammar.specs.Rules.{Rule, Empty, Mark, OneOf, ◌⨾◌, ◌or◌, Optional, ZeroOrMore, OneOrMore}
-use Rattle.iref_grammar.specs.IpAddresses.{IsIpv4Address, IsIpv6Address}
+use Rattle.std.specs.Int.{is_in_range}
+use Rattle.iref_grammar.specs.Rules.{Rule, Empty, Mark, Literal, OneOf, ◌⨾◌, ◌or◌, Optional, ZeroOrMore, OneOrMore, Between, Exactly, AtMost}
 
 -- the characters that the rules name
 abbrev pub hash_sign : ℕ
@@ -93,6 +93,45 @@ is_future_char c = is_ascii_alphanumeric c || char_set_contains (codes "-._~") c
 
 abbrev pub IsIpvFuture : Rule
 IsIpvFuture = OneOf (char_set_contains (codes "vV")) ⨾ OneOrMore (OneOf is_ascii_hexdigit) ⨾ Mark full_stop ⨾ OneOrMore (OneOf is_future_char)
+
+-- `dec-octet`
+unfoldable pub IsDecOctet : Rule
+IsDecOctet =
+    OneOf is_ascii_digit
+    or OneOf (is_in_range 0x31 0x39) ⨾ OneOf is_ascii_digit
+    or Literal (codes "1") ⨾ Exactly 2 (OneOf is_ascii_digit)
+    or Literal (codes "2") ⨾ OneOf (is_in_range 0x30 0x34) ⨾ OneOf is_ascii_digit
+    or Literal (codes "25") ⨾ OneOf (is_in_range 0x30 0x35)
+
+unfoldable pub IsIpv4Address : Rule
+IsIpv4Address = IsDecOctet ⨾ Mark full_stop ⨾ IsDecOctet ⨾ Mark full_stop ⨾ IsDecOctet ⨾ Mark full_stop ⨾ IsDecOctet
+
+-- `h16`: a group of 16 bits
+unfoldable pub IsH16 : Rule
+IsH16 = Between 1 4 (OneOf is_ascii_hexdigit)
+
+-- `ls32`: the least significant 32 bits
+unfoldable pub IsLs32 : Rule
+IsLs32 = IsH16 ⨾ Mark colon ⨾ IsH16 or IsIpv4Address
+
+-- `h16 ":"`
+abbrev pub IsH16Colon : Rule
+IsH16Colon = IsH16 ⨾ Mark colon
+
+abbrev pub IsDoubleColon : Rule
+IsDoubleColon = Literal (codes "::")
+
+unfoldable pub IsIpv6Address : Rule
+IsIpv6Address =
+    Exactly 6 IsH16Colon ⨾ IsLs32
+    or IsDoubleColon ⨾ Exactly 5 IsH16Colon ⨾ IsLs32
+    or Optional IsH16 ⨾ IsDoubleColon ⨾ Exactly 4 IsH16Colon ⨾ IsLs32
+    or Optional (AtMost 1 IsH16Colon ⨾ IsH16) ⨾ IsDoubleColon ⨾ Exactly 3 IsH16Colon ⨾ IsLs32
+    or Optional (AtMost 2 IsH16Colon ⨾ IsH16) ⨾ IsDoubleColon ⨾ Exactly 2 IsH16Colon ⨾ IsLs32
+    or Optional (AtMost 3 IsH16Colon ⨾ IsH16) ⨾ IsDoubleColon ⨾ IsH16Colon ⨾ IsLs32
+    or Optional (AtMost 4 IsH16Colon ⨾ IsH16) ⨾ IsDoubleColon ⨾ IsLs32
+    or Optional (AtMost 5 IsH16Colon ⨾ IsH16) ⨾ IsDoubleColon ⨾ IsH16
+    or Optional (AtMost 6 IsH16Colon ⨾ IsH16) ⨾ IsDoubleColon
 
 abbrev pub IsIpLiteral : Rule
 IsIpLiteral = Mark left_bracket ⨾ (IsIpv6Address or IsIpvFuture) ⨾ Mark right_bracket

@@ -1,12 +1,12 @@
 -- IPv4 and IPv6 addresses, with the numbers that they stand for (RFC 3986 section 3.2.2), and the same as tests.
-use Rattle.std.specs.Prelude.{◌≡◌, ℕ, ◌+◌, ◌-◌, ◌*◌, ◌/◌, ◌%◌, ◌<◌, ◌≤◌, ◌&&◌, ◌⊎◌, List, [], ◌∷◌, ◌++◌, length, replicate, fold, decimal}
-use Rattle.std.specs.Prelude.{bytes_eq, codes, drop, map, Option, Some, None, option_map, option_and_then, not, IsTrue, nat_lt, nat_le, ◌==◌}
+use Rattle.std.specs.Prelude.{◌≡◌, ℕ, ◌+◌, ◌-◌, ◌*◌, ◌/◌, ◌%◌, ◌<◌, ◌≤◌, ◌&&◌, ◌⊎◌, List, [], ◌∷◌, ◌++◌, length, replicate, fold, decimal, true}
+use Rattle.std.specs.Prelude.{bytes_eq, codes, drop, map, Option, Some, None, option_map, option_and_then, not, nat_lt, nat_le, ◌==◌}
 use Rattle.std.specs.Prelude.{if◌then◌else◌}
 use Rattle.std.specs.List.{AllZip, join_with_byte, list_all}
 use Rattle.std.specs.Option.{option_or}
 use Rattle.std.specs.Char.{is_ascii_hexdigit}
 use Rattle.std.specs.Str.Parse.{digits_value}
-use Rattle.iref_grammar.specs.Rules.{Text, Rule}
+use Rattle.iref_grammar.specs.Rules.{Text}
 use Rattle.iref_grammar.specs.Texts.{pieces_at, is_empty, begins_with}
 
 -- the number of parts below base, the first one highest
@@ -27,7 +27,7 @@ pub record IsIpv4 (text : Text) (n : ℕ) : Type 0 where
 pub record IsGroup (text : Text) (n : ℕ) : Type 0 where
   pub nonempty : 0 < length text
   pub short : length text ≤ 4
-  pub digits : IsTrue (list_all is_ascii_hexdigit text)
+  pub digits : list_all is_ascii_hexdigit text ≡ true
   pub value : n ≡ digits_value 16 text
 
 -- groups with `:` between; none is the empty text
@@ -71,13 +71,6 @@ IsFullIpv6 text groups = AreLastGroups text groups × (length groups ≡ 8)
 -- eight groups, in full or with `::`, and their number
 abbrev pub IsIpv6 : Text → ℕ → Type 0
 IsIpv6 text n = (groups : List ℕ) × (IsFullIpv6 text groups ⊎ IsShortIpv6 text groups) × (n ≡ number_of 65536 groups)
-
--- the rules `IPv4address` and `IPv6address`
-abbrev pub IsIpv4Address : Rule
-IsIpv4Address text = (n : ℕ) × IsIpv4 text n
-
-abbrev pub IsIpv6Address : Rule
-IsIpv6Address text = (n : ℕ) × IsIpv6 text n
 
 -- ---- the same, computed
 

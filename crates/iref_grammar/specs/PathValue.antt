@@ -1,5 +1,5 @@
 -- Paths as lists of segments (RFC 3986 section 3.3).
-use Rattle.std.specs.Prelude.{◌≡◌, Bool, true, false, not, ◌&&◌, List, [], ◌∷◌, ◌++◌, ◌==◌, IsTrue, if◌then◌else◌}
+use Rattle.std.specs.Prelude.{◌≡◌, Bool, true, false, not, ◌&&◌, List, [], ◌∷◌, ◌++◌, ◌==◌, if◌then◌else◌}
 use Rattle.std.specs.List.{join_with_byte, list_all}
 use Rattle.std.specs.Char.{char_set_contains}
 use Rattle.iref_grammar.specs.Rules.{Text}
@@ -31,8 +31,8 @@ shows_its_list p = if p.absolute then not (is_one_empty p.segments) else not (be
 
 -- the text is read as this path: no segment holds a `/`
 pub record IsReadAs (text : Text) (p : PathValue) : Type 0 where
-  pub segments : IsTrue (list_all (λ s. not (char_set_contains s slash)) p.segments)
-  pub shown : IsTrue (shows_its_list p)
+  pub segments : list_all (λ s. not (char_set_contains s slash)) p.segments ≡ true
+  pub shown : shows_its_list p ≡ true
   pub spelled : spell_path p ≡ text
 
 -- ---- the same, computed

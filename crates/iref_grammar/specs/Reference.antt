@@ -1,5 +1,5 @@
 -- References in components (RFC 3986 sections 4.1 and 5.3).
-use Rattle.std.specs.Prelude.{◌≡◌, Bool, ◌&&◌, [], ◌∷◌, ◌++◌, drop, codes, Option, Some, None, IfSome, IsTrue, is_some, option_map, if◌then◌else◌}
+use Rattle.std.specs.Prelude.{◌≡◌, Bool, ◌&&◌, [], ◌∷◌, ◌++◌, drop, codes, Option, Some, None, IfSome, is_some, option_map, if◌then◌else◌, true}
 use Rattle.std.specs.List.{AllByRecursion, list_all}
 use Rattle.std.specs.Char.{char_set_contains}
 use Rattle.iref_grammar.specs.declared.places.PathContext.{PathContext}
@@ -36,8 +36,8 @@ pub record IsReadable (set : CharTests) (r : ReferenceValue) : Type 0 where
   pub segments : AllByRecursion (InUtf8 (IsSegment set)) r.path.segments
   pub query : IfSome r.query (InUtf8 (IsQuery set))
   pub fragment : IfSome r.fragment (InUtf8 (IsFragment set))
-  pub follows_authority : IsTrue (follows_authority (context_of r) r.path)
-  pub reads_as_path : IsTrue (reads_as_path (context_of r) r.path)
+  pub follows_authority : follows_authority (context_of r) r.path ≡ true
+  pub reads_as_path : reads_as_path (context_of r) r.path ≡ true
 
 -- the text is read as this reference
 pub record IsReadAsReference (set : CharTests) (text : Text) (r : ReferenceValue) : Type 0 where

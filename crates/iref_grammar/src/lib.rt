@@ -1,4 +1,5 @@
-//! The definitions of URIs and IRIs (RFC 3986, RFC 3987) and their laws: grammar, values, spelling and reading.
+//! The definitions of URIs and IRIs (RFC 3986, RFC 3987) and their laws: grammar, values, spelling
+//! and reading.
 #![tactic(auto)]
 
 pub mod authority_laws;

@@ -3,7 +3,6 @@
 
 ghost use Rattle.std.specs.Prelude.{◌≡◌, ◌↔◌, Bool, true, false};
 ghost use Rattle.std.specs.List.{list_all};
-ghost use Rattle.std.specs.Bool.{Decides};
 ghost use Rattle.iref_grammar.specs.declared.places.PathContext.{PathContext};
 ghost use Rattle.iref_grammar.specs.Rules.{Text, ◌or◌, Empty, InUtf8};
 ghost use Rattle.iref_grammar.specs.Grammar.{IsAbEmptyPath, IsAbsolutePath, IsRootlessPath, IsNoSchemePath};
@@ -13,9 +12,11 @@ ghost use Rattle.iref_grammar.specs.Contexts.{is_readable_path, is_path_in, alon
 
 use crate::chars::CharSet;
 
-/// A text is in the rule `path` exactly if each segment that is read from it is in the rule `segment`.
+/// A text is in the rule `path` exactly if each segment that is read from it is in the rule
+/// `segment`.
 pub fn path_segments_tested<S: CharSet>()
-    ensures { (bytes : Text) → is_path S.tests bytes ≡ list_all (is_segment S.tests) (read_path bytes).segments }
+    ensures { (bytes : Text)
+        → is_path S.tests bytes ≡ list_all (is_segment S.tests) (read_path bytes).segments }
 {}
 
 /// Every text is read as one path, which is the one that is computed.
@@ -25,24 +26,32 @@ pub fn path_reading()
 
 /// A readable path is the one that is read from its text, which is one of a path in the context.
 pub fn readable_paths_are_read_back<S: CharSet>()
-    ensures value { (context : PathContext) (p : PathValue) → is_readable_path S.tests context p ≡ true → read_path (spell_path p) ≡ p }
-    ensures text { (context : PathContext) (p : PathValue) → is_readable_path S.tests context p ≡ true
+    ensures value { (context : PathContext) (p : PathValue)
+        → is_readable_path S.tests context p ≡ true → read_path (spell_path p) ≡ p }
+    ensures text { (context : PathContext) (p : PathValue)
+        → is_readable_path S.tests context p ≡ true
         → is_path_in S.tests context (spell_path p) ≡ true }
 {}
 
 /// A path that may follow an authority is one of the rule `path-abempty`.
 pub fn path_after_authority_grammar<S: CharSet>()
-    ensures { (has_scheme : Bool) (bytes : Text) → let context : PathContext = record { has_scheme = has_scheme; has_authority = true } in
-        Decides (is_path_in S.tests context bytes) (InUtf8 (IsAbEmptyPath S.tests) bytes) }
+    ensures { (has_scheme : Bool) (bytes : Text)
+        → let context : PathContext = record { has_scheme = has_scheme; has_authority = true } in
+        (is_path_in S.tests context bytes ≡ true) ↔ InUtf8 (IsAbEmptyPath S.tests) bytes }
 {}
 
-/// A path that may follow a scheme is one of the rules `path-absolute`, `path-rootless` and `path-empty`.
+/// A path that may follow a scheme is one of the rules `path-absolute`, `path-rootless` and
+/// `path-empty`.
 pub fn path_after_scheme_grammar<S: CharSet>()
-    ensures { (bytes : Text) → let context : PathContext = record { has_scheme = true; has_authority = false } in
-        Decides (is_path_in S.tests context bytes) (InUtf8 (IsAbsolutePath S.tests or IsRootlessPath S.tests or Empty) bytes) }
+    ensures { (bytes : Text)
+        → let context : PathContext = record { has_scheme = true; has_authority = false } in
+        (is_path_in S.tests context bytes ≡ true)
+        ↔ InUtf8 (IsAbsolutePath S.tests or IsRootlessPath S.tests or Empty) bytes }
 {}
 
-/// A path that may stand alone is one of the rules `path-absolute`, `path-noscheme` and `path-empty`.
+/// A path that may stand alone is one of the rules `path-absolute`, `path-noscheme` and
+/// `path-empty`.
 pub fn path_alone_grammar<S: CharSet>()
-    ensures { (bytes : Text) → Decides (is_path_in S.tests alone bytes) (InUtf8 (IsAbsolutePath S.tests or IsNoSchemePath S.tests or Empty) bytes) }
+    ensures { (bytes : Text) → (is_path_in S.tests alone bytes ≡ true)
+        ↔ InUtf8 (IsAbsolutePath S.tests or IsNoSchemePath S.tests or Empty) bytes }
 {}

@@ -12,7 +12,8 @@ pub struct PathContext {
     pub has_authority: bool,
 }
 
-/// Where the components of a reference stand in its text, in bytes, without `:`, `//`, `?` and `#` (RFC 3986 section 5.3).
+/// Where the components of a reference stand in its text, in bytes, without `:`, `//`, `?` and `#`
+/// (RFC 3986 section 5.3).
 #[derive(Clone, Debug, PartialEq, Eq, Drop)]
 pub struct Offsets {
     /// The scheme, if there is one.

@@ -1,8 +1,7 @@
 //! Laws of references: each is the contract of a function that does nothing.
 #![tactic(auto)]
 
-ghost use Rattle.std.specs.Prelude.{◌≡◌, ◌↔◌, IsTrue, IsSome, option_map};
-ghost use Rattle.std.specs.Bool.{Decides};
+ghost use Rattle.std.specs.Prelude.{◌≡◌, ◌↔◌, IsSome, option_map, true};
 ghost use Rattle.iref_grammar.specs.Characters.{uri_chars};
 ghost use Rattle.iref_grammar.specs.Rules.{Text, InUtf8};
 ghost use Rattle.iref_grammar.specs.Grammar.{IsUri, IsUriReference};
@@ -16,17 +15,19 @@ use crate::chars::CharSet;
 
 /// The test of references with a scheme decides the rule `URI`.
 pub fn uri_grammar<S: CharSet>()
-    ensures { (bytes : Text) → Decides (is_full_reference S.tests bytes) (InUtf8 (IsUri S.tests) bytes) }
+    ensures { (bytes : Text) → (is_full_reference S.tests bytes ≡ true)
+        ↔ InUtf8 (IsUri S.tests) bytes }
 {}
 
 /// The test of references decides the rule `URI-reference`.
 pub fn reference_grammar<S: CharSet>()
-    ensures { (bytes : Text) → Decides (is_reference S.tests bytes) (InUtf8 (IsUriReference S.tests) bytes) }
+    ensures { (bytes : Text) → (is_reference S.tests bytes ≡ true)
+        ↔ InUtf8 (IsUriReference S.tests) bytes }
 {}
 
 /// The test of readable references decides what it is to be readable.
 pub fn readable_tested<S: CharSet>()
-    ensures { (r : ReferenceValue) → Decides (is_readable S.tests r) (IsReadable S.tests r) }
+    ensures { (r : ReferenceValue) → (is_readable S.tests r ≡ true) ↔ IsReadable S.tests r }
 {}
 
 /// The components that are read from a text spell it.
@@ -41,18 +42,20 @@ pub fn reference_read_back<S: CharSet>()
 
 /// No two readable references spell one text.
 pub fn one_reference_a_text<S: CharSet>()
-    ensures { (q r : ReferenceValue) → IsReadable S.tests q → IsReadable S.tests r → spell q ≡ spell r → q ≡ r }
+    ensures { (q r : ReferenceValue) → IsReadable S.tests q → IsReadable S.tests r
+        → spell q ≡ spell r → q ≡ r }
 {}
 
 /// What a text is read as: the reference that is computed, where the text is in the grammar.
 pub fn reference_reading<S: CharSet>()
     ensures { (text : Text) (r : ReferenceValue) → IsReadAsReference S.tests text r
-        ↔ (IsTrue (is_reference S.tests text) × (read_reference text ≡ r)) }
+        ↔ ((is_reference S.tests text ≡ true) × (read_reference text ≡ r)) }
 {}
 
 /// A text is in the grammar exactly if a readable reference spells it.
 pub fn references_spelled<S: CharSet>()
-    ensures { (bytes : Text) → InUtf8 (IsUriReference S.tests) bytes ↔ ((r : ReferenceValue) × IsReadable S.tests r × (spell r ≡ bytes)) }
+    ensures { (bytes : Text) → InUtf8 (IsUriReference S.tests) bytes
+        ↔ ((r : ReferenceValue) × IsReadable S.tests r × (spell r ≡ bytes)) }
 {}
 
 /// A text is a URI exactly if a readable reference with a scheme spells it.
@@ -63,12 +66,17 @@ pub fn uris_spelled<S: CharSet>()
 
 /// Each component that is read from a text stands at its place in it.
 pub fn places_hold_the_components()
-    ensures scheme { (text : Text) → option_map (text_at text) (places_of text).scheme ≡ (read_reference text).scheme }
-    ensures authority { (text : Text) → option_map (text_at text) (places_of text).authority
+    ensures scheme { (text : Text)
+        → option_map (text_at text) (places_of text).scheme ≡ (read_reference text).scheme }
+    ensures authority { (text : Text)
+        → option_map (text_at text) (places_of text).authority
         ≡ option_map spell_authority (read_reference text).authority }
-    ensures path { (text : Text) → text_at text (places_of text).path ≡ spell_path (read_reference text).path }
-    ensures query { (text : Text) → option_map (text_at text) (places_of text).query ≡ (read_reference text).query }
-    ensures fragment { (text : Text) → option_map (text_at text) (places_of text).fragment ≡ (read_reference text).fragment }
+    ensures path { (text : Text)
+        → text_at text (places_of text).path ≡ spell_path (read_reference text).path }
+    ensures query { (text : Text)
+        → option_map (text_at text) (places_of text).query ≡ (read_reference text).query }
+    ensures fragment { (text : Text)
+        → option_map (text_at text) (places_of text).fragment ≡ (read_reference text).fragment }
 {}
 
 /// What is readable as a URI is so in each grammar, by the same components.
@@ -78,10 +86,13 @@ pub fn uri_readable<S: CharSet>()
 
 /// A URI reference is in each grammar.
 pub fn uri_reference_in_each_grammar<S: CharSet>()
-    ensures { (bytes : Text) → IsTrue (is_reference uri_chars bytes) → IsTrue (is_reference S.tests bytes) }
+    ensures { (bytes : Text) → is_reference uri_chars bytes ≡ true
+        → is_reference S.tests bytes ≡ true }
 {}
 
-/// The path that is read from a text may stand where it does, so a text is a reference exactly if each of its components is in its rule.
+/// The path that is read from a text may stand where it does, so a text is a reference exactly if
+/// each of its components is in its rule.
 pub fn components_tested<S: CharSet>()
-    ensures { (text : Text) (s : ComponentTexts) → read_components s ≡ read_reference text → Decides (is_reference S.tests text) (AreComponents S.tests s) }
+    ensures { (text : Text) (s : ComponentTexts) → read_components s ≡ read_reference text
+        → (is_reference S.tests text ≡ true) ↔ AreComponents S.tests s }
 {}

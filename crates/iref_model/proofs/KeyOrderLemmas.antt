@@ -1,55 +1,100 @@
--- Keys that tie are the same, are fed alike, and are in a total order.
-use Rattle.std.proofs.Common.{◌≡◌, true, refl, sym, ap, Some, None, Ordering, is_eq}
+-- Keys of texts, authorities, paths and references: each order is total, and keys that tie are the same.
+use Rattle.std.proofs.Common.{◌≡◌, ◌↔◌, true, false, [], ◌∷◌, refl, sym, ◌∙◌, ap, Some, None, Ordering, Less, Equal, Greater, is_eq}
 use Rattle.std.specs.Option.{option_cmp}
-use Rattle.std.specs.Cmp.{IsTotalOrder, on_total, then_total}
-use Rattle.std.specs.Cmp.Lexicographic.{nat_list_cmp_total, options_total}
+use Rattle.std.specs.Ordering.{ordering_then, bool_cmp}
+use Rattle.std.specs.Cmp.{IsTotalOrder, on_total, then_total, tied_itself}
+use Rattle.std.specs.Cmp.Lexicographic.{slice_cmp, bytes_decides, nat_list_cmp_total, options_total}
+use Rattle.std.proofs.lemmas.Map.Text.{is_eq-slice_cmp}
 use mathlib.Core.Bool.{true≢false}
 use Rattle.iref_grammar.specs.Reference.{ReferenceValue}
-use Rattle.iref_model.specs.AuthorityKey.{authority_key_cmp, authority_keys_total}
-use Rattle.iref_model.specs.PathKey.{path_key_cmp, path_keys_total}
-use Rattle.iref_model.proofs.PathKeyLemmas.{Tells, both_tie, Tells-text, Tells-path}
-use Rattle.iref_model.specs.Key.{key_cmp, fed_reference}
 use Rattle.iref_grammar.specs.Keys.{text_order}
+use Rattle.iref_model.specs.AuthorityKey.{authority_key_cmp}
+use Rattle.iref_model.specs.PathKey.{path_key_cmp}
+use Rattle.iref_model.specs.Key.{key_cmp, fed_reference}
+pub use Rattle.iref_model.specs.AuthorityKey.{authority_keys_total}
+pub use Rattle.iref_model.specs.PathKey.{path_keys_total}
 
-pub Tells-option : {A : Type 0} (cmp : A → A → Ordering) → Tells cmp → Tells (option_cmp cmp)
-Tells-option cmp tells None None h = refl
-Tells-option cmp tells None (Some y) h = absurd (true≢false (sym h))
-Tells-option cmp tells (Some x) None h = absurd (true≢false (sym h))
-Tells-option cmp tells (Some x) (Some y) h = ap Some (tells x y h)
+-- ---- the orders are total, as those of authorities and paths
 
-pub Tells-authority : Tells authority_key_cmp
-Tells-authority a b h =
-    let first = both_tie (option_cmp text_order a.user_info b.user_info) _ h in
-    let second = both_tie (text_order a.host b.host) _ first.1 in
-    λ i. record {
-      user_info = Tells-option text_order Tells-text a.user_info b.user_info first.0 i;
-      host = Tells-text a.host b.host second.0 i;
-      port = Tells-option text_order Tells-text a.port b.port second.1 i;
-    }
-
-pub Tells-key : Tells key_cmp
-unfolding key_cmp
-Tells-key r s h =
-    let one = both_tie (option_cmp text_order r.scheme s.scheme) _ h in
-    let two = both_tie (option_cmp authority_key_cmp r.authority s.authority) _ one.1 in
-    let three = both_tie (path_key_cmp r.path s.path) _ two.1 in
-    let four = both_tie (option_cmp text_order r.query s.query) _ three.1 in
-    let scheme = Tells-option text_order Tells-text r.scheme s.scheme one.0 in
-    let authority = Tells-option authority_key_cmp Tells-authority r.authority s.authority two.0 in
-    let path = Tells-path r.path s.path three.0 in
-    let query = Tells-option text_order Tells-text r.query s.query four.0 in
-    let fragment = Tells-option text_order Tells-text r.fragment s.fragment four.1 in
-    λ i. record { scheme = scheme i; authority = authority i; path = path i; query = query i; fragment = fragment i }
+pub texts_total : IsTotalOrder text_order
+texts_total = nat_list_cmp_total
 
 pub keys_total : IsTotalOrder key_cmp
 unfolding key_cmp
 keys_total =
-    then_total (on_total (λ (r : ReferenceValue). r.scheme) (options_total nat_list_cmp_total))
+    then_total (on_total (λ (r : ReferenceValue). r.scheme) (options_total texts_total))
     (then_total (on_total (λ (r : ReferenceValue). r.authority) (options_total authority_keys_total))
     (then_total (on_total (λ (r : ReferenceValue). r.path) path_keys_total)
-    (then_total (on_total (λ (r : ReferenceValue). r.query) (options_total nat_list_cmp_total))
-    (on_total (λ (r : ReferenceValue). r.fragment) (options_total nat_list_cmp_total)))))
+    (then_total (on_total (λ (r : ReferenceValue). r.query) (options_total texts_total))
+    (on_total (λ (r : ReferenceValue). r.fragment) (options_total texts_total)))))
+
+-- ---- what ties is the same
+
+abbrev pub Tells : {A : Type 0} → (A → A → Ordering) → Type 0
+Tells {A} cmp = (x y : A) → is_eq (cmp x y) ≡ true → x ≡ y
+
+pub both_tie : (a b : Ordering) → is_eq (ordering_then a b) ≡ true → (is_eq a ≡ true) × (is_eq b ≡ true)
+both_tie Less b h = absurd (true≢false (sym h))
+both_tie Equal b h = (refl, h)
+both_tie Greater b h = absurd (true≢false (sym h))
+
+flags_tell : Tells bool_cmp
+flags_tell true true h = refl
+flags_tell true false h = absurd (true≢false (sym h))
+flags_tell false true h = absurd (true≢false (sym h))
+flags_tell false false h = refl
+
+pub options_tell : {A : Type 0} (cmp : A → A → Ordering) → Tells cmp → Tells (option_cmp cmp)
+options_tell cmp tell None None h = refl
+options_tell cmp tell None (Some y) h = absurd (true≢false (sym h))
+options_tell cmp tell (Some x) None h = absurd (true≢false (sym h))
+options_tell cmp tell (Some x) (Some y) h = ap Some (tell x y h)
+
+lists_tell : {A : Type 0} (cmp : A → A → Ordering) → Tells cmp → Tells (slice_cmp cmp)
+lists_tell cmp tell [] [] h = refl
+lists_tell cmp tell [] (y ∷ ys) h = absurd (true≢false (sym h))
+lists_tell cmp tell (x ∷ xs) [] h = absurd (true≢false (sym h))
+lists_tell cmp tell (x ∷ xs) (y ∷ ys) h =
+    let both = both_tie (cmp x y) (slice_cmp cmp xs ys) h in
+    let rest = lists_tell cmp tell xs ys both.1 in
+    λ i. tell x y both.0 i ∷ rest i
+
+pub texts_tell : Tells text_order
+texts_tell x y h = (bytes_decides x y).0 (sym (is_eq-slice_cmp x y) ∙ h)
+
+pub authority_keys_tell : Tells authority_key_cmp
+authority_keys_tell a b h =
+    let first = both_tie (option_cmp text_order a.user_info b.user_info) _ h in
+    let second = both_tie (text_order a.host b.host) _ first.1 in
+    λ i. record {
+      user_info = options_tell text_order texts_tell a.user_info b.user_info first.0 i;
+      host = texts_tell a.host b.host second.0 i;
+      port = options_tell text_order texts_tell a.port b.port second.1 i;
+    }
+
+pub path_keys_tell : Tells path_key_cmp
+path_keys_tell p q h =
+    let both = both_tie (bool_cmp p.absolute q.absolute) _ h in
+    λ i. record { absolute = flags_tell p.absolute q.absolute both.0 i; segments = lists_tell text_order texts_tell p.segments q.segments both.1 i }
+
+pub keys_tell : Tells key_cmp
+unfolding key_cmp
+keys_tell r s h =
+    let one = both_tie (option_cmp text_order r.scheme s.scheme) _ h in
+    let two = both_tie (option_cmp authority_key_cmp r.authority s.authority) _ one.1 in
+    let three = both_tie (path_key_cmp r.path s.path) _ two.1 in
+    let four = both_tie (option_cmp text_order r.query s.query) _ three.1 in
+    let scheme = options_tell text_order texts_tell r.scheme s.scheme one.0 in
+    let authority = options_tell authority_key_cmp authority_keys_tell r.authority s.authority two.0 in
+    let path = path_keys_tell r.path s.path three.0 in
+    let query = options_tell text_order texts_tell r.query s.query four.0 in
+    let fragment = options_tell text_order texts_tell r.fragment s.fragment four.1 in
+    λ i. record { scheme = scheme i; authority = authority i; path = path i; query = query i; fragment = fragment i }
+
+-- in a total order that tells, to tie is to be the same
+pub tied_exactly : {K : Type 0} {order : K → K → Ordering} → IsTotalOrder order → Tells order → (a b : K) → (is_eq (order a b) ≡ true) ↔ (a ≡ b)
+tied_exactly {order = order} total tell a b = (tell a b, λ same. (λ i. is_eq (order a (sym same i))) ∙ ap is_eq (tied_itself total a))
 
 -- and what is the same is fed alike
 pub fed_where_tied : (k l : ReferenceValue) → is_eq (key_cmp k l) ≡ true → fed_reference k ≡ fed_reference l
-fed_where_tied k l h = ap fed_reference (Tells-key k l h)
+fed_where_tied k l h = ap fed_reference (keys_tell k l h)

@@ -21,14 +21,20 @@ pub mod PieceLemmas
 pub mod DirectoryLemmas
 pub mod PathGrammarLemmas
 pub mod NormalGrammarLemmas
-pub mod PathKeyLemmas
 pub mod LeadingLemmas
 pub mod KeyOrderLemmas
+pub mod PathKeyLemmas
+pub mod TieLemmas
 pub mod KeyLemmas
+pub mod PartTieLemmas
 pub mod RelativeLemmas
 pub mod ReadableRelativeLemmas
 pub mod ResolvedLemmas
 pub mod ReferenceStepLemmas
+pub mod PortNumberLemmas
+pub mod ZeroRunLemmas
+pub mod HostNumberLemmas
+pub mod Ipv6TextLemmas
 mod ResolutionRows
 mod RelativeRows
 mod ReferenceRows

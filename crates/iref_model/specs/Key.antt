@@ -1,5 +1,5 @@
 -- What references are compared by (RFC 3986 section 6.2.2), with no rules of schemes.
-use Rattle.std.specs.Prelude.{◌≡◌, ◌++◌, Bool, Decides, option_map}
+use Rattle.std.specs.Prelude.{◌≡◌, ◌++◌, Bool, option_map}
 use Rattle.std.specs.Option.{option_cmp}
 use Rattle.std.specs.Str.{str_to_ascii_lowercase}
 use Rattle.std.specs.declared.cmp.Ordering.{Ordering}
@@ -42,10 +42,3 @@ are_alike r s = is_eq (key_cmp (key r) (key s))
 unfoldable pub fed_reference : ReferenceValue → HashWrites
 fed_reference k =
     option fed_bytes k.scheme ++ option fed_authority k.authority ++ fed_path k.path ++ option fed_bytes k.query ++ option fed_bytes k.fragment
-
--- values are equal where their keys are the same, in the order of their keys, and a hasher is fed the key
-abbrev pub ComparesByKey : {V : Type 0} → (V → ReferenceValue) → (V → V → Bool) → (V → V → Ordering) → (V → HashWrites) → Type 0
-ComparesByKey {V} value eq cmp hash_input =
-    ((a b : V) → Decides (eq a b) (AreAlike (value a) (value b)))
-    × ((a b : V) → cmp a b ≡ key_cmp (key (value a)) (key (value b)))
-    × ((v : V) → hash_input v ≡ fed_reference (key (value v)))

@@ -1,5 +1,5 @@
 -- What the laws of relative references speak of.
-use Rattle.std.specs.Prelude.{◌≡◌, ◌≤◌, false, List, IsTrue, IsFalse, None, is_some}
+use Rattle.std.specs.Prelude.{◌≡◌, ◌≤◌, false, List, None, is_some, true}
 use Rattle.iref_grammar.specs.Characters.{CharTests}
 use Rattle.iref_grammar.specs.Rules.{Text}
 use Rattle.iref_grammar.specs.Texts.{is_empty}
@@ -11,15 +11,15 @@ use Rattle.iref_model.specs.Relative.{schemes_agree, have_same_authority, with_o
 
 -- a readable target, and a readable base with a scheme
 pub record AreTargetAndBase (set : CharTests) (target base : ReferenceValue) : Type 0 where
-  pub readable_target : IsTrue (is_readable set target)
-  pub readable_base : IsTrue (is_readable set base)
-  pub full_base : IsTrue (is_some base.scheme)
+  pub readable_target : is_readable set target ≡ true
+  pub readable_base : is_readable set base ≡ true
+  pub full_base : is_some base.scheme ≡ true
 
 -- scheme and authority agree, and the target's path begins at the root
 pub record DoAgree (target base : ReferenceValue) : Type 0 where
-  pub scheme : IsTrue (schemes_agree target base)
-  pub authority : IsTrue (have_same_authority target base)
-  pub root : IsTrue target.path.absolute
+  pub scheme : schemes_agree target base ≡ true
+  pub authority : have_same_authority target base ≡ true
+  pub root : target.path.absolute ≡ true
 
 -- neither scheme nor authority
 pub record IsOnlyPath (r : ReferenceValue) : Type 0 where
@@ -37,5 +37,5 @@ relative_path_to target segments = with_only_path (record { absolute = false; se
 -- no relative path that leads to the target has fewer `..`
 abbrev pub ClimbsLeast : ReferenceValue → ReferenceValue → ReferenceValue → Type 0
 ClimbsLeast target base answer =
-    (segments : List Text) → IsFalse (is_empty segments) → Leads base (relative_path_to target segments) target
+    (segments : List Text) → is_empty segments ≡ false → Leads base (relative_path_to target segments) target
     → count_parents answer.path.segments ≤ count_parents segments

@@ -1,6 +1,6 @@
 //! Laws of the comparison of references: each is the contract of a function that does nothing.
 
-ghost use Rattle.std.specs.Prelude.{Decides};
+ghost use Rattle.std.specs.Prelude.{true, ◌≡◌, ◌↔◌};
 ghost use Rattle.std.specs.Cmp.{IsTotalOrder};
 ghost use Rattle.std.specs.Ordering.{on};
 ghost use Rattle.iref_grammar.specs.Reference.{ReferenceValue};
@@ -8,7 +8,7 @@ ghost use Rattle.iref_model.specs.Key.{AreAlike, are_alike, key, key_cmp};
 
 /// The comparison of two references is Equal exactly where their keys are the same.
 pub fn references_tie_by_key()
-    ensures { (r s : ReferenceValue) → Decides (are_alike r s) (AreAlike r s) }
+    ensures { (r s : ReferenceValue) → (are_alike r s ≡ true) ↔ AreAlike r s }
 {}
 
 /// References are in a total order, that of their keys.

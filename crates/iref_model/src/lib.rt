@@ -1,7 +1,9 @@
-//! What the calls mean (RFC 3986 sections 5 and 6): normal forms, steps of edits, resolution, comparison, relative references, lines; with the laws about them.
+//! What the calls mean (RFC 3986 sections 5 and 6): normal forms, steps of edits, resolution,
+//! comparison, relative references, numbers of hosts and ports, lines; with the laws about them.
 #![tactic(auto)]
 
 pub mod key_laws;
+pub mod number_laws;
 pub mod path_laws;
 pub mod relative_laws;
 pub mod resolution_laws;

@@ -1,15 +1,15 @@
 //! Laws of paths: each is the contract of a function that does nothing.
 
-ghost use Rattle.std.specs.Prelude.{◌≡◌, Bool, true, ◌==◌, List, [], Decides};
+ghost use Rattle.std.specs.Prelude.{◌≡◌, Bool, true, ◌==◌, List, [], ◌↔◌};
 ghost use Rattle.std.specs.List.{list_all};
-ghost use Rattle.iref_grammar.specs.declared.places.PathContext.{PathContext};
-ghost use Rattle.iref_grammar.specs.Rules.{Text};
 ghost use Rattle.iref_grammar.specs.Characters.{CharTests};
+ghost use Rattle.iref_grammar.specs.Contexts.{alone, follows_authority, fits, is_readable_path};
 ghost use Rattle.iref_grammar.specs.Grammar.{slash};
+ghost use Rattle.iref_grammar.specs.PathValue.{PathValue, spell_path, read_path, shows_its_list};
+ghost use Rattle.iref_grammar.specs.Rules.{Text};
 ghost use Rattle.iref_grammar.specs.Tests.{is_segment};
 ghost use Rattle.iref_grammar.specs.Texts.{lacks};
-ghost use Rattle.iref_grammar.specs.PathValue.{PathValue, spell_path, read_path, shows_its_list};
-ghost use Rattle.iref_grammar.specs.Contexts.{alone, follows_authority, fits, is_readable_path};
+ghost use Rattle.iref_grammar.specs.declared.places.PathContext.{PathContext};
 ghost use Rattle.iref_model.specs.Guard.{guarded, guarded_list};
 ghost use Rattle.iref_model.specs.NormalList.{stays_before, excess, open_parents, normal, normal_segments};
 ghost use Rattle.iref_model.specs.NormalReading.{NormalRest, items_left, whole_rest, first_left, last_left, GivesFirst, GivesLast};
@@ -27,29 +27,40 @@ pub fn directory_is_all_up_to_the_last_slash()
 
 /// A guarded path is read back as it stands; and a guarded list shows in its spelling.
 pub fn guarded_paths_are_readable()
-    ensures context { (context : PathContext) (p : PathValue) → fits context (guarded context p) ≡ true }
+    ensures context { (context : PathContext) (p : PathValue)
+        → fits context (guarded context p) ≡ true }
     ensures list { (p : PathValue) → shows_its_list (guarded_list p) ≡ true }
 {}
 
 /// Each step of a path keeps it readable in its context.
 pub fn path_steps_keep_paths_readable()
-    ensures lazy_push { (set : CharTests) (context : PathContext) (s : Text) (p : PathValue) → is_segment set s ≡ true
-        → is_readable_path set context p ≡ true → is_readable_path set context (lazy_pushed context s p) ≡ true }
-    ensures push { (set : CharTests) (context : PathContext) (s : Text) (p : PathValue) → is_segment set s ≡ true
-        → is_readable_path set context p ≡ true → is_readable_path set context (pushed context s p) ≡ true }
+    ensures lazy_push { (set : CharTests) (context : PathContext) (s : Text) (p : PathValue)
+        → is_segment set s ≡ true → is_readable_path set context p ≡ true
+        → is_readable_path set context (lazy_pushed context s p) ≡ true }
+    ensures push { (set : CharTests) (context : PathContext) (s : Text) (p : PathValue)
+        → is_segment set s ≡ true → is_readable_path set context p ≡ true
+        → is_readable_path set context (pushed context s p) ≡ true }
     ensures pop { (set : CharTests) (context : PathContext) (p : PathValue)
-        → is_readable_path set context p ≡ true → is_readable_path set context (popped context p) ≡ true }
-    ensures append { (set : CharTests) (context : PathContext) (items : List Text) (p : PathValue) → list_all (is_segment set) items ≡ true
-        → is_readable_path set context p ≡ true → is_readable_path set context (appended context items p) ≡ true }
-    ensures lazy_append { (set : CharTests) (context : PathContext) (items : List Text) (p : PathValue) → list_all (is_segment set) items ≡ true
-        → is_readable_path set context p ≡ true → is_readable_path set context (lazy_appended context items p) ≡ true }
-    ensures join { (set : CharTests) (context : PathContext) (new p : PathValue) → list_all (is_segment set) new.segments ≡ true
-        → is_readable_path set context p ≡ true → is_readable_path set context (joined context new p) ≡ true }
-    ensures replace { (set : CharTests) (context : PathContext) (new p : PathValue) → list_all (is_segment set) new.segments ≡ true
+        → is_readable_path set context p ≡ true
+        → is_readable_path set context (popped context p) ≡ true }
+    ensures append { (set : CharTests) (context : PathContext) (items : List Text) (p : PathValue)
+        → list_all (is_segment set) items ≡ true → is_readable_path set context p ≡ true
+        → is_readable_path set context (appended context items p) ≡ true }
+    ensures lazy_append { (set : CharTests) (context : PathContext) (items : List Text)
+        (p : PathValue)
+        → list_all (is_segment set) items ≡ true → is_readable_path set context p ≡ true
+        → is_readable_path set context (lazy_appended context items p) ≡ true }
+    ensures join { (set : CharTests) (context : PathContext) (new p : PathValue)
+        → list_all (is_segment set) new.segments ≡ true → is_readable_path set context p ≡ true
+        → is_readable_path set context (joined context new p) ≡ true }
+    ensures replace { (set : CharTests) (context : PathContext) (new p : PathValue)
+        → list_all (is_segment set) new.segments ≡ true
         → is_readable_path set context (replaced context new p) ≡ true }
-    ensures normalize { (set : CharTests) (context : PathContext) (p : PathValue) → list_all (is_segment set) p.segments ≡ true
+    ensures normalize { (set : CharTests) (context : PathContext) (p : PathValue)
+        → list_all (is_segment set) p.segments ≡ true
         → is_readable_path set context (normalized context p) ≡ true }
-    ensures clear { (set : CharTests) (context : PathContext) (p : PathValue) → is_readable_path set context (cleared p) ≡ true }
+    ensures clear { (set : CharTests) (context : PathContext) (p : PathValue)
+        → is_readable_path set context (cleared p) ≡ true }
 {}
 
 /// Whether a name stays, and the excess, are one count of open `..` from the back.
@@ -61,7 +72,8 @@ pub fn names_that_stay_are_counted_from_the_back()
 /// To normalise twice is to normalise once.
 pub fn normalizing_again_changes_nothing()
     ensures normal { (p : PathValue) → normal (normal p) ≡ normal p }
-    ensures guarded { (context : PathContext) (p : PathValue) → follows_authority context p ≡ true → normal (guarded context (normal p)) ≡ normal p }
+    ensures guarded { (context : PathContext) (p : PathValue) → follows_authority context p ≡ true
+        → normal (guarded context (normal p)) ≡ normal p }
     ensures path { (context : PathContext) (p : PathValue) → follows_authority context p ≡ true
         → normalized context (normalized context p) ≡ normalized context p }
 {}
@@ -71,25 +83,34 @@ pub fn normalizing_keeps_the_key()
     ensures { (p : PathValue) → path_key (normalized alone p) ≡ path_key p }
 {}
 
-/// Normalising an absolute path under an authority leaves what `remove_dot_segments` leaves of its text.
+/// Normalising an absolute path under an authority leaves what `remove_dot_segments` leaves of its
+/// text (RFC 3986 section 5.2.4).
 pub fn normalizing_removes_dot_segments()
-    ensures path { (context : PathContext) (p : PathValue) → context.has_authority ≡ true → p.absolute ≡ true
-        → list_all (lacks slash) p.segments ≡ true → RemovesDotSegments (spell_path p) [] (spell_path (normalized context p)) }
-    ensures computed { (has_scheme : Bool) (segments : List Text) → list_all (lacks slash) segments ≡ true
+    ensures path { (context : PathContext) (p : PathValue) → context.has_authority ≡ true
+        → p.absolute ≡ true → list_all (lacks slash) p.segments ≡ true
+        → RemovesDotSegments (spell_path p) [] (spell_path (normalized context p)) }
+    ensures computed { (has_scheme : Bool) (segments : List Text)
+        → list_all (lacks slash) segments ≡ true
         → let p : PathValue = record { absolute = true; segments = segments } in
-        dot_segments_removed (spell_path p) ≡ spell_path (normalized (record { has_scheme = has_scheme; has_authority = true }) p) }
-    ensures one { (input output left other : Text) → RemovesDotSegments input output left → RemovesDotSegments input output other → left ≡ other }
+        let context : PathContext = record { has_scheme = has_scheme; has_authority = true } in
+        dot_segments_removed (spell_path p) ≡ spell_path (normalized context p) }
+    ensures one { (input output left other : Text) → RemovesDotSegments input output left
+        → RemovesDotSegments input output other → left ≡ other }
 {}
 
-/// Items taken from the front and the back of what is left of a normal list, in any order, are the normal list.
+/// Items taken from the front and the back of what is left of a normal list, in any order, are the
+/// normal list.
 pub fn reading_from_both_ends_gives_the_normal_list()
     ensures whole { (p : PathValue) → items_left (whole_rest p) ≡ normal_segments p }
     ensures first { (rest : NormalRest) → GivesFirst (items_left rest) (first_left rest) }
     ensures last { (rest : NormalRest) → GivesLast (items_left rest) (last_left rest) }
 {}
 
-/// The comparison from the back answers whether two paths are equal, and what it has read of both decides it.
+/// The comparison from the back answers whether two paths are equal, and what it has read of both
+/// decides it.
 pub fn comparison_from_the_back_decides()
-    ensures counted { (p q : PathValue) → IsCountedAnswer p q (paths_compared p q).equal (segments_read p q) }
-    ensures equal { (p q : PathValue) → Decides (paths_compared p q).equal (path_key p ≡ path_key q) }
+    ensures counted { (p q : PathValue)
+        → IsCountedAnswer p q (paths_compared p q).equal (segments_read p q) }
+    ensures equal { (p q : PathValue)
+        → ((paths_compared p q).equal ≡ true) ↔ (path_key p ≡ path_key q) }
 {}

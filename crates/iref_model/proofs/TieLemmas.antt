@@ -1,0 +1,63 @@
+-- Keys tie exactly where they are the same, and tests of parts are true exactly where the keys of the parts are.
+use Rattle.std.proofs.Common.{◌≡◌, ◌↔◌, Bool, true, ◌&&◌, refl, sym, ap, ◌∙◌, Option, Some, None, is_eq}
+use Rattle.std.specs.Prelude.{option_map, is_some}
+use Rattle.std.specs.Option.{option_eq}
+use Rattle.std.specs.Hash.{HashWrites, option}
+use Rattle.std.proofs.lemmas.Option.{same_Some}
+use mathlib.Core.Bool.{true≢false}
+use Rattle.iref_grammar.specs.Rules.{Text}
+use Rattle.iref_grammar.specs.Keys.{text_order}
+use Rattle.iref_grammar.specs.Authority.{AuthorityValue}
+use Rattle.iref_grammar.specs.PathValue.{PathValue}
+use Rattle.iref_grammar.specs.Reference.{ReferenceValue}
+use Rattle.iref_grammar.proofs.TextLemmas.{first_of_both, second_of_both}
+use Rattle.iref_model.specs.AuthorityKey.{authority_key_cmp}
+use Rattle.iref_model.specs.PathKey.{path_key_cmp}
+use Rattle.iref_model.specs.Key.{key_cmp}
+use Rattle.iref_model.proofs.KeyOrderLemmas.{texts_total, texts_tell, authority_keys_total, authority_keys_tell, path_keys_total, path_keys_tell}
+use Rattle.iref_model.proofs.KeyOrderLemmas.{keys_total, keys_tell, tied_exactly}
+
+pub texts_tie : (a b : Text) → (is_eq (text_order a b) ≡ true) ↔ (a ≡ b)
+texts_tie = tied_exactly texts_total texts_tell
+
+pub authorities_tie : (a b : AuthorityValue) → (is_eq (authority_key_cmp a b) ≡ true) ↔ (a ≡ b)
+authorities_tie = tied_exactly authority_keys_total authority_keys_tell
+
+pub paths_tie : (a b : PathValue) → (is_eq (path_key_cmp a b) ≡ true) ↔ (a ≡ b)
+paths_tie = tied_exactly path_keys_total path_keys_tell
+
+pub references_tie : (a b : ReferenceValue) → (is_eq (key_cmp a b) ≡ true) ↔ (a ≡ b)
+references_tie = tied_exactly keys_total keys_tell
+
+-- ---- tests of parts
+
+-- of what may be absent
+pub options_tie_by : {A K : Type 0} (eq : A → A → Bool) (key : A → K) → ((x y : A) → (eq x y ≡ true) ↔ (key x ≡ key y))
+    → (a b : Option A) → (option_eq eq a b ≡ true) ↔ (option_map key a ≡ option_map key b)
+options_tie_by eq key h None None = (λ _. refl, λ _. refl)
+options_tie_by eq key h None (Some y) = (λ e. absurd (true≢false (sym e)), λ e. absurd (true≢false (sym (ap is_some e))))
+options_tie_by eq key h (Some x) None = (λ e. absurd (true≢false (sym e)), λ e. absurd (true≢false (ap is_some e)))
+options_tie_by eq key h (Some x) (Some y) = (λ e. ap Some ((h x y).0 e), λ e. (h x y).1 (same_Some (key x) (key y) e))
+
+-- of two tests
+pub both_tie_by : (p q : Bool) {P Q : Type 0} → (p ≡ true) ↔ P → (q ≡ true) ↔ Q → ((p && q) ≡ true) ↔ (P × Q)
+both_tie_by p q hp hq = (λ e. (hp.0 (first_of_both p q e), hq.0 (second_of_both p q e)), λ (x, y). ap (λ b. b && q) (hp.1 x) ∙ hq.1 y)
+
+-- a key by two steps
+pub option_map_twice : {A B K : Type 0} (f : A → B) (g : B → K) (o : Option A) → option_map g (option_map f o) ≡ option_map (λ v. g (f v)) o
+option_map_twice f g None = refl
+option_map_twice f g (Some v) = refl
+
+pub options_tie_through : {A B K : Type 0} (eq : A → A → Bool) (f : A → B) (g : B → K) → ((x y : A) → (eq x y ≡ true) ↔ (g (f x) ≡ g (f y)))
+    → (a b : Option A) → (option_eq eq a b ≡ true) ↔ (option_map g (option_map f a) ≡ option_map g (option_map f b))
+options_tie_through eq f g h a b =
+    let tie = options_tie_by eq (λ v. g (f v)) h a b in
+    (λ e. option_map_twice f g a ∙ tie.0 e ∙ sym (option_map_twice f g b), λ e. tie.1 (sym (option_map_twice f g a) ∙ e ∙ option_map_twice f g b))
+
+-- what is fed of what may be absent
+pub feeds_by : {A K : Type 0} (fed : K → HashWrites) (key : A → K) (o : Option A) → option (λ v. fed (key v)) o ≡ option fed (option_map key o)
+feeds_by fed key None = refl
+feeds_by fed key (Some v) = refl
+
+pub feeds_through : {A B K : Type 0} (fed : K → HashWrites) (f : A → B) (g : B → K) (o : Option A) → option (λ v. fed (g (f v))) o ≡ option fed (option_map g (option_map f o))
+feeds_through fed f g o = feeds_by fed (λ v. g (f v)) o ∙ ap (option fed) (sym (option_map_twice f g o))
