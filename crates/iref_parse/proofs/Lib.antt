@@ -1,4 +1,5 @@
 pub mod AsciiLemmas
+pub mod KeyLemmas
 pub mod ScanLemmas
 pub mod DigitLemmas
 pub mod OctetLemmas

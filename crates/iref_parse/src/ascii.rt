@@ -1,7 +1,8 @@
 //! The ASCII characters of the rules of characters and escapes.
 ghost use Rattle.std.specs.Prelude.{◌≡◌, slice_index};
 
-/// Of each byte the first of these rules that has it beside escapes: 0 registered names, 1 user infos, 2 segments,
+/// Of each byte the first of these rules that has it beside escapes: 0 registered names, 1 user
+/// infos, 2 segments,
 /// 3 paths, 4 queries and fragments, 5 percent-encoded texts. 6 is `%`, and 7 is not ASCII.
 static FIRST_RULES: [u8; 256] = [
     5, 5, 5, 5, 5, 5, 5, 5, 5, 5, 5, 5, 5, 5, 5, 5, 5, 5, 5, 5, 5, 5, 5, 5, 5, 5, 5, 5, 5, 5, 5, 5,

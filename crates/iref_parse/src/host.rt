@@ -35,7 +35,8 @@ fn is_future_address(text: &str) -> bool
 
 // Whether the text is a version, a `.` and an address.
 fn is_after_v(text: &str) -> bool
-    ensures { result ≡ (test.is_future_version (before (grammar.full_stop ∷ []) text.now) && test.is_future_address (after grammar.full_stop text.now)) }
+    ensures { result ≡ (test.is_future_version (before (grammar.full_stop ∷ []) text.now) &&
+        test.is_future_address (after grammar.full_stop text.now)) }
 {
     match cut(text, '.') {
         (version, Some(address)) => { is_future_version(version) && is_future_address(address) }
@@ -84,7 +85,8 @@ pub fn is_ipv4(text: &str) -> bool
     ipv4_value(text).is_some()
 }
 
-/// Whether the text is a host: an IP literal or a registered name, of which IPv4 addresses are some.
+/// Whether the text is a host: an IP literal or a registered name, of which IPv4 addresses are
+/// some.
 #[tactic(auto, unfolding(iref_grammar::specs::Tests::is_host))]
 pub fn is_host<C: CharSet>(text: &str) -> bool
     ensures { result ≡ test.is_host C.tests text.now }

@@ -1,13 +1,13 @@
 //! IP addresses and their numbers (RFC 3986 section 3.2.2).
 
-ghost use Rattle.std.specs.Prelude.{◌≡◌, ◌+◌, ◌-◌, ◌*◌, ◌^◌, ◌<◌, ◌≤◌, ◌==◌, ◌&&◌, ℕ, nat_lt, nat_le, List, ◌∷◌, length, slice_index, Option, None, Some, option_map, option_and_then, map, IfSome, MatchOption, if◌then◌else◌};
-ghost use Rattle.std.specs.Char.{is_ascii_hexdigit};
-ghost use Rattle.std.specs.List.{list_all};
-ghost use Rattle.iref_grammar.specs.Rules.{Text};
-ghost use Rattle.iref_grammar.specs.Grammar.{colon};
 ghost use Rattle.iref_grammar.specs.Texts.{pieces_at};
-ghost use Rattle.iref_grammar.specs.IpAddresses as ip;
+ghost use Rattle.std.specs.List.{list_all};
+ghost use Rattle.iref_grammar.specs.Grammar.{colon};
 ghost use Rattle.iref_parse.specs.IpGroups.{counted, counted_after, filled_number};
+ghost use Rattle.iref_grammar.specs.IpAddresses as ip;
+ghost use Rattle.std.specs.Char.{is_ascii_hexdigit};
+ghost use Rattle.std.specs.Prelude.{◌≡◌, ◌+◌, ◌-◌, ◌*◌, ◌^◌, ◌<◌, ◌≤◌, ◌==◌, ◌&&◌, ℕ, nat_lt, nat_le, List, ◌∷◌, length, slice_index, Option, None, Some, option_map, option_and_then, map, IfSome, MatchOption, if◌then◌else◌};
+ghost use Rattle.iref_grammar.specs.Rules.{Text};
 
 // Whether a zero stands before another character.
 fn has_leading_zero(text: &str) -> bool
@@ -91,7 +91,8 @@ impl Groups {
 
     // With one group more at the end, if there were fewer than eight.
     fn push(self, group: u16) -> Option<Self>
-        ensures { MatchOption result (self.count ≡ 8) (λ more. (more.count ≡ self.count + 1) × (more.value ≡ 65536 * self.value + group)) }
+        ensures { MatchOption result (self.count ≡ 8)
+            (λ more. (more.count ≡ self.count + 1) × (more.value ≡ 65536 * self.value + group)) }
     {
         if self.count == 8 {
             return None;
@@ -104,14 +105,19 @@ impl Groups {
 
     // With the group that the text writes, if it writes one and they are eight at most.
     fn push_text(self, text: &str) -> Option<Self>
-        ensures { let groups = option_and_then (counted_after self.count self.value) (ip.one_group text.now) in MatchOption result (groups ≡ None) (λ more. groups ≡ Some (more.count, more.value)) }
+        ensures { let groups = option_and_then (counted_after self.count self.value)
+            (ip.one_group text.now) in MatchOption result (groups ≡ None)
+            (λ more. groups ≡ Some (more.count, more.value)) }
     {
         self.push(group_value(text)?)
     }
 
-    // With one group more or with the two of an IPv4 address, if the text is either and they are eight at most.
+    // With one group more or with the two of an IPv4 address, if the text is either and they are
+    // eight at most.
     fn push_last(self, text: &str) -> Option<Self>
-        ensures { let groups = option_and_then (counted_after self.count self.value) (ip.last_group_values text.now) in MatchOption result (groups ≡ None) (λ more. groups ≡ Some (more.count, more.value)) }
+        ensures { let groups = option_and_then (counted_after self.count self.value)
+            (ip.last_group_values text.now) in MatchOption result (groups ≡ None)
+            (λ more. groups ≡ Some (more.count, more.value)) }
     {
         if let Some(group) = group_value(text) {
             return self.push(group);
@@ -143,7 +149,8 @@ impl Groups {
         self.value * 65536_u128.pow(8 - self.count)
     }
 
-    // The number of eight groups that begin with these, end with the others and are zeros between, one at least.
+    // The number of eight groups that begin with these, end with the others and are zeros between,
+    // one at least.
     #[tactic(auto, using(crate::proofs::GroupLemmas::filled_fits))]
     fn fill(self, end: Groups) -> Option<u128>
         ensures { result ≡ filled_number self.count self.value end.count end.value }
@@ -157,7 +164,9 @@ impl Groups {
 
 // The groups before the last `:`, and what follows it.
 fn groups_before_last(text: &str) -> Option<(Groups, &str)>
-    ensures { MatchOption result ((last : Text → Option (List ℕ)) → counted (ip.groups_then last (pieces_at colon text.now)) ≡ None)
+    ensures { MatchOption result
+        ((last : Text → Option (List ℕ))
+        → counted (ip.groups_then last (pieces_at colon text.now)) ≡ None)
         (λ read. (last : Text → Option (List ℕ)) → counted (ip.groups_then last (pieces_at colon text.now)) ≡ option_and_then (counted_after read.0.count read.0.value) (last read.1.now)) }
 {
     let mut groups = Groups::none();
@@ -172,7 +181,8 @@ fn groups_before_last(text: &str) -> Option<(Groups, &str)>
 // The groups before `::`.
 #[tactic(auto, using(crate::proofs::GroupLemmas::groups_alone))]
 fn start_groups(text: &str) -> Option<Groups>
-    ensures { let groups = counted (ip.all_some (map ip.group_value (ip.group_pieces text.now))) in MatchOption result (groups ≡ None) (λ read. groups ≡ Some (read.count, read.value)) }
+    ensures { let groups = counted (ip.all_some (map ip.group_value (ip.group_pieces text.now))) in
+        MatchOption result (groups ≡ None) (λ read. groups ≡ Some (read.count, read.value)) }
 {
     if text.is_empty() {
         return Some(Groups::none());
@@ -183,7 +193,8 @@ fn start_groups(text: &str) -> Option<Groups>
 
 // The groups after `::` or without it, of which the last two may be written as an IPv4 address.
 fn end_groups(text: &str) -> Option<Groups>
-    ensures { let groups = counted (ip.last_groups_of (ip.group_pieces text.now)) in MatchOption result (groups ≡ None) (λ read. groups ≡ Some (read.count, read.value)) }
+    ensures { let groups = counted (ip.last_groups_of (ip.group_pieces text.now)) in MatchOption
+        result (groups ≡ None) (λ read. groups ≡ Some (read.count, read.value)) }
 {
     if text.is_empty() {
         return Some(Groups::none());

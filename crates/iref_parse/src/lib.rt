@@ -4,6 +4,7 @@
 pub mod ascii;
 pub mod authority;
 pub mod cut;
+pub mod decoded;
 pub mod host;
 pub mod ip;
 pub mod places;

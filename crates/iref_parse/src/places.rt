@@ -1,13 +1,13 @@
 //! Where the components of a reference stand in its text (RFC 3986 section 5.3).
 
-ghost use Rattle.std.specs.Prelude.{◌≡◌, ◌+◌, ◌<◌, ◌^◌, length, option_map, [], ◌∷◌};
-ghost use Rattle.std.specs.Option.{option_copied};
-ghost use Rattle.iref_grammar.specs.Rules.{Text};
-ghost use Rattle.iref_grammar.specs.Grammar.{colon};
-ghost use Rattle.iref_grammar.specs.Texts.{part_then, then_part};
-ghost use Rattle.iref_grammar.specs.Reference.{spell};
-ghost use Rattle.iref_parse.specs.ReferenceSlices.{value_of};
 ghost use Rattle.iref_grammar.specs.Places.{place_from, places_in};
+ghost use Rattle.iref_grammar.specs.Grammar.{colon};
+ghost use Rattle.iref_parse.specs.ReferenceSlices.{value_of};
+ghost use Rattle.std.specs.Option.{option_copied};
+ghost use Rattle.iref_grammar.specs.Texts.{part_then, then_part};
+ghost use Rattle.iref_grammar.specs.Rules.{Text};
+ghost use Rattle.iref_grammar.specs.Reference.{spell};
+ghost use Rattle.std.specs.Prelude.{◌≡◌, ◌+◌, ◌<◌, ◌^◌, length, option_map, [], ◌∷◌};
 
 use crate::split::ReferenceSlices;
 use iref_grammar::places::Offsets;
@@ -24,7 +24,8 @@ fn place_from(start: usize, part: &str) -> Range<usize>
 // Where a part stands after a mark that begins at `start`, and where it ends.
 fn place_after(start: usize, mark: &str, part: Option<&str>) -> (Option<Range<usize>>, usize)
     requires { start + length (then_part mark.now (option_copied part)) < 2 ^ 64 }
-    ensures place { result.0 ≡ option_map (place_from (start + length mark.now)) (option_copied part.entry) }
+    ensures place { result.0 ≡ option_map (place_from (start + length mark.now))
+        (option_copied part.entry) }
     ensures end { result.1 ≡ start + length (then_part mark.now (option_copied part.entry)) }
 {
     match part {

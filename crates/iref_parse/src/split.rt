@@ -72,7 +72,8 @@ fn split_authority(text: &str) -> (Option<&str>, &str)
 // What stands before the query and the fragment, and these two.
 fn split_tail(text: &str) -> (&str, Option<&str>, Option<&str>)
     ensures front { result.0.now ≡ hierarchy text.now }
-    ensures query { option_copied result.1 ≡ after question_mark (before (hash_sign ∷ []) text.now) }
+    ensures query { option_copied result.1 ≡ after question_mark
+        (before (hash_sign ∷ []) text.now) }
     ensures fragment { option_copied result.2 ≡ after hash_sign text.now }
 {
     let (front, tail) = split_before_either(text, b'?', b'#');

@@ -1,0 +1,2 @@
+pub mod PortLemmas
+pub mod SchemeLookLemmas

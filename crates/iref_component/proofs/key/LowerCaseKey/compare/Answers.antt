@@ -1,0 +1,16 @@
+use Rattle.std.proofs.Common.{◌≡◌, refl, rules}
+use Rattle.std.specs.Char.{to_ascii_lowercase}
+use Rattle.std.specs.Ordering.{nat_cmp}
+use Rattle.std.proofs.lemmas.Iterator.{YieldsList-from_map}
+use Rattle.std.proofs.lemmas.Iterator.Adapters.{YieldsList-from_bytes}
+use Rattle.std.proofs.lemmas.Iterator.Consumers.{YieldsList-at}
+use Rattle.std.proofs.lemmas.Iterator.Search.{cmp_from_yields_List}
+use borrow.Author.Tests.{tests}
+use Rattle.iref_component.proofs.key.LowerCaseKey.compare.Goals as goal
+
+pub returns : goal.returns
+returns g c =
+    cmp_from_yields_List (λ x y. y ≡ x) _ nat_cmp _ c.cmp.ensures.ran
+    (YieldsList-from_map _ to_ascii_lowercase (YieldsList-at c.map-a.ensures.source (YieldsList-from_bytes c.args.a.now c.bytes.ensures.rest)) c.map-a.ensures.closure (λ x r q k. search (rules, tests)))
+    (λ it e. YieldsList-at e (YieldsList-from_map _ to_ascii_lowercase (YieldsList-at c.map-b.ensures.source (YieldsList-from_bytes c.args.b.now c.bytes-2.ensures.rest)) c.map-b.ensures.closure (λ x r q k. search (rules, tests))))
+    (λ x y. refl)

@@ -1,0 +1,11 @@
+-- The text of a view and of an owner.
+use Rattle.std.specs.String.{string_bytes}
+use Rattle.iref_grammar.specs.Rules.{Text}
+use Rattle.iref_component.specs.declared.view.View.{View}
+use Rattle.iref_component.specs.declared.owned.TextBuf.{TextBuf}
+
+abbrev pub view_text : {R : _} {C : _} {r : _} {c : _} → View R C r c → Text
+view_text v = v.text.now
+
+abbrev pub owned_text : {R : _} {C : _} {r : _} {c : _} → TextBuf R C r c → Text
+owned_text v = string_bytes v.text

@@ -1,0 +1,3 @@
+pub mod Components
+pub mod Makers
+pub mod Ports

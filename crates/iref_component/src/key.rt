@@ -1,0 +1,170 @@
+//! What texts are compared by, in their order, and fed to hashers (RFC 3986 section 6.2.2).
+ghost use Rattle.std.specs.Prelude.{◌≡◌, fold, true};
+ghost use Rattle.std.specs.Str.{str_to_ascii_lowercase};
+ghost use Rattle.std.specs.Hash.{HashWrites};
+ghost use Rattle.std.specs.Ordering.{is_eq, eq_by_cmp};
+ghost use Rattle.std.specs.Cmp.{IsTotalOrder};
+ghost use Rattle.std.specs.Cmp.Lexicographic.{nat_list_cmp_total};
+ghost use Rattle.std.specs.declared.cmp.Ordering.{Ordering};
+ghost use Rattle.percent_encoding.specs.Percent.{percent_decode};
+ghost use Rattle.iref_grammar.specs.Characters.{CharTests};
+ghost use Rattle.iref_grammar.specs.Rules.{Text};
+ghost use Rattle.iref_grammar.specs.Keys.{text_order, fed_bytes};
+ghost use Rattle.iref_model.proofs.KeyOrderLemmas.{texts_tell};
+
+use iref_grammar::chars::CharSet;
+use iref_parse::decoded::{decoded_cmp, decoded_eq, hash_decoded};
+use std::cmp::Ordering;
+use std::hash::Hasher;
+
+/// What texts are compared by.
+pub trait Key {
+    /// What keys are.
+    ghost Kept: { Type 0 };
+
+    /// The key of a text.
+    ghost key: { Text → Self.Kept };
+
+    /// The order of the keys.
+    ghost order: { Self.Kept → Self.Kept → Ordering };
+
+    /// What a hasher is fed of a key.
+    ghost fed: { Self.Kept → HashWrites };
+
+    /// The texts that have a key.
+    ghost has_key: { CharTests → Text → Type 0 };
+
+    /// The order is total.
+    ghost total: { IsTotalOrder order };
+
+    /// Keys that the order does not tell apart are the same.
+    ghost tells: { (k l : Self.Kept) → is_eq (Self.order k l) ≡ true → k ≡ l };
+
+    /// The order of the keys.
+    fn compare<C: CharSet>(a: &str, b: &str) -> Ordering
+        requires a { has_key C.tests a.now }
+        requires b { has_key C.tests b.now }
+        ensures { result ≡ order (key a.now) (key b.now) };
+
+    /// Whether the keys are the same.
+    fn is_equal<C: CharSet>(a: &str, b: &str) -> bool
+        requires a { has_key C.tests a.now }
+        requires b { has_key C.tests b.now }
+        ensures { result ≡ eq_by_cmp order (key a.now) (key b.now) };
+
+    /// Feeds the key to the hasher.
+    fn feed<C: CharSet, H: Hasher>(text: &str, state: &mut H)
+        requires { has_key C.tests text.now }
+        ensures { state.new ≡ fold H.write state.old (fed (key text.now)) };
+}
+
+/// The bytes that a text decodes to: each escape is one byte (RFC 3986 section 2.1).
+pub struct DecodedBytes;
+
+impl Key for DecodedBytes {
+    ghost Kept = { Text };
+
+    ghost key = { percent_decode };
+
+    ghost order = { text_order };
+
+    ghost fed = { fed_bytes };
+
+    ghost has_key = { λ _ _. Unit {0} };
+
+    ghost total = { nat_list_cmp_total };
+
+    ghost tells = { texts_tell };
+
+    fn compare<C: CharSet>(a: &str, b: &str) -> Ordering {
+        decoded_cmp(a, b)
+    }
+
+    #[tactic(auto, using(iref_parse::proofs::KeyLemmas::same_where_tied))]
+    fn is_equal<C: CharSet>(a: &str, b: &str) -> bool {
+        decoded_eq(a, b)
+    }
+
+    fn feed<C: CharSet, H: Hasher>(text: &str, state: &mut H) {
+        hash_decoded(text, state);
+    }
+}
+
+/// The text with its ASCII letters in lower case.
+pub struct LowerCase;
+
+impl Key for LowerCase {
+    ghost Kept = { Text };
+
+    ghost key = { str_to_ascii_lowercase };
+
+    ghost order = { text_order };
+
+    ghost fed = { fed_bytes };
+
+    ghost has_key = { λ _ _. Unit {0} };
+
+    ghost total = { nat_list_cmp_total };
+
+    ghost tells = { texts_tell };
+
+    fn compare<C: CharSet>(a: &str, b: &str) -> Ordering {
+        let a = a.bytes().map(|byte| byte.to_ascii_lowercase());
+        let b = b.bytes().map(|byte| byte.to_ascii_lowercase());
+        a.cmp(b)
+    }
+
+    fn is_equal<C: CharSet>(a: &str, b: &str) -> bool {
+        Self::compare::<C>(a, b).is_eq()
+    }
+
+    #[tactic(auto, unfolding(iref_grammar::specs::Keys::fed_bytes))]
+    fn feed<C: CharSet, H: Hasher>(text: &str, state: &mut H) {
+        for byte in text.bytes() {
+            state.write_u8(byte.to_ascii_lowercase());
+        }
+        state.write_u8(0xff);
+    }
+}
+
+/// The text itself.
+pub struct SameText;
+
+impl Key for SameText {
+    ghost Kept = { Text };
+
+    ghost key = { λ text. text };
+
+    ghost order = { text_order };
+
+    ghost fed = { fed_bytes };
+
+    ghost has_key = { λ _ _. Unit {0} };
+
+    ghost total = { nat_list_cmp_total };
+
+    ghost tells = { texts_tell };
+
+    fn compare<C: CharSet>(a: &str, b: &str) -> Ordering {
+        a.cmp(b)
+    }
+
+    fn is_equal<C: CharSet>(a: &str, b: &str) -> bool {
+        a.cmp(b).is_eq()
+    }
+
+    #[tactic(auto, unfolding(iref_grammar::specs::Keys::fed_bytes))]
+    fn feed<C: CharSet, H: Hasher>(text: &str, state: &mut H) {
+        for byte in text.bytes() {
+            state.write_u8(byte);
+        }
+        state.write_u8(0xff);
+    }
+}
+
+/// What decoded bytes are as a key.
+pub fn decoded_bytes_are_a_key()
+    ensures key { ⟦<DecodedBytes as Key>⟧.key ≡ percent_decode }
+    ensures order { ⟦<DecodedBytes as Key>⟧.order ≡ text_order }
+    ensures fed { ⟦<DecodedBytes as Key>⟧.fed ≡ fed_bytes }
+{}

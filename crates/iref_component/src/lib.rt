@@ -1,0 +1,18 @@
+//! The components that are one text: schemes, user infos, hosts, ports, segments, queries and
+//! fragments.
+//! Each is a rule of the grammar; its view and its owner are aliases of one view and one owner.
+#![tactic(auto)]
+
+pub mod comparison;
+mod constants;
+pub mod host;
+mod host_numbers;
+pub mod key;
+pub mod owned;
+pub mod pct;
+pub mod port;
+pub mod rule;
+pub mod rules;
+pub mod segment;
+pub mod texts;
+pub mod view;

@@ -1,0 +1,62 @@
+//! Percent-encoded texts (RFC 3986 section 2.1).
+ghost use Rattle.std.specs.Prelude.{◌≡◌};
+ghost use Rattle.percent_encoding.specs.Iter.{decoded_bytes};
+ghost use Rattle.percent_encoding.specs.Percent.{percent_decode};
+ghost use Rattle.iref_component.specs.Components.{view_text, owned_text};
+
+use crate::owned::TextBuf;
+use crate::rule::{Escaped, Rule};
+use crate::rules::PctStrRule;
+use crate::view::View;
+pub use iref_error::InvalidPctStr;
+use iref_grammar::chars::{CharSet, UriChars};
+use percent_encoding::{PercentDecode, percent_decode_str};
+
+/// A percent-encoded text: each `%` stands before two hexadecimal digits.
+pub type PctStr<'a> = View<'a, PctStrRule, UriChars>;
+
+/// A percent-encoded text that owns its text.
+pub type PctString = TextBuf<PctStrRule, UriChars>;
+
+impl<'a> PctStr<'a> {
+    /// The bytes that the text decodes to, each escape one byte. They take no memory.
+    pub fn bytes(&self) -> PercentDecode<'a>
+        ensures { decoded_bytes result ≡ percent_decode (view_text self.now) }
+    {
+        percent_decode_str(self.as_str())
+    }
+}
+
+impl PctString {
+    /// The bytes that the text decodes to, each escape one byte. They take no memory.
+    pub fn bytes(&self) -> PercentDecode<'_>
+        ensures { decoded_bytes result ≡ percent_decode (owned_text self.now) }
+    {
+        percent_decode_str(self.as_str())
+    }
+}
+
+impl<'a, R: Escaped, C: CharSet> View<'a, R, C> {
+    /// The text as a percent-encoded text.
+    pub fn as_pct_str(&self) -> PctStr<'a>
+        ensures { view_text result ≡ view_text self.now }
+    {
+        PctStr::new_unchecked(self.as_str())
+    }
+}
+
+impl<R: Escaped, C: CharSet> TextBuf<R, C> {
+    /// The text as a percent-encoded text.
+    pub fn as_pct_str(&self) -> PctStr<'_>
+        ensures { view_text result ≡ owned_text self.now }
+    {
+        self.as_view().as_pct_str()
+    }
+
+    /// The text as a percent-encoded text, with no copy.
+    pub fn into_pct_string(self) -> PctString
+        ensures { owned_text result ≡ owned_text self }
+    {
+        PctString::new_unchecked(self.into_string())
+    }
+}

@@ -1,0 +1,62 @@
+//! The rules of the grammar that texts are held to, and what a rule gives its texts.
+ghost use Rattle.std.specs.Prelude.{◌≡◌, Bool, true, []};
+ghost use Rattle.std.specs.Bool.{Decides};
+ghost use Rattle.iref_grammar.specs.Characters.{CharTests, AreAboveAscii};
+ghost use Rattle.iref_grammar.specs.Rules.{Text, InUtf8};
+ghost use Rattle.iref_grammar.specs.Tests.{is_pct_str};
+
+use crate::key::Key;
+use iref_grammar::chars::CharSet;
+
+/// A rule of the grammar, over any set of characters.
+pub trait Rule {
+    /// The rule, of texts.
+    ghost rule: { CharTests → Text → Type 0 };
+
+    /// Its test, of bytes.
+    ghost test: { CharTests → Text → Bool };
+
+    /// The test is true exactly of the UTF-8 of the texts of the rule.
+    ghost decided: { (tests : CharTests) → AreAboveAscii tests → (bytes : Text)
+        → Decides (Self.test tests bytes) (InUtf8 (Self.rule tests) bytes) };
+
+    /// Whether the text is in the rule.
+    fn accepts<C: CharSet>(text: &str) -> bool
+        ensures { result ≡ test C.tests text.now };
+}
+
+/// A rule whose refused inputs are handed back in an error of its own.
+pub trait Refuses<T>: Rule {
+    /// The error.
+    type Error;
+
+    /// The input that an error holds.
+    ghost refused: { Self.Error → T };
+
+    /// The error that holds this input.
+    fn refuse(input: T) -> Self::Error
+        ensures { refused result ≡ input };
+}
+
+/// A rule whose texts are compared by a key.
+pub trait Keyed: Rule {
+    /// The key.
+    type Key: Key;
+
+    /// The texts of the rule have a key.
+    ghost keyed: { (tests : CharTests) (text : Text) → Self.test tests text ≡ true
+        → Self.Key.has_key tests text };
+}
+
+/// A rule that the empty text is in.
+pub trait AllowsEmpty: Rule {
+    /// The empty text is in the rule.
+    ghost allows_empty: { (tests : CharTests) → Self.test tests [] ≡ true };
+}
+
+/// A rule whose texts are percent-encoded (RFC 3986 section 2.1).
+pub trait Escaped: Rule {
+    /// Each `%` has two hexadecimal digits after it.
+    ghost escaped: { (tests : CharTests) (text : Text) → Self.test tests text ≡ true
+        → is_pct_str text ≡ true };
+}

@@ -1,0 +1,367 @@
+//! The rules of the texts that have no parts, and what each compares by.
+ghost use Rattle.std.specs.Prelude.{◌≡◌};
+ghost use Rattle.std.specs.Str.{str_to_ascii_lowercase};
+ghost use Rattle.percent_encoding.specs.Percent.{percent_decode};
+ghost use Rattle.iref_grammar.specs.Grammar.{IsFragment, IsHost, IsPctStr, IsPort, IsQuery, IsScheme};
+ghost use Rattle.iref_grammar.specs.Grammar.{IsSegment, IsUserInfo};
+ghost use Rattle.iref_grammar.specs.Tests.{is_fragment, is_host, is_pct_str, is_port, is_query};
+ghost use Rattle.iref_grammar.specs.Tests.{is_scheme, is_segment, is_user_info};
+ghost use Rattle.iref_grammar.proofs.EmptyLemmas.{is_fragment_empty, is_host_empty};
+ghost use Rattle.iref_grammar.proofs.EmptyLemmas.{is_pct_str_empty, is_port_empty, is_query_empty};
+ghost use Rattle.iref_grammar.proofs.EmptyLemmas.{is_segment_empty, is_user_info_empty};
+ghost use Rattle.iref_grammar.proofs.HostRuleLemmas.{Decides-is_host};
+ghost use Rattle.iref_grammar.proofs.LeafLemmas.{Decides-is_fragment, Decides-is_query};
+ghost use Rattle.iref_grammar.proofs.LeafLemmas.{Decides-is_segment, Decides-is_user_info};
+ghost use Rattle.iref_grammar.proofs.PartRuleLemmas.{Decides-is_port_bytes, Decides-is_scheme_bytes};
+ghost use Rattle.iref_grammar.proofs.PctLemmas.{Decides-is_pct_str, fragment_is_pct_str};
+ghost use Rattle.iref_grammar.proofs.PctLemmas.{host_is_pct_str, query_is_pct_str};
+ghost use Rattle.iref_grammar.proofs.PctLemmas.{segment_is_pct_str, user_info_is_pct_str};
+
+use crate::key::{DecodedBytes, Key, LowerCase, SameText};
+use crate::rule::{AllowsEmpty, Escaped, Keyed, Refuses, Rule};
+use iref_error::{
+    InvalidFragment, InvalidHost, InvalidPctStr, InvalidPort, InvalidQuery, InvalidScheme,
+    InvalidSegment, InvalidUserInfo,
+};
+use iref_grammar::chars::CharSet;
+use iref_parse::{host, scan};
+
+/// The rule of schemes (RFC 3986 section 3.1).
+pub struct SchemeRule;
+
+impl Rule for SchemeRule {
+    ghost rule = { λ _. IsScheme };
+
+    ghost decided = { λ _ _. Decides-is_scheme_bytes };
+
+    ghost test = { λ _. is_scheme };
+
+    fn accepts<C: CharSet>(text: &str) -> bool {
+        scan::is_scheme(text)
+    }
+}
+
+impl<T> Refuses<T> for SchemeRule {
+    type Error = InvalidScheme<T>;
+
+    ghost refused = { λ error. error.0 };
+
+    fn refuse(input: T) -> InvalidScheme<T> {
+        InvalidScheme(input)
+    }
+}
+
+impl Keyed for SchemeRule {
+    type Key = LowerCase;
+
+    ghost keyed = { λ _ _ _. record {} };
+}
+
+/// The rule of user infos (RFC 3986 section 3.2.1).
+pub struct UserInfoRule;
+
+impl Rule for UserInfoRule {
+    ghost rule = { IsUserInfo };
+
+    ghost decided = { Decides-is_user_info };
+
+    ghost test = { is_user_info };
+
+    fn accepts<C: CharSet>(text: &str) -> bool {
+        scan::is_user_info::<C>(text)
+    }
+}
+
+impl<T> Refuses<T> for UserInfoRule {
+    type Error = InvalidUserInfo<T>;
+
+    ghost refused = { λ error. error.0 };
+
+    fn refuse(input: T) -> InvalidUserInfo<T> {
+        InvalidUserInfo(input)
+    }
+}
+
+impl Keyed for UserInfoRule {
+    type Key = DecodedBytes;
+
+    ghost keyed = { λ _ _ _. record {} };
+}
+
+impl AllowsEmpty for UserInfoRule {
+    ghost allows_empty = { is_user_info_empty };
+}
+
+impl Escaped for UserInfoRule {
+    ghost escaped = { user_info_is_pct_str };
+}
+
+/// The rule of hosts (RFC 3986 section 3.2.2).
+pub struct HostRule;
+
+impl Rule for HostRule {
+    ghost rule = { IsHost };
+
+    ghost decided = { Decides-is_host };
+
+    ghost test = { is_host };
+
+    fn accepts<C: CharSet>(text: &str) -> bool {
+        host::is_host::<C>(text)
+    }
+}
+
+impl<T> Refuses<T> for HostRule {
+    type Error = InvalidHost<T>;
+
+    ghost refused = { λ error. error.0 };
+
+    fn refuse(input: T) -> InvalidHost<T> {
+        InvalidHost(input)
+    }
+}
+
+impl Keyed for HostRule {
+    type Key = DecodedBytes;
+
+    ghost keyed = { λ _ _ _. record {} };
+}
+
+impl AllowsEmpty for HostRule {
+    ghost allows_empty = { is_host_empty };
+}
+
+impl Escaped for HostRule {
+    ghost escaped = { host_is_pct_str };
+}
+
+/// The rule of ports (RFC 3986 section 3.2.3).
+pub struct PortRule;
+
+impl Rule for PortRule {
+    ghost rule = { λ _. IsPort };
+
+    ghost decided = { λ _ _. Decides-is_port_bytes };
+
+    ghost test = { λ _. is_port };
+
+    fn accepts<C: CharSet>(text: &str) -> bool {
+        scan::is_port(text)
+    }
+}
+
+impl<T> Refuses<T> for PortRule {
+    type Error = InvalidPort<T>;
+
+    ghost refused = { λ error. error.0 };
+
+    fn refuse(input: T) -> InvalidPort<T> {
+        InvalidPort(input)
+    }
+}
+
+impl Keyed for PortRule {
+    type Key = SameText;
+
+    ghost keyed = { λ _ _ _. record {} };
+}
+
+impl AllowsEmpty for PortRule {
+    ghost allows_empty = { λ _. is_port_empty };
+}
+
+/// The rule of segments (RFC 3986 section 3.3).
+pub struct SegmentRule;
+
+impl Rule for SegmentRule {
+    ghost rule = { IsSegment };
+
+    ghost decided = { Decides-is_segment };
+
+    ghost test = { is_segment };
+
+    fn accepts<C: CharSet>(text: &str) -> bool {
+        scan::is_segment::<C>(text)
+    }
+}
+
+impl<T> Refuses<T> for SegmentRule {
+    type Error = InvalidSegment<T>;
+
+    ghost refused = { λ error. error.0 };
+
+    fn refuse(input: T) -> InvalidSegment<T> {
+        InvalidSegment(input)
+    }
+}
+
+impl Keyed for SegmentRule {
+    type Key = DecodedBytes;
+
+    ghost keyed = { λ _ _ _. record {} };
+}
+
+impl AllowsEmpty for SegmentRule {
+    ghost allows_empty = { is_segment_empty };
+}
+
+impl Escaped for SegmentRule {
+    ghost escaped = { segment_is_pct_str };
+}
+
+/// The rule of querys (RFC 3986 section 3.4).
+pub struct QueryRule;
+
+impl Rule for QueryRule {
+    ghost rule = { IsQuery };
+
+    ghost decided = { Decides-is_query };
+
+    ghost test = { is_query };
+
+    fn accepts<C: CharSet>(text: &str) -> bool {
+        scan::is_query::<C>(text)
+    }
+}
+
+impl<T> Refuses<T> for QueryRule {
+    type Error = InvalidQuery<T>;
+
+    ghost refused = { λ error. error.0 };
+
+    fn refuse(input: T) -> InvalidQuery<T> {
+        InvalidQuery(input)
+    }
+}
+
+impl Keyed for QueryRule {
+    type Key = DecodedBytes;
+
+    ghost keyed = { λ _ _ _. record {} };
+}
+
+impl AllowsEmpty for QueryRule {
+    ghost allows_empty = { is_query_empty };
+}
+
+impl Escaped for QueryRule {
+    ghost escaped = { query_is_pct_str };
+}
+
+/// The rule of fragments (RFC 3986 section 3.5).
+pub struct FragmentRule;
+
+impl Rule for FragmentRule {
+    ghost rule = { IsFragment };
+
+    ghost decided = { Decides-is_fragment };
+
+    ghost test = { is_fragment };
+
+    fn accepts<C: CharSet>(text: &str) -> bool {
+        scan::is_fragment::<C>(text)
+    }
+}
+
+impl<T> Refuses<T> for FragmentRule {
+    type Error = InvalidFragment<T>;
+
+    ghost refused = { λ error. error.0 };
+
+    fn refuse(input: T) -> InvalidFragment<T> {
+        InvalidFragment(input)
+    }
+}
+
+impl Keyed for FragmentRule {
+    type Key = DecodedBytes;
+
+    ghost keyed = { λ _ _ _. record {} };
+}
+
+impl AllowsEmpty for FragmentRule {
+    ghost allows_empty = { is_fragment_empty };
+}
+
+impl Escaped for FragmentRule {
+    ghost escaped = { fragment_is_pct_str };
+}
+
+/// The rule of percent-encoded texts (RFC 3986 section 2.1).
+pub struct PctStrRule;
+
+impl Rule for PctStrRule {
+    ghost rule = { λ _. IsPctStr };
+
+    ghost decided = { λ _ _. Decides-is_pct_str };
+
+    ghost test = { λ _. is_pct_str };
+
+    fn accepts<C: CharSet>(text: &str) -> bool {
+        scan::is_pct_str(text)
+    }
+}
+
+impl<T> Refuses<T> for PctStrRule {
+    type Error = InvalidPctStr<T>;
+
+    ghost refused = { λ error. error.0 };
+
+    fn refuse(input: T) -> InvalidPctStr<T> {
+        InvalidPctStr(input)
+    }
+}
+
+impl Keyed for PctStrRule {
+    type Key = DecodedBytes;
+
+    ghost keyed = { λ _ _ _. record {} };
+}
+
+impl AllowsEmpty for PctStrRule {
+    ghost allows_empty = { λ _. is_pct_str_empty };
+}
+
+impl Escaped for PctStrRule {
+    ghost escaped = { λ _ _ in_rule. in_rule };
+}
+
+/// Schemes compare by their text in lower case (RFC 3986 section 6.2.2.1).
+pub fn schemes_compare_in_lower_case()
+    ensures { ⟦<<SchemeRule as Keyed>::Key as Key>⟧.key ≡ str_to_ascii_lowercase }
+{}
+
+/// User infos compare by the bytes that they decode to (RFC 3986 section 6.2.2.2).
+pub fn user_infos_compare_decoded()
+    ensures { ⟦<<UserInfoRule as Keyed>::Key as Key>⟧.key ≡ percent_decode }
+{}
+
+/// Hosts compare by the bytes that they decode to (RFC 3986 section 6.2.2.2).
+pub fn hosts_compare_decoded()
+    ensures { ⟦<<HostRule as Keyed>::Key as Key>⟧.key ≡ percent_decode }
+{}
+
+/// Ports compare by their text: `80` is not `080`.
+pub fn ports_compare_as_texts()
+    ensures { ⟦<<PortRule as Keyed>::Key as Key>⟧.key ≡ (λ text. text) }
+{}
+
+/// Segments compare by the bytes that they decode to (RFC 3986 section 6.2.2.2).
+pub fn segments_compare_decoded()
+    ensures { ⟦<<SegmentRule as Keyed>::Key as Key>⟧.key ≡ percent_decode }
+{}
+
+/// Queries compare by the bytes that they decode to (RFC 3986 section 6.2.2.2).
+pub fn queries_compare_decoded()
+    ensures { ⟦<<QueryRule as Keyed>::Key as Key>⟧.key ≡ percent_decode }
+{}
+
+/// Fragments compare by the bytes that they decode to (RFC 3986 section 6.2.2.2).
+pub fn fragments_compare_decoded()
+    ensures { ⟦<<FragmentRule as Keyed>::Key as Key>⟧.key ≡ percent_decode }
+{}
+
+/// Percent-encoded texts compare by the bytes that they decode to (RFC 3986 section 6.2.2.2).
+pub fn pct_strs_compare_decoded()
+    ensures { ⟦<<PctStrRule as Keyed>::Key as Key>⟧.key ≡ percent_decode }
+{}

@@ -1,0 +1,261 @@
+//! Borrowed texts of a rule: what the views of all rules share.
+ghost use Rattle.std.specs.Prelude.{◌≡◌, true, [], length, Some, IfOk, MatchOption};
+ghost use Rattle.std.specs.Ordering.{on, as_partial_cmp, eq_by_cmp};
+ghost use Rattle.std.specs.Cmp.{on_total, on_equiv, po, partial_equiv_from_equiv, eq_by_cmp_equiv};
+ghost use Rattle.std.specs.Cmp.Rules.{comparing};
+ghost use Rattle.std.proofs.Common.{rules, ap, refl};
+ghost use Rattle.iref_grammar.specs.Rules.{InUtf8};
+ghost use Rattle.iref_grammar.specs.Texts.{is_empty};
+ghost use Rattle.iref_component.specs.Makers.{Parses};
+
+use crate::key::Key;
+use crate::owned::TextBuf;
+use crate::rule::{AllowsEmpty, Keyed, Refuses, Rule};
+use iref_error::Memory;
+use iref_grammar::chars::CharSet;
+use std::alloc::{AllocError, Global};
+use std::cmp::Ordering;
+use std::convert::TryFrom;
+use std::hash::{Hash, Hasher};
+use std::marker::PhantomData;
+use std::{fmt, str};
+
+/// A borrowed text of a rule.
+pub struct View<'a, R: Rule, C: CharSet> {
+    text: &'a str,
+    rule: PhantomData<(R, C)>,
+    ghost in_rule: { R.test C.tests text.now ≡ true },
+}
+
+impl<R: Rule, C: CharSet> Clone for View<'_, R, C> {
+    ghost use Rattle.std.specs.Prelude.{⊤};
+
+    ghost is_clone = { λ v w. w ≡ v };
+
+    ghost is_infallible = { λ _. ⊤ };
+
+    fn clone(&self) -> Result<Self, AllocError> {
+        Ok(*self)
+    }
+}
+
+impl<R: Rule, C: CharSet> Copy for View<'_, R, C> {}
+
+impl<'a, R: Refuses<&'a str>, C: CharSet> View<'a, R, C> {
+    ghost use Rattle.iref_component.specs.Components.{view_text};
+
+    /// The view of a text that is in the rule, or the text in the rule's error.
+    pub fn new(text: &'a str) -> Result<Self, R::Error>
+        ensures { Parses (InUtf8 (R.rule C.tests)) text.now view_text
+            (λ error. R.refused error ≡ text.entry) result }
+    {
+        match View::read(text) {
+            Ok(view) => Ok(view),
+            Err(text) => Err(R::refuse(text)),
+        }
+    }
+}
+
+impl<'a, R: Refuses<&'a [u8]>, C: CharSet> View<'a, R, C> {
+    ghost use Rattle.iref_component.specs.Components.{view_text};
+
+    /// The view of the UTF-8 of a text that is in the rule, or the bytes in the rule's error.
+    pub fn from_bytes(bytes: &'a [u8]) -> Result<Self, R::Error>
+        ensures { Parses (InUtf8 (R.rule C.tests)) bytes.now view_text
+            (λ error. R.refused error ≡ bytes.entry) result }
+    {
+        let Ok(text) = str::from_utf8(bytes) else {
+            return Err(R::refuse(bytes));
+        };
+        match View::read(text) {
+            Ok(view) => Ok(view),
+            Err(_) => Err(R::refuse(bytes)),
+        }
+    }
+}
+
+impl<'a, R: Rule, C: CharSet> View<'a, R, C> {
+    ghost use Rattle.iref_component.specs.Components.{view_text, owned_text};
+
+    // The view of a text that is in the rule, or the text.
+    fn read(text: &'a str) -> Result<Self, &'a str>
+        ensures { Parses (InUtf8 (R.rule C.tests)) text.now view_text (λ input. input ≡ text.entry)
+            result }
+    {
+        if R::accepts::<C>(text) {
+            Ok(View::new_unchecked(text))
+        } else {
+            Err(text)
+        }
+    }
+
+    /// The view of a text that is known to be in the rule.
+    pub fn new_unchecked(text: &'a str) -> Self
+        requires { R.test C.tests text.now ≡ true }
+        ensures { view_text result ≡ text.now }
+    {
+        View {
+            text,
+            rule: PhantomData,
+        }
+    }
+
+    /// The text.
+    pub fn as_str(&self) -> &'a str
+        ensures text { result.now ≡ view_text self.now }
+        ensures in_rule { R.test C.tests result.now ≡ true }
+    {
+        self.text
+    }
+
+    /// The bytes of the text.
+    pub fn as_bytes(&self) -> &'a [u8]
+        ensures { result.now ≡ view_text self.now }
+    {
+        self.text.as_bytes()
+    }
+
+    /// How many bytes the text has.
+    pub fn len(&self) -> usize
+        ensures { result ≡ length (view_text self.now) }
+    {
+        self.text.len()
+    }
+
+    /// Whether the text is empty.
+    pub fn is_empty(&self) -> bool
+        ensures { result ≡ is_empty (view_text self.now) }
+    {
+        self.text.is_empty()
+    }
+
+    /// An owner of a copy.
+    pub fn to_owned(&self, alloc: Global) -> Result<TextBuf<R, C>, Memory>
+        ensures { IfOk result (λ copy. owned_text copy ≡ view_text self.now) }
+    {
+        let text = String::from_str(alloc, self.text)?;
+        Ok(TextBuf::new_unchecked(text))
+    }
+}
+
+impl<R: AllowsEmpty, C: CharSet> View<'_, R, C> {
+    ghost use Rattle.iref_component.specs.Components.{view_text};
+
+    /// The empty text.
+    pub fn empty() -> Self
+        ensures { view_text result ≡ [] }
+    {
+        View::new_unchecked("")
+    }
+}
+
+impl<R: AllowsEmpty, C: CharSet> Default for View<'_, R, C> {
+    ghost use Rattle.iref_component.specs.Components.{view_text};
+
+    ghost is_default = { λ view. view_text view ≡ [] };
+
+    fn default() -> Self {
+        View::empty()
+    }
+}
+
+impl<'a, R: Refuses<&'a str>, C: CharSet> TryFrom<&'a str> for View<'a, R, C> {
+    ghost use Rattle.iref_component.specs.Components.{view_text};
+
+    type Error = R::Error;
+
+    ghost try_from_gives = { λ text result. Parses (InUtf8 (R.rule C.tests)) text.now view_text
+        (λ error. R.refused error ≡ text) result };
+
+    fn try_from(text: &'a str) -> Result<Self, R::Error> {
+        View::new(text)
+    }
+}
+
+impl<'a, R: Refuses<&'a [u8]>, C: CharSet> TryFrom<&'a [u8]> for View<'a, R, C> {
+    ghost use Rattle.iref_component.specs.Components.{view_text};
+
+    type Error = R::Error;
+
+    ghost try_from_gives = { λ bytes result. Parses (InUtf8 (R.rule C.tests)) bytes.now view_text
+        (λ error. R.refused error ≡ bytes) result };
+
+    fn try_from(bytes: &'a [u8]) -> Result<Self, R::Error> {
+        View::from_bytes(bytes)
+    }
+}
+
+impl<R: Keyed, C: CharSet> Ord for View<'_, R, C> {
+    ghost use Rattle.iref_component.specs.Components.{view_text};
+
+    ghost cmp = { on (λ v. R.Key.key (view_text v)) R.Key.order };
+
+    ghost total = { on_total (λ v. R.Key.key (view_text v)) R.Key.total };
+
+    ghost matches_partial_cmp = { Prim.search (comparing, rules) };
+
+    ghost matches_eq = { λ _ _. refl };
+
+    fn cmp(&self, other: &Self) -> Ordering {
+        R::Key::compare::<C>(self.text, other.text)
+    }
+}
+
+impl<R: Keyed, C: CharSet> PartialOrd for View<'_, R, C> {
+    ghost use Rattle.iref_component.specs.Components.{view_text};
+
+    ghost partial_cmp = { as_partial_cmp (on (λ v. R.Key.key (view_text v)) R.Key.order) };
+
+    ghost laws = { po (on_total (λ v. R.Key.key (view_text v)) R.Key.total) (λ _ _. refl) };
+
+    fn partial_cmp(&self, other: &Self) -> Option<Ordering> {
+        Some(self.cmp(other))
+    }
+}
+
+impl<R: Keyed, C: CharSet> PartialEq for View<'_, R, C> {
+    ghost use Rattle.iref_component.specs.Components.{view_text};
+
+    ghost eq = { on (λ v. R.Key.key (view_text v)) (eq_by_cmp R.Key.order) };
+
+    ghost laws = { partial_equiv_from_equiv
+        (on_equiv (λ v. R.Key.key (view_text v)) (eq_by_cmp_equiv R.Key.total)) };
+
+    fn eq(&self, other: &Self) -> bool {
+        self.text == other.text || R::Key::is_equal::<C>(self.text, other.text)
+    }
+}
+
+impl<R: Keyed, C: CharSet> Eq for View<'_, R, C> {
+    ghost use Rattle.iref_component.specs.Components.{view_text};
+
+    ghost laws = { on_equiv (λ v. R.Key.key (view_text v)) (eq_by_cmp_equiv R.Key.total) };
+}
+
+impl<R: Keyed, C: CharSet> Hash for View<'_, R, C> {
+    ghost use Rattle.iref_component.specs.Components.{view_text};
+
+    ghost hash_input = { λ v. R.Key.fed (R.Key.key (view_text v)) };
+
+    ghost respects_eq = { λ _ _ same. ap R.Key.fed (R.Key.tells _ _ same) };
+
+    fn hash<H: Hasher>(&self, state: &mut H) {
+        R::Key::feed::<C, H>(self.text, state);
+    }
+}
+
+impl<R: Rule, C: CharSet> fmt::Display for View<'_, R, C> {
+    ghost use Rattle.iref_component.specs.Components.{view_text};
+
+    ghost output = { λ view. Some (view_text view) };
+
+    fn fmt<W: fmt::Write>(&self, f: &mut fmt::Formatter<W>) -> fmt::Result {
+        f.write_str(self.text)
+    }
+}
+
+impl<R: Rule, C: CharSet> fmt::Debug for View<'_, R, C> {
+    fn fmt<W: fmt::Write>(&self, f: &mut fmt::Formatter<W>) -> fmt::Result {
+        fmt::Debug::fmt(&self.text, f)
+    }
+}
