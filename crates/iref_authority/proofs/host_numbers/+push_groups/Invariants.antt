@@ -1,5 +1,0 @@
-use Rattle.std.proofs.Common.{length}
-use Rattle.iref_authority.proofs.host_numbers.+push_groups.Given as goal
-
-abbrev pub decreases-push_groups : goal.decreases-push_groups
-decreases-push_groups l = length l.groups.now

@@ -1,0 +1,83 @@
+//! The rule of authorities, and what they are compared by (RFC 3986 sections 3.2 and 6.2.2).
+ghost use Rattle.std.specs.Prelude.{◌≡◌, true};
+ghost use Rattle.iref_grammar.specs.Grammar.{IsAuthority};
+ghost use Rattle.iref_grammar.specs.Authority.{AuthorityValue, is_authority, read_authority};
+ghost use Rattle.iref_grammar.proofs.AuthorityRuleLemmas.{Decides-is_authority};
+ghost use Rattle.iref_grammar.proofs.EmptyLemmas.{is_authority_empty};
+ghost use Rattle.iref_model.specs.AuthorityKey.{authority_key, authority_key_cmp, fed_authority, authority_keys_total};
+ghost use Rattle.iref_model.proofs.KeyOrderLemmas.{authority_keys_tell};
+
+use crate::parts::parts_of;
+use iref_component::key::Key;
+use iref_component::rule::{AllowsEmpty, Keyed, Refuses, Rule};
+use iref_error::InvalidAuthority;
+use iref_grammar::chars::CharSet;
+use iref_parse::authority;
+use std::cmp::Ordering;
+use std::hash::{Hash, Hasher};
+
+/// The rule of authorities (RFC 3986 section 3.2).
+pub struct AuthorityRule;
+
+impl Rule for AuthorityRule {
+    ghost rule = { IsAuthority };
+
+    ghost decided = { Decides-is_authority };
+
+    ghost test = { is_authority };
+
+    fn accepts<C: CharSet>(text: &str) -> bool {
+        authority::is_authority::<C>(text)
+    }
+}
+
+impl<T> Refuses<T> for AuthorityRule {
+    type Error = InvalidAuthority<T>;
+
+    ghost refused = { λ error. error.0 };
+
+    fn refuse(input: T) -> InvalidAuthority<T> {
+        InvalidAuthority(input)
+    }
+}
+
+impl AllowsEmpty for AuthorityRule {
+    ghost allows_empty = { is_authority_empty };
+}
+
+impl Keyed for AuthorityRule {
+    type Key = PartsKey;
+
+    ghost keyed = { λ _ _ in_rule. in_rule };
+}
+
+/// The parts: user info and host as decoded bytes, the port as text.
+pub struct PartsKey;
+
+impl Key for PartsKey {
+    ghost Kept = { AuthorityValue };
+
+    ghost key = { λ text. authority_key (read_authority text) };
+
+    ghost order = { authority_key_cmp };
+
+    ghost fed = { fed_authority };
+
+    ghost has_key = { λ tests text. is_authority tests text ≡ true };
+
+    ghost total = { authority_keys_total };
+
+    ghost tells = { authority_keys_tell };
+
+    fn compare<C: CharSet>(a: &str, b: &str) -> Ordering {
+        parts_of::<C>(a).cmp(&parts_of::<C>(b))
+    }
+
+    fn is_equal<C: CharSet>(a: &str, b: &str) -> bool {
+        Self::compare::<C>(a, b).is_eq()
+    }
+
+    fn feed<C: CharSet, H: Hasher>(text: &str, state: &mut H) {
+        parts_of::<C>(text).hash(state);
+    }
+}
