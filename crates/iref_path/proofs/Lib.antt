@@ -1,1 +1,1 @@
-pub mod PathOrderLemmas
+pub mod ComparisonLemmas

@@ -1,3 +1,2 @@
-pub mod Views
-pub mod NormalViews
-pub mod PathOrder
+pub mod Paths
+pub mod NormalPaths

@@ -5,7 +5,5 @@ pub mod equality;
 pub mod normal;
 pub mod path;
 pub mod path_buf;
-pub mod rules;
-pub mod segment;
-pub mod segment_buf;
+pub mod rule;
 pub mod segments;

@@ -6,12 +6,11 @@ ghost use Rattle.std.specs.Iterator.{YieldsFirstBy, YieldsLastBy, item_count};
 ghost use Rattle.iref_grammar.specs.PathValue.{read_path};
 ghost use Rattle.iref_grammar.specs.Tests.{is_path, is_segment};
 ghost use Rattle.iref_model.specs.NormalList.{normal_segments};
-ghost use Rattle.iref_normal.specs.Remaining.{IsReadable, is_settled, normal_left};
+ghost use Rattle.iref_path_text.specs.Remaining.{IsSound, normal_left};
 
-use crate::path::Path;
-use crate::segment::Segment;
+use iref_component::texts::Segment;
 use iref_grammar::chars::CharSet;
-use iref_normal::remaining::Remaining;
+use iref_path_text::remaining::Remaining;
 use std::marker::PhantomData;
 
 /// The normal segments of a path that are left.
@@ -20,14 +19,13 @@ pub struct NormalizedSegments<'a, C: CharSet> {
     left: Remaining<'a>,
     count: usize,
     chars: PhantomData<C>,
-    ghost readable: { IsReadable left },
-    ghost settled: { is_settled left ≡ true },
+    ghost sound: { IsSound left },
     ghost counted: { count ≡ length (normal_left left) },
     ghost in_grammar: { list_all (is_segment C.tests) (normal_left left) ≡ true },
 }
 
 impl<'a, C: CharSet> NormalizedSegments<'a, C> {
-    ghost use Rattle.iref_path.specs.NormalViews.{normal_segments_left};
+    ghost use Rattle.iref_path.specs.NormalPaths.{normal_segments_left};
 
     /// Those of a path's text.
     pub(crate) fn of_text(path: &'a str) -> Self
@@ -43,25 +41,13 @@ impl<'a, C: CharSet> NormalizedSegments<'a, C> {
     }
 }
 
-impl<'a, C: CharSet> Path<'a, C> {
-    ghost use Rattle.iref_path.specs.Views.{path_value};
-    ghost use Rattle.iref_path.specs.NormalViews.{normal_segments_left};
-
-    /// The normal segments: the `..` that nothing cancels stand first where the path is relative.
-    pub fn normalized_segments(&self) -> NormalizedSegments<'a, C>
-        ensures { normal_segments_left result ≡ normal_segments (path_value self.now) }
-    {
-        NormalizedSegments::of_text(self.as_str())
-    }
-}
-
 impl<'a, C: CharSet> Iterator for NormalizedSegments<'a, C> {
-    ghost use Rattle.iref_path.specs.Views.{segment_text};
-    ghost use Rattle.iref_path.specs.NormalViews.{normal_segments_left};
+    ghost use Rattle.iref_component.specs.Components.{view_text};
+    ghost use Rattle.iref_path.specs.NormalPaths.{normal_segments_left};
 
     type Item = Segment<'a, C>;
 
-    ghost next_gives = { YieldsFirstBy segment_text normal_segments_left };
+    ghost next_gives = { YieldsFirstBy view_text normal_segments_left };
 
     ghost remaining = { item_count normal_segments_left };
 
@@ -77,10 +63,10 @@ impl<'a, C: CharSet> Iterator for NormalizedSegments<'a, C> {
 }
 
 impl<'a, C: CharSet> DoubleEndedIterator for NormalizedSegments<'a, C> {
-    ghost use Rattle.iref_path.specs.Views.{segment_text};
-    ghost use Rattle.iref_path.specs.NormalViews.{normal_segments_left};
+    ghost use Rattle.iref_component.specs.Components.{view_text};
+    ghost use Rattle.iref_path.specs.NormalPaths.{normal_segments_left};
 
-    ghost next_back_gives = { YieldsLastBy segment_text normal_segments_left };
+    ghost next_back_gives = { YieldsLastBy view_text normal_segments_left };
 
     fn next_back(&mut self) -> Option<Segment<'a, C>> {
         let text = self.left.next_back()?;

@@ -1,44 +1,40 @@
 //! Paths (RFC 3986 section 3.3).
 
-ghost use Rattle.std.specs.Prelude.{◌≡◌, ◌<◌, ◌^◌, true, not, [], Some, length, codes, option_map};
-ghost use Rattle.std.specs.Cmp.{partial_order_from_own_ties};
-ghost use Rattle.std.specs.Ordering.{as_partial_cmp, eq_by_cmp, on};
-ghost use Rattle.std.specs.Cmp.Rules.{comparing};
-ghost use Rattle.std.proofs.Common.{rules};
-ghost use Rattle.iref_grammar.specs.Rules.{InUtf8};
 ghost use Rattle.iref_grammar.specs.Grammar.{IsPath};
 ghost use Rattle.iref_grammar.specs.Tests.{is_path};
-ghost use Rattle.iref_core.specs.Makers.{Parses};
-ghost use Rattle.iref_grammar.specs.Texts.{is_empty};
+ghost use Rattle.std.specs.Prelude.{◌≡◌, ◌<◌, ◌^◌, true, not, [], Some, IfOk, length, codes, option_map};
+ghost use Rattle.iref_grammar.specs.Rules.{InUtf8};
 ghost use Rattle.iref_model.specs.PathFunctions as function;
-ghost use Rattle.iref_path.specs.Views.{path_text, path_value, segment_text, segments_left};
-ghost use Rattle.iref_model.specs.PathKey.{path_key, path_key_cmp, path_keys_total};
-ghost use Rattle.iref_model.specs.PathHash.{fed_path};
-ghost use Rattle.iref_normal.proofs.OrderLemmas.{fed_where_tied};
+ghost use Rattle.iref_grammar.specs.Contexts.{alone};
+ghost use Rattle.iref_model.specs.PathSteps as step;
+ghost use Rattle.iref_model.specs.PathKey.{path_key};
+ghost use Rattle.iref_component.specs.Makers.{Parses};
+ghost use Rattle.iref_path.specs.Paths.{path_text, path_value, path_buf_text, path_buf_value, segments_left};
+ghost use Rattle.iref_grammar.specs.PathValue.{spell_path};
+ghost use Rattle.iref_grammar.specs.Texts.{is_empty};
+ghost use Rattle.iref_component.specs.Components.{view_text};
+ghost use Rattle.iref_model.specs.NormalList.{normal_segments};
+ghost use Rattle.iref_path.specs.NormalPaths.{normal_segments_left};
 
-use crate::equality::{Steps, new_steps_have_room, path_eq_counted};
-use crate::rules::PathRule;
-use crate::segment::Segment;
+use crate::normal::NormalizedSegments;
+use crate::path_buf::PathBuf;
+use crate::rule::PathRule;
 use crate::segments::Segments;
-use iref_core::view::View;
+use iref_component::segment::looks_like_scheme;
+use iref_component::texts::Segment;
+use iref_component::view::View;
+pub use iref_error::InvalidPath;
+use iref_error::Memory;
 use iref_grammar::chars::CharSet;
-use iref_normal::order::{hash_path_text, path_texts_cmp};
-use iref_normal::path_text::{directory_text, looks_like_scheme, parent_text};
-use iref_normal::pieces::split_root;
-use std::cmp::Ordering;
+use iref_path_text::path_text::{directory_text, parent_text};
+use iref_path_text::pieces::split_root;
+use iref_path_text::spell::normalized_text;
+use std::alloc::Global;
 use std::convert::TryFrom;
 use std::fmt;
-use std::hash::{Hash, Hasher};
-use thiserror::Error;
-
-/// The text or the bytes are no path.
-#[derive(Clone, Copy, Debug, PartialEq, Eq, Drop, Error)]
-#[error_bound(T: fmt::Display)]
-#[error("{0}")]
-pub struct InvalidPath<T>(pub T);
 
 /// A path.
-#[derive_where(Clone, Copy, Debug)]
+#[derive_where(Clone, Copy, PartialEq, Eq, PartialOrd, Ord, Hash)]
 pub struct Path<'a, C: CharSet> {
     pub(crate) text: View<'a, PathRule, C>,
 }
@@ -46,20 +42,18 @@ pub struct Path<'a, C: CharSet> {
 impl<'a, C: CharSet> Path<'a, C> {
     /// The path of a text, or the text.
     pub fn new(text: &'a str) -> Result<Self, InvalidPath<&'a str>>
-        ensures { Parses (InUtf8 (IsPath C.tests)) text.now path_text (λ fault. fault.0 ≡ text.entry) result }
+        ensures { Parses (InUtf8 (IsPath C.tests)) text.now path_text
+            (λ error. error.0 ≡ text.entry) result }
     {
-        View::new(text)
-            .map(|text| Path { text })
-            .map_err(InvalidPath)
+        View::new(text).map(|text| Path { text })
     }
 
     /// The path of the UTF-8 of a text, or the bytes.
     pub fn from_bytes(bytes: &'a [u8]) -> Result<Self, InvalidPath<&'a [u8]>>
-        ensures { Parses (InUtf8 (IsPath C.tests)) bytes.now path_text (λ fault. fault.0 ≡ bytes.entry) result }
+        ensures { Parses (InUtf8 (IsPath C.tests)) bytes.now path_text
+            (λ error. error.0 ≡ bytes.entry) result }
     {
-        View::from_bytes(bytes)
-            .map(|text| Path { text })
-            .map_err(InvalidPath)
+        View::from_bytes(bytes).map(|text| Path { text })
     }
 
     /// The path of a text that is known to be one.
@@ -84,7 +78,7 @@ impl<'a, C: CharSet> Path<'a, C> {
     pub fn as_bytes(&self) -> &'a [u8]
         ensures { result.now ≡ path_text self.now }
     {
-        self.text.as_str().as_bytes()
+        self.text.as_bytes()
     }
 
     /// The relative path without segments.
@@ -111,7 +105,7 @@ impl<'a, C: CharSet> Path<'a, C> {
     }
 
     /// Whether the path has no segments.
-    #[tactic(auto, using(iref_normal::proofs::SlashLemmas::some_pieces))]
+    #[tactic(auto, using(iref_path_text::proofs::SlashLemmas::some_pieces))]
     pub fn is_empty(&self) -> bool
         ensures { result ≡ is_empty (path_value self.now).segments }
     {
@@ -149,14 +143,14 @@ impl<'a, C: CharSet> Path<'a, C> {
 
     /// The first segment.
     pub fn first(&self) -> Option<Segment<'a, C>>
-        ensures { option_map segment_text result ≡ function.first (path_value self.now) }
+        ensures { option_map view_text result ≡ function.first (path_value self.now) }
     {
         self.segments().next()
     }
 
     /// The last segment.
     pub fn last(&self) -> Option<Segment<'a, C>>
-        ensures { option_map segment_text result ≡ function.last (path_value self.now) }
+        ensures { option_map view_text result ≡ function.last (path_value self.now) }
     {
         self.segments().next_back()
     }
@@ -164,13 +158,14 @@ impl<'a, C: CharSet> Path<'a, C> {
     /// The last segment unless it is empty.
     #[tactic(auto, unfolding(iref_model::specs::PathFunctions::file_name))]
     pub fn file_name(&self) -> Option<Segment<'a, C>>
-        ensures { option_map segment_text result ≡ function.file_name (path_value self.now) }
+        ensures { option_map view_text result ≡ function.file_name (path_value self.now) }
     {
         let last = self.last()?;
         if last.is_empty() { None } else { Some(last) }
     }
 
-    /// All up to and with the last `/` (RFC 3986 section 5.2.3): the empty path where there is none.
+    /// All up to and with the last `/` (RFC 3986 section 5.2.3): the empty path where there is
+    /// none.
     pub fn directory(&self) -> Self
         ensures text { path_text result ≡ function.directory_text (path_text self.now) }
         ensures value { path_value result ≡ function.directory (path_value self.now) }
@@ -182,10 +177,8 @@ impl<'a, C: CharSet> Path<'a, C> {
     pub fn parent(&self) -> Option<Self>
         ensures { option_map path_value result ≡ function.parent (path_value self.now) }
     {
-        match parent_text::<C>(self.as_str()) {
-            Some(text) => Some(Path::new_unchecked(text)),
-            None => None,
-        }
+        let text = parent_text::<C>(self.as_str())?;
+        Some(Path::new_unchecked(text))
     }
 
     /// The parent, or else the empty path that is absolute where this one is.
@@ -211,6 +204,36 @@ impl<'a, C: CharSet> Path<'a, C> {
         }
     }
 
+    /// The normal segments: the `..` that nothing cancels stand first where the path is relative.
+    pub fn normalized_segments(&self) -> NormalizedSegments<'a, C>
+        ensures { normal_segments_left result ≡ normal_segments (path_value self.now) }
+    {
+        NormalizedSegments::of_text(self.as_str())
+    }
+
+    /// The path of the normal segments, with a guard where one is needed (RFC 3986 section 5.2.4).
+    /// It is equal to this path.
+    #[tactic(auto, using(crate::proofs::ComparisonLemmas::normalized_keys))]
+    pub fn normalized(&self, alloc: Global) -> Result<PathBuf<C>, Memory>
+        ensures text { IfOk result (λ path.
+            path_buf_text path ≡ spell_path (step.normalized alone (path_value self.now))) }
+        ensures value { IfOk result (λ path.
+            path_buf_value path ≡ step.normalized alone (path_value self.now)) }
+        ensures equal { IfOk result (λ path.
+            path_key (path_buf_value path) ≡ path_key (path_value self.now)) }
+    {
+        let text = normalized_text::<C>(alloc, self.as_str())?;
+        Ok(PathBuf::new_unchecked(text))
+    }
+
+    /// An owner of a copy.
+    pub fn to_owned(&self, alloc: Global) -> Result<PathBuf<C>, Memory>
+        ensures { IfOk result (λ copy. path_buf_text copy ≡ path_text self.now) }
+    {
+        let text = self.text.to_owned(alloc)?;
+        Ok(PathBuf { text })
+    }
+
     /// Whether what stands before the first `:` is a scheme (RFC 3986 section 4.2).
     pub fn looks_like_scheme(&self) -> bool
         ensures { result ≡ function.looks_like_scheme (path_text self.now) }
@@ -230,7 +253,9 @@ impl<C: CharSet> Default for Path<'_, C> {
 impl<'a, C: CharSet> TryFrom<&'a str> for Path<'a, C> {
     type Error = InvalidPath<&'a str>;
 
-    ghost try_from_gives = { λ text result. Parses (InUtf8 (IsPath C.tests)) text.now path_text (λ fault. fault.0 ≡ text) result };
+    ghost try_from_gives = { λ text result.
+        Parses (InUtf8 (IsPath C.tests)) text.now path_text
+        (λ error. error.0 ≡ text) result };
 
     fn try_from(text: &'a str) -> Result<Self, InvalidPath<&'a str>> {
         Path::new(text)
@@ -240,10 +265,18 @@ impl<'a, C: CharSet> TryFrom<&'a str> for Path<'a, C> {
 impl<'a, C: CharSet> TryFrom<&'a [u8]> for Path<'a, C> {
     type Error = InvalidPath<&'a [u8]>;
 
-    ghost try_from_gives = { λ bytes result. Parses (InUtf8 (IsPath C.tests)) bytes.now path_text (λ fault. fault.0 ≡ bytes) result };
+    ghost try_from_gives = { λ bytes result.
+        Parses (InUtf8 (IsPath C.tests)) bytes.now path_text
+        (λ error. error.0 ≡ bytes) result };
 
     fn try_from(bytes: &'a [u8]) -> Result<Self, InvalidPath<&'a [u8]>> {
         Path::from_bytes(bytes)
+    }
+}
+
+impl<C: CharSet> fmt::Debug for Path<'_, C> {
+    fn fmt<W: fmt::Write>(&self, f: &mut fmt::Formatter<W>) -> fmt::Result {
+        fmt::Debug::fmt(&self.text, f)
     }
 }
 
@@ -255,61 +288,14 @@ impl<C: CharSet> fmt::Display for Path<'_, C> {
     }
 }
 
-impl<C: CharSet> PartialEq for Path<'_, C> {
-    ghost eq = { eq_by_cmp (on (λ p. path_key (path_value p)) path_key_cmp) };
-
-    ghost laws = { Prim.search (path_keys_total, comparing, rules) };
-
-    fn eq(&self, other: &Self) -> bool {
-        new_steps_have_room(*self, *other);
-        path_eq_counted(*self, *other, &mut Steps::new())
-    }
-}
-
-impl<C: CharSet> Eq for Path<'_, C> {
-    ghost laws = { Prim.search (path_keys_total, comparing, rules) };
-}
-
-impl<C: CharSet> Ord for Path<'_, C> {
-    ghost cmp = { on (λ p. path_key (path_value p)) path_key_cmp };
-
-    ghost total = { Prim.search (path_keys_total, comparing, rules) };
-
-    ghost matches_partial_cmp = { Prim.search (comparing, rules) };
-
-    ghost matches_eq = { Prim.search (comparing, rules) };
-
-    fn cmp(&self, other: &Self) -> Ordering {
-        path_texts_cmp(self.as_str(), other.as_str())
-    }
-}
-
-impl<C: CharSet> PartialOrd for Path<'_, C> {
-    ghost partial_cmp = { as_partial_cmp (on (λ p. path_key (path_value p)) path_key_cmp) };
-
-    ghost laws = { partial_order_from_own_ties (Prim.search (path_keys_total, comparing, rules)) (Prim.search (comparing, rules)) };
-
-    fn partial_cmp(&self, other: &Self) -> Option<Ordering> {
-        Some(self.cmp(other))
-    }
-}
-
-impl<C: CharSet> Hash for Path<'_, C> {
-    ghost hash_input = { λ path. fed_path (path_key (path_value path)) };
-
-    ghost respects_eq = { λ p q. fed_where_tied (path_key (path_value p)) (path_key (path_value q)) };
-
-    fn hash<H: Hasher>(&self, state: &mut H) {
-        hash_path_text(self.as_str(), state);
-    }
-}
-
 impl<'a, C: CharSet> IntoIterator for Path<'a, C> {
     type Item = Segment<'a, C>;
 
     type IntoIter = Segments<'a, C>;
 
-    ghost into_iter_gives = { λ path segments. (segments_left segments ≡ (path_value path).segments) × (length (segments_left segments) < 2 ^ 64) };
+    ghost into_iter_gives = { λ path segments.
+        (segments_left segments ≡ (path_value path).segments)
+        × (length (segments_left segments) < 2 ^ 64) };
 
     fn into_iter(self) -> Segments<'a, C> {
         self.segments()

@@ -1,95 +1,72 @@
 //! Paths that own their text (RFC 3986 section 3.3).
 
-ghost use Rattle.std.specs.Prelude.{◌≡◌, ◌<◌, ◌^◌, true, not, [], Some, IfOk, length, option_map};
-ghost use Rattle.std.specs.String.{string_bytes};
-ghost use Rattle.std.specs.Cmp.{partial_order_from_own_ties};
-ghost use Rattle.std.specs.Ordering.{as_partial_cmp, eq_by_cmp, on};
-ghost use Rattle.std.specs.Cmp.Rules.{comparing};
-ghost use Rattle.std.proofs.Common.{rules};
-ghost use Rattle.iref_grammar.specs.Rules.{InUtf8};
-ghost use Rattle.iref_grammar.specs.Contexts.{alone};
-ghost use Rattle.iref_grammar.specs.Grammar.{IsPath};
+ghost use Rattle.iref_grammar.specs.Keys.{ComparesBy};
+ghost use Rattle.iref_model.specs.PathKey.{path_key, path_key_cmp};
 ghost use Rattle.iref_grammar.specs.PathValue.{spell_path};
-ghost use Rattle.iref_grammar.specs.Tests.{is_path};
-ghost use Rattle.iref_grammar.specs.Texts.{is_empty};
-ghost use Rattle.iref_core.specs.Makers.{Parses};
-ghost use Rattle.iref_model.specs.NormalList.{normal_segments};
+ghost use Rattle.iref_path.specs.NormalPaths.{normal_segments_left};
+ghost use Rattle.std.specs.String.{string_bytes};
+ghost use Rattle.iref_grammar.specs.Rules.{InUtf8};
 ghost use Rattle.iref_model.specs.PathFunctions as function;
-ghost use Rattle.iref_model.specs.PathKey.{path_key, path_key_cmp, path_keys_total};
-ghost use Rattle.iref_model.specs.PathHash.{fed_path};
+ghost use Rattle.iref_path.specs.Paths.{path_text, path_value, path_buf_text, path_buf_value, segments_left};
+ghost use Rattle.iref_component.specs.Makers.{Parses};
 ghost use Rattle.iref_model.specs.PathSteps as step;
-ghost use Rattle.iref_normal.proofs.OrderLemmas.{fed_where_tied};
-ghost use Rattle.iref_path.specs.Views.{path_text, path_buf_text, path_value, path_buf_value, segment_text, segments_left};
-ghost use Rattle.iref_path.specs.NormalViews.{normal_segments_left};
-ghost use Rattle.iref_path.specs.PathOrder.{ComparesByPathKey};
+ghost use Rattle.iref_component.specs.Components.{view_text};
+ghost use Rattle.iref_grammar.specs.Tests.{is_path};
+ghost use Rattle.iref_grammar.specs.Contexts.{alone};
+ghost use Rattle.iref_model.specs.NormalList.{normal_segments};
+ghost use Rattle.std.specs.Prelude.{◌≡◌, ◌<◌, ◌^◌, true, not, [], Some, IfOk, length, option_map};
+ghost use Rattle.iref_model.specs.PathHash.{fed_path};
+ghost use Rattle.iref_grammar.specs.Texts.{is_empty};
+ghost use Rattle.iref_grammar.specs.Grammar.{IsPath};
 
 use crate::normal::NormalizedSegments;
-use crate::path::{InvalidPath, Path};
-use crate::rules::PathRule;
-use crate::segment::Segment;
+use crate::path::Path;
+use crate::rule::PathRule;
 use crate::segments::Segments;
-use iref_core::error::Memory;
-use iref_core::owned::TextBuf;
+use iref_component::owned::TextBuf;
+use iref_component::texts::Segment;
+use iref_error::{InvalidPath, Memory};
 use iref_grammar::chars::CharSet;
-use iref_model::path_laws::normalizing_keeps_the_key;
-use iref_normal::spell::normalized_text;
 use std::alloc::Global;
-use std::cmp::Ordering;
 use std::convert::TryFrom;
 use std::fmt;
-use std::hash::{Hash, Hasher};
-
-impl<C: CharSet> Path<'_, C> {
-    /// An owner of a copy.
-    pub fn to_owned(&self, alloc: Global) -> Result<PathBuf<C>, Memory>
-        ensures { IfOk result (λ copy. path_buf_text copy ≡ path_text self.now) }
-    {
-        let text = TextBuf::from_view(self.text, alloc)?;
-        Ok(PathBuf { text })
-    }
-
-    /// The path of the normal segments, with a guard where one is needed (RFC 3986 section 5.2.4). It is equal to this path.
-    pub fn normalized(&self, alloc: Global) -> Result<PathBuf<C>, Memory>
-        ensures text { IfOk result (λ path. path_buf_text path ≡ spell_path (step.normalized alone (path_value self.now))) }
-        ensures value { IfOk result (λ path. path_buf_value path ≡ step.normalized alone (path_value self.now)) }
-        ensures equal { IfOk result (λ path. path_key (path_buf_value path) ≡ path_key (path_value self.now)) }
-    {
-        normalizing_keeps_the_key();
-        let text = normalized_text::<C>(self.as_str(), alloc)?;
-        Ok(PathBuf {
-            text: TextBuf::new_unchecked(text),
-        })
-    }
-}
+use std::hash::Hash;
 
 /// A path that owns its text.
 #[derive(Drop)]
-#[derive_where(Debug)]
+#[derive_where(PartialEq, Eq, PartialOrd, Ord, Hash)]
 pub struct PathBuf<C: CharSet> {
-    text: TextBuf<PathRule, C>,
+    pub(crate) text: TextBuf<PathRule, C>,
 }
 
 impl<C: CharSet> PathBuf<C> {
     /// The path of this text, with no copy, or the text.
     pub fn new(text: String) -> Result<Self, InvalidPath<String>>
-        ensures { Parses (InUtf8 (IsPath C.tests)) (string_bytes text) path_buf_text (λ fault. fault.0 ≡ text) result }
+        ensures { Parses (InUtf8 (IsPath C.tests)) (string_bytes text) path_buf_text
+            (λ error. error.0 ≡ text) result }
     {
-        TextBuf::new(text)
-            .map(|text| PathBuf { text })
-            .map_err(InvalidPath)
+        TextBuf::new(text).map(|text| PathBuf { text })
     }
 
     /// The path of these bytes of UTF-8, with no copy, or the bytes.
     pub fn from_bytes(bytes: Vec<u8>) -> Result<Self, InvalidPath<Vec<u8>>>
-        ensures { Parses (InUtf8 (IsPath C.tests)) bytes.items path_buf_text (λ fault. fault.0 ≡ bytes) result }
+        ensures { Parses (InUtf8 (IsPath C.tests)) bytes.items path_buf_text
+            (λ error. error.0 ≡ bytes) result }
     {
-        TextBuf::from_bytes(bytes)
-            .map(|text| PathBuf { text })
-            .map_err(InvalidPath)
+        TextBuf::from_bytes(bytes).map(|text| PathBuf { text })
+    }
+
+    // The path of a text that is known to be one.
+    pub(crate) fn new_unchecked(text: String) -> Self
+        requires { is_path C.tests (string_bytes text) ≡ true }
+        ensures { path_buf_text result ≡ string_bytes text }
+    {
+        PathBuf {
+            text: TextBuf::new_unchecked(text),
+        }
     }
 
     /// The empty path, which takes no memory.
-    #[tactic(auto, using(iref_model::proofs::PathGrammarLemmas::empty_paths))]
     pub fn empty(alloc: Global) -> Self
         ensures { path_buf_text result ≡ [] }
     {
@@ -112,14 +89,7 @@ impl<C: CharSet> PathBuf<C> {
         ensures text { result.now ≡ path_buf_text self.now }
         ensures in_rule { is_path C.tests result.now ≡ true }
     {
-        self.as_path().as_str()
-    }
-
-    /// The bytes of the text.
-    pub fn as_bytes(&self) -> &[u8]
-        ensures { result.now ≡ path_buf_text self.now }
-    {
-        self.as_str().as_bytes()
+        self.text.as_str()
     }
 
     /// How many bytes the text has.
@@ -127,6 +97,13 @@ impl<C: CharSet> PathBuf<C> {
         ensures { result ≡ length (path_buf_text self.now) }
     {
         self.as_path().len()
+    }
+
+    /// The bytes of the text.
+    pub fn as_bytes(&self) -> &[u8]
+        ensures { result.now ≡ path_buf_text self.now }
+    {
+        self.text.as_bytes()
     }
 
     /// Whether the path has no segments.
@@ -165,11 +142,15 @@ impl<C: CharSet> PathBuf<C> {
         self.as_path().normalized_segments()
     }
 
-    /// The path of the normal segments, with a guard where one is needed (RFC 3986 section 5.2.4). It is equal to this path.
+    /// The path of the normal segments, with a guard where one is needed (RFC 3986 section 5.2.4).
+    /// It is equal to this path.
     pub fn normalized(&self, alloc: Global) -> Result<PathBuf<C>, Memory>
-        ensures text { IfOk result (λ path. path_buf_text path ≡ spell_path (step.normalized alone (path_buf_value self.now))) }
-        ensures value { IfOk result (λ path. path_buf_value path ≡ step.normalized alone (path_buf_value self.now)) }
-        ensures equal { IfOk result (λ path. path_key (path_buf_value path) ≡ path_key (path_buf_value self.now)) }
+        ensures text { IfOk result (λ path.
+            path_buf_text path ≡ spell_path (step.normalized alone (path_buf_value self.now))) }
+        ensures value { IfOk result (λ path.
+            path_buf_value path ≡ step.normalized alone (path_buf_value self.now)) }
+        ensures equal { IfOk result (λ path.
+            path_key (path_buf_value path) ≡ path_key (path_buf_value self.now)) }
     {
         self.as_path().normalized(alloc)
     }
@@ -183,26 +164,27 @@ impl<C: CharSet> PathBuf<C> {
 
     /// The first segment.
     pub fn first(&self) -> Option<Segment<'_, C>>
-        ensures { option_map segment_text result ≡ function.first (path_buf_value self.now) }
+        ensures { option_map view_text result ≡ function.first (path_buf_value self.now) }
     {
         self.as_path().first()
     }
 
     /// The last segment.
     pub fn last(&self) -> Option<Segment<'_, C>>
-        ensures { option_map segment_text result ≡ function.last (path_buf_value self.now) }
+        ensures { option_map view_text result ≡ function.last (path_buf_value self.now) }
     {
         self.as_path().last()
     }
 
     /// The last segment unless it is empty.
     pub fn file_name(&self) -> Option<Segment<'_, C>>
-        ensures { option_map segment_text result ≡ function.file_name (path_buf_value self.now) }
+        ensures { option_map view_text result ≡ function.file_name (path_buf_value self.now) }
     {
         self.as_path().file_name()
     }
 
-    /// All up to and with the last `/` (RFC 3986 section 5.2.3): the empty path where there is none.
+    /// All up to and with the last `/` (RFC 3986 section 5.2.3): the empty path where there is
+    /// none.
     pub fn directory(&self) -> Path<'_, C>
         ensures text { path_text result ≡ function.directory_text (path_buf_text self.now) }
         ensures value { path_value result ≡ function.directory (path_buf_value self.now) }
@@ -236,22 +218,23 @@ impl<C: CharSet> PathBuf<C> {
         ensures text { string_bytes result ≡ path_buf_text self }
         ensures in_rule { is_path C.tests (string_bytes result) ≡ true }
     {
-        let PathBuf { text } = self;
-        text.into_string()
+        self.text.into_string()
     }
 
     /// The bytes of the text, with no copy.
     pub fn into_bytes(self) -> Vec<u8>
         ensures { result.items ≡ path_buf_text self }
     {
-        self.into_string().into_bytes()
+        self.text.into_bytes()
     }
 }
 
 impl<C: CharSet> TryFrom<String> for PathBuf<C> {
     type Error = InvalidPath<String>;
 
-    ghost try_from_gives = { λ text result. Parses (InUtf8 (IsPath C.tests)) (string_bytes text) path_buf_text (λ fault. fault.0 ≡ text) result };
+    ghost try_from_gives = { λ text result.
+        Parses (InUtf8 (IsPath C.tests)) (string_bytes text) path_buf_text
+        (λ error. error.0 ≡ text) result };
 
     fn try_from(text: String) -> Result<Self, InvalidPath<String>> {
         PathBuf::new(text)
@@ -261,10 +244,18 @@ impl<C: CharSet> TryFrom<String> for PathBuf<C> {
 impl<C: CharSet> TryFrom<Vec<u8>> for PathBuf<C> {
     type Error = InvalidPath<Vec<u8>>;
 
-    ghost try_from_gives = { λ bytes result. Parses (InUtf8 (IsPath C.tests)) bytes.items path_buf_text (λ fault. fault.0 ≡ bytes) result };
+    ghost try_from_gives = { λ bytes result.
+        Parses (InUtf8 (IsPath C.tests)) bytes.items path_buf_text
+        (λ error. error.0 ≡ bytes) result };
 
     fn try_from(bytes: Vec<u8>) -> Result<Self, InvalidPath<Vec<u8>>> {
         PathBuf::from_bytes(bytes)
+    }
+}
+
+impl<C: CharSet> fmt::Debug for PathBuf<C> {
+    fn fmt<W: fmt::Write>(&self, f: &mut fmt::Formatter<W>) -> fmt::Result {
+        fmt::Debug::fmt(&self.text, f)
     }
 }
 
@@ -276,57 +267,17 @@ impl<C: CharSet> fmt::Display for PathBuf<C> {
     }
 }
 
-impl<C: CharSet> PartialEq for PathBuf<C> {
-    ghost eq = { eq_by_cmp (on (λ p. path_key (path_buf_value p)) path_key_cmp) };
-
-    ghost laws = { Prim.search (path_keys_total, comparing, rules) };
-
-    fn eq(&self, other: &Self) -> bool {
-        self.as_path() == other.as_path()
-    }
-}
-
-impl<C: CharSet> Eq for PathBuf<C> {
-    ghost laws = { Prim.search (path_keys_total, comparing, rules) };
-}
-
-impl<C: CharSet> Ord for PathBuf<C> {
-    ghost cmp = { on (λ p. path_key (path_buf_value p)) path_key_cmp };
-
-    ghost total = { Prim.search (path_keys_total, comparing, rules) };
-
-    ghost matches_partial_cmp = { Prim.search (comparing, rules) };
-
-    ghost matches_eq = { Prim.search (comparing, rules) };
-
-    fn cmp(&self, other: &Self) -> Ordering {
-        self.as_path().cmp(&other.as_path())
-    }
-}
-
-impl<C: CharSet> PartialOrd for PathBuf<C> {
-    ghost partial_cmp = { as_partial_cmp (on (λ p. path_key (path_buf_value p)) path_key_cmp) };
-
-    ghost laws = { partial_order_from_own_ties (Prim.search (path_keys_total, comparing, rules)) (Prim.search (comparing, rules)) };
-
-    fn partial_cmp(&self, other: &Self) -> Option<Ordering> {
-        Some(self.cmp(other))
-    }
-}
-
-impl<C: CharSet> Hash for PathBuf<C> {
-    ghost hash_input = { λ path. fed_path (path_key (path_buf_value path)) };
-
-    ghost respects_eq = { λ p q. fed_where_tied (path_key (path_buf_value p)) (path_key (path_buf_value q)) };
-
-    fn hash<H: Hasher>(&self, state: &mut H) {
-        self.as_path().hash(state);
-    }
-}
-
-/// Paths are equal where their flags and their normal segments, decoded, are the same; they are in the order of these, and
+/// Paths are equal where their flags and their normal segments, decoded, are the same; they are in
+/// the order of these, and
 /// a hasher is fed them (RFC 3986 section 6.2.2).
+#[tactic(auto, using(iref_model::proofs::TieLemmas::paths_tie))]
 pub fn paths_compare_by_key<C: CharSet>()
-    ensures view { ComparesByPathKey path_value ⟦<Path<'static, C> as PartialEq>⟧.eq ⟦<Path<'static, C> as Ord>⟧.cmp ⟦<Path<'static, C> as Hash>⟧.hash_input }
-    ensures owner { ComparesByPathKey path_buf_value ⟦<PathBuf<C> as PartialEq>⟧.eq ⟦<PathBuf<C> as Ord>⟧.cmp ⟦<PathBuf<C> as Hash>⟧.hash_input }
+    ensures view { ComparesBy (λ p. path_key (path_value p)) path_key_cmp fed_path
+        ⟦<Path<'static, C> as PartialEq>⟧.eq
+        ⟦<Path<'static, C> as Ord>⟧.cmp
+        ⟦<Path<'static, C> as Hash>⟧.hash_input }
+    ensures owner { ComparesBy (λ p. path_key (path_buf_value p)) path_key_cmp fed_path
+        ⟦<PathBuf<C> as PartialEq>⟧.eq
+        ⟦<PathBuf<C> as Ord>⟧.cmp
+        ⟦<PathBuf<C> as Hash>⟧.hash_input }
 {}

@@ -4,11 +4,11 @@ ghost use Rattle.std.specs.Prelude.{◌≡◌, true};
 ghost use Rattle.std.specs.List.{list_all};
 ghost use Rattle.std.specs.Iterator.{YieldsFirstBy, YieldsLastBy, item_count};
 ghost use Rattle.iref_grammar.specs.Tests.{is_segment};
-ghost use Rattle.iref_normal.specs.Pieces.{pieces_if_some};
+ghost use Rattle.iref_path_text.specs.Pieces.{pieces_if_some};
 
-use crate::segment::Segment;
+use iref_component::texts::Segment;
 use iref_grammar::chars::CharSet;
-use iref_normal::pieces::{first_piece, last_piece, piece_count};
+use iref_path_text::pieces::{first_piece, last_piece, piece_count};
 use std::marker::PhantomData;
 
 /// The segments of a path that are left.
@@ -21,7 +21,7 @@ pub struct Segments<'a, C: CharSet> {
 }
 
 impl<'a, C: CharSet> Segments<'a, C> {
-    ghost use Rattle.iref_path.specs.Views.{segments_left};
+    ghost use Rattle.iref_path.specs.Paths.{segments_left};
 
     /// The segments of a text, if it is there.
     pub(crate) fn of_text(rest: Option<&'a str>) -> Self
@@ -36,11 +36,12 @@ impl<'a, C: CharSet> Segments<'a, C> {
 }
 
 impl<'a, C: CharSet> Iterator for Segments<'a, C> {
-    ghost use Rattle.iref_path.specs.Views.{segment_text, segments_left};
+    ghost use Rattle.iref_component.specs.Components.{view_text};
+    ghost use Rattle.iref_path.specs.Paths.{segments_left};
 
     type Item = Segment<'a, C>;
 
-    ghost next_gives = { YieldsFirstBy segment_text segments_left };
+    ghost next_gives = { YieldsFirstBy view_text segments_left };
 
     ghost remaining = { item_count segments_left };
 
@@ -58,9 +59,10 @@ impl<'a, C: CharSet> Iterator for Segments<'a, C> {
 }
 
 impl<'a, C: CharSet> DoubleEndedIterator for Segments<'a, C> {
-    ghost use Rattle.iref_path.specs.Views.{segment_text, segments_left};
+    ghost use Rattle.iref_component.specs.Components.{view_text};
+    ghost use Rattle.iref_path.specs.Paths.{segments_left};
 
-    ghost next_back_gives = { YieldsLastBy segment_text segments_left };
+    ghost next_back_gives = { YieldsLastBy view_text segments_left };
 
     fn next_back(&mut self) -> Option<Segment<'a, C>> {
         let text = self.rest?;

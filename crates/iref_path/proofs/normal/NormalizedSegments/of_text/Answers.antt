@@ -1,4 +1,4 @@
-use Rattle.iref_normal.specs.Remaining.{normal_left}
+use Rattle.iref_path_text.specs.Remaining.{normal_left}
 use Rattle.iref_model.proofs.NormalGrammarLemmas.{normal_in_grammar}
 use Rattle.iref_path.proofs.normal.NormalizedSegments.of_text.Goals as goal
 

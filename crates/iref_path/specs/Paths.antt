@@ -1,0 +1,28 @@
+-- What callers see of the types of paths.
+use Rattle.std.specs.Prelude.{List}
+use Rattle.iref_grammar.specs.Rules.{Text}
+use Rattle.iref_grammar.specs.PathValue.{PathValue, read_path}
+use Rattle.iref_component.specs.Components.{view_text, owned_text}
+use Rattle.iref_path_text.specs.Pieces.{pieces_if_some}
+use Rattle.iref_path.specs.declared.path.Path.{Path}
+use Rattle.iref_path.specs.declared.path_buf.PathBuf.{PathBuf}
+use Rattle.iref_path.specs.declared.segments.Segments.{Segments}
+
+-- the text of a path
+abbrev pub path_text : {C : _} {c : _} → Path C c → Text
+path_text p = view_text p.text
+
+-- the flag and the list that the text of a path is read as
+abbrev pub path_value : {C : _} {c : _} → Path C c → PathValue
+path_value p = read_path (path_text p)
+
+-- the same of an owner
+abbrev pub path_buf_text : {C : _} {c : _} → PathBuf C c → Text
+path_buf_text p = owned_text p.text
+
+abbrev pub path_buf_value : {C : _} {c : _} → PathBuf C c → PathValue
+path_buf_value p = read_path (path_buf_text p)
+
+-- the texts of the segments that are left
+abbrev pub segments_left : {C : _} {c : _} → Segments C c → List Text
+segments_left s = pieces_if_some s.rest

@@ -1,0 +1,85 @@
+//! The rule of paths, and what its texts are compared by (RFC 3986 sections 3.3 and 6.2.2).
+ghost use Rattle.iref_grammar.specs.Grammar.{IsPath};
+ghost use Rattle.iref_grammar.specs.PathValue.{PathValue, read_path};
+ghost use Rattle.iref_grammar.specs.Tests.{is_path};
+ghost use Rattle.iref_grammar.proofs.PathTextLemmas.{Decides-is_path};
+ghost use Rattle.iref_model.specs.PathHash.{fed_path};
+ghost use Rattle.iref_model.specs.PathKey.{path_key, path_key_cmp, path_keys_total};
+ghost use Rattle.iref_model.proofs.PathGrammarLemmas.{is_path-empty};
+ghost use Rattle.iref_model.proofs.KeyOrderLemmas.{path_keys_tell};
+
+use iref_component::key::Key;
+use iref_component::rule::{AllowsEmpty, Keyed, Refuses, Rule};
+use iref_error::InvalidPath;
+use iref_grammar::chars::CharSet;
+use iref_parse::scan;
+use iref_path_text::equality::path_texts_eq;
+use iref_path_text::order::{hash_path_text, path_texts_cmp};
+use std::cmp::Ordering;
+use std::hash::Hasher;
+
+/// The rule of paths: any text of the characters of segments and `/`.
+pub struct PathRule;
+
+impl Rule for PathRule {
+    ghost rule = { IsPath };
+
+    ghost test = { is_path };
+
+    ghost decided = { Decides-is_path };
+
+    fn accepts<C: CharSet>(text: &str) -> bool {
+        scan::is_path::<C>(text)
+    }
+}
+
+impl<T> Refuses<T> for PathRule {
+    type Error = InvalidPath<T>;
+
+    ghost refused = { λ error. error.0 };
+
+    fn refuse(input: T) -> InvalidPath<T> {
+        InvalidPath(input)
+    }
+}
+
+impl AllowsEmpty for PathRule {
+    ghost allows_empty = { is_path-empty };
+}
+
+impl Keyed for PathRule {
+    type Key = PathKey;
+
+    ghost keyed = { λ _ _ _. record {} };
+}
+
+/// Whether the path is absolute, and its normal segments as decoded bytes.
+pub struct PathKey;
+
+impl Key for PathKey {
+    ghost Kept = { PathValue };
+
+    ghost has_key = { λ _ _. Unit {0} };
+
+    ghost key = { λ text. path_key (read_path text) };
+
+    ghost tells = { path_keys_tell };
+
+    ghost order = { path_key_cmp };
+
+    ghost total = { path_keys_total };
+
+    ghost fed = { fed_path };
+
+    fn compare<C: CharSet>(a: &str, b: &str) -> Ordering {
+        path_texts_cmp(a, b)
+    }
+
+    fn is_equal<C: CharSet>(a: &str, b: &str) -> bool {
+        path_texts_eq(a, b)
+    }
+
+    fn feed<C: CharSet, H: Hasher>(text: &str, state: &mut H) {
+        hash_path_text(text, state);
+    }
+}

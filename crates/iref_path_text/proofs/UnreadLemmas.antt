@@ -1,0 +1,91 @@
+-- One segment read from the back.
+use Rattle.std.proofs.Common.{◌≡◌, ℕ, suc, ◌+◌, ◌-◌, Bool, true, false, cond, ◌&&◌, List, [], ◌∷◌, refl, sym, ◌∙◌, ap, arith, subst, length}
+use Rattle.std.proofs.lemmas.List.{length-reverse}
+use Rattle.std.specs.Prelude.{◌==◌, ◌≢◌, Some, None, codes}
+use Rattle.std.specs.Borrow.{Bor}
+use Rattle.iref_grammar.specs.Rules.{Text}
+use Rattle.iref_model.specs.NormalList.{is_dot_dot, is_name, counted}
+use Rattle.iref_model.specs.CountedEquality.{item_before, items_read, all_items_read, Comparison, IsCountedAnswer, items_compared}
+use Rattle.iref_model.proofs.CountedLemmas.{compared_same}
+use Rattle.iref_path_text.specs.declared.equality.Unread.{Unread}
+use Rattle.iref_path_text.specs.declared.equality.Steps.{Steps}
+use Rattle.iref_path_text.specs.Unread.{AreCounted, GivesSegment, IsAnswer, IsShorter, all_items_unread, items_unread, path_unread, segments_unread, steps_taken, unread_in}
+
+-- what a read tells of the items
+pub after_read : (u v : Unread) (s : Bor Text) → GivesSegment u (Some s) v → items_unread u ≡ items_read v.absolute v.open_parents (s.now ∷ segments_unread v)
+unfolding items_unread
+after_read u v s h = λ i. items_read (sym h.absolute i) (sym h.open_parents i) (h.segment i)
+
+pub after_none : (u v : Unread) → GivesSegment u None v → items_unread u ≡ items_read v.absolute v.open_parents []
+unfolding items_unread
+after_none u v h = λ i. items_read (sym h.absolute i) (sym h.open_parents i) (h.segment.0 i)
+
+pub all_after_read : (u v : Unread) (s : Bor Text) → GivesSegment u (Some s) v → all_items_unread u ≡ all_items_read v.absolute (s.now ∷ segments_unread v)
+unfolding all_items_unread
+all_after_read u v s h = λ i. all_items_read (sym h.absolute i) (h.segment i)
+
+-- ---- the last segment is read: whether it stays, and how many `..` are open before it
+
+and_true : (b : Bool) → (b && true) ≡ b
+and_true true = refl
+and_true false = refl
+
+module _ (absolute : Bool) (n m : ℕ) (s : Text) (before : List Text) (m_is : m ≡ counted (is_dot_dot s) (is_name s) n) where
+  pub name_given : true ≡ is_name s && (n == 0) → items_read absolute n (s ∷ before) ≡ record { item = s; unread = before } ∷ items_read absolute m before
+  name_given e = λ i. item_before (sym e i) s before (items_read absolute (sym m_is i) before)
+
+  pub none_given : false ≡ is_name s && (n == 0) → items_read absolute n (s ∷ before) ≡ items_read absolute m before
+  none_given e = λ i. item_before (sym e i) s before (items_read absolute (sym m_is i) before)
+
+  pub first_given : (stays : Bool) → stays ≡ is_name s && (n == 0) → n ≡ 0
+      → all_items_read absolute (s ∷ before) ≡ record { item = cond stays s []; unread = before } ∷ items_read absolute m before
+  first_given stays e none =
+      let name : stays ≡ is_name s = e ∙ (λ i. is_name s && (none i == 0)) ∙ and_true (is_name s) in
+      let opened : m ≡ counted (is_dot_dot s) (is_name s) 0 = m_is ∙ ap (counted (is_dot_dot s) (is_name s)) none in
+      λ i. record { item = cond (sym name i) s []; unread = before } ∷ items_read absolute (sym opened i) before
+
+-- ---- no segment is left
+
+pub ends_absolute : (absolute : Bool) (n : ℕ) → absolute ≡ true → items_read absolute n [] ≡ []
+ends_absolute absolute n h = λ i. items_read (h i) n []
+
+pub ends_at_zero : (absolute : Bool) (n : ℕ) → n ≡ 0 → items_read absolute n [] ≡ []
+ends_at_zero absolute n h = (λ i. items_read absolute (h i) []) ∙ none absolute
+  where
+    none : (absolute : Bool) → items_read absolute 0 [] ≡ []
+    none true = refl
+    none false = refl
+
+pub gives_parent : (absolute : Bool) (n : ℕ) (segments : List Text) → segments ≡ [] → absolute ≡ false → n ≢ 0
+    → items_read absolute n [] ≡ record { item = codes ".."; unread = segments } ∷ items_read absolute (n - 1) segments
+gives_parent absolute n segments e h k =
+    let less : n ≡ suc (n - 1) = omega (arith, k) in
+    (λ i. items_read (h i) (less i) []) ∙ (λ i. record { item = codes ".."; unread = sym e i } ∷ items_read (sym h i) (n - 1) (sym e i))
+
+pub first_none : (u v : Unread) → GivesSegment u None v → u.open_parents ≡ 0 → all_items_unread u ≡ record { item = []; unread = segments_unread v } ∷ items_unread v
+unfolding items_unread all_items_unread
+first_none u v h zero =
+    (λ i. all_items_read (sym h.absolute i) (h.segment.0 i))
+    ∙ (λ i. record { item = []; unread = sym h.segment.1 i } ∷ sym (ends_at_zero v.absolute v.open_parents (h.open_parents ∙ zero)) i)
+    ∙ (λ i. record { item = []; unread = segments_unread v } ∷ items_read v.absolute v.open_parents (sym h.segment.1 i))
+
+-- ---- two paths
+
+pub ruleset sizes = (length-reverse)
+
+-- what was read of both decides
+pub counted_by_items : (u v : Unread) → u.absolute ≡ v.absolute → (equal : Bool) (left right : Unread) → IsAnswer (items_compared (all_items_unread u) (all_items_unread v)) equal left right
+    → (before after : Steps) → AreCounted before u v after left right → IsShorter left u → IsShorter right v → IsCountedAnswer (path_unread u) (path_unread v) equal (steps_taken before after)
+unfolding all_items_unread unread_in
+counted_by_items u v flags equal left right answer before after counted left_shorter right_shorter =
+    let p = path_unread u in
+    let q = path_unread v in
+    let c : Comparison = items_compared (all_items_unread u) (all_items_unread v) in
+    let p_size = length-reverse p.segments in
+    let q_size = length-reverse q.segments in
+    let steps : steps_taken before after ≡ length p.segments - length (segments_unread left) + (length q.segments - length (segments_unread right)) =
+    omega (arith, p_size, q_size, left_shorter, right_shorter, counted) in
+    let read : length p.segments - length c.left + (length q.segments - length c.right) ≡ steps_taken before after =
+    (λ i. length p.segments - length (sym answer.1 i) + (length q.segments - length (sym answer.2 i))) ∙ sym steps in
+    subst (λ n. IsCountedAnswer p q equal n) read
+    (subst (λ e. IsCountedAnswer p q e (length p.segments - length c.left + (length q.segments - length c.right))) (sym answer.0) (compared_same p q flags c refl))

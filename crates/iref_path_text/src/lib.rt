@@ -1,0 +1,12 @@
+//! What is read from the text of a path (RFC 3986 sections 3.3 and 5.2.4): its ends, its normal
+//! segments from both ends,
+//! its comparison and hash by these, and the text of the normalized path.
+#![tactic(auto)]
+
+pub mod equality;
+pub mod names;
+pub mod order;
+pub mod path_text;
+pub mod pieces;
+pub mod remaining;
+pub mod spell;
