@@ -1,0 +1,242 @@
+-- What an edit leaves is the spelling of the step of the value.
+use Rattle.std.proofs.Common.{◌≡◌, ℕ, ◌+◌, ◌-◌, ◌≤◌, Bool, true, [], ◌∷◌, ◌++◌, length, rules, refl, sym, ◌∙◌, ap, subst, arith, append_assoc}
+use Rattle.std.specs.Prelude.{codes, Option, Some, None, IfSome, is_some, option_map}
+use Rattle.std.specs.List.{splice}
+use Rattle.std.specs.Str.{IsCharBoundary}
+use Rattle.std.proofs.lemmas.Str.{IsCharBoundary-end}
+use Rattle.std.proofs.lemmas.List.{length-append, places, same_lists}
+use Rattle.iref_grammar.specs.Characters.{CharTests, AreAboveAscii}
+use Rattle.iref_grammar.specs.Rules.{Text}
+use Rattle.iref_grammar.specs.Grammar.{colon, question_mark, hash_sign}
+use Rattle.iref_grammar.specs.Texts.{part_then, then_part}
+use Rattle.iref_grammar.specs.Authority.{AuthorityValue, spell_authority, read_authority, is_authority, has_authority_parts}
+use Rattle.iref_grammar.specs.PathValue.{PathValue, spell_path}
+use Rattle.iref_grammar.specs.Reference.{ReferenceValue, spell, read_reference, is_readable, is_reference}
+use Rattle.iref_grammar.specs.Places.{place_from, authority_mark, path_start, query_mark, places_in, places_of}
+use Rattle.iref_grammar.specs.Tests.{none_or}
+use Rattle.iref_grammar.proofs.AuthorityLemmas.{read_authority-spelled}
+use Rattle.iref_grammar.proofs.ReadableLemmas.{readable_read}
+use Rattle.iref_grammar.proofs.ReferenceCutLemmas.{read_reference-spelled}
+use Rattle.iref_model.specs.ComponentSteps.{with_query, with_fragment, with_authority, with_scheme}
+use Rattle.iref_buffer.specs.declared.lengths.Lengths.{Lengths}
+use Rattle.iref_buffer.specs.PathTexts.{authority_text}
+use Rattle.iref_buffer.specs.ComponentLengths.{lengths_of, with_mark, HasLengths}
+use Rattle.iref_buffer.specs.PlaceTexts.{IsWithin, front_end, authority_start_at, authority_start}
+use Rattle.iref_buffer.proofs.HeldLemmas.{fragment_marked, places_within, front_within, authority_mark_within}
+use Rattle.iref_buffer.proofs.LengthLemmas.{first_len, marked_len}
+
+pub readable_of : (set : CharTests) (text : Text) → is_reference set text ≡ true → is_readable set (read_reference text) ≡ true
+unfolding is_reference
+readable_of set text h = h
+
+-- ---- a readable reference with a scheme that the rule allows
+
+-- its spelling is in the rule and is read back
+pub record IsStep (test : Text → Bool) (new : Text) (r : ReferenceValue) : Type 0 where
+  pub leaves : HasLengths test (lengths_of r) new
+  pub value : read_reference new ≡ r
+
+pub is_step : (set : CharTests) → AreAboveAscii set → (test : Text → Bool) (allows : Option Text → Bool)
+    → ((text : Text) → is_reference set text ≡ true → allows (read_reference text).scheme ≡ true → test text ≡ true)
+    → (new : Text) (r : ReferenceValue) → new ≡ spell r → is_readable set r ≡ true → allows r.scheme ≡ true → IsStep test new r
+unfolding is_reference
+is_step set above test allows allowed new r e h k =
+    let read : read_reference new ≡ r = ap read_reference e ∙ readable_read set above r h in
+    record {
+      leaves = record {
+        in_rule = allowed new (ap (is_readable set) read ∙ h) (ap (λ (x : ReferenceValue). allows x.scheme) read ∙ k);
+        lengths = ap lengths_of (sym read);
+      };
+      value = read;
+    }
+
+-- ---- the parts of a spelling, with some of them replaced
+
+module _ (s a p q f new : Text) where
+  scheme_spliced : splice (s ++ a ++ p ++ q ++ f) 0 (length s) new ≡ new ++ a ++ p ++ q ++ f
+  scheme_spliced = same_lists _ _ (search (rules, places)) (λ k d h. grind (arith, places))
+
+  authority_spliced : splice (s ++ a ++ p ++ q ++ f) (length s) (length s + length a) new ≡ s ++ new ++ p ++ q ++ f
+  authority_spliced = same_lists _ _ (search (rules, places)) (λ k d h. grind (arith, places))
+
+  path_spliced : splice (s ++ a ++ p ++ q ++ f) (length s + length a) (length s + length a + length p) new ≡ s ++ a ++ new ++ q ++ f
+  path_spliced = same_lists _ _ (search (rules, places)) (λ k d h. grind (arith, places))
+
+  query_spliced : splice (s ++ a ++ p ++ q ++ f) (length s + length a + length p) (length s + length a + length p + length q) new ≡ s ++ a ++ p ++ new ++ f
+  query_spliced = same_lists _ _ (search (rules, places)) (λ k d h. grind (arith, places))
+
+  fragment_spliced : splice (s ++ a ++ p ++ q ++ f) (length s + length a + length p + length q) (length (s ++ a ++ p ++ q ++ f)) new ≡ s ++ a ++ p ++ q ++ new
+  fragment_spliced = same_lists _ _ (search (rules, places)) (λ k d h. grind (arith, places))
+
+module _ (text : Text) where
+  abbrev r : ReferenceValue
+  r = read_reference text
+
+  abbrev s : Text
+  s = part_then (colon ∷ []) r.scheme
+
+  abbrev a : Text
+  a = then_part (codes "//") (option_map spell_authority r.authority)
+
+  abbrev p : Text
+  p = spell_path r.path
+
+  abbrev q : Text
+  q = then_part (question_mark ∷ []) r.query
+
+  abbrev f : Text
+  f = then_part (hash_sign ∷ []) r.fragment
+
+  spelled : text ≡ s ++ a ++ p ++ q ++ f
+  unfolding spell
+  spelled = sym (read_reference-spelled text)
+
+  pub query_replaced : (query : Option Text) → splice text (places_of text).path.end (front_end (places_of text)) (then_part (question_mark ∷ []) query) ≡ spell (with_query query r)
+  unfolding spell places_of places_in
+  query_replaced query =
+      let new = then_part (question_mark ∷ []) query in
+      (λ i. splice (spelled i) (query_mark r) (fragment_marked r i) new) ∙ query_spliced s a p q f new
+
+  pub fragment_replaced : (fragment : Option Text) → splice text (front_end (places_of text)) (length text) (then_part (hash_sign ∷ []) fragment) ≡ spell (with_fragment fragment r)
+  unfolding spell places_of places_in
+  fragment_replaced fragment =
+      let new = then_part (hash_sign ∷ []) fragment in
+      (λ i. splice (spelled i) (fragment_marked r i) (length (spelled i)) new) ∙ fragment_spliced s a p q f new
+
+  pub path_replaced : (path : PathValue) → splice text (places_of text).path.start (places_of text).path.end (spell_path path) ≡ spell (record r { path = path })
+  unfolding spell places_of places_in
+  path_replaced path =
+      let new = spell_path path in
+      ap (λ t. splice t (path_start r) (query_mark r) new) spelled ∙ path_spliced s a p q f new
+
+  pub authority_starts : authority_start (places_of text) ≡ authority_mark r
+  unfolding places_of places_in
+  authority_starts = by (authority_mark r) r.authority
+    where
+      by : (mark : ℕ) (o : Option AuthorityValue) → authority_start_at (option_map (place_from (mark + 2)) (option_map spell_authority o)) (mark + length (then_part (codes "//") (option_map spell_authority o))) ≡ mark
+      by mark None = omega arith
+      by mark (Some authority) = omega arith
+
+  pub authority_replaced : (authority : Option AuthorityValue) (path : PathValue) (lead : Text) → lead ++ p ≡ spell_path path
+      → splice text (authority_start (places_of text)) (places_of text).path.start (then_part (codes "//") (option_map spell_authority authority) ++ lead) ≡ spell (record r { authority = authority; path = path })
+  unfolding spell places_of places_in
+  authority_replaced authority path lead e =
+      let new = then_part (codes "//") (option_map spell_authority authority) in
+      (λ i. splice (spelled i) (authority_starts i) (path_start r) (new ++ lead)) ∙ authority_spliced s a p q f (new ++ lead)
+      ∙ regroup new lead ∙ ap (λ t. s ++ new ++ t ++ q ++ f) e
+    where
+      regroup : (new lead : Text) → s ++ (new ++ lead) ++ p ++ q ++ f ≡ s ++ new ++ (lead ++ p) ++ q ++ f
+      regroup new lead = simp append_assoc
+
+  pub scheme_replaced : (scheme : Option Text) (path : PathValue) (lead : Text) → lead ++ a ++ p ≡ a ++ spell_path path
+      → splice text 0 (authority_start (places_of text)) (part_then (colon ∷ []) scheme ++ lead) ≡ spell (record r { scheme = scheme; path = path })
+  unfolding spell
+  scheme_replaced scheme path lead e =
+      let new = part_then (colon ∷ []) scheme in
+      (λ i. splice (spelled i) 0 (authority_starts i) (new ++ lead)) ∙ scheme_spliced s a p q f (new ++ lead)
+      ∙ regroup new lead ∙ ap (λ t. new ++ t ++ q ++ f) e ∙ back new (spell_path path)
+    where
+      regroup : (new lead : Text) → (new ++ lead) ++ a ++ p ++ q ++ f ≡ new ++ (lead ++ a ++ p) ++ q ++ f
+      regroup new lead = simp append_assoc
+
+      back : (new path : Text) → new ++ (a ++ path) ++ q ++ f ≡ new ++ a ++ path ++ q ++ f
+      back new path = simp append_assoc
+
+-- ---- where the parts stand in a text
+
+path_before_front : (text : Text) → (places_of text).path.end ≤ front_end (places_of text)
+unfolding places_of places_in
+path_before_front text = rw (fragment_marked (read_reference text)) (omega arith)
+
+authority_before_path : (text : Text) → authority_start (places_of text) ≤ (places_of text).path.start
+unfolding places_of places_in
+authority_before_path text = rw (authority_starts text) (omega arith)
+
+pub authority_after_mark : (text : Text) → IfSome (places_of text).authority (λ authority. 2 ≤ authority.start)
+unfolding places_of places_in
+authority_after_mark text = by (read_reference text).authority
+  where
+    by : (o : Option AuthorityValue) → IfSome (option_map (place_from (authority_mark (read_reference text) + 2)) (option_map spell_authority o)) (λ authority. 2 ≤ authority.start)
+    by None = tt
+    by (Some authority) = omega arith
+
+pub authority_length : (text : Text) → (places_of text).path.start - authority_start (places_of text) ≡ with_mark 2 (lengths_of (read_reference text)).authority
+unfolding places_of places_in
+authority_length text =
+    let authority : Option Text = option_map spell_authority (read_reference text).authority in
+    ap (λ n. path_start (read_reference text) - n) (authority_starts text) ∙ back (authority_mark (read_reference text)) (length (then_part (codes "//") authority))
+    ∙ sym (marked_len (codes "//") authority)
+  where
+    back : (m n : ℕ) → m + n - m ≡ n
+    back m n = omega arith
+
+pub scheme_length : (text : Text) → authority_start (places_of text) - 0 ≡ with_mark 1 (lengths_of (read_reference text)).scheme
+scheme_length text = whole (authority_start (places_of text)) ∙ authority_starts text ∙ sym (first_len (read_reference text).scheme)
+  where
+    whole : (n : ℕ) → n - 0 ≡ n
+    whole n = omega arith
+
+-- how long the path is after what is written before it and the authority
+pub scheme_path_length : (text lead : Text) (path : PathValue) (l : Lengths) → l ≡ lengths_of (read_reference text)
+    → lead ++ authority_text text ++ spell_path (read_reference text).path ≡ authority_text text ++ spell_path path → length lead + l.path ≡ length (spell_path path)
+scheme_path_length text lead path l e h =
+    ap (λ (x : Lengths). length lead + x.path) e ∙ by lead (authority_text text) (spell_path (read_reference text).path) (spell_path path) h
+  where
+    by : (b a p q : Text) → b ++ a ++ p ≡ a ++ q → length b + length p ≡ length q
+    by b a p q h = omega (arith, length-append (b ++ a) p, length-append b a, length-append a q, ap length h)
+
+-- the authority that is read from a text, spelled again
+pub authority_spelled : (o : Option Text) → o ≡ option_map spell_authority (option_map read_authority o)
+authority_spelled None = refl
+authority_spelled (Some text) = ap Some (sym (read_authority-spelled text))
+
+pub some_read : (o : Option Text) → is_some (option_map read_authority o) ≡ is_some o
+some_read None = refl
+some_read (Some text) = refl
+
+pub authority_read : (set : CharTests) (o : Option Text) → none_or (is_authority set) o ≡ true → none_or (has_authority_parts set) (option_map read_authority o) ≡ true
+unfolding is_authority
+authority_read set None h = refl
+authority_read set (Some text) h = h
+
+pub with_authority-parts : (new : Option AuthorityValue) (r : ReferenceValue) → record r { authority = new; path = (with_authority new r).path } ≡ with_authority new r
+unfolding with_authority
+with_authority-parts new r = refl
+
+pub with_scheme-parts : (new : Option Text) (r : ReferenceValue) → record r { scheme = new; path = (with_scheme new r).path } ≡ with_scheme new r
+unfolding with_scheme
+with_scheme-parts None r = refl
+with_scheme-parts (Some scheme) r = refl
+
+module _ (set : CharTests) (above : AreAboveAscii set) (text : Text) (h : is_reference set text ≡ true) where
+  pub query_within : IsWithin text (record { start = (places_of text).path.end; end = front_end (places_of text) })
+  query_within =
+      let places = places_within set above text h in
+      record { start_le_end = path_before_front text; start = places.path.end; end = front_within text (places_of text) places }
+
+  pub fragment_within : IsWithin text (record { start = front_end (places_of text); end = length text })
+  fragment_within =
+      let front = front_within text (places_of text) (places_within set above text h) in
+      record { start_le_end = front.0; start = front; end = IsCharBoundary-end text }
+
+  pub authority_within : IsWithin text (record { start = authority_start (places_of text); end = (places_of text).path.start })
+  authority_within = record {
+    start_le_end = authority_before_path text;
+    start = subst (IsCharBoundary text) (sym (authority_starts text)) (authority_mark_within set above text h);
+    end = (places_within set above text h).path.start;
+  }
+
+  start_within : IsCharBoundary text 0
+  unfolding places_of places_in
+  start_within = by (read_reference text).scheme (places_within set above text h).scheme (authority_mark_within set above text h)
+    where
+      by : (o : Option Text) → IfSome (option_map (place_from 0) o) (IsWithin text) → IsCharBoundary text (length (part_then (colon ∷ []) o)) → IsCharBoundary text 0
+      by None u v = v
+      by (Some part) u v = u.start
+
+  pub scheme_within : IsWithin text (record { start = 0; end = authority_start (places_of text) })
+  scheme_within = record {
+    start_le_end = omega arith;
+    start = start_within;
+    end = subst (IsCharBoundary text) (sym (authority_starts text)) (authority_mark_within set above text h);
+  }

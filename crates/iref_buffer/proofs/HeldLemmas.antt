@@ -1,0 +1,254 @@
+-- A reference is cut between characters where its components begin and end.
+use Rattle.std.proofs.Common.{◌≡◌, ℕ, ◌+◌, ◌<◌, zero, suc, slice_index, lit<, Bool, true, [], ◌∷◌, ◌++◌, length, take, IsUtf8, rules, refl, sym, ◌∙◌, ap, subst, arith, append_assoc}
+use Rattle.std.specs.Prelude.{codes, Option, Some, None, IfSome, option_map}
+use Rattle.std.specs.Bool.{Decides}
+use Rattle.std.specs.Str.{IsCharBoundary}
+use Rattle.std.specs.declared.ops.Range.{Range}
+use Rattle.std.proofs.lemmas.Str.{IsCharBoundary-at_seam, IsUtf8-append, IsUtf8-nil, IsUtf8-from_ascii}
+use Rattle.std.proofs.lemmas.List.{append-nil, length-append, places, same_lists}
+use Rattle.iref_grammar.specs.Characters.{CharTests, AreAboveAscii}
+use Rattle.iref_grammar.specs.Rules.{Text, Rule, InUtf8}
+use Rattle.iref_grammar.specs.Grammar.{colon, slash, question_mark, hash_sign}
+use Rattle.iref_grammar.specs.Texts.{before, after, part_then, then_part}
+use Rattle.iref_grammar.specs.Tests.{none_or}
+use Rattle.iref_grammar.specs.Authority.{spell_authority}
+use Rattle.iref_grammar.specs.PathValue.{spell_path}
+use Rattle.iref_grammar.specs.Reference.{ReferenceValue, hierarchy, split_scheme, split_authority, spell, read_reference, is_reference}
+use Rattle.iref_grammar.specs.ComponentTexts.{ComponentTexts, AreComponents, spell_components, read_components}
+use Rattle.iref_grammar.specs.Places.{place_from, authority_mark, query_mark, fragment_mark, places_in, places_of}
+use Rattle.iref_grammar.proofs.LeafLemmas.{Decides-is_query, Decides-is_fragment}
+use Rattle.iref_grammar.proofs.PartRuleLemmas.{Decides-is_scheme_bytes}
+use Rattle.iref_grammar.proofs.AuthorityRuleLemmas.{Decides-is_authority}
+use Rattle.iref_grammar.proofs.PathTextLemmas.{Decides-is_path}
+use Rattle.iref_grammar.proofs.ComponentLemmas.{Decides-AreComponents, spelled_as_read}
+use Rattle.iref_grammar.proofs.PlaceLemmas.{scheme_place, authority_place, path_place, query_place, fragment_place}
+use Rattle.iref_grammar.proofs.ReferenceCutLemmas.{read_reference-spelled}
+use Rattle.iref_buffer.specs.PlaceTexts.{IsWithin, AreWithin, texts_at, front_end, front_end_at}
+use Rattle.iref_grammar.proofs.FrontLemmas.{read_reference-before_hash, read_reference-hierarchy}
+use Rattle.iref_grammar.specs.declared.places.Offsets.{Offsets}
+
+-- what stands at the places of a text are its components
+pub texts_at-places : (text : Text) → texts_at text (places_of text) ≡ spell_components (read_reference text)
+texts_at-places text = λ i. record { scheme = scheme_place text i; authority = authority_place text i; path = path_place text i; query = query_place text i; fragment = fragment_place text i }
+
+-- the components of a text, as it is cut
+abbrev cut_texts : Text → ComponentTexts
+cut_texts text =
+    let front = split_scheme (hierarchy text) in
+    let middle = split_authority front.1 in
+    record { scheme = front.0; authority = middle.0; path = middle.1; query = after question_mark (before (hash_sign ∷ []) text); fragment = after hash_sign text }
+
+cut_texts-read : (text : Text) → read_components (cut_texts text) ≡ read_reference text
+unfolding read_reference
+cut_texts-read text = refl
+
+pub read_components-spelled : (text : Text) → read_components (spell_components (read_reference text)) ≡ read_reference text
+read_components-spelled text = ap read_components (sym (spelled_as_read (cut_texts text) _ (cut_texts-read text))) ∙ cut_texts-read text
+
+-- a text between two others, of which the later is UTF-8
+within : (text before part behind : Text) (start : ℕ) → before ++ (part ++ behind) ≡ text → start ≡ length before → IsUtf8 part → IsUtf8 behind → IsWithin text (place_from start part)
+within text before part behind start spelled at u v =
+    record {
+      start_le_end = omega arith;
+      start = subst (IsCharBoundary text) (sym at) (IsCharBoundary-at_seam text before (part ++ behind) (sym spelled) (IsUtf8-append part behind u v));
+      end = subst (IsCharBoundary text) ends (IsCharBoundary-at_seam text (before ++ part) behind (sym spelled ∙ sym (append_assoc before part behind)) v);
+    }
+  where
+    ends : length (before ++ part) ≡ start + length part
+    ends = length-append before part ∙ ap (λ n. n + length part) (sym at)
+
+-- a part and the mark after it, if there is one, at the start
+within_before : (mark : Text) (o : Option Text) (behind : Text) → IsUtf8 mark → IfSome o IsUtf8 → IsUtf8 behind → IfSome (option_map (place_from 0) o) (IsWithin (part_then mark o ++ behind))
+within_before mark None behind m u v = tt
+within_before mark (Some part) behind m u v = within ((part ++ mark) ++ behind) [] part (mark ++ behind) 0 (sym (append_assoc part mark behind)) refl u (IsUtf8-append mark behind m v)
+
+-- a mark and the part after it, if there is one
+within_after : (before mark : Text) (o : Option Text) (behind : Text) → IfSome o IsUtf8 → IsUtf8 behind
+    → IfSome (option_map (place_from (length before + length mark)) o) (IsWithin (before ++ (then_part mark o ++ behind)))
+within_after before mark None behind u v = tt
+within_after before mark (Some part) behind u v =
+    within (before ++ ((mark ++ part) ++ behind)) (before ++ mark) part behind (length before + length mark)
+    (append_assoc before mark (part ++ behind) ∙ ap (λ t. before ++ t) (sym (append_assoc mark part behind))) (sym (length-append before mark)) u v
+
+-- the marks are ASCII
+utf8_mark : (c : ℕ) → c < 128 → IsUtf8 (c ∷ [])
+utf8_mark c h = IsUtf8-from_ascii (c ∷ []) (λ i. ascii i)
+  where
+    ascii : (i : ℕ) → slice_index (c ∷ []) i < 128
+    ascii zero = h
+    ascii (suc i) = lit< tt
+
+slashes : IsUtf8 (codes "//")
+slashes = IsUtf8-append (slash ∷ []) (slash ∷ []) (utf8_mark slash (lit< tt)) (utf8_mark slash (lit< tt))
+
+then_utf8 : (mark : Text) (o : Option Text) → IsUtf8 mark → IfSome o IsUtf8 → IsUtf8 (then_part mark o)
+then_utf8 mark None m u = IsUtf8-nil
+then_utf8 mark (Some part) m u = IsUtf8-append mark part m u
+
+-- each component is UTF-8
+record AreUtf8 (t : ComponentTexts) : Type 0 where
+  scheme : IfSome t.scheme IsUtf8
+  authority : IfSome t.authority IsUtf8
+  path : IsUtf8 t.path
+  query : IfSome t.query IsUtf8
+  fragment : IfSome t.fragment IsUtf8
+
+-- the five parts of a spelling, grouped round the one that is looked at
+module _ (s a p q f : Text) where
+  around_scheme : s ++ (a ++ p ++ q ++ f) ≡ s ++ a ++ p ++ q ++ f
+  around_scheme = simp append_assoc
+
+  around_authority : s ++ (a ++ (p ++ q ++ f)) ≡ s ++ a ++ p ++ q ++ f
+  around_authority = simp append_assoc
+
+  around_path : (s ++ a) ++ (p ++ (q ++ f)) ≡ s ++ a ++ p ++ q ++ f
+  around_path = simp append_assoc
+
+  around_query : (s ++ a ++ p) ++ (q ++ f) ≡ s ++ a ++ p ++ q ++ f
+  around_query = simp append_assoc
+
+  around_fragment : (s ++ a ++ p ++ q) ++ (f ++ []) ≡ s ++ a ++ p ++ q ++ f
+  around_fragment = simp (append_assoc, append-nil)
+
+  path_begins : length s + length a ≡ length (s ++ a)
+  path_begins = sym (length-append s a)
+
+  query_begins : length (s ++ a ++ p) ≡ length s + length a + length p
+  query_begins = simp length-append
+
+  fragment_begins : length (s ++ a ++ p ++ q) ≡ length s + length a + length p + length q
+  fragment_begins = simp length-append
+
+module _ (r : ReferenceValue) (u : AreUtf8 (spell_components r)) where
+  abbrev s : Text
+  s = part_then (colon ∷ []) r.scheme
+
+  abbrev a : Text
+  a = then_part (codes "//") (option_map spell_authority r.authority)
+
+  abbrev p : Text
+  p = spell_path r.path
+
+  abbrev q : Text
+  q = then_part (question_mark ∷ []) r.query
+
+  abbrev f : Text
+  f = then_part (hash_sign ∷ []) r.fragment
+
+  f_utf8 : IsUtf8 f
+  f_utf8 = then_utf8 (hash_sign ∷ []) r.fragment (utf8_mark hash_sign (lit< tt)) u.fragment
+
+  q_utf8 : IsUtf8 q
+  q_utf8 = then_utf8 (question_mark ∷ []) r.query (utf8_mark question_mark (lit< tt)) u.query
+
+  qf_utf8 : IsUtf8 (q ++ f)
+  qf_utf8 = IsUtf8-append q f q_utf8 f_utf8
+
+  pqf_utf8 : IsUtf8 (p ++ (q ++ f))
+  pqf_utf8 = IsUtf8-append p (q ++ f) u.path qf_utf8
+
+  behind_authority : IsUtf8 (p ++ q ++ f)
+  behind_authority = subst IsUtf8 (sym (append_assoc p q f)) pqf_utf8
+
+  behind_scheme : IsUtf8 (a ++ p ++ q ++ f)
+  behind_scheme = subst IsUtf8 (simp append_assoc) (IsUtf8-append a (p ++ (q ++ f)) (then_utf8 (codes "//") (option_map spell_authority r.authority) slashes u.authority) pqf_utf8)
+
+  mark_within : IsCharBoundary (spell r) (authority_mark r)
+  unfolding spell
+  mark_within = IsCharBoundary-at_seam (s ++ a ++ p ++ q ++ f) s (a ++ p ++ q ++ f) (sym (around_scheme s a p q f)) behind_scheme
+
+  spelled_within : AreWithin (spell r) (places_in r)
+  unfolding spell places_in
+  spelled_within = record {
+    scheme = subst (λ t. IfSome (option_map (place_from 0) r.scheme) (IsWithin t)) (around_scheme s a p q f)
+        (within_before (colon ∷ []) r.scheme (a ++ p ++ q ++ f) (utf8_mark colon (lit< tt)) u.scheme (behind_scheme));
+    authority = subst (λ t. IfSome (option_map (place_from (length s + 2)) (option_map spell_authority r.authority)) (IsWithin t)) (around_authority s a p q f)
+        (within_after s (codes "//") (option_map spell_authority r.authority) (p ++ q ++ f) u.authority behind_authority);
+    path = within (s ++ a ++ p ++ q ++ f) (s ++ a) p (q ++ f) (length s + length a) (around_path s a p q f) (path_begins s a p q f) u.path qf_utf8;
+    query = subst (λ n. IfSome (option_map (place_from (n + 1)) r.query) (IsWithin (s ++ a ++ p ++ q ++ f))) (query_begins s a p q f)
+        (subst (λ t. IfSome (option_map (place_from (length (s ++ a ++ p) + 1)) r.query) (IsWithin t)) (around_query s a p q f)
+        (within_after (s ++ a ++ p) (question_mark ∷ []) r.query f u.query f_utf8));
+    fragment = subst (λ n. IfSome (option_map (place_from (n + 1)) r.fragment) (IsWithin (s ++ a ++ p ++ q ++ f))) (fragment_begins s a p q f)
+        (subst (λ t. IfSome (option_map (place_from (length (s ++ a ++ p ++ q) + 1)) r.fragment) (IsWithin t)) (around_fragment s a p q f)
+        (within_after (s ++ a ++ p ++ q) (hash_sign ∷ []) r.fragment [] u.fragment IsUtf8-nil));
+  }
+
+-- what is in a rule is UTF-8
+in_rule_utf8 : (A : Rule) (bytes : Text) → InUtf8 A bytes → IsUtf8 bytes
+in_rule_utf8 A bytes z = (z.0, (z.1, z.2))
+
+none_or_utf8 : (test : Text → Bool) (A : Rule) → ((bytes : Text) → Decides (test bytes) (InUtf8 A bytes)) → (o : Option Text) → none_or test o ≡ true → IfSome o IsUtf8
+none_or_utf8 test A d None h = tt
+none_or_utf8 test A d (Some bytes) h = in_rule_utf8 A bytes ((d bytes).0 h)
+
+module _ (set : CharTests) (above : AreAboveAscii set) where
+  components_utf8 : (t : ComponentTexts) → AreComponents set t → AreUtf8 t
+  components_utf8 t c = record {
+    authority = none_or_utf8 _ _ (Decides-is_authority set above) t.authority c.authority;
+    scheme = none_or_utf8 _ _ Decides-is_scheme_bytes t.scheme c.scheme;
+    path = in_rule_utf8 _ t.path ((Decides-is_path set above t.path).0 c.path);
+    query = none_or_utf8 _ _ (Decides-is_query set above) t.query c.query;
+    fragment = none_or_utf8 _ _ (Decides-is_fragment set above) t.fragment c.fragment;
+  }
+
+  pub components_of : (text : Text) → is_reference set text ≡ true → AreComponents set (spell_components (read_reference text))
+  components_of text h = (Decides-AreComponents set above text _ (read_components-spelled text)).0 h
+
+  -- the places of a reference lie in it, between characters
+  pub places_within : (text : Text) → is_reference set text ≡ true → AreWithin text (places_of text)
+  unfolding places_of
+  places_within text h =
+      subst (λ t. AreWithin t (places_in (read_reference text))) (read_reference-spelled text)
+      (spelled_within (read_reference text) (components_utf8 _ (components_of text h)))
+
+  -- and so does the mark of the authority
+  pub authority_mark_within : (text : Text) → is_reference set text ≡ true → IsCharBoundary text (authority_mark (read_reference text))
+  authority_mark_within text h =
+      subst (λ t. IsCharBoundary t (authority_mark (read_reference text))) (read_reference-spelled text)
+      (mark_within (read_reference text) (components_utf8 _ (components_of text h)))
+
+-- the spelling without its last parts
+module _ (s a p q f : Text) where
+  front_of : s ++ a ++ p ++ q ++ [] ≡ take (length s + length a + length p + length q) (s ++ a ++ p ++ q ++ f)
+  front_of = same_lists _ _ (search (rules, places)) (λ k d h. grind (arith, places))
+
+  hierarchy_of : s ++ a ++ p ++ [] ++ [] ≡ take (length s + length a + length p) (s ++ a ++ p ++ q ++ f)
+  hierarchy_of = same_lists _ _ (search (rules, places)) (λ k d h. grind (arith, places))
+
+-- the query ends, or the path without one, where the mark of the fragment stands
+pub fragment_marked : (r : ReferenceValue) → front_end (places_in r) ≡ fragment_mark r
+unfolding places_in
+fragment_marked r = by r.query
+  where
+    by : (o : Option Text) → front_end_at (option_map (place_from (query_mark r + 1)) o) (query_mark r) ≡ query_mark r + length (then_part (question_mark ∷ []) o)
+    by None = omega arith
+    by (Some query) = omega arith
+
+pub front-place : (text : Text) → take (front_end (places_of text)) text ≡ before (hash_sign ∷ []) text
+unfolding places_of spell
+front-place text =
+    let r = read_reference text in
+    let spelled = sym (read_reference-spelled text) in
+    (λ i. take (fragment_marked r i) (spelled i))
+    ∙ sym (front_of (part_then (colon ∷ []) r.scheme) (then_part (codes "//") (option_map spell_authority r.authority)) (spell_path r.path)
+    (then_part (question_mark ∷ []) r.query) (then_part (hash_sign ∷ []) r.fragment))
+    ∙ ap spell (sym (read_reference-before_hash text)) ∙ read_reference-spelled (before (hash_sign ∷ []) text)
+
+pub hierarchy-place : (text : Text) → take (places_of text).path.end text ≡ hierarchy text
+unfolding places_of places_in spell
+hierarchy-place text =
+    let r = read_reference text in
+    ap (take (query_mark r)) (sym (read_reference-spelled text))
+    ∙ sym (hierarchy_of (part_then (colon ∷ []) r.scheme) (then_part (codes "//") (option_map spell_authority r.authority)) (spell_path r.path)
+    (then_part (question_mark ∷ []) r.query) (then_part (hash_sign ∷ []) r.fragment))
+    ∙ ap spell (sym (read_reference-hierarchy text)) ∙ read_reference-spelled (hierarchy text)
+
+-- the text may be cut there
+pub front_within : (text : Text) (places : Offsets) → AreWithin text places → IsCharBoundary text (front_end places)
+front_within text places w = by places.query w.query
+  where
+    by : (o : Option (Range ℕ)) → IfSome o (IsWithin text) → IsCharBoundary text (front_end_at o places.path.end)
+    by None u = w.path.end
+    by (Some place) u = u.end
+
+pub ruleset spelled = (read_reference-spelled)

@@ -1,0 +1,112 @@
+-- The places of a reference follow from the lengths of its components.
+use Rattle.std.proofs.Common.{◌≡◌, ℕ, ◌+◌, ◌-◌, [], ◌∷◌, ◌++◌, length, refl, sym, ◌∙◌, ap, arith}
+use Rattle.std.specs.Prelude.{codes, Option, Some, None, is_some, option_map}
+use Rattle.std.proofs.lemmas.List.{length-append}
+use Rattle.iref_grammar.specs.declared.places.Offsets.{Offsets}
+use Rattle.iref_grammar.specs.Rules.{Text}
+use Rattle.iref_grammar.specs.Grammar.{colon, question_mark, hash_sign}
+use Rattle.iref_grammar.specs.Texts.{part_then, then_part}
+use Rattle.iref_grammar.specs.Authority.{AuthorityValue, spell_authority}
+use Rattle.iref_grammar.specs.PathValue.{spell_path}
+use Rattle.iref_grammar.specs.Reference.{ReferenceValue, context_of, spell, read_reference}
+use Rattle.iref_grammar.specs.Places.{place_from, places_in, places_of, authority_mark, path_start, query_mark, fragment_mark}
+use Rattle.iref_grammar.proofs.ReferenceCutLemmas.{read_reference-spelled}
+use Rattle.iref_buffer.specs.ComponentLengths.{place_len, place_with_len, with_mark, lengths_at, lengths_of, context_by, placed, total_length}
+
+-- a place holds what was put there
+place_holds : (start : ℕ) (o : Option Text) → option_map place_len (option_map (place_from start) o) ≡ option_map length o
+place_holds start None = refl
+place_holds start (Some part) = ap Some (omega arith)
+
+lengths-places_in : (r : ReferenceValue) → lengths_at (places_in r) ≡ lengths_of r
+unfolding places_in
+lengths-places_in r = λ i. record {
+  scheme = place_holds 0 r.scheme i;
+  authority = place_holds (authority_mark r + 2) (option_map spell_authority r.authority) i;
+  path = held (path_start r) (length (spell_path r.path)) i;
+  query = place_holds (query_mark r + 1) r.query i;
+  fragment = place_holds (fragment_mark r + 1) r.fragment i;
+}
+  where
+    held : (start n : ℕ) → start + n - start ≡ n
+    held start n = omega arith
+
+pub lengths-places_of : (text : Text) → lengths_at (places_of text) ≡ lengths_of (read_reference text)
+unfolding places_of
+lengths-places_of text = lengths-places_in (read_reference text)
+
+-- a part with its mark
+pub first_len : (o : Option Text) → with_mark 1 (option_map length o) ≡ length (part_then (colon ∷ []) o)
+first_len None = refl
+first_len (Some part) = omega (arith, length-append part (colon ∷ []))
+
+pub marked_len : (mark : Text) (o : Option Text) → with_mark (length mark) (option_map length o) ≡ length (then_part mark o)
+marked_len mark None = refl
+marked_len mark (Some part) = sym (length-append mark part)
+
+place_from_len : (start : ℕ) (o : Option Text) → option_map (place_with_len start) (option_map length o) ≡ option_map (place_from start) o
+place_from_len start None = refl
+place_from_len start (Some part) = refl
+
+-- where the components stand in terms of the lengths of the parts with their marks
+abbrev of_parts : ReferenceValue → ℕ → ℕ → ℕ → Offsets
+of_parts r s a q = record {
+  scheme = option_map (place_from 0) r.scheme;
+  authority = option_map (place_from (s + 2)) (option_map spell_authority r.authority);
+  path = place_from (s + a) (spell_path r.path);
+  query = option_map (place_from (s + a + length (spell_path r.path) + 1)) r.query;
+  fragment = option_map (place_from (s + a + length (spell_path r.path) + q + 1)) r.fragment;
+}
+
+placed-lengths : (r : ReferenceValue) → placed (lengths_of r) ≡ places_in r
+unfolding places_in
+placed-lengths r =
+    let authority : Option Text = option_map spell_authority r.authority in
+    let s = first_len r.scheme in
+    let a = marked_len (codes "//") authority in
+    let q = marked_len (question_mark ∷ []) r.query in
+    let at : ℕ → ℕ → ℕ → Offsets = of_parts r in
+    let n = length (spell_path r.path) in
+    let s' = with_mark 1 (option_map length r.scheme) in
+    let a' = with_mark 2 (option_map length authority) in
+    let q' = with_mark 1 (option_map length r.query) in
+    (λ i. record {
+      scheme = place_from_len 0 r.scheme i;
+      authority = place_from_len (s' + 2) authority i;
+      path = place_from (s' + a') (spell_path r.path);
+      query = place_from_len (s' + a' + n + 1) r.query i;
+      fragment = place_from_len (s' + a' + n + q' + 1) r.fragment i;
+    })
+    ∙ (λ i. at (s i) (a i) (q i))
+
+total-lengths : (r : ReferenceValue) → total_length (lengths_of r) ≡ length (spell r)
+unfolding spell
+total-lengths r =
+    let authority : Option Text = option_map spell_authority r.authority in
+    (λ i. first_len r.scheme i + marked_len (codes "//") authority i + length (spell_path r.path) + marked_len (question_mark ∷ []) r.query i + marked_len (hash_sign ∷ []) r.fragment i)
+    ∙ sym (lengths (part_then (colon ∷ []) r.scheme) (then_part (codes "//") authority) (spell_path r.path) (then_part (question_mark ∷ []) r.query) (then_part (hash_sign ∷ []) r.fragment))
+  where
+    lengths : (s a p q f : Text) → length (s ++ a ++ p ++ q ++ f) ≡ length s + length a + length p + length q + length f
+    lengths s a p q f = simp length-append
+
+-- of the components that are read from a text
+pub total-read : (text : Text) → total_length (lengths_of (read_reference text)) ≡ length text
+total-read text = total-lengths (read_reference text) ∙ ap length (read_reference-spelled text)
+
+pub placed-read : (text : Text) → placed (lengths_of (read_reference text)) ≡ places_of text
+unfolding places_of
+placed-read text = placed-lengths (read_reference text)
+
+some_length : (o : Option Text) → is_some (option_map length o) ≡ is_some o
+some_length None = refl
+some_length (Some part) = refl
+
+some_authority : (o : Option AuthorityValue) → is_some (option_map spell_authority o) ≡ is_some o
+some_authority None = refl
+some_authority (Some authority) = refl
+
+pub context-lengths : (r : ReferenceValue) → context_by (lengths_of r) ≡ context_of r
+context-lengths r = λ i. record {
+  has_scheme = some_length r.scheme i;
+  has_authority = (some_length (option_map spell_authority r.authority) ∙ some_authority r.authority) i;
+}

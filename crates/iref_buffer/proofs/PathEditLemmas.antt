@@ -1,0 +1,103 @@
+-- A range of the path replaced in the text.
+use Rattle.std.proofs.Common.{◌≡◌, ℕ, ◌+◌, ◌-◌, ◌<◌, ◌≤◌, slice_index, true, length, drop, rules, inl, inr, refl, sym, ◌∙◌, ap, subst, arith, length-append, length-take, length-drop}
+use Rattle.std.proofs.lemmas.Bool.{and_parts, cases_lt}
+use Rattle.std.proofs.lemmas.List.{places, same_lists, get_or-take, get_or-drop}
+use Rattle.std.specs.List.{list_all, splice, slice_range}
+use Rattle.std.specs.Str.{IsCharBoundary}
+use Rattle.std.specs.declared.ops.Range.{Range}
+use Rattle.iref_grammar.specs.Characters.{CharTests, AreAboveAscii}
+use Rattle.iref_grammar.specs.Rules.{Text}
+use Rattle.iref_grammar.specs.Tests.{is_path, is_segment}
+use Rattle.iref_grammar.specs.Contexts.{fits, follows_authority, reads_as_path, is_path_in}
+use Rattle.iref_grammar.specs.PathValue.{spell_path, read_path}
+use Rattle.iref_grammar.specs.Reference.{ReferenceValue, context_of, spell, read_reference, is_readable}
+use Rattle.iref_grammar.specs.Places.{places_of}
+use Rattle.iref_grammar.proofs.PathLemmas.{read_path-reads}
+use Rattle.iref_grammar.proofs.PathTestLemmas.{is_path-segments}
+use Rattle.iref_grammar.proofs.PlaceLemmas.{path_place}
+use Rattle.iref_grammar.proofs.ReadablePartsLemmas.{readable_parts, readable_from}
+use Rattle.iref_model.specs.Guard.{guarded}
+use Rattle.iref_model.specs.ComponentSteps.{with_path}
+use Rattle.iref_model.proofs.ReferenceStepLemmas.{with_path-readable}
+use Rattle.iref_buffer.specs.PlaceTexts.{IsWithin}
+use Rattle.iref_buffer.specs.PathTexts.{path_text, with_path_text, with_path_read}
+use Rattle.iref_buffer.proofs.EditLemmas.{path_replaced}
+
+-- ---- the step of a new path
+
+pub with_path-guarded : (path : Text) (r : ReferenceValue) → record r { path = guarded (context_of r) (read_path path) } ≡ with_path (read_path path) r
+unfolding with_path
+with_path-guarded path r = refl
+
+pub guarded_path-readable : (set : CharTests) → AreAboveAscii set → (path : Text) (r : ReferenceValue) → is_path set path ≡ true → is_readable set r ≡ true
+    → is_readable set (record r { path = guarded (context_of r) (read_path path) }) ≡ true
+unfolding with_path
+guarded_path-readable set above path r k h = with_path-readable set (read_path path) r (sym (is_path-segments set above path) ∙ k) h
+
+-- ---- a path in which a range was replaced
+
+pub read_path-readable : (set : CharTests) (r : ReferenceValue) (path : Text) → is_readable set r ≡ true → is_path_in set (context_of r) path ≡ true → is_readable set (with_path_read path r) ≡ true
+read_path-readable set r path h k =
+    let p = read_path path in
+    let parts = readable_parts set r h in
+    let list = and_parts (list_all (is_segment set) p.segments) (fits (context_of r) p) k in
+    let fit = and_parts (follows_authority (context_of r) p) (reads_as_path (context_of r) p) list.1 in
+    readable_from set (with_path_read path r)
+    (record { scheme = parts.scheme; authority = parts.authority; segments = list.0; query = parts.query; fragment = parts.fragment; follows = fit.0; reads = fit.1 })
+
+pub path_text_replaced : (text path : Text) → with_path_text path text ≡ spell (with_path_read path (read_reference text))
+path_text_replaced text path =
+    ap (splice text (places_of text).path.start (places_of text).path.end) (sym (read_path-reads path).spelled) ∙ path_replaced text (read_path path)
+
+slice-length : (bs : Text) (start end : ℕ) → end ≤ length bs → length (slice_range bs start end) ≡ end - start
+slice-length bs start end h = simp (length-take, length-drop) (omega arith)
+
+length-spliced : (bs new : Text) (start end : ℕ) → start ≤ end → end ≤ length bs → length (splice bs start end new) ≡ length bs - (end - start) + length new
+length-spliced bs new start end a b = simp (length-append, length-take, length-drop) (omega arith)
+
+splice-within : (bs new : Text) (start end from to : ℕ) → start ≤ from → from ≤ to → to ≤ end → end ≤ length bs → splice bs from to new ≡ splice bs start end (splice (slice_range bs start end) (from - start) (to - start) new)
+splice-within bs new start end from to h1 h2 h3 h4 = same_lists _ _ (search (rules, places)) (λ k d h. grind (arith, places))
+
+-- what stands in a part may be cut where the part may
+cut_in_part : (text : Text) (start end i : ℕ) → start ≤ end → IsCharBoundary text end → IsCharBoundary (slice_range text start end) i → IsCharBoundary text (start + i)
+cut_in_part text start end i a b w = elim (cases_lt i (end - start)) [
+  | inl l ↦
+      let same : slice_index (slice_range text start end) i ≡ slice_index text (start + i) = get_or-take (end - start) (drop start text) i 0 l ∙ get_or-drop start text i 0 in
+      let inside : i < length (slice_range text start end) = omega (arith, l, slice-length text start end b.0) in
+      (omega (arith, l, b.0), λ h k. subst (λ n. 192 ≤ n) same (w.1 inside (subst (λ n. 128 ≤ n) (sym same) k)))
+  | inr l ↦
+      let at : start + i ≡ end = omega (arith, a, l, w.0, slice-length text start end b.0) in
+      subst (IsCharBoundary text) (sym at) b
+]
+
+module _ (text : Text) (placed : IsWithin text (places_of text).path) (within : Range ℕ) (inside : IsWithin (path_text text) within) where
+  abbrev start : ℕ
+  start = (places_of text).path.start
+
+  abbrev end : ℕ
+  end = (places_of text).path.end
+
+  pub part_within : IsWithin text (record { start = start + within.start; end = start + within.end })
+  part_within = record {
+    start_le_end = omega (arith, inside.start_le_end);
+    start = cut_in_part text start end within.start placed.start_le_end placed.end inside.start;
+    end = cut_in_part text start end within.end placed.start_le_end placed.end inside.end;
+  }
+
+  pub part_replaced : (pieces : Text) → splice text (start + within.start) (start + within.end) pieces ≡ with_path_text (splice (path_text text) within.start within.end pieces) text
+  part_replaced pieces =
+      let bound : start + within.end ≤ end = omega (arith, placed.start_le_end, inside.end.0, slice-length text start end placed.end.0) in
+      let back : (n : ℕ) → start + n - start ≡ n = λ n. omega arith in
+      splice-within text pieces start end (start + within.start) (start + within.end) (omega arith) (omega (arith, inside.start_le_end)) bound placed.end.0
+      ∙ (λ i. splice text start end (splice (path_text text) (back within.start i) (back within.end i) pieces))
+
+-- the lengths of the path before and after
+pub path_length : (text : Text) → length (path_text text) ≡ length (spell_path (read_reference text).path)
+path_length text = ap length (path_place text)
+
+pub part_length : (text pieces : Text) (within : Range ℕ) → IsWithin (path_text text) within
+    → length (spell_path (read_reference text).path) - (within.end - within.start) + length pieces ≡ length (spell_path (read_path (splice (path_text text) within.start within.end pieces)))
+part_length text pieces within inside =
+    ap (λ n. n - (within.end - within.start) + length pieces) (sym (path_length text))
+    ∙ sym (length-spliced (path_text text) pieces within.start within.end inside.start_le_end inside.end.0)
+    ∙ ap length (sym (read_path-reads (splice (path_text text) within.start within.end pieces)).spelled)

@@ -1,0 +1,4 @@
+pub mod PlaceTexts
+pub mod ComponentLengths
+pub mod GuardTexts
+pub mod PathTexts

@@ -1,0 +1,43 @@
+//! The base of a reference: its text up to the end of the path's directory (RFC 3986 section
+//! 5.2.3).
+ghost use Rattle.iref_grammar.specs.ComponentTexts.{AreComponents};
+ghost use Rattle.iref_grammar.specs.Reference.{is_reference, read_reference, spell};
+ghost use Rattle.iref_model.specs.PathFunctions.{directory_text};
+ghost use Rattle.iref_model.specs.ReferenceParts.{base_of};
+ghost use Rattle.iref_parse.specs.ReferenceSlices.{texts_of, value_of};
+ghost use Rattle.std.specs.Prelude.{◌≡◌, ◌++◌, true};
+
+use iref_grammar::chars::CharSet;
+use iref_parse::places::places_of;
+use iref_parse::split::{ReferenceSlices, split_reference};
+
+// What follows the last `/` of a path, or all of the path.
+fn after_directory(path: &str) -> &str
+    ensures { directory_text path.now ++ result.now ≡ path.now }
+{
+    match path.rfind('/') {
+        Some(at) => &path[at + 1..],
+        None => path,
+    }
+}
+
+/// The text of these components up to the end of the path's directory.
+pub fn base_slice<'a, C: CharSet>(text: &'a str, slices: ReferenceSlices<'a>) -> &'a str
+    requires value { value_of slices ≡ read_reference text.now }
+    requires components { AreComponents C.tests (texts_of slices) }
+    ensures { result.now ≡ spell (base_of (read_reference text.now)) }
+{
+    let file_name = after_directory(slices.path);
+    let end = places_of(slices).path.end - file_name.len();
+    &text[..end]
+}
+
+/// The text of a reference up to the end of the path's directory.
+pub fn base_text<C: CharSet>(text: &str) -> &str
+    requires { is_reference C.tests text.now ≡ true }
+    ensures text { result.now ≡ spell (base_of (read_reference text.now)) }
+    ensures value { read_reference result.now ≡ base_of (read_reference text.now) }
+    ensures in_rule { is_reference C.tests result.now ≡ true }
+{
+    base_slice::<C>(text, split_reference(text))
+}

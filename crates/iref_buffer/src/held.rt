@@ -1,0 +1,266 @@
+//! A text in a rule of references, with the places of its components beside it.
+ghost use Rattle.iref_grammar.specs.ComponentTexts.{AreComponents, spell_components};
+ghost use Rattle.iref_grammar.specs.Reference.{is_readable, is_reference};
+ghost use Rattle.iref_buffer.specs.ComponentLengths.{lengths_of};
+ghost use Rattle.iref_grammar.specs.Places.{places_of, text_at};
+ghost use Rattle.iref_grammar.specs.Grammar.{hash_sign};
+ghost use Rattle.iref_buffer.specs.PlaceTexts.{IsWithin, AreWithin, texts_at};
+ghost use Rattle.iref_grammar.specs.Characters.{CharTests, AreAboveAscii};
+ghost use Rattle.std.specs.String.{string_bytes};
+ghost use Rattle.iref_grammar.specs.Texts.{before};
+ghost use Rattle.std.specs.Prelude.{◌≡◌, ◌≤◌, Bool, true, [], ◌∷◌};
+ghost use Rattle.iref_buffer.specs.PlaceTexts.{front_end, authority_start};
+ghost use Rattle.iref_model.specs.ComponentSteps.{with_query, with_fragment};
+ghost use Rattle.std.specs.Option.{option_copied};
+ghost use Rattle.iref_parse.specs.ReferenceSlices.{texts_of, value_of};
+ghost use Rattle.std.specs.Prelude.{Option, None, IfSome, is_some, option_map};
+ghost use Rattle.iref_grammar.specs.Reference.{hierarchy, read_reference, spell};
+ghost use Rattle.iref_component.specs.Makers.{Parses};
+ghost use Rattle.iref_grammar.specs.Rules.{Text, InUtf8};
+ghost use Rattle.iref_model.specs.ReferenceParts.{base_of};
+
+mod edits;
+
+use crate::base::base_slice;
+use crate::lengths::Lengths;
+use iref_component::rule::Keyed;
+use iref_grammar::chars::CharSet;
+use iref_grammar::places::Offsets;
+use iref_parse::places::places_of;
+use iref_parse::split::{ReferenceSlices, split_reference};
+use std::alloc::{Allocator, Global};
+use std::fmt;
+use std::marker::{Model, PhantomData};
+use std::ops::Range;
+
+/// A rule of references: of all of them, or of those with a scheme.
+pub trait HeldRule: Keyed {
+    /// The schemes that the rule allows.
+    ghost allows_scheme: { Option Text → Bool };
+
+    /// The components of a text that is in the rule.
+    fn parse<C: CharSet>(text: &str) -> Option<ReferenceSlices<'_>>
+        ensures accepted { is_some result ≡ Self.test C.tests text.now }
+        ensures value { IfSome result (λ s. value_of s ≡ read_reference text.now) };
+
+    /// What is in the rule is a reference.
+    ghost references: { (tests : CharTests) (text : Text) → Self.test tests text ≡ true
+        → is_reference tests text ≡ true };
+
+    /// What is in the rule has a scheme that the rule allows.
+    ghost has_allowed_scheme: { (tests : CharTests) (text : Text) → Self.test tests text ≡ true
+        → Self.allows_scheme (read_reference text).scheme ≡ true };
+
+    /// A reference with a scheme that the rule allows is in the rule.
+    ghost by_scheme: { (tests : CharTests) (text : Text) → is_reference tests text ≡ true
+        → Self.allows_scheme (read_reference text).scheme ≡ true → Self.test tests text ≡ true };
+
+    /// The base of what is in the rule is in it too.
+    ghost keeps_bases: { (tests : CharTests) → AreAboveAscii tests
+        → (text : Text) → Self.test tests text ≡ true
+        → Self.test tests (spell (base_of (read_reference text))) ≡ true };
+}
+
+/// A text in a rule of references, with the places of its components beside it.
+#[derive(Drop)]
+pub struct Held<R: HeldRule, C: CharSet, A: Allocator = Global> {
+    text: String<A>,
+    places: Offsets,
+    rule: PhantomData<(R, C)>,
+}
+
+impl<R: HeldRule, C: CharSet, A: Allocator> Model for Held<R, C, A> {
+    ghost Value = { Text };
+
+    ghost view = { λ h. string_bytes h.text };
+
+    ghost invariant = { λ h. (R.test C.tests (string_bytes h.text) ≡ true)
+        × (h.places ≡ places_of (string_bytes h.text)) };
+}
+
+impl<R: HeldRule, C: CharSet, A: Allocator> Held<R, C, A> {
+    /// The text, if it is in the rule, with the places found in one scan, or the text.
+    pub fn new(text: String<A>) -> Result<Self, String<A>>
+        ensures { Parses (InUtf8 (R.rule C.tests)) (string_bytes text)
+            (λ held. held) (λ input. input ≡ text) result }
+    {
+        let Some(slices) = R::parse::<C>(text.as_str()) else {
+            return Err(text);
+        };
+        let places = places_of(slices);
+        Ok(Held {
+            text,
+            places,
+            rule: PhantomData,
+        })
+    }
+
+    /// The text, which is known to be in the rule, with the places found in one scan.
+    pub fn new_unchecked(text: String<A>) -> Self
+        requires { R.test C.tests (string_bytes text) ≡ true }
+        ensures { result ≡ string_bytes text }
+    {
+        let places = places_of(split_reference(text.as_str()));
+        Held {
+            text,
+            places,
+            rule: PhantomData,
+        }
+    }
+
+    /// The text of these bytes of UTF-8, if it is in the rule, or the bytes.
+    pub fn from_bytes(bytes: Vec<u8, A>) -> Result<Self, Vec<u8, A>>
+        ensures { Parses (InUtf8 (R.rule C.tests)) bytes.items
+            (λ held. held) (λ input. input ≡ bytes) result }
+    {
+        match String::from_utf8(bytes) {
+            Ok(text) => Held::new(text).map_err(|text| text.into_bytes()),
+            Err(error) => Err(error.into_bytes()),
+        }
+    }
+
+    /// The text.
+    pub fn as_str(&self) -> &str
+        ensures text { result.now ≡ self.now }
+        ensures in_rule { R.test C.tests self.now ≡ true }
+    {
+        self.text.as_str()
+    }
+
+    /// Where the components stand.
+    pub fn places(&self) -> Offsets
+        ensures { result ≡ places_of self.now }
+    {
+        self.places.clone().unwrap()
+    }
+
+    // How long the components are, which are those of a readable reference that the rule allows.
+    fn lengths(&self) -> Lengths
+        ensures lengths { result ≡ lengths_of (read_reference self.now) }
+        ensures readable { is_readable C.tests (read_reference self.now) ≡ true }
+        ensures allowed { R.allows_scheme (read_reference self.now).scheme ≡ true }
+    {
+        Lengths::at(&self.places)
+    }
+
+    /// The components, read at their places.
+    pub fn slices(&self) -> ReferenceSlices<'_>
+        ensures texts { texts_of result ≡ spell_components (read_reference self.now) }
+        ensures value { value_of result ≡ read_reference self.now }
+        ensures components { AreComponents C.tests (texts_of result) }
+        ensures in_rule { R.test C.tests self.now ≡ true }
+    {
+        slices_at(self.text.as_str(), &self.places)
+    }
+
+    /// The text up to the fragment.
+    pub fn without_fragment(&self) -> &str
+        ensures text { result.now ≡ before (hash_sign ∷ []) self.now }
+        ensures value { read_reference result.now ≡ with_fragment None (read_reference self.now) }
+        ensures in_rule { is_reference C.tests result.now ≡ true }
+    {
+        let end = front_end(&self.places);
+        &self.text.as_str()[..end]
+    }
+
+    /// The text up to the query and the fragment.
+    pub fn without_query_and_fragment(&self) -> &str
+        ensures text { result.now ≡ hierarchy self.now }
+        ensures value { read_reference result.now
+            ≡ with_query None (with_fragment None (read_reference self.now)) }
+        ensures in_rule { is_reference C.tests result.now ≡ true }
+    {
+        &self.text.as_str()[..self.places.path.end]
+    }
+
+    /// The text up to the end of the path's directory (RFC 3986 section 5.2.3).
+    pub fn base_text(&self) -> &str
+        ensures text { result.now ≡ spell (base_of (read_reference self.now)) }
+        ensures value { read_reference result.now ≡ base_of (read_reference self.now) }
+        ensures in_rule { R.test C.tests result.now ≡ true }
+    {
+        base_slice::<C>(self.as_str(), self.slices())
+    }
+
+    /// The same text under another rule that it is in, with its places.
+    pub fn into_rule<S: HeldRule>(self) -> Held<S, C, A>
+        requires { R.test C.tests self ≡ true → S.test C.tests self ≡ true }
+        ensures { result ≡ self }
+    {
+        let Held { text, places, .. } = self;
+        Held {
+            text,
+            places,
+            rule: PhantomData,
+        }
+    }
+
+    /// The text, with no copy.
+    pub fn into_string(self) -> String<A>
+        ensures text { string_bytes result ≡ self }
+        ensures in_rule { R.test C.tests self ≡ true }
+    {
+        let Held { text, .. } = self;
+        text
+    }
+}
+
+impl<R: HeldRule, C: CharSet, A: Allocator> fmt::Debug for Held<R, C, A> {
+    fn fmt<W: fmt::Write>(&self, f: &mut fmt::Formatter<W>) -> fmt::Result {
+        fmt::Debug::fmt(&self.as_str(), f)
+    }
+}
+
+// Where the query ends, or the path without one.
+fn front_end(places: &Offsets) -> usize
+    ensures { result ≡ front_end places.now }
+{
+    match &places.query {
+        Some(query) => query.end,
+        None => places.path.end,
+    }
+}
+
+// Where the mark of the authority stands, or the path without one.
+fn authority_start(places: &Offsets) -> usize
+    requires { IfSome places.now.authority (λ authority. 2 ≤ authority.start) }
+    ensures { result ≡ authority_start places.now }
+{
+    match &places.authority {
+        Some(authority) => authority.start - 2,
+        None => places.path.start,
+    }
+}
+
+// What stands at a place.
+fn slice_at<'a>(text: &'a str, place: &Range<usize>) -> &'a str
+    requires { IsWithin text.now place.now }
+    ensures { result.now ≡ text_at text.now place.now }
+{
+    &text[place.start..place.end]
+}
+
+// What stands at a place, if there is one.
+fn slice_if<'a>(text: &'a str, place: &Option<Range<usize>>) -> Option<&'a str>
+    requires { IfSome place.now (IsWithin text.now) }
+    ensures { option_copied result ≡ option_map (text_at text.now) place.now }
+{
+    match place {
+        Some(place) => Some(slice_at(text, place)),
+        None => None,
+    }
+}
+
+// What stands at the places.
+fn slices_at<'a>(text: &'a str, places: &Offsets) -> ReferenceSlices<'a>
+    requires { AreWithin text.now places.now }
+    ensures { texts_of result ≡ texts_at text.now places.now }
+{
+    ReferenceSlices {
+        scheme: slice_if(text, &places.scheme),
+        authority: slice_if(text, &places.authority),
+        path: slice_at(text, &places.path),
+        query: slice_if(text, &places.query),
+        fragment: slice_if(text, &places.fragment),
+    }
+}

@@ -1,0 +1,325 @@
+//! Edits of a held text: each is one step of the reference, and moves the places with the text.
+ghost use Rattle.std.specs.Prelude.{◌≡◌, ◌≤◌, ◌<◌, ◌+◌, ◌-◌, ◌^◌, ◌++◌};
+ghost use Rattle.std.specs.Prelude.{true, false, [], ◌∷◌, length};
+ghost use Rattle.std.specs.Prelude.{Option, is_some, option_map, codes};
+ghost use Rattle.std.specs.Prelude.{OnOk, OnErr, IsOk, IsNone};
+ghost use Rattle.std.specs.Option.{option_copied};
+ghost use Rattle.std.specs.List.{splice};
+ghost use Rattle.iref_grammar.specs.Rules.{Text};
+ghost use Rattle.iref_grammar.specs.Grammar.{colon, question_mark, hash_sign};
+ghost use Rattle.iref_grammar.specs.Authority.{AuthorityValue, spell_authority, read_authority};
+ghost use Rattle.iref_grammar.specs.Authority.{is_authority};
+ghost use Rattle.iref_grammar.specs.Texts.{part_then, then_part};
+ghost use Rattle.iref_grammar.specs.Tests.{none_or, is_scheme, is_path, is_query, is_fragment};
+ghost use Rattle.iref_grammar.specs.Reference.{context_of, read_reference, spell};
+ghost use Rattle.iref_grammar.specs.Contexts.{is_path_in};
+ghost use Rattle.iref_grammar.specs.PathValue.{PathValue, read_path, spell_path};
+ghost use Rattle.iref_model.specs.ComponentSteps.{with_query, with_fragment};
+ghost use Rattle.iref_model.specs.ComponentSteps.{with_path, with_authority, with_scheme};
+ghost use Rattle.iref_buffer.specs.PathTexts.{authority_text, path_text};
+ghost use Rattle.iref_buffer.specs.PathTexts.{with_path_text, with_path_read};
+ghost use Rattle.iref_buffer.specs.ComponentLengths.{HasLengths, lengths_of, with_mark};
+ghost use Rattle.iref_buffer.specs.PlaceTexts.{IsWithin};
+
+use super::{Held, HeldRule, authority_start, front_end};
+use crate::guard::{guard_of, root_of};
+use crate::lengths::{Lengths, len_of};
+use crate::text::{len_after, marked, marked_after, replace};
+use iref_error::Memory;
+use iref_grammar::chars::CharSet;
+use iref_grammar::places::PathContext;
+use std::alloc::{AllocError, Allocator};
+use std::ops::Range;
+
+impl<R: HeldRule, C: CharSet, A: Allocator> Held<R, C, A> {
+    /// Replaces the query, or takes it away, which takes no memory.
+    pub fn set_query(&mut self, query: Option<&str>) -> Result<(), Memory>
+        requires { none_or (is_query C.tests) (option_copied query) ≡ true }
+        ensures text { OnOk result (self.new
+            ≡ spell (with_query (option_copied query.entry) (read_reference self.old))) }
+        ensures value { OnOk result (read_reference self.new
+            ≡ with_query (option_copied query.entry) (read_reference self.old)) }
+        ensures err { OnErr result (self.new ≡ self.old) }
+        ensures none { IsNone query.entry → IsOk result }
+    {
+        let lengths = Lengths {
+            query: len_of(query),
+            ..self.lengths()
+        };
+        let range = self.query_range();
+        let (mark, part) = marked("?", query);
+        self.step(lengths, range, mark, part, "")?;
+        Ok(())
+    }
+
+    /// Replaces the fragment, or takes it away, which takes no memory.
+    pub fn set_fragment(&mut self, fragment: Option<&str>) -> Result<(), Memory>
+        requires { none_or (is_fragment C.tests) (option_copied fragment) ≡ true }
+        ensures text { OnOk result (self.new
+            ≡ spell (with_fragment (option_copied fragment.entry) (read_reference self.old))) }
+        ensures value { OnOk result (read_reference self.new
+            ≡ with_fragment (option_copied fragment.entry) (read_reference self.old)) }
+        ensures err { OnErr result (self.new ≡ self.old) }
+        ensures none { IsNone fragment.entry → IsOk result }
+    {
+        let lengths = Lengths {
+            fragment: len_of(fragment),
+            ..self.lengths()
+        };
+        let range = self.fragment_range();
+        let (mark, part) = marked("#", fragment);
+        self.step(lengths, range, mark, part, "")?;
+        Ok(())
+    }
+
+    /// Replaces the path, with a guard where it would be read as something else.
+    pub fn set_path(&mut self, path: &str) -> Result<(), Memory>
+        requires { is_path C.tests path.now ≡ true }
+        ensures text { OnOk result (self.new
+            ≡ spell (with_path (read_path path.now) (read_reference self.old))) }
+        ensures value { OnOk result (read_reference self.new
+            ≡ with_path (read_path path.now) (read_reference self.old)) }
+        ensures err { OnErr result (self.new ≡ self.old) }
+    {
+        let old = self.lengths();
+        let guard = guard_of(old.context(), path);
+        let lengths = Lengths {
+            path: guard.len() + path.len(),
+            ..old
+        };
+        let range = self.path_range();
+        self.step(lengths, range, guard, path, "")?;
+        Ok(())
+    }
+
+    /// Replaces the scheme, or takes it away, which takes no memory. A path whose first segment
+    /// holds a `:` is guarded where no scheme stands before it any more.
+    pub fn set_scheme(&mut self, scheme: Option<&str>) -> Result<(), Memory>
+        requires scheme { none_or is_scheme (option_copied scheme) ≡ true }
+        requires allowed { R.allows_scheme (option_copied scheme) ≡ true }
+        ensures text { OnOk result (self.new
+            ≡ spell (with_scheme (option_copied scheme.entry) (read_reference self.old))) }
+        ensures value { OnOk result (read_reference self.new
+            ≡ with_scheme (option_copied scheme.entry) (read_reference self.old)) }
+        ensures err { OnErr result (self.new ≡ self.old) }
+        ensures none { IsNone scheme.entry → IsOk result }
+    {
+        let old = self.lengths();
+        let lead = self.scheme_lead(scheme.is_some());
+        let lengths = Lengths {
+            scheme: len_of(scheme),
+            path: lead.len() + old.path,
+            ..old
+        };
+        let range = self.scheme_range();
+        let (part, mark) = marked_after(scheme, ":");
+        self.step(lengths, range, part, mark, lead)?;
+        Ok(())
+    }
+
+    /// Replaces the authority, or takes it away, which takes no memory. Where one comes to stand
+    /// the path becomes absolute, and where it goes a path that begins with `//` is guarded.
+    pub fn set_authority(&mut self, authority: Option<&str>) -> Result<(), Memory>
+        requires { none_or (is_authority C.tests) (option_copied authority) ≡ true }
+        ensures text { OnOk result (self.new ≡ spell (with_authority
+            (option_map read_authority (option_copied authority.entry))
+            (read_reference self.old))) }
+        ensures value { OnOk result (read_reference self.new ≡ with_authority
+            (option_map read_authority (option_copied authority.entry))
+            (read_reference self.old)) }
+        ensures err { OnErr result (self.new ≡ self.old) }
+        ensures none { IsNone authority.entry → IsOk result }
+    {
+        let old = self.lengths();
+        let lead = self.authority_lead(authority.is_some());
+        let lengths = Lengths {
+            authority: len_of(authority),
+            path: lead.len() + old.path,
+            ..old
+        };
+        let range = self.authority_range();
+        let (mark, part) = marked("//", authority);
+        self.step(lengths, range, mark, part, lead)?;
+        Ok(())
+    }
+
+    /// Replaces a range of the path by three pieces, where the path that this leaves may stand.
+    pub fn replace_in_path(
+        &mut self,
+        within: Range<usize>,
+        lead: &str,
+        middle: &str,
+        close: &str,
+    ) -> Result<(), Memory>
+        requires within { IsWithin (path_text self.old) within }
+        requires may_stand { is_path_in C.tests (context_of (read_reference self.old))
+            (splice (path_text self.old) within.start within.end
+            (lead.now ++ middle.now ++ close.now)) ≡ true }
+        ensures text { OnOk result (self.new ≡ with_path_text
+            (splice (path_text self.old) within.start within.end
+            (lead.now ++ middle.now ++ close.now)) self.old) }
+        ensures value { OnOk result (read_reference self.new ≡ with_path_read
+            (splice (path_text self.old) within.start within.end
+            (lead.now ++ middle.now ++ close.now)) (read_reference self.old)) }
+        ensures err { OnErr result (self.new ≡ self.old) }
+        ensures shorter { length lead.now + length middle.now + length close.now
+            ≤ within.end - within.start → IsOk result }
+    {
+        let old = self.lengths();
+        let cut = within.end - within.start;
+        let lengths = Lengths {
+            path: len_after(old.path, cut, lead, middle, close)?,
+            ..old
+        };
+        let range = self.part_of_path(within);
+        self.step(lengths, range, lead, middle, close)?;
+        Ok(())
+    }
+
+    // Replaces a range of the text by three pieces, which leaves components of these lengths.
+    fn step(
+        &mut self,
+        lengths: Lengths,
+        range: Range<usize>,
+        lead: &str,
+        middle: &str,
+        close: &str,
+    ) -> Result<(), AllocError>
+        requires within { IsWithin self.old range }
+        requires leaves { HasLengths (R.test C.tests) lengths (splice self.old
+            range.start range.end (lead.now ++ middle.now ++ close.now)) }
+        ensures ok { OnOk result (self.new ≡ splice self.old range.start range.end
+            (lead.now ++ middle.now ++ close.now)) }
+        ensures err { OnErr result (self.new ≡ self.old) }
+        ensures shorter { length lead.now + length middle.now + length close.now
+            ≤ range.end - range.start → IsOk result }
+    {
+        replace(&mut self.text, range, lead, middle, close)?;
+        self.places = lengths.places_in(self.text.as_str());
+        Ok(())
+    }
+
+    // The query and its mark, or where they would stand.
+    fn query_range(&self) -> Range<usize>
+        ensures within { IsWithin self.now result }
+        ensures replaced { (query : Option Text)
+            → splice self.now result.start result.end (then_part (question_mark ∷ []) query)
+            ≡ spell (with_query query (read_reference self.now)) }
+    {
+        self.places.path.end..front_end(&self.places)
+    }
+
+    // The fragment and its mark, or where they would stand.
+    fn fragment_range(&self) -> Range<usize>
+        ensures within { IsWithin self.now result }
+        ensures replaced { (fragment : Option Text)
+            → splice self.now result.start result.end (then_part (hash_sign ∷ []) fragment)
+            ≡ spell (with_fragment fragment (read_reference self.now)) }
+    {
+        front_end(&self.places)..self.text.as_str().len()
+    }
+
+    // Where the path stands.
+    fn path_range(&self) -> Range<usize>
+        ensures within { IsWithin self.now result }
+        ensures replaced { (path : PathValue)
+            → splice self.now result.start result.end (spell_path path)
+            ≡ spell (record (read_reference self.now) { path = path }) }
+    {
+        self.places.path.start..self.places.path.end
+    }
+
+    // Where a range of the path stands in the text.
+    fn part_of_path(&self, within: Range<usize>) -> Range<usize>
+        requires { IsWithin (path_text self.now) within }
+        ensures within { IsWithin self.now result }
+        ensures len { result.end - result.start ≡ within.end - within.start }
+        ensures replaced { (pieces : Text)
+            → splice self.now result.start result.end pieces ≡ with_path_text
+            (splice (path_text self.now) within.start within.end pieces) self.now }
+    {
+        let start = self.places.path.start;
+        start + within.start..start + within.end
+    }
+
+    // The authority and its mark, or where they would stand.
+    fn authority_range(&self) -> Range<usize>
+        ensures within { IsWithin self.now result }
+        ensures len { result.end - result.start
+            ≡ with_mark 2 (lengths_of (read_reference self.now)).authority }
+        ensures replaced { (authority : Option AuthorityValue) (path : PathValue) (lead : Text)
+            → lead ++ spell_path (read_reference self.now).path ≡ spell_path path
+            → splice self.now result.start result.end
+            (then_part (codes "//") (option_map spell_authority authority) ++ lead)
+            ≡ spell (record (read_reference self.now) { authority = authority; path = path }) }
+    {
+        authority_start(&self.places)..self.places.path.start
+    }
+
+    // What is written before the path where an authority is to stand, or none.
+    fn authority_lead(&self, has_authority: bool) -> &'static str
+        ensures spelled { (authority : Option AuthorityValue) → is_some authority ≡ has_authority
+            → result.now ++ spell_path (read_reference self.now).path
+            ≡ spell_path (with_authority authority (read_reference self.now)).path }
+        ensures short { has_authority ≡ false → length result.now
+            ≤ with_mark 2 (lengths_of (read_reference self.now)).authority }
+        ensures fits { length result.now
+            + (lengths_of (read_reference self.now)).path < 2 ^ 64 }
+    {
+        let path = self.slices().path;
+        let context = self.lengths().context();
+        let comes = has_authority & !context.has_authority;
+        if comes {
+            root_of(path)
+        } else {
+            guard_of(
+                PathContext {
+                    has_authority,
+                    ..context
+                },
+                path,
+            )
+        }
+    }
+
+    // The scheme and its mark, or where they would stand.
+    fn scheme_range(&self) -> Range<usize>
+        ensures within { IsWithin self.now result }
+        ensures len { result.end - result.start
+            ≡ with_mark 1 (lengths_of (read_reference self.now)).scheme }
+        ensures replaced { (scheme : Option Text) (path : PathValue) (lead : Text)
+            → lead ++ authority_text self.now ++ spell_path (read_reference self.now).path
+            ≡ authority_text self.now ++ spell_path path
+            → splice self.now result.start result.end (part_then (colon ∷ []) scheme ++ lead)
+            ≡ spell (record (read_reference self.now) { scheme = scheme; path = path }) }
+    {
+        0..authority_start(&self.places)
+    }
+
+    // What is written before the authority and the path where a scheme is to stand, or none.
+    fn scheme_lead(&self, has_scheme: bool) -> &'static str
+        ensures spelled { (scheme : Option Text) → is_some scheme ≡ has_scheme
+            → result.now ++ authority_text self.now ++ spell_path (read_reference self.now).path
+            ≡ authority_text self.now
+            ++ spell_path (with_scheme scheme (read_reference self.now)).path }
+        ensures short { has_scheme ≡ false → length result.now
+            ≤ with_mark 1 (lengths_of (read_reference self.now)).scheme }
+        ensures fits { length result.now
+            + (lengths_of (read_reference self.now)).path < 2 ^ 64 }
+    {
+        let path = self.slices().path;
+        let context = self.lengths().context();
+        let stays = has_scheme | context.has_authority;
+        if stays {
+            ""
+        } else {
+            guard_of(
+                PathContext {
+                    has_scheme,
+                    ..context
+                },
+                path,
+            )
+        }
+    }
+}

@@ -1,0 +1,114 @@
+//! How long the components of a reference are, from which their places follow.
+ghost use Rattle.std.specs.Prelude.{◌≡◌, ◌+◌, ◌<◌, ◌^◌, length, option_map};
+ghost use Rattle.std.specs.Option.{option_copied};
+ghost use Rattle.iref_buffer.specs.ComponentLengths.{place_len, place_with_len, with_mark};
+ghost use Rattle.iref_buffer.specs.ComponentLengths.{lengths_at, context_by, total_length, placed};
+
+use iref_grammar::places::{Offsets, PathContext};
+use std::ops::Range;
+
+/// The lengths of the components in bytes, without `:`, `//`, `?` and `#`.
+#[derive(Clone, Copy)]
+pub struct Lengths {
+    /// The scheme's, if there is one.
+    pub scheme: Option<usize>,
+    /// The authority's, if there is one.
+    pub authority: Option<usize>,
+    /// The path's.
+    pub path: usize,
+    /// The query's, if there is one.
+    pub query: Option<usize>,
+    /// The fragment's, if there is one.
+    pub fragment: Option<usize>,
+}
+
+impl Lengths {
+    /// Of what stands at these places.
+    pub fn at(places: &Offsets) -> Lengths
+        ensures { result ≡ lengths_at places.now }
+    {
+        Lengths {
+            scheme: place_len(&places.scheme),
+            authority: place_len(&places.authority),
+            path: places.path.len(),
+            query: place_len(&places.query),
+            fragment: place_len(&places.fragment),
+        }
+    }
+
+    /// What stands before the path.
+    pub fn context(self) -> PathContext
+        ensures { result ≡ context_by self }
+    {
+        PathContext {
+            has_scheme: self.scheme.is_some(),
+            has_authority: self.authority.is_some(),
+        }
+    }
+
+    /// Where components of these lengths stand in their text.
+    pub fn places_in(self, text: &str) -> Offsets
+        requires { total_length self ≡ length text.now }
+        ensures { result ≡ placed self }
+    {
+        let (scheme, authority_mark) = place_first(self.scheme);
+        let (authority, path_start) = place_after(authority_mark, 2, self.authority);
+        let query_mark = path_start + self.path;
+        let (query, fragment_mark) = place_after(query_mark, 1, self.query);
+        let (fragment, _) = place_after(fragment_mark, 1, self.fragment);
+        Offsets {
+            scheme,
+            authority,
+            path: path_start..query_mark,
+            query,
+            fragment,
+        }
+    }
+}
+
+// How much a place holds, if there is one.
+fn place_len(place: &Option<Range<usize>>) -> Option<usize>
+    ensures { result ≡ option_map place_len place.now }
+{
+    match place {
+        Some(place) => Some(place.len()),
+        None => None,
+    }
+}
+
+// Where a part at the start stands, and where its mark of one byte ends.
+fn place_first(len: Option<usize>) -> (Option<Range<usize>>, usize)
+    requires { with_mark 1 len < 2 ^ 64 }
+    ensures place { result.0 ≡ option_map (place_with_len 0) len }
+    ensures end { result.1 ≡ with_mark 1 len }
+{
+    match len {
+        Some(len) => (Some(0..len), 1 + len),
+        None => (None, 0),
+    }
+}
+
+// Where a part stands after a mark that begins at `start`, and where it ends.
+fn place_after(start: usize, mark: usize, len: Option<usize>) -> (Option<Range<usize>>, usize)
+    requires { start + with_mark mark len < 2 ^ 64 }
+    ensures place { result.0 ≡ option_map (place_with_len (start + mark)) len }
+    ensures end { result.1 ≡ start + with_mark mark len }
+{
+    match len {
+        Some(len) => {
+            let start = start + mark;
+            (Some(start..start + len), start + len)
+        }
+        None => (None, start),
+    }
+}
+
+/// The length of a part, if there is one.
+pub fn len_of(part: Option<&str>) -> Option<usize>
+    ensures { result ≡ option_map length (option_copied part.entry) }
+{
+    match part {
+        Some(part) => Some(part.len()),
+        None => None,
+    }
+}

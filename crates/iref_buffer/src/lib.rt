@@ -1,0 +1,8 @@
+//! Texts of references, with the places of their components beside them.
+#![tactic(auto)]
+
+pub mod base;
+pub mod guard;
+pub mod held;
+mod lengths;
+pub mod text;

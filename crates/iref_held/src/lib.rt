@@ -1,6 +1,0 @@
-//! Texts of references, with the places of their components beside them.
-#![tactic(auto)]
-
-pub mod base;
-pub mod held;
-pub mod rules;

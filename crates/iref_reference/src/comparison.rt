@@ -1,0 +1,105 @@
+//! References and URIs, borrowed and owned, are compared by their keys (RFC 3986 section 6.2.2).
+ghost use Rattle.iref_grammar.specs.Keys.{ComparesBy};
+ghost use Rattle.iref_model.proofs.KeyOrderLemmas.{keys_total, fed_where_tied};
+ghost use Rattle.iref_model.specs.Key.{key_cmp, fed_reference};
+ghost use Rattle.iref_reference.specs.Parts.{uri_ref_parts_key, uri_parts_key};
+ghost use Rattle.iref_reference.specs.References.{key_of_reference, key_of_reference_buf};
+ghost use Rattle.std.proofs.Common.{rules, refl};
+ghost use Rattle.std.specs.Cmp.{on_total, on_equiv, po, partial_equiv_from_equiv, eq_by_cmp_equiv};
+ghost use Rattle.std.specs.Cmp.Rules.{comparing};
+ghost use Rattle.std.specs.Ordering.{on, as_partial_cmp, eq_by_cmp};
+
+use crate::owner::{ReferenceBuf, UriBuf, UriRefBuf};
+use crate::parts::{UriParts, UriRefParts};
+use crate::view::{Uri, UriRef};
+use iref_buffer::held::HeldRule;
+use iref_grammar::chars::CharSet;
+use std::cmp::Ordering;
+use std::hash::{Hash, Hasher};
+
+impl<R: HeldRule, C: CharSet> Ord for ReferenceBuf<R, C> {
+    ghost cmp = { on key_of_reference_buf key_cmp };
+
+    ghost total = { on_total key_of_reference_buf keys_total };
+
+    ghost matches_partial_cmp = { Prim.search (comparing, rules) };
+
+    ghost matches_eq = { λ _ _. refl };
+
+    fn cmp(&self, other: &Self) -> Ordering {
+        self.reference_parts().cmp_by_key(&other.reference_parts())
+    }
+}
+
+impl<R: HeldRule, C: CharSet> PartialOrd for ReferenceBuf<R, C> {
+    ghost partial_cmp = { as_partial_cmp (on key_of_reference_buf key_cmp) };
+
+    ghost laws = { po (on_total key_of_reference_buf keys_total) (λ _ _. refl) };
+
+    fn partial_cmp(&self, other: &Self) -> Option<Ordering> {
+        Some(self.cmp(other))
+    }
+}
+
+impl<R: HeldRule, C: CharSet> PartialEq for ReferenceBuf<R, C> {
+    ghost eq = { on key_of_reference_buf (eq_by_cmp key_cmp) };
+
+    ghost laws = { partial_equiv_from_equiv
+        (on_equiv key_of_reference_buf (eq_by_cmp_equiv keys_total)) };
+
+    fn eq(&self, other: &Self) -> bool {
+        self.reference_parts().eq_by_key(&other.reference_parts())
+    }
+}
+
+impl<R: HeldRule, C: CharSet> Eq for ReferenceBuf<R, C> {
+    ghost laws = { on_equiv key_of_reference_buf (eq_by_cmp_equiv keys_total) };
+}
+
+impl<R: HeldRule, C: CharSet> Hash for ReferenceBuf<R, C> {
+    ghost hash_input = { λ v. fed_reference (key_of_reference_buf v) };
+
+    ghost respects_eq = { λ a b. fed_where_tied (key_of_reference_buf a) (key_of_reference_buf b) };
+
+    fn hash<H: Hasher>(&self, state: &mut H) {
+        self.reference_parts().hash(state);
+    }
+}
+
+/// References and URIs are equal, in order and hashed by the key of the reference, so a URI as its
+/// reference (RFC 3986 section 6.2.2).
+pub fn references_compare_by_key<C: CharSet>()
+    ensures references { ComparesBy key_of_reference key_cmp fed_reference
+        ⟦<UriRef<'static, C> as PartialEq>⟧.eq
+        ⟦<UriRef<'static, C> as Ord>⟧.cmp
+        ⟦<UriRef<'static, C> as Hash>⟧.hash_input }
+    ensures uris { ComparesBy key_of_reference key_cmp fed_reference
+        ⟦<Uri<'static, C> as PartialEq>⟧.eq
+        ⟦<Uri<'static, C> as Ord>⟧.cmp
+        ⟦<Uri<'static, C> as Hash>⟧.hash_input }
+{}
+
+/// Owners are equal, in order and hashed by the key of the reference, as their views.
+pub fn owners_compare_by_key<C: CharSet>()
+    ensures references { ComparesBy key_of_reference_buf key_cmp fed_reference
+        ⟦<UriRefBuf<C> as PartialEq>⟧.eq
+        ⟦<UriRefBuf<C> as Ord>⟧.cmp
+        ⟦<UriRefBuf<C> as Hash>⟧.hash_input }
+    ensures uris { ComparesBy key_of_reference_buf key_cmp fed_reference
+        ⟦<UriBuf<C> as PartialEq>⟧.eq
+        ⟦<UriBuf<C> as Ord>⟧.cmp
+        ⟦<UriBuf<C> as Hash>⟧.hash_input }
+{}
+
+/// The components of references and of URIs are equal, in order and hashed by the key of the
+/// reference (RFC 3986 section 6.2.2).
+pub fn parts_compare_by_key<C: CharSet>()
+    ensures references { ComparesBy uri_ref_parts_key key_cmp fed_reference
+        ⟦<UriRefParts<'static, C> as PartialEq>⟧.eq
+        ⟦<UriRefParts<'static, C> as Ord>⟧.cmp
+        ⟦<UriRefParts<'static, C> as Hash>⟧.hash_input }
+    ensures uris { ComparesBy uri_parts_key key_cmp fed_reference
+        ⟦<UriParts<'static, C> as PartialEq>⟧.eq
+        ⟦<UriParts<'static, C> as Ord>⟧.cmp
+        ⟦<UriParts<'static, C> as Hash>⟧.hash_input }
+{}

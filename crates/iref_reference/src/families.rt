@@ -1,0 +1,131 @@
+//! Conversions between URIs and references, by the names of each family.
+ghost use Rattle.iref_reference.specs.References.{reference_text, reference_value};
+ghost use Rattle.iref_reference.specs.References.{reference_buf_text, HasSchemeOrRefused};
+ghost use Rattle.std.specs.Prelude.{◌≡◌, true, IfSome, is_some};
+
+use crate::owner::{UriBuf, UriRefBuf};
+use crate::view::{Uri, UriRef};
+use iref_error::InvalidUri;
+use iref_grammar::chars::{IriChars, UriChars};
+
+impl<'a> Uri<'a, UriChars> {
+    /// The reference of the same text, which has a scheme.
+    pub fn as_uri_ref(&self) -> UriRef<'a, UriChars>
+        ensures text { reference_text result ≡ reference_text self.now }
+        ensures scheme { is_some (reference_value result).scheme ≡ true }
+    {
+        self.to_reference()
+    }
+}
+
+impl<'a> Uri<'a, IriChars> {
+    /// The reference of the same text, which has a scheme.
+    pub fn as_iri_ref(&self) -> UriRef<'a, IriChars>
+        ensures text { reference_text result ≡ reference_text self.now }
+        ensures scheme { is_some (reference_value result).scheme ≡ true }
+    {
+        self.to_reference()
+    }
+}
+
+impl<'a> UriRef<'a, UriChars> {
+    /// The URI of the same text, if the reference has a scheme.
+    pub fn as_uri(&self) -> Option<Uri<'a, UriChars>>
+        ensures text { IfSome result (λ uri. reference_text uri ≡ reference_text self.now) }
+        ensures scheme { is_some result ≡ is_some (reference_value self.now).scheme }
+    {
+        self.to_full()
+    }
+}
+
+impl<'a> UriRef<'a, IriChars> {
+    /// The IRI of the same text, if the reference has a scheme.
+    pub fn as_iri(&self) -> Option<Uri<'a, IriChars>>
+        ensures text { IfSome result (λ iri. reference_text iri ≡ reference_text self.now) }
+        ensures scheme { is_some result ≡ is_some (reference_value self.now).scheme }
+    {
+        self.to_full()
+    }
+}
+
+impl UriBuf<UriChars> {
+    /// The view.
+    pub fn as_uri(&self) -> Uri<'_, UriChars>
+        ensures { reference_text result ≡ reference_buf_text self.now }
+    {
+        self.as_reference()
+    }
+
+    /// The view of the reference of the same text, which has a scheme.
+    pub fn as_uri_ref(&self) -> UriRef<'_, UriChars>
+        ensures text { reference_text result ≡ reference_buf_text self.now }
+        ensures scheme { is_some (reference_value result).scheme ≡ true }
+    {
+        self.as_reference().to_reference()
+    }
+
+    /// The reference of the same text, with no copy.
+    pub fn into_uri_ref(self) -> UriRefBuf<UriChars>
+        ensures { reference_buf_text result ≡ reference_buf_text self }
+    {
+        self.into_reference()
+    }
+}
+
+impl UriBuf<IriChars> {
+    /// The view.
+    pub fn as_iri(&self) -> Uri<'_, IriChars>
+        ensures { reference_text result ≡ reference_buf_text self.now }
+    {
+        self.as_reference()
+    }
+
+    /// The view of the reference of the same text, which has a scheme.
+    pub fn as_iri_ref(&self) -> UriRef<'_, IriChars>
+        ensures text { reference_text result ≡ reference_buf_text self.now }
+        ensures scheme { is_some (reference_value result).scheme ≡ true }
+    {
+        self.as_reference().to_reference()
+    }
+
+    /// The reference of the same text, with no copy.
+    pub fn into_iri_ref(self) -> UriRefBuf<IriChars>
+        ensures { reference_buf_text result ≡ reference_buf_text self }
+    {
+        self.into_reference()
+    }
+}
+
+impl UriRefBuf<UriChars> {
+    /// The view.
+    pub fn as_uri_ref(&self) -> UriRef<'_, UriChars>
+        ensures { reference_text result ≡ reference_buf_text self.now }
+    {
+        self.as_reference()
+    }
+
+    /// The URI of the same text, with no copy, or the reference if it has no scheme.
+    pub fn try_into_uri(self) -> Result<UriBuf<UriChars>, InvalidUri<Self>>
+        ensures { HasSchemeOrRefused reference_buf_text reference_buf_text self
+            (λ error. error.0) result }
+    {
+        self.try_into_full()
+    }
+}
+
+impl UriRefBuf<IriChars> {
+    /// The view.
+    pub fn as_iri_ref(&self) -> UriRef<'_, IriChars>
+        ensures { reference_text result ≡ reference_buf_text self.now }
+    {
+        self.as_reference()
+    }
+
+    /// The IRI of the same text, with no copy, or the reference if it has no scheme.
+    pub fn try_into_iri(self) -> Result<UriBuf<IriChars>, InvalidUri<Self>>
+        ensures { HasSchemeOrRefused reference_buf_text reference_buf_text self
+            (λ error. error.0) result }
+    {
+        self.try_into_full()
+    }
+}

@@ -1,0 +1,10 @@
+//! References and URIs, borrowed and owned, with their components (RFC 3986 sections 3 and 4.1).
+#![tactic(auto)]
+
+pub mod comparison;
+pub mod families;
+pub mod owner;
+pub mod parts;
+pub mod rule;
+pub mod setters;
+pub mod view;

@@ -1,0 +1,226 @@
+//! The components of references and of URIs.
+ghost use Rattle.std.specs.Prelude.{MatchResult};
+ghost use Rattle.std.specs.Str.{str_to_ascii_lowercase};
+ghost use Rattle.std.specs.Prelude.{◌≡◌, ◌↔◌, true, Option, Some, option_map, is_some};
+ghost use Rattle.std.specs.Ordering.{eq_by_cmp};
+ghost use Rattle.std.proofs.Common.{ap};
+ghost use Rattle.std.specs.Option.{option_copied};
+ghost use Rattle.std.proofs.lemmas.Option.{same_Some};
+ghost use Rattle.iref_grammar.specs.ComponentTexts.{AreComponents, spell_components};
+ghost use Rattle.iref_grammar.specs.Tests.{is_scheme, none_or};
+ghost use Rattle.iref_grammar.specs.Reference.{is_reference, read_reference};
+ghost use Rattle.iref_grammar.specs.Authority.{is_authority};
+ghost use Rattle.iref_grammar.specs.Grammar.{IsUriReference};
+ghost use Rattle.iref_grammar.specs.Rules.{Text, InUtf8};
+ghost use Rattle.iref_parse.specs.ReferenceSlices.{texts_of};
+ghost use Rattle.iref_model.proofs.PartTieLemmas.{lower_case_tie, parts_tie};
+ghost use Rattle.iref_model.specs.Key.{key_cmp, fed_reference};
+ghost use Rattle.iref_model.proofs.TieLemmas.{texts_tie};
+ghost use Rattle.iref_component.specs.Components.{view_text};
+ghost use Rattle.iref_path.specs.Paths.{path_text};
+ghost use Rattle.iref_authority.specs.AuthorityParts.{parts_value as authority_parts_value};
+ghost use Rattle.iref_authority.specs.Authorities.{authority_text};
+ghost use Rattle.iref_reference.specs.Parts.{part_texts, parts_value, uri_ref_part_texts};
+ghost use Rattle.iref_reference.specs.Parts.{key_of_parts, uri_ref_parts_key, scheme_key};
+
+use iref_authority::authority::Authority;
+use iref_authority::parts::AuthorityParts;
+use iref_component::rule::Rule;
+use iref_component::texts::{Fragment, Query, Scheme};
+use iref_component::view::View;
+use iref_error::InvalidUriRef;
+use iref_grammar::chars::CharSet;
+use iref_parse::split::{ReferenceSlices, parse_reference, split_reference};
+use iref_path::path::Path;
+use std::cmp::Ordering;
+use std::hash::{Hash, Hasher};
+use std::str;
+
+/// What stands for the scheme among the components: a scheme, or one that may be absent.
+pub trait SchemePart<'a>: Copy + Ord {
+    /// The text of the scheme, if it is there.
+    ghost text: { Self → Option Text };
+
+    /// The texts that there may be.
+    ghost allows: { Option Text → Type 0 };
+
+    /// The scheme of this text, if it is there.
+    fn new(slice: Option<&'a str>) -> Self
+        requires scheme { none_or is_scheme (option_copied slice) ≡ true }
+        requires allowed { allows (option_copied slice) }
+        ensures { text result ≡ option_copied slice.entry };
+
+    /// The scheme, if it is there.
+    fn to_option(self) -> Option<Scheme<'a>>
+        ensures { option_map view_text result ≡ text self };
+
+    /// Two are equal exactly where their keys are the same.
+    ghost tie: { (a b : Self) → (Self.eq a b ≡ true)
+        ↔ (scheme_key (text a) ≡ scheme_key (text b)) };
+}
+
+impl<'a> SchemePart<'a> for Scheme<'a> {
+    ghost text = { λ scheme. Some (view_text scheme) };
+
+    ghost allows = { λ scheme. is_some scheme ≡ true };
+
+    ghost tie = { λ a b. let texts = texts_tie (str_to_ascii_lowercase (view_text a))
+        (str_to_ascii_lowercase (view_text b)) in
+        (λ e. ap Some (texts.0 e), λ e. texts.1 (same_Some _ _ e)) };
+
+    fn new(slice: Option<&'a str>) -> Self {
+        match slice {
+            Some(slice) => Scheme::new_unchecked(slice),
+            None => unreachable!(),
+        }
+    }
+
+    fn to_option(self) -> Option<Scheme<'a>> {
+        Some(self)
+    }
+}
+
+impl<'a> SchemePart<'a> for Option<Scheme<'a>> {
+    ghost text = { option_map view_text };
+
+    ghost allows = { λ _. Unit {0} };
+
+    ghost tie = { lower_case_tie view_text };
+
+    fn new(slice: Option<&'a str>) -> Self {
+        view_of(slice)
+    }
+
+    fn to_option(self) -> Option<Scheme<'a>> {
+        self
+    }
+}
+
+/// The components of a reference, which compare as it does: each by itself.
+#[derive_where(Clone, Copy, Debug, PartialEq, Eq, PartialOrd, Ord; S)]
+pub struct Parts<'a, S, C: CharSet> {
+    /// What stands before the first `:`, if it is a scheme's.
+    pub scheme: S,
+    /// What stands between `//` and the path.
+    pub authority: Option<Authority<'a, C>>,
+    /// What stands between the authority and the query.
+    pub path: Path<'a, C>,
+    /// What stands between `?` and the fragment.
+    pub query: Option<Query<'a, C>>,
+    /// What follows `#`.
+    pub fragment: Option<Fragment<'a, C>>,
+}
+
+/// The components of a reference (RFC 3986 section 4.1).
+pub type UriRefParts<'a, C> = Parts<'a, Option<Scheme<'a>>, C>;
+
+/// The components of a URI (RFC 3986 section 3).
+pub type UriParts<'a, C> = Parts<'a, Scheme<'a>, C>;
+
+impl<'a, S: SchemePart<'a>, C: CharSet> Parts<'a, S, C> {
+    /// The parts of the authority, if there is one (RFC 3986 section 3.2).
+    pub fn authority_parts(&self) -> Option<AuthorityParts<'a, C>>
+        ensures { option_map authority_parts_value result
+            ≡ (parts_value S.text self.now).authority }
+    {
+        match self.authority {
+            Some(authority) => Some(authority.parts()),
+            None => None,
+        }
+    }
+
+    // The components of the text of a reference whose scheme may stand there.
+    pub(crate) fn of_text(text: &'a str) -> Self
+        requires reference { is_reference C.tests text.now ≡ true }
+        requires allowed { S.allows (read_reference text.now).scheme }
+        ensures texts { part_texts S.text result ≡ spell_components (read_reference text.now) }
+        ensures value { parts_value S.text result ≡ read_reference text.now }
+    {
+        Parts::from_slices(split_reference(text))
+    }
+
+    // The components of slices that are known to be in their rules.
+    pub(crate) fn from_slices(slices: ReferenceSlices<'a>) -> Self
+        requires components { AreComponents C.tests (texts_of slices) }
+        requires allowed { S.allows (texts_of slices).scheme }
+        ensures { part_texts S.text result ≡ texts_of slices.entry }
+    {
+        Parts {
+            scheme: S::new(slices.scheme),
+            authority: authority_of(slices.authority),
+            path: Path::new_unchecked(slices.path),
+            query: view_of(slices.query),
+            fragment: view_of(slices.fragment),
+        }
+    }
+}
+
+impl<'a, C: CharSet> UriRefParts<'a, C> {
+    // The order of the keys.
+    #[tactic(auto, unfolding(iref_model::specs::Key::key, iref_model::specs::Key::key_cmp))]
+    pub(crate) fn cmp_by_key(&self, other: &Self) -> Ordering
+        ensures { result ≡ key_cmp (uri_ref_parts_key self.now) (uri_ref_parts_key other.now) }
+    {
+        self.cmp(other)
+    }
+
+    // Whether the keys are the same.
+    pub(crate) fn eq_by_key(&self, other: &Self) -> bool
+        ensures { result
+            ≡ eq_by_cmp key_cmp (uri_ref_parts_key self.now) (uri_ref_parts_key other.now) }
+    {
+        self == other
+    }
+
+    /// The components of the reference of these bytes of UTF-8, or the bytes: `UriRef::from_bytes`
+    /// and `parts` by one split.
+    pub fn from_bytes(bytes: &'a [u8]) -> Result<Self, InvalidUriRef<&'a [u8]>>
+        ensures { MatchResult result
+            (λ parts. InUtf8 (IsUriReference C.tests) bytes.now
+            × (uri_ref_part_texts parts ≡ spell_components (read_reference bytes.now)))
+            (λ error. ¬ (InUtf8 (IsUriReference C.tests) bytes.now)
+            × (error.0 ≡ bytes.entry)) }
+    {
+        let Ok(text) = str::from_utf8(bytes) else {
+            return Err(InvalidUriRef(bytes));
+        };
+        match parse_reference::<C>(text) {
+            Some(slices) => Ok(UriRefParts::from_slices(slices)),
+            None => Err(InvalidUriRef(bytes)),
+        }
+    }
+}
+
+// The view of a slice, if it is there.
+fn view_of<R: Rule, C: CharSet>(text: Option<&str>) -> Option<View<'_, R, C>>
+    requires { none_or (R.test C.tests) (option_copied text) ≡ true }
+    ensures { option_map view_text result ≡ option_copied text.entry }
+{
+    text.map(|text| View::new_unchecked(text))
+}
+
+// The authority of a slice, if it is there.
+fn authority_of<C: CharSet>(text: Option<&str>) -> Option<Authority<'_, C>>
+    requires { none_or (is_authority C.tests) (option_copied text) ≡ true }
+    ensures { option_map authority_text result ≡ option_copied text.entry }
+{
+    text.map(|text| Authority::new_unchecked(text))
+}
+
+#[tactic(auto, unfolding(iref_model::specs::Key::key, iref_model::specs::Key::fed_reference))]
+impl<'a, S: SchemePart<'a>, C: CharSet> Hash for Parts<'a, S, C> {
+    ghost hash_input = { λ parts. fed_reference (key_of_parts S.text parts) };
+
+    ghost respects_eq = { λ a b same. ap fed_reference
+        ((parts_tie authority_text view_text view_text _ (S.text a.scheme) (S.text b.scheme)
+        (S.tie a.scheme b.scheme) a.authority b.authority (path_text a.path) (path_text b.path)
+        a.query b.query a.fragment b.fragment).0 same) };
+
+    fn hash<H: Hasher>(&self, state: &mut H) {
+        self.scheme.to_option().hash(state);
+        self.authority.hash(state);
+        self.path.hash(state);
+        self.query.hash(state);
+        self.fragment.hash(state);
+    }
+}

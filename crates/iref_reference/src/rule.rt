@@ -1,0 +1,180 @@
+//! The rules of references and of URIs, and what both are compared by (RFC 3986 sections 3, 4.1
+//! and 6.2.2).
+ghost use Rattle.iref_model.specs.Key.{key, key_cmp, fed_reference};
+ghost use Rattle.iref_model.proofs.KeyOrderLemmas.{keys_tell, keys_total};
+ghost use Rattle.iref_grammar.proofs.EmptyLemmas.{is_reference_empty};
+ghost use Rattle.iref_grammar.specs.Grammar.{IsUri, IsUriReference};
+ghost use Rattle.iref_grammar.specs.Reference.{ReferenceValue, read_reference};
+ghost use Rattle.iref_grammar.proofs.ReferenceRuleLemmas.{Decides-is_uri_reference, Decides-is_uri};
+ghost use Rattle.std.specs.Prelude.{◌≡◌, true, refl, is_some};
+ghost use Rattle.iref_grammar.proofs.ComponentLemmas.{reference_if_full, scheme_if_full, full_if_scheme};
+ghost use Rattle.iref_grammar.specs.Reference.{is_reference, is_full_reference};
+ghost use Rattle.iref_grammar.specs.Rules.{Text};
+ghost use Rattle.iref_buffer.proofs.BaseLemmas.{base_of-in_rule, base_of-in_full_rule};
+ghost use Rattle.iref_grammar.specs.Characters.{CharTests};
+
+use crate::parts::{SchemePart, UriRefParts};
+use iref_buffer::held::HeldRule;
+use iref_component::key::Key;
+use iref_component::rule::{AllowsEmpty, Keyed, Refuses, Rule};
+use iref_component::texts::Scheme;
+use iref_error::{InvalidUri, InvalidUriRef};
+use iref_grammar::chars::CharSet;
+use iref_parse::split::{self, ReferenceSlices, parse_reference};
+use std::cmp::Ordering;
+use std::hash::{Hash, Hasher};
+
+/// A rule of references, with what stands for the scheme among their components.
+pub trait HasScheme<'a>: HeldRule {
+    /// What stands for the scheme.
+    type Scheme: SchemePart<'a>;
+
+    /// The scheme of what is in the rule may stand there.
+    ghost allowed: { (tests : CharTests) (text : Text) → Self.test tests text ≡ true
+        → Self.Scheme.allows (read_reference text).scheme };
+}
+
+/// The rule of references (RFC 3986 section 4.1).
+pub struct ReferenceRule;
+
+impl Rule for ReferenceRule {
+    ghost rule = { IsUriReference };
+
+    ghost test = { is_reference };
+
+    ghost decided = { Decides-is_uri_reference };
+
+    fn accepts<C: CharSet>(text: &str) -> bool {
+        split::is_reference::<C>(text)
+    }
+}
+
+impl<T> Refuses<T> for ReferenceRule {
+    type Error = InvalidUriRef<T>;
+
+    ghost refused = { λ error. error.0 };
+
+    fn refuse(input: T) -> InvalidUriRef<T> {
+        InvalidUriRef(input)
+    }
+}
+
+impl AllowsEmpty for ReferenceRule {
+    ghost allows_empty = { is_reference_empty };
+}
+
+impl Keyed for ReferenceRule {
+    type Key = ReferenceKey;
+
+    ghost keyed = { λ _ _ in_rule. in_rule };
+}
+
+impl HeldRule for ReferenceRule {
+    ghost allows_scheme = { λ _. true };
+
+    ghost has_allowed_scheme = { λ _ _ _. refl };
+
+    ghost by_scheme = { λ _ _ in_rule _. in_rule };
+
+    ghost references = { λ _ _ in_rule. in_rule };
+
+    ghost keeps_bases = { base_of-in_rule };
+
+    fn parse<C: CharSet>(text: &str) -> Option<ReferenceSlices<'_>> {
+        parse_reference::<C>(text)
+    }
+}
+
+impl<'a> HasScheme<'a> for ReferenceRule {
+    type Scheme = Option<Scheme<'a>>;
+
+    ghost allowed = { λ _ _ _. record {} };
+}
+
+/// The rule of references with a scheme (RFC 3986 section 3).
+pub struct FullReferenceRule;
+
+impl Rule for FullReferenceRule {
+    ghost rule = { IsUri };
+
+    ghost test = { is_full_reference };
+
+    ghost decided = { Decides-is_uri };
+
+    fn accepts<C: CharSet>(text: &str) -> bool {
+        split::is_full_reference::<C>(text)
+    }
+}
+
+impl<T> Refuses<T> for FullReferenceRule {
+    type Error = InvalidUri<T>;
+
+    ghost refused = { λ error. error.0 };
+
+    fn refuse(input: T) -> InvalidUri<T> {
+        InvalidUri(input)
+    }
+}
+
+impl Keyed for FullReferenceRule {
+    type Key = ReferenceKey;
+
+    ghost keyed = { reference_if_full };
+}
+
+impl HeldRule for FullReferenceRule {
+    ghost allows_scheme = { is_some };
+
+    ghost has_allowed_scheme = { scheme_if_full };
+
+    ghost by_scheme = { full_if_scheme };
+
+    ghost references = { reference_if_full };
+
+    ghost keeps_bases = { base_of-in_full_rule };
+
+    #[tactic(auto, using(iref_grammar::proofs::ComponentLemmas::full))]
+    fn parse<C: CharSet>(text: &str) -> Option<ReferenceSlices<'_>> {
+        match parse_reference::<C>(text) {
+            Some(slices) if slices.scheme.is_some() => Some(slices),
+            _ => None,
+        }
+    }
+}
+
+impl<'a> HasScheme<'a> for FullReferenceRule {
+    type Scheme = Scheme<'a>;
+
+    ghost allowed = { scheme_if_full };
+}
+
+/// The components, each as it is compared by itself.
+pub struct ReferenceKey;
+
+impl Key for ReferenceKey {
+    ghost Kept = { ReferenceValue };
+
+    ghost key = { λ text. key (read_reference text) };
+
+    ghost order = { key_cmp };
+
+    ghost fed = { fed_reference };
+
+    ghost has_key = { λ tests text. is_reference tests text ≡ true };
+
+    ghost total = { keys_total };
+
+    ghost tells = { keys_tell };
+
+    fn compare<C: CharSet>(a: &str, b: &str) -> Ordering {
+        UriRefParts::<C>::of_text(a).cmp_by_key(&UriRefParts::of_text(b))
+    }
+
+    fn is_equal<C: CharSet>(a: &str, b: &str) -> bool {
+        UriRefParts::<C>::of_text(a).eq_by_key(&UriRefParts::of_text(b))
+    }
+
+    fn feed<C: CharSet, H: Hasher>(text: &str, state: &mut H) {
+        UriRefParts::<C>::of_text(text).hash(state);
+    }
+}

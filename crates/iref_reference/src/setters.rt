@@ -1,0 +1,86 @@
+//! Owners edited in place, a component at a time (RFC 3986 sections 3 and 4.2).
+ghost use Rattle.std.specs.Prelude.{◌≡◌, Some, OnErr, OnOk, IsNone, IsOk, option_map};
+ghost use Rattle.iref_grammar.specs.Authority.{read_authority};
+ghost use Rattle.iref_model.specs.ComponentSteps.{with_authority, with_fragment, with_path};
+ghost use Rattle.iref_model.specs.ComponentSteps.{with_query, with_scheme};
+ghost use Rattle.iref_component.specs.Components.{view_text};
+ghost use Rattle.iref_authority.specs.Authorities.{authority_text};
+ghost use Rattle.iref_path.specs.Paths.{path_value};
+ghost use Rattle.iref_reference.specs.References.{reference_buf_text, IsStep};
+
+use crate::owner::{ReferenceBuf, UriBuf, UriRefBuf};
+use iref_authority::authority::Authority;
+use iref_buffer::held::HeldRule;
+use iref_component::texts::{Fragment, Query, Scheme};
+use iref_error::Memory;
+use iref_grammar::chars::CharSet;
+use iref_path::path::Path;
+
+impl<R: HeldRule, C: CharSet> ReferenceBuf<R, C> {
+    /// Replaces the authority, or takes it away, which takes no memory. Where one comes in, the
+    /// path becomes absolute; where it goes, a path that begins with `//` is guarded.
+    pub fn set_authority(&mut self, authority: Option<Authority<'_, C>>) -> Result<(), Memory>
+        ensures ok { OnOk result (IsStep (with_authority
+            (option_map read_authority (option_map authority_text authority.entry)))
+            (reference_buf_text self.old) (reference_buf_text self.new)) }
+        ensures err { OnErr result (reference_buf_text self.new ≡ reference_buf_text self.old) }
+        ensures none { IsNone authority.entry → IsOk result }
+    {
+        self.held
+            .set_authority(authority.map(|authority| authority.as_str()))
+    }
+
+    /// Replaces the path, with a guard where it would be read as something else.
+    pub fn set_path(&mut self, path: Path<'_, C>) -> Result<(), Memory>
+        ensures ok { OnOk result (IsStep (with_path (path_value path.entry))
+            (reference_buf_text self.old) (reference_buf_text self.new)) }
+        ensures err { OnErr result (reference_buf_text self.new ≡ reference_buf_text self.old) }
+    {
+        self.held.set_path(path.as_str())
+    }
+
+    /// Replaces the query, or takes it away, which takes no memory.
+    pub fn set_query(&mut self, query: Option<Query<'_, C>>) -> Result<(), Memory>
+        ensures ok { OnOk result (IsStep (with_query (option_map view_text query.entry))
+            (reference_buf_text self.old) (reference_buf_text self.new)) }
+        ensures err { OnErr result (reference_buf_text self.new ≡ reference_buf_text self.old) }
+        ensures none { IsNone query.entry → IsOk result }
+    {
+        self.held.set_query(query.map(|query| query.as_str()))
+    }
+
+    /// Replaces the fragment, or takes it away, which takes no memory.
+    pub fn set_fragment(&mut self, fragment: Option<Fragment<'_, C>>) -> Result<(), Memory>
+        ensures ok { OnOk result (IsStep (with_fragment (option_map view_text fragment.entry))
+            (reference_buf_text self.old) (reference_buf_text self.new)) }
+        ensures err { OnErr result (reference_buf_text self.new ≡ reference_buf_text self.old) }
+        ensures none { IsNone fragment.entry → IsOk result }
+    {
+        self.held
+            .set_fragment(fragment.map(|fragment| fragment.as_str()))
+    }
+}
+
+impl<C: CharSet> UriRefBuf<C> {
+    /// Replaces the scheme, or takes it away, which takes no memory. Where it goes, a path whose
+    /// first segment holds a `:` is guarded.
+    pub fn set_scheme(&mut self, scheme: Option<Scheme<'_>>) -> Result<(), Memory>
+        ensures ok { OnOk result (IsStep (with_scheme (option_map view_text scheme.entry))
+            (reference_buf_text self.old) (reference_buf_text self.new)) }
+        ensures err { OnErr result (reference_buf_text self.new ≡ reference_buf_text self.old) }
+        ensures none { IsNone scheme.entry → IsOk result }
+    {
+        self.held.set_scheme(scheme.map(|scheme| scheme.as_str()))
+    }
+}
+
+impl<C: CharSet> UriBuf<C> {
+    /// Replaces the scheme.
+    pub fn set_scheme(&mut self, scheme: Scheme<'_>) -> Result<(), Memory>
+        ensures ok { OnOk result (IsStep (with_scheme (Some (view_text scheme.entry)))
+            (reference_buf_text self.old) (reference_buf_text self.new)) }
+        ensures err { OnErr result (reference_buf_text self.new ≡ reference_buf_text self.old) }
+    {
+        self.held.set_scheme(Some(scheme.as_str()))
+    }
+}
