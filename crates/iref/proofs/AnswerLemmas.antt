@@ -1,11 +1,13 @@
 -- Answers to lines.
-use Rattle.std.proofs.Common.{◌≡◌, Bool, true, false, refl, sym, ◌∙◌, List, [], ◌∷◌, ◌++◌, ◌&&◌, Option, Some, None, ap, append_assoc, codes}
+use Rattle.std.proofs.Common.{◌≡◌, Bool, true, false, refl, sym, ◌∙◌, [], ◌∷◌, ◌++◌, Option, Some, None, ap, append_assoc, codes}
 use Rattle.std.proofs.lemmas.Bool.{and_right}
-use Rattle.std.specs.Bool.{Decides}
 use Rattle.std.specs.List.{join_with_byte}
-use Rattle.iref_grammar.specs.Rules.{Text}
-use Rattle.iref_grammar.specs.Characters.{uri_chars}
+use Rattle.iref_grammar.specs.Rules.{Text, InUtf8}
+use Rattle.iref_grammar.specs.Characters.{uri_chars, uri_above_ascii}
+use Rattle.iref_grammar.specs.Grammar.{IsPath, IsUriReference}
 use Rattle.iref_grammar.specs.Tests.{is_path}
+use Rattle.iref_grammar.proofs.PathTextLemmas.{Decides-is_path}
+use Rattle.iref_grammar.proofs.ReferenceRuleLemmas.{Decides-is_uri_reference}
 use Rattle.iref_grammar.specs.PathValue.{spell_path, read_path}
 use Rattle.iref_grammar.specs.Contexts.{alone}
 use Rattle.iref_grammar.specs.Reference.{is_reference, read_reference}
@@ -13,7 +15,7 @@ use Rattle.iref_grammar.specs.ComponentTexts.{ComponentTexts, spell_components, 
 use Rattle.iref_model.specs.Guard.{guarded}
 use Rattle.iref_model.specs.NormalList.{normal}
 use Rattle.iref_model.specs.Key.{are_alike}
-use Rattle.iref_held.proofs.HeldLemmas.{read_components-spelled}
+use Rattle.iref_buffer.proofs.HeldLemmas.{read_components-spelled}
 use Rattle.iref_model.specs.Lines.{Request, answer_if_valid, read_line, answer, BadCommand, InvalidText, Answered, Parts, Normal, Equal, answer_to, is_valid, answer_text, part_fields, yes_or_no, tab, program_verbs}
 
 pub answer_of : (line : Text) (request : Request) → read_line program_verbs line ≡ Some request → answer program_verbs line ≡ answer_if_valid request
@@ -39,37 +41,50 @@ pub five_fields : (out m0 m1 m2 m3 m4 m5 a b c d e : Text) → m0 ≡ out ++ cod
 five_fields out m0 m1 m2 m3 m4 m5 a b c d e e0 e1 e2 e3 e4 e5 =
     rw (e5, e4, e3, e2, e1, e0) (regroup out (codes "ok") (tab ∷ a) (tab ∷ b) (tab ∷ c) (tab ∷ d) (tab ∷ e))
 
-pub parts_answer : (text : Text) (t : ComponentTexts) → is_reference uri_chars text ≡ true → t ≡ spell_components (read_reference text) → answer_if_valid (Parts text) ≡ Answered (part_fields t)
+-- what the tests answer of texts in the grammar, and of others
+false_if_not : (b : Bool) → ¬ (b ≡ true) → b ≡ false
+false_if_not true h = absurd (h refl)
+false_if_not false h = refl
+
+reference : (text : Text) → InUtf8 (IsUriReference uri_chars) text → is_reference uri_chars text ≡ true
+reference text h = (Decides-is_uri_reference uri_chars uri_above_ascii text).1 h
+
+no_reference : (text : Text) → ¬ (InUtf8 (IsUriReference uri_chars) text) → is_reference uri_chars text ≡ false
+no_reference text h = false_if_not _ (λ e. h ((Decides-is_uri_reference uri_chars uri_above_ascii text).0 e))
+
+path : (text : Text) → InUtf8 (IsPath uri_chars) text → is_path uri_chars text ≡ true
+path text h = (Decides-is_path uri_chars uri_above_ascii text).1 h
+
+no_path : (text : Text) → ¬ (InUtf8 (IsPath uri_chars) text) → is_path uri_chars text ≡ false
+no_path text h = false_if_not _ (λ e. h ((Decides-is_path uri_chars uri_above_ascii text).0 e))
+
+pub parts_answer : (text : Text) (t : ComponentTexts) → InUtf8 (IsUriReference uri_chars) text → t ≡ spell_components (read_reference text) → answer_if_valid (Parts text) ≡ Answered (part_fields t)
 unfolding is_valid answer_to
-parts_answer text t h k = valid (Parts text) h ∙ ap (λ (u : ComponentTexts). Answered (part_fields u)) (sym k)
+parts_answer text t h k = valid (Parts text) (reference text h) ∙ ap (λ (u : ComponentTexts). Answered (part_fields u)) (sym k)
 
-pub no_parts_answer : (text : Text) → is_reference uri_chars text ≡ false → answer_if_valid (Parts text) ≡ InvalidText
+pub no_parts_answer : (text : Text) → ¬ (InUtf8 (IsUriReference uri_chars) text) → answer_if_valid (Parts text) ≡ InvalidText
 unfolding is_valid
-no_parts_answer text h = invalid (Parts text) h
+no_parts_answer text h = invalid (Parts text) (no_reference text h)
 
-pub normal_answer : (text same written : Text) → is_path uri_chars text ≡ true → same ≡ text → written ≡ spell_path (guarded alone (normal (read_path same))) → answer_if_valid (Normal text) ≡ Answered written
+pub normal_answer : (text same written : Text) → InUtf8 (IsPath uri_chars) text → same ≡ text → written ≡ spell_path (guarded alone (normal (read_path same))) → answer_if_valid (Normal text) ≡ Answered written
 unfolding is_valid answer_to
-normal_answer text same written h e w = valid (Normal text) h ∙ ap Answered (ap (λ (s : Text). spell_path (guarded alone (normal (read_path s)))) (sym e) ∙ sym w)
+normal_answer text same written h e w = valid (Normal text) (path text h) ∙ ap Answered (ap (λ (s : Text). spell_path (guarded alone (normal (read_path s)))) (sym e) ∙ sym w)
 
-pub no_normal_answer : (text : Text) → is_path uri_chars text ≡ false → answer_if_valid (Normal text) ≡ InvalidText
+pub no_normal_answer : (text : Text) → ¬ (InUtf8 (IsPath uri_chars) text) → answer_if_valid (Normal text) ≡ InvalidText
 unfolding is_valid
-no_normal_answer text h = invalid (Normal text) h
+no_normal_answer text h = invalid (Normal text) (no_path text h)
 
-pub equal_answer : (left right : Text) (t u : ComponentTexts) (alike : Bool) → is_reference uri_chars left ≡ true → is_reference uri_chars right ≡ true → t ≡ spell_components (read_reference left) → u ≡ spell_components (read_reference right) → alike ≡ are_alike (read_components t) (read_components u) → answer_if_valid (Equal left right) ≡ Answered (yes_or_no alike)
+pub equal_answer : (left right : Text) (t u : ComponentTexts) (alike : Bool) → InUtf8 (IsUriReference uri_chars) left → InUtf8 (IsUriReference uri_chars) right → t ≡ spell_components (read_reference left) → u ≡ spell_components (read_reference right) → alike ≡ are_alike (read_components t) (read_components u) → answer_if_valid (Equal left right) ≡ Answered (yes_or_no alike)
 unfolding is_valid answer_to
 equal_answer left right t u alike h k e f a =
     let same_left = ap read_components e ∙ read_components-spelled left in
     let same_right = ap read_components f ∙ read_components-spelled right in
-    valid (Equal left right) (rw (h, k) refl) ∙ ap (λ (b : Bool). Answered (yes_or_no b)) (sym (a ∙ (λ i. are_alike (same_left i) (same_right i))))
+    valid (Equal left right) (rw (reference left h, reference right k) refl) ∙ ap (λ (b : Bool). Answered (yes_or_no b)) (sym (a ∙ (λ i. are_alike (same_left i) (same_right i))))
 
-pub no_left_answer : (left right : Text) → is_reference uri_chars left ≡ false → answer_if_valid (Equal left right) ≡ InvalidText
+pub no_left_answer : (left right : Text) → ¬ (InUtf8 (IsUriReference uri_chars) left) → answer_if_valid (Equal left right) ≡ InvalidText
 unfolding is_valid
-no_left_answer left right h = invalid (Equal left right) (rw h refl)
+no_left_answer left right h = invalid (Equal left right) (rw (no_reference left h) refl)
 
-pub no_right_answer : (left right : Text) → is_reference uri_chars right ≡ false → answer_if_valid (Equal left right) ≡ InvalidText
+pub no_right_answer : (left right : Text) → ¬ (InUtf8 (IsUriReference uri_chars) right) → answer_if_valid (Equal left right) ≡ InvalidText
 unfolding is_valid
-no_right_answer left right h = invalid (Equal left right) (and_right (is_reference uri_chars left) _ h)
-
-pub not_decided : (b : Bool) (P : Type 0) → Decides b P → ¬ P → b ≡ false
-not_decided true P d no_p = absurd (no_p (d.0 refl))
-not_decided false P d no_p = refl
+no_right_answer left right h = invalid (Equal left right) (and_right (is_reference uri_chars left) _ (no_reference right h))

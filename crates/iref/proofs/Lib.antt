@@ -1,5 +1,5 @@
 pub mod AnswerLemmas
-pub mod FaultLemmas
+pub mod EndLemmas
 pub mod FieldLemmas
 pub mod InputLemmas
 pub mod LineLemmas

@@ -14,7 +14,7 @@ use Rattle.iref_model.proofs.DirectoryLemmas.{all_but_last-snoc}
 with_newlines-front : (line rest : Text) (lines : List Text) → with_newlines (line ∷ lines) ++ rest ≡ line ++ newline ∷ (with_newlines lines ++ rest)
 with_newlines-front line rest lines = simp append_assoc
 
-pub pieces_of_lines : (lines : List Text) (rest : Text) → All IsLine lines → pieces_at newline (with_newlines lines ++ rest) ≡ lines ++ pieces_at newline rest
+pieces_of_lines : (lines : List Text) (rest : Text) → All IsLine lines → pieces_at newline (with_newlines lines ++ rest) ≡ lines ++ pieces_at newline rest
 pieces_of_lines [] rest h = refl
 pieces_of_lines (line ∷ lines) rest h =
     ap (pieces_at newline) (with_newlines-front line rest lines) ∙

@@ -1,25 +1,21 @@
 //! The answer to a line.
-ghost use Rattle.std.specs.Prelude.{◌≡◌, ◌++◌, ◌∷◌, [], Some, option_map, OnOk, OnErr};
+ghost use Rattle.std.specs.Prelude.{◌≡◌, ◌++◌, ◌∷◌, option_map, OnOk, OnErr};
 ghost use Rattle.std.specs.Option.{option_copied};
-ghost use Rattle.iref_grammar.specs.Rules.{Text};
-ghost use Rattle.iref_model.specs.Lines.{Answered, answer, answer_text, answer_if_valid, newline, part_field, part_fields, program_verbs, tab, yes_or_no, Parts, Normal, Equal};
-ghost use Rattle.iref_text.specs.Components.{query_text, fragment_text};
-ghost use Rattle.iref_authority.specs.Views.{authority_text};
-ghost use Rattle.iref_refs.specs.References.{uri_ref_part_texts};
+ghost use Rattle.iref_model.specs.Lines.{Answered, answer_text, part_field, part_fields, tab, yes_or_no, Parts, Normal, Equal};
+ghost use Rattle.iref_component.specs.Components.{view_text};
+ghost use Rattle.iref_authority.specs.Authorities.{authority_text};
+ghost use Rattle.iref_reference.specs.Parts.{uri_ref_part_texts};
 ghost use Rattle.iref.specs.Gathering.{Extends};
 ghost use Rattle.iref.specs.Requests.{request_of};
-ghost use Rattle.iref_common.specs.Components.{scheme_text};
+ghost use Rattle.iref.specs.Runs.{request_reply, line_reply, with_newline};
 
 use super::request::{Request, read_request};
 use iref_authority::authority::Authority;
-use iref_common::Scheme;
-use iref_grammar::chars::UriChars;
-use iref_grammar::reference_laws::reference_grammar;
-use iref_grammar::text_laws::path_grammar;
+use iref_component::rule::Rule;
+use iref_component::view::View;
+use iref_grammar::chars::{CharSet, UriChars};
 use iref_path::path::Path;
-use iref_refs::reference::parts::UriRefParts;
-use iref_text::fragment::Fragment;
-use iref_text::query::Query;
+use iref_reference::parts::UriRefParts;
 use std::alloc::AllocError;
 
 /// Puts the text.
@@ -31,8 +27,10 @@ fn put_text(text: &[u8], out: &mut Vec<u8>) -> Result<(), AllocError>
 }
 
 /// Puts a TAB and the field of a part: `-` where it is absent, else `=` and its text.
+#[inline(always)]
 fn put_part(part: Option<&[u8]>, out: &mut Vec<u8>) -> Result<(), AllocError>
-    ensures ok { OnOk result (out.new.items ≡ out.old.items ++ tab ∷ part_field (option_copied part.entry)) }
+    ensures ok { OnOk result
+        (out.new.items ≡ out.old.items ++ tab ∷ part_field (option_copied part.entry)) }
     ensures err { OnErr result (Extends out.old.items out.new.items) }
 {
     let Some(text) = part else {
@@ -43,10 +41,11 @@ fn put_part(part: Option<&[u8]>, out: &mut Vec<u8>) -> Result<(), AllocError>
     Ok(())
 }
 
-fn scheme_bytes(scheme: Option<Scheme<'_>>) -> Option<&[u8]>
-    ensures { option_copied result ≡ option_map scheme_text scheme.entry }
+// The bytes of a component, if it is there.
+fn bytes_of<R: Rule, C: CharSet>(part: Option<View<'_, R, C>>) -> Option<&[u8]>
+    ensures { option_copied result ≡ option_map view_text part.entry }
 {
-    scheme.map(|scheme| scheme.as_bytes())
+    part.map(|part| part.as_bytes())
 }
 
 fn authority_bytes(authority: Option<Authority<'_, UriChars>>) -> Option<&[u8]>
@@ -55,38 +54,26 @@ fn authority_bytes(authority: Option<Authority<'_, UriChars>>) -> Option<&[u8]>
     authority.map(|authority| authority.as_bytes())
 }
 
-fn query_bytes(query: Option<Query<'_, UriChars>>) -> Option<&[u8]>
-    ensures { option_copied result ≡ option_map query_text query.entry }
-{
-    query.map(|query| query.as_bytes())
-}
-
-fn fragment_bytes(fragment: Option<Fragment<'_, UriChars>>) -> Option<&[u8]>
-    ensures { option_copied result ≡ option_map fragment_text fragment.entry }
-{
-    fragment.map(|fragment| fragment.as_bytes())
-}
-
 /// Puts the answer whose fields are the parts of a reference.
 fn put_parts(parts: &UriRefParts<'_, UriChars>, out: &mut Vec<u8>) -> Result<(), AllocError>
-    ensures ok { OnOk result (out.new.items ≡ out.old.items ++ answer_text (Answered (part_fields (uri_ref_part_texts parts.now)))) }
+    ensures ok { OnOk result (out.new.items ≡
+        out.old.items ++ answer_text (Answered (part_fields (uri_ref_part_texts parts.now)))) }
     ensures err { OnErr result (Extends out.old.items out.new.items) }
 {
     put_text(b"ok", out)?;
-    put_part(scheme_bytes(parts.scheme), out)?;
+    put_part(bytes_of(parts.scheme), out)?;
     put_part(authority_bytes(parts.authority), out)?;
     put_part(Some(parts.path.as_bytes()), out)?;
-    put_part(query_bytes(parts.query), out)?;
-    put_part(fragment_bytes(parts.fragment), out)?;
+    put_part(bytes_of(parts.query), out)?;
+    put_part(bytes_of(parts.fragment), out)?;
     Ok(())
 }
 
 /// Puts the answer to `parts`.
 fn put_answer_to_parts(text: &[u8], out: &mut Vec<u8>) -> Result<(), AllocError>
-    ensures ok { OnOk result (out.new.items ≡ out.old.items ++ answer_text (answer_if_valid (Parts text.now))) }
+    ensures ok { OnOk result (out.new.items ≡ out.old.items ++ request_reply (Parts text.now)) }
     ensures err { OnErr result (Extends out.old.items out.new.items) }
 {
-    reference_grammar::<UriChars>();
     let Ok(parts) = UriRefParts::<UriChars>::from_bytes(text) else {
         return put_text(b"error invalid", out);
     };
@@ -99,16 +86,14 @@ fn put_answered(text: &[u8], out: &mut Vec<u8>) -> Result<(), AllocError>
     ensures err { OnErr result (Extends out.old.items out.new.items) }
 {
     out.extend_from_slice(b"ok\t")?;
-    out.extend_from_slice(text)?;
-    Ok(())
+    out.extend_from_slice(text)
 }
 
 /// Puts the answer to `normal`.
 fn put_answer_to_normal(text: &[u8], out: &mut Vec<u8>) -> Result<(), AllocError>
-    ensures ok { OnOk result (out.new.items ≡ out.old.items ++ answer_text (answer_if_valid (Normal text.now))) }
+    ensures ok { OnOk result (out.new.items ≡ out.old.items ++ request_reply (Normal text.now)) }
     ensures err { OnErr result (Extends out.old.items out.new.items) }
 {
-    path_grammar::<UriChars>();
     let Ok(path) = Path::<UriChars>::from_bytes(text) else {
         return put_text(b"error invalid", out);
     };
@@ -126,10 +111,10 @@ fn yes_or_no(alike: bool) -> &'static [u8]
 
 /// Puts the answer to `equal`.
 fn put_answer_to_equal(left: &[u8], right: &[u8], out: &mut Vec<u8>) -> Result<(), AllocError>
-    ensures ok { OnOk result (out.new.items ≡ out.old.items ++ answer_text (answer_if_valid (Equal left.now right.now))) }
+    ensures ok { OnOk result
+        (out.new.items ≡ out.old.items ++ request_reply (Equal left.now right.now)) }
     ensures err { OnErr result (Extends out.old.items out.new.items) }
 {
-    reference_grammar::<UriChars>();
     let Ok(left) = UriRefParts::<UriChars>::from_bytes(left) else {
         return put_text(b"error invalid", out);
     };
@@ -141,7 +126,8 @@ fn put_answer_to_equal(left: &[u8], right: &[u8], out: &mut Vec<u8>) -> Result<(
 
 /// Puts the answer to a request.
 fn put_answer_to(request: Request<'_>, out: &mut Vec<u8>) -> Result<(), AllocError>
-    ensures ok { OnOk result (out.new.items ≡ out.old.items ++ answer_text (answer_if_valid (request_of request.entry))) }
+    ensures ok { OnOk result
+        (out.new.items ≡ out.old.items ++ request_reply (request_of request.entry)) }
     ensures err { OnErr result (Extends out.old.items out.new.items) }
 {
     match request {
@@ -153,7 +139,7 @@ fn put_answer_to(request: Request<'_>, out: &mut Vec<u8>) -> Result<(), AllocErr
 
 /// Puts the answer to the line.
 fn put_answer(line: &[u8], out: &mut Vec<u8>) -> Result<(), AllocError>
-    ensures ok { OnOk result (out.new.items ≡ out.old.items ++ answer_text (answer program_verbs line.now)) }
+    ensures ok { OnOk result (out.new.items ≡ out.old.items ++ line_reply line.now) }
     ensures err { OnErr result (Extends out.old.items out.new.items) }
 {
     let Some(request) = read_request(line) else {
@@ -164,7 +150,7 @@ fn put_answer(line: &[u8], out: &mut Vec<u8>) -> Result<(), AllocError>
 
 /// Puts the answer to the line, and a newline.
 fn put_answer_line(line: &[u8], out: &mut Vec<u8>) -> Result<(), AllocError>
-    ensures ok { OnOk result (out.new.items ≡ out.old.items ++ (answer_text (answer program_verbs line.now) ++ newline ∷ [])) }
+    ensures ok { OnOk result (out.new.items ≡ out.old.items ++ with_newline (line_reply line.now)) }
     ensures err { OnErr result (Extends out.old.items out.new.items) }
 {
     put_answer(line, out)?;
@@ -172,9 +158,10 @@ fn put_answer_line(line: &[u8], out: &mut Vec<u8>) -> Result<(), AllocError>
     Ok(())
 }
 
-/// Puts the answer to the line, and a newline, after what stands in `out`; or leaves it where memory is refused.
+/// Puts the answer to the line, and a newline, after what `out` holds; or leaves it where memory is
+/// refused.
 pub fn answer_line(line: &[u8], out: &mut Vec<u8>) -> Result<(), AllocError>
-    ensures ok { OnOk result (out.new.items ≡ out.old.items ++ (answer_text (answer program_verbs line.now) ++ newline ∷ [])) }
+    ensures ok { OnOk result (out.new.items ≡ out.old.items ++ with_newline (line_reply line.now)) }
     ensures err { OnErr result (out.new.items ≡ out.old.items) }
 {
     let start = out.len();

@@ -1,25 +1,27 @@
 //! Lines as their bytes come in, and the replies to them.
-ghost use Rattle.std.specs.Prelude.{◌≡◌, ◌++◌, ◌∷◌, [], true, false, is_err, OnOk, OnErr, codes};
+ghost use Rattle.std.specs.Prelude.{◌≡◌, ◌++◌, ◌∷◌, [], true, false, is_err, OnOk, OnErr};
 ghost use Rattle.iref_grammar.specs.Rules.{Text};
 ghost use Rattle.iref_grammar.specs.Texts.{is_empty};
-ghost use Rattle.iref_model.specs.Lines.{newline, lines_of};
-ghost use Rattle.iref.specs.Runs.{AnswersAll, AnswersBegun};
-ghost use Rattle.iref.specs.Gathering.{Lacks, Writes, WritesPart, Gains, Replies, RepliesPart, InRun};
+ghost use Rattle.iref_model.specs.Lines.{newline};
+ghost use Rattle.iref.specs.Runs.{memory_refused, with_newline, AnswersAll};
+ghost use Rattle.iref.specs.Gathering.{Lacks, Writes, WritesPart, Replies, RepliesPart, IsNothing, Holds, InRun, SeesMore, SeesSameLines, BreaksOff};
 
 use super::answers::answer_line;
 use super::cut::cut_at;
-use super::streams::{Fault, Sink};
+use super::streams::{Sink, StreamError};
 use std::alloc::Global;
 
 /// How many bytes of replies are gathered before they are written.
 const GATHERED: usize = 8192;
 
-/// Writes all of the bytes, or a beginning of them before a fault.
-fn write_all<W: Sink>(writer: &mut W, bytes: &[u8]) -> Result<(), Fault>
-    ensures ok { OnOk result (Writes (W.contents writer.old) (W.contents writer.new) bytes.now) }
-    ensures works { OnOk result (W.has_failed writer.old ≡ false → W.has_failed writer.new ≡ false) }
-    ensures failed { OnErr result (W.has_failed writer.new ≡ true) }
-    ensures cut { OnErr result (WritesPart (W.contents writer.old) (W.contents writer.new) bytes.now) }
+/// Writes all of the bytes, or a beginning of them before a failed write.
+fn write_all<W: Sink>(writer: &mut W, bytes: &[u8]) -> Result<(), StreamError>
+    requires { W.has_failed writer.old ≡ false }
+    ensures failed { W.has_failed writer.new ≡ is_err result }
+    ensures ok { OnOk result
+        (Writes bytes.now (W.contents writer.old) (W.contents writer.new)) }
+    ensures cut { OnErr result
+        (WritesPart bytes.now (W.contents writer.old) (W.contents writer.new)) }
 {
     let mut rest = bytes;
     while !rest.is_empty() {
@@ -37,12 +39,14 @@ pub struct Gathered {
 
 impl Gathered {
     /// Writes the replies gathered.
-    pub fn flush<W: Sink>(&mut self, writer: &mut W) -> Result<(), Fault>
-        ensures ok { OnOk result (Writes (W.contents writer.old) (W.contents writer.new) self.old.bytes.items) }
+    pub fn flush<W: Sink>(&mut self, writer: &mut W) -> Result<(), StreamError>
+        requires { W.has_failed writer.old ≡ false }
+        ensures failed { W.has_failed writer.new ≡ is_err result }
         ensures empty { OnOk result (self.new.bytes.items ≡ []) }
-        ensures works { OnOk result (W.has_failed writer.old ≡ false → W.has_failed writer.new ≡ false) }
-        ensures failed { OnErr result (W.has_failed writer.new ≡ true) }
-        ensures cut { OnErr result (WritesPart (W.contents writer.old) (W.contents writer.new) self.old.bytes.items) }
+        ensures ok { OnOk result
+            (Writes self.old.bytes.items (W.contents writer.old) (W.contents writer.new)) }
+        ensures cut { OnErr result
+            (WritesPart self.old.bytes.items (W.contents writer.old) (W.contents writer.new)) }
     {
         write_all(writer, self.bytes.as_slice())?;
         self.bytes.clear();
@@ -50,12 +54,14 @@ impl Gathered {
     }
 
     /// Replies that memory was refused.
-    fn refuse<W: Sink>(&mut self, writer: &mut W) -> Result<(), Fault>
-        ensures ok { OnOk result (Writes (W.contents writer.old) (W.contents writer.new) (self.old.bytes.items ++ (codes "error memory" ++ newline ∷ []))) }
+    fn refuse<W: Sink>(&mut self, writer: &mut W) -> Result<(), StreamError>
+        requires { W.has_failed writer.old ≡ false }
+        ensures failed { W.has_failed writer.new ≡ is_err result }
         ensures empty { OnOk result (self.new.bytes.items ≡ []) }
-        ensures works { OnOk result (W.has_failed writer.old ≡ false → W.has_failed writer.new ≡ false) }
-        ensures failed { OnErr result (W.has_failed writer.new ≡ true) }
-        ensures cut { OnErr result (WritesPart (W.contents writer.old) (W.contents writer.new) (self.old.bytes.items ++ (codes "error memory" ++ newline ∷ []))) }
+        ensures ok { OnOk result (Writes (self.old.bytes.items ++ with_newline memory_refused)
+            (W.contents writer.old) (W.contents writer.new)) }
+        ensures cut { OnErr result (WritesPart (self.old.bytes.items ++ with_newline memory_refused)
+            (W.contents writer.old) (W.contents writer.new)) }
     {
         self.flush(writer)?;
         write_all(writer, b"error memory\n")?;
@@ -63,11 +69,13 @@ impl Gathered {
     }
 
     /// Replies to the line.
-    fn reply<W: Sink>(&mut self, line: &[u8], writer: &mut W) -> Result<(), Fault>
-        ensures ok { OnOk result (Replies line.now (W.contents writer.old) (W.contents writer.new) self.old.bytes.items self.new.bytes.items) }
-        ensures works { OnOk result (W.has_failed writer.old ≡ false → W.has_failed writer.new ≡ false) }
-        ensures failed { OnErr result (W.has_failed writer.new ≡ true) }
-        ensures cut { OnErr result (RepliesPart line.now (W.contents writer.old) (W.contents writer.new) self.old.bytes.items) }
+    fn reply<W: Sink>(&mut self, line: &[u8], writer: &mut W) -> Result<(), StreamError>
+        requires { W.has_failed writer.old ≡ false }
+        ensures failed { W.has_failed writer.new ≡ is_err result }
+        ensures ok { OnOk result (Replies line.now (W.contents writer.old) (W.contents writer.new)
+            self.old.bytes.items self.new.bytes.items) }
+        ensures cut { OnErr result (RepliesPart line.now
+            (W.contents writer.old) (W.contents writer.new) self.old.bytes.items) }
     {
         let Ok(()) = answer_line(line, &mut self.bytes) else {
             self.refuse(writer)?;
@@ -90,16 +98,20 @@ pub struct Begun {
 impl Begun {
     /// No byte of a line came in.
     fn is_empty(&self) -> bool
-        ensures none { result ≡ true → (self.now.bytes.items ≡ []) × (self.now.is_refused ≡ false) }
-        ensures some { result ≡ false → self.now.is_refused ≡ false → is_empty self.now.bytes.items ≡ false }
+        ensures nothing { result ≡ true → IsNothing self.now }
+        ensures some { result ≡ false → self.now.is_refused ≡ false →
+            is_empty self.now.bytes.items ≡ false }
     {
         !self.is_refused && self.bytes.as_slice().is_empty()
     }
 
     /// Keeps more bytes of the line.
     fn keep(&mut self, more: &[u8])
-        ensures kept { self.new.is_refused ≡ false → (self.old.is_refused ≡ false) × (self.new.bytes.items ≡ self.old.bytes.items ++ more.now) }
-        ensures some { self.new.is_refused ≡ true → is_empty more.now ≡ true → self.old.is_refused ≡ true }
+        ensures works { self.new.is_refused ≡ false → self.old.is_refused ≡ false }
+        ensures kept { self.new.is_refused ≡ false →
+            self.new.bytes.items ≡ self.old.bytes.items ++ more.now }
+        ensures some { self.new.is_refused ≡ true → is_empty more.now ≡ true →
+            self.old.is_refused ≡ true }
     {
         if more.is_empty() || self.is_refused {
             return;
@@ -120,9 +132,8 @@ pub struct Lines {
 impl Lines {
     /// A run that has read nothing.
     pub fn new(alloc: Global) -> Self
+        ensures begun { IsNothing result.begun }
         ensures gathered { result.gathered.bytes.items ≡ [] }
-        ensures held { result.begun.bytes.items ≡ [] }
-        ensures is_refused { result.begun.is_refused ≡ false }
     {
         Lines {
             begun: Begun {
@@ -136,13 +147,16 @@ impl Lines {
     }
 
     /// Replies to the line whose last bytes are `tail`.
-    fn reply<W: Sink>(&mut self, tail: &[u8], writer: &mut W) -> Result<(), Fault>
-        ensures ok { OnOk result ((begun : Text) → (self.old.begun.is_refused ≡ false → self.old.begun.bytes.items ≡ begun) →
-            Replies (begun ++ tail.now) (W.contents writer.old) (W.contents writer.new) self.old.gathered.bytes.items self.new.gathered.bytes.items) }
-        ensures works { OnOk result (W.has_failed writer.old ≡ false → W.has_failed writer.new ≡ false) }
-        ensures failed { OnErr result (W.has_failed writer.new ≡ true) }
-        ensures cut { OnErr result ((begun : Text) → (self.old.begun.is_refused ≡ false → self.old.begun.bytes.items ≡ begun) →
-            RepliesPart (begun ++ tail.now) (W.contents writer.old) (W.contents writer.new) self.old.gathered.bytes.items) }
+    #[inline(always)]
+    fn reply<W: Sink>(&mut self, tail: &[u8], writer: &mut W) -> Result<(), StreamError>
+        requires { W.has_failed writer.old ≡ false }
+        ensures failed { W.has_failed writer.new ≡ is_err result }
+        ensures ok { OnOk result ((line : Text) → Holds self.old.begun line →
+            Replies (line ++ tail.now) (W.contents writer.old) (W.contents writer.new)
+            self.old.gathered.bytes.items self.new.gathered.bytes.items) }
+        ensures cut { OnErr result ((line : Text) → Holds self.old.begun line →
+            RepliesPart (line ++ tail.now) (W.contents writer.old) (W.contents writer.new)
+            self.old.gathered.bytes.items) }
     {
         if self.begun.is_empty() {
             self.gathered.reply(tail, writer)?;
@@ -158,18 +172,16 @@ impl Lines {
     }
 
     /// Replies to the line whose last bytes are `tail`, and begins the next.
-    fn end_line<W: Sink>(&mut self, tail: &[u8], writer: &mut W) -> Result<(), Fault>
-        requires { Lacks newline tail.now }
-        ensures ok { OnOk result ((seen before : Text) →
-            InRun seen before (W.contents writer.old) self.old.gathered.bytes.items self.old.begun.bytes.items self.old.begun.is_refused →
-            InRun (seen ++ (tail.now ++ newline ∷ [])) before (W.contents writer.new) self.new.gathered.bytes.items self.new.begun.bytes.items self.new.begun.is_refused) }
-        ensures held { OnOk result (self.new.begun.bytes.items ≡ []) }
-        ensures is_refused { OnOk result (self.new.begun.is_refused ≡ false) }
-        ensures works { OnOk result (W.has_failed writer.old ≡ false → W.has_failed writer.new ≡ false) }
-        ensures failed { OnErr result (W.has_failed writer.new ≡ true) }
-        ensures cut { OnErr result ((seen before more : Text) →
-            InRun seen before (W.contents writer.old) self.old.gathered.bytes.items self.old.begun.bytes.items self.old.begun.is_refused →
-            AnswersBegun (seen ++ (tail.now ++ newline ∷ more)) before (W.contents writer.new)) }
+    #[inline(always)]
+    fn end_line<W: Sink>(&mut self, tail: &[u8], writer: &mut W) -> Result<(), StreamError>
+        requires line { Lacks newline tail.now }
+        requires works { W.has_failed writer.old ≡ false }
+        ensures failed { W.has_failed writer.new ≡ is_err result }
+        ensures begun { OnOk result (IsNothing self.new.begun) }
+        ensures ok { OnOk result (SeesMore (with_newline tail.now)
+            (W.contents writer.old) (W.contents writer.new) self.old self.new) }
+        ensures cut { OnErr result ((others : Text) → BreaksOff (tail.now ++ newline ∷ others)
+            (W.contents writer.old) (W.contents writer.new) self.old) }
     {
         self.reply(tail, writer)?;
         self.begun.bytes.clear();
@@ -177,17 +189,15 @@ impl Lines {
         Ok(())
     }
 
-    /// Takes the next bytes of the input, replies to each line that ends there, and writes the replies.
-    pub fn take<W: Sink>(&mut self, block: &[u8], writer: &mut W) -> Result<(), Fault>
-        ensures ok { OnOk result ((seen before : Text) →
-            InRun seen before (W.contents writer.old) self.old.gathered.bytes.items self.old.begun.bytes.items self.old.begun.is_refused →
-            InRun (seen ++ block.now) before (W.contents writer.new) self.new.gathered.bytes.items self.new.begun.bytes.items self.new.begun.is_refused) }
+    /// Takes the next bytes of the input, and writes a reply to each line that ends there.
+    pub fn take<W: Sink>(&mut self, block: &[u8], writer: &mut W) -> Result<(), StreamError>
+        requires { W.has_failed writer.old ≡ false }
+        ensures failed { W.has_failed writer.new ≡ is_err result }
         ensures gathered { OnOk result (self.new.gathered.bytes.items ≡ []) }
-        ensures works { OnOk result (W.has_failed writer.old ≡ false → W.has_failed writer.new ≡ false) }
-        ensures failed { OnErr result (W.has_failed writer.new ≡ true) }
-        ensures cut { OnErr result ((seen before more : Text) →
-            InRun seen before (W.contents writer.old) self.old.gathered.bytes.items self.old.begun.bytes.items self.old.begun.is_refused →
-            AnswersBegun (seen ++ (block.now ++ more)) before (W.contents writer.new)) }
+        ensures ok { OnOk result (SeesMore block.now
+            (W.contents writer.old) (W.contents writer.new) self.old self.new) }
+        ensures cut { OnErr result ((others : Text) → BreaksOff (block.now ++ others)
+            (W.contents writer.old) (W.contents writer.new) self.old) }
     {
         let mut rest = block;
         while let Some((tail, more)) = cut_at(b'\n', rest) {
@@ -200,18 +210,14 @@ impl Lines {
     }
 
     /// Replies to the last line, if it is not empty.
-    fn end_last<W: Sink>(&mut self, writer: &mut W) -> Result<(), Fault>
-        ensures ok { OnOk result ((seen before : Text) →
-            InRun seen before (W.contents writer.old) self.old.gathered.bytes.items self.old.begun.bytes.items self.old.begun.is_refused →
-            (text : Text) × (lines_of text ≡ lines_of seen) ×
-            InRun text before (W.contents writer.new) self.new.gathered.bytes.items self.new.begun.bytes.items self.new.begun.is_refused) }
-        ensures held { OnOk result (self.new.begun.bytes.items ≡ []) }
-        ensures is_refused { OnOk result (self.new.begun.is_refused ≡ false) }
-        ensures works { OnOk result (W.has_failed writer.old ≡ false → W.has_failed writer.new ≡ false) }
-        ensures failed { OnErr result (W.has_failed writer.new ≡ true) }
-        ensures cut { OnErr result ((seen before : Text) →
-            InRun seen before (W.contents writer.old) self.old.gathered.bytes.items self.old.begun.bytes.items self.old.begun.is_refused →
-            AnswersBegun seen before (W.contents writer.new)) }
+    fn end_last<W: Sink>(&mut self, writer: &mut W) -> Result<(), StreamError>
+        requires { W.has_failed writer.old ≡ false }
+        ensures failed { W.has_failed writer.new ≡ is_err result }
+        ensures begun { OnOk result (IsNothing self.new.begun) }
+        ensures ok { OnOk result (SeesSameLines
+            (W.contents writer.old) (W.contents writer.new) self.old self.new) }
+        ensures cut { OnErr result (BreaksOff []
+            (W.contents writer.old) (W.contents writer.new) self.old) }
     {
         if self.begun.is_empty() {
             return Ok(());
@@ -221,15 +227,14 @@ impl Lines {
     }
 
     /// Replies to the last line, if it is not empty, and writes the replies.
-    pub fn end<W: Sink>(&mut self, writer: &mut W) -> Result<(), Fault>
+    pub fn end<W: Sink>(&mut self, writer: &mut W) -> Result<(), StreamError>
+        requires { W.has_failed writer.old ≡ false }
+        ensures failed { W.has_failed writer.new ≡ is_err result }
         ensures ok { OnOk result ((seen before : Text) →
-            InRun seen before (W.contents writer.old) self.old.gathered.bytes.items self.old.begun.bytes.items self.old.begun.is_refused →
+            InRun seen before (W.contents writer.old) self.old →
             AnswersAll seen before (W.contents writer.new)) }
-        ensures works { OnOk result (W.has_failed writer.old ≡ false → W.has_failed writer.new ≡ false) }
-        ensures failed { OnErr result (W.has_failed writer.new ≡ true) }
-        ensures cut { OnErr result ((seen before : Text) →
-            InRun seen before (W.contents writer.old) self.old.gathered.bytes.items self.old.begun.bytes.items self.old.begun.is_refused →
-            AnswersBegun seen before (W.contents writer.new)) }
+        ensures cut { OnErr result (BreaksOff []
+            (W.contents writer.old) (W.contents writer.new) self.old) }
     {
         self.end_last(writer)?;
         self.gathered.flush(writer)?;

@@ -1,11 +1,11 @@
 //! What a line asks for.
-ghost use Rattle.std.specs.Prelude.{◌≡◌, ◌∷◌, bytes_eq, option_map};
-ghost use Rattle.std.specs.Option.{option_copied};
-ghost use Rattle.iref_grammar.specs.Rules.{Text};
-ghost use Rattle.iref_grammar.specs.Texts.{pieces_at};
 ghost use Rattle.iref.specs.Fields.{fields_of};
 ghost use Rattle.iref.specs.Requests.{request_of};
+ghost use Rattle.std.specs.Option.{option_copied};
 ghost use Rattle.iref_model.specs.Lines as spec;
+ghost use Rattle.std.specs.Prelude.{◌≡◌, ◌∷◌, bytes_eq, option_map};
+ghost use Rattle.iref_grammar.specs.Texts.{pieces_at};
+ghost use Rattle.iref_grammar.specs.Rules.{Text};
 ghost use Rattle.iref_model.specs.Lines.{tab, read_line, program_verbs, one_text, two_texts};
 
 use super::cut::cut_at;
@@ -33,7 +33,9 @@ fn first_field(text: &[u8]) -> (&[u8], Option<&[u8]>)
 
 /// The one field, if there is one and no other.
 fn one_field(fields: Option<&[u8]>) -> Option<&[u8]>
-    ensures { (request : Text → spec.Request) → one_text request (fields_of (option_copied fields.entry)) ≡ option_map request (option_copied result) }
+    ensures { (request : Text → spec.Request) →
+        one_text request (fields_of (option_copied fields.entry))
+        ≡ option_map request (option_copied result) }
 {
     let (field, others) = first_field(fields?);
     match others {
@@ -44,7 +46,9 @@ fn one_field(fields: Option<&[u8]>) -> Option<&[u8]>
 
 /// The two fields, if there are two and no other.
 fn two_fields(fields: Option<&[u8]>) -> Option<(&[u8], &[u8])>
-    ensures { (request : Text → Text → spec.Request) → two_texts request (fields_of (option_copied fields.entry)) ≡ option_map (λ texts. request texts.0.now texts.1.now) result }
+    ensures { (request : Text → Text → spec.Request) →
+        two_texts request (fields_of (option_copied fields.entry))
+        ≡ option_map (λ texts. request texts.0.now texts.1.now) result }
 {
     let (first, others) = first_field(fields?);
     let second = one_field(others)?;

@@ -1,4 +1,3 @@
-use Rattle.std.proofs.Common.{◌≡◌}
 use Rattle.iref.specs.Requests.{request_of}
 use Rattle.iref.proofs.AnswerLemmas.{answer_of, no_answer}
 use Rattle.iref.proofs.batch.answers.put_answer.Goals as goal

@@ -1,14 +1,13 @@
-use Rattle.std.proofs.Common.{◌≡◌}
-use Rattle.iref.proofs.AnswerLemmas.{parts_answer, no_parts_answer, not_decided}
-use Rattle.iref_refs.specs.References.{uri_ref_part_texts}
+use Rattle.iref.proofs.AnswerLemmas.{parts_answer, no_parts_answer}
+use Rattle.iref_reference.specs.Parts.{uri_ref_part_texts}
 use Rattle.iref.proofs.batch.answers.put_answer_to_parts.Goals as goal
 
 pub returns-clause-ok : goal.returns-clause-ok
 returns-clause-ok c =
     let text = c.args.text.now in
-    rw (parts_answer text (uri_ref_part_texts c.in-Ok.parts) ((c.reference_grammar.ensures text).1 c.in-Ok.ensures.0) c.in-Ok.ensures.1) c.put_parts.ensures.ok
+    rw (parts_answer text (uri_ref_part_texts c.in-Ok.parts) c.in-Ok.ensures.0 c.in-Ok.ensures.1) c.put_parts.ensures.ok
 
 pub returns-in_default-clause-ok : goal.returns-in_default-clause-ok
 returns-in_default-clause-ok c =
     let text = c.args.text.now in
-    rw (no_parts_answer text (not_decided _ _ (c.reference_grammar.ensures text) c.in_default.ensures.0)) c.put_text.ensures.ok
+    rw (no_parts_answer text c.in_default.ensures.0) c.put_text.ensures.ok

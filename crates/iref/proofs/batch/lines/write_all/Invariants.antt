@@ -5,8 +5,8 @@ use Rattle.iref.proofs.batch.lines.write_all.Given as goal
 
 abbrev pub invariant-loop-rest : goal.invariant-loop-rest
 invariant-loop-rest g l = record {
-  written : (front : Text) × (l.bytes ≡ front ++ l.rest) × Writes (g.W.Sink.contents l.initial.writer) (g.W.Sink.contents l.writer) front;
-  works : g.W.Sink.has_failed l.initial.writer ≡ false → g.W.Sink.has_failed l.writer ≡ false;
+  written : (front : Text) × (l.bytes ≡ front ++ l.rest) × Writes front (g.W.Sink.contents l.initial.writer) (g.W.Sink.contents l.writer);
+  works : g.W.Sink.has_failed l.writer ≡ false;
 }
 
 abbrev pub decreases-loop-rest : goal.decreases-loop-rest

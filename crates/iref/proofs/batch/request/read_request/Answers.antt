@@ -1,4 +1,4 @@
-use Rattle.std.proofs.Common.{◌≡◌, ◌∙◌}
+use Rattle.std.proofs.Common.{◌∙◌}
 use Rattle.std.specs.Option.{option_copied}
 use Rattle.iref_model.specs.Lines.{Parts, Normal, Equal}
 use Rattle.iref.proofs.FieldLemmas.{parts_read, normal_read, equal_read, nothing_read}
