@@ -1,0 +1,71 @@
+//! Functions as a caller writes them, each proved from the public clauses of paths and segments
+//! alone.
+#![tactic(auto)]
+
+ghost use Rattle.std.specs.Prelude.{◌≡◌, IfOk, count_by, fold, length, map, max, reverse};
+ghost use Rattle.iref.specs.Texts.{is_empty};
+ghost use Rattle.iref.specs.NormalList.{normal_segments};
+ghost use Rattle.iref.specs.Components.{view_text};
+ghost use Rattle.iref.specs.Paths.{path_value};
+
+use iref::uri::{Path, Segment};
+use std::alloc::{AllocError, Global};
+
+#[cfg(test)]
+mod tests;
+
+/// How many segments of the path are empty.
+pub fn empty_segment_count(path: Path<'_>) -> usize
+    ensures { result ≡ count_by is_empty (path_value path.entry).segments }
+{
+    let mut count = 0;
+    for segment in path.segments() {
+        if segment.is_empty() {
+            count += 1;
+        }
+    }
+    count
+}
+
+/// The segments of the path, in a vector.
+pub fn segment_list<'a>(path: Path<'a>, alloc: Global) -> Result<Vec<Segment<'a>>, AllocError>
+    ensures { IfOk result (λ list. map view_text list.items ≡ (path_value path.entry).segments) }
+{
+    path.segments().collect(alloc)
+}
+
+/// The segments of the path, the last one first.
+pub fn reversed_segment_list<'a>(
+    path: Path<'a>,
+    alloc: Global,
+) -> Result<Vec<Segment<'a>>, AllocError>
+    ensures { IfOk result
+        (λ list. map view_text list.items ≡ reverse (path_value path.entry).segments) }
+{
+    path.segments().rev().collect(alloc)
+}
+
+/// The normal segments of the path, in a vector.
+pub fn normal_segment_list<'a>(
+    path: Path<'a>,
+    alloc: Global,
+) -> Result<Vec<Segment<'a>>, AllocError>
+    ensures { IfOk result
+        (λ list. map view_text list.items ≡ normal_segments (path_value path.entry)) }
+{
+    path.normalized_segments().collect(alloc)
+}
+
+/// The longest of the path's segments, in bytes; 0 where it has none.
+pub fn longest_segment_length(path: Path<'_>) -> usize
+    ensures { result ≡ fold (λ longest segment. max longest (length segment)) 0
+        (path_value path.entry).segments }
+{
+    let mut longest = 0;
+    for segment in path {
+        if segment.len() > longest {
+            longest = segment.len();
+        }
+    }
+    longest
+}
