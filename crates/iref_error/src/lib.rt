@@ -1,6 +1,7 @@
 //! The errors of every call: an input outside its rule, and want of memory.
 #![tactic(auto)]
 
+mod conversions;
 pub mod edit;
 pub mod invalid;
 pub mod iri;

@@ -40,3 +40,4 @@ pub mod ComponentLemmas
 pub mod FrontLemmas
 pub mod PctLemmas
 pub mod EmptyLemmas
+pub mod MarkLemmas

@@ -4,7 +4,7 @@
 ghost use Rattle.std.specs.Prelude.{◌≡◌, ◌↔◌, Bool, true, false};
 ghost use Rattle.std.specs.List.{list_all};
 ghost use Rattle.iref_grammar.specs.declared.places.PathContext.{PathContext};
-ghost use Rattle.iref_grammar.specs.Rules.{Text, ◌or◌, Empty, InUtf8};
+ghost use Rattle.iref_grammar.specs.Rules.{Text, ◌or◌, Empty, AcceptsExactly};
 ghost use Rattle.iref_grammar.specs.Grammar.{IsAbEmptyPath, IsAbsolutePath, IsRootlessPath, IsNoSchemePath};
 ghost use Rattle.iref_grammar.specs.Tests.{is_segment, is_path};
 ghost use Rattle.iref_grammar.specs.PathValue.{PathValue, IsReadAs, spell_path, read_path};
@@ -33,25 +33,16 @@ pub fn readable_paths_are_read_back<S: CharSet>()
         → is_path_in S.tests context (spell_path p) ≡ true }
 {}
 
-/// A path that may follow an authority is one of the rule `path-abempty`.
-pub fn path_after_authority_grammar<S: CharSet>()
-    ensures { (has_scheme : Bool) (bytes : Text)
-        → let context : PathContext = record { has_scheme = has_scheme; has_authority = true } in
-        (is_path_in S.tests context bytes ≡ true) ↔ InUtf8 (IsAbEmptyPath S.tests) bytes }
-{}
-
-/// A path that may follow a scheme is one of the rules `path-absolute`, `path-rootless` and
-/// `path-empty`.
-pub fn path_after_scheme_grammar<S: CharSet>()
-    ensures { (bytes : Text)
-        → let context : PathContext = record { has_scheme = true; has_authority = false } in
-        (is_path_in S.tests context bytes ≡ true)
-        ↔ InUtf8 (IsAbsolutePath S.tests or IsRootlessPath S.tests or Empty) bytes }
-{}
-
-/// A path that may stand alone is one of the rules `path-absolute`, `path-noscheme` and
-/// `path-empty`.
-pub fn path_alone_grammar<S: CharSet>()
-    ensures { (bytes : Text) → (is_path_in S.tests alone bytes ≡ true)
-        ↔ InUtf8 (IsAbsolutePath S.tests or IsNoSchemePath S.tests or Empty) bytes }
+/// A path that may follow an authority is one of the rule `path-abempty`. One that may follow a
+/// scheme is one of `path-absolute`, `path-rootless` and `path-empty`, and one that may stand alone
+/// is one of `path-absolute`, `path-noscheme` and `path-empty`.
+pub fn path_context_grammar<S: CharSet>()
+    ensures after_authority { (has_scheme : Bool) → AcceptsExactly
+        (is_path_in S.tests (record { has_scheme = has_scheme; has_authority = true }))
+        (IsAbEmptyPath S.tests) }
+    ensures after_scheme { AcceptsExactly
+        (is_path_in S.tests (record { has_scheme = true; has_authority = false }))
+        (IsAbsolutePath S.tests or IsRootlessPath S.tests or Empty) }
+    ensures alone { AcceptsExactly (is_path_in S.tests alone)
+        (IsAbsolutePath S.tests or IsNoSchemePath S.tests or Empty) }
 {}

@@ -3,7 +3,7 @@
 
 ghost use Rattle.std.specs.Prelude.{◌≡◌, ◌↔◌, IsSome, option_map, true};
 ghost use Rattle.iref_grammar.specs.Characters.{uri_chars};
-ghost use Rattle.iref_grammar.specs.Rules.{Text, InUtf8};
+ghost use Rattle.iref_grammar.specs.Rules.{Text, AcceptsExactly, InUtf8};
 ghost use Rattle.iref_grammar.specs.Grammar.{IsUri, IsUriReference};
 ghost use Rattle.iref_grammar.specs.Authority.{spell_authority};
 ghost use Rattle.iref_grammar.specs.PathValue.{spell_path};
@@ -13,54 +13,32 @@ ghost use Rattle.iref_grammar.specs.ComponentTexts.{ComponentTexts, AreComponent
 
 use crate::chars::CharSet;
 
-/// The test of references with a scheme decides the rule `URI`.
-pub fn uri_grammar<S: CharSet>()
-    ensures { (bytes : Text) → (is_full_reference S.tests bytes ≡ true)
-        ↔ InUtf8 (IsUri S.tests) bytes }
-{}
-
-/// The test of references decides the rule `URI-reference`.
+/// The tests decide the rules `URI` and `URI-reference`, and what it is to be readable.
 pub fn reference_grammar<S: CharSet>()
-    ensures { (bytes : Text) → (is_reference S.tests bytes ≡ true)
-        ↔ InUtf8 (IsUriReference S.tests) bytes }
+    ensures uri { AcceptsExactly (is_full_reference S.tests) (IsUri S.tests) }
+    ensures reference { AcceptsExactly (is_reference S.tests) (IsUriReference S.tests) }
+    ensures readable { (r : ReferenceValue) → (is_readable S.tests r ≡ true)
+        ↔ IsReadable S.tests r }
 {}
 
-/// The test of readable references decides what it is to be readable.
-pub fn readable_tested<S: CharSet>()
-    ensures { (r : ReferenceValue) → (is_readable S.tests r ≡ true) ↔ IsReadable S.tests r }
-{}
-
-/// The components that are read from a text spell it.
-pub fn reference_spelled_back()
-    ensures { (text : Text) → spell (read_reference text) ≡ text }
-{}
-
-/// The reference that spells a text is the one that is read from it.
-pub fn reference_read_back<S: CharSet>()
-    ensures { (r : ReferenceValue) → IsReadable S.tests r → read_reference (spell r) ≡ r }
-{}
-
-/// No two readable references spell one text.
-pub fn one_reference_a_text<S: CharSet>()
-    ensures { (q r : ReferenceValue) → IsReadable S.tests q → IsReadable S.tests r
-        → spell q ≡ spell r → q ≡ r }
-{}
-
-/// What a text is read as: the reference that is computed, where the text is in the grammar.
+/// A text has one reading: the components that are read from it spell it, no other readable
+/// reference does, and this one is readable where the text is in the grammar.
 pub fn reference_reading<S: CharSet>()
-    ensures { (text : Text) (r : ReferenceValue) → IsReadAsReference S.tests text r
+    ensures spelled_back { (text : Text) → spell (read_reference text) ≡ text }
+    ensures read_back { (r : ReferenceValue) → IsReadable S.tests r
+        → read_reference (spell r) ≡ r }
+    ensures one { (q r : ReferenceValue) → IsReadable S.tests q → IsReadable S.tests r
+        → spell q ≡ spell r → q ≡ r }
+    ensures computed { (text : Text) (r : ReferenceValue) → IsReadAsReference S.tests text r
         ↔ ((is_reference S.tests text ≡ true) × (read_reference text ≡ r)) }
 {}
 
-/// A text is in the grammar exactly if a readable reference spells it.
+/// A text is in the grammar exactly if a readable reference spells it, and a URI exactly if one
+/// with a scheme does.
 pub fn references_spelled<S: CharSet>()
-    ensures { (bytes : Text) → InUtf8 (IsUriReference S.tests) bytes
+    ensures reference { (bytes : Text) → InUtf8 (IsUriReference S.tests) bytes
         ↔ ((r : ReferenceValue) × IsReadable S.tests r × (spell r ≡ bytes)) }
-{}
-
-/// A text is a URI exactly if a readable reference with a scheme spells it.
-pub fn uris_spelled<S: CharSet>()
-    ensures { (bytes : Text) → InUtf8 (IsUri S.tests) bytes
+    ensures uri { (bytes : Text) → InUtf8 (IsUri S.tests) bytes
         ↔ ((r : ReferenceValue) × IsReadable S.tests r × IsSome r.scheme × (spell r ≡ bytes)) }
 {}
 
@@ -79,14 +57,11 @@ pub fn places_hold_the_components()
         → option_map (text_at text) (places_of text).fragment ≡ (read_reference text).fragment }
 {}
 
-/// What is readable as a URI is so in each grammar, by the same components.
-pub fn uri_readable<S: CharSet>()
-    ensures { (r : ReferenceValue) → IsReadable uri_chars r → IsReadable S.tests r }
-{}
-
-/// A URI reference is in each grammar.
-pub fn uri_reference_in_each_grammar<S: CharSet>()
-    ensures { (bytes : Text) → is_reference uri_chars bytes ≡ true
+/// What is readable as a URI is so in each grammar, by the same components, and a URI reference is
+/// in each grammar.
+pub fn uris_in_each_grammar<S: CharSet>()
+    ensures readable { (r : ReferenceValue) → IsReadable uri_chars r → IsReadable S.tests r }
+    ensures text { (bytes : Text) → is_reference uri_chars bytes ≡ true
         → is_reference S.tests bytes ≡ true }
 {}
 

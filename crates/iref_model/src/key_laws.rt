@@ -6,12 +6,9 @@ ghost use Rattle.std.specs.Ordering.{on};
 ghost use Rattle.iref_grammar.specs.Reference.{ReferenceValue};
 ghost use Rattle.iref_model.specs.Key.{AreAlike, are_alike, key, key_cmp};
 
-/// The comparison of two references is Equal exactly where their keys are the same.
-pub fn references_tie_by_key()
-    ensures { (r s : ReferenceValue) → (are_alike r s ≡ true) ↔ AreAlike r s }
-{}
-
-/// References are in a total order, that of their keys.
+/// References are in a total order, that of their keys, and the comparison of two is Equal exactly
+/// where their keys are the same.
 pub fn references_are_in_total_order()
-    ensures { IsTotalOrder (on key key_cmp) }
+    ensures total { IsTotalOrder (on key key_cmp) }
+    ensures ties { (r s : ReferenceValue) → (are_alike r s ≡ true) ↔ AreAlike r s }
 {}

@@ -5,6 +5,5 @@
 pub mod key_laws;
 pub mod number_laws;
 pub mod path_laws;
-pub mod relative_laws;
 pub mod resolution_laws;
 pub mod step_laws;

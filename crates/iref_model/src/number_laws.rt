@@ -1,8 +1,7 @@
 //! Laws of the numbers of hosts and ports: each is the contract of a function that does nothing.
 
 ghost use Rattle.std.specs.Prelude.{◌≡◌, ℕ, ◌<◌, ◌^◌, true, Some};
-ghost use Rattle.iref_grammar.specs.IpAddresses.{ipv4_value};
-ghost use Rattle.iref_grammar.specs.Tests.{is_host, is_port};
+ghost use Rattle.iref_grammar.specs.{ipv4_value, is_host, is_port};
 ghost use Rattle.iref_model.specs.HostNumbers.{ipv4_text, ipv6_host_text, literal_value};
 ghost use Rattle.iref_model.specs.PortNumbers.{port_value, port_text};
 

@@ -2,20 +2,18 @@
 
 ghost use Rattle.std.specs.Prelude.{◌≡◌, Bool, true, ◌==◌, List, [], ◌↔◌};
 ghost use Rattle.std.specs.List.{list_all};
-ghost use Rattle.iref_grammar.specs.Characters.{CharTests};
-ghost use Rattle.iref_grammar.specs.Contexts.{alone, follows_authority, fits, is_readable_path};
-ghost use Rattle.iref_grammar.specs.Grammar.{slash};
-ghost use Rattle.iref_grammar.specs.PathValue.{PathValue, spell_path, read_path, shows_its_list};
-ghost use Rattle.iref_grammar.specs.Rules.{Text};
-ghost use Rattle.iref_grammar.specs.Tests.{is_segment};
-ghost use Rattle.iref_grammar.specs.Texts.{lacks};
 ghost use Rattle.iref_grammar.specs.declared.places.PathContext.{PathContext};
+ghost use Rattle.iref_grammar.specs.{CharTests, alone, follows_authority, fits, is_readable_path};
+ghost use Rattle.iref_grammar.specs.{slash, spell_path, read_path, shows_its_list, Text};
+ghost use Rattle.iref_grammar.specs.{is_segment, lacks};
+ghost use Rattle.iref_grammar.specs.PathValue.{PathValue};
 ghost use Rattle.iref_model.specs.Guard.{guarded, guarded_list};
 ghost use Rattle.iref_model.specs.NormalList.{stays_before, excess, open_parents, normal, normal_segments};
 ghost use Rattle.iref_model.specs.NormalReading.{NormalRest, items_left, whole_rest, first_left, last_left, GivesFirst, GivesLast};
 ghost use Rattle.iref_model.specs.PathFunctions.{directory, directory_text};
 ghost use Rattle.iref_model.specs.PathSteps.{lazy_pushed, pushed, popped, appended, lazy_appended, joined, replaced, normalized, cleared};
 ghost use Rattle.iref_model.specs.PathKey.{path_key};
+ghost use Rattle.iref_model.specs.Readability.{KeepsPathsReadable};
 ghost use Rattle.iref_model.specs.DotSegments.{RemovesDotSegments, dot_segments_removed};
 ghost use Rattle.iref_model.specs.CountedEquality.{IsCountedAnswer, paths_compared, segments_read};
 
@@ -34,33 +32,26 @@ pub fn guarded_paths_are_readable()
 
 /// Each step of a path keeps it readable in its context.
 pub fn path_steps_keep_paths_readable()
-    ensures lazy_push { (set : CharTests) (context : PathContext) (s : Text) (p : PathValue)
-        → is_segment set s ≡ true → is_readable_path set context p ≡ true
-        → is_readable_path set context (lazy_pushed context s p) ≡ true }
-    ensures push { (set : CharTests) (context : PathContext) (s : Text) (p : PathValue)
-        → is_segment set s ≡ true → is_readable_path set context p ≡ true
-        → is_readable_path set context (pushed context s p) ≡ true }
-    ensures pop { (set : CharTests) (context : PathContext) (p : PathValue)
-        → is_readable_path set context p ≡ true
-        → is_readable_path set context (popped context p) ≡ true }
-    ensures append { (set : CharTests) (context : PathContext) (items : List Text) (p : PathValue)
-        → list_all (is_segment set) items ≡ true → is_readable_path set context p ≡ true
-        → is_readable_path set context (appended context items p) ≡ true }
-    ensures lazy_append { (set : CharTests) (context : PathContext) (items : List Text)
-        (p : PathValue)
-        → list_all (is_segment set) items ≡ true → is_readable_path set context p ≡ true
-        → is_readable_path set context (lazy_appended context items p) ≡ true }
-    ensures join { (set : CharTests) (context : PathContext) (new p : PathValue)
-        → list_all (is_segment set) new.segments ≡ true → is_readable_path set context p ≡ true
-        → is_readable_path set context (joined context new p) ≡ true }
+    ensures lazy_push { (set : CharTests) (s : Text) → is_segment set s ≡ true
+        → KeepsPathsReadable set (λ context. lazy_pushed context s) }
+    ensures push { (set : CharTests) (s : Text) → is_segment set s ≡ true
+        → KeepsPathsReadable set (λ context. pushed context s) }
+    ensures pop { (set : CharTests) → KeepsPathsReadable set popped }
+    ensures append { (set : CharTests) (items : List Text) → list_all (is_segment set) items ≡ true
+        → KeepsPathsReadable set (λ context. appended context items) }
+    ensures lazy_append { (set : CharTests) (items : List Text)
+        → list_all (is_segment set) items ≡ true
+        → KeepsPathsReadable set (λ context. lazy_appended context items) }
+    ensures join { (set : CharTests) (new : PathValue)
+        → list_all (is_segment set) new.segments ≡ true
+        → KeepsPathsReadable set (λ context. joined context new) }
     ensures replace { (set : CharTests) (context : PathContext) (new p : PathValue)
         → list_all (is_segment set) new.segments ≡ true
         → is_readable_path set context (replaced context new p) ≡ true }
     ensures normalize { (set : CharTests) (context : PathContext) (p : PathValue)
         → list_all (is_segment set) p.segments ≡ true
         → is_readable_path set context (normalized context p) ≡ true }
-    ensures clear { (set : CharTests) (context : PathContext) (p : PathValue)
-        → is_readable_path set context (cleared p) ≡ true }
+    ensures clear { (set : CharTests) → KeepsPathsReadable set (λ context. cleared) }
 {}
 
 /// Whether a name stays, and the excess, are one count of open `..` from the back.

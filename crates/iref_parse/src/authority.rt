@@ -61,33 +61,13 @@ pub fn split_authority(text: &str) -> AuthoritySlices<'_>
     }
 }
 
-// Whether the user info is in its rule, where there is one.
-fn is_user_info_or_none<C: CharSet>(text: Option<&str>) -> bool
-    ensures { result ≡ none_or (test.is_user_info C.tests) (option_copied text.entry) }
-{
-    match text {
-        Some(text) => is_user_info::<C>(text),
-        None => true,
-    }
-}
-
-// Whether the port is in its rule, where there is one.
-fn is_port_or_none(text: Option<&str>) -> bool
-    ensures { result ≡ none_or test.is_port (option_copied text.entry) }
-{
-    match text {
-        Some(text) => is_port(text),
-        None => true,
-    }
-}
-
 /// Whether the text is an authority (RFC 3986 section 3.2).
 #[tactic(auto, unfolding(iref_grammar::specs::Authority::is_authority, iref_grammar::specs::Authority::has_authority_parts))]
 pub fn is_authority<C: CharSet>(text: &str) -> bool
     ensures { result ≡ authority.is_authority C.tests text.now }
 {
     let parts = split_authority(text);
-    is_user_info_or_none::<C>(parts.user_info)
+    parts.user_info.is_none_or(|text| is_user_info::<C>(text))
         && is_host::<C>(parts.host)
-        && is_port_or_none(parts.port)
+        && parts.port.is_none_or(|text| is_port(text))
 }

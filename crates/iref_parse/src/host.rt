@@ -71,10 +71,7 @@ pub fn in_brackets(text: &str) -> Option<&str>
 pub fn is_ip_literal(text: &str) -> bool
     ensures { result ≡ test.is_ip_literal text.now }
 {
-    match in_brackets(text) {
-        Some(address) => ipv6_value(address).is_some() || is_ipvfuture(address),
-        None => false,
-    }
+    in_brackets(text).is_some_and(|address| ipv6_value(address).is_some() || is_ipvfuture(address))
 }
 
 /// Whether the text is an IPv4 address.

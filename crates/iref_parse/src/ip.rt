@@ -1,13 +1,11 @@
 //! IP addresses and their numbers (RFC 3986 section 3.2.2).
 
-ghost use Rattle.iref_grammar.specs.Texts.{pieces_at};
 ghost use Rattle.std.specs.List.{list_all};
-ghost use Rattle.iref_grammar.specs.Grammar.{colon};
-ghost use Rattle.iref_parse.specs.IpGroups.{counted, counted_after, filled_number};
-ghost use Rattle.iref_grammar.specs.IpAddresses as ip;
 ghost use Rattle.std.specs.Char.{is_ascii_hexdigit};
 ghost use Rattle.std.specs.Prelude.{◌≡◌, ◌+◌, ◌-◌, ◌*◌, ◌^◌, ◌<◌, ◌≤◌, ◌==◌, ◌&&◌, ℕ, nat_lt, nat_le, List, ◌∷◌, length, slice_index, Option, None, Some, option_map, option_and_then, map, IfSome, MatchOption, if◌then◌else◌};
-ghost use Rattle.iref_grammar.specs.Rules.{Text};
+ghost use Rattle.iref_grammar.specs.IpAddresses as ip;
+ghost use Rattle.iref_grammar.specs.{pieces_at, colon, Text};
+ghost use Rattle.iref_parse.specs.IpGroups.{counted, counted_after, filled_number};
 
 // Whether a zero stands before another character.
 fn has_leading_zero(text: &str) -> bool
@@ -29,7 +27,8 @@ fn octet_value(text: &str) -> Option<u8>
 // The octet before the first `.`, and what follows.
 fn take_octet(text: &str) -> Option<(u8, &str)>
     ensures { MatchOption result (IfSome (ip.octet_values text.now) (λ octets. length octets < 2))
-        (λ taken. ip.octet_values text.now ≡ option_map (λ octets. taken.0 ∷ octets) (ip.octet_values taken.1.now)) }
+        (λ taken. ip.octet_values text.now
+        ≡ option_map (λ octets. taken.0 ∷ octets) (ip.octet_values taken.1.now)) }
 {
     let (octet, rest) = text.split_once('.')?;
     Some((octet_value(octet)?, rest))
@@ -131,11 +130,7 @@ impl Groups {
     fn eight(self) -> Option<u128>
         ensures { result ≡ (if self.count == 8 then Some self.value else None) }
     {
-        if self.count == 8 {
-            Some(self.value)
-        } else {
-            None
-        }
+        (self.count == 8).then_some(self.value)
     }
 
     // The number of eight groups that begin with these and end with zeros.
@@ -167,7 +162,9 @@ fn groups_before_last(text: &str) -> Option<(Groups, &str)>
     ensures { MatchOption result
         ((last : Text → Option (List ℕ))
         → counted (ip.groups_then last (pieces_at colon text.now)) ≡ None)
-        (λ read. (last : Text → Option (List ℕ)) → counted (ip.groups_then last (pieces_at colon text.now)) ≡ option_and_then (counted_after read.0.count read.0.value) (last read.1.now)) }
+        (λ read. (last : Text → Option (List ℕ))
+        → counted (ip.groups_then last (pieces_at colon text.now))
+        ≡ option_and_then (counted_after read.0.count read.0.value) (last read.1.now)) }
 {
     let mut groups = Groups::none();
     let mut rest = text;

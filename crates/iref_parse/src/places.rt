@@ -1,13 +1,10 @@
 //! Where the components of a reference stand in its text (RFC 3986 section 5.3).
 
-ghost use Rattle.iref_grammar.specs.Places.{place_from, places_in};
-ghost use Rattle.iref_grammar.specs.Grammar.{colon};
-ghost use Rattle.iref_parse.specs.ReferenceSlices.{value_of};
 ghost use Rattle.std.specs.Option.{option_copied};
-ghost use Rattle.iref_grammar.specs.Texts.{part_then, then_part};
-ghost use Rattle.iref_grammar.specs.Rules.{Text};
-ghost use Rattle.iref_grammar.specs.Reference.{spell};
 ghost use Rattle.std.specs.Prelude.{◌≡◌, ◌+◌, ◌<◌, ◌^◌, length, option_map, [], ◌∷◌};
+ghost use Rattle.iref_grammar.specs.{place_from, places_in, colon, part_then, then_part, Text};
+ghost use Rattle.iref_grammar.specs.{spell};
+ghost use Rattle.iref_parse.specs.ReferenceSlices.{value_of};
 
 use crate::split::ReferenceSlices;
 use iref_grammar::places::Offsets;

@@ -4,16 +4,15 @@ ghost use Rattle.std.specs.Prelude.{◌≡◌, ◌==◌, ◌&&◌, ◌||◌, ℕ
 ghost use Rattle.std.specs.List.{list_all};
 ghost use Rattle.std.specs.Char.{is_ascii};
 ghost use Rattle.iref_grammar.specs.Grammar as grammar;
-ghost use Rattle.iref_grammar.specs.Grammar.{slash, is_not_percent};
 ghost use Rattle.iref_grammar.specs.Tests as test;
-ghost use Rattle.iref_grammar.specs.Tests.{ScansTo};
+ghost use Rattle.iref_grammar.specs.{slash, is_not_percent, ScansTo};
 
 use crate::ascii::first_rule;
 use iref_grammar::chars::CharSet;
 use std::marker::PhantomData;
 
 /// The characters that stand for themselves in a rule of characters and escapes.
-pub trait CharRule {
+pub(crate) trait CharRule {
     /// What proofs see of them.
     ghost allowed: { ℕ → Bool };
 
@@ -27,35 +26,35 @@ pub trait CharRule {
 }
 
 /// Those of registered names (RFC 3986 section 3.2.2).
-pub struct RegNameChars<C: CharSet>(PhantomData<C>);
+pub(crate) struct RegNameChars<C: CharSet>(PhantomData<C>);
 
 /// Those of user infos (RFC 3986 section 3.2.1).
-pub struct UserInfoChars<C: CharSet>(PhantomData<C>);
+pub(crate) struct UserInfoChars<C: CharSet>(PhantomData<C>);
 
 /// Those of segments (RFC 3986 section 3.3).
-pub struct SegmentChars<C: CharSet>(PhantomData<C>);
+pub(crate) struct SegmentChars<C: CharSet>(PhantomData<C>);
 
 /// Those of paths (RFC 3986 section 3.3).
-pub struct PathChars<C: CharSet>(PhantomData<C>);
+pub(crate) struct PathChars<C: CharSet>(PhantomData<C>);
 
 /// Those of queries (RFC 3986 section 3.4).
-pub struct QueryChars<C: CharSet>(PhantomData<C>);
+pub(crate) struct QueryChars<C: CharSet>(PhantomData<C>);
 
 /// Those of fragments (RFC 3986 section 3.5).
-pub struct FragmentChars<C: CharSet>(PhantomData<C>);
+pub(crate) struct FragmentChars<C: CharSet>(PhantomData<C>);
 
 /// Those of percent-encoded texts: all but `%`.
-pub struct PctStrChars;
+pub(crate) struct PctStrChars;
 
-/// Whether the character is `unreserved` (RFC 3986 section 2.3).
-pub fn is_unreserved<C: CharSet>(c: char) -> bool
+// Whether the character is `unreserved` (RFC 3986 section 2.3).
+fn is_unreserved<C: CharSet>(c: char) -> bool
     ensures { result ≡ grammar.is_unreserved C.tests c }
 {
     c.is_ascii_alphanumeric() || matches!(c, '-' | '.' | '_' | '~') || C::is_extra(c)
 }
 
-/// Whether the character is one of `sub-delims` (RFC 3986 section 2.2).
-pub fn is_sub_delim(c: char) -> bool
+// Whether the character is one of `sub-delims` (RFC 3986 section 2.2).
+fn is_sub_delim(c: char) -> bool
     ensures { result ≡ grammar.is_sub_delim c }
 {
     matches!(
@@ -64,55 +63,15 @@ pub fn is_sub_delim(c: char) -> bool
     )
 }
 
-#[tactic(auto, unfolding(iref_grammar::specs::Grammar::is_reg_name_char))]
-/// Whether a registered name may hold the character beside escapes.
-pub fn is_reg_name_char<C: CharSet>(c: char) -> bool
-    ensures { result ≡ grammar.is_reg_name_char C.tests c }
-{
-    is_unreserved::<C>(c) || is_sub_delim(c)
-}
-
-#[tactic(auto, unfolding(iref_grammar::specs::Grammar::is_user_info_char))]
-/// Whether a user info may hold the character beside escapes.
-pub fn is_user_info_char<C: CharSet>(c: char) -> bool
-    ensures { result ≡ grammar.is_user_info_char C.tests c }
-{
-    is_reg_name_char::<C>(c) || c == ':'
-}
-
-#[tactic(auto, unfolding(iref_grammar::specs::Grammar::is_path_char))]
-/// Whether a segment may hold the character beside escapes.
-pub fn is_path_char<C: CharSet>(c: char) -> bool
-    ensures { result ≡ grammar.is_path_char C.tests c }
-{
-    is_user_info_char::<C>(c) || c == '@'
-}
-
-#[tactic(auto, unfolding(iref_grammar::specs::Grammar::is_fragment_char))]
-/// Whether a fragment may hold the character beside escapes.
-pub fn is_fragment_char<C: CharSet>(c: char) -> bool
-    ensures { result ≡ grammar.is_fragment_char C.tests c }
-{
-    is_path_char::<C>(c) || c == '/' || c == '?'
-}
-
-#[tactic(auto, unfolding(iref_grammar::specs::Grammar::is_query_char))]
-/// Whether a query may hold the character beside escapes.
-pub fn is_query_char<C: CharSet>(c: char) -> bool
-    ensures { result ≡ grammar.is_query_char C.tests c }
-{
-    is_fragment_char::<C>(c) || C::is_private(c)
-}
-
-/// Whether a scheme may hold the character after its first letter (RFC 3986 section 3.1).
-pub fn is_scheme_char(c: char) -> bool
+// Whether a scheme may hold the character after its first letter (RFC 3986 section 3.1).
+fn is_scheme_char(c: char) -> bool
     ensures { result ≡ grammar.is_scheme_char c }
 {
     c.is_ascii_alphanumeric() || matches!(c, '+' | '-' | '.')
 }
 
 /// Whether an IPvFuture address may hold the character after its version (RFC 3986 section 3.2.2).
-pub fn is_future_char(c: char) -> bool
+pub(crate) fn is_future_char(c: char) -> bool
     ensures { result ≡ grammar.is_future_char c }
 {
     c.is_ascii_alphanumeric() || matches!(c, '-' | '.' | '_' | '~') || is_sub_delim(c) || c == ':'
@@ -122,8 +81,9 @@ pub fn is_future_char(c: char) -> bool
 impl<C: CharSet> CharRule for RegNameChars<C> {
     ghost allowed = { grammar.is_reg_name_char C.tests };
 
+    #[tactic(auto, unfolding(iref_grammar::specs::Grammar::is_reg_name_char))]
     fn allows(c: char) -> bool {
-        is_reg_name_char::<C>(c)
+        is_unreserved::<C>(c) || is_sub_delim(c)
     }
 
     fn allows_byte(byte: u8) -> bool {
@@ -135,8 +95,9 @@ impl<C: CharSet> CharRule for RegNameChars<C> {
 impl<C: CharSet> CharRule for UserInfoChars<C> {
     ghost allowed = { grammar.is_user_info_char C.tests };
 
+    #[tactic(auto, unfolding(iref_grammar::specs::Grammar::is_user_info_char))]
     fn allows(c: char) -> bool {
-        is_user_info_char::<C>(c)
+        RegNameChars::<C>::allows(c) || c == ':'
     }
 
     fn allows_byte(byte: u8) -> bool {
@@ -148,8 +109,9 @@ impl<C: CharSet> CharRule for UserInfoChars<C> {
 impl<C: CharSet> CharRule for SegmentChars<C> {
     ghost allowed = { grammar.is_path_char C.tests };
 
+    #[tactic(auto, unfolding(iref_grammar::specs::Grammar::is_path_char))]
     fn allows(c: char) -> bool {
-        is_path_char::<C>(c)
+        UserInfoChars::<C>::allows(c) || c == '@'
     }
 
     fn allows_byte(byte: u8) -> bool {
@@ -162,7 +124,7 @@ impl<C: CharSet> CharRule for PathChars<C> {
     ghost allowed = { λ c. grammar.is_path_char C.tests c || c == slash };
 
     fn allows(c: char) -> bool {
-        is_path_char::<C>(c) || c == '/'
+        SegmentChars::<C>::allows(c) || c == '/'
     }
 
     fn allows_byte(byte: u8) -> bool {
@@ -174,8 +136,9 @@ impl<C: CharSet> CharRule for PathChars<C> {
 impl<C: CharSet> CharRule for QueryChars<C> {
     ghost allowed = { grammar.is_query_char C.tests };
 
+    #[tactic(auto, unfolding(iref_grammar::specs::Grammar::is_query_char))]
     fn allows(c: char) -> bool {
-        is_query_char::<C>(c)
+        FragmentChars::<C>::allows(c) || C::is_private(c)
     }
 
     fn allows_byte(byte: u8) -> bool {
@@ -187,8 +150,9 @@ impl<C: CharSet> CharRule for QueryChars<C> {
 impl<C: CharSet> CharRule for FragmentChars<C> {
     ghost allowed = { grammar.is_fragment_char C.tests };
 
+    #[tactic(auto, unfolding(iref_grammar::specs::Grammar::is_fragment_char))]
     fn allows(c: char) -> bool {
-        is_fragment_char::<C>(c)
+        SegmentChars::<C>::allows(c) || c == '/' || c == '?'
     }
 
     fn allows_byte(byte: u8) -> bool {
@@ -268,7 +232,7 @@ fn after_first<R: CharRule>(text: &str) -> Option<&str>
     }
 }
 
-/// Whether the text is one of characters that the rule allows, and of escapes.
+// Whether the text is one of characters that the rule allows, and of escapes.
 fn is_encoded<R: CharRule>(text: &str) -> bool
     ensures { result ≡ test.is_encoded R.allowed (chars text.now) }
 {

@@ -3,11 +3,10 @@
 ghost use Rattle.std.specs.Prelude.{◌≡◌, ◌<◌, [], ◌∷◌, IfSome, is_some};
 ghost use Rattle.std.specs.Bool.{Decides};
 ghost use Rattle.std.specs.Option.{option_copied};
-ghost use Rattle.iref_grammar.specs.Grammar.{hash_sign, question_mark};
-ghost use Rattle.iref_grammar.specs.Texts.{before, from_first, after};
 ghost use Rattle.iref_grammar.specs.Reference as spec;
-ghost use Rattle.iref_grammar.specs.Reference.{hierarchy, read_reference, is_reference};
-ghost use Rattle.iref_grammar.specs.ComponentTexts.{spell_components, AreComponents};
+ghost use Rattle.iref_grammar.specs.{hash_sign, question_mark, before, from_first, after};
+ghost use Rattle.iref_grammar.specs.{hierarchy, read_reference, is_reference, spell_components};
+ghost use Rattle.iref_grammar.specs.{AreComponents};
 ghost use Rattle.iref_parse.specs.ReferenceSlices.{texts_of, value_of};
 
 use crate::authority::is_authority;

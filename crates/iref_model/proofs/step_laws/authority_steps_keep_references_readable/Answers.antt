@@ -3,8 +3,8 @@ use Rattle.iref_model.proofs.step_laws.authority_steps_keep_references_readable.
 
 pub returns : goal.returns
 returns c = record {
-  user_info = with_user_info-readable;
-  host = with_host-readable;
-  port = with_port-readable;
-  whole = with_whole_authority-readable;
+  user_info = λ set s in_rule r. with_user_info-readable set s r in_rule;
+  host = λ set s in_rule r. with_host-readable set s r in_rule;
+  port = λ set s in_rule r. with_port-readable set s r in_rule;
+  whole = λ set s in_rule r. with_whole_authority-readable set s r in_rule;
 }

@@ -3,11 +3,11 @@ use Rattle.iref_model.proofs.step_laws.component_steps_keep_references_readable.
 
 pub returns : goal.returns
 returns c = record {
-  scheme = with_scheme-readable;
-  authority = with_authority-readable;
-  path = with_path-readable;
-  query = with_query-readable;
-  fragment = with_fragment-readable;
+  scheme = λ set s in_rule r. with_scheme-readable set s r in_rule;
+  authority = λ set s in_rule r. with_authority-readable set s r in_rule;
+  path = λ set s in_rule r. with_path-readable set s r in_rule;
+  query = λ set s in_rule r. with_query-readable set s r in_rule;
+  fragment = λ set s in_rule r. with_fragment-readable set s r in_rule;
   normal_path = with_normal_path-readable;
-  new_normal_path = with_new_normal_path-readable;
+  new_normal_path = λ set s in_rule r. with_new_normal_path-readable set s r in_rule;
 }

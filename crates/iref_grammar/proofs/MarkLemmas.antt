@@ -1,0 +1,86 @@
+-- The scheme and the authority that bytes begin with, by their first mark.
+use Rattle.std.proofs.Common.{◌≡◌, ℕ, ◌&&◌, Bool, true, false, not, cond, List, [], ◌∷◌, refl, sym, ◌∙◌, ap, inl, inr, subst}
+use Rattle.std.specs.Prelude.{◌==◌, ◌||◌, codes}
+use Rattle.std.specs.Char.{char_set_contains}
+use Rattle.std.proofs.lemmas.Bool.Decides.{eqb_tells}
+use mathlib.Core.Bool.{true≢false}
+use Rattle.iref_grammar.specs.Rules.{Text}
+use Rattle.iref_grammar.specs.Grammar.{colon}
+use Rattle.iref_grammar.specs.Texts.{before, from_first, begins_with}
+use Rattle.iref_grammar.specs.declared.places.PathContext.{PathContext}
+use Rattle.iref_grammar.specs.Contexts.{begins_with_scheme, context_from}
+use Rattle.iref_grammar.proofs.CutLemmas.{before-no, before-yes, from_first-no, from_first-yes}
+
+other_way : (c d : ℕ) → (c == d) ≡ false → (d == c) ≡ false
+other_way c d h = elim (eqb_tells d c) [ inl e ↦ absurd (true≢false (sym (eqb_same c d (sym e.1)) ∙ h)) | inr e ↦ e.0 ]
+  where
+    eqb_same : (c d : ℕ) → c ≡ d → (c == d) ≡ true
+    eqb_same c d e = elim (eqb_tells c d) [ inl k ↦ k.0 | inr k ↦ absurd (k.1 e) ]
+
+-- of the bytes, whether the first is a colon
+first_is_colon : Text → Bool
+first_is_colon [] = false
+first_is_colon (c ∷ cs) = c == colon
+
+begins_with_colon : (text : Text) → begins_with (codes ":") text ≡ first_is_colon text
+unfolding first_is_colon
+begins_with_colon [] = refl
+begins_with_colon (c ∷ cs) = elim (eqb_tells c colon) [
+  | inl e ↦ (λ i. begins_with (codes ":") (e.1 i ∷ cs)) ∙ sym e.0
+  | inr e ↦ begins (other_way c colon e.0) ∙ sym e.0
+]
+  where
+    begins : (colon == c) ≡ false → begins_with (codes ":") (c ∷ cs) ≡ false
+    begins h = ap (λ b. b && true) h
+
+record IsMarked (bytes rest : Text) : Type 0 where
+  scheme : begins_with_scheme bytes ≡ first_is_colon rest
+  from_colon : first_is_colon rest ≡ true → from_first (colon ∷ []) bytes ≡ rest
+
+marked : (bytes : Text) → IsMarked bytes (from_first (codes ":/?#") bytes)
+unfolding first_is_colon
+marked [] = record { scheme = refl; from_colon = λ h. refl }
+marked (c ∷ cs) = elim (eqb_tells c colon) [
+  | inl e ↦ subst (λ d. IsMarked (d ∷ cs) (from_first (codes ":/?#") (d ∷ cs))) (sym e.1) at_colon
+  | inr e ↦ at_other (marked cs) (other_way c colon e.0) e.0 (char_set_contains (codes "/?#") c) refl
+]
+  where
+    at_colon : IsMarked (colon ∷ cs) (from_first (codes ":/?#") (colon ∷ cs))
+    at_colon = subst (IsMarked (colon ∷ cs)) (sym (from_first-yes (codes ":/?#") colon cs refl)) (record {
+      scheme = ap (λ front. char_set_contains front colon) (before-no (codes "/?#") colon cs refl);
+      from_colon = λ h. from_first-yes (colon ∷ []) colon cs refl;
+    })
+
+    at_other : IsMarked cs (from_first (codes ":/?#") cs) → (colon == c) ≡ false → (c == colon) ≡ false → (b : Bool) → char_set_contains (codes "/?#") c ≡ b → IsMarked (c ∷ cs) (from_first (codes ":/?#") (c ∷ cs))
+    at_other rest h k true e = subst (IsMarked (c ∷ cs)) (sym (from_first-yes (codes ":/?#") c cs (ap (λ b. b || char_set_contains (codes "/?#") c) h ∙ e))) (record {
+      scheme = ap (λ front. char_set_contains front colon) (before-yes (codes "/?#") c cs e) ∙ sym k;
+      from_colon = λ f. absurd (true≢false (sym f ∙ k));
+    })
+    at_other rest h k false e =
+        subst (IsMarked (c ∷ cs)) (sym (from_first-no (codes ":/?#") c cs (ap (λ b. b || char_set_contains (codes "/?#") c) h ∙ e))) (record {
+          scheme = ap (λ front. char_set_contains front colon) (before-no (codes "/?#") c cs e) ∙ ap (λ b. b || char_set_contains (before (codes "/?#") cs) colon) k ∙ rest.scheme;
+          from_colon = λ f. from_first-no (colon ∷ []) c cs (ap (λ b. b || false) h) ∙ rest.from_colon f;
+        })
+
+pub scheme_marked : (bytes : Text) → begins_with_scheme bytes ≡ begins_with (codes ":") (from_first (codes ":/?#") bytes)
+scheme_marked bytes = (marked bytes).scheme ∙ sym (begins_with_colon (from_first (codes ":/?#") bytes))
+
+pub colon_marked : (bytes : Text) → begins_with (codes ":") (from_first (codes ":/?#") bytes) ≡ true → from_first (colon ∷ []) bytes ≡ from_first (codes ":/?#") bytes
+colon_marked bytes h = (marked bytes).from_colon (sym (begins_with_colon (from_first (codes ":/?#") bytes)) ∙ h)
+
+-- what the bytes say of a path after them
+pub context_at_colon : (bytes rest : Text) (slashes : Bool) → rest ≡ from_first (codes ":/?#") bytes → begins_with (codes ":") rest ≡ true → slashes ≡ begins_with (codes "://") rest → let context : PathContext = record { has_scheme = true; has_authority = slashes } in context ≡ context_from bytes
+unfolding context_from
+context_at_colon bytes rest slashes e h k =
+    let colon_first = ap (begins_with (codes ":")) (sym e) ∙ h in
+    let scheme = scheme_marked bytes ∙ colon_first in
+    let from = colon_marked bytes colon_first ∙ sym e in
+    (λ i. record { has_scheme = true; has_authority = (k ∙ ap (begins_with (codes "://")) (sym from)) i })
+    ∙ sym (λ i. record { has_scheme = scheme i; has_authority = begins_with (cond (scheme i) (codes "://") (codes "//")) (cond (scheme i) (from_first (colon ∷ []) bytes) bytes) })
+
+pub context_without_colon : (bytes rest : Text) (slashes : Bool) → rest ≡ from_first (codes ":/?#") bytes → begins_with (codes ":") rest ≡ false → slashes ≡ begins_with (codes "//") bytes → let context : PathContext = record { has_scheme = false; has_authority = slashes } in context ≡ context_from bytes
+unfolding context_from
+context_without_colon bytes rest slashes e h k =
+    let scheme = scheme_marked bytes ∙ ap (begins_with (codes ":")) (sym e) ∙ h in
+    (λ i. record { has_scheme = false; has_authority = k i })
+    ∙ sym (λ i. record { has_scheme = scheme i; has_authority = begins_with (cond (scheme i) (codes "://") (codes "//")) (cond (scheme i) (from_first (colon ∷ []) bytes) bytes) })

@@ -1,5 +1,0 @@
-use Rattle.iref_grammar.proofs.PathTestLemmas.{Decides-after_authority}
-use Rattle.iref_grammar.proofs.path_laws.path_after_authority_grammar.Goals as goal
-
-pub returns : goal.returns
-returns g c = Decides-after_authority g.S.CharSet.tests g.met.S.CharSet.above_ascii
