@@ -1,8 +1,8 @@
 -- The text of a view and of an owner.
 use Rattle.std.specs.String.{string_bytes}
 use Rattle.iref_grammar.specs.Rules.{Text}
-use Rattle.iref_component.specs.declared.view.View.{View}
-use Rattle.iref_component.specs.declared.owned.TextBuf.{TextBuf}
+use Rattle.iref_component.specs.declared.text.View.{View}
+use Rattle.iref_component.specs.declared.text.TextBuf.{TextBuf}
 
 abbrev pub view_text : {R : _} {C : _} {r : _} {c : _} → View R C r c → Text
 view_text v = v.text.now

@@ -1,8 +1,7 @@
 //! The numbers of hosts (RFC 3986 section 3.2.2).
 ghost use Rattle.std.specs.Prelude.{◌≡◌, Some, IfOk, is_some};
-ghost use Rattle.iref_grammar.specs.Tests.{is_ip_literal, is_ipv4};
-ghost use Rattle.iref_grammar.specs.IpAddresses.{ipv4_value};
-ghost use Rattle.iref_model.specs.HostNumbers.{ipv4_text, ipv6_host_text, literal_value};
+ghost use Rattle.iref_grammar.specs.{is_ip_literal, is_ipv4, ipv4_value};
+ghost use Rattle.iref_model.specs.{ipv4_text, ipv6_host_text, literal_value};
 ghost use Rattle.iref_component.specs.Components.{view_text, owned_text};
 
 use crate::host_numbers::{ipv4_string, ipv6_string};
@@ -45,8 +44,7 @@ impl<C: CharSet> Host<'_, C> {
     pub fn to_ipv6(&self) -> Option<u128>
         ensures { result ≡ literal_value (view_text self.now) }
     {
-        let address = host::in_brackets(self.as_str())?;
-        ip::ipv6_value(address)
+        ip::ipv6_value(host::in_brackets(self.as_str())?)
     }
 }
 
@@ -92,8 +90,7 @@ impl<C: CharSet> HostBuf<C> {
         ensures text { IfOk result (λ host. owned_text host ≡ ipv4_text number) }
         ensures read_back { IfOk result (λ host. ipv4_value (owned_text host) ≡ Some number) }
     {
-        let text = ipv4_string(alloc, number)?;
-        Ok(HostBuf::new_unchecked(text))
+        Ok(HostBuf::new_unchecked(ipv4_string(alloc, number)?))
     }
 
     /// The host of the IPv6 address with this number, its first group highest, in brackets and in

@@ -26,7 +26,7 @@ pub(crate) fn ipv4_string(alloc: Global, number: u32) -> Result<String, Memory>
 #[derive(Clone, Copy)]
 struct Run {
     start: usize,
-    length: usize,
+    len: usize,
 }
 
 // How many zero groups stand at the front.
@@ -39,27 +39,21 @@ fn zeros_at_front(groups: &[u16]) -> usize
 // The first of the longest runs of zero groups.
 fn longest_zero_run(groups: &[u16]) -> Run
     ensures start { result.start ≡ run_start groups.now }
-    ensures length { result.length ≡ longest_run groups.now }
-    ensures within { result.start + result.length ≤ length groups.now }
+    ensures len { result.len ≡ longest_run groups.now }
+    ensures within { result.start + result.len ≤ length groups.now }
 {
     let [_, rest @ ..] = groups else {
-        return Run {
-            start: 0,
-            length: 0,
-        };
+        return Run { start: 0, len: 0 };
     };
-    let here = zeros_at_front(groups);
+    let len = zeros_at_front(groups);
     let later = longest_zero_run(rest);
-    if here < later.length {
+    if len < later.len {
         Run {
             start: later.start + 1,
-            length: later.length,
+            len: later.len,
         }
     } else {
-        Run {
-            start: 0,
-            length: here,
-        }
+        Run { start: 0, len }
     }
 }
 
@@ -84,12 +78,12 @@ fn push_address(text: &mut String, groups: &[u16]) -> Result<(), AllocError>
         (λ _. string_bytes text.new ≡ string_bytes text.old ++ ipv6_text groups.now) }
 {
     let run = longest_zero_run(groups);
-    if run.length < 2 {
+    if run.len < 2 {
         return push_groups(text, groups);
     }
     push_groups(text, &groups[..run.start])?;
     text.push_str("::")?;
-    push_groups(text, &groups[run.start + run.length..])
+    push_groups(text, &groups[run.start + run.len..])
 }
 
 // The eight groups of a number, the highest first.

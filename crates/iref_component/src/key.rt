@@ -7,9 +7,7 @@ ghost use Rattle.std.specs.Cmp.{IsTotalOrder};
 ghost use Rattle.std.specs.Cmp.Lexicographic.{nat_list_cmp_total};
 ghost use Rattle.std.specs.declared.cmp.Ordering.{Ordering};
 ghost use Rattle.percent_encoding.specs.Percent.{percent_decode};
-ghost use Rattle.iref_grammar.specs.Characters.{CharTests};
-ghost use Rattle.iref_grammar.specs.Rules.{Text};
-ghost use Rattle.iref_grammar.specs.Keys.{text_order, fed_bytes};
+ghost use Rattle.iref_grammar.specs.{CharTests, Text, text_order, fed_bytes};
 ghost use Rattle.iref_model.proofs.KeyOrderLemmas.{texts_tell};
 
 use iref_grammar::chars::CharSet;
@@ -50,7 +48,10 @@ pub trait Key {
     fn is_equal<C: CharSet>(a: &str, b: &str) -> bool
         requires a { has_key C.tests a.now }
         requires b { has_key C.tests b.now }
-        ensures { result ≡ eq_by_cmp order (key a.now) (key b.now) };
+        ensures { result ≡ eq_by_cmp order (key a.now) (key b.now) }
+    {
+        Self::compare::<C>(a, b).is_eq()
+    }
 
     /// Feeds the key to the hasher.
     fn feed<C: CharSet, H: Hasher>(text: &str, state: &mut H)
@@ -80,7 +81,6 @@ impl Key for DecodedBytes {
         decoded_cmp(a, b)
     }
 
-    #[tactic(auto, using(iref_parse::proofs::KeyLemmas::same_where_tied))]
     fn is_equal<C: CharSet>(a: &str, b: &str) -> bool {
         decoded_eq(a, b)
     }
@@ -114,10 +114,6 @@ impl Key for LowerCase {
         a.cmp(b)
     }
 
-    fn is_equal<C: CharSet>(a: &str, b: &str) -> bool {
-        Self::compare::<C>(a, b).is_eq()
-    }
-
     #[tactic(auto, unfolding(iref_grammar::specs::Keys::fed_bytes))]
     fn feed<C: CharSet, H: Hasher>(text: &str, state: &mut H) {
         for byte in text.bytes() {
@@ -147,10 +143,6 @@ impl Key for SameText {
 
     fn compare<C: CharSet>(a: &str, b: &str) -> Ordering {
         a.cmp(b)
-    }
-
-    fn is_equal<C: CharSet>(a: &str, b: &str) -> bool {
-        a.cmp(b).is_eq()
     }
 
     #[tactic(auto, unfolding(iref_grammar::specs::Keys::fed_bytes))]

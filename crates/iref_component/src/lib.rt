@@ -14,5 +14,7 @@ pub mod port;
 pub mod rule;
 pub mod rules;
 pub mod segment;
+mod text;
 pub mod texts;
+pub mod tried;
 pub mod view;

@@ -5,12 +5,15 @@ ghost use Rattle.std.specs.Ordering.{on, as_partial_cmp, eq_by_cmp};
 ghost use Rattle.std.specs.Cmp.{on_total, on_equiv, po, partial_equiv_from_equiv, eq_by_cmp_equiv};
 ghost use Rattle.std.specs.Cmp.Rules.{comparing};
 ghost use Rattle.std.proofs.Common.{rules, ap, refl};
-ghost use Rattle.iref_grammar.specs.Rules.{InUtf8};
-ghost use Rattle.iref_grammar.specs.Texts.{is_empty};
+ghost use Rattle.iref_grammar.specs.{InUtf8, is_empty};
 ghost use Rattle.iref_component.specs.Makers.{Parses};
+ghost use Rattle.iref_component.specs.Components.{view_text, owned_text};
+
+mod edits;
 
 use crate::rule::{AllowsEmpty, Keyed, Refuses, Rule};
-use crate::view::View;
+pub use crate::text::TextBuf;
+use crate::text::View;
 use iref_grammar::chars::CharSet;
 use std::alloc::Global;
 use std::cmp::Ordering;
@@ -19,32 +22,17 @@ use std::fmt;
 use std::hash::{Hash, Hasher};
 use std::marker::PhantomData;
 
-/// An owned text of a rule.
-#[derive(Drop)]
-pub struct TextBuf<R: Rule, C: CharSet> {
-    text: String,
-    rule: PhantomData<(R, C)>,
-    ghost in_rule: { R.test C.tests (string_bytes text) ≡ true },
-}
-
 impl<R: Refuses<String>, C: CharSet> TextBuf<R, C> {
-    ghost use Rattle.iref_component.specs.Components.{owned_text};
-
     /// The owner of a text that is in the rule, with no copy, or the text in the rule's error.
     pub fn new(text: String) -> Result<Self, R::Error>
         ensures { Parses (InUtf8 (R.rule C.tests)) (string_bytes text) owned_text
             (λ error. R.refused error ≡ text) result }
     {
-        match TextBuf::read(text) {
-            Ok(owner) => Ok(owner),
-            Err(text) => Err(R::refuse(text)),
-        }
+        TextBuf::read(text).map_err(|text| R::refuse(text))
     }
 }
 
 impl<R: Refuses<Vec<u8>>, C: CharSet> TextBuf<R, C> {
-    ghost use Rattle.iref_component.specs.Components.{owned_text};
-
     /// The owner of the UTF-8 of a text that is in the rule, with no copy, or the bytes in the
     /// rule's error.
     pub fn from_bytes(bytes: Vec<u8>) -> Result<Self, R::Error>
@@ -52,18 +40,13 @@ impl<R: Refuses<Vec<u8>>, C: CharSet> TextBuf<R, C> {
             (λ error. R.refused error ≡ bytes) result }
     {
         match String::from_utf8(bytes) {
-            Ok(text) => match TextBuf::read(text) {
-                Ok(owner) => Ok(owner),
-                Err(text) => Err(R::refuse(text.into_bytes())),
-            },
-            Err(fault) => Err(R::refuse(fault.into_bytes())),
+            Ok(text) => TextBuf::read(text).map_err(|text| R::refuse(text.into_bytes())),
+            Err(error) => Err(R::refuse(error.into_bytes())),
         }
     }
 }
 
 impl<R: Rule, C: CharSet> TextBuf<R, C> {
-    ghost use Rattle.iref_component.specs.Components.{view_text, owned_text};
-
     // The owner of a text that is in the rule, or the text.
     fn read(text: String) -> Result<Self, String>
         ensures { Parses (InUtf8 (R.rule C.tests)) (string_bytes text) owned_text
@@ -81,10 +64,8 @@ impl<R: Rule, C: CharSet> TextBuf<R, C> {
         requires { R.test C.tests (string_bytes text) ≡ true }
         ensures { owned_text result ≡ string_bytes text }
     {
-        TextBuf {
-            text,
-            rule: PhantomData,
-        }
+        let rule = PhantomData;
+        TextBuf { text, rule }
     }
 
     /// The view.
@@ -128,7 +109,7 @@ impl<R: Rule, C: CharSet> TextBuf<R, C> {
         ensures text { string_bytes result ≡ owned_text self }
         ensures in_rule { R.test C.tests (string_bytes result) ≡ true }
     {
-        let TextBuf { text, rule: _ } = self;
+        let TextBuf { text, .. } = self;
         text
     }
 
@@ -141,8 +122,6 @@ impl<R: Rule, C: CharSet> TextBuf<R, C> {
 }
 
 impl<R: AllowsEmpty, C: CharSet> TextBuf<R, C> {
-    ghost use Rattle.iref_component.specs.Components.{owned_text};
-
     /// The owner of the empty text, which takes no memory.
     pub fn empty(alloc: Global) -> Self
         ensures { owned_text result ≡ [] }
@@ -152,8 +131,6 @@ impl<R: AllowsEmpty, C: CharSet> TextBuf<R, C> {
 }
 
 impl<R: Refuses<String>, C: CharSet> TryFrom<String> for TextBuf<R, C> {
-    ghost use Rattle.iref_component.specs.Components.{owned_text};
-
     type Error = R::Error;
 
     ghost try_from_gives = { λ text result. Parses (InUtf8 (R.rule C.tests)) (string_bytes text)
@@ -165,8 +142,6 @@ impl<R: Refuses<String>, C: CharSet> TryFrom<String> for TextBuf<R, C> {
 }
 
 impl<R: Refuses<Vec<u8>>, C: CharSet> TryFrom<Vec<u8>> for TextBuf<R, C> {
-    ghost use Rattle.iref_component.specs.Components.{owned_text};
-
     type Error = R::Error;
 
     ghost try_from_gives = { λ bytes result. Parses (InUtf8 (R.rule C.tests)) bytes.items owned_text
@@ -178,8 +153,6 @@ impl<R: Refuses<Vec<u8>>, C: CharSet> TryFrom<Vec<u8>> for TextBuf<R, C> {
 }
 
 impl<R: Keyed, C: CharSet> Ord for TextBuf<R, C> {
-    ghost use Rattle.iref_component.specs.Components.{owned_text};
-
     ghost cmp = { on (λ v. R.Key.key (owned_text v)) R.Key.order };
 
     ghost total = { on_total (λ v. R.Key.key (owned_text v)) R.Key.total };
@@ -194,8 +167,6 @@ impl<R: Keyed, C: CharSet> Ord for TextBuf<R, C> {
 }
 
 impl<R: Keyed, C: CharSet> PartialOrd for TextBuf<R, C> {
-    ghost use Rattle.iref_component.specs.Components.{owned_text};
-
     ghost partial_cmp = { as_partial_cmp (on (λ v. R.Key.key (owned_text v)) R.Key.order) };
 
     ghost laws = { po (on_total (λ v. R.Key.key (owned_text v)) R.Key.total) (λ _ _. refl) };
@@ -206,8 +177,6 @@ impl<R: Keyed, C: CharSet> PartialOrd for TextBuf<R, C> {
 }
 
 impl<R: Keyed, C: CharSet> PartialEq for TextBuf<R, C> {
-    ghost use Rattle.iref_component.specs.Components.{owned_text};
-
     ghost eq = { on (λ v. R.Key.key (owned_text v)) (eq_by_cmp R.Key.order) };
 
     ghost laws = { partial_equiv_from_equiv
@@ -219,14 +188,10 @@ impl<R: Keyed, C: CharSet> PartialEq for TextBuf<R, C> {
 }
 
 impl<R: Keyed, C: CharSet> Eq for TextBuf<R, C> {
-    ghost use Rattle.iref_component.specs.Components.{owned_text};
-
     ghost laws = { on_equiv (λ v. R.Key.key (owned_text v)) (eq_by_cmp_equiv R.Key.total) };
 }
 
 impl<R: Keyed, C: CharSet> Hash for TextBuf<R, C> {
-    ghost use Rattle.iref_component.specs.Components.{owned_text};
-
     ghost hash_input = { λ v. R.Key.fed (R.Key.key (owned_text v)) };
 
     ghost respects_eq = { λ _ _ same. ap R.Key.fed (R.Key.tells _ _ same) };
@@ -237,8 +202,6 @@ impl<R: Keyed, C: CharSet> Hash for TextBuf<R, C> {
 }
 
 impl<R: Rule, C: CharSet> fmt::Display for TextBuf<R, C> {
-    ghost use Rattle.iref_component.specs.Components.{owned_text};
-
     ghost output = { λ view. Some (owned_text view) };
 
     fn fmt<W: fmt::Write>(&self, f: &mut fmt::Formatter<W>) -> fmt::Result {

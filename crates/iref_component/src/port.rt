@@ -96,7 +96,7 @@ impl Port<'_> {
 impl TryFrom<Port<'_>> for u8 {
     type Error = PortError;
 
-    ghost try_from_gives = { λ port result. result ≡ port_number (2 ^ 8) (view_text port) };
+    ghost try_from_gives = { λ port n. n ≡ port_number (2 ^ 8) (view_text port) };
 
     fn try_from(port: Port<'_>) -> Result<u8, PortError> {
         u8::try_from(port.number()?).map_err(|_| PortError::OutOfRange)
@@ -106,7 +106,7 @@ impl TryFrom<Port<'_>> for u8 {
 impl TryFrom<Port<'_>> for u16 {
     type Error = PortError;
 
-    ghost try_from_gives = { λ port result. result ≡ port_number (2 ^ 16) (view_text port) };
+    ghost try_from_gives = { λ port n. n ≡ port_number (2 ^ 16) (view_text port) };
 
     fn try_from(port: Port<'_>) -> Result<u16, PortError> {
         u16::try_from(port.number()?).map_err(|_| PortError::OutOfRange)
@@ -116,7 +116,7 @@ impl TryFrom<Port<'_>> for u16 {
 impl TryFrom<Port<'_>> for u32 {
     type Error = PortError;
 
-    ghost try_from_gives = { λ port result. result ≡ port_number (2 ^ 32) (view_text port) };
+    ghost try_from_gives = { λ port n. n ≡ port_number (2 ^ 32) (view_text port) };
 
     fn try_from(port: Port<'_>) -> Result<u32, PortError> {
         u32::try_from(port.number()?).map_err(|_| PortError::OutOfRange)
@@ -126,7 +126,7 @@ impl TryFrom<Port<'_>> for u32 {
 impl TryFrom<Port<'_>> for u64 {
     type Error = PortError;
 
-    ghost try_from_gives = { λ port result. result ≡ port_number (2 ^ 64) (view_text port) };
+    ghost try_from_gives = { λ port n. n ≡ port_number (2 ^ 64) (view_text port) };
 
     fn try_from(port: Port<'_>) -> Result<u64, PortError> {
         u64::try_from(port.number()?).map_err(|_| PortError::OutOfRange)
@@ -136,7 +136,7 @@ impl TryFrom<Port<'_>> for u64 {
 impl TryFrom<Port<'_>> for u128 {
     type Error = PortError;
 
-    ghost try_from_gives = { λ port result. result ≡ port_number (2 ^ 128) (view_text port) };
+    ghost try_from_gives = { λ port n. n ≡ port_number (2 ^ 128) (view_text port) };
 
     fn try_from(port: Port<'_>) -> Result<u128, PortError> {
         port.number()
@@ -146,7 +146,7 @@ impl TryFrom<Port<'_>> for u128 {
 impl TryFrom<Port<'_>> for i8 {
     type Error = PortError;
 
-    ghost try_from_gives = { λ port result. result ≡ signed_port_number (2 ^ 7) (view_text port) };
+    ghost try_from_gives = { λ port n. n ≡ signed_port_number (2 ^ 7) (view_text port) };
 
     fn try_from(port: Port<'_>) -> Result<i8, PortError> {
         i8::try_from(port.number()?).map_err(|_| PortError::OutOfRange)
@@ -156,7 +156,7 @@ impl TryFrom<Port<'_>> for i8 {
 impl TryFrom<Port<'_>> for i16 {
     type Error = PortError;
 
-    ghost try_from_gives = { λ port result. result ≡ signed_port_number (2 ^ 15) (view_text port) };
+    ghost try_from_gives = { λ port n. n ≡ signed_port_number (2 ^ 15) (view_text port) };
 
     fn try_from(port: Port<'_>) -> Result<i16, PortError> {
         i16::try_from(port.number()?).map_err(|_| PortError::OutOfRange)
@@ -166,7 +166,7 @@ impl TryFrom<Port<'_>> for i16 {
 impl TryFrom<Port<'_>> for i32 {
     type Error = PortError;
 
-    ghost try_from_gives = { λ port result. result ≡ signed_port_number (2 ^ 31) (view_text port) };
+    ghost try_from_gives = { λ port n. n ≡ signed_port_number (2 ^ 31) (view_text port) };
 
     fn try_from(port: Port<'_>) -> Result<i32, PortError> {
         i32::try_from(port.number()?).map_err(|_| PortError::OutOfRange)
@@ -176,7 +176,7 @@ impl TryFrom<Port<'_>> for i32 {
 impl TryFrom<Port<'_>> for i64 {
     type Error = PortError;
 
-    ghost try_from_gives = { λ port result. result ≡ signed_port_number (2 ^ 63) (view_text port) };
+    ghost try_from_gives = { λ port n. n ≡ signed_port_number (2 ^ 63) (view_text port) };
 
     fn try_from(port: Port<'_>) -> Result<i64, PortError> {
         i64::try_from(port.number()?).map_err(|_| PortError::OutOfRange)
@@ -186,7 +186,7 @@ impl TryFrom<Port<'_>> for i64 {
 impl TryFrom<Port<'_>> for i128 {
     type Error = PortError;
 
-    ghost try_from_gives = { λ port result. result ≡ signed_port_number (2 ^ 127) (view_text port) };
+    ghost try_from_gives = { λ port n. n ≡ signed_port_number (2 ^ 127) (view_text port) };
 
     fn try_from(port: Port<'_>) -> Result<i128, PortError> {
         i128::try_from(port.number()?).map_err(|_| PortError::OutOfRange)

@@ -1,9 +1,6 @@
 //! The rules of the grammar that texts are held to, and what a rule gives its texts.
 ghost use Rattle.std.specs.Prelude.{◌≡◌, Bool, true, []};
-ghost use Rattle.std.specs.Bool.{Decides};
-ghost use Rattle.iref_grammar.specs.Characters.{CharTests, AreAboveAscii};
-ghost use Rattle.iref_grammar.specs.Rules.{Text, InUtf8};
-ghost use Rattle.iref_grammar.specs.Tests.{is_pct_str};
+ghost use Rattle.iref_grammar.specs.{CharTests, AreAboveAscii, Text, AcceptsExactly, is_pct_str};
 
 use crate::key::Key;
 use iref_grammar::chars::CharSet;
@@ -17,8 +14,8 @@ pub trait Rule {
     ghost test: { CharTests → Text → Bool };
 
     /// The test is true exactly of the UTF-8 of the texts of the rule.
-    ghost decided: { (tests : CharTests) → AreAboveAscii tests → (bytes : Text)
-        → Decides (Self.test tests bytes) (InUtf8 (Self.rule tests) bytes) };
+    ghost decided: { (tests : CharTests) → AreAboveAscii tests
+        → AcceptsExactly (Self.test tests) (Self.rule tests) };
 
     /// Whether the text is in the rule.
     fn accepts<C: CharSet>(text: &str) -> bool

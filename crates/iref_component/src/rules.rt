@@ -2,10 +2,9 @@
 ghost use Rattle.std.specs.Prelude.{◌≡◌};
 ghost use Rattle.std.specs.Str.{str_to_ascii_lowercase};
 ghost use Rattle.percent_encoding.specs.Percent.{percent_decode};
-ghost use Rattle.iref_grammar.specs.Grammar.{IsFragment, IsHost, IsPctStr, IsPort, IsQuery, IsScheme};
-ghost use Rattle.iref_grammar.specs.Grammar.{IsSegment, IsUserInfo};
-ghost use Rattle.iref_grammar.specs.Tests.{is_fragment, is_host, is_pct_str, is_port, is_query};
-ghost use Rattle.iref_grammar.specs.Tests.{is_scheme, is_segment, is_user_info};
+ghost use Rattle.iref_grammar.specs.{IsFragment, IsHost, IsPctStr, IsPort, IsQuery, IsScheme};
+ghost use Rattle.iref_grammar.specs.{IsSegment, IsUserInfo, is_fragment, is_host, is_pct_str};
+ghost use Rattle.iref_grammar.specs.{is_port, is_query, is_scheme, is_segment, is_user_info};
 ghost use Rattle.iref_grammar.proofs.EmptyLemmas.{is_fragment_empty, is_host_empty};
 ghost use Rattle.iref_grammar.proofs.EmptyLemmas.{is_pct_str_empty, is_port_empty, is_query_empty};
 ghost use Rattle.iref_grammar.proofs.EmptyLemmas.{is_segment_empty, is_user_info_empty};
@@ -326,42 +325,16 @@ impl Escaped for PctStrRule {
     ghost escaped = { λ _ _ in_rule. in_rule };
 }
 
-/// Schemes compare by their text in lower case (RFC 3986 section 6.2.2.1).
-pub fn schemes_compare_in_lower_case()
-    ensures { ⟦<<SchemeRule as Keyed>::Key as Key>⟧.key ≡ str_to_ascii_lowercase }
-{}
-
-/// User infos compare by the bytes that they decode to (RFC 3986 section 6.2.2.2).
-pub fn user_infos_compare_decoded()
-    ensures { ⟦<<UserInfoRule as Keyed>::Key as Key>⟧.key ≡ percent_decode }
-{}
-
-/// Hosts compare by the bytes that they decode to (RFC 3986 section 6.2.2.2).
-pub fn hosts_compare_decoded()
-    ensures { ⟦<<HostRule as Keyed>::Key as Key>⟧.key ≡ percent_decode }
-{}
-
-/// Ports compare by their text: `80` is not `080`.
-pub fn ports_compare_as_texts()
-    ensures { ⟦<<PortRule as Keyed>::Key as Key>⟧.key ≡ (λ text. text) }
-{}
-
-/// Segments compare by the bytes that they decode to (RFC 3986 section 6.2.2.2).
-pub fn segments_compare_decoded()
-    ensures { ⟦<<SegmentRule as Keyed>::Key as Key>⟧.key ≡ percent_decode }
-{}
-
-/// Queries compare by the bytes that they decode to (RFC 3986 section 6.2.2.2).
-pub fn queries_compare_decoded()
-    ensures { ⟦<<QueryRule as Keyed>::Key as Key>⟧.key ≡ percent_decode }
-{}
-
-/// Fragments compare by the bytes that they decode to (RFC 3986 section 6.2.2.2).
-pub fn fragments_compare_decoded()
-    ensures { ⟦<<FragmentRule as Keyed>::Key as Key>⟧.key ≡ percent_decode }
-{}
-
-/// Percent-encoded texts compare by the bytes that they decode to (RFC 3986 section 6.2.2.2).
-pub fn pct_strs_compare_decoded()
-    ensures { ⟦<<PctStrRule as Keyed>::Key as Key>⟧.key ≡ percent_decode }
+/// The texts of a rule compare by the bytes that they decode to (RFC 3986 section 6.2.2.2), but
+/// schemes by their text in lower case (section 6.2.2.1), and ports by their text: `80` is not
+/// `080`.
+pub fn rules_have_their_keys()
+    ensures scheme { ⟦<<SchemeRule as Keyed>::Key as Key>⟧.key ≡ str_to_ascii_lowercase }
+    ensures user_info { ⟦<<UserInfoRule as Keyed>::Key as Key>⟧.key ≡ percent_decode }
+    ensures host { ⟦<<HostRule as Keyed>::Key as Key>⟧.key ≡ percent_decode }
+    ensures port { ⟦<<PortRule as Keyed>::Key as Key>⟧.key ≡ (λ text. text) }
+    ensures segment { ⟦<<SegmentRule as Keyed>::Key as Key>⟧.key ≡ percent_decode }
+    ensures query { ⟦<<QueryRule as Keyed>::Key as Key>⟧.key ≡ percent_decode }
+    ensures fragment { ⟦<<FragmentRule as Keyed>::Key as Key>⟧.key ≡ percent_decode }
+    ensures pct_str { ⟦<<PctStrRule as Keyed>::Key as Key>⟧.key ≡ percent_decode }
 {}

@@ -11,43 +11,36 @@ use iref_grammar::chars::{CharSet, UriChars};
 
 /// A scheme.
 pub type Scheme<'a> = View<'a, SchemeRule, UriChars>;
-
 /// A scheme that owns its text.
 pub type SchemeBuf = TextBuf<SchemeRule, UriChars>;
 
 /// A user info.
 pub type UserInfo<'a, C> = View<'a, UserInfoRule, C>;
-
 /// A user info that owns its text.
 pub type UserInfoBuf<C> = TextBuf<UserInfoRule, C>;
 
 /// A host.
 pub type Host<'a, C> = View<'a, HostRule, C>;
-
 /// A host that owns its text.
 pub type HostBuf<C> = TextBuf<HostRule, C>;
 
 /// A port: any number of digits, also none.
 pub type Port<'a> = View<'a, PortRule, UriChars>;
-
 /// A port that owns its text.
 pub type PortBuf = TextBuf<PortRule, UriChars>;
 
 /// A segment.
 pub type Segment<'a, C> = View<'a, SegmentRule, C>;
-
 /// A segment that owns its text.
 pub type SegmentBuf<C> = TextBuf<SegmentRule, C>;
 
 /// A query.
 pub type Query<'a, C> = View<'a, QueryRule, C>;
-
 /// A query that owns its text.
 pub type QueryBuf<C> = TextBuf<QueryRule, C>;
 
 /// A fragment.
 pub type Fragment<'a, C> = View<'a, FragmentRule, C>;
-
 /// A fragment that owns its text.
 pub type FragmentBuf<C> = TextBuf<FragmentRule, C>;
 

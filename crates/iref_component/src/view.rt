@@ -1,49 +1,28 @@
 //! Borrowed texts of a rule: what the views of all rules share.
-ghost use Rattle.std.specs.Prelude.{◌≡◌, true, [], length, Some, IfOk, MatchOption};
+ghost use Rattle.std.specs.Prelude.{◌≡◌, true, [], length, Some, IfOk, option_map};
+ghost use Rattle.std.specs.Option.{option_copied};
 ghost use Rattle.std.specs.Ordering.{on, as_partial_cmp, eq_by_cmp};
 ghost use Rattle.std.specs.Cmp.{on_total, on_equiv, po, partial_equiv_from_equiv, eq_by_cmp_equiv};
 ghost use Rattle.std.specs.Cmp.Rules.{comparing};
 ghost use Rattle.std.proofs.Common.{rules, ap, refl};
-ghost use Rattle.iref_grammar.specs.Rules.{InUtf8};
-ghost use Rattle.iref_grammar.specs.Texts.{is_empty};
+ghost use Rattle.iref_grammar.specs.{InUtf8, none_or, is_empty};
 ghost use Rattle.iref_component.specs.Makers.{Parses};
+ghost use Rattle.iref_component.specs.Components.{view_text, owned_text};
 
 use crate::key::Key;
-use crate::owned::TextBuf;
 use crate::rule::{AllowsEmpty, Keyed, Refuses, Rule};
+use crate::text::TextBuf;
+pub use crate::text::View;
 use iref_error::Memory;
 use iref_grammar::chars::CharSet;
-use std::alloc::{AllocError, Global};
+use std::alloc::Global;
 use std::cmp::Ordering;
 use std::convert::TryFrom;
 use std::hash::{Hash, Hasher};
 use std::marker::PhantomData;
 use std::{fmt, str};
 
-/// A borrowed text of a rule.
-pub struct View<'a, R: Rule, C: CharSet> {
-    text: &'a str,
-    rule: PhantomData<(R, C)>,
-    ghost in_rule: { R.test C.tests text.now ≡ true },
-}
-
-impl<R: Rule, C: CharSet> Clone for View<'_, R, C> {
-    ghost use Rattle.std.specs.Prelude.{⊤};
-
-    ghost is_clone = { λ v w. w ≡ v };
-
-    ghost is_infallible = { λ _. ⊤ };
-
-    fn clone(&self) -> Result<Self, AllocError> {
-        Ok(*self)
-    }
-}
-
-impl<R: Rule, C: CharSet> Copy for View<'_, R, C> {}
-
 impl<'a, R: Refuses<&'a str>, C: CharSet> View<'a, R, C> {
-    ghost use Rattle.iref_component.specs.Components.{view_text};
-
     /// The view of a text that is in the rule, or the text in the rule's error.
     pub fn new(text: &'a str) -> Result<Self, R::Error>
         ensures { Parses (InUtf8 (R.rule C.tests)) text.now view_text
@@ -57,8 +36,6 @@ impl<'a, R: Refuses<&'a str>, C: CharSet> View<'a, R, C> {
 }
 
 impl<'a, R: Refuses<&'a [u8]>, C: CharSet> View<'a, R, C> {
-    ghost use Rattle.iref_component.specs.Components.{view_text};
-
     /// The view of the UTF-8 of a text that is in the rule, or the bytes in the rule's error.
     pub fn from_bytes(bytes: &'a [u8]) -> Result<Self, R::Error>
         ensures { Parses (InUtf8 (R.rule C.tests)) bytes.now view_text
@@ -75,8 +52,6 @@ impl<'a, R: Refuses<&'a [u8]>, C: CharSet> View<'a, R, C> {
 }
 
 impl<'a, R: Rule, C: CharSet> View<'a, R, C> {
-    ghost use Rattle.iref_component.specs.Components.{view_text, owned_text};
-
     // The view of a text that is in the rule, or the text.
     fn read(text: &'a str) -> Result<Self, &'a str>
         ensures { Parses (InUtf8 (R.rule C.tests)) text.now view_text (λ input. input ≡ text.entry)
@@ -94,10 +69,8 @@ impl<'a, R: Rule, C: CharSet> View<'a, R, C> {
         requires { R.test C.tests text.now ≡ true }
         ensures { view_text result ≡ text.now }
     {
-        View {
-            text,
-            rule: PhantomData,
-        }
+        let rule = PhantomData;
+        View { text, rule }
     }
 
     /// The text.
@@ -138,9 +111,15 @@ impl<'a, R: Rule, C: CharSet> View<'a, R, C> {
     }
 }
 
-impl<R: AllowsEmpty, C: CharSet> View<'_, R, C> {
-    ghost use Rattle.iref_component.specs.Components.{view_text};
+/// The view of a slice that is known to be in the rule, if it is there.
+pub fn view_of<R: Rule, C: CharSet>(text: Option<&str>) -> Option<View<'_, R, C>>
+    requires { none_or (R.test C.tests) (option_copied text) ≡ true }
+    ensures { option_map view_text result ≡ option_copied text.entry }
+{
+    text.map(|text| View::new_unchecked(text))
+}
 
+impl<R: AllowsEmpty, C: CharSet> View<'_, R, C> {
     /// The empty text.
     pub fn empty() -> Self
         ensures { view_text result ≡ [] }
@@ -150,8 +129,6 @@ impl<R: AllowsEmpty, C: CharSet> View<'_, R, C> {
 }
 
 impl<R: AllowsEmpty, C: CharSet> Default for View<'_, R, C> {
-    ghost use Rattle.iref_component.specs.Components.{view_text};
-
     ghost is_default = { λ view. view_text view ≡ [] };
 
     fn default() -> Self {
@@ -160,8 +137,6 @@ impl<R: AllowsEmpty, C: CharSet> Default for View<'_, R, C> {
 }
 
 impl<'a, R: Refuses<&'a str>, C: CharSet> TryFrom<&'a str> for View<'a, R, C> {
-    ghost use Rattle.iref_component.specs.Components.{view_text};
-
     type Error = R::Error;
 
     ghost try_from_gives = { λ text result. Parses (InUtf8 (R.rule C.tests)) text.now view_text
@@ -173,8 +148,6 @@ impl<'a, R: Refuses<&'a str>, C: CharSet> TryFrom<&'a str> for View<'a, R, C> {
 }
 
 impl<'a, R: Refuses<&'a [u8]>, C: CharSet> TryFrom<&'a [u8]> for View<'a, R, C> {
-    ghost use Rattle.iref_component.specs.Components.{view_text};
-
     type Error = R::Error;
 
     ghost try_from_gives = { λ bytes result. Parses (InUtf8 (R.rule C.tests)) bytes.now view_text
@@ -186,8 +159,6 @@ impl<'a, R: Refuses<&'a [u8]>, C: CharSet> TryFrom<&'a [u8]> for View<'a, R, C> 
 }
 
 impl<R: Keyed, C: CharSet> Ord for View<'_, R, C> {
-    ghost use Rattle.iref_component.specs.Components.{view_text};
-
     ghost cmp = { on (λ v. R.Key.key (view_text v)) R.Key.order };
 
     ghost total = { on_total (λ v. R.Key.key (view_text v)) R.Key.total };
@@ -202,8 +173,6 @@ impl<R: Keyed, C: CharSet> Ord for View<'_, R, C> {
 }
 
 impl<R: Keyed, C: CharSet> PartialOrd for View<'_, R, C> {
-    ghost use Rattle.iref_component.specs.Components.{view_text};
-
     ghost partial_cmp = { as_partial_cmp (on (λ v. R.Key.key (view_text v)) R.Key.order) };
 
     ghost laws = { po (on_total (λ v. R.Key.key (view_text v)) R.Key.total) (λ _ _. refl) };
@@ -214,8 +183,6 @@ impl<R: Keyed, C: CharSet> PartialOrd for View<'_, R, C> {
 }
 
 impl<R: Keyed, C: CharSet> PartialEq for View<'_, R, C> {
-    ghost use Rattle.iref_component.specs.Components.{view_text};
-
     ghost eq = { on (λ v. R.Key.key (view_text v)) (eq_by_cmp R.Key.order) };
 
     ghost laws = { partial_equiv_from_equiv
@@ -227,14 +194,10 @@ impl<R: Keyed, C: CharSet> PartialEq for View<'_, R, C> {
 }
 
 impl<R: Keyed, C: CharSet> Eq for View<'_, R, C> {
-    ghost use Rattle.iref_component.specs.Components.{view_text};
-
     ghost laws = { on_equiv (λ v. R.Key.key (view_text v)) (eq_by_cmp_equiv R.Key.total) };
 }
 
 impl<R: Keyed, C: CharSet> Hash for View<'_, R, C> {
-    ghost use Rattle.iref_component.specs.Components.{view_text};
-
     ghost hash_input = { λ v. R.Key.fed (R.Key.key (view_text v)) };
 
     ghost respects_eq = { λ _ _ same. ap R.Key.fed (R.Key.tells _ _ same) };
@@ -245,8 +208,6 @@ impl<R: Keyed, C: CharSet> Hash for View<'_, R, C> {
 }
 
 impl<R: Rule, C: CharSet> fmt::Display for View<'_, R, C> {
-    ghost use Rattle.iref_component.specs.Components.{view_text};
-
     ghost output = { λ view. Some (view_text view) };
 
     fn fmt<W: fmt::Write>(&self, f: &mut fmt::Formatter<W>) -> fmt::Result {

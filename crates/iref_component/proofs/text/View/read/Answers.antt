@@ -1,6 +1,6 @@
 use Rattle.std.proofs.Common.{refl, ◌∙◌, sym}
 use Rattle.std.proofs.lemmas.Bool.Decides.{not_from_Decides}
-use Rattle.iref_component.proofs.view.View.read.Goals as goal
+use Rattle.iref_component.proofs.text.View.read.Goals as goal
 
 pub returns-else-accepts : goal.returns-else-accepts
 returns-else-accepts g c =

@@ -1,0 +1,6 @@
+//! A part of a text replaced in place: of a string, of a vector of bytes, or of what else holds it.
+#![tactic(auto)]
+
+pub mod bytes;
+pub mod target;
+pub mod text;
