@@ -4,3 +4,8 @@ pub mod PathTextLemmas
 pub mod RemainingLemmas
 pub mod OrderLemmas
 pub mod SpellLemmas
+pub mod StepTextLemmas
+pub mod StepValueLemmas
+pub mod GuardTextLemmas
+pub mod PopTextLemmas
+pub mod MergedLemmas

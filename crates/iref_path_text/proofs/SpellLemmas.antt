@@ -1,10 +1,11 @@
 -- The text of a normal path: what it is made of, and how long it is.
 use Rattle.std.proofs.Common.{◌≡◌, ℕ, zero, suc, ◌+◌, ◌-◌, ◌≤◌, Bool, true, false, not, cond, ◌&&◌, ◌||◌, List, [], ◌∷◌, ◌++◌, length, take, drop, refl, sym, ◌∙◌, ap, arith, append_assoc, length-append}
-use Rattle.std.specs.Prelude.{◌==◌, nat_lt, replicate, codes, IsUtf8}
+use Rattle.std.specs.Prelude.{◌==◌, replicate, codes, IsUtf8}
 use Rattle.std.specs.Char.{char_set_contains}
 use Rattle.std.specs.List.{join_with_byte, list_all, list_any}
 use Rattle.std.proofs.lemmas.Bool.Decides.{nat_tests}
-use Rattle.std.proofs.lemmas.List.{take_at}
+use Rattle.std.proofs.lemmas.List.{append-nil, take_at}
+use Rattle.std.proofs.lemmas.Bool.{and_from}
 use Rattle.std.proofs.lemmas.Grind.{flat_map-append}
 use Rattle.std.proofs.lemmas.Slice.Eq.{bytes_eq-Decides}
 use Rattle.std.proofs.lemmas.Str.{IsUtf8-from_is_utf8}
@@ -12,9 +13,10 @@ use mathlib.Core.Bool.{true≢false}
 use Rattle.iref_grammar.specs.Characters.{CharTests, AreAboveAscii}
 use Rattle.iref_grammar.specs.Rules.{Text}
 use Rattle.iref_grammar.specs.Grammar.{slash, colon}
-use Rattle.iref_grammar.specs.Texts.{lacks}
+use Rattle.iref_grammar.specs.Texts.{all_but_last, lacks}
 use Rattle.iref_grammar.specs.Tests.{is_path, is_segment}
-use Rattle.iref_grammar.specs.Contexts.{alone, fits, follows_authority, is_no_authority, is_no_scheme, reads_as_path}
+use Rattle.iref_grammar.specs.declared.places.PathContext.{PathContext}
+use Rattle.iref_grammar.specs.Contexts.{fits, follows_authority, is_no_authority, is_no_scheme, is_path_in, is_readable_path, reads_as_path}
 use Rattle.iref_grammar.specs.PathValue.{PathValue, is_one_empty, read_path, segments_of, shows_its_list, spell_path}
 use Rattle.iref_grammar.proofs.TextLemmas.{first_of_both, second_of_both, join-pieces_at}
 use Rattle.iref_grammar.proofs.PathLemmas.{read_path-reads, read-spelled}
@@ -23,8 +25,9 @@ use Rattle.iref_model.specs.Guard.{guarded, with_dot}
 use Rattle.iref_model.specs.NormalList.{is_dot_dot, is_name, counted, ends_in_dots, normal, normal_segments, without_lone_empty}
 use Rattle.iref_model.specs.NormalReading.{open_before, staying_before, leading_parents, closing, items}
 use Rattle.iref_model.specs.PathSteps.{normalized}
-use Rattle.iref_path_text.specs.Remaining.{first_or}
-use Rattle.iref_path_text.specs.Spelling.{each_closed, lead, needs_guard}
+use Rattle.iref_path_text.specs.PathParts.{is_path_after}
+use Rattle.iref_path_text.specs.Remaining.{first_or, flagged_path}
+use Rattle.iref_path_text.specs.Spelling.{each_closed, lead, lead_in, needs_guard, normal_in}
 use Rattle.iref_model.proofs.GuardLemmas.{guarded-fits}
 use Rattle.iref_model.proofs.PieceLemmas.{some_piece}
 use Rattle.iref_model.proofs.ItemLemmas.{name_no_parent, normal_segments-is}
@@ -71,7 +74,7 @@ size-cons s list =
     let here = length-append s (slash ∷ []) in
     omega (arith, whole, here)
 
-size-append : (front back : List Text) → length (each_closed (front ++ back)) ≡ length (each_closed front) + length (each_closed back)
+pub size-append : (front back : List Text) → length (each_closed (front ++ back)) ≡ length (each_closed front) + length (each_closed back)
 size-append front back = ap length (each_closed-append front back) ∙ length-append (each_closed front) (each_closed back)
 
 size-parents : (n : ℕ) → length (each_closed (replicate n (codes ".."))) ≡ n + n + n
@@ -127,7 +130,7 @@ size-lone list n h = by (is_one_empty list)
     by true = omega arith
     by false = h
 
-normal_size : (p : PathValue) → length (each_closed (normal_segments p)) ≤ length (each_closed p.segments) + 1
+pub normal_size : (p : PathValue) → length (each_closed (normal_segments p)) ≤ length (each_closed p.segments) + 1
 normal_size p =
     let lead = size-leading p.absolute (open_before p.segments 0) in
     let kept = kept_size p.segments in
@@ -136,7 +139,7 @@ normal_size p =
     let same = ap (λ list. length (each_closed list)) (normal_segments-is p) in
     omega (arith, lone, same)
 
--- of the text of a path
+-- of a text, and of the text of a path
 segments_size : (text : Text) → length (each_closed (segments_of text)) ≤ length text + 1
 segments_size [] = omega arith
 segments_size (c ∷ cs) =
@@ -146,79 +149,110 @@ segments_size (c ∷ cs) =
     let same = ap (λ list. length (each_closed list)) some.2 in
     omega (arith, joined, closed, same)
 
-pub normal_size-text : (text : Text) → length (each_closed (normal_segments (read_path text))) ≤ length text + 2
+path_size : (text : Text) → length (each_closed (read_path text).segments) ≤ length text + 1
 unfolding read_path
-normal_size-text [] = omega (arith, normal_size (read_path []))
-normal_size-text (c ∷ cs) = by (c == slash)
+path_size [] = omega arith
+path_size (c ∷ cs) = by (c == slash)
   where
-    by : (b : Bool) → length (each_closed (normal_segments (cond b (record { absolute = true; segments = segments_of cs }) (record { absolute = false; segments = segments_of (c ∷ cs) })))) ≤ length (c ∷ cs) + 2
-    by true = let normal = normal_size (record { absolute = true; segments = segments_of cs }) in let all = segments_size cs in omega (arith, normal, all)
-    by false = let normal = normal_size (record { absolute = false; segments = segments_of (c ∷ cs) }) in let all = segments_size (c ∷ cs) in omega (arith, normal, all)
+    by : (b : Bool) → length (each_closed (cond {A = PathValue} b (record { absolute = true; segments = segments_of cs }) (record { absolute = false; segments = segments_of (c ∷ cs) })).segments) ≤ length (c ∷ cs) + 1
+    by true = omega (arith, segments_size cs)
+    by false = segments_size (c ∷ cs)
+
+pub normal_size-text : (absolute : Bool) (text : Text) → length (each_closed (normal_segments (flagged_path absolute text))) ≤ length text + 2
+normal_size-text absolute text = omega (arith, normal_size (flagged_path absolute text), path_size text)
 
 -- ---- the spelling
 
--- the guard of a path that stands alone, in its text
-guarded-spelled : (absolute : Bool) (s : Text) (rest : List Text) → is_one_empty (s ∷ rest) ≡ false
-    → spell_path (guarded alone (record { absolute = absolute; segments = s ∷ rest })) ≡ lead absolute (needs_guard absolute s) ++ join_with_byte slash (s ∷ rest)
+-- the root and the guard of a path, in its text
+guarded-spelled : (scheme authority absolute : Bool) (s : Text) (rest : List Text) → is_one_empty (s ∷ rest) ≡ false
+    → let context : PathContext = record { has_scheme = scheme; has_authority = authority } in
+    spell_path (guarded context (record { absolute = absolute; segments = s ∷ rest })) ≡ lead (absolute || authority) (needs_guard context absolute s) ++ join_with_byte slash (s ∷ rest)
 unfolding spell_path guarded
-guarded-spelled true [] [] h = absurd (true≢false h)
-guarded-spelled true [] (t ∷ rest) h = refl
-guarded-spelled true (c ∷ s) [] h = refl
-guarded-spelled true (c ∷ s) (t ∷ rest) h = refl
-guarded-spelled false [] [] h = absurd (true≢false h)
-guarded-spelled false [] (t ∷ rest) h = refl
-guarded-spelled false (c ∷ s) rest h = by (char_set_contains (c ∷ s) colon)
+guarded-spelled scheme authority absolute [] [] h = absurd (true≢false h)
+guarded-spelled true true true [] (t ∷ rest) h = refl
+guarded-spelled true true true (c ∷ s) rest h = refl
+guarded-spelled true true false [] (t ∷ rest) h = refl
+guarded-spelled true true false (c ∷ s) rest h = refl
+guarded-spelled false true true [] (t ∷ rest) h = refl
+guarded-spelled false true true (c ∷ s) rest h = refl
+guarded-spelled false true false [] (t ∷ rest) h = refl
+guarded-spelled false true false (c ∷ s) rest h = refl
+guarded-spelled true false true [] (t ∷ rest) h = refl
+guarded-spelled true false true (c ∷ s) rest h = refl
+guarded-spelled true false false [] (t ∷ rest) h = refl
+guarded-spelled true false false (c ∷ s) rest h = refl
+guarded-spelled false false true [] (t ∷ rest) h = refl
+guarded-spelled false false true (c ∷ s) rest h = refl
+guarded-spelled false false false [] (t ∷ rest) h = refl
+guarded-spelled false false false (c ∷ s) rest h = by (char_set_contains (c ∷ s) colon)
   where
     by : (b : Bool) → spell_path (cond (not b) (record { absolute = false; segments = (c ∷ s) ∷ rest }) (with_dot (record { absolute = false; segments = (c ∷ s) ∷ rest })))
         ≡ lead false b ++ join_with_byte slash ((c ∷ s) ∷ rest)
     by true = refl
     by false = refl
 
--- where there are segments
-some_guard : Bool → List Text → Bool
-some_guard absolute list = nat_lt 0 (length (each_closed list)) && needs_guard absolute (first_or [] list)
+-- no segments need neither
+empty-spelled : (scheme authority absolute : Bool) → let context : PathContext = record { has_scheme = scheme; has_authority = authority } in
+    spell_path (guarded context (record { absolute = absolute; segments = [] })) ≡ lead absolute false
+unfolding spell_path guarded
+empty-spelled true true true = refl
+empty-spelled true true false = refl
+empty-spelled true false true = refl
+empty-spelled true false false = refl
+empty-spelled false true true = refl
+empty-spelled false true false = refl
+empty-spelled false false true = refl
+empty-spelled false false false = refl
 
-list-spelled : (absolute : Bool) (list : List Text) → is_one_empty list ≡ false → spell_path (guarded alone (record { absolute = absolute; segments = list })) ≡ lead absolute (some_guard absolute list) ++ join_with_byte slash list
-unfolding spell_path guarded some_guard
-list-spelled true [] h = refl
-list-spelled false [] h = refl
-list-spelled absolute (s ∷ rest) h =
+list-spelled : (context : PathContext) (absolute : Bool) (list : List Text) → is_one_empty list ≡ false
+    → spell_path (guarded context (record { absolute = absolute; segments = list })) ≡ lead_in context absolute (length (each_closed list)) (first_or [] list) ++ join_with_byte slash list
+list-spelled context absolute [] h = empty-spelled context.has_scheme context.has_authority absolute ∙ sym (append-nil (lead absolute false))
+list-spelled context absolute (s ∷ rest) h =
     let size = size-cons s rest in
-    let some : nat_lt 0 (length (each_closed (s ∷ rest))) ≡ true = grind (arith, nat_tests) in
-    guarded-spelled absolute s rest h ∙ (λ i. lead absolute (sym some i && needs_guard absolute s) ++ join_with_byte slash (s ∷ rest))
+    let some : (length (each_closed (s ∷ rest)) == 0) ≡ false = grind (arith, nat_tests) in
+    guarded-spelled context.has_scheme context.has_authority absolute s rest h
+    ∙ (λ i. cond (sym some i) (lead absolute false) (lead (absolute || context.has_authority) (needs_guard context absolute s)) ++ join_with_byte slash (s ∷ rest))
 
 -- the text of the normalized path
-pub normalized-spelled : (p : PathValue) (list : List Text) (size : ℕ) (first : Text) (guard : Bool) → list ≡ normal_segments p → size ≡ length (each_closed list) → first ≡ first_or [] list
-    → guard ≡ (nat_lt 0 size && needs_guard p.absolute first) → lead p.absolute guard ++ join_with_byte slash list ≡ spell_path (normalized alone p)
-unfolding some_guard
-normalized-spelled p list size first guard e h k g =
+pub normalized-spelled : (context : PathContext) (p : PathValue) (list : List Text) (size : ℕ) (first : Text) → list ≡ normal_segments p → size ≡ length (each_closed list) → first ≡ first_or [] list
+    → lead_in context p.absolute size first ++ join_with_byte slash list ≡ spell_path (normalized context p)
+normalized-spelled context p list size first e h k =
     let whole : is_one_empty list ≡ false = ap is_one_empty (e ∙ normal_segments-is p) ∙ not_lone (items p) in
-    (λ i. lead p.absolute (g i) ++ join_with_byte slash list)
-    ∙ (λ i. lead p.absolute (nat_lt 0 (h i) && needs_guard p.absolute (k i)) ++ join_with_byte slash list)
-    ∙ sym (list-spelled p.absolute list whole)
-    ∙ (λ i. spell_path (guarded alone (record { absolute = p.absolute; segments = e i })))
+    (λ i. lead_in context p.absolute (h i) (k i) ++ join_with_byte slash list)
+    ∙ sym (list-spelled context p.absolute list whole)
+    ∙ (λ i. spell_path (guarded context (record { absolute = p.absolute; segments = e i })))
 
 -- ---- what is read in it
 
 lacks_dots : TakesDots (lacks slash)
 lacks_dots = record { empty = refl; dot = refl; parent = refl }
 
--- the text is read as the normalized path
-pub normalized-read : (text : Text) → let p = normalized alone (read_path text) in read_path (spell_path p) ≡ p
-normalized-read text =
-    let p = normalized alone (read_path text) in
-    let reads = read_path-reads text in
-    let shows = guarded-fits alone (normal (read_path text)) in
-    read-spelled p.absolute p.segments (normalized-in (lacks slash) lacks_dots alone (read_path text) reads.segments) (shown p shows)
-  where
-    shown : (p : PathValue) → fits alone p ≡ true → shows_its_list p ≡ true
-    shown p h = first_of_both (shows_its_list p) (is_no_authority alone p) (first_of_both (shows_its_list p && is_no_authority alone p) (is_no_scheme alone p) (second_of_both (follows_authority alone p) (reads_as_path alone p) h))
+fits_parts : (context : PathContext) (p : PathValue) → fits context p ≡ true → (follows_authority context p ≡ true) × (shows_its_list p ≡ true)
+fits_parts context p h = (
+  first_of_both (follows_authority context p) (reads_as_path context p) h,
+  first_of_both (shows_its_list p) (is_no_authority context p) (first_of_both (shows_its_list p && is_no_authority context p) (is_no_scheme context p) (second_of_both (follows_authority context p) (reads_as_path context p) h)),
+)
 
--- and it is a path
-pub normalized-is_path : (set : CharTests) → AreAboveAscii set → (text : Text) → is_path set text ≡ true → is_path set (spell_path (normalized alone (read_path text))) ≡ true
-normalized-is_path set above text h =
-    is_path-segments set above (spell_path (normalized alone (read_path text))) ∙ ap (λ (p : PathValue). list_all (is_segment set) p.segments) (normalized-read text)
-    ∙ normalized-in (is_segment set) (takes_dots set) alone (read_path text) (segments_of_path set above text (read_path text) refl h)
+-- the text is read as the normalized path
+pub normalized-read : (context : PathContext) (absolute : Bool) (text : Text) → let p = normal_in context absolute text in read_path (spell_path p) ≡ p
+normalized-read context absolute text =
+    let p = normal_in context absolute text in
+    let reads = read_path-reads text in
+    let shows = fits_parts context p (guarded-fits context (normal (flagged_path absolute text))) in
+    read-spelled p.absolute p.segments (normalized-in (lacks slash) lacks_dots context (flagged_path absolute text) reads.segments) shows.1
+
+-- it is a path, may stand in its context, and nothing else is read there
+pub normalized-in_context : (set : CharTests) → AreAboveAscii set → (context : PathContext) (absolute : Bool) (text : Text) → is_path set text ≡ true
+    → let new = spell_path (normal_in context absolute text) in (is_path_in set context new ≡ true) × (is_path_after set context new ≡ true)
+normalized-in_context set above context absolute text h =
+    let p = normal_in context absolute text in
+    let read = normalized-read context absolute text in
+    let fit = guarded-fits context (normal (flagged_path absolute text)) in
+    let all = normalized-in (is_segment set) (takes_dots set) context (flagged_path absolute text) (segments_of_path set above text (read_path text) refl h) in
+    let path = is_path-segments set above (spell_path p) ∙ ap (λ (q : PathValue). list_all (is_segment set) q.segments) read ∙ all in (
+      ap (is_readable_path set context) read ∙ and_from _ _ all fit,
+      and_from _ _ path (ap (follows_authority context) read ∙ (fits_parts context p fit).0),
+    )
 
 pub path-utf8 : (set : CharTests) (text : Text) → is_path set text ≡ true → IsUtf8 text
 unfolding is_path
@@ -230,11 +264,29 @@ pub any-contained : (text : Text) (mark : ℕ) → list_any (λ c. c == mark) te
 any-contained [] mark = refl
 any-contained (c ∷ text) mark = ap (λ b. c == mark || b) (any-contained text mark)
 
--- a colon alone decides after a root that is not there
-pub guard_by_colon : (absolute : Bool) (first : Text) (has : Bool) → false ≡ (length first == 0) → absolute ≡ false → has ≡ char_set_contains first colon → has ≡ needs_guard absolute first
-guard_by_colon absolute [] has h e k = absurd (true≢false (sym h))
-guard_by_colon absolute (c ∷ first) has h e k = k ∙ (λ i. not (sym e i) && char_set_contains (c ∷ first) colon)
-
 -- a buffer that was filled to its end
 pub filled : (n : ℕ) (new old : Text) → length new ≡ n → take n (new ++ drop (length new) old) ≡ new
 filled n new old h = take_at new (drop (length new) old) n h
+
+-- ---- the sizes of lists of segments
+
+-- a segment with its `/` has a byte at least
+pub list_size : (list : List Text) → length list ≤ length (each_closed list)
+list_size [] = omega arith
+list_size (s ∷ rest) = omega (arith, size-cons s rest, list_size rest)
+
+pub last_size : (list : List Text) → length (each_closed (all_but_last list)) ≤ length (each_closed list)
+last_size [] = omega arith
+last_size (s ∷ []) = omega arith
+last_size (s ∷ t ∷ rest) = omega (arith, size-cons s (t ∷ rest), size-cons s (all_but_last (t ∷ rest)), last_size (t ∷ rest))
+
+-- the segments of a path that is read from a text
+pub read_size : (text : Text) (p : PathValue) → read_path text ≡ p → length (each_closed p.segments) ≤ length text + 1
+read_size text p e =
+    let size = path_size text in
+    let same = ap (λ (q : PathValue). length (each_closed q.segments)) e in
+    omega (arith, size, same)
+
+-- what comes before the items, and these
+pub length-lead : (lead : Text) (list : List Text) → length (lead ++ join_with_byte slash list) ≡ length lead + (length (each_closed list) - 1)
+length-lead lead list = length-append lead (join_with_byte slash list) ∙ ap (λ n. length lead + n) (length-join list)

@@ -1,25 +1,34 @@
--- The text of a path that stands alone, from its list (RFC 3986 sections 3.3 and 4.2).
-use Rattle.std.specs.Prelude.{Bool, not, ◌&&◌, ◌||◌, List, [], ◌∷◌, ◌++◌, codes, flat_map, if◌then◌else◌}
+-- The text of a path in its context, from its list (RFC 3986 sections 3.3 and 4.2).
+use Rattle.std.specs.Prelude.{ℕ, Bool, false, not, ◌&&◌, ◌||◌, ◌==◌, List, [], ◌∷◌, ◌++◌, codes, flat_map, if◌then◌else◌}
 use Rattle.std.specs.Char.{char_set_contains}
+use Rattle.iref_grammar.specs.declared.places.PathContext.{PathContext}
 use Rattle.iref_grammar.specs.Rules.{Text}
 use Rattle.iref_grammar.specs.Grammar.{slash, colon}
 use Rattle.iref_grammar.specs.Texts.{is_empty}
-use Rattle.iref_grammar.specs.Contexts.{alone}
-use Rattle.iref_grammar.specs.PathValue.{read_path, spell_path}
+use Rattle.iref_grammar.specs.PathValue.{PathValue}
 use Rattle.iref_model.specs.PathSteps.{normalized}
+use Rattle.iref_path_text.specs.Remaining.{flagged_path}
 
 -- the segments, with a `/` after each
 abbrev pub each_closed : List Text → Text
 each_closed segments = flat_map (λ s. s ++ slash ∷ []) segments
 
 -- where the list begins with this segment, a scheme or an authority would be read, or the segment would not show
-abbrev pub needs_guard : Bool → Text → Bool
-needs_guard absolute first = is_empty first || not absolute && char_set_contains first colon
+abbrev pub needs_guard : PathContext → Bool → Text → Bool
+needs_guard context absolute first =
+    not context.has_authority && (is_empty first || not absolute && not context.has_scheme && char_set_contains first colon)
 
--- what comes before the list: the root, and the guard
+-- the root, and the guard
 abbrev pub lead : Bool → Bool → Text
 lead absolute guard = (if absolute then codes "/" else []) ++ (if guard then codes "./" else [])
 
--- the text of the normalized path of a path's text
-abbrev pub normalized_spelling : Text → Text
-normalized_spelling text = spell_path (normalized alone (read_path text))
+-- what comes before a list that has so many bytes and begins with this segment
+abbrev pub lead_in : PathContext → Bool → ℕ → Text → Text
+lead_in context absolute size first =
+    if size == 0
+    then lead absolute false
+    else lead (absolute || context.has_authority) (needs_guard context absolute first)
+
+-- the normalized path, in its context, of a text that is read with a flag of its own
+abbrev pub normal_in : PathContext → Bool → Text → PathValue
+normal_in context absolute text = normalized context (flagged_path absolute text)

@@ -1,9 +1,8 @@
 //! Equality of paths: one scan of both from the back, with a count of the segments read.
 
 ghost use Rattle.std.specs.Prelude.{◌≡◌, ◌≢◌, ◌↔◌, ◌+◌, ◌<◌, ◌≤◌, ◌^◌, ◌∷◌, true};
-ghost use Rattle.iref_grammar.specs.PathValue.{read_path};
-ghost use Rattle.iref_model.specs.CountedEquality.{items_compared, IsCountedAnswer};
-ghost use Rattle.iref_model.specs.PathKey.{path_key};
+ghost use Rattle.iref_grammar.specs.{read_path};
+ghost use Rattle.iref_model.specs.{items_compared, IsCountedAnswer, path_key};
 ghost use Rattle.iref_path_text.specs.Unread.{AreCounted, HasRoomFor, HaveRoom, IsAnswer, IsCountable, IsShorter, IsWhole, all_items_unread, items_unread, path_unread, steps_count, steps_taken};
 
 use crate::names::name_stays;
@@ -84,8 +83,7 @@ impl<'a> Unread<'a> {
     }
 
     /// The last item of a path of which nothing has been read: its last segment, or the empty
-    /// segment that closes a path
-    /// that ends in `.` or `..`.
+    /// segment that closes a path that ends in `.` or `..`.
     fn first_back(&mut self, steps: &mut Steps) -> &'a str
         requires whole { IsWhole self.old }
         requires room { HasRoom steps.old self.old }

@@ -1,12 +1,15 @@
 //! What is read from the text of a path (RFC 3986 sections 3.3 and 5.2.4): its ends, its normal
-//! segments from both ends,
-//! its comparison and hash by these, and the text of the normalized path.
+//! segments from both ends, its comparison and hash by these, and the text of the normalized path.
 #![tactic(auto)]
 
 pub mod equality;
+pub mod guard;
+pub mod measured;
 pub mod names;
 pub mod order;
+pub mod part;
 pub mod path_text;
 pub mod pieces;
 pub mod remaining;
 pub mod spell;
+pub mod steps;

@@ -4,12 +4,10 @@
 ghost use Rattle.std.specs.Prelude.{◌≡◌, ◌-◌, ◌≤◌, true, fold, length, map, take};
 ghost use Rattle.std.specs.Cmp.Lexicographic.{slice_cmp};
 ghost use Rattle.percent_encoding.specs.Percent.{percent_decode};
-ghost use Rattle.iref_grammar.specs.PathValue.{read_path};
-ghost use Rattle.iref_model.specs.NormalList.{normal_segments};
-ghost use Rattle.iref_model.specs.PathKey.{path_key, path_key_cmp};
-ghost use Rattle.iref_model.specs.PathHash.{fed_from_the_back, fed_path};
+ghost use Rattle.iref_grammar.specs.{read_path, text_order};
+ghost use Rattle.iref_model.specs.{normal_segments, path_key, path_key_cmp, fed_from_the_back};
+ghost use Rattle.iref_model.specs.{fed_path};
 ghost use Rattle.iref_path_text.specs.Remaining.{IsSound, decoded_left, normal_left};
-ghost use Rattle.iref_grammar.specs.Keys.{text_order};
 
 use crate::pieces::split_root;
 use crate::remaining::Remaining;

@@ -1,9 +1,8 @@
 //! What is asked of a path, by its text.
 
 ghost use Rattle.std.specs.Prelude.{◌≡◌, true, IfSome, option_map};
-ghost use Rattle.iref_grammar.specs.Tests.{is_path};
-ghost use Rattle.iref_grammar.specs.PathValue.{read_path};
 ghost use Rattle.iref_model.specs.PathFunctions as function;
+ghost use Rattle.iref_grammar.specs.{is_path, read_path};
 ghost use Rattle.iref_path_text.specs.Pieces.{value_at};
 
 use iref_grammar::chars::CharSet;

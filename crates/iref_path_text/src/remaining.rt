@@ -1,15 +1,15 @@
 //! What is left of a normal list that is read from both ends of a path's text (RFC 3986 section
 //! 5.2.4).
 
-ghost use Rattle.iref_model.specs.NormalList as list;
 ghost use Rattle.std.specs.Iterator.{YieldsFirstBy, YieldsLastBy};
-ghost use Rattle.iref_grammar.specs.Texts.{is_empty};
-ghost use Rattle.iref_grammar.specs.PathValue.{read_path};
-ghost use Rattle.iref_model.specs.NormalReading.{open_before, staying_before};
 ghost use Rattle.std.specs.Prelude.{◌≡◌, ◌+◌, ◌<◌, ◌≤◌, ◌^◌, ◌==◌, ◌&&◌, [], false, length, IfNone, IfSome, if◌then◌else◌};
+ghost use Rattle.iref_model.specs.NormalList as list;
+ghost use Rattle.iref_grammar.specs.{is_empty, read_path};
+ghost use Rattle.iref_model.specs.{open_before, staying_before, normal_segments};
 ghost use Rattle.iref_path_text.specs.Pieces.{pieces_if_some, text_at};
-ghost use Rattle.iref_model.specs.NormalList.{normal_segments};
-ghost use Rattle.iref_path_text.specs.Remaining.{IsFate, IsSound, KeepsEnds, first_or, names_left, normal_left, open_at_start, to_read};
+ghost use Rattle.iref_path_text.specs.Remaining.{IsFate, IsSound, KeepsEnds, first_or, flagged_path, names_left, normal_left, open_at_start, to_read};
+
+pub mod merged;
 
 use crate::names::{is_name, name_stays};
 use crate::pieces::{first_piece, last_piece, split_root};
@@ -93,7 +93,17 @@ impl<'a> Remaining<'a> {
         ensures count { result.1 ≡ length (normal_left result.0) }
         ensures sound { IsSound result.0 }
     {
-        let (absolute, rest) = split_root(path);
+        Remaining::with_flag(split_root(path).0, path)
+    }
+
+    /// All items of a path that is read as absolute or relative, whatever its text begins with,
+    /// and how many they are. Only a relative list keeps the `..` that nothing cancels.
+    pub fn with_flag(absolute: bool, path: &'a str) -> (Self, usize)
+        ensures items { normal_left result.0 ≡ normal_segments (flagged_path absolute path.now) }
+        ensures count { result.1 ≡ length (normal_left result.0) }
+        ensures sound { IsSound result.0 }
+    {
+        let rest = split_root(path).1;
         let (open_parents, names, first) = survey(rest);
         let parents = leading_parents(absolute, open_parents);
         let closes = ends_in_dots(rest);

@@ -4,27 +4,30 @@
 ghost use Rattle.std.specs.Prelude.{◌≡◌, ◌+◌, ◌-◌, ◌<◌, ◌≤◌, ◌^◌, ◌++◌, ◌||◌, ◌&&◌, ◌==◌, not, true, [], drop, length, IfOk};
 ghost use Rattle.std.specs.List.{join_with_byte, list_any};
 ghost use Rattle.std.specs.String.{string_bytes};
-ghost use Rattle.iref_grammar.specs.Contexts.{alone};
+ghost use Rattle.iref_grammar.specs.Contexts.{is_path_in};
 ghost use Rattle.iref_grammar.specs.Grammar.{colon, slash};
-ghost use Rattle.iref_grammar.specs.PathValue.{read_path};
+ghost use Rattle.iref_grammar.specs.PathValue.{read_path, spell_path};
 ghost use Rattle.iref_grammar.specs.Tests.{is_path};
-ghost use Rattle.iref_model.specs.PathSteps.{normalized};
-ghost use Rattle.iref_path_text.specs.Remaining.{IsSound, first_or, normal_left};
-ghost use Rattle.iref_path_text.specs.Spelling.{each_closed, normalized_spelling};
+ghost use Rattle.iref_path_text.specs.PathParts.{is_path_after};
+ghost use Rattle.iref_path_text.specs.Merged.{IsMergeSound, merged_left};
+ghost use Rattle.iref_path_text.specs.Remaining.{first_or};
+ghost use Rattle.iref_path_text.specs.Spelling.{each_closed, normal_in};
 ghost use Rattle.iref_path_text.specs.Spelling as spelling;
 
+use crate::measured::MeasuredPath;
 use crate::pieces::split_root;
-use crate::remaining::Remaining;
+use crate::remaining::merged::Merged;
 use iref_error::Memory;
 use iref_grammar::chars::CharSet;
-use std::alloc::Global;
+use iref_grammar::places::PathContext;
+use std::alloc::Allocator;
 
 /// How many bytes the items have with a `/` after each, and the first of them, or nothing.
-fn measure(mut left: Remaining<'_>) -> (usize, &str)
-    requires sound { IsSound left }
-    requires fits { length (each_closed (normal_left left)) < 2 ^ 64 }
-    ensures size { result.0 ≡ length (each_closed (normal_left left.entry)) }
-    ensures first { result.1.now ≡ first_or [] (normal_left left.entry) }
+pub(crate) fn measure(mut left: Merged<'_>) -> (usize, &str)
+    requires sound { IsMergeSound left }
+    requires fits { length (each_closed (merged_left left)) < 2 ^ 64 }
+    ensures size { result.0 ≡ length (each_closed (merged_left left.entry)) }
+    ensures first { result.1.now ≡ first_or [] (merged_left left.entry) }
 {
     let mut size: usize = 0;
     let mut first = "";
@@ -36,7 +39,7 @@ fn measure(mut left: Remaining<'_>) -> (usize, &str)
 }
 
 /// Writes the text so that it ends at a place, and answers where it begins.
-fn write_before(buffer: &mut [u8], end: usize, text: &str) -> usize
+pub fn write_before(buffer: &mut [u8], end: usize, text: &str) -> usize
     requires room { length text.now ≤ end }
     requires within { end ≤ length buffer.old }
     ensures place { result + length text.now ≡ end }
@@ -50,13 +53,13 @@ fn write_before(buffer: &mut [u8], end: usize, text: &str) -> usize
 
 /// Writes the items, each with a `/` after it, so that they end at a place, and answers where they
 /// begin.
-fn write_closed(mut left: Remaining<'_>, buffer: &mut [u8], end: usize) -> usize
-    requires sound { IsSound left }
-    requires room { length (each_closed (normal_left left)) ≤ end }
+fn write_closed(mut left: Merged<'_>, buffer: &mut [u8], end: usize) -> usize
+    requires sound { IsMergeSound left }
+    requires room { length (each_closed (merged_left left)) ≤ end }
     requires within { end ≤ length buffer.old }
-    ensures place { result + length (each_closed (normal_left left.entry)) ≡ end }
+    ensures place { result + length (each_closed (merged_left left.entry)) ≡ end }
     ensures written { drop result buffer.new
-        ≡ each_closed (normal_left left.entry) ++ drop end buffer.old }
+        ≡ each_closed (merged_left left.entry) ++ drop end buffer.old }
     ensures len { length buffer.new ≡ length buffer.old }
 {
     let mut start = end;
@@ -67,17 +70,16 @@ fn write_closed(mut left: Remaining<'_>, buffer: &mut [u8], end: usize) -> usize
     start
 }
 
-/// Writes the items with `/` between so that they end where the buffer does, and answers where they
-/// begin.
-fn write_items(mut left: Remaining<'_>, buffer: &mut [u8]) -> usize
-    requires sound { IsSound left }
-    requires room { length (each_closed (normal_left left)) ≤ length buffer.old + 1 }
-    ensures place { result + length (join_with_byte slash (normal_left left.entry))
-        ≡ length buffer.old }
-    ensures written { drop result buffer.new ≡ join_with_byte slash (normal_left left.entry) }
+/// Writes the items with `/` between so that they end at a place, and answers where they begin.
+pub(crate) fn write_items(mut left: Merged<'_>, buffer: &mut [u8], end: usize) -> usize
+    requires sound { IsMergeSound left }
+    requires room { length (each_closed (merged_left left)) ≤ end + 1 }
+    requires within { end ≤ length buffer.old }
+    ensures place { result + length (join_with_byte slash (merged_left left.entry)) ≡ end }
+    ensures written { drop result buffer.new
+        ≡ join_with_byte slash (merged_left left.entry) ++ drop end buffer.old }
     ensures len { length buffer.new ≡ length buffer.old }
 {
-    let end = buffer.len();
     let Some(last) = left.next_back() else {
         return end;
     };
@@ -93,14 +95,18 @@ pub fn has_colon(text: &str) -> bool
     text.bytes().any(|byte| byte == b':')
 }
 
-/// Whether a list that begins with this segment needs a guard where it is a whole reference.
-fn needs_guard(absolute: bool, first: &str) -> bool
-    ensures { result ≡ spelling.needs_guard absolute first.now }
+/// Whether a list that begins with this segment needs a guard: without an authority the segment
+/// would not show where it is empty, or be read as a scheme.
+fn needs_guard(context: PathContext, absolute: bool, first: &str) -> bool
+    ensures { result ≡ spelling.needs_guard context absolute first.now }
 {
-    first.is_empty() || !absolute && has_colon(first)
+    if context.has_authority {
+        return false;
+    }
+    first.is_empty() || !absolute && !context.has_scheme && has_colon(first)
 }
 
-/// What comes before the list.
+/// The root, and the guard.
 fn lead(absolute: bool, guard: bool) -> &'static str
     ensures { result.now ≡ spelling.lead absolute guard }
 {
@@ -112,43 +118,65 @@ fn lead(absolute: bool, guard: bool) -> &'static str
     }
 }
 
-/// Fills the buffer with what comes before the list, and the items with `/` between.
-fn fill(left: Remaining<'_>, lead: &str, buffer: &mut [u8])
-    requires sound { IsSound left }
-    requires room { length lead.now + (length (each_closed (normal_left left)) - 1)
-        ≡ length buffer.old }
-    ensures { buffer.new ≡ lead.now ++ join_with_byte slash (normal_left left.entry) }
+/// What comes before a list of this size that begins with this segment: after an authority such a
+/// list is absolute.
+pub(crate) fn lead_in(
+    context: PathContext,
+    absolute: bool,
+    size: usize,
+    first: &str,
+) -> &'static str
+    ensures text { result.now ≡ spelling.lead_in context absolute size first.now }
+    ensures short { length result.now ≤ 3 }
 {
-    let start = write_items(left, buffer);
-    write_before(buffer, start, lead);
+    if size == 0 {
+        return lead(absolute, false);
+    }
+    lead(
+        absolute || context.has_authority,
+        needs_guard(context, absolute, first),
+    )
 }
 
-/// The bytes of the text of the normalized path as a whole reference.
+/// The bytes of the text of the normalized path in its context, with a flag of its own.
 #[tactic(auto, using(crate::proofs::SpellLemmas::normal_sizes))]
-fn normalized_bytes(alloc: Global, path: &str) -> Result<Vec<u8>, Memory>
-    ensures { IfOk result (λ bytes. bytes.items ≡ normalized_spelling path.now) }
+fn normalized_bytes<A: Allocator>(
+    alloc: A,
+    context: PathContext,
+    absolute: bool,
+    path: &str,
+) -> Result<Vec<u8, A>, Memory>
+    ensures { IfOk result (λ bytes.
+        bytes.items ≡ spell_path (normal_in context absolute path.now)) }
 {
-    let absolute = split_root(path).0;
-    let (left, _count) = Remaining::new(path);
-    let (size, first) = measure(left);
-    let guard = size > 0 && needs_guard(absolute, first);
-    let lead = lead(absolute, guard);
-    let mut bytes = vec![in alloc; 0u8; lead.len() + size.saturating_sub(1)]?;
-    fill(left, lead, &mut bytes);
+    let path = MeasuredPath::of_segments(context, absolute, None, split_root(path).1);
+    let len = path.len();
+    let mut bytes = vec![in alloc; 0u8; len]?;
+    path.write_before(&mut bytes, len);
     Ok(bytes)
 }
 
-/// The text of the normalized path as a whole reference: its room is taken once.
-pub fn normalized_text<C: CharSet>(alloc: Global, path: &str) -> Result<String, Memory>
+/// The text of the normalized path in its context, with a flag of its own (RFC 3986 section 5.2.4):
+/// a text is read as absolute or relative, whatever it begins with, before its dots are removed.
+///
+/// After an authority `//b/.` becomes `//b/`, and `../b` that is to be absolute `/b`; standing
+/// alone, `a/../b:c` becomes `./b:c`. The room is taken once: an `Err` is that there is none.
+pub fn normalized_text<C: CharSet, A: Allocator>(
+    alloc: A,
+    context: PathContext,
+    absolute: bool,
+    path: &str,
+) -> Result<String<A>, Memory>
     requires { is_path C.tests path.now ≡ true }
-    ensures text { IfOk result (λ text. string_bytes text ≡ normalized_spelling path.now) }
+    ensures text { IfOk result (λ text.
+        string_bytes text ≡ spell_path (normal_in context absolute path.now)) }
     ensures value { IfOk result (λ text.
-        read_path (string_bytes text) ≡ normalized alone (read_path path.now)) }
-    ensures path { IfOk result (λ text. is_path C.tests (string_bytes text) ≡ true) }
+        read_path (string_bytes text) ≡ normal_in context absolute path.now) }
+    ensures reads { IfOk result (λ text. is_path_in C.tests context (string_bytes text) ≡ true) }
+    ensures after { IfOk result (λ text. is_path_after C.tests context (string_bytes text) ≡ true) }
 {
-    let bytes = normalized_bytes(alloc, path)?;
-    match String::from_utf8(bytes) {
-        Ok(text) => Ok(text),
-        Err(_) => unreachable!(),
-    }
+    let bytes = normalized_bytes(alloc, context, absolute, path)?;
+    // What spells a path is text, so no byte is read again.
+    let text = unsafe { String::from_utf8_unchecked(bytes) };
+    Ok(text)
 }

@@ -1,0 +1,144 @@
+-- The texts that the steps of a path leave.
+use Rattle.std.proofs.Common.{◌≡◌, ℕ, Bool, true, false, not, cond, ◌||◌, ◌&&◌, List, [], ◌∷◌, ◌++◌, length, take, refl, sym, ap, ◌∙◌, append_assoc, arith, get_or, length-append, inl, inr, IsUtf8}
+use mathlib.Core.Bool.{true≢false}
+use Rattle.std.specs.Prelude.{◌==◌, codes}
+use Rattle.std.specs.List.{join_with_byte}
+use Rattle.std.specs.Char.{char_set_contains}
+use Rattle.std.proofs.lemmas.List.{append-nil, take_all, take_at}
+use Rattle.std.proofs.Math.Seq.{get_or-append_seam}
+use Rattle.std.specs.Str.{IsCharBoundary}
+use Rattle.std.proofs.lemmas.Str.{IsCharBoundary-start, IsCharBoundary-before_ascii, IsCharBoundary-after_ascii}
+use Rattle.std.proofs.lemmas.Bool.Decides.{eqb_tells}
+use Rattle.iref_grammar.specs.declared.places.PathContext.{PathContext}
+use Rattle.iref_grammar.specs.Rules.{Text}
+use Rattle.iref_grammar.specs.Grammar.{slash, colon}
+use Rattle.iref_grammar.specs.Texts.{is_empty}
+use Rattle.iref_grammar.specs.PathValue.{PathValue, read_path, spell_path, segments_of}
+use Rattle.iref_grammar.proofs.PathLemmas.{read_path-reads}
+use Rattle.iref_model.specs.Guard.{guarded}
+use Rattle.iref_model.specs.PathSteps.{lazy_pushed, closed_path, cleared}
+use Rattle.iref_path_text.specs.StepTexts.{pushed_lead, first_needs_guard, root_len, close_after}
+
+at : (has_scheme has_authority absolute : Bool) (s : Text) → let context : PathContext = record { has_scheme = has_scheme; has_authority = has_authority } in let p : PathValue = record { absolute = absolute; segments = [] } in
+    pushed_lead context absolute s ++ s ≡ spell_path (lazy_pushed context s p)
+unfolding guarded lazy_pushed spell_path
+at true true true [] = refl
+at true true true (c ∷ s) = refl
+at true true false [] = refl
+at true true false (c ∷ s) = refl
+at true false true [] = refl
+at true false true (c ∷ s) = refl
+at true false false [] = refl
+at true false false (c ∷ s) = refl
+at false true true [] = refl
+at false true true (c ∷ s) = refl
+at false true false [] = refl
+at false true false (c ∷ s) = refl
+at false false true [] = refl
+at false false true (c ∷ s) = refl
+at false false false [] = refl
+at false false false (c ∷ s) = by (char_set_contains (c ∷ s) colon)
+  where
+    by : (b : Bool) → cond b (codes "./") [] ++ (c ∷ s) ≡ spell_path (cond (not b) (record { absolute = false; segments = (c ∷ s) ∷ [] }) (record { absolute = false; segments = codes "." ∷ (c ∷ s) ∷ [] }))
+    by true = refl
+    by false = refl
+
+-- the first segment
+pub first_pushed : (context : PathContext) (p : PathValue) (s : Text) → is_empty p.segments ≡ true → pushed_lead context p.absolute s ++ s ≡ spell_path (lazy_pushed context s p)
+first_pushed context p s h = by p.segments h
+  where
+    by : (segments : List Text) → is_empty segments ≡ true → pushed_lead context p.absolute s ++ s ≡ spell_path (lazy_pushed context s (record { absolute = p.absolute; segments = segments }))
+    by [] h = at context.has_scheme context.has_authority p.absolute s
+    by (t ∷ ts) h = absurd (true≢false (sym h))
+
+pub join-snoc : (t : Text) (ts : List Text) (s : Text) → join_with_byte slash (t ∷ ts) ++ (slash ∷ s) ≡ join_with_byte slash ((t ∷ ts) ++ s ∷ [])
+join-snoc t [] s = refl
+join-snoc t (u ∷ us) s = append_assoc t (slash ∷ join_with_byte slash (u ∷ us)) (slash ∷ s) ∙ ap (λ rest. t ++ slash ∷ rest) (join-snoc u us s)
+
+-- a further segment
+pub next_pushed : (context : PathContext) (p : PathValue) (s : Text) → is_empty p.segments ≡ false → spell_path p ++ (slash ∷ s) ≡ spell_path (lazy_pushed context s p)
+unfolding lazy_pushed spell_path
+next_pushed context p s h = by p.absolute p.segments h
+  where
+    by : (absolute : Bool) (segments : List Text) → is_empty segments ≡ false → spell_path (record { absolute = absolute; segments = segments }) ++ (slash ∷ s) ≡ spell_path (lazy_pushed context s (record { absolute = absolute; segments = segments }))
+    by absolute [] h = absurd (true≢false h)
+    by true (t ∷ ts) h = ap (λ rest. slash ∷ rest) (join-snoc t ts s)
+    by false (t ∷ ts) h = join-snoc t ts s
+
+-- ---- of a text
+
+pub first_text : (context : PathContext) (path lead s : Text) → is_empty (read_path path).segments ≡ true → lead ≡ pushed_lead context (read_path path).absolute s
+    → take 0 path ++ (lead ++ s ++ []) ≡ spell_path (lazy_pushed context s (read_path path))
+first_text context path lead s h e = append-nil (lead ++ s) ∙ ap (λ t. t ++ s) e ∙ first_pushed context (read_path path) s h
+
+pub next_text : (context : PathContext) (path s : Text) (n : ℕ) → n ≡ length path → is_empty (read_path path).segments ≡ false
+    → take n path ++ ((slash ∷ []) ++ s ++ []) ≡ spell_path (lazy_pushed context s (read_path path))
+next_text context path s n size h =
+    (λ i. take_all n path (omega (arith, size)) i ++ (slash ∷ append-nil s i)) ∙ ap (λ t. t ++ (slash ∷ s)) (sym (read_path-reads path).spelled) ∙ next_pushed context (read_path path) s h
+
+-- a colon alone decides where no mark stands before
+pub guard_by_colon : (context : PathContext) (rooted : Bool) (s : Text) (has : Bool) → false ≡ (length s == 0) → (rooted || context.has_scheme) ≡ false → has ≡ char_set_contains s colon → has ≡ first_needs_guard context rooted s
+guard_by_colon context rooted [] has h e k = absurd (true≢false (sym h))
+guard_by_colon context rooted (c ∷ s) has h e k = k ∙ (λ i. not (sym e i) && char_set_contains (c ∷ s) colon)
+
+-- ---- a beginning of a text
+
+-- the text up to here
+pub record IsCut (path kept : Text) (n : ℕ) : Type 0 where
+  pub taken : take n path ≡ kept
+  pub place : IsCharBoundary path n
+
+pub cut_at_slash : (path front back : Text) (n : ℕ) → path ≡ front ++ slash ∷ back → length front ≡ n → IsCut path front n
+cut_at_slash path front back n e size =
+    let whole = ap length e ∙ length-append front (slash ∷ back) in
+    record {
+      taken = ap (take n) e ∙ take_at front (slash ∷ back) n size;
+      place = IsCharBoundary-before_ascii path n (omega (arith, size, whole))
+          (let here : get_or path n 0 ≡ slash = (λ i. get_or (e i) (sym size i) 0) ∙ get_or-append_seam front slash back 0 in omega (arith, here));
+    }
+
+pub root_of_path : (path : Text) (absolute : Bool) → (read_path path).absolute ≡ absolute → (rest : Text) × (path ≡ cond absolute (slash ∷ []) [] ++ rest)
+unfolding read_path
+root_of_path path false e = (path, refl)
+root_of_path [] true e = absurd (true≢false (sym e))
+root_of_path (c ∷ cs) true e = elim (eqb_tells c slash) [
+  | inl k ↦ (cs, λ i. k.1 i ∷ cs)
+  | inr k ↦ absurd (true≢false (sym e ∙ (λ i. (cond {A = PathValue} (k.0 i) (record { absolute = true; segments = segments_of cs }) (record { absolute = false; segments = segments_of (c ∷ cs) })).absolute)))
+]
+
+-- its root, without its segments
+pub cut_at_root : (path : Text) (absolute : Bool) → IsUtf8 path → (read_path path).absolute ≡ absolute → IsCut path (cond absolute (slash ∷ []) []) (root_len absolute)
+cut_at_root path false utf8 e = record { taken = refl; place = IsCharBoundary-start path utf8 }
+cut_at_root path true utf8 e =
+    let root = root_of_path path true e in
+    let whole = ap length root.1 in
+    record {
+      taken = ap (take 1) root.1;
+      place = IsCharBoundary-after_ascii path 0 utf8 (omega (arith, whole)) (let here : get_or path 0 0 ≡ slash = λ i. get_or (root.1 i) 0 0 in omega (arith, here));
+    }
+
+pub root_spelled : (absolute : Bool) → cond absolute (slash ∷ []) [] ≡ spell_path (record { absolute = absolute; segments = [] })
+unfolding spell_path
+root_spelled true = refl
+root_spelled false = refl
+
+-- ---- the other short steps
+
+pub cleared_text : (path : Text) (absolute : Bool) (n : ℕ) → n ≡ root_len absolute → IsCut path (cond absolute (slash ∷ []) []) (root_len absolute) → (read_path path).absolute ≡ absolute
+    → take n path ++ ([] ++ [] ++ []) ≡ spell_path (cleared (read_path path))
+cleared_text path absolute n size cut e =
+    append-nil (take n path) ∙ (λ i. take (size i) path) ∙ cut.taken ∙ root_spelled absolute ∙ (λ i. spell_path (record { absolute = sym e i; segments = [] }))
+
+-- nothing changes
+pub same_text : (path : Text) (n : ℕ) → n ≡ length path → take n path ++ ([] ++ [] ++ []) ≡ spell_path (read_path path)
+same_text path n size = append-nil (take n path) ∙ take_all n path (omega (arith, size)) ∙ sym (read_path-reads path).spelled
+
+closed_of : (context : PathContext) (p : PathValue) (empty : Bool) → is_empty p.segments ≡ empty → closed_path context p ≡ cond empty p (lazy_pushed context [] p)
+closed_of context p empty e = λ i. cond (e i) p (lazy_pushed context [] p)
+
+pub closed_text : (context : PathContext) (path close : Text) (n : ℕ) (empty : Bool) → n ≡ length path → is_empty (read_path path).segments ≡ empty → close ≡ close_after empty
+    → take n path ++ ([] ++ [] ++ close) ≡ spell_path (closed_path context (read_path path))
+closed_text context path close n true size e k =
+    ap (λ t. take n path ++ t) k ∙ same_text path n size ∙ ap spell_path (sym (closed_of context (read_path path) true e))
+closed_text context path close n false size e k =
+    ap (λ t. take n path ++ t) k ∙ next_text context path [] n size e ∙ ap spell_path (sym (closed_of context (read_path path) false e))

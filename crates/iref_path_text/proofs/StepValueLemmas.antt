@@ -1,0 +1,133 @@
+-- The steps of a path keep what the text of a path has.
+use Rattle.std.proofs.Common.{◌≡◌, Bool, true, false, not, cond, ◌&&◌, ◌||◌, List, [], ◌∷◌, refl, ◌∙◌, ap}
+use Rattle.std.proofs.lemmas.Bool.{and_from, and_parts}
+use Rattle.std.specs.Prelude.{codes}
+use Rattle.std.specs.List.{list_all}
+use Rattle.iref_grammar.specs.declared.places.PathContext.{PathContext}
+use Rattle.iref_grammar.specs.Characters.{CharTests, AreAboveAscii}
+use Rattle.iref_grammar.specs.Rules.{Text}
+use Rattle.iref_grammar.specs.Grammar.{slash}
+use Rattle.iref_grammar.specs.Texts.{is_empty, all_but_last}
+use Rattle.iref_grammar.specs.Tests.{is_segment, is_path}
+use Rattle.iref_grammar.specs.PathValue.{PathValue, read_path, spell_path, shows_its_list}
+use Rattle.iref_grammar.specs.Contexts.{fits, follows_authority, reads_as_path, is_no_authority, is_no_scheme, is_readable_path}
+use Rattle.iref_grammar.proofs.TextLemmas.{first_of_both, second_of_both}
+use Rattle.iref_grammar.proofs.ComponentLackLemmas.{slash_cuts, segments_lack}
+use Rattle.iref_grammar.proofs.PathLemmas.{read-spelled, read_path-reads}
+use Rattle.iref_grammar.proofs.PathTestLemmas.{is_path-segments}
+use Rattle.iref_model.specs.Guard.{guarded}
+use Rattle.iref_model.specs.NormalList.{is_dot, is_dot_dot, is_name}
+use Rattle.iref_model.specs.PathSteps.{lazy_pushed, ends_in_parent, popped, closed_path, followed, pushed, cleared}
+use Rattle.iref_model.proofs.GuardLemmas.{guarded-fits, guarded_list-shows}
+use Rattle.iref_model.proofs.FitsLemmas.{is_empty-snoc, lazy_pushed-fits, popped-fits, closed_path-fits, followed-fits, pushed-fits, cleared-fits}
+use Rattle.iref_model.proofs.PathGrammarLemmas.{segments_of_path}
+use Rattle.iref_model.proofs.ReadableStepLemmas.{is_segment-dots}
+use Rattle.iref_model.proofs.StepSegmentLemmas.{guarded-in, lazy_pushed-in, popped-in, closed_path-in, followed-in, pushed-in}
+use Rattle.iref_path_text.specs.PathParts.{is_path_after, StepsTo}
+
+-- what a step keeps
+pub record IsStep (set : CharTests) (context : PathContext) (p value : PathValue) : Type 0 where
+  pub segments : list_all (is_segment set) p.segments ≡ true → list_all (is_segment set) value.segments ≡ true
+  pub shown : shows_its_list p ≡ true → shows_its_list value ≡ true
+  pub fit : fits context p ≡ true → fits context value ≡ true
+
+pub fit-shows : (context : PathContext) (p : PathValue) → fits context p ≡ true → shows_its_list p ≡ true
+fit-shows context p h =
+    first_of_both (shows_its_list p) (is_no_authority context p)
+    (first_of_both (shows_its_list p && is_no_authority context p) (is_no_scheme context p) (second_of_both (follows_authority context p) (reads_as_path context p) h))
+
+-- after an authority a list that shows fits as soon as it follows
+follows-step : (has_scheme has_authority : Bool) (p value : PathValue) → let context : PathContext = record { has_scheme = has_scheme; has_authority = has_authority } in
+    (fits context p ≡ true → fits context value ≡ true) → shows_its_list p ≡ true → follows_authority context p ≡ true → follows_authority context value ≡ true
+follows-step has_scheme false p value fit shown h = refl
+follows-step true true p value fit shown h =
+    first_of_both _ (reads_as_path (record { has_scheme = true; has_authority = true }) value) (fit (and_from _ _ h (and_from _ _ (and_from _ _ shown refl) refl)))
+follows-step false true p value fit shown h =
+    first_of_both _ (reads_as_path (record { has_scheme = false; has_authority = true }) value) (fit (and_from _ _ h (and_from _ _ (and_from _ _ shown refl) refl)))
+
+module _ (set : CharTests) (above : AreAboveAscii set) (context : PathContext) where
+  abbrev are_segments : PathValue → Bool
+  are_segments p = list_all (is_segment set) p.segments
+
+  -- the text that spells a step
+  pub steps_to : (old new : Text) (value : PathValue) → IsStep set context (read_path old) value → is_path_after set context old ≡ true → new ≡ spell_path value → StepsTo set context old new value
+  steps_to old new value step h e =
+      let p = read_path old in
+      let parts = and_parts (is_path set old) (follows_authority context p) h in
+      let segments = step.segments (segments_of_path set above old p refl parts.0) in
+      let shown = (read_path-reads old).shown in
+      let read : read_path new ≡ value =
+      ap read_path e ∙ read-spelled value.absolute value.segments (segments_lack set above slash slash_cuts refl value.segments segments) (step.shown shown) in
+      record {
+        spelled = e;
+        read = read;
+        path = and_from _ _ (is_path-segments set above new ∙ ap are_segments read ∙ segments)
+            (ap (follows_authority context) read ∙ follows-step context.has_scheme context.has_authority p value step.fit shown parts.1);
+        reads = λ k. ap (is_readable_path set context) read ∙ and_from _ _ segments (step.fit (and_parts (are_segments p) (fits context p) k).1);
+      }
+
+-- ---- each step
+
+shown-cond : (b : Bool) (p q : PathValue) → shows_its_list p ≡ true → shows_its_list q ≡ true → shows_its_list (cond b p q) ≡ true
+shown-cond true p q h k = h
+shown-cond false p q h k = k
+
+lazy_pushed_on : (context : PathContext) (s : Text) (absolute : Bool) (segments : List Text) → let p : PathValue = record { absolute = absolute; segments = segments } in
+    shows_its_list p ≡ true → shows_its_list (lazy_pushed context s p) ≡ true
+unfolding lazy_pushed
+lazy_pushed_on context s absolute [] h =
+    let first : PathValue = record { absolute = absolute || context.has_authority; segments = s ∷ [] } in
+    fit-shows context (guarded context first) (guarded-fits context first)
+lazy_pushed_on context s true ([] ∷ ts) h = ap not (is_empty-snoc ts s)
+lazy_pushed_on context s true ((c ∷ t) ∷ ts) h = refl
+lazy_pushed_on context s false (t ∷ ts) h = h
+
+lazy_pushed-shown : (context : PathContext) (s : Text) (p : PathValue) → shows_its_list p ≡ true → shows_its_list (lazy_pushed context s p) ≡ true
+lazy_pushed-shown context s p h = lazy_pushed_on context s p.absolute p.segments h
+
+popped-shown : (context : PathContext) (p : PathValue) → shows_its_list p ≡ true → shows_its_list (popped context p) ≡ true
+unfolding popped
+popped-shown context p h =
+    shown-cond (ends_in_parent p.segments || is_empty p.segments && not p.absolute) _ _ (lazy_pushed-shown context (codes "..") p h)
+    (shown-cond (is_empty p.segments) _ _ h (guarded_list-shows (record { absolute = p.absolute; segments = all_but_last p.segments })))
+
+closed-shown : (context : PathContext) (p : PathValue) → shows_its_list p ≡ true → shows_its_list (closed_path context p) ≡ true
+closed-shown context p h = shown-cond (is_empty p.segments) _ _ h (lazy_pushed-shown context [] p h)
+
+followed-shown : (context : PathContext) (s : Text) (p : PathValue) → shows_its_list p ≡ true → shows_its_list (followed context p s) ≡ true
+followed-shown context s p h = shown-cond (is_dot s) _ _ h (shown-cond (is_dot_dot s) _ _ (popped-shown context p h) (lazy_pushed-shown context s p h))
+
+pushed-shown : (context : PathContext) (s : Text) (p : PathValue) → shows_its_list p ≡ true → shows_its_list (pushed context s p) ≡ true
+unfolding pushed
+pushed-shown context s p h =
+    shown-cond (is_name s) _ _ (lazy_pushed-shown context s p h) (closed-shown context (followed context p s) (followed-shown context s p h))
+
+cleared-shown : (absolute : Bool) → shows_its_list (record { absolute = absolute; segments = [] }) ≡ true
+cleared-shown true = refl
+cleared-shown false = refl
+
+module _ (set : CharTests) (context : PathContext) (p : PathValue) where
+  pub lazy_pushed-step : (s : Text) → is_segment set s ≡ true → IsStep set context p (lazy_pushed context s p)
+  lazy_pushed-step s k =
+      record { segments = lazy_pushed-in (is_segment set) (is_segment-dots set) context s p k; shown = lazy_pushed-shown context s p; fit = lazy_pushed-fits context s p }
+
+  pub popped-step : IsStep set context p (popped context p)
+  popped-step = record { segments = popped-in (is_segment set) (is_segment-dots set) context p; shown = popped-shown context p; fit = popped-fits context p }
+
+  pub closed-step : IsStep set context p (closed_path context p)
+  closed-step = record { segments = closed_path-in (is_segment set) (is_segment-dots set) context p; shown = closed-shown context p; fit = closed_path-fits context p }
+
+  pub followed-step : (s : Text) → is_segment set s ≡ true → IsStep set context p (followed context p s)
+  followed-step s k =
+      record { segments = followed-in (is_segment set) (is_segment-dots set) context p s k; shown = followed-shown context s p; fit = followed-fits context p s }
+
+  pub pushed-step : (s : Text) → is_segment set s ≡ true → IsStep set context p (pushed context s p)
+  pushed-step s k =
+      record { segments = pushed-in (is_segment set) (is_segment-dots set) context s p k; shown = pushed-shown context s p; fit = pushed-fits context s p }
+
+  pub cleared-step : IsStep set context p (cleared p)
+  cleared-step = record { segments = λ h. refl; shown = λ h. cleared-shown p.absolute; fit = λ h. cleared-fits context p }
+
+  pub replaced-step : (new : PathValue) → list_all (is_segment set) new.segments ≡ true → IsStep set context p (guarded context new)
+  replaced-step new k =
+      record { segments = λ h. guarded-in (is_segment set) (is_segment-dots set) context new k; shown = λ h. fit-shows context (guarded context new) (guarded-fits context new); fit = λ h. guarded-fits context new }

@@ -1,0 +1,34 @@
+-- The text of a path that is edited in place, and what a step leaves of it.
+use Rattle.std.specs.Prelude.{◌≡◌, Bool, true, ◌&&◌, ◌++◌, take}
+use Rattle.std.specs.Str.{IsUtf8}
+use Rattle.std.proofs.lemmas.Bool.{and_parts}
+use Rattle.std.proofs.lemmas.Str.{IsUtf8-from_is_utf8}
+use Rattle.iref_grammar.specs.declared.places.PathContext.{PathContext}
+use Rattle.iref_grammar.specs.Characters.{CharTests, AreAboveAscii}
+use Rattle.iref_grammar.specs.Rules.{Text}
+use Rattle.iref_grammar.specs.Tests.{is_path}
+use Rattle.iref_grammar.specs.Contexts.{follows_authority, is_path_in}
+use Rattle.iref_grammar.specs.PathValue.{PathValue, read_path, spell_path}
+use Rattle.iref_path_text.specs.declared.steps.Step.{Step}
+
+-- a path, which after an authority is absolute or empty
+abbrev pub is_path_after : CharTests → PathContext → Text → Bool
+is_path_after set context text = is_path set text && follows_authority context (read_path text)
+
+-- the text after a step: a beginning of the old text, and three pieces
+abbrev pub step_text : Text → Step → Text
+step_text text step = take step.keep text ++ (step.lead.now ++ step.middle.now ++ step.close.now)
+
+-- the new text spells this path and is read as it; it may stand where the old one stood, and is read there as a path
+-- where the old one was
+pub record StepsTo (set : CharTests) (context : PathContext) (old new : Text) (value : PathValue) : Type 0 where
+  pub spelled : new ≡ spell_path value
+  pub read : read_path new ≡ value
+  pub path : is_path_after set context new ≡ true
+  pub reads : is_path_in set context old ≡ true → is_path_in set context new ≡ true
+
+-- such a path is text
+pub path_is_text : (set : CharTests) → AreAboveAscii set → (context : PathContext) (text : Text) → is_path_after set context text ≡ true → IsUtf8 text
+unfolding is_path
+path_is_text set above context text h =
+    IsUtf8-from_is_utf8 text (and_parts _ _ (and_parts _ (follows_authority context (read_path text)) h).0).0

@@ -1,0 +1,31 @@
+-- What the steps of a path write.
+use Rattle.std.specs.Prelude.{ℕ, Bool, not, ◌&&◌, ◌||◌, [], codes, if◌then◌else◌}
+use Rattle.std.specs.Char.{char_set_contains}
+use Rattle.iref_grammar.specs.declared.places.PathContext.{PathContext}
+use Rattle.iref_grammar.specs.Rules.{Text}
+use Rattle.iref_grammar.specs.Grammar.{colon}
+use Rattle.iref_grammar.specs.Texts.{is_empty}
+use Rattle.iref_path_text.specs.Spelling.{lead}
+
+-- how many bytes the root takes
+abbrev pub root_len : Bool → ℕ
+root_len absolute = if absolute then 1 else 0
+
+-- what closes a list
+abbrev pub close_after : Bool → Text
+close_after is_empty = if is_empty then [] else codes "/"
+
+-- what follows segments that stay, where they are one empty segment
+abbrev pub list_guard : Text → Text
+list_guard segments = if is_empty segments then codes "./" else []
+
+-- a first segment that would be read as something else
+abbrev pub first_needs_guard : PathContext → Bool → Text → Bool
+first_needs_guard context rooted s =
+    is_empty s || not (rooted || context.has_scheme) && char_set_contains s colon
+
+-- before a first segment that is pushed
+abbrev pub pushed_lead : PathContext → Bool → Text → Text
+pushed_lead context absolute s =
+    let rooted = absolute || context.has_authority in
+    lead rooted (first_needs_guard context rooted s)

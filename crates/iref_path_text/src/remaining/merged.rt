@@ -1,0 +1,134 @@
+//! What is left of the normal list of two texts that are read as one, from the back (RFC 3986
+//! sections 5.2.3 and 5.2.4).
+
+ghost use Rattle.iref_grammar.specs.Texts.{is_empty};
+ghost use Rattle.iref_model.specs.NormalList as list;
+ghost use Rattle.iref_model.specs.NormalList.{normal_segments};
+ghost use Rattle.iref_model.specs.NormalReading.{open_before, staying_before};
+ghost use Rattle.iref_path_text.specs.Merged.{IsMergeSound, merged_left, merged_list, merged_names};
+ghost use Rattle.iref_path_text.specs.Merged.{merged_path, open_before_both, to_read_of_both};
+ghost use Rattle.iref_path_text.specs.Pieces.{text_at};
+ghost use Rattle.iref_path_text.specs.Remaining.{KeepsEnds, first_or};
+ghost use Rattle.std.specs.Iterator.{YieldsLastBy};
+ghost use Rattle.std.specs.Prelude.{◌≡◌, ◌+◌, ◌<◌, ◌≤◌, ◌^◌, [], length, IfNone, IfSome};
+
+use super::{Remaining, closing_count, ends_in_dots, is_one_empty, leading_parents};
+
+/// The items that are left of a list whose segments stand in two texts.
+#[derive(Clone, Copy)]
+pub struct Merged<'a> {
+    // The text of the segments in front, until those behind have been read.
+    front: Option<&'a str>,
+    back: Remaining<'a>,
+}
+
+/// How many `..` stand first in a relative list, how many names stay, and the first of these, or
+/// nothing.
+fn survey<'a>(front: Option<&'a str>, back: Option<&'a str>) -> (usize, usize, &'a str)
+    requires { length (merged_list front back) < 2 ^ 64 }
+    ensures parents { result.0 ≡ open_before (merged_list front.entry back.entry) 0 }
+    ensures names { result.1 ≡ length (staying_before (merged_list front.entry back.entry) 0) }
+    ensures first { result.2.now
+        ≡ first_or [] (staying_before (merged_list front.entry back.entry) 0) }
+    ensures fewer { result.0 + result.1 ≤ length (merged_list front.entry back.entry) }
+{
+    let mut left = Merged {
+        front,
+        back: Remaining::all(0, back, false),
+    };
+    let mut names: usize = 0;
+    let mut first = "";
+    while let Some(name) = left.next_back_name() {
+        names += 1;
+        first = name;
+    }
+    (left.back.open_parents, names, first)
+}
+
+/// Whether the last segment is `.` or `..`.
+fn both_end_in_dots(front: Option<&str>, back: Option<&str>) -> bool
+    ensures { result ≡ list.ends_in_dots (merged_list front.entry back.entry) }
+{
+    if back.is_some() {
+        ends_in_dots(back)
+    } else {
+        ends_in_dots(front)
+    }
+}
+
+impl<'a> Merged<'a> {
+    /// All items of the path of these segments. Only a relative list keeps the `..` that nothing
+    /// cancels.
+    pub fn new(absolute: bool, front: Option<&'a str>, back: Option<&'a str>) -> Self
+        requires { length (merged_list front back) + 1 < 2 ^ 64 }
+        ensures items { merged_left result
+            ≡ normal_segments (merged_path absolute front.entry back.entry) }
+        ensures sound { IsMergeSound result }
+    {
+        let (open_parents, names, first) = survey(front, back);
+        let parents = leading_parents(absolute, open_parents);
+        let closes = both_end_in_dots(front, back);
+        if is_one_empty(parents, names, first, closes) {
+            return Merged::none();
+        }
+        Merged {
+            front,
+            back: Remaining::all(parents, back, closes),
+        }
+    }
+
+    /// No items.
+    #[tactic(auto, unfolding(crate::specs::Merged::merged_left))]
+    pub fn none() -> Self
+        ensures items { merged_left result ≡ [] }
+        ensures sound { IsMergeSound result }
+    {
+        Merged {
+            front: None,
+            back: Remaining::all(0, None, false),
+        }
+    }
+
+    /// The last item that is left.
+    #[tactic(auto, unfolding(crate::specs::Merged::merged_left))]
+    pub fn next_back(&mut self) -> Option<&'a str>
+        requires { IsMergeSound self.old }
+        ensures item { YieldsLastBy text_at merged_left self.old result self.new }
+        ensures sound { IsMergeSound self.new }
+    {
+        if self.back.closes {
+            self.back.closes = false;
+            return Some("");
+        }
+        if let Some(name) = self.next_back_name() {
+            return Some(name);
+        }
+        if self.back.parents > 0 {
+            self.back.parents -= 1;
+            return Some("..");
+        }
+        None
+    }
+
+    // The last name that stays. The `..` that are open before the segments behind take names of
+    // those in front.
+    fn next_back_name(&mut self) -> Option<&'a str>
+        requires { IsMergeSound self.old }
+        ensures name { YieldsLastBy text_at merged_names self.old result self.new }
+        ensures start { open_before_both self.new ≡ open_before_both self.old }
+        ensures ends { KeepsEnds self.old.back self.new.back }
+        ensures sound { IsMergeSound self.new }
+        ensures done { IfNone result (merged_list self.new.front self.new.back.rest ≡ []) }
+        ensures no_more { to_read_of_both self.new ≤ to_read_of_both self.old }
+        ensures fewer { IfSome result (λ name.
+            to_read_of_both self.new < to_read_of_both self.old) }
+    {
+        if let Some(name) = self.back.next_back_name() {
+            return Some(name);
+        }
+        self.back.rest = self.front;
+        self.back.settled = false;
+        self.front = None;
+        self.back.next_back_name()
+    }
+}
