@@ -1,12 +1,8 @@
 //! Borrowed authorities (RFC 3986 section 3.2).
 ghost use Rattle.std.specs.Prelude.{◌≡◌, true, [], Some, IfOk, option_map};
-ghost use Rattle.iref_grammar.specs.Rules.{InUtf8};
-ghost use Rattle.iref_grammar.specs.Grammar.{IsAuthority};
-ghost use Rattle.iref_grammar.specs.Authority.{is_authority, read_authority};
-ghost use Rattle.iref_grammar.specs.Keys.{ComparesBy};
-ghost use Rattle.iref_model.specs.AuthorityKey.{authority_key_cmp, fed_authority};
-ghost use Rattle.iref_component.specs.Makers.{Parses};
-ghost use Rattle.iref_component.specs.Components.{view_text};
+ghost use Rattle.iref_component.specs.{InUtf8, IsAuthority, is_authority, read_authority};
+ghost use Rattle.iref_component.specs.{ComparesBy, authority_key_cmp, fed_authority, Parses};
+ghost use Rattle.iref_component.specs.{view_text};
 ghost use Rattle.iref_authority.specs.Authorities.{authority_text, authority_buf_text};
 ghost use Rattle.iref_authority.specs.Authorities.{key_of_authority, key_of_authority_buf};
 ghost use Rattle.iref_authority.specs.AuthorityParts.{parts_value};
@@ -36,8 +32,7 @@ impl<'a, C: CharSet> Authority<'a, C> {
         ensures { Parses (InUtf8 (IsAuthority C.tests)) text.now authority_text
             (λ error. error.0 ≡ text.entry) result }
     {
-        let text = View::new(text)?;
-        Ok(Authority { text })
+        View::new(text).map(|text| Authority { text })
     }
 
     /// The authority of these bytes of UTF-8, or the bytes.
@@ -45,8 +40,7 @@ impl<'a, C: CharSet> Authority<'a, C> {
         ensures { Parses (InUtf8 (IsAuthority C.tests)) bytes.now authority_text
             (λ error. error.0 ≡ bytes.entry) result }
     {
-        let text = View::from_bytes(bytes)?;
-        Ok(Authority { text })
+        View::from_bytes(bytes).map(|text| Authority { text })
     }
 
     /// The authority of a text that is known to be one.
@@ -62,9 +56,8 @@ impl<'a, C: CharSet> Authority<'a, C> {
     pub fn empty() -> Self
         ensures { authority_text result ≡ [] }
     {
-        Authority {
-            text: View::empty(),
-        }
+        let text = View::empty();
+        Authority { text }
     }
 
     /// The text.

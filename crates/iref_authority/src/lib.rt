@@ -2,6 +2,10 @@
 #![tactic(auto)]
 
 pub mod authority;
+pub mod authority_mut;
 pub mod owner;
+mod owner_edits;
+pub mod part;
 pub mod parts;
+mod ranges;
 pub mod rule;

@@ -1,13 +1,10 @@
 //! Authorities that own their text (RFC 3986 section 3.2).
 ghost use Rattle.std.specs.String.{string_bytes};
-ghost use Rattle.iref_component.specs.Components.{view_text};
-ghost use Rattle.iref_authority.specs.Authorities.{authority_text, authority_buf_text};
 ghost use Rattle.std.specs.Prelude.{◌≡◌, true, [], Some, option_map};
-ghost use Rattle.iref_grammar.specs.Authority.{is_authority, read_authority};
-ghost use Rattle.iref_grammar.specs.Grammar.{IsAuthority};
+ghost use Rattle.iref_component.specs.{view_text, is_authority, read_authority, IsAuthority};
+ghost use Rattle.iref_component.specs.{InUtf8, Parses};
+ghost use Rattle.iref_authority.specs.Authorities.{authority_text, authority_buf_text};
 ghost use Rattle.iref_authority.specs.AuthorityParts.{parts_value};
-ghost use Rattle.iref_grammar.specs.Rules.{InUtf8};
-ghost use Rattle.iref_component.specs.Makers.{Parses};
 
 use crate::authority::Authority;
 use crate::parts::AuthorityParts;
@@ -33,8 +30,7 @@ impl<C: CharSet> AuthorityBuf<C> {
         ensures { Parses (InUtf8 (IsAuthority C.tests)) (string_bytes text) authority_buf_text
             (λ error. error.0 ≡ text) result }
     {
-        let text = TextBuf::new(text)?;
-        Ok(AuthorityBuf { text })
+        TextBuf::new(text).map(|text| AuthorityBuf { text })
     }
 
     /// The authority of these bytes of UTF-8, with no copy, or the bytes.
@@ -42,8 +38,7 @@ impl<C: CharSet> AuthorityBuf<C> {
         ensures { Parses (InUtf8 (IsAuthority C.tests)) bytes.items authority_buf_text
             (λ error. error.0 ≡ bytes) result }
     {
-        let text = TextBuf::from_bytes(bytes)?;
-        Ok(AuthorityBuf { text })
+        TextBuf::from_bytes(bytes).map(|text| AuthorityBuf { text })
     }
 
     /// The empty authority, which takes no memory.

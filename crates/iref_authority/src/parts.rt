@@ -1,14 +1,11 @@
 //! The parts of an authority (RFC 3986 section 3.2).
-ghost use Rattle.std.specs.Prelude.{◌≡◌, true, option_map};
-ghost use Rattle.std.specs.Option.{option_copied};
-ghost use Rattle.iref_grammar.specs.Authority.{is_authority, read_authority};
-ghost use Rattle.iref_grammar.specs.Keys.{ComparesBy};
-ghost use Rattle.iref_grammar.specs.Tests.{is_user_info, is_port, none_or};
-ghost use Rattle.iref_component.specs.Components.{view_text};
-ghost use Rattle.iref_model.specs.AuthorityKey.{authority_key_cmp, fed_authority};
+ghost use Rattle.std.specs.Prelude.{◌≡◌, true};
+ghost use Rattle.iref_component.specs.{is_authority, read_authority, ComparesBy, authority_key_cmp};
+ghost use Rattle.iref_component.specs.{fed_authority};
 ghost use Rattle.iref_authority.specs.AuthorityParts.{parts_value, parts_key};
 
 use iref_component::texts::{Host, Port, UserInfo};
+use iref_component::view::view_of;
 use iref_grammar::chars::CharSet;
 use iref_parse::authority::split_authority;
 use std::hash::Hash;
@@ -32,31 +29,9 @@ pub fn parts_of<C: CharSet>(text: &str) -> AuthorityParts<'_, C>
 {
     let slices = split_authority(text);
     AuthorityParts {
-        user_info: user_info_of(slices.user_info),
+        user_info: view_of(slices.user_info),
         host: Host::new_unchecked(slices.host),
-        port: port_of(slices.port),
-    }
-}
-
-// The user info, where there is one.
-fn user_info_of<C: CharSet>(text: Option<&str>) -> Option<UserInfo<'_, C>>
-    requires { none_or (is_user_info C.tests) (option_copied text) ≡ true }
-    ensures { option_map view_text result ≡ option_copied text.entry }
-{
-    match text {
-        Some(text) => Some(UserInfo::new_unchecked(text)),
-        None => None,
-    }
-}
-
-// The port, where there is one.
-fn port_of(text: Option<&str>) -> Option<Port<'_>>
-    requires { none_or is_port (option_copied text) ≡ true }
-    ensures { option_map view_text result ≡ option_copied text.entry }
-{
-    match text {
-        Some(text) => Some(Port::new_unchecked(text)),
-        None => None,
+        port: view_of(slices.port),
     }
 }
 

@@ -73,10 +73,6 @@ impl Key for PartsKey {
         parts_of::<C>(a).cmp(&parts_of::<C>(b))
     }
 
-    fn is_equal<C: CharSet>(a: &str, b: &str) -> bool {
-        Self::compare::<C>(a, b).is_eq()
-    }
-
     fn feed<C: CharSet, H: Hasher>(text: &str, state: &mut H) {
         parts_of::<C>(text).hash(state);
     }

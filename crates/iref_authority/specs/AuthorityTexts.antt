@@ -1,0 +1,41 @@
+-- The text of an authority that is edited in place.
+use Rattle.std.specs.Prelude.{ℕ, ◌≡◌, ◌+◌, ◌≤◌, true, Option, Some, None, length}
+use Rattle.std.specs.Str.{IsCharBoundary, IsUtf8}
+use Rattle.std.specs.declared.ops.Range.{Range}
+use Rattle.std.proofs.Props.{props}
+use Rattle.iref_grammar.specs.Characters.{CharTests, AreAboveAscii}
+use Rattle.iref_grammar.specs.Rules.{Text}
+use Rattle.iref_grammar.specs.Authority.{AuthorityValue, spell_authority, read_authority, is_authority}
+use Rattle.iref_grammar.proofs.AuthorityRuleLemmas.{Decides-is_authority}
+
+-- the range lies in the text, and begins and ends between characters
+pub record IsWithin (text : Text) (range : Range ℕ) : Type 0 where
+  pub start_le_end : range.start ≤ range.end
+  pub start : IsCharBoundary text range.start
+  pub end : IsCharBoundary text range.end
+
+-- how many bytes a part and its mark have, where there is one
+abbrev pub marked_length : Option Text → ℕ
+marked_length None = 0
+marked_length (Some part) = length part + 1
+
+-- the text spells this authority, is in the rule, and is read as it
+pub record SpellsAuthority (set : CharTests) (text : Text) (value : AuthorityValue) : Type 0 where
+  pub spelled : text ≡ spell_authority value
+  pub in_rule : is_authority set text ≡ true
+  pub read : read_authority text ≡ value
+
+-- the range is all of the text
+abbrev pub IsWhole : Text → ℕ → ℕ → Type 0
+IsWhole text start end = (start ≡ 0) × (end ≡ length text)
+
+pub one_whole : (text : Text) (start end : ℕ) → IsProp (IsWhole text start end)
+one_whole text start end = hlevel props
+
+-- the text is edited by a step: it spells the step of what the old text is read as, and is read as that
+abbrev pub IsStep : (AuthorityValue → AuthorityValue) → Text → Text → Type 0
+IsStep step old new = (new ≡ spell_authority (step (read_authority old))) × (read_authority new ≡ step (read_authority old))
+
+-- an authority is text
+pub authority_is_text : (set : CharTests) → AreAboveAscii set → (text : Text) → is_authority set text ≡ true → IsUtf8 text
+authority_is_text set above text h = let z = (Decides-is_authority set above text).0 h in (z.0, (z.1, z.2))

@@ -1,0 +1,273 @@
+//! Edits of an authority in place (RFC 3986 section 3.2).
+ghost use Rattle.std.specs.Prelude.{◌≡◌, ◌≤◌, ◌+◌, ◌-◌, ◌++◌, true, length, slice_range, vec_len};
+ghost use Rattle.std.specs.Prelude.{Some, OnOk, OnErr, IfOk, IsOk, IsNone, option_map};
+ghost use Rattle.std.specs.Borrow.{sem, RestsIfErr};
+ghost use Rattle.std.specs.Option.{option_copied};
+ghost use Rattle.iref_edit.specs.Edited.{spliced};
+ghost use Rattle.iref_grammar.specs.Rules.{InUtf8};
+ghost use Rattle.iref_grammar.specs.Grammar.{IsAuthority};
+ghost use Rattle.iref_grammar.specs.Tests.{is_user_info, is_port, none_or};
+ghost use Rattle.iref_grammar.specs.Authority.{AuthorityValue, is_authority, read_authority};
+ghost use Rattle.iref_model.specs.AuthoritySteps.{with_user_info, with_host, with_port};
+ghost use Rattle.iref_model.specs.PortNumbers.{port_text};
+ghost use Rattle.iref_component.specs.Components.{view_text};
+ghost use Rattle.iref_component.specs.Makers.{Parses};
+ghost use Rattle.iref_authority.specs.Authorities.{authority_text};
+ghost use Rattle.iref_authority.specs.AuthorityTexts.{IsWithin, SpellsAuthority};
+
+mod tried;
+
+use crate::authority::Authority;
+use crate::part::AuthorityPart;
+use crate::ranges::{host_range, port_range, user_info_range, whole_range};
+use iref_component::texts::{Host, Port, UserInfo};
+use iref_edit::target::Target;
+use iref_edit::text::{marked, marked_after};
+use iref_error::{InvalidAuthority, Memory};
+use iref_grammar::chars::CharSet;
+use itoa::Buffer;
+use std::fmt;
+use std::marker::PhantomData;
+use std::ops::Range;
+
+/// The editor of an authority that stands in a vector of bytes, or in another text that it borrows.
+/// It knows where the authority stands, and its end moves with each edit.
+#[derive(Drop)]
+pub struct AuthorityMut<'a, C: CharSet, T: Target<AuthorityPart, C> = Vec<u8>> {
+    target: &'a mut T,
+    start: usize,
+    end: usize,
+    chars: PhantomData<C>,
+    ghost placed: { T.stands (T.text target.now) tt start end } by { T.one_place (T.text target.now) tt start end },
+}
+
+impl<'a, C: CharSet> AuthorityMut<'a, C, Vec<u8>> {
+    ghost use Rattle.iref_authority.specs.AuthorityEdits.{borrowed_name, Borrows, edited_bytes};
+    ghost use Rattle.iref_authority.specs.AuthorityEdits.{authority_mut_start, authority_mut_end};
+    ghost use Rattle.iref_authority.specs.AuthorityEdits.{authority_mut_text};
+    ghost use Rattle.iref_authority.specs.Rows.{bytes_row};
+
+    /// The editor of the authority in a range of the bytes, or what stands in the range.
+    pub fn new(
+        bytes: &'a mut Vec<u8>,
+        range: Range<usize>,
+    ) -> Result<Self, InvalidAuthority<&'a [u8]>>
+        requires start_le_end { range.start ≤ range.end }
+        requires in_bounds { range.end ≤ vec_len bytes.old }
+        ensures* unchanged_if_refused { sem 𝓛 (RestsIfErr bytes_row bytes.entry borrowed_name
+            result (λ last. last.items ≡ bytes.old.items)) }
+        ensures parses { Parses (InUtf8 (IsAuthority C.tests))
+            (slice_range bytes.old.items range.start range.end) authority_mut_text
+            (λ error. error.0.now ≡ slice_range bytes.old.items range.start range.end) result }
+        ensures same_reference { IfOk result (λ editor. Borrows editor bytes.entry.ghost_name) }
+        ensures bytes { IfOk result (λ editor. edited_bytes editor ≡ bytes.old.items) }
+        ensures start { IfOk result (λ editor. authority_mut_start editor ≡ range.start) }
+        ensures end { IfOk result (λ editor. authority_mut_end editor ≡ range.end) }
+    {
+        match Authority::<C>::from_bytes(&bytes[range.start..range.end]) {
+            Ok(_) => Ok(AuthorityMut::new_unchecked(bytes, range)),
+            Err(_) => Err(InvalidAuthority(&bytes[range.start..range.end])),
+        }
+    }
+
+    /// The editor of the authority in a range of the bytes that is known to hold one.
+    pub fn new_unchecked(bytes: &'a mut Vec<u8>, range: Range<usize>) -> Self
+        requires start_le_end { range.start ≤ range.end }
+        requires in_bounds { range.end ≤ vec_len bytes.old }
+        requires in_rule { is_authority C.tests
+            (slice_range bytes.old.items range.start range.end) ≡ true }
+        ensures same_reference { Borrows result bytes.entry.ghost_name }
+        ensures bytes { edited_bytes result ≡ bytes.old.items }
+        ensures start { authority_mut_start result ≡ range.start }
+        ensures end { authority_mut_end result ≡ range.end }
+    {
+        AuthorityMut::of_target(bytes, range)
+    }
+}
+
+impl<'a, C: CharSet, T: Target<AuthorityPart, C>> AuthorityMut<'a, C, T> {
+    ghost use Rattle.iref_authority.specs.AuthorityEdits.{Borrows, edited_bytes, LiesInBytes};
+    ghost use Rattle.iref_authority.specs.AuthorityEdits.{authority_mut_start, authority_mut_end};
+    ghost use Rattle.iref_authority.specs.AuthorityEdits.{authority_mut_text, authority_mut_value};
+    ghost use Rattle.iref_authority.specs.AuthorityEdits.{IsSameEditor, BecomesAuthority};
+    ghost use Rattle.iref_authority.specs.AuthorityEdits.{IsUnchanged};
+
+    /// The editor of the authority in a range of what holds it.
+    pub fn of_target(target: &'a mut T, range: Range<usize>) -> Self
+        requires { T.stands (T.text target.old) tt range.start range.end }
+        ensures same_reference { Borrows result target.entry.ghost_name }
+        ensures bytes { edited_bytes result ≡ T.text target.old }
+        ensures start { authority_mut_start result ≡ range.start }
+        ensures end { authority_mut_end result ≡ range.end }
+    {
+        AuthorityMut {
+            target,
+            start: range.start,
+            end: range.end,
+            chars: PhantomData,
+        }
+    }
+
+    // The text of the authority.
+    fn text(&self) -> &str
+        ensures value { result.now ≡ authority_mut_text self.now }
+        ensures in_rule { is_authority C.tests result.now ≡ true }
+        ensures lies { LiesInBytes self.now }
+    {
+        self.target.part((), self.start, self.end)
+    }
+
+    /// The authority.
+    pub fn as_authority(&self) -> Authority<'_, C>
+        ensures { authority_text result ≡ authority_mut_text self.now }
+    {
+        Authority::new_unchecked(self.text())
+    }
+
+    /// The authority, for as long as its target is borrowed.
+    pub fn into_authority(self) -> Authority<'a, C>
+        ensures { authority_text result ≡ authority_mut_text self.entry }
+    {
+        let AuthorityMut {
+            target,
+            start,
+            end,
+            ..
+        } = self;
+        Authority::new_unchecked(target.part((), start, end))
+    }
+
+    /// Where the authority stands, in bytes.
+    pub fn range(&self) -> Range<usize>
+        ensures start { result.start ≡ authority_mut_start self.now }
+        ensures end { result.end ≡ authority_mut_end self.now }
+    {
+        self.start..self.end
+    }
+
+    // Replaces a range of the authority by three pieces, as one edit.
+    fn put(
+        &mut self,
+        within: Range<usize>,
+        lead: &str,
+        middle: &str,
+        close: &str,
+    ) -> Result<(), Memory>
+        requires lies { LiesInBytes self.old }
+        requires within { IsWithin (authority_mut_text self.old) within }
+        requires in_rule { is_authority C.tests (spliced (authority_mut_text self.old) within
+            (lead.now ++ middle.now ++ close.now)) ≡ true }
+        ensures same { IsSameEditor self.old self.new }
+        ensures ok { (value : AuthorityValue) → SpellsAuthority C.tests
+            (spliced (authority_mut_text self.old) within (lead.now ++ middle.now ++ close.now))
+            value → OnOk result (BecomesAuthority self.old self.new value) }
+        ensures err { OnErr result (IsUnchanged self.old self.new) }
+        ensures shorter { length lead.now + length middle.now + length close.now
+            ≤ within.end - within.start → IsOk result }
+    {
+        self.end = self
+            .target
+            .replace((), self.start, self.end, within, lead, middle, close)?;
+        Ok(())
+    }
+
+    // Replaces the user info, or takes it away.
+    fn put_user_info(&mut self, user_info: Option<&str>) -> Result<(), Memory>
+        requires { none_or (is_user_info C.tests) (option_copied user_info) ≡ true }
+        ensures same { IsSameEditor self.old self.new }
+        ensures ok { OnOk result (BecomesAuthority self.old self.new
+            (with_user_info (option_copied user_info.entry) (authority_mut_value self.old))) }
+        ensures err { OnErr result (IsUnchanged self.old self.new) }
+        ensures none { IsNone user_info.entry → IsOk result }
+    {
+        let within = user_info_range::<C>(self.text());
+        let (part, mark) = marked_after(user_info, "@");
+        self.put(within, part, mark, "")
+    }
+
+    // Replaces the port, or takes it away.
+    fn put_port(&mut self, port: Option<&str>) -> Result<(), Memory>
+        requires { none_or is_port (option_copied port) ≡ true }
+        ensures same { IsSameEditor self.old self.new }
+        ensures ok { OnOk result (BecomesAuthority self.old self.new
+            (with_port (option_copied port.entry) (authority_mut_value self.old))) }
+        ensures err { OnErr result (IsUnchanged self.old self.new) }
+        ensures none { IsNone port.entry → IsOk result }
+    {
+        let within = port_range::<C>(self.text());
+        let (mark, part) = marked(":", port);
+        self.put(within, mark, part, "")
+    }
+
+    /// Replaces the authority, and nothing that stands before or after it.
+    pub fn replace(&mut self, authority: Authority<'_, C>) -> Result<(), Memory>
+        ensures same { IsSameEditor self.old self.new }
+        ensures ok { OnOk result (BecomesAuthority self.old self.new
+            (read_authority (authority_text authority.entry))) }
+        ensures err { OnErr result (IsUnchanged self.old self.new) }
+    {
+        let within = whole_range::<C>(self.text());
+        self.put(within, authority.as_str(), "", "")
+    }
+
+    /// Replaces the user info and its `@`, or takes them away, which takes no memory: `u@h` without
+    /// a user info is `h`, and with an empty one `@h`.
+    pub fn set_user_info(&mut self, user_info: Option<UserInfo<'_, C>>) -> Result<(), Memory>
+        ensures same { IsSameEditor self.old self.new }
+        ensures ok { OnOk result (BecomesAuthority self.old self.new (with_user_info
+            (option_map view_text user_info.entry) (authority_mut_value self.old))) }
+        ensures err { OnErr result (IsUnchanged self.old self.new) }
+        ensures none { IsNone user_info.entry → IsOk result }
+    {
+        self.put_user_info(user_info.map(|user_info| user_info.as_str()))
+    }
+
+    /// Replaces the host: of `u@h:80` what stands before the `:80` and after the `u@`.
+    pub fn set_host(&mut self, host: Host<'_, C>) -> Result<(), Memory>
+        ensures same { IsSameEditor self.old self.new }
+        ensures ok { OnOk result (BecomesAuthority self.old self.new
+            (with_host (view_text host.entry) (authority_mut_value self.old))) }
+        ensures err { OnErr result (IsUnchanged self.old self.new) }
+    {
+        let within = host_range::<C>(self.text());
+        self.put(within, host.as_str(), "", "")
+    }
+
+    /// Replaces the port and its `:`, or takes them away, which takes no memory: `h:80` without a
+    /// port is `h`, and with an empty one `h:`.
+    pub fn set_port(&mut self, port: Option<Port<'_>>) -> Result<(), Memory>
+        ensures same { IsSameEditor self.old self.new }
+        ensures ok { OnOk result (BecomesAuthority self.old self.new (with_port
+            (option_map view_text port.entry) (authority_mut_value self.old))) }
+        ensures err { OnErr result (IsUnchanged self.old self.new) }
+        ensures none { IsNone port.entry → IsOk result }
+    {
+        self.put_port(port.map(|port| port.as_str()))
+    }
+
+    /// Replaces the port by a number in decimal digits without leading zeros, or takes it away,
+    /// which takes no memory.
+    #[tactic(auto, using(iref_model::proofs::PortNumberLemmas::written))]
+    pub fn set_port_u32(&mut self, port: Option<u32>) -> Result<(), Memory>
+        ensures same { IsSameEditor self.old self.new }
+        ensures ok { OnOk result (BecomesAuthority self.old self.new
+            (with_port (option_map port_text port) (authority_mut_value self.old))) }
+        ensures err { OnErr result (IsUnchanged self.old self.new) }
+        ensures none { IsNone port → IsOk result }
+    {
+        match port {
+            Some(number) => self.put_port(Some(Buffer::new().format(number))),
+            None => self.put_port(None),
+        }
+    }
+}
+
+impl<C: CharSet, T: Target<AuthorityPart, C>> fmt::Display for AuthorityMut<'_, C, T> {
+    ghost use Rattle.iref_authority.specs.AuthorityEdits.{authority_mut_text};
+
+    ghost output = { λ editor. Some (authority_mut_text editor) };
+
+    fn fmt<W: fmt::Write>(&self, f: &mut fmt::Formatter<W>) -> fmt::Result {
+        f.write_str(self.text())
+    }
+}

@@ -1,0 +1,176 @@
+//! Authorities that own their text, edited in place (RFC 3986 section 3.2).
+ghost use Rattle.std.specs.Prelude.{◌≡◌, Some, IfSome, OnOk, OnErr, IsOk, IsNone};
+ghost use Rattle.std.specs.Prelude.{length, option_map};
+ghost use Rattle.std.specs.Option.{option_copied};
+ghost use Rattle.iref_grammar.specs.Rules.{InUtf8};
+ghost use Rattle.iref_grammar.specs.Grammar.{IsAuthority, IsHost, IsPort, IsUserInfo};
+ghost use Rattle.iref_grammar.specs.Authority.{read_authority};
+ghost use Rattle.iref_model.specs.AuthoritySteps.{with_user_info, with_host, with_port};
+ghost use Rattle.iref_model.specs.PortNumbers.{port_text};
+ghost use Rattle.iref_component.specs.Components.{view_text};
+ghost use Rattle.iref_authority.specs.Authorities.{authority_text, authority_buf_text};
+ghost use Rattle.iref_authority.specs.AuthorityTexts.{IsWhole, one_whole, IsStep};
+ghost use Rattle.iref_error.specs.Tried.{TellsInvalid};
+
+use crate::authority::Authority;
+use crate::authority_mut::AuthorityMut;
+use crate::owner::AuthorityBuf;
+use crate::part::AuthorityPart;
+use iref_component::texts::{Host, Port, UserInfo};
+use iref_edit::target::Target;
+use iref_error::{InvalidAuthority, InvalidHost, InvalidPort, InvalidUserInfo, Memory, TryError};
+use iref_grammar::chars::CharSet;
+use std::alloc::Global;
+use std::ops::Range;
+
+impl<C: CharSet> Target<AuthorityPart, C> for AuthorityBuf<C> {
+    type Alloc = Global;
+
+    ghost text = { authority_buf_text };
+
+    ghost stands = { λ text _. IsWhole text };
+
+    ghost one_place = { λ text _. one_whole text };
+
+    fn alloc(&self) -> Global {
+        self.text.alloc()
+    }
+
+    fn part(&self, context: (), start: usize, end: usize) -> &str {
+        self.as_str()
+    }
+
+    fn replace(
+        &mut self,
+        context: (),
+        start: usize,
+        end: usize,
+        within: Range<usize>,
+        lead: &str,
+        middle: &str,
+        close: &str,
+    ) -> Result<usize, Memory> {
+        self.text.replace(within, lead, middle, close)?;
+        Ok(self.text.len())
+    }
+}
+
+impl<C: CharSet> AuthorityBuf<C> {
+    ghost use Rattle.iref_authority.specs.AuthorityEdits.{Borrows, edited_bytes};
+    ghost use Rattle.iref_authority.specs.AuthorityEdits.{authority_mut_start, authority_mut_end};
+
+    /// The editor of all of it.
+    pub fn as_authority_mut(&mut self) -> AuthorityMut<'_, C, AuthorityBuf<C>>
+        ensures same_reference { Borrows result self.entry.ghost_name }
+        ensures bytes { edited_bytes result ≡ authority_buf_text self.old }
+        ensures start { authority_mut_start result ≡ 0 }
+        ensures end { authority_mut_end result ≡ length (authority_buf_text self.old) }
+    {
+        let end = self.text.len();
+        AuthorityMut::of_target(self, 0..end)
+    }
+
+    /// Replaces the authority, in the room of the old one where it fits.
+    pub fn replace(&mut self, authority: Authority<'_, C>) -> Result<(), Memory>
+        ensures ok { OnOk result (authority_buf_text self.new ≡ authority_text authority.entry) }
+        ensures err { OnErr result (authority_buf_text self.new ≡ authority_buf_text self.old) }
+    {
+        self.as_authority_mut().replace(authority)
+    }
+
+    /// Replaces the user info and its `@`, or takes them away, which takes no memory: `u@h` without
+    /// a user info is `h`.
+    pub fn set_user_info(&mut self, user_info: Option<UserInfo<'_, C>>) -> Result<(), Memory>
+        ensures ok { OnOk result (IsStep (with_user_info (option_map view_text user_info.entry))
+            (authority_buf_text self.old) (authority_buf_text self.new)) }
+        ensures err { OnErr result (authority_buf_text self.new ≡ authority_buf_text self.old) }
+        ensures none { IsNone user_info.entry → IsOk result }
+    {
+        self.as_authority_mut().set_user_info(user_info)
+    }
+
+    /// Replaces the host.
+    pub fn set_host(&mut self, host: Host<'_, C>) -> Result<(), Memory>
+        ensures ok { OnOk result (IsStep (with_host (view_text host.entry))
+            (authority_buf_text self.old) (authority_buf_text self.new)) }
+        ensures err { OnErr result (authority_buf_text self.new ≡ authority_buf_text self.old) }
+    {
+        self.as_authority_mut().set_host(host)
+    }
+
+    /// Replaces the port and its `:`, or takes them away, which takes no memory: `h:80` without a
+    /// port is `h`.
+    pub fn set_port(&mut self, port: Option<Port<'_>>) -> Result<(), Memory>
+        ensures ok { OnOk result (IsStep (with_port (option_map view_text port.entry))
+            (authority_buf_text self.old) (authority_buf_text self.new)) }
+        ensures err { OnErr result (authority_buf_text self.new ≡ authority_buf_text self.old) }
+        ensures none { IsNone port.entry → IsOk result }
+    {
+        self.as_authority_mut().set_port(port)
+    }
+
+    /// Replaces the port by a number in decimal digits without leading zeros, or takes it away,
+    /// which takes no memory.
+    pub fn set_port_u32(&mut self, port: Option<u32>) -> Result<(), Memory>
+        ensures ok { OnOk result (IsStep (with_port (option_map port_text port))
+            (authority_buf_text self.old) (authority_buf_text self.new)) }
+        ensures err { OnErr result (authority_buf_text self.new ≡ authority_buf_text self.old) }
+        ensures none { IsNone port → IsOk result }
+    {
+        self.as_authority_mut().set_port_u32(port)
+    }
+
+    /// As `replace`, by a text: `Invalid` hands one back that is not an authority.
+    pub fn try_replace<'t>(
+        &mut self,
+        authority: &'t str,
+    ) -> Result<(), TryError<InvalidAuthority<&'t str>>>
+        ensures ok { OnOk result (authority_buf_text self.new ≡ authority.now) }
+        ensures invalid { TellsInvalid (InUtf8 (IsAuthority C.tests) authority.now)
+            (λ error. error.0 ≡ authority.entry) result }
+        ensures err { OnErr result (authority_buf_text self.new ≡ authority_buf_text self.old) }
+    {
+        self.as_authority_mut().try_replace(authority)
+    }
+
+    /// As `set_user_info`, by a text: `Invalid` hands one back that is not a user info.
+    pub fn try_set_user_info<'t>(
+        &mut self,
+        user_info: Option<&'t str>,
+    ) -> Result<(), TryError<InvalidUserInfo<&'t str>>>
+        ensures ok { OnOk result (IsStep (with_user_info (option_copied user_info.entry))
+            (authority_buf_text self.old) (authority_buf_text self.new)) }
+        ensures invalid { TellsInvalid (IfSome (option_copied user_info.entry) (InUtf8
+            (IsUserInfo C.tests))) (λ error. user_info.entry ≡ Some error.0) result }
+        ensures err { OnErr result (authority_buf_text self.new ≡ authority_buf_text self.old) }
+        ensures none { IsNone user_info.entry → IsOk result }
+    {
+        self.as_authority_mut().try_set_user_info(user_info)
+    }
+
+    /// As `set_host`, by a text: `Invalid` hands one back that is not a host.
+    pub fn try_set_host<'t>(&mut self, host: &'t str) -> Result<(), TryError<InvalidHost<&'t str>>>
+        ensures ok { OnOk result (IsStep (with_host host.now)
+            (authority_buf_text self.old) (authority_buf_text self.new)) }
+        ensures invalid { TellsInvalid (InUtf8 (IsHost C.tests) host.now)
+            (λ error. error.0 ≡ host.entry) result }
+        ensures err { OnErr result (authority_buf_text self.new ≡ authority_buf_text self.old) }
+    {
+        self.as_authority_mut().try_set_host(host)
+    }
+
+    /// As `set_port`, by a text: `Invalid` hands one back that is not a port.
+    pub fn try_set_port<'t>(
+        &mut self,
+        port: Option<&'t str>,
+    ) -> Result<(), TryError<InvalidPort<&'t str>>>
+        ensures ok { OnOk result (IsStep (with_port (option_copied port.entry))
+            (authority_buf_text self.old) (authority_buf_text self.new)) }
+        ensures invalid { TellsInvalid (IfSome (option_copied port.entry) (InUtf8 IsPort))
+            (λ error. port.entry ≡ Some error.0) result }
+        ensures err { OnErr result (authority_buf_text self.new ≡ authority_buf_text self.old) }
+        ensures none { IsNone port.entry → IsOk result }
+    {
+        self.as_authority_mut().try_set_port(port)
+    }
+}
