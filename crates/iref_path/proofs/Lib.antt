@@ -1,1 +1,3 @@
-pub mod ComparisonLemmas
+pub mod EditLemmas
+pub mod ManyLemmas
+pub mod TryLemmas

@@ -1,9 +1,7 @@
 //! Equality of paths with a count of the segments read.
 ghost use Rattle.std.specs.Prelude.{◌≡◌, ◌≢◌, ◌↔◌, ◌+◌, ◌<◌, ◌≤◌, ◌^◌, true};
-ghost use Rattle.iref_model.specs.CountedEquality.{IsCountedAnswer};
-ghost use Rattle.iref_model.specs.PathFunctions.{segment_count};
-ghost use Rattle.iref_model.specs.PathKey.{path_key};
-ghost use Rattle.iref_path_text.specs.Unread.{HasRoomFor, steps_count, steps_taken};
+ghost use Rattle.iref_component.specs.{IsCountedAnswer, segment_count, path_key};
+ghost use Rattle.iref_path_text.specs.{HasRoomFor, steps_count, steps_taken};
 ghost use Rattle.iref_path.specs.Paths.{path_value};
 
 use crate::path::Path;
@@ -18,8 +16,7 @@ pub fn new_steps_have_room<C: CharSet>(a: Path<'_, C>, b: Path<'_, C>)
 {}
 
 /// Whether two paths are equal, as `==` has it. The count grows by the segments that are read, each
-/// of them once and from
-/// the back, and by none where one path is absolute and the other is not.
+/// of them once and from the back, and by none where one path is absolute and the other is not.
 ///
 /// A new count has room for any two paths, as `new_steps_have_room` says.
 #[tactic(auto, using(iref_model::proofs::CountedLemmas::decided))]

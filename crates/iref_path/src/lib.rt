@@ -5,5 +5,6 @@ pub mod equality;
 pub mod normal;
 pub mod path;
 pub mod path_buf;
+pub mod path_mut;
 pub mod rule;
 pub mod segments;

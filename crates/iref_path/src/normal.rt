@@ -3,10 +3,8 @@
 ghost use Rattle.std.specs.Prelude.{◌≡◌, true, length};
 ghost use Rattle.std.specs.List.{list_all};
 ghost use Rattle.std.specs.Iterator.{YieldsFirstBy, YieldsLastBy, item_count};
-ghost use Rattle.iref_grammar.specs.PathValue.{read_path};
-ghost use Rattle.iref_grammar.specs.Tests.{is_path, is_segment};
-ghost use Rattle.iref_model.specs.NormalList.{normal_segments};
-ghost use Rattle.iref_path_text.specs.Remaining.{IsSound, normal_left};
+ghost use Rattle.iref_component.specs.{read_path, is_path, is_segment, normal_segments, view_text};
+ghost use Rattle.iref_path_text.specs.{IsSound, normal_left};
 
 use iref_component::texts::Segment;
 use iref_grammar::chars::CharSet;
@@ -33,16 +31,12 @@ impl<'a, C: CharSet> NormalizedSegments<'a, C> {
         ensures { normal_segments_left result ≡ normal_segments (read_path path.now) }
     {
         let (left, count) = Remaining::new(path);
-        NormalizedSegments {
-            left,
-            count,
-            chars: PhantomData,
-        }
+        let chars = PhantomData;
+        NormalizedSegments { left, count, chars }
     }
 }
 
 impl<'a, C: CharSet> Iterator for NormalizedSegments<'a, C> {
-    ghost use Rattle.iref_component.specs.Components.{view_text};
     ghost use Rattle.iref_path.specs.NormalPaths.{normal_segments_left};
 
     type Item = Segment<'a, C>;
@@ -63,7 +57,6 @@ impl<'a, C: CharSet> Iterator for NormalizedSegments<'a, C> {
 }
 
 impl<'a, C: CharSet> DoubleEndedIterator for NormalizedSegments<'a, C> {
-    ghost use Rattle.iref_component.specs.Components.{view_text};
     ghost use Rattle.iref_path.specs.NormalPaths.{normal_segments_left};
 
     ghost next_back_gives = { YieldsLastBy view_text normal_segments_left };

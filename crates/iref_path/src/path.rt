@@ -1,19 +1,11 @@
 //! Paths (RFC 3986 section 3.3).
 
-ghost use Rattle.iref_grammar.specs.Grammar.{IsPath};
-ghost use Rattle.iref_grammar.specs.Tests.{is_path};
 ghost use Rattle.std.specs.Prelude.{◌≡◌, ◌<◌, ◌^◌, true, not, [], Some, IfOk, length, codes, option_map};
-ghost use Rattle.iref_grammar.specs.Rules.{InUtf8};
 ghost use Rattle.iref_model.specs.PathFunctions as function;
-ghost use Rattle.iref_grammar.specs.Contexts.{alone};
 ghost use Rattle.iref_model.specs.PathSteps as step;
-ghost use Rattle.iref_model.specs.PathKey.{path_key};
-ghost use Rattle.iref_component.specs.Makers.{Parses};
+ghost use Rattle.iref_component.specs.{IsPath, is_path, InUtf8, alone, path_key, Parses};
+ghost use Rattle.iref_component.specs.{spell_path, is_empty, view_text, normal_segments};
 ghost use Rattle.iref_path.specs.Paths.{path_text, path_value, path_buf_text, path_buf_value, segments_left};
-ghost use Rattle.iref_grammar.specs.PathValue.{spell_path};
-ghost use Rattle.iref_grammar.specs.Texts.{is_empty};
-ghost use Rattle.iref_component.specs.Components.{view_text};
-ghost use Rattle.iref_model.specs.NormalList.{normal_segments};
 ghost use Rattle.iref_path.specs.NormalPaths.{normal_segments_left};
 
 use crate::normal::NormalizedSegments;
@@ -26,6 +18,7 @@ use iref_component::view::View;
 pub use iref_error::InvalidPath;
 use iref_error::Memory;
 use iref_grammar::chars::CharSet;
+use iref_grammar::places::PathContext;
 use iref_path_text::path_text::{directory_text, parent_text};
 use iref_path_text::pieces::split_root;
 use iref_path_text::spell::normalized_text;
@@ -61,9 +54,8 @@ impl<'a, C: CharSet> Path<'a, C> {
         requires { is_path C.tests text.now ≡ true }
         ensures { path_text result ≡ text.now }
     {
-        Path {
-            text: View::new_unchecked(text),
-        }
+        let text = View::new_unchecked(text);
+        Path { text }
     }
 
     /// The text.
@@ -186,10 +178,7 @@ impl<'a, C: CharSet> Path<'a, C> {
     pub fn parent_or_empty(&self) -> Self
         ensures { path_value result ≡ function.parent_or_empty (path_value self.now) }
     {
-        match self.parent() {
-            Some(parent) => parent,
-            None => self.without_segments(),
-        }
+        self.parent().unwrap_or(self.without_segments())
     }
 
     // The empty path that is absolute where this one is.
@@ -213,7 +202,6 @@ impl<'a, C: CharSet> Path<'a, C> {
 
     /// The path of the normal segments, with a guard where one is needed (RFC 3986 section 5.2.4).
     /// It is equal to this path.
-    #[tactic(auto, using(crate::proofs::ComparisonLemmas::normalized_keys))]
     pub fn normalized(&self, alloc: Global) -> Result<PathBuf<C>, Memory>
         ensures text { IfOk result (λ path.
             path_buf_text path ≡ spell_path (step.normalized alone (path_value self.now))) }
@@ -222,7 +210,8 @@ impl<'a, C: CharSet> Path<'a, C> {
         ensures equal { IfOk result (λ path.
             path_key (path_buf_value path) ≡ path_key (path_value self.now)) }
     {
-        let text = normalized_text::<C>(alloc, self.as_str())?;
+        let alone = PathContext::default();
+        let text = normalized_text::<C, _>(alloc, alone, self.is_absolute(), self.as_str())?;
         Ok(PathBuf::new_unchecked(text))
     }
 
@@ -253,8 +242,7 @@ impl<C: CharSet> Default for Path<'_, C> {
 impl<'a, C: CharSet> TryFrom<&'a str> for Path<'a, C> {
     type Error = InvalidPath<&'a str>;
 
-    ghost try_from_gives = { λ text result.
-        Parses (InUtf8 (IsPath C.tests)) text.now path_text
+    ghost try_from_gives = { λ text result. Parses (InUtf8 (IsPath C.tests)) text.now path_text
         (λ error. error.0 ≡ text) result };
 
     fn try_from(text: &'a str) -> Result<Self, InvalidPath<&'a str>> {
@@ -265,8 +253,7 @@ impl<'a, C: CharSet> TryFrom<&'a str> for Path<'a, C> {
 impl<'a, C: CharSet> TryFrom<&'a [u8]> for Path<'a, C> {
     type Error = InvalidPath<&'a [u8]>;
 
-    ghost try_from_gives = { λ bytes result.
-        Parses (InUtf8 (IsPath C.tests)) bytes.now path_text
+    ghost try_from_gives = { λ bytes result. Parses (InUtf8 (IsPath C.tests)) bytes.now path_text
         (λ error. error.0 ≡ bytes) result };
 
     fn try_from(bytes: &'a [u8]) -> Result<Self, InvalidPath<&'a [u8]>> {

@@ -1,23 +1,18 @@
 //! Paths that own their text (RFC 3986 section 3.3).
 
-ghost use Rattle.iref_grammar.specs.Keys.{ComparesBy};
-ghost use Rattle.iref_model.specs.PathKey.{path_key, path_key_cmp};
-ghost use Rattle.iref_grammar.specs.PathValue.{spell_path};
-ghost use Rattle.iref_path.specs.NormalPaths.{normal_segments_left};
 ghost use Rattle.std.specs.String.{string_bytes};
-ghost use Rattle.iref_grammar.specs.Rules.{InUtf8};
-ghost use Rattle.iref_model.specs.PathFunctions as function;
-ghost use Rattle.iref_path.specs.Paths.{path_text, path_value, path_buf_text, path_buf_value, segments_left};
-ghost use Rattle.iref_component.specs.Makers.{Parses};
-ghost use Rattle.iref_model.specs.PathSteps as step;
-ghost use Rattle.iref_component.specs.Components.{view_text};
-ghost use Rattle.iref_grammar.specs.Tests.{is_path};
-ghost use Rattle.iref_grammar.specs.Contexts.{alone};
-ghost use Rattle.iref_model.specs.NormalList.{normal_segments};
 ghost use Rattle.std.specs.Prelude.{◌≡◌, ◌<◌, ◌^◌, true, not, [], Some, IfOk, length, option_map};
-ghost use Rattle.iref_model.specs.PathHash.{fed_path};
-ghost use Rattle.iref_grammar.specs.Texts.{is_empty};
-ghost use Rattle.iref_grammar.specs.Grammar.{IsPath};
+ghost use Rattle.iref_model.specs.PathFunctions as function;
+ghost use Rattle.iref_model.specs.PathSteps as step;
+ghost use Rattle.iref_component.specs.{ComparesBy, path_key, path_key_cmp, spell_path, InUtf8};
+ghost use Rattle.iref_component.specs.{Parses, view_text, is_path, alone, normal_segments};
+ghost use Rattle.iref_component.specs.{fed_path, is_empty, IsPath};
+ghost use Rattle.iref_path.specs.NormalPaths.{normal_segments_left};
+ghost use Rattle.iref_path.specs.Paths.{path_text, path_value, path_buf_text, path_buf_value, segments_left};
+
+mod edits;
+mod lists;
+mod tries;
 
 use crate::normal::NormalizedSegments;
 use crate::path::Path;
@@ -61,27 +56,24 @@ impl<C: CharSet> PathBuf<C> {
         requires { is_path C.tests (string_bytes text) ≡ true }
         ensures { path_buf_text result ≡ string_bytes text }
     {
-        PathBuf {
-            text: TextBuf::new_unchecked(text),
-        }
+        let text = TextBuf::new_unchecked(text);
+        PathBuf { text }
     }
 
     /// The empty path, which takes no memory.
     pub fn empty(alloc: Global) -> Self
         ensures { path_buf_text result ≡ [] }
     {
-        PathBuf {
-            text: TextBuf::empty(alloc),
-        }
+        let text = TextBuf::empty(alloc);
+        PathBuf { text }
     }
 
     /// The view.
     pub fn as_path(&self) -> Path<'_, C>
         ensures { path_text result ≡ path_buf_text self.now }
     {
-        Path {
-            text: self.text.as_view(),
-        }
+        let text = self.text.as_view();
+        Path { text }
     }
 
     /// The text.
@@ -232,9 +224,8 @@ impl<C: CharSet> PathBuf<C> {
 impl<C: CharSet> TryFrom<String> for PathBuf<C> {
     type Error = InvalidPath<String>;
 
-    ghost try_from_gives = { λ text result.
-        Parses (InUtf8 (IsPath C.tests)) (string_bytes text) path_buf_text
-        (λ error. error.0 ≡ text) result };
+    ghost try_from_gives = { λ text result. Parses (InUtf8 (IsPath C.tests)) (string_bytes text)
+        path_buf_text (λ error. error.0 ≡ text) result };
 
     fn try_from(text: String) -> Result<Self, InvalidPath<String>> {
         PathBuf::new(text)
@@ -244,9 +235,8 @@ impl<C: CharSet> TryFrom<String> for PathBuf<C> {
 impl<C: CharSet> TryFrom<Vec<u8>> for PathBuf<C> {
     type Error = InvalidPath<Vec<u8>>;
 
-    ghost try_from_gives = { λ bytes result.
-        Parses (InUtf8 (IsPath C.tests)) bytes.items path_buf_text
-        (λ error. error.0 ≡ bytes) result };
+    ghost try_from_gives = { λ bytes result. Parses (InUtf8 (IsPath C.tests)) bytes.items
+        path_buf_text (λ error. error.0 ≡ bytes) result };
 
     fn try_from(bytes: Vec<u8>) -> Result<Self, InvalidPath<Vec<u8>>> {
         PathBuf::from_bytes(bytes)
@@ -268,8 +258,7 @@ impl<C: CharSet> fmt::Display for PathBuf<C> {
 }
 
 /// Paths are equal where their flags and their normal segments, decoded, are the same; they are in
-/// the order of these, and
-/// a hasher is fed them (RFC 3986 section 6.2.2).
+/// the order of these, and a hasher is fed them (RFC 3986 section 6.2.2).
 #[tactic(auto, using(iref_model::proofs::TieLemmas::paths_tie))]
 pub fn paths_compare_by_key<C: CharSet>()
     ensures view { ComparesBy (λ p. path_key (path_value p)) path_key_cmp fed_path

@@ -1,10 +1,7 @@
 //! The rule of paths, and what its texts are compared by (RFC 3986 sections 3.3 and 6.2.2).
-ghost use Rattle.iref_grammar.specs.Grammar.{IsPath};
-ghost use Rattle.iref_grammar.specs.PathValue.{PathValue, read_path};
-ghost use Rattle.iref_grammar.specs.Tests.{is_path};
+ghost use Rattle.iref_component.specs.{IsPath, PathValue, read_path, is_path, fed_path, path_key};
+ghost use Rattle.iref_component.specs.{path_key_cmp, path_keys_total};
 ghost use Rattle.iref_grammar.proofs.PathTextLemmas.{Decides-is_path};
-ghost use Rattle.iref_model.specs.PathHash.{fed_path};
-ghost use Rattle.iref_model.specs.PathKey.{path_key, path_key_cmp, path_keys_total};
 ghost use Rattle.iref_model.proofs.PathGrammarLemmas.{is_path-empty};
 ghost use Rattle.iref_model.proofs.KeyOrderLemmas.{path_keys_tell};
 

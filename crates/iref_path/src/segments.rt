@@ -3,8 +3,8 @@
 ghost use Rattle.std.specs.Prelude.{◌≡◌, true};
 ghost use Rattle.std.specs.List.{list_all};
 ghost use Rattle.std.specs.Iterator.{YieldsFirstBy, YieldsLastBy, item_count};
-ghost use Rattle.iref_grammar.specs.Tests.{is_segment};
-ghost use Rattle.iref_path_text.specs.Pieces.{pieces_if_some};
+ghost use Rattle.iref_component.specs.{is_segment, view_text};
+ghost use Rattle.iref_path_text.specs.{pieces_if_some};
 
 use iref_component::texts::Segment;
 use iref_grammar::chars::CharSet;
@@ -28,15 +28,12 @@ impl<'a, C: CharSet> Segments<'a, C> {
         requires { list_all (is_segment C.tests) (pieces_if_some rest) ≡ true }
         ensures { segments_left result ≡ pieces_if_some rest.entry }
     {
-        Segments {
-            rest,
-            chars: PhantomData,
-        }
+        let chars = PhantomData;
+        Segments { rest, chars }
     }
 }
 
 impl<'a, C: CharSet> Iterator for Segments<'a, C> {
-    ghost use Rattle.iref_component.specs.Components.{view_text};
     ghost use Rattle.iref_path.specs.Paths.{segments_left};
 
     type Item = Segment<'a, C>;
@@ -59,7 +56,6 @@ impl<'a, C: CharSet> Iterator for Segments<'a, C> {
 }
 
 impl<'a, C: CharSet> DoubleEndedIterator for Segments<'a, C> {
-    ghost use Rattle.iref_component.specs.Components.{view_text};
     ghost use Rattle.iref_path.specs.Paths.{segments_left};
 
     ghost next_back_gives = { YieldsLastBy view_text segments_left };
@@ -74,9 +70,6 @@ impl<'a, C: CharSet> DoubleEndedIterator for Segments<'a, C> {
 
 impl<C: CharSet> ExactSizeIterator for Segments<'_, C> {
     fn len(&self) -> usize {
-        match self.rest {
-            Some(text) => piece_count(text),
-            None => 0,
-        }
+        self.rest.map_or(0, |text| piece_count(text))
     }
 }

@@ -1,0 +1,9 @@
+use Rattle.std.proofs.Common.{rules}
+use Rattle.iref_model.specs.PathSteps.{popped}
+use Rattle.iref_path.proofs.EditLemmas.{whole_edit}
+use Rattle.iref_path.proofs.path_buf.PathBuf.pop.Goals as goal
+
+pub returns-clause-ok : goal.returns-clause-ok
+returns-clause-ok g c =
+    let w = whole_edit popped c.as_path_mut.ensures.editor c.in_ok-pop.ensures.ok in
+    record { text = search (rules, w.0); read = search (rules, w.1) }

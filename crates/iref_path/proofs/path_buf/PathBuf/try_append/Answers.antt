@@ -1,0 +1,13 @@
+use Rattle.std.proofs.Common.{◌≡◌, rules, map, fold}
+use Rattle.iref_grammar.specs.Grammar.{IsSegment}
+use Rattle.iref_grammar.specs.Rules.{InUtf8}
+use Rattle.iref_model.specs.PathSteps.{appended, followed}
+use Rattle.iref_path.proofs.EditLemmas.{whole_edit}
+use Rattle.iref_path.proofs.TryLemmas.{tries_weaker}
+use Rattle.iref_path.proofs.path_buf.PathBuf.try_append.Goals as goal
+
+pub returns : goal.returns
+returns g c = tries_weaker g.I.Iterator.next_gives c.args.segments (λ item. InUtf8 (IsSegment g.C.CharSet.tests) item.now) (λ item error. error.0 ≡ item) c.try_append.result
+    (λ items becomes. let w = whole_edit (λ context. appended context (map (λ item. item.now) items)) c.as_path_mut.ensures.editor becomes in record { text = search (rules, w.0); read = search (rules, w.1) })
+    (λ items becomes. let w = whole_edit (λ context path. fold (followed context) path (map (λ item. item.now) items)) c.as_path_mut.ensures.editor becomes in record { text = search (rules, w.0); read = search (rules, w.1) })
+    c.try_append.ensures.tried

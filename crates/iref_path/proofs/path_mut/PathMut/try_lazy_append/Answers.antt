@@ -1,0 +1,40 @@
+use Rattle.std.proofs.Common.{◌≡◌, rules, Err, Bor, List, ℕ, refl, sym, subst}
+use Rattle.std.proofs.lemmas.List.Elements.{All-nil, All-push}
+use Rattle.iref_grammar.specs.Grammar.{IsSegment}
+use Rattle.iref_grammar.specs.Rules.{InUtf8}
+use Rattle.iref_model.specs.PathSteps.{lazy_pushed}
+use Rattle.iref_path.specs.PathEdits.{path_mut_context, path_mut_value, BecomesPath}
+use Rattle.iref_path.proofs.ManyLemmas.{no_edit, next_edit, refused_then, lazy_appended_none, lazy_appended_next}
+use Rattle.iref_path.proofs.TryLemmas.{stops_after}
+use Rattle.iref_path.proofs.path_mut.PathMut.try_lazy_append.Goals as goal
+
+pub loop-segment-init : goal.loop-segment-init
+loop-segment-init g c =
+    let p = c.args.self.now in record {
+      can = search rules;
+      ends = search rules;
+      same = refl;
+      segments = All-nil _;
+      path = subst (BecomesPath p p) (sym (lazy_appended_none (path_mut_context p) (path_mut_value p))) (no_edit p c.text-path.ensures.start_le_end c.text-path.ensures.in_bounds);
+    }
+
+pub loop-segment-preserved : goal.loop-segment-preserved
+loop-segment-preserved g c =
+    let p = c.args.self.now in
+    let goes = c.in-Some.ensures.goes.on c.loop-segment.invariant.ends in
+    let push = next_edit (λ context. lazy_pushed context c.in-Some.segment.now) c.text-path.ensures.start_le_end c.text-path.ensures.in_bounds c.loop-segment.invariant.path c.in_ok-try_lazy_push.ensures.ok in record {
+      can = goes.0;
+      ends = goes.1;
+      same = search rules;
+      segments = All-push (λ item. InUtf8 (IsSegment g.C.CharSet.tests) item.now) c.loop-segment.yielded c.in-Some.segment c.loop-segment.invariant.segments c.in_ok-try_lazy_push.ensures.invalid;
+      path = subst (BecomesPath p c.try_lazy_push.new.self) (sym (lazy_appended_next (λ item. item.now) (path_mut_context p) (path_mut_value p) c.loop-segment.yielded c.in-Some.segment)) push;
+    }
+
+pub returns-in_err-try_lazy_push-clause-tried : goal.returns-in_err-try_lazy_push-clause-tried
+returns-in_err-try_lazy_push-clause-tried g c =
+    let e = c.in_err-try_lazy_push in
+    let same : c.from_residual.result ≡ Err e.field-0.0 = search rules in
+    rw same (stops_after g.I.Iterator.next_gives c.args.segments c.loop-segment.segment-iterator c.next.new.self c.loop-segment.yielded c.in-Some.segment (λ item. InUtf8 (IsSegment g.C.CharSet.tests) item.now) _ _ e.field-0.0 (search rules) c.in-Some.ensures.steps c.loop-segment.invariant.segments e.ensures.invalid (refused_then c.loop-segment.invariant.path e.ensures.err))
+
+pub returns-clause-tried : goal.returns-clause-tried
+returns-clause-tried g c = (c.loop-segment.yielded, search rules, (c.loop-segment.invariant.segments, c.loop-segment.invariant.path))

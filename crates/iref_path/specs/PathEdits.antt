@@ -1,0 +1,68 @@
+-- What callers see of an editor of a path, and what an edit does.
+use Rattle.std.specs.Borrow.{GName}
+use Rattle.std.specs.Prelude.{ℕ, ◌≡◌, ◌+◌, length, slice_range}
+use Rattle.std.specs.List.{splice}
+use Rattle.iref_grammar.specs.declared.places.PathContext.{PathContext}
+use Rattle.iref_grammar.specs.Rules.{Text}
+use Rattle.iref_grammar.specs.PathValue.{PathValue, read_path, spell_path}
+use Rattle.iref_path.specs.declared.path_mut.PathMut.{PathMut}
+use Rattle.iref_path.specs.declared.path_buf.PathBuf.{PathBuf}
+use Rattle.iref_path.specs.Paths.{path_buf_text, path_buf_value}
+
+-- it holds the reference of this name
+abbrev pub Borrows : {C : _} {T : _} {A : _} {c : _} {t : _} {a : _} → PathMut C T A c t a → GName → Type 0
+Borrows p name = p.target.ghost_name ≡ name
+
+-- the bytes that hold the path
+abbrev pub edited_bytes : {C : _} {T : _} {A : _} {c : _} {t : _} {a : _} → PathMut C T A c t a → Text
+edited_bytes {C} {T} {A} {c} {t} {a} p = t.text p.target.now
+
+-- what stands before the path
+abbrev pub path_mut_context : {C : _} {T : _} {A : _} {c : _} {t : _} {a : _} → PathMut C T A c t a → PathContext
+path_mut_context p = p.context
+
+-- where the path stands
+abbrev pub path_mut_start : {C : _} {T : _} {A : _} {c : _} {t : _} {a : _} → PathMut C T A c t a → ℕ
+path_mut_start p = p.start
+
+abbrev pub path_mut_end : {C : _} {T : _} {A : _} {c : _} {t : _} {a : _} → PathMut C T A c t a → ℕ
+path_mut_end p = p.end
+
+-- the text of the path
+abbrev pub path_mut_text : {C : _} {T : _} {A : _} {c : _} {t : _} {a : _} → PathMut C T A c t a → Text
+path_mut_text p = slice_range (edited_bytes p) p.start p.end
+
+-- the flag and the list that it is read as
+abbrev pub path_mut_value : {C : _} {T : _} {A : _} {c : _} {t : _} {a : _} → PathMut C T A c t a → PathValue
+path_mut_value p = read_path (path_mut_text p)
+
+-- it edits what stands there
+pub record IsEditorOf {C : _} {T : _} {A : _} {c : _} {t : _} {a : _} (p : PathMut C T A c t a) (bytes : Text) (context : PathContext) (start end : ℕ) : Type 0 where
+  pub bytes_are : edited_bytes p ≡ bytes
+  pub context_is : p.context ≡ context
+  pub from : p.start ≡ start
+  pub to : p.end ≡ end
+
+-- it borrows the same target still
+abbrev pub IsSameEditor : {C : _} {T : _} {A : _} {c : _} {t : _} {a : _} → PathMut C T A c t a → PathMut C T A c t a → Type 0
+IsSameEditor old new = new.target.ghost_name ≡ old.target.ghost_name
+
+-- the path becomes this one, its range is exact, and no other byte changes
+pub record BecomesPath {C : _} {T : _} {A : _} {c : _} {t : _} {a : _} (old new : PathMut C T A c t a) (value : PathValue) : Type 0 where
+  pub bytes : edited_bytes new ≡ splice (edited_bytes old) old.start old.end (spell_path value)
+  pub context : new.context ≡ old.context
+  pub from : new.start ≡ old.start
+  pub to : new.end ≡ old.start + length (spell_path value)
+  pub read : path_mut_value new ≡ value
+
+-- nothing changes
+pub record IsUnchanged {C : _} {T : _} {A : _} {c : _} {t : _} {a : _} (old new : PathMut C T A c t a) : Type 0 where
+  pub bytes : edited_bytes new ≡ edited_bytes old
+  pub context : new.context ≡ old.context
+  pub from : new.start ≡ old.start
+  pub to : new.end ≡ old.end
+
+-- the owner's text spells this path, and is read as it
+pub record SpellsPath {C : _} {c : _} (p : PathBuf C c) (value : PathValue) : Type 0 where
+  pub text : path_buf_text p ≡ spell_path value
+  pub read : path_buf_value p ≡ value

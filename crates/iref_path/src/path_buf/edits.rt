@@ -1,0 +1,136 @@
+//! Edits of a path that owns its text (RFC 3986 sections 3.3 and 5.2.4).
+ghost use Rattle.std.specs.Prelude.{◌≡◌, ◌&&◌, not, length, OnOk, OnErr, IfOk};
+ghost use Rattle.iref_grammar.specs.Texts.{is_empty};
+ghost use Rattle.iref_grammar.specs.Contexts.{alone};
+ghost use Rattle.iref_component.specs.Components.{view_text};
+ghost use Rattle.iref_model.specs.PathSteps as step;
+ghost use Rattle.iref_path.specs.PathEdits.{Borrows, IsEditorOf, SpellsPath};
+ghost use Rattle.iref_path.specs.Paths.{path_value, path_buf_text, path_buf_value};
+ghost use Rattle.iref_path.specs.WholePaths.{IsWholePath, one_whole_path};
+
+use crate::path::Path;
+use crate::path_buf::PathBuf;
+use crate::path_mut::PathMut;
+use iref_component::texts::Segment;
+use iref_edit::target::Target;
+use iref_error::Memory;
+use iref_grammar::chars::CharSet;
+use iref_grammar::places::PathContext;
+use iref_path_text::part::PathPart;
+use std::alloc::Global;
+use std::ops::Range;
+
+impl<C: CharSet> Target<PathPart, C> for PathBuf<C> {
+    type Alloc = Global;
+
+    ghost text = { path_buf_text };
+
+    ghost stands = { IsWholePath C.tests };
+
+    ghost one_place = { one_whole_path C.tests };
+
+    fn alloc(&self) -> Global {
+        self.text.alloc()
+    }
+
+    fn part(&self, context: PathContext, start: usize, end: usize) -> &str {
+        self.as_str()
+    }
+
+    fn replace(
+        &mut self,
+        context: PathContext,
+        start: usize,
+        end: usize,
+        within: Range<usize>,
+        lead: &str,
+        middle: &str,
+        close: &str,
+    ) -> Result<usize, Memory> {
+        self.text.replace(within, lead, middle, close)?;
+        Ok(self.len())
+    }
+}
+
+impl<C: CharSet> PathBuf<C> {
+    /// The editor of the path.
+    pub fn as_path_mut(&mut self) -> PathMut<'_, C, PathBuf<C>>
+        ensures same_reference { Borrows result self.entry.ghost_name }
+        ensures editor { IsEditorOf result (path_buf_text self.old) alone
+            0 (length (path_buf_text self.old)) }
+    {
+        PathMut::from_path(self)
+    }
+
+    /// Puts a segment at the end, as it is: `.` and `..` too.
+    pub fn lazy_push(&mut self, segment: Segment<'_, C>) -> Result<(), Memory>
+        ensures ok { OnOk result (SpellsPath self.new (step.lazy_pushed alone
+            (view_text segment.entry) (path_buf_value self.old))) }
+        ensures err { OnErr result (path_buf_text self.new ≡ path_buf_text self.old) }
+    {
+        self.as_path_mut().lazy_push(segment)?;
+        Ok(())
+    }
+
+    /// Follows a segment: `.` closes the path, `..` takes the last segment away and closes it, and
+    /// any other is put at the end (RFC 3986 section 5.2.4). `foo/bar` and `..` give `foo/`.
+    pub fn push(&mut self, segment: Segment<'_, C>) -> Result<(), Memory>
+        ensures ok { OnOk result (SpellsPath self.new (step.pushed alone
+            (view_text segment.entry) (path_buf_value self.old))) }
+        ensures err { OnErr result (path_buf_text self.new ≡ path_buf_text self.old) }
+    {
+        self.as_path_mut().push(segment)?;
+        Ok(())
+    }
+
+    /// Takes the last segment away: where there is none to take, or where it is `..`, a `..` stands
+    /// at the end then. `//a` gives `/./`.
+    pub fn pop(&mut self) -> Result<(), Memory>
+        ensures ok { OnOk result (SpellsPath self.new (step.popped alone
+            (path_buf_value self.old))) }
+        ensures err { OnErr result (path_buf_text self.new ≡ path_buf_text self.old) }
+    {
+        self.as_path_mut().pop()?;
+        Ok(())
+    }
+
+    /// The same, and whether the path changed: an absolute path without segments stays.
+    pub fn try_pop(&mut self) -> Result<bool, Memory>
+        ensures ok { OnOk result (SpellsPath self.new (step.popped alone
+            (path_buf_value self.old))) }
+        ensures changed { IfOk result (λ changed. changed ≡ not ((path_buf_value self.old).absolute
+            && is_empty (path_buf_value self.old).segments)) }
+        ensures err { OnErr result (path_buf_text self.new ≡ path_buf_text self.old) }
+    {
+        let changes = self.is_relative() || !self.is_empty();
+        self.pop()?;
+        Ok(changes)
+    }
+
+    /// Puts another path in its place, after what guards it there.
+    pub fn replace(&mut self, path: Path<'_, C>) -> Result<(), Memory>
+        ensures ok { OnOk result (SpellsPath self.new (step.replaced alone
+            (path_value path.entry) (path_buf_value self.old))) }
+        ensures err { OnErr result (path_buf_text self.new ≡ path_buf_text self.old) }
+    {
+        self.as_path_mut().replace(path)
+    }
+
+    /// Puts the path of the normal segments in its place, guarded where that is needed (RFC 3986
+    /// section 5.2.4).
+    pub fn normalize(&mut self) -> Result<(), Memory>
+        ensures ok { OnOk result (SpellsPath self.new (step.normalized alone
+            (path_buf_value self.old))) }
+        ensures err { OnErr result (path_buf_text self.new ≡ path_buf_text self.old) }
+    {
+        self.as_path_mut().normalize()?;
+        Ok(())
+    }
+
+    /// Takes the segments away, so that the path is `/` or empty.
+    pub fn clear(&mut self)
+        ensures { SpellsPath self.new (step.cleared (path_buf_value self.old)) }
+    {
+        self.as_path_mut().clear();
+    }
+}

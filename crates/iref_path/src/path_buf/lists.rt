@@ -1,0 +1,98 @@
+//! Edits of a path that owns its text by many segments (RFC 3986 section 5.2.4).
+ghost use Rattle.std.specs.Prelude.{◌≡◌, [], OnOk, OnErr, IfOk, fold, map};
+ghost use Rattle.std.specs.Iterator.{IsFinite};
+ghost use Rattle.iref_component.specs.Components.{view_text};
+ghost use Rattle.iref_grammar.specs.Contexts.{alone};
+ghost use Rattle.iref_model.specs.PathSteps as step;
+ghost use Rattle.iref_path.specs.Appends.{TakesAll, TakesFirst};
+ghost use Rattle.iref_path.specs.PathEdits.{SpellsPath};
+ghost use Rattle.iref_path.specs.Paths.{path_value, path_buf_text, path_buf_value};
+
+use crate::path::Path;
+use crate::path_buf::PathBuf;
+use iref_component::texts::Segment;
+use iref_error::Memory;
+use iref_grammar::chars::CharSet;
+use std::alloc::Global;
+
+impl<C: CharSet> PathBuf<C> {
+    /// Puts each segment at the end, as it is. The iterator is asked up to its first `None`. At an
+    /// `Err` the segments before the refused one stand.
+    pub fn lazy_append<'s, I: Iterator<Item = Segment<'s, C>> + Drop>(
+        &mut self,
+        segments: I,
+    ) -> Result<(), Memory>
+        requires can { I.can_next segments }
+        requires ends { IsFinite (I.remaining segments) }
+        ensures ok { OnOk result (TakesAll I.next_gives segments (λ items.
+            SpellsPath self.new (step.lazy_appended alone (map view_text items)
+            (path_buf_value self.old)))) }
+        ensures err { OnErr result (TakesFirst I.next_gives segments (λ items.
+            SpellsPath self.new (step.lazy_appended alone (map view_text items)
+            (path_buf_value self.old)))) }
+    {
+        self.as_path_mut().lazy_append(segments)
+    }
+
+    /// Follows each segment, and closes the path after a last `.` or `..`: `..` and `baz` after
+    /// `/foo/bar` give `/foo/baz`. The iterator is asked up to its first `None`. At an `Err` the
+    /// segments before the refused one stand, and the path is not closed.
+    pub fn append<'s, I: Iterator<Item = Segment<'s, C>> + Drop>(
+        &mut self,
+        segments: I,
+    ) -> Result<(), Memory>
+        requires can { I.can_next segments }
+        requires ends { IsFinite (I.remaining segments) }
+        ensures ok { OnOk result (TakesAll I.next_gives segments (λ items.
+            SpellsPath self.new (step.appended alone (map view_text items)
+            (path_buf_value self.old)))) }
+        ensures err { OnErr result (TakesFirst I.next_gives segments (λ items.
+            SpellsPath self.new (fold (step.followed alone) (path_buf_value self.old)
+            (map view_text items)))) }
+    {
+        self.as_path_mut().append(segments)
+    }
+
+    /// Puts an absolute path in its place, and appends the segments of a relative one to it: `../b`
+    /// after `/x/a` gives `/x/b`. This is one edit, so an `Err` changes nothing.
+    pub fn join(&mut self, path: Path<'_, C>) -> Result<(), Memory>
+        ensures ok { OnOk result (SpellsPath self.new (step.joined alone
+            (path_value path.entry) (path_buf_value self.old))) }
+        ensures err { OnErr result (path_buf_text self.new ≡ path_buf_text self.old) }
+    {
+        self.as_path_mut().join(path)?;
+        Ok(())
+    }
+
+    /// The path that pushing these segments one by one on the empty or the absolute path gives:
+    /// absolute and `a`, `b`, `..` is `/a/`.
+    pub fn from_segments<'s, I: Iterator<Item = Segment<'s, C>> + Drop>(
+        alloc: Global,
+        absolute: bool,
+        segments: I,
+    ) -> Result<PathBuf<C>, Memory>
+        requires can { I.can_next segments }
+        requires ends { IsFinite (I.remaining segments) }
+        ensures { IfOk result (λ path. TakesAll I.next_gives segments (λ items.
+            SpellsPath path (step.from_segments absolute (map view_text items)))) }
+    {
+        let mut path = PathBuf::without_segments(alloc, absolute)?;
+        for segment in segments {
+            path.push(segment)?;
+        }
+        Ok(path)
+    }
+
+    // The path without segments.
+    #[tactic(auto, unfolding(iref_grammar::specs::PathValue::read_path))]
+    fn without_segments(alloc: Global, absolute: bool) -> Result<PathBuf<C>, Memory>
+        ensures { IfOk result (λ path. path_buf_value path
+            ≡ record { absolute = absolute; segments = [] }) }
+    {
+        if absolute {
+            Path::empty_absolute().to_owned(alloc)
+        } else {
+            Ok(PathBuf::empty(alloc))
+        }
+    }
+}
