@@ -174,7 +174,7 @@ module _ (r : ReferenceValue) (u : AreUtf8 (spell_components r)) where
   }
 
 -- what is in a rule is UTF-8
-in_rule_utf8 : (A : Rule) (bytes : Text) → InUtf8 A bytes → IsUtf8 bytes
+pub in_rule_utf8 : (A : Rule) (bytes : Text) → InUtf8 A bytes → IsUtf8 bytes
 in_rule_utf8 A bytes z = (z.0, (z.1, z.2))
 
 none_or_utf8 : (test : Text → Bool) (A : Rule) → ((bytes : Text) → Decides (test bytes) (InUtf8 A bytes)) → (o : Option Text) → none_or test o ≡ true → IfSome o IsUtf8

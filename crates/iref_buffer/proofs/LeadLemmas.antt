@@ -17,7 +17,7 @@ use Rattle.iref_grammar.proofs.ReadablePartsLemmas.{readable_parts}
 use Rattle.iref_model.specs.Guard.{guarded}
 use Rattle.iref_model.specs.ComponentSteps.{with_authority, with_scheme}
 use Rattle.iref_buffer.specs.ComponentLengths.{with_mark}
-use Rattle.iref_buffer.proofs.GuardTextLemmas.{guarded-same, rooted}
+use Rattle.iref_path_text.proofs.GuardTextLemmas.{guarded-same, rooted}
 
 pub readable-fits : (set : CharTests) (r : ReferenceValue) → is_readable set r ≡ true → fits (context_of r) r.path ≡ true
 readable-fits set r h = let parts = readable_parts set r h in and_from _ _ parts.follows parts.reads

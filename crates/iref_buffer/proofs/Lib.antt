@@ -1,8 +1,8 @@
 pub mod HeldLemmas
 pub mod BaseLemmas
-pub mod Seams
 pub mod LengthLemmas
 pub mod EditLemmas
-pub mod GuardTextLemmas
 pub mod PathEditLemmas
 pub mod LeadLemmas
+pub mod PathPlaceLemmas
+pub mod TargetLemmas

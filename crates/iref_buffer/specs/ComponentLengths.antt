@@ -6,6 +6,7 @@ use Rattle.iref_grammar.specs.declared.places.PathContext.{PathContext}
 use Rattle.iref_grammar.specs.declared.places.Offsets.{Offsets}
 use Rattle.iref_grammar.specs.Rules.{Text}
 use Rattle.iref_grammar.specs.Authority.{spell_authority}
+use Rattle.iref_grammar.specs.ComponentTexts.{ComponentTexts}
 use Rattle.iref_grammar.specs.PathValue.{spell_path}
 use Rattle.iref_grammar.specs.Reference.{ReferenceValue, read_reference}
 use Rattle.iref_buffer.specs.declared.lengths.Lengths.{Lengths}
@@ -31,6 +32,16 @@ lengths_of r = record {
   path = length (spell_path r.path);
   query = option_map length r.query;
   fragment = option_map length r.fragment;
+}
+
+-- of texts of components
+abbrev pub lengths_of_texts : ComponentTexts → Lengths
+lengths_of_texts t = record {
+  scheme = option_map length t.scheme;
+  authority = option_map length t.authority;
+  path = length t.path;
+  query = option_map length t.query;
+  fragment = option_map length t.fragment;
 }
 
 -- what stands before the path

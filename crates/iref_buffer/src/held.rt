@@ -1,25 +1,21 @@
 //! A text in a rule of references, with the places of its components beside it.
-ghost use Rattle.iref_grammar.specs.ComponentTexts.{AreComponents, spell_components};
-ghost use Rattle.iref_grammar.specs.Reference.{is_readable, is_reference};
-ghost use Rattle.iref_buffer.specs.ComponentLengths.{lengths_of};
-ghost use Rattle.iref_grammar.specs.Places.{places_of, text_at};
-ghost use Rattle.iref_grammar.specs.Grammar.{hash_sign};
-ghost use Rattle.iref_buffer.specs.PlaceTexts.{IsWithin, AreWithin, texts_at};
-ghost use Rattle.iref_grammar.specs.Characters.{CharTests, AreAboveAscii};
 ghost use Rattle.std.specs.String.{string_bytes};
-ghost use Rattle.iref_grammar.specs.Texts.{before};
 ghost use Rattle.std.specs.Prelude.{◌≡◌, ◌≤◌, Bool, true, [], ◌∷◌};
-ghost use Rattle.iref_buffer.specs.PlaceTexts.{front_end, authority_start};
-ghost use Rattle.iref_model.specs.ComponentSteps.{with_query, with_fragment};
-ghost use Rattle.std.specs.Option.{option_copied};
-ghost use Rattle.iref_parse.specs.ReferenceSlices.{texts_of, value_of};
 ghost use Rattle.std.specs.Prelude.{Option, None, IfSome, is_some, option_map};
-ghost use Rattle.iref_grammar.specs.Reference.{hierarchy, read_reference, spell};
-ghost use Rattle.iref_component.specs.Makers.{Parses};
-ghost use Rattle.iref_grammar.specs.Rules.{Text, InUtf8};
-ghost use Rattle.iref_model.specs.ReferenceParts.{base_of};
+ghost use Rattle.std.specs.Option.{option_copied};
+ghost use Rattle.iref_grammar.specs.Places.{text_at};
+ghost use Rattle.iref_parse.specs.{texts_of, value_of};
+ghost use Rattle.iref_component.specs.{AreComponents, spell_components, is_readable, is_reference};
+ghost use Rattle.iref_component.specs.{places_of, hash_sign, CharTests, AreAboveAscii, before};
+ghost use Rattle.iref_component.specs.{with_query, with_fragment, hierarchy, read_reference, spell};
+ghost use Rattle.iref_component.specs.{Parses, Text, InUtf8, base_of};
+ghost use Rattle.iref_buffer.specs.ComponentLengths.{lengths_of};
+ghost use Rattle.iref_buffer.specs.PlaceTexts.{IsWithin, AreWithin, texts_at};
+ghost use Rattle.iref_buffer.specs.PlaceTexts.{front_end, authority_start};
 
 mod edits;
+mod path;
+mod resolution;
 
 use crate::base::base_slice;
 use crate::lengths::Lengths;
@@ -88,11 +84,8 @@ impl<R: HeldRule, C: CharSet, A: Allocator> Held<R, C, A> {
             return Err(text);
         };
         let places = places_of(slices);
-        Ok(Held {
-            text,
-            places,
-            rule: PhantomData,
-        })
+        let rule = PhantomData;
+        Ok(Held { text, places, rule })
     }
 
     /// The text, which is known to be in the rule, with the places found in one scan.
@@ -101,11 +94,8 @@ impl<R: HeldRule, C: CharSet, A: Allocator> Held<R, C, A> {
         ensures { result ≡ string_bytes text }
     {
         let places = places_of(split_reference(text.as_str()));
-        Held {
-            text,
-            places,
-            rule: PhantomData,
-        }
+        let rule = PhantomData;
+        Held { text, places, rule }
     }
 
     /// The text of these bytes of UTF-8, if it is in the rule, or the bytes.
@@ -182,17 +172,15 @@ impl<R: HeldRule, C: CharSet, A: Allocator> Held<R, C, A> {
         base_slice::<C>(self.as_str(), self.slices())
     }
 
-    /// The same text under another rule that it is in, with its places.
-    pub fn into_rule<S: HeldRule>(self) -> Held<S, C, A>
-        requires { R.test C.tests self ≡ true → S.test C.tests self ≡ true }
+    /// The same text under another rule that it is in, of its own characters or of others, with
+    /// its places.
+    pub fn into_rule<S: HeldRule, D: CharSet>(self) -> Held<S, D, A>
+        requires { R.test C.tests self ≡ true → S.test D.tests self ≡ true }
         ensures { result ≡ self }
     {
         let Held { text, places, .. } = self;
-        Held {
-            text,
-            places,
-            rule: PhantomData,
-        }
+        let rule = PhantomData;
+        Held { text, places, rule }
     }
 
     /// The text, with no copy.

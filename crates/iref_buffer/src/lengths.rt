@@ -1,10 +1,11 @@
 //! How long the components of a reference are, from which their places follow.
-ghost use Rattle.std.specs.Prelude.{◌≡◌, ◌+◌, ◌<◌, ◌^◌, length, option_map};
+ghost use Rattle.std.specs.Prelude.{◌≡◌, ◌+◌, ◌<◌, ◌^◌, IfOk, length, option_map};
 ghost use Rattle.std.specs.Option.{option_copied};
 ghost use Rattle.iref_buffer.specs.ComponentLengths.{place_len, place_with_len, with_mark};
 ghost use Rattle.iref_buffer.specs.ComponentLengths.{lengths_at, context_by, total_length, placed};
 
 use iref_grammar::places::{Offsets, PathContext};
+use std::alloc::AllocError;
 use std::ops::Range;
 
 /// The lengths of the components in bytes, without `:`, `//`, `?` and `#`.
@@ -46,6 +47,15 @@ impl Lengths {
         }
     }
 
+    /// How long the whole text is, if that can be counted.
+    pub fn total(self) -> Result<usize, AllocError>
+        ensures { IfOk result (λ len. len ≡ total_length self) }
+    {
+        let path = add_part(add_part(0, 1, self.scheme)?, 2, self.authority)?;
+        let query = path.checked_add(self.path).ok_or(AllocError)?;
+        add_part(add_part(query, 1, self.query)?, 1, self.fragment)
+    }
+
     /// Where components of these lengths stand in their text.
     pub fn places_in(self, text: &str) -> Offsets
         requires { total_length self ≡ length text.now }
@@ -66,14 +76,22 @@ impl Lengths {
     }
 }
 
+// A length and that of a part with its mark, if there is one.
+fn add_part(len: usize, mark: usize, part: Option<usize>) -> Result<usize, AllocError>
+    ensures { IfOk result (λ sum. sum ≡ len + with_mark mark part) }
+{
+    let Some(part) = part else {
+        return Ok(len);
+    };
+    let marked = len.checked_add(mark).ok_or(AllocError)?;
+    marked.checked_add(part).ok_or(AllocError)
+}
+
 // How much a place holds, if there is one.
 fn place_len(place: &Option<Range<usize>>) -> Option<usize>
     ensures { result ≡ option_map place_len place.now }
 {
-    match place {
-        Some(place) => Some(place.len()),
-        None => None,
-    }
+    place.as_ref().map(|place| place.len())
 }
 
 // Where a part at the start stands, and where its mark of one byte ends.
@@ -107,8 +125,5 @@ fn place_after(start: usize, mark: usize, len: Option<usize>) -> (Option<Range<u
 pub fn len_of(part: Option<&str>) -> Option<usize>
     ensures { result ≡ option_map length (option_copied part.entry) }
 {
-    match part {
-        Some(part) => Some(part.len()),
-        None => None,
-    }
+    part.map(|part| part.len())
 }

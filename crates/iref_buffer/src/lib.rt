@@ -2,7 +2,6 @@
 #![tactic(auto)]
 
 pub mod base;
-pub mod guard;
 pub mod held;
 mod lengths;
-pub mod text;
+pub mod target;

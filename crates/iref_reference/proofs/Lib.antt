@@ -1,0 +1,4 @@
+pub mod SchemeLemmas
+pub mod ConversionLemmas
+pub mod PathStepLemmas
+pub mod ResolutionLemmas

@@ -5,7 +5,7 @@ use Rattle.iref_grammar.specs.Rules.{Text}
 use Rattle.iref_grammar.specs.ComponentTexts.{ComponentTexts, read_components}
 use Rattle.iref_grammar.specs.Reference.{ReferenceValue}
 use Rattle.iref_component.specs.Components.{view_text}
-use Rattle.iref_component.specs.declared.view.View.{View}
+use Rattle.iref_component.specs.declared.text.View.{View}
 use Rattle.iref_authority.specs.Authorities.{authority_text}
 use Rattle.iref_path.specs.Paths.{path_text}
 use Rattle.iref_model.specs.Key.{key}

@@ -2,9 +2,12 @@
 #![tactic(auto)]
 
 pub mod comparison;
+pub mod conversions;
+pub mod editors;
 pub mod families;
 pub mod owner;
 pub mod parts;
+pub mod resolution;
 pub mod rule;
 pub mod setters;
 pub mod view;

@@ -1,24 +1,16 @@
 //! References that own their text (RFC 3986 sections 3 and 4.1).
-ghost use Rattle.std.specs.Prelude.{◌≡◌, true, [], ◌∷◌, Some, None, option_map};
+ghost use Rattle.std.specs.Prelude.{◌≡◌, ◌++◌, true, [], ◌∷◌, Some, None, IfOk, option_map};
 ghost use Rattle.std.specs.String.{string_bytes};
-ghost use Rattle.iref_grammar.specs.Grammar.{hash_sign};
-ghost use Rattle.iref_grammar.specs.Authority.{spell_authority};
-ghost use Rattle.iref_grammar.specs.Texts.{before};
-ghost use Rattle.iref_grammar.specs.PathValue.{spell_path};
-ghost use Rattle.iref_grammar.specs.Places.{places_of};
-ghost use Rattle.iref_grammar.specs.ComponentTexts.{spell_components};
-ghost use Rattle.iref_grammar.specs.Reference.{hierarchy, spell};
-ghost use Rattle.iref_grammar.specs.Rules.{InUtf8};
-ghost use Rattle.iref_model.specs.ComponentSteps.{with_query, with_fragment};
-ghost use Rattle.iref_model.specs.ReferenceParts.{user_info_of, host_of, port_of, base_of};
-ghost use Rattle.iref_component.specs.Makers.{Parses};
-ghost use Rattle.iref_component.specs.Components.{view_text};
-ghost use Rattle.iref_path.specs.Paths.{path_text};
-ghost use Rattle.iref_authority.specs.Authorities.{authority_text};
+ghost use Rattle.iref_component.specs.{colon, hash_sign, spell_authority, before, spell_path, places_of};
+ghost use Rattle.iref_component.specs.{spell_components, hierarchy, spell, InUtf8, with_query};
+ghost use Rattle.iref_component.specs.{with_fragment, user_info_of, host_of, port_of, base_of};
+ghost use Rattle.iref_component.specs.{Parses, view_text, owned_text};
+ghost use Rattle.iref_authority.specs.{authority_text};
+ghost use Rattle.iref_path.specs.{path_text};
 ghost use Rattle.iref_reference.specs.References.{reference_text, reference_value};
 ghost use Rattle.iref_reference.specs.References.{reference_buf_text, reference_buf_value};
-ghost use Rattle.iref_reference.specs.Parts.{uri_ref_part_texts, uri_ref_parts_value};
 ghost use Rattle.iref_reference.specs.References.{HasSchemeOrRefused};
+ghost use Rattle.iref_reference.specs.Parts.{uri_ref_part_texts, uri_ref_parts_value};
 ghost use Rattle.iref_reference.specs.Parts.{part_texts, parts_value};
 
 use crate::parts::{Parts, UriRefParts};
@@ -27,8 +19,8 @@ use crate::view::{Reference, UriRef};
 use iref_authority::authority::Authority;
 use iref_buffer::held::{Held, HeldRule};
 use iref_component::rule::Refuses;
-use iref_component::texts::{Fragment, Host, Port, Query, UserInfo};
-use iref_error::InvalidUri;
+use iref_component::texts::{Fragment, Host, Port, Query, SchemeBuf, UserInfo};
+use iref_error::{InvalidUri, Memory};
 use iref_grammar::chars::CharSet;
 use iref_grammar::places::Offsets;
 use iref_path::path::Path;
@@ -132,30 +124,21 @@ impl<R: HeldRule, C: CharSet> ReferenceBuf<R, C> {
     pub fn user_info(&self) -> Option<UserInfo<'_, C>>
         ensures { option_map view_text result ≡ user_info_of (reference_buf_value self.now) }
     {
-        match self.reference_parts().authority_parts() {
-            Some(parts) => parts.user_info,
-            None => None,
-        }
+        self.reference_parts().authority_parts()?.user_info
     }
 
     /// The host, if the reference has an authority (RFC 3986 section 3.2.2).
     pub fn host(&self) -> Option<Host<'_, C>>
         ensures { option_map view_text result ≡ host_of (reference_buf_value self.now) }
     {
-        match self.reference_parts().authority_parts() {
-            Some(parts) => Some(parts.host),
-            None => None,
-        }
+        Some(self.reference_parts().authority_parts()?.host)
     }
 
     /// The port, if the reference has an authority with one (RFC 3986 section 3.2.3).
     pub fn port(&self) -> Option<Port<'_>>
         ensures { option_map view_text result ≡ port_of (reference_buf_value self.now) }
     {
-        match self.reference_parts().authority_parts() {
-            Some(parts) => parts.port,
-            None => None,
-        }
+        self.reference_parts().authority_parts()?.port
     }
 
     /// The path, which may be empty.
@@ -265,6 +248,17 @@ impl<C: CharSet> UriRefBuf<C> {
 }
 
 impl<C: CharSet> UriBuf<C> {
+    /// The URI that is a scheme alone: of `data`, `data:`. It takes the scheme's buffer, which
+    /// grows only where it has no room for the `:`.
+    pub fn from_scheme(scheme: SchemeBuf) -> Result<Self, Memory>
+        ensures { IfOk result (λ uri.
+            reference_buf_text uri ≡ owned_text scheme ++ colon ∷ []) }
+    {
+        let mut text = scheme.into_string();
+        text.push(':')?;
+        Ok(UriBuf::from_held(Held::new_unchecked(text)))
+    }
+
     // The reference of the same text, with no copy.
     #[tactic(auto, using(iref_grammar::proofs::ComponentLemmas::full))]
     pub(crate) fn into_reference(self) -> UriRefBuf<C>
@@ -286,8 +280,8 @@ impl<C: CharSet> TryFrom<UriRefBuf<C>> for UriBuf<C> {
     type Error = InvalidUri<UriRefBuf<C>>;
 
     ghost try_from_gives = { λ reference result.
-        HasSchemeOrRefused
-        reference_buf_text reference_buf_text reference (λ error. error.0) result };
+        HasSchemeOrRefused reference_buf_text reference_buf_text reference
+        (λ error. error.0) result };
 
     fn try_from(reference: UriRefBuf<C>) -> Result<Self, InvalidUri<UriRefBuf<C>>> {
         reference.try_into_full()

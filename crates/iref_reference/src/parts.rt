@@ -1,33 +1,25 @@
 //! The components of references and of URIs.
-ghost use Rattle.std.specs.Prelude.{MatchResult};
+ghost use Rattle.std.specs.Prelude.{MatchResult, ◌≡◌, ◌↔◌, true, Option, Some, option_map, is_some};
 ghost use Rattle.std.specs.Str.{str_to_ascii_lowercase};
-ghost use Rattle.std.specs.Prelude.{◌≡◌, ◌↔◌, true, Option, Some, option_map, is_some};
 ghost use Rattle.std.specs.Ordering.{eq_by_cmp};
 ghost use Rattle.std.proofs.Common.{ap};
 ghost use Rattle.std.specs.Option.{option_copied};
 ghost use Rattle.std.proofs.lemmas.Option.{same_Some};
-ghost use Rattle.iref_grammar.specs.ComponentTexts.{AreComponents, spell_components};
-ghost use Rattle.iref_grammar.specs.Tests.{is_scheme, none_or};
-ghost use Rattle.iref_grammar.specs.Reference.{is_reference, read_reference};
-ghost use Rattle.iref_grammar.specs.Authority.{is_authority};
-ghost use Rattle.iref_grammar.specs.Grammar.{IsUriReference};
-ghost use Rattle.iref_grammar.specs.Rules.{Text, InUtf8};
-ghost use Rattle.iref_parse.specs.ReferenceSlices.{texts_of};
-ghost use Rattle.iref_model.proofs.PartTieLemmas.{lower_case_tie, parts_tie};
-ghost use Rattle.iref_model.specs.Key.{key_cmp, fed_reference};
-ghost use Rattle.iref_model.proofs.TieLemmas.{texts_tie};
-ghost use Rattle.iref_component.specs.Components.{view_text};
-ghost use Rattle.iref_path.specs.Paths.{path_text};
-ghost use Rattle.iref_authority.specs.AuthorityParts.{parts_value as authority_parts_value};
-ghost use Rattle.iref_authority.specs.Authorities.{authority_text};
+ghost use Rattle.iref_parse.specs.{texts_of};
+ghost use Rattle.iref_component.specs.{AreComponents, spell_components, is_scheme, none_or};
+ghost use Rattle.iref_component.specs.{is_reference, read_reference, is_authority, IsUriReference};
+ghost use Rattle.iref_component.specs.{Text, InUtf8, key_cmp, fed_reference, view_text};
+ghost use Rattle.iref_authority.specs.{parts_value as authority_parts_value, authority_text};
+ghost use Rattle.iref_path.specs.{path_text};
 ghost use Rattle.iref_reference.specs.Parts.{part_texts, parts_value, uri_ref_part_texts};
 ghost use Rattle.iref_reference.specs.Parts.{key_of_parts, uri_ref_parts_key, scheme_key};
+ghost use Rattle.iref_model.proofs.PartTieLemmas.{lower_case_tie, parts_tie};
+ghost use Rattle.iref_model.proofs.TieLemmas.{texts_tie};
 
 use iref_authority::authority::Authority;
 use iref_authority::parts::AuthorityParts;
-use iref_component::rule::Rule;
 use iref_component::texts::{Fragment, Query, Scheme};
-use iref_component::view::View;
+use iref_component::view::view_of;
 use iref_error::InvalidUriRef;
 use iref_grammar::chars::CharSet;
 use iref_parse::split::{ReferenceSlices, parse_reference, split_reference};
@@ -123,10 +115,7 @@ impl<'a, S: SchemePart<'a>, C: CharSet> Parts<'a, S, C> {
         ensures { option_map authority_parts_value result
             ≡ (parts_value S.text self.now).authority }
     {
-        match self.authority {
-            Some(authority) => Some(authority.parts()),
-            None => None,
-        }
+        self.authority.map(|authority| authority.parts())
     }
 
     // The components of the text of a reference whose scheme may stand there.
@@ -189,14 +178,6 @@ impl<'a, C: CharSet> UriRefParts<'a, C> {
             None => Err(InvalidUriRef(bytes)),
         }
     }
-}
-
-// The view of a slice, if it is there.
-fn view_of<R: Rule, C: CharSet>(text: Option<&str>) -> Option<View<'_, R, C>>
-    requires { none_or (R.test C.tests) (option_copied text) ≡ true }
-    ensures { option_map view_text result ≡ option_copied text.entry }
-{
-    text.map(|text| View::new_unchecked(text))
 }
 
 // The authority of a slice, if it is there.

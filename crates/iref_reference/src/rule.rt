@@ -1,17 +1,14 @@
 //! The rules of references and of URIs, and what both are compared by (RFC 3986 sections 3, 4.1
 //! and 6.2.2).
-ghost use Rattle.iref_model.specs.Key.{key, key_cmp, fed_reference};
+ghost use Rattle.std.specs.Prelude.{◌≡◌, true, refl, is_some};
+ghost use Rattle.iref_component.specs.{key, key_cmp, fed_reference, IsUri, IsUriReference};
+ghost use Rattle.iref_component.specs.{ReferenceValue, read_reference, is_reference};
+ghost use Rattle.iref_component.specs.{is_full_reference, Text, CharTests};
 ghost use Rattle.iref_model.proofs.KeyOrderLemmas.{keys_tell, keys_total};
 ghost use Rattle.iref_grammar.proofs.EmptyLemmas.{is_reference_empty};
-ghost use Rattle.iref_grammar.specs.Grammar.{IsUri, IsUriReference};
-ghost use Rattle.iref_grammar.specs.Reference.{ReferenceValue, read_reference};
 ghost use Rattle.iref_grammar.proofs.ReferenceRuleLemmas.{Decides-is_uri_reference, Decides-is_uri};
-ghost use Rattle.std.specs.Prelude.{◌≡◌, true, refl, is_some};
 ghost use Rattle.iref_grammar.proofs.ComponentLemmas.{reference_if_full, scheme_if_full, full_if_scheme};
-ghost use Rattle.iref_grammar.specs.Reference.{is_reference, is_full_reference};
-ghost use Rattle.iref_grammar.specs.Rules.{Text};
 ghost use Rattle.iref_buffer.proofs.BaseLemmas.{base_of-in_rule, base_of-in_full_rule};
-ghost use Rattle.iref_grammar.specs.Characters.{CharTests};
 
 use crate::parts::{SchemePart, UriRefParts};
 use iref_buffer::held::HeldRule;

@@ -1,12 +1,15 @@
 //! Owners edited in place, a component at a time (RFC 3986 sections 3 and 4.2).
 ghost use Rattle.std.specs.Prelude.{◌≡◌, Some, OnErr, OnOk, IsNone, IsOk, option_map};
-ghost use Rattle.iref_grammar.specs.Authority.{read_authority};
-ghost use Rattle.iref_model.specs.ComponentSteps.{with_authority, with_fragment, with_path};
-ghost use Rattle.iref_model.specs.ComponentSteps.{with_query, with_scheme};
-ghost use Rattle.iref_component.specs.Components.{view_text};
-ghost use Rattle.iref_authority.specs.Authorities.{authority_text};
-ghost use Rattle.iref_path.specs.Paths.{path_value};
-ghost use Rattle.iref_reference.specs.References.{reference_buf_text, IsStep};
+ghost use Rattle.iref_component.specs.{read_authority, with_authority, with_fragment, with_path};
+ghost use Rattle.iref_component.specs.{with_query, with_scheme, view_text};
+ghost use Rattle.iref_authority.specs.{authority_text};
+ghost use Rattle.iref_path.specs.{path_value};
+ghost use Rattle.iref_model.specs.ComponentSteps.{with_new_normal_path};
+ghost use Rattle.iref_buffer.specs.PathPlaces.{RemovesDots};
+ghost use Rattle.iref_reference.specs.References.{reference_buf_text, reference_buf_value};
+ghost use Rattle.iref_reference.specs.References.{IsStep};
+
+mod tried;
 
 use crate::owner::{ReferenceBuf, UriBuf, UriRefBuf};
 use iref_authority::authority::Authority;
@@ -37,6 +40,19 @@ impl<R: HeldRule, C: CharSet> ReferenceBuf<R, C> {
         ensures err { OnErr result (reference_buf_text self.new ≡ reference_buf_text self.old) }
     {
         self.held.set_path(path.as_str())
+    }
+
+    /// Replaces the path by its normal form, with a guard where that would be read as something
+    /// else. After an authority `/a/../b/.` becomes `/b/` (RFC 3986 section 5.2.4).
+    pub fn set_and_normalize_path(&mut self, path: Path<'_, C>) -> Result<(), Memory>
+        ensures ok { OnOk result (IsStep (with_new_normal_path (path_value path.entry))
+            (reference_buf_text self.old) (reference_buf_text self.new)) }
+        ensures rewritten { OnOk result (RemovesDots
+            (with_path (path_value path.entry) (reference_buf_value self.old))
+            (reference_buf_value self.new)) }
+        ensures err { OnErr result (reference_buf_text self.new ≡ reference_buf_text self.old) }
+    {
+        self.held.set_and_normalize_path(path.as_str())
     }
 
     /// Replaces the query, or takes it away, which takes no memory.

@@ -1,23 +1,16 @@
 //! Borrowed references (RFC 3986 sections 3 and 4.1).
-ghost use Rattle.iref_reference.specs.Parts.{part_texts, parts_value};
-ghost use Rattle.iref_component.specs.Makers.{Parses};
 ghost use Rattle.std.specs.Prelude.{IfOk, IfSome, is_some};
-ghost use Rattle.iref_component.specs.Components.{view_text};
-ghost use Rattle.iref_reference.specs.Parts.{uri_ref_part_texts, uri_ref_parts_value};
-ghost use Rattle.iref_grammar.specs.ComponentTexts.{spell_components};
-ghost use Rattle.iref_authority.specs.Authorities.{authority_text};
 ghost use Rattle.std.specs.Prelude.{◌≡◌, true, [], ◌∷◌, Some, None, option_map};
-ghost use Rattle.iref_path.specs.Paths.{path_text};
+ghost use Rattle.iref_component.specs.{Parses, view_text, spell_components, hierarchy, spell};
+ghost use Rattle.iref_component.specs.{spell_authority, with_query, with_fragment, InUtf8};
+ghost use Rattle.iref_component.specs.{user_info_of, host_of, port_of, base_of, spell_path, before};
+ghost use Rattle.iref_component.specs.{hash_sign};
+ghost use Rattle.iref_authority.specs.{authority_text};
+ghost use Rattle.iref_path.specs.{path_text};
+ghost use Rattle.iref_reference.specs.Parts.{part_texts, parts_value};
+ghost use Rattle.iref_reference.specs.Parts.{uri_ref_part_texts, uri_ref_parts_value};
 ghost use Rattle.iref_reference.specs.References.{reference_text, reference_value};
-ghost use Rattle.iref_grammar.specs.Reference.{hierarchy, spell};
 ghost use Rattle.iref_reference.specs.References.{reference_buf_text, HasSchemeOrRefused};
-ghost use Rattle.iref_grammar.specs.Authority.{spell_authority};
-ghost use Rattle.iref_model.specs.ComponentSteps.{with_query, with_fragment};
-ghost use Rattle.iref_grammar.specs.Rules.{InUtf8};
-ghost use Rattle.iref_model.specs.ReferenceParts.{user_info_of, host_of, port_of, base_of};
-ghost use Rattle.iref_grammar.specs.PathValue.{spell_path};
-ghost use Rattle.iref_grammar.specs.Texts.{before};
-ghost use Rattle.iref_grammar.specs.Grammar.{hash_sign};
 
 use crate::owner::ReferenceBuf;
 use crate::parts::{Parts, UriRefParts};
@@ -80,9 +73,8 @@ impl<'a, R: HeldRule, C: CharSet> Reference<'a, R, C> {
         requires { R.test C.tests text.now ≡ true }
         ensures { reference_text result ≡ text.now }
     {
-        Reference {
-            text: View::new_unchecked(text),
-        }
+        let text = View::new_unchecked(text);
+        Reference { text }
     }
 
     /// The text.
@@ -120,30 +112,21 @@ impl<'a, R: HeldRule, C: CharSet> Reference<'a, R, C> {
     pub fn user_info(&self) -> Option<UserInfo<'a, C>>
         ensures { option_map view_text result ≡ user_info_of (reference_value self.now) }
     {
-        match self.reference_parts().authority_parts() {
-            Some(parts) => parts.user_info,
-            None => None,
-        }
+        self.reference_parts().authority_parts()?.user_info
     }
 
     /// The host, if the reference has an authority (RFC 3986 section 3.2.2).
     pub fn host(&self) -> Option<Host<'a, C>>
         ensures { option_map view_text result ≡ host_of (reference_value self.now) }
     {
-        match self.reference_parts().authority_parts() {
-            Some(parts) => Some(parts.host),
-            None => None,
-        }
+        Some(self.reference_parts().authority_parts()?.host)
     }
 
     /// The port, if the reference has an authority with one (RFC 3986 section 3.2.3).
     pub fn port(&self) -> Option<Port<'a>>
         ensures { option_map view_text result ≡ port_of (reference_value self.now) }
     {
-        match self.reference_parts().authority_parts() {
-            Some(parts) => parts.port,
-            None => None,
-        }
+        self.reference_parts().authority_parts()?.port
     }
 
     /// The path, which may be empty.
@@ -242,9 +225,8 @@ impl<R: HeldRule + AllowsEmpty, C: CharSet> Reference<'_, R, C> {
     pub fn empty() -> Self
         ensures { reference_text result ≡ [] }
     {
-        Reference {
-            text: View::empty(),
-        }
+        let text = View::empty();
+        Reference { text }
     }
 }
 

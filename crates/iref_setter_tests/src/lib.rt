@@ -1,5 +1,15 @@
-//! Tests of owners edited in place: rows of the RFC's guards, and where the components are then.
+//! Tests of owners edited in place: rows of the RFC's guards, where the components are then, and
+//! edits that are refused.
 #![tactic(auto)]
 
+pub mod callers;
+#[cfg(test)]
+mod editors;
+#[cfg(test)]
+mod normal;
+#[cfg(test)]
+mod refused_growth;
 #[cfg(test)]
 mod setters;
+#[cfg(test)]
+mod tried;

@@ -1,33 +1,27 @@
 //! Edits of a held text: each is one step of the reference, and moves the places with the text.
-ghost use Rattle.std.specs.Prelude.{◌≡◌, ◌≤◌, ◌<◌, ◌+◌, ◌-◌, ◌^◌, ◌++◌};
-ghost use Rattle.std.specs.Prelude.{true, false, [], ◌∷◌, length};
-ghost use Rattle.std.specs.Prelude.{Option, is_some, option_map, codes};
-ghost use Rattle.std.specs.Prelude.{OnOk, OnErr, IsOk, IsNone};
+ghost use Rattle.std.specs.Prelude.{◌≡◌, ◌≤◌, ◌<◌, ◌+◌, ◌-◌, ◌^◌, ◌++◌, true, false, [], ◌∷◌};
+ghost use Rattle.std.specs.Prelude.{length, Option, is_some, option_map, codes, OnOk, OnErr, IsOk};
+ghost use Rattle.std.specs.Prelude.{IsNone};
 ghost use Rattle.std.specs.Option.{option_copied};
 ghost use Rattle.std.specs.List.{splice};
-ghost use Rattle.iref_grammar.specs.Rules.{Text};
-ghost use Rattle.iref_grammar.specs.Grammar.{colon, question_mark, hash_sign};
-ghost use Rattle.iref_grammar.specs.Authority.{AuthorityValue, spell_authority, read_authority};
-ghost use Rattle.iref_grammar.specs.Authority.{is_authority};
-ghost use Rattle.iref_grammar.specs.Texts.{part_then, then_part};
-ghost use Rattle.iref_grammar.specs.Tests.{none_or, is_scheme, is_path, is_query, is_fragment};
-ghost use Rattle.iref_grammar.specs.Reference.{context_of, read_reference, spell};
-ghost use Rattle.iref_grammar.specs.Contexts.{is_path_in};
-ghost use Rattle.iref_grammar.specs.PathValue.{PathValue, read_path, spell_path};
-ghost use Rattle.iref_model.specs.ComponentSteps.{with_query, with_fragment};
-ghost use Rattle.iref_model.specs.ComponentSteps.{with_path, with_authority, with_scheme};
+ghost use Rattle.iref_component.specs.{Text, colon, question_mark, hash_sign, AuthorityValue};
+ghost use Rattle.iref_component.specs.{spell_authority, read_authority, is_authority, part_then};
+ghost use Rattle.iref_component.specs.{then_part, none_or, is_scheme, is_path, is_query};
+ghost use Rattle.iref_component.specs.{is_fragment, context_of, read_reference, spell, is_path_in};
+ghost use Rattle.iref_component.specs.{PathValue, read_path, spell_path, with_query, with_fragment};
+ghost use Rattle.iref_component.specs.{with_path, with_authority, with_scheme};
 ghost use Rattle.iref_buffer.specs.PathTexts.{authority_text, path_text};
 ghost use Rattle.iref_buffer.specs.PathTexts.{with_path_text, with_path_read};
 ghost use Rattle.iref_buffer.specs.ComponentLengths.{HasLengths, lengths_of, with_mark};
 ghost use Rattle.iref_buffer.specs.PlaceTexts.{IsWithin};
 
 use super::{Held, HeldRule, authority_start, front_end};
-use crate::guard::{guard_of, root_of};
 use crate::lengths::{Lengths, len_of};
-use crate::text::{len_after, marked, marked_after, replace};
+use iref_edit::text::{len_after, marked, marked_after, replace};
 use iref_error::Memory;
 use iref_grammar::chars::CharSet;
 use iref_grammar::places::PathContext;
+use iref_path_text::guard::{guard_of, root_of};
 use std::alloc::{AllocError, Allocator};
 use std::ops::Range;
 
@@ -177,7 +171,7 @@ impl<R: HeldRule, C: CharSet, A: Allocator> Held<R, C, A> {
     }
 
     // Replaces a range of the text by three pieces, which leaves components of these lengths.
-    fn step(
+    pub(super) fn step(
         &mut self,
         lengths: Lengths,
         range: Range<usize>,
@@ -220,7 +214,7 @@ impl<R: HeldRule, C: CharSet, A: Allocator> Held<R, C, A> {
     }
 
     // Where the path stands.
-    fn path_range(&self) -> Range<usize>
+    pub(super) fn path_range(&self) -> Range<usize>
         ensures within { IsWithin self.now result }
         ensures replaced { (path : PathValue)
             → splice self.now result.start result.end (spell_path path)

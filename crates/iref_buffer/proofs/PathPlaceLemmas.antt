@@ -1,0 +1,95 @@
+-- The path of a reference where it stands, and after an edit of it.
+use Rattle.std.proofs.Common.{◌≡◌, ℕ, ◌+◌, Bool, true, false, cond, not, ◌&&◌, ◌||◌, length, refl, sym, ap, ◌∙◌}
+use Rattle.std.proofs.lemmas.Bool.{and_from}
+use Rattle.std.specs.List.{list_all}
+use Rattle.std.specs.declared.ops.Range.{Range}
+use Rattle.iref_grammar.specs.declared.places.PathContext.{PathContext}
+use Rattle.iref_grammar.specs.Characters.{CharTests, AreAboveAscii}
+use Rattle.iref_grammar.specs.Rules.{Text}
+use Rattle.iref_grammar.specs.Tests.{is_path, is_segment}
+use Rattle.iref_grammar.specs.Texts.{is_empty}
+use Rattle.iref_grammar.specs.Contexts.{is_path_in, is_readable_path, fits, follows_authority, reads_as_path}
+use Rattle.iref_grammar.specs.PathValue.{PathValue, read_path, spell_path}
+use Rattle.iref_grammar.specs.Places.{places_in, places_of, path_start}
+use Rattle.iref_grammar.specs.Reference.{ReferenceValue, read_reference, context_of, is_readable, is_reference}
+use Rattle.iref_grammar.proofs.PathLemmas.{read_path-reads, read-spelled}
+use Rattle.iref_grammar.proofs.PathTestLemmas.{is_path-segments}
+use Rattle.iref_grammar.proofs.ReadableLemmas.{readable_delimited}
+use Rattle.iref_grammar.proofs.ReadablePartsLemmas.{readable_parts}
+use Rattle.iref_model.specs.Guard.{guarded, made_absolute, with_dot}
+use Rattle.iref_model.specs.NormalList.{normal}
+use Rattle.iref_model.specs.PathSteps.{normalized}
+use Rattle.iref_model.specs.ComponentSteps.{with_path, with_new_normal_path}
+use Rattle.iref_model.proofs.NormalPathLemmas.{normal-with_dot}
+use Rattle.iref_model.proofs.ReferenceStepLemmas.{with_path-readable, with_normal_path-removes}
+use Rattle.iref_path_text.specs.PathParts.{is_path_after}
+use Rattle.iref_path_text.specs.Remaining.{flagged_path}
+use Rattle.iref_path_text.specs.Spelling.{normal_in}
+use Rattle.iref_buffer.specs.PathPlaces.{RemovesDots}
+use Rattle.iref_buffer.proofs.EditLemmas.{readable_of}
+
+-- ---- where it stands
+
+-- it is read back, may stand there, and is read there as a path
+pub record PathStands (set : CharTests) (context : PathContext) (path : Text) (value : PathValue) : Type 0 where
+  pub read : read_path path ≡ value
+  pub path_in : is_path_in set context path ≡ true
+  pub path_after : is_path_after set context path ≡ true
+
+pub path_stands : (set : CharTests) → AreAboveAscii set → (text : Text) → is_reference set text ≡ true → let r = read_reference text in PathStands set (context_of r) (spell_path r.path) r.path
+path_stands set above text h =
+    let r = read_reference text in
+    let readable = readable_of set text h in
+    let parts = readable_parts set r readable in
+    let delimited = readable_delimited set above r readable in
+    let read : read_path (spell_path r.path) ≡ r.path = read-spelled r.path.absolute r.path.segments delimited.segments delimited.shown in
+    let fit = and_from (follows_authority (context_of r) r.path) (reads_as_path (context_of r) r.path) parts.follows parts.reads in
+    let path = is_path-segments set above (spell_path r.path) ∙ ap (λ (p : PathValue). list_all (is_segment set) p.segments) read ∙ parts.segments in
+    record {
+      read = read;
+      path_in = ap (is_readable_path set (context_of r)) read ∙ and_from (list_all (is_segment set) r.path.segments) (fits (context_of r) r.path) parts.segments fit;
+      path_after = and_from _ _ path (ap (follows_authority (context_of r)) read ∙ parts.follows);
+    }
+
+-- ---- after an edit
+
+pub place_of_new_path : (old new path : Text) → read_reference new ≡ record (read_reference old) { path = read_path path } → let start = (places_of old).path.start in
+    let place : Range ℕ = record { start = start; end = start + length path } in (places_of new).path ≡ place
+unfolding places_of places_in
+place_of_new_path old new path e =
+    let start = path_start (read_reference old) in
+    let of_len : ℕ → Range ℕ = λ n. record { start = start; end = start + n } in
+    ap (λ r. (places_in r).path) e ∙ ap of_len (ap length (read_path-reads path).spelled)
+
+-- ---- the normal path
+
+normal-guard : (context : PathContext) (p : PathValue) → normal (guarded context p) ≡ normal (made_absolute context p)
+unfolding guarded
+normal-guard context p = by (reads_as_path context (made_absolute context p))
+  where
+    by : (b : Bool) → normal (cond b (made_absolute context p) (with_dot (made_absolute context p))) ≡ normal (made_absolute context p)
+    by true = refl
+    by false = normal-with_dot (made_absolute context p)
+
+-- the path that was made absolute is made normal, in place of the guarded one
+pub normalized_where_absolute : (p : PathValue) (r : ReferenceValue) → record r { path = normalized (context_of r) (made_absolute (context_of r) p) } ≡ with_new_normal_path p r
+unfolding with_path
+normalized_where_absolute p r = λ i. record r { path = guarded (context_of r) (sym (normal-guard (context_of r) p) i) }
+
+-- so is the normal text that is written in the context, with the flag that the path has there
+pub normal_in_place : (path : Text) (r : ReferenceValue) (context : PathContext) (absolute : Bool) → context ≡ context_of r
+    → absolute ≡ ((read_path path).absolute || context.has_authority && not (is_empty (read_path path).segments))
+    → normal_in context absolute path ≡ (with_new_normal_path (read_path path) r).path
+normal_in_place path r context absolute e f =
+    (λ i. normalized context (flagged_path (f i) path))
+    ∙ (λ i. normalized (e i) (made_absolute (e i) (read_path path)))
+    ∙ ap (λ (x : ReferenceValue). x.path) (normalized_where_absolute (read_path path) r)
+
+pub new_normal_path-parts : (p : PathValue) (r : ReferenceValue) → record r { path = (with_new_normal_path p r).path } ≡ with_new_normal_path p r
+unfolding with_path
+new_normal_path-parts p r = refl
+
+pub removes_dots : (set : CharTests) → AreAboveAscii set → (path : Text) (r : ReferenceValue) → is_path set path ≡ true → is_readable set r ≡ true → RemovesDots (with_path (read_path path) r) (with_new_normal_path (read_path path) r)
+removes_dots set above path r k h has absolute =
+    let readable = with_path-readable set (read_path path) r (sym (is_path-segments set above path) ∙ k) h in
+    with_normal_path-removes (with_path (read_path path) r) has absolute (readable_delimited set above (with_path (read_path path) r) readable).segments

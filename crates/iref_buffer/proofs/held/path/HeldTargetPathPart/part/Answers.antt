@@ -1,0 +1,28 @@
+use Rattle.std.proofs.Common.{sym, ap, ◌∙◌, ◌≡◌}
+use Rattle.std.specs.List.{slice_range}
+use Rattle.iref_grammar.specs.Reference.{read_reference, context_of}
+use Rattle.iref_grammar.specs.ComponentTexts.{ComponentTexts}
+use Rattle.iref_grammar.proofs.PlaceLemmas.{path_place}
+use Rattle.iref_path_text.specs.PathParts.{is_path_after}
+use Rattle.iref_buffer.proofs.HeldLemmas.{places_within}
+use Rattle.iref_buffer.proofs.PathPlaceLemmas.{path_stands}
+use Rattle.iref_buffer.proofs.held.path.HeldTargetPathPart.part.Goals as goal
+
+pub returns-clause-value : goal.returns-clause-value
+returns-clause-value g c =
+    let s = c.requires in
+    ap (λ (t : ComponentTexts). t.path) c.slices.ensures.texts ∙ sym (path_place c.args.self.now) ∙ (λ i. slice_range c.args.self.now (sym s.1 i) (sym s.2 i))
+
+pub returns-clause-test : goal.returns-clause-test
+returns-clause-test g c =
+    let s = c.requires in
+    let context : c.args.context ≡ context_of (read_reference c.args.self.now) = λ i. record { has_scheme = s.3 i; has_authority = s.4 i } in
+    (λ i. is_path_after g.C.CharSet.tests (context i) (c.slices.ensures.texts i).path) ∙ (path_stands g.C.CharSet.tests g.met.C.CharSet.above_ascii c.args.self.now s.0).path_after
+
+pub returns-clause-start_le_end : goal.returns-clause-start_le_end
+returns-clause-start_le_end g c =
+    rw (c.requires.1, c.requires.2) (places_within g.C.CharSet.tests g.met.C.CharSet.above_ascii c.args.self.now c.requires.0).path.start_le_end
+
+pub returns-clause-in_bounds : goal.returns-clause-in_bounds
+returns-clause-in_bounds g c =
+    rw c.requires.2 (places_within g.C.CharSet.tests g.met.C.CharSet.above_ascii c.args.self.now c.requires.0).path.end.0

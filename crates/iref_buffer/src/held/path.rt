@@ -1,0 +1,100 @@
+//! The path of a held reference as a part that is edited in place, and as a normal one (RFC 3986
+//! sections 3.3 and 5.2.4).
+ghost use Rattle.std.specs.Prelude.{◌≡◌, ◌||◌, ◌&&◌, not, true, OnErr, OnOk};
+ghost use Rattle.iref_grammar.specs.PathValue.{read_path};
+ghost use Rattle.iref_grammar.specs.Reference.{context_of, read_reference, spell};
+ghost use Rattle.iref_grammar.specs.Tests.{is_path};
+ghost use Rattle.iref_grammar.specs.Texts.{is_empty};
+ghost use Rattle.iref_model.specs.ComponentSteps.{with_path, with_new_normal_path};
+ghost use Rattle.iref_buffer.specs.PathPlaces.{IsPathOf, one_path, RemovesDots};
+
+use super::{Held, HeldRule};
+use crate::lengths::Lengths;
+use iref_edit::target::Target;
+use iref_error::Memory;
+use iref_grammar::chars::CharSet;
+use iref_grammar::places::PathContext;
+use iref_path_text::part::PathPart;
+use iref_path_text::pieces::split_root;
+use iref_path_text::spell::normalized_text;
+use std::alloc::Allocator;
+use std::ops::Range;
+
+impl<R: HeldRule, C: CharSet, A: Allocator + Copy> Target<PathPart, C> for Held<R, C, A> {
+    type Alloc = A;
+
+    ghost text = { λ held. held };
+
+    ghost stands = { IsPathOf C.tests };
+
+    ghost one_place = { one_path C.tests };
+
+    fn alloc(&self) -> A {
+        *self.text.allocator()
+    }
+
+    fn part(&self, context: PathContext, start: usize, end: usize) -> &str {
+        self.slices().path
+    }
+
+    fn replace(
+        &mut self,
+        context: PathContext,
+        start: usize,
+        end: usize,
+        within: Range<usize>,
+        lead: &str,
+        middle: &str,
+        close: &str,
+    ) -> Result<usize, Memory> {
+        self.replace_in_path(within, lead, middle, close)?;
+        Ok(self.places.path.end)
+    }
+}
+
+impl<R: HeldRule, C: CharSet, A: Allocator> Held<R, C, A> {
+    /// What stands before the path.
+    pub fn context(&self) -> PathContext
+        ensures { result ≡ context_of (read_reference self.now) }
+    {
+        self.lengths().context()
+    }
+}
+
+impl<R: HeldRule, C: CharSet, A: Allocator + Copy> Held<R, C, A> {
+    /// Replaces the path by its normal form, with a guard where that would be read as something
+    /// else.
+    pub fn set_and_normalize_path(&mut self, path: &str) -> Result<(), Memory>
+        requires { is_path C.tests path.now ≡ true }
+        ensures text { OnOk result (self.new
+            ≡ spell (with_new_normal_path (read_path path.now) (read_reference self.old))) }
+        ensures value { OnOk result (read_reference self.new
+            ≡ with_new_normal_path (read_path path.now) (read_reference self.old)) }
+        ensures rewritten { OnOk result (RemovesDots
+            (with_path (read_path path.now) (read_reference self.old))
+            (read_reference self.new)) }
+        ensures err { OnErr result (self.new ≡ self.old) }
+    {
+        let context = self.context();
+        let absolute = is_absolute_after(context, path);
+        let normal = normalized_text::<C, A>(self.alloc(), context, absolute, path)?;
+        let normal = normal.as_str();
+        let lengths = Lengths {
+            path: normal.len(),
+            ..self.lengths()
+        };
+        let range = self.path_range();
+        self.step(lengths, range, normal, "", "")?;
+        Ok(())
+    }
+}
+
+// Whether the path is absolute where it stands: after an authority every path with segments is.
+#[tactic(auto, using(iref_path_text::proofs::SlashLemmas::some_pieces))]
+fn is_absolute_after(context: PathContext, path: &str) -> bool
+    ensures { result ≡ ((read_path path.now).absolute
+        || context.has_authority && not (is_empty (read_path path.now).segments)) }
+{
+    let (absolute, segments) = split_root(path);
+    absolute | (context.has_authority & segments.is_some())
+}

@@ -1,0 +1,54 @@
+//! The text that a reference resolves to, with the places of its components (RFC 3986 sections
+//! 5.2.2 and 5.3).
+ghost use Rattle.iref_grammar.specs.Reference.{is_readable, read_reference, spell};
+ghost use Rattle.iref_model.specs.Resolution.{resolved};
+ghost use Rattle.iref_parse.specs.ReferenceSlices.{value_of};
+ghost use Rattle.std.specs.Prelude.{◌≡◌, ◌+◌, ◌<◌, ◌^◌, IfOk, length, true};
+
+use super::{Held, HeldRule};
+use crate::target::Target;
+use iref_error::Memory;
+use iref_grammar::chars::CharSet;
+use iref_parse::split::ReferenceSlices;
+use std::alloc::{AllocError, Allocator};
+use std::marker::PhantomData;
+
+// Refuses two paths that cannot be counted together, since no text can hold them.
+fn count_together(base: &str, reference: &str) -> Result<(), AllocError>
+    ensures { IfOk result (λ _. length base.now + length reference.now + 6 < 2 ^ 64) }
+{
+    let paths = base.len().checked_add(reference.len()).ok_or(AllocError)?;
+    paths.checked_add(6).ok_or(AllocError)?;
+    Ok(())
+}
+
+impl<R: HeldRule, C: CharSet, A: Allocator> Held<R, C, A> {
+    /// What a reference resolves to against a base. The room is taken once, and each byte is
+    /// written once.
+    pub fn resolved(
+        alloc: A,
+        base: ReferenceSlices<'_>,
+        reference: ReferenceSlices<'_>,
+    ) -> Result<Self, Memory>
+        requires base { is_readable C.tests (value_of base) ≡ true }
+        requires reference { is_readable C.tests (value_of reference) ≡ true }
+        requires allowed { R.allows_scheme
+            (resolved (value_of base) (value_of reference)).scheme ≡ true }
+        ensures text { IfOk result (λ held.
+            held ≡ spell (resolved (value_of base.entry) (value_of reference.entry))) }
+        ensures value { IfOk result (λ held. read_reference held
+            ≡ resolved (value_of base.entry) (value_of reference.entry)) }
+    {
+        count_together(base.path, reference.path)?;
+        let target = Target::resolved(base, reference);
+        let bytes = target.bytes(alloc)?;
+        // What spells a reference is text, so no byte is read again.
+        let text = unsafe { String::from_utf8_unchecked(bytes) };
+        let places = target.lengths().places_in(text.as_str());
+        Ok(Held {
+            text,
+            places,
+            rule: PhantomData,
+        })
+    }
+}

@@ -1,0 +1,13 @@
+-- What is in a rule over the characters of URIs is in it over those of IRIs.
+use Rattle.std.specs.Prelude.{◌≡◌, true}
+use Rattle.iref_grammar.specs.Characters.{uri_chars, iri_chars, iri_above_ascii}
+use Rattle.iref_grammar.specs.Rules.{Text}
+use Rattle.iref_grammar.specs.Reference.{is_reference, is_full_reference}
+use Rattle.iref_grammar.proofs.ComponentLemmas.{full_if_scheme, reference_if_full, scheme_if_full}
+use Rattle.iref_grammar.proofs.WiderLemmas.{uri_reference}
+
+pub iri_reference : (text : Text) → is_reference uri_chars text ≡ true → is_reference iri_chars text ≡ true
+iri_reference = uri_reference iri_chars iri_above_ascii
+
+pub iri : (text : Text) → is_full_reference uri_chars text ≡ true → is_full_reference iri_chars text ≡ true
+iri text h = full_if_scheme iri_chars text (iri_reference text (reference_if_full uri_chars text h)) (scheme_if_full uri_chars text h)

@@ -1,0 +1,241 @@
+//! Conversions between URIs and IRIs, with their references. All keep the text, and none takes
+//! memory: a URI is an IRI (RFC 3987 section 3.1), and an IRI that holds ASCII alone is a URI.
+ghost use Rattle.std.specs.Prelude.{◌≡◌, IfSome, is_some};
+ghost use Rattle.iref_grammar.specs.Characters.{uri_chars};
+ghost use Rattle.iref_grammar.specs.Grammar.{IsUri, IsUriReference};
+ghost use Rattle.iref_grammar.specs.Rules.{InUtf8};
+ghost use Rattle.iref_component.specs.Makers.{Parses};
+ghost use Rattle.iref_reference.specs.Conversions.{SomeIfIn};
+ghost use Rattle.iref_reference.specs.References.{reference_text, reference_value};
+ghost use Rattle.iref_reference.specs.References.{reference_buf_text, HasSchemeOrRefused};
+
+use crate::owner::{ReferenceBuf, UriBuf, UriRefBuf};
+use crate::view::{Reference, Uri, UriRef};
+use iref_buffer::held::HeldRule;
+use iref_error::{InvalidIri, InvalidUri, InvalidUriRef};
+use iref_grammar::chars::{CharSet, IriChars, UriChars};
+use std::convert::TryFrom;
+
+impl<'a, R: HeldRule> Reference<'a, R, UriChars> {
+    /// The reference of IRIs of the same text, with the same components.
+    #[tactic(auto, using(crate::proofs::ConversionLemmas::iri_reference))]
+    pub fn as_iri_ref(&self) -> UriRef<'a, IriChars>
+        ensures text { reference_text result ≡ reference_text self.now }
+        ensures value { reference_value result ≡ reference_value self.now }
+    {
+        UriRef::new_unchecked(self.as_str())
+    }
+}
+
+impl<'a> Uri<'a, UriChars> {
+    /// The IRI of the same text.
+    #[tactic(auto, using(crate::proofs::ConversionLemmas::iri))]
+    pub fn as_iri(&self) -> Uri<'a, IriChars>
+        ensures { reference_text result ≡ reference_text self.now }
+    {
+        Uri::new_unchecked(self.as_str())
+    }
+}
+
+impl<'a> UriRef<'a, UriChars> {
+    /// The IRI of the same text, if the reference has a scheme.
+    pub fn as_iri(&self) -> Option<Uri<'a, IriChars>>
+        ensures text { IfSome result (λ iri. reference_text iri ≡ reference_text self.now) }
+        ensures scheme { is_some result ≡ is_some (reference_value self.now).scheme }
+    {
+        self.as_iri_ref().as_iri()
+    }
+}
+
+impl<'a, R: HeldRule> Reference<'a, R, IriChars> {
+    /// The URI of the same text, if it is one: it has a scheme and holds ASCII alone.
+    pub fn as_uri(&self) -> Option<Uri<'a, UriChars>>
+        ensures { SomeIfIn (InUtf8 (IsUri uri_chars)) (reference_text self.now)
+            reference_text result }
+    {
+        match Uri::new(self.as_str()) {
+            Ok(uri) => Some(uri),
+            Err(_) => None,
+        }
+    }
+
+    /// The reference of URIs of the same text, if it is one: it holds ASCII alone.
+    pub fn as_uri_ref(&self) -> Option<UriRef<'a, UriChars>>
+        ensures { SomeIfIn (InUtf8 (IsUriReference uri_chars)) (reference_text self.now)
+            reference_text result }
+    {
+        match UriRef::new(self.as_str()) {
+            Ok(reference) => Some(reference),
+            Err(_) => None,
+        }
+    }
+}
+
+impl<'a, R: HeldRule> From<Reference<'a, R, UriChars>> for UriRef<'a, IriChars> {
+    ghost from_gives = { λ uri iri. reference_text iri ≡ reference_text uri };
+
+    fn from(uri: Reference<'a, R, UriChars>) -> Self {
+        uri.as_iri_ref()
+    }
+}
+
+impl<'a> From<Uri<'a, UriChars>> for Uri<'a, IriChars> {
+    ghost from_gives = { λ uri iri. reference_text iri ≡ reference_text uri };
+
+    fn from(uri: Uri<'a, UriChars>) -> Self {
+        uri.as_iri()
+    }
+}
+
+impl<'a> TryFrom<UriRef<'a, UriChars>> for Uri<'a, IriChars> {
+    type Error = InvalidIri<UriRef<'a, UriChars>>;
+
+    ghost try_from_gives = { λ reference result.
+        HasSchemeOrRefused reference_text reference_text reference (λ error. error.0) result };
+
+    fn try_from(reference: UriRef<'a, UriChars>) -> Result<Self, InvalidIri<UriRef<'a, UriChars>>> {
+        reference.as_iri().ok_or(InvalidIri(reference))
+    }
+}
+
+impl<'a, R: HeldRule> TryFrom<Reference<'a, R, IriChars>> for Uri<'a, UriChars> {
+    type Error = InvalidUri<Reference<'a, R, IriChars>>;
+
+    ghost try_from_gives = { λ iri result. Parses (InUtf8 (IsUri uri_chars))
+        (reference_text iri) reference_text (λ error. error.0 ≡ iri) result };
+
+    fn try_from(
+        iri: Reference<'a, R, IriChars>,
+    ) -> Result<Self, InvalidUri<Reference<'a, R, IriChars>>> {
+        iri.as_uri().ok_or(InvalidUri(iri))
+    }
+}
+
+impl<'a, R: HeldRule> TryFrom<Reference<'a, R, IriChars>> for UriRef<'a, UriChars> {
+    type Error = InvalidUriRef<Reference<'a, R, IriChars>>;
+
+    ghost try_from_gives = { λ iri result. Parses (InUtf8 (IsUriReference uri_chars))
+        (reference_text iri) reference_text (λ error. error.0 ≡ iri) result };
+
+    fn try_from(
+        iri: Reference<'a, R, IriChars>,
+    ) -> Result<Self, InvalidUriRef<Reference<'a, R, IriChars>>> {
+        iri.as_uri_ref().ok_or(InvalidUriRef(iri))
+    }
+}
+
+impl<R: HeldRule> ReferenceBuf<R, UriChars> {
+    /// The reference of IRIs of the same text, with no copy.
+    #[tactic(auto, using(crate::proofs::ConversionLemmas::iri_reference))]
+    pub fn into_iri_ref(self) -> UriRefBuf<IriChars>
+        ensures { reference_buf_text result ≡ reference_buf_text self }
+    {
+        UriRefBuf::from_held(self.held.into_rule())
+    }
+}
+
+impl UriBuf<UriChars> {
+    /// The IRI of the same text, with no copy.
+    #[tactic(auto, using(crate::proofs::ConversionLemmas::iri))]
+    pub fn into_iri(self) -> UriBuf<IriChars>
+        ensures { reference_buf_text result ≡ reference_buf_text self }
+    {
+        UriBuf::from_held(self.held.into_rule())
+    }
+}
+
+impl UriRefBuf<UriChars> {
+    /// The IRI of the same text, with no copy, or the reference if it has no scheme.
+    pub fn try_into_iri(self) -> Result<UriBuf<IriChars>, InvalidIri<Self>>
+        ensures { HasSchemeOrRefused reference_buf_text reference_buf_text self
+            (λ error. error.0) result }
+    {
+        Ok(self.try_into_uri()?.into_iri())
+    }
+}
+
+impl<R: HeldRule, C: CharSet> ReferenceBuf<R, C> {
+    // The same text in another rule, or over other characters, if it is in it, or the owner.
+    fn converted<S: HeldRule, D: CharSet>(self) -> Result<ReferenceBuf<S, D>, Self>
+        ensures { Parses (InUtf8 (S.rule D.tests)) (reference_buf_text self) reference_buf_text
+            (λ owner. owner ≡ self) result }
+    {
+        if S::accepts::<D>(self.as_str()) {
+            Ok(ReferenceBuf::from_held(self.held.into_rule()))
+        } else {
+            Err(self)
+        }
+    }
+}
+
+impl<R: HeldRule> ReferenceBuf<R, IriChars> {
+    /// The URI of the same text, with no copy, or the owner if its text is no URI.
+    pub fn try_into_uri(self) -> Result<UriBuf<UriChars>, InvalidUri<Self>>
+        ensures { Parses (InUtf8 (IsUri uri_chars)) (reference_buf_text self) reference_buf_text
+            (λ error. error.0 ≡ self) result }
+    {
+        self.converted().map_err(InvalidUri)
+    }
+
+    /// The reference of URIs of the same text, with no copy, or the owner if its text is none.
+    pub fn try_into_uri_ref(self) -> Result<UriRefBuf<UriChars>, InvalidUriRef<Self>>
+        ensures { Parses (InUtf8 (IsUriReference uri_chars)) (reference_buf_text self)
+            reference_buf_text (λ error. error.0 ≡ self) result }
+    {
+        self.converted().map_err(InvalidUriRef)
+    }
+}
+
+impl<R: HeldRule> From<ReferenceBuf<R, UriChars>> for UriRefBuf<IriChars> {
+    ghost from_gives = { λ uri iri. reference_buf_text iri ≡ reference_buf_text uri };
+
+    fn from(uri: ReferenceBuf<R, UriChars>) -> Self {
+        uri.into_iri_ref()
+    }
+}
+
+impl From<UriBuf<UriChars>> for UriBuf<IriChars> {
+    ghost from_gives = { λ uri iri. reference_buf_text iri ≡ reference_buf_text uri };
+
+    fn from(uri: UriBuf<UriChars>) -> Self {
+        uri.into_iri()
+    }
+}
+
+impl TryFrom<UriRefBuf<UriChars>> for UriBuf<IriChars> {
+    type Error = InvalidIri<UriRefBuf<UriChars>>;
+
+    ghost try_from_gives = { λ reference result.
+        HasSchemeOrRefused
+        reference_buf_text reference_buf_text reference (λ error. error.0) result };
+
+    fn try_from(reference: UriRefBuf<UriChars>) -> Result<Self, InvalidIri<UriRefBuf<UriChars>>> {
+        reference.try_into_iri()
+    }
+}
+
+impl<R: HeldRule> TryFrom<ReferenceBuf<R, IriChars>> for UriBuf<UriChars> {
+    type Error = InvalidUri<ReferenceBuf<R, IriChars>>;
+
+    ghost try_from_gives = { λ iri result. Parses (InUtf8 (IsUri uri_chars))
+        (reference_buf_text iri) reference_buf_text (λ error. error.0 ≡ iri) result };
+
+    fn try_from(
+        iri: ReferenceBuf<R, IriChars>,
+    ) -> Result<Self, InvalidUri<ReferenceBuf<R, IriChars>>> {
+        iri.try_into_uri()
+    }
+}
+
+impl<R: HeldRule> TryFrom<ReferenceBuf<R, IriChars>> for UriRefBuf<UriChars> {
+    type Error = InvalidUriRef<ReferenceBuf<R, IriChars>>;
+
+    ghost try_from_gives = { λ iri result. Parses (InUtf8 (IsUriReference uri_chars))
+        (reference_buf_text iri) reference_buf_text (λ error. error.0 ≡ iri) result };
+
+    fn try_from(
+        iri: ReferenceBuf<R, IriChars>,
+    ) -> Result<Self, InvalidUriRef<ReferenceBuf<R, IriChars>>> {
+        iri.try_into_uri_ref()
+    }
+}

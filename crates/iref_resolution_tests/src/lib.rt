@@ -1,0 +1,10 @@
+//! Tests of strict resolution: rows of RFC 3986 section 5.4 and of relative, empty and guarded
+//! paths, and texts of 1,000,000 segments.
+#![tactic(auto)]
+
+#[cfg(test)]
+mod calls;
+#[cfg(test)]
+mod long_runs;
+#[cfg(test)]
+mod rows;
