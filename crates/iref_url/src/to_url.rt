@@ -1,0 +1,38 @@
+//! The URL that a text is parsed to.
+ghost use Rattle.std.specs.Prelude.{None};
+ghost use Rattle.iref_grammar.specs.Rules.{Text};
+ghost use Rattle.iref_reference.specs.References.{reference_text, reference_buf_text};
+ghost use Rattle.url.specs.Parser.{Gives, parse_url};
+
+use iref_grammar::chars::CharSet;
+use iref_reference::owner::UriBuf;
+use iref_reference::view::Uri;
+use std::alloc::Global;
+use url::{ParseError, Url};
+
+/// What has a URL: `Uri`, `UriBuf`, `Iri` and `IriBuf`.
+pub trait ToUrl {
+    /// Its text.
+    ghost text: { Self → Text };
+
+    /// The URL that the URL Standard parses from the text, or why there is none, as for `http://`.
+    fn to_url(&self, alloc: Global) -> Result<Url, ParseError>
+        ensures { Gives result (parse_url None (text self.now)) };
+}
+
+impl<C: CharSet> ToUrl for Uri<'_, C> {
+    ghost text = { reference_text };
+
+    fn to_url(&self, alloc: Global) -> Result<Url, ParseError> {
+        Url::parse(alloc, self.as_str())
+    }
+}
+
+impl<C: CharSet> ToUrl for UriBuf<C> {
+    ghost text = { reference_buf_text };
+
+    fn to_url(&self, alloc: Global) -> Result<Url, ParseError> {
+        let text = self.as_str();
+        Url::parse(alloc, text)
+    }
+}
