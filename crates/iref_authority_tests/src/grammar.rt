@@ -4,8 +4,7 @@ use iref_checks::tried::{Rows, differ, has_rows};
 use std::test::Fail;
 
 // Short texts: five characters (`a`, `1`, `:`, `.`, `v`) and four escapes; one character more in
-// IRIs. A text of four is one
-// of three and a character, or a character and an escape.
+// IRIs. A text of four is one of three and a character, or a character and an escape.
 const USER_INFOS: Rows = Rows {
     short: 1 + 5 + 25 + 129 + 665,
     taken: &["%41b:", "user:1"],
@@ -69,8 +68,7 @@ fn hosts(rt: HostRuntime) -> Result<(), Fail> {
 const NO_AUTHORITIES: &[&str] = &["a@b@c", "h:80:81", "h:a", "::1", "[::1]x", "a%4@b", "a/b"];
 
 // Short texts: hosts with a port, of which there is one a length: 1, 5, 21, 89 and 378 of them.
-// Before these a user info and
-// `@` or nothing. In IRIs 1, 6, 31, 160 and 826.
+// Before these a user info and `@` or nothing. In IRIs 1, 6, 31, 160 and 826.
 const AUTHORITIES: Rows = Rows {
     short: 1 + 6 + 31 + 160 + 826,
     taken: &["%75@h:1", ""],

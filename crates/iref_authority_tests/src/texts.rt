@@ -4,7 +4,7 @@ use iref_checks::same::{holds, same_text, shows};
 use std::test::Fail;
 
 #[test]
-fn printed_faults(rt: HostRuntime) -> Result<(), Fail> {
+fn printed_errors(rt: HostRuntime) -> Result<(), Fail> {
     shows(&uri::InvalidUserInfo("/"), "/", rt.alloc())?;
     shows(&iri::InvalidHost("[::1"), "[::1", rt.alloc())?;
     shows(&uri::InvalidAuthority("a@b@c"), "a@b@c", rt.alloc())

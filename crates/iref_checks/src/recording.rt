@@ -1,66 +1,57 @@
 //! A hasher that records what it is fed, and what a comparison of two values must say.
-ghost use Rattle.std.specs.Prelude.{◌≡◌, nat_lt, fold, ◌+◌, slice_set, if◌then◌else◌};
+ghost use Rattle.iref_checks.specs.Recording.{AreFedAlike, record_write, recorded, recorded_length};
+ghost use Rattle.std.specs.Ordering.{is_eq};
+ghost use Rattle.std.specs.Prelude.{◌≡◌, ◌↔◌, true};
 
-use std::cmp::Ordering;
+use arrayvec::ArrayVec;
 use std::hash::{Hash, Hasher};
 
-const ROOM: usize = 512;
-
-/// The bytes that it was fed, up to its room.
-#[derive(PartialEq, Drop)]
+/// The writes that it was fed, one behind the other; a write for which there is no room is left
+/// out.
+#[derive(Drop)]
 pub struct Recorder {
-    bytes: [u8; 512],
-    length: usize,
-}
-
-impl Recorder {
-    fn new() -> Recorder {
-        Recorder {
-            bytes: [0; 512],
-            length: 0,
-        }
-    }
-
-    // Records a byte, if there is room.
-    fn record(&mut self, byte: u8)
-        ensures { self.new ≡ (if nat_lt self.old.length 512 then record
-            { bytes = slice_set self.old.bytes self.old.length byte; length = self.old.length + 1 }
-            else self.old) }
-    {
-        if self.length < ROOM {
-            self.bytes[self.length] = byte;
-            self.length += 1;
-        }
-    }
+    bytes: ArrayVec<u8, 512>,
 }
 
 impl Hasher for Recorder {
-    ghost write = { fold (λ s byte. if nat_lt s.length 512 then record
-        { bytes = slice_set s.bytes s.length byte; length = s.length + 1 } else s) };
+    ghost write = { record_write };
 
-    ghost finish = { λ s. s.length };
+    ghost finish = { recorded_length };
 
     fn finish(&self) -> u64 {
-        self.length as u64
+        self.bytes.len() as u64
     }
 
     fn write(&mut self, bytes: &[u8]) {
-        for byte in bytes {
-            self.record(*byte);
+        if self.bytes.try_extend_from_slice(bytes).is_err() {
+            return;
         }
     }
 }
 
+fn record<T: Hash>(value: &T) -> Recorder
+    ensures { result ≡ recorded (T.hash_input value.now) }
+{
+    let mut recorder = Recorder {
+        bytes: ArrayVec::new(),
+    };
+    value.hash(&mut recorder);
+    recorder
+}
+
 /// Whether a hasher is fed the same of both, which may be of two types.
-pub fn are_fed_alike<T: Hash, U: Hash>(a: &T, b: &U) -> bool {
-    let (mut of_a, mut of_b) = (Recorder::new(), Recorder::new());
-    a.hash(&mut of_a);
-    b.hash(&mut of_b);
-    of_a == of_b
+pub fn are_fed_alike<T: Hash, U: Hash>(a: &T, b: &U) -> bool
+    ensures { result ≡ true ↔ AreFedAlike (T.hash_input a.now) (U.hash_input b.now) }
+{
+    record(a).bytes.as_slice() == record(b).bytes.as_slice()
 }
 
 /// Whether `==`, the order and what a hasher is fed all say of the two that they are equal, or all
 /// that they are not.
-pub fn agree<T: Ord + Hash>(a: &T, b: &T, equal: bool) -> bool {
-    (a == b) == equal && (a.cmp(b) == Ordering::Equal) == equal && are_fed_alike(a, b) == equal
+pub fn agree<T: Ord + Hash>(a: &T, b: &T, equal: bool) -> bool
+    ensures { result ≡ true ↔ ((T.eq a.now b.now ≡ equal)
+        × (is_eq (T.cmp a.now b.now) ≡ equal)
+        × (equal ≡ true ↔ AreFedAlike (T.hash_input a.now) (T.hash_input b.now))) }
+{
+    (a == b) == equal && a.cmp(b).is_eq() == equal && are_fed_alike(a, b) == equal
 }

@@ -13,80 +13,80 @@ use std::fmt::Display;
 use std::hash::Hash;
 use std::test::Fail;
 
-/// An input that was refused, as it was handed back. The faults of both families are the same
+/// An input that was refused, as it was handed back. The errors of both families are the same
 /// types.
 #[derive(Debug, Drop)]
 pub struct Refused<T>(pub T);
 
 impl<T> From<InvalidScheme<T>> for Refused<T> {
-    fn from(fault: InvalidScheme<T>) -> Self {
-        Refused(fault.0)
+    fn from(error: InvalidScheme<T>) -> Self {
+        Refused(error.0)
     }
 }
 
 impl<T> From<InvalidPort<T>> for Refused<T> {
-    fn from(fault: InvalidPort<T>) -> Self {
-        Refused(fault.0)
+    fn from(error: InvalidPort<T>) -> Self {
+        Refused(error.0)
     }
 }
 
 impl<T> From<InvalidPctStr<T>> for Refused<T> {
-    fn from(fault: InvalidPctStr<T>) -> Self {
-        Refused(fault.0)
+    fn from(error: InvalidPctStr<T>) -> Self {
+        Refused(error.0)
     }
 }
 
 impl<T> From<InvalidUserInfo<T>> for Refused<T> {
-    fn from(fault: InvalidUserInfo<T>) -> Self {
-        Refused(fault.0)
+    fn from(error: InvalidUserInfo<T>) -> Self {
+        Refused(error.0)
     }
 }
 
 impl<T> From<InvalidHost<T>> for Refused<T> {
-    fn from(fault: InvalidHost<T>) -> Self {
-        Refused(fault.0)
+    fn from(error: InvalidHost<T>) -> Self {
+        Refused(error.0)
     }
 }
 
 impl<T> From<InvalidAuthority<T>> for Refused<T> {
-    fn from(fault: InvalidAuthority<T>) -> Self {
-        Refused(fault.0)
+    fn from(error: InvalidAuthority<T>) -> Self {
+        Refused(error.0)
     }
 }
 
 impl<T> From<InvalidSegment<T>> for Refused<T> {
-    fn from(fault: InvalidSegment<T>) -> Self {
-        Refused(fault.0)
+    fn from(error: InvalidSegment<T>) -> Self {
+        Refused(error.0)
     }
 }
 
 impl<T> From<InvalidPath<T>> for Refused<T> {
-    fn from(fault: InvalidPath<T>) -> Self {
-        Refused(fault.0)
+    fn from(error: InvalidPath<T>) -> Self {
+        Refused(error.0)
     }
 }
 
 impl<T> From<InvalidQuery<T>> for Refused<T> {
-    fn from(fault: InvalidQuery<T>) -> Self {
-        Refused(fault.0)
+    fn from(error: InvalidQuery<T>) -> Self {
+        Refused(error.0)
     }
 }
 
 impl<T> From<InvalidFragment<T>> for Refused<T> {
-    fn from(fault: InvalidFragment<T>) -> Self {
-        Refused(fault.0)
+    fn from(error: InvalidFragment<T>) -> Self {
+        Refused(error.0)
     }
 }
 
 impl<T> From<InvalidUriRef<T>> for Refused<T> {
-    fn from(fault: InvalidUriRef<T>) -> Self {
-        Refused(fault.0)
+    fn from(error: InvalidUriRef<T>) -> Self {
+        Refused(error.0)
     }
 }
 
 impl<T> From<InvalidUri<T>> for Refused<T> {
-    fn from(fault: InvalidUri<T>) -> Self {
-        Refused(fault.0)
+    fn from(error: InvalidUri<T>) -> Self {
+        Refused(error.0)
     }
 }
 
@@ -229,8 +229,7 @@ fn takes_of_short_texts<T: Tried>(want: u32, alloc: Global) -> Result<(), Fail> 
 }
 
 /// Bytes that are no UTF-8: a byte that never stands in it, cut characters, bytes that begin none,
-/// one spelled too long, and
-/// surrogates.
+/// one spelled too long, and surrogates.
 const BROKEN: &[&[u8]] = &[
     b"\xFF",
     b"a\xC3",
@@ -271,8 +270,7 @@ const EDGES: &[(&str, bool, bool)] = &[
 ];
 
 // Fails unless U, of URIs, has none of the characters at the edges, and I, of IRIs, those of a
-// path, or of a query where it
-// has the private ones too.
+// path, or of a query where it has the private ones too.
 fn has_extra_characters<U: Tried, I: Tried>(has_private: bool, alloc: Global) -> Result<(), Fail> {
     for row in EDGES {
         let (text, in_path, in_query) = *row;
@@ -310,8 +308,7 @@ pub struct Rows {
 }
 
 /// Fails unless the texts are taken and printed as they are, or come back, as the rows say; and
-/// bytes that are no text come
-/// back.
+/// bytes that are no text come back.
 pub fn has_rows<T: Tried>(rows: &Rows, alloc: Global) -> Result<(), Fail> {
     takes_of_short_texts::<T>(rows.short, alloc)?;
     takes_and_refuses::<T>(rows.taken, rows.refused, alloc)

@@ -17,8 +17,7 @@ fn pct_strs(rt: HostRuntime) -> Result<(), Fail> {
 }
 
 // Short texts: eight characters and four escapes, where a text of four is one of three and a
-// character, or a character and an
-// escape. Nine characters in IRIs.
+// character, or a character and an escape. Nine characters in IRIs.
 const QUERIES: Rows = Rows {
     short: 1 + 8 + 64 + 516 + 4160,
     taken: &["q%2f", "a?"],

@@ -17,3 +17,5 @@ mod pct;
 mod segments;
 #[cfg(test)]
 mod texts;
+#[cfg(test)]
+mod wrong_rows;

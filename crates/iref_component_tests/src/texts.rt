@@ -7,7 +7,7 @@ use iref_checks::tried::Tried;
 use std::test::Fail;
 
 #[test]
-fn printed_faults(rt: HostRuntime) -> Result<(), Fail> {
+fn printed_errors(rt: HostRuntime) -> Result<(), Fail> {
     shows(&InvalidPctStr("%4"), "%4", rt.alloc())?;
     shows(&uri::InvalidQuery("#"), "#", rt.alloc())?;
     shows(&iri::InvalidFragment("a b"), "a b", rt.alloc())?;

@@ -1,10 +1,10 @@
-//! The faults of one family in one type: the printed texts, and the forms over texts and bytes.
+//! The errors of one family in one type: the printed texts, and the forms over texts and bytes.
 use iref::{InvalidPort, InvalidScheme, IriError, UriError, iri, uri};
 use iref_checks::same::{holds, shows};
 use std::borrow::{CowSlice, CowStr};
 use std::test::Fail;
 
-/// What is printed of the fault of each component, in the family of URIs and in that of IRIs.
+/// What is printed of the error of each component, in the family of URIs and in that of IRIs.
 const PRINTED: &[(&str, &str)] = &[
     ("invalid URI: x", "invalid IRI: x"),
     ("invalid URI reference: x", "invalid IRI reference: x"),
@@ -61,7 +61,7 @@ fn iri_errors() -> [IriError<&'static str>; 11] {
 }
 
 #[test]
-fn faults_are_printed_with_their_component(rt: HostRuntime) -> Result<(), Fail> {
+fn errors_are_printed_with_their_component(rt: HostRuntime) -> Result<(), Fail> {
     for (error, row) in uri_errors().into_iter().zip(PRINTED) {
         shows(&error, row.0, rt.alloc())?;
     }
@@ -72,33 +72,33 @@ fn faults_are_printed_with_their_component(rt: HostRuntime) -> Result<(), Fail> 
 }
 
 #[test]
-fn faults_of_owned_and_borrowed_texts_are_one_type(rt: HostRuntime) -> Result<(), Fail> {
+fn errors_of_owned_and_borrowed_texts_are_one_type(rt: HostRuntime) -> Result<(), Fail> {
     let owned = iref::InvalidUriRef(String::from_str(rt.alloc(), "1:2")?);
-    let faults: [UriError<CowStr<'static>>; 2] = [owned.into(), iref::InvalidUriRef("1:2").into()];
-    for fault in faults {
-        shows(&fault, "invalid URI reference: 1:2", rt.alloc())?;
+    let errors: [UriError<CowStr<'static>>; 2] = [owned.into(), iref::InvalidUriRef("1:2").into()];
+    for error in errors {
+        shows(&error, "invalid URI reference: 1:2", rt.alloc())?;
     }
     Ok(())
 }
 
-// Whether the fault is that of a query, and holds the byte 0xFF.
-fn is_of_query(fault: &IriError<CowSlice<'static, u8>>) -> bool {
-    match fault {
+// Whether the error is that of a query, and holds the byte 0xFF.
+fn is_of_query(error: &IriError<CowSlice<'static, u8>>) -> bool {
+    match error {
         IriError::Query(iri::InvalidQuery(held)) => held.as_slice() == [0xff].as_slice(),
         _ => false,
     }
 }
 
 #[test]
-fn faults_of_owned_and_borrowed_bytes_are_one_type(rt: HostRuntime) -> Result<(), Fail> {
+fn errors_of_owned_and_borrowed_bytes_are_one_type(rt: HostRuntime) -> Result<(), Fail> {
     let owned = iri::InvalidQuery(vec![in rt.alloc(); 0xffu8]?);
     let bytes: &'static [u8] = &[0xff];
-    let faults: [IriError<CowSlice<'static, u8>>; 2] = [
+    let errors: [IriError<CowSlice<'static, u8>>; 2] = [
         owned.into(),
         iri::InvalidQuery(bytes).into(),
     ];
-    for fault in faults {
-        holds(is_of_query(&fault), "0xFF")?;
+    for error in errors {
+        holds(is_of_query(&error), "0xFF")?;
     }
     Ok(())
 }

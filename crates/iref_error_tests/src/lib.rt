@@ -1,4 +1,4 @@
-//! Tests of the faults of a family in one type.
+//! Tests of the errors of a family in one type.
 #![tactic(auto)]
 
 #[cfg(test)]

@@ -14,8 +14,8 @@ ghost use Rattle.iref.specs.PathSteps as step;
 ghost use Rattle.iref.specs.ReferenceParts as part;
 ghost use Rattle.iref.specs.Key.{are_alike};
 
+use iref::Memory;
 use iref::uri::{Path, UriBuf, UriRef};
-use iref::{Memory, TryError};
 use std::alloc::Global;
 use std::collections::HashSet;
 

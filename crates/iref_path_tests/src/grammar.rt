@@ -4,8 +4,7 @@ use iref_checks::tried::{Rows, differ, has_rows};
 use std::test::Fail;
 
 // Short texts: seven characters and four escapes, where a text of four is one of three and a
-// character, or a character and an
-// escape. Eight characters in IRIs.
+// character, or a character and an escape. Eight characters in IRIs.
 const PATHS: Rows = Rows {
     short: 1 + 7 + 49 + 347 + 2457,
     taken: &["/a/../b", "", "a:b"],

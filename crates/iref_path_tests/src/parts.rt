@@ -55,8 +55,7 @@ fn ends_of_paths(rt: HostRuntime) -> Result<(), Fail> {
 }
 
 /// A path, its length in bytes, how many segments it has, whether it has none, is absolute, and
-/// looks like a scheme: what
-/// stands before its first `:` is one.
+/// looks like a scheme: what stands before its first `:` is one.
 const SIZES: &[(&str, Size)] = &[
     ("", (0, 0, true, false, false)),
     ("/", (1, 0, true, true, false)),

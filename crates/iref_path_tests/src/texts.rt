@@ -1,10 +1,10 @@
-//! Printed faults, empty paths, and owners.
+//! Printed errors, empty paths, and owners.
 use iref::{iri, uri};
 use iref_checks::same::{holds, same, same_bytes, same_text, shows};
 use std::test::Fail;
 
 #[test]
-fn printed_faults(rt: HostRuntime) -> Result<(), Fail> {
+fn printed_errors(rt: HostRuntime) -> Result<(), Fail> {
     shows(&uri::InvalidPath("a b"), "a b", rt.alloc())
 }
 

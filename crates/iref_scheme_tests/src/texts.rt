@@ -1,4 +1,4 @@
-//! Known schemes, what faults print, and empty ports.
+//! Known schemes, what errors print, and empty ports.
 use crate::types::{Ports, Schemes};
 use iref::iri::{InvalidPort, InvalidScheme, Port, PortBuf, PortError, Scheme, TryError};
 use iref_checks::same::{same_text, shows};
@@ -21,7 +21,7 @@ fn other_known_schemes(rt: HostRuntime) -> Result<(), Fail> {
 }
 
 #[test]
-fn printed_faults(rt: HostRuntime) -> Result<(), Fail> {
+fn printed_errors(rt: HostRuntime) -> Result<(), Fail> {
     shows(&InvalidScheme("1"), "1", rt.alloc())?;
     shows(&InvalidPort("a"), "a", rt.alloc())
 }
