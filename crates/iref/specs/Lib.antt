@@ -18,6 +18,8 @@ pub use Rattle.iref_grammar.specs.Rules
 pub use Rattle.iref_grammar.specs.Tests
 pub use Rattle.iref_grammar.specs.Texts
 pub use Rattle.iref_model.specs.AuthorityKey
+pub use Rattle.iref_model.specs.AuthoritySteps
+pub use Rattle.iref_model.specs.ComponentSteps
 pub use Rattle.iref_model.specs.HostNumbers
 pub use Rattle.iref_model.specs.Key
 pub use Rattle.iref_model.specs.Lines
@@ -32,7 +34,13 @@ pub use Rattle.iref_component.specs.Ports
 pub use Rattle.iref_component.specs.Components
 pub use Rattle.iref_authority.specs.Authorities
 pub use Rattle.iref_authority.specs.AuthorityParts
+pub use Rattle.iref_authority.specs.AuthorityTexts
+pub use Rattle.iref_authority.specs.AuthorityEdits
+pub use Rattle.iref_error.specs.Tried
 pub use Rattle.iref_path.specs.Paths
 pub use Rattle.iref_path.specs.NormalPaths
+pub use Rattle.iref_path.specs.Appends
+pub use Rattle.iref_path.specs.PathEdits
+pub use Rattle.iref_reference.specs.Conversions
 pub use Rattle.iref_reference.specs.Parts
 pub use Rattle.iref_reference.specs.References

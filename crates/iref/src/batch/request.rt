@@ -1,12 +1,11 @@
 //! What a line asks for.
+ghost use Rattle.std.specs.Option.{option_copied};
+ghost use Rattle.std.specs.Prelude.{◌≡◌, ◌∷◌, bytes_eq, option_map};
+ghost use Rattle.iref_model.specs.Lines as spec;
+ghost use Rattle.iref_grammar.specs.{pieces_at, Text};
+ghost use Rattle.iref_model.specs.{tab, read_line, program_verbs, one_text, two_texts};
 ghost use Rattle.iref.specs.Fields.{fields_of};
 ghost use Rattle.iref.specs.Requests.{request_of};
-ghost use Rattle.std.specs.Option.{option_copied};
-ghost use Rattle.iref_model.specs.Lines as spec;
-ghost use Rattle.std.specs.Prelude.{◌≡◌, ◌∷◌, bytes_eq, option_map};
-ghost use Rattle.iref_grammar.specs.Texts.{pieces_at};
-ghost use Rattle.iref_grammar.specs.Rules.{Text};
-ghost use Rattle.iref_model.specs.Lines.{tab, read_line, program_verbs, one_text, two_texts};
 
 use super::cut::cut_at;
 

@@ -51,7 +51,6 @@ pub struct FromStd<X> {
 
 impl<X> FromStd<X> {
     ghost use Rattle.iref.specs.StdStreams.{inner_of, has_failed};
-    ghost use Rattle.std.specs.Prelude.{false};
 
     /// The reader or writer, with no failed call so far.
     pub fn new(inner: X) -> Self
@@ -76,10 +75,7 @@ impl<X> FromStd<X> {
     pub fn into_inner(self) -> X
         ensures { result ≡ inner_of self }
     {
-        let FromStd {
-            inner,
-            has_failed: _,
-        } = self;
+        let FromStd { inner, .. } = self;
         inner
     }
 }
