@@ -7,6 +7,10 @@ use std::test::Fail;
 
 const TO_PARENT: &str = "../a-segment-that-fills-most-of-the-heap/..";
 
+/// Two segments, and one that is longer than the heap.
+const TOO_LONG: &str =
+    "b/./a-segment-that-is-longer-than-all-of-the-heap-since-it-has-more-than-64-bytes";
+
 const TO_NAME: &str = "../a-segment-that-fills-most-of-the-heap/name";
 
 #[test]
@@ -17,6 +21,9 @@ fn refused_edits_change_nothing(rt: HostRuntime) -> Result<(), Fail> {
         return Err("no path")?;
     };
     holds(path.push(Segment::new("some-more")?).is_err(), "push")?;
+    let segment = Segment::new("some-more")?;
+    holds(path.lazy_push(segment).is_err(), "lazy_push")?;
+    holds(path.replace(Path::new(TOO_LONG)?).is_err(), "replace")?;
     holds(path.pop().is_err(), "pop")?;
     holds(path.join(Path::new("b/c")?).is_err(), "join")?;
     holds(path.range() == (0..TO_PARENT.len()), "range")?;
@@ -34,9 +41,6 @@ fn a_refused_normal_path_changes_nothing(rt: HostRuntime) -> Result<(), Fail> {
     holds(path.range() == (0..TO_NAME.len()), "range")?;
     same_bytes(bytes.as_slice(), TO_NAME.as_bytes())
 }
-
-const TOO_LONG: &str =
-    "b/./a-segment-that-is-longer-than-all-of-the-heap-since-it-has-more-than-64-bytes";
 
 #[test]
 fn what_was_appended_before_the_refused_segment_stands(rt: HostRuntime) -> Result<(), Fail> {
