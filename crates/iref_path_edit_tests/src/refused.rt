@@ -52,5 +52,8 @@ fn what_was_appended_before_the_refused_segment_stands(rt: HostRuntime) -> Resul
     let segments = Path::new(TOO_LONG)?.segments();
     holds(path.append(segments).is_err(), "append")?;
     holds(path.range() == (0..4), "range")?;
-    same_bytes(bytes.as_slice(), b"/a/b")
+    let segments = Path::new(TOO_LONG)?.segments();
+    holds(path.lazy_append(segments).is_err(), "lazy_append")?;
+    holds(path.range() == (0..8), "range")?;
+    same_bytes(bytes.as_slice(), b"/a/b/b/.")
 }
