@@ -1,13 +1,14 @@
 -- A part of an authority replaced in its text.
 use Rattle.std.proofs.Common.{◌≡◌, ℕ, ◌+◌, ◌≤◌, true, [], ◌∷◌, ◌++◌, length, refl, sym, ap, ◌∙◌, ◌&&◌, length-append, append_assoc, arith, rules, subst, lit<}
-use Rattle.std.specs.Prelude.{Option, Some, None, Result, OnOk}
+use Rattle.std.specs.Prelude.{Option, Some, None, Result, OnOk, MatchResult}
 use Rattle.std.specs.List.{splice, slice_range}
 use Rattle.std.specs.Str.{IsCharBoundary, IsUtf8}
 use Rattle.std.specs.declared.ops.Range.{Range}
 use Rattle.std.proofs.lemmas.Bool.{and_from}
 use Rattle.std.proofs.lemmas.List.{places, same_lists, append-nil}
 use Rattle.std.proofs.lemmas.Str.{IsCharBoundary-start, IsCharBoundary-end, IsCharBoundary-at_seam}
-use Rattle.std.proofs.lemmas.Result.{on_ok_weaker}
+use Rattle.std.proofs.lemmas.Result.{on_ok_weaker, MatchResult-weaker}
+use Rattle.iref_edit.specs.Changes.{IsWithin}
 use Rattle.iref_edit.proofs.PartLemmas.{part_stands}
 use Rattle.iref_grammar.specs.Characters.{CharTests, AreAboveAscii}
 use Rattle.iref_grammar.specs.Rules.{Text}
@@ -19,9 +20,9 @@ use Rattle.iref_grammar.proofs.AuthorityLemmas.{read_authority-spelled}
 use Rattle.iref_grammar.proofs.AuthorityRuleLemmas.{authority_read, Decides-has_authority_parts}
 use Rattle.iref_grammar.proofs.SliceLemmas.{mark_boundary}
 use Rattle.iref_model.specs.AuthoritySteps.{with_user_info, with_host, with_port}
-use Rattle.iref_authority.specs.AuthorityTexts.{SpellsAuthority, IsWithin, IsStep, marked_length, authority_is_text}
+use Rattle.iref_authority.specs.AuthorityTexts.{SpellsAuthority, IsStep, marked_length, authority_is_text}
 use Rattle.iref_authority.specs.declared.authority_mut.AuthorityMut.{AuthorityMut}
-use Rattle.iref_authority.specs.AuthorityEdits.{edited_bytes, authority_mut_start, authority_mut_end, authority_mut_value, BecomesAuthority}
+use Rattle.iref_authority.specs.AuthorityEdits.{edited_bytes, authority_mut_start, authority_mut_end, authority_mut_value, BecomesAuthority, Edits}
 use Rattle.iref_authority.proofs.PartLemmas.{user_info_in_rule, host_in_rule, port_in_rule}
 
 -- ---- lists
@@ -168,7 +169,7 @@ module _ {C T A c H a : _} {R E : Type 0} (result : Result R E) (text : Text) (o
   whole_step step becomes =
       on_ok_weaker result
       (λ b. subst (λ t. IsStep step t (edited_bytes new)) bytes
-      (step_of_whole step (edited_bytes old) (edited_bytes new) old.start old.end new.start new.end start (end ∙ ap length (sym bytes)) b.bytes b.from b.to b.reads))
+      (step_of_whole step (edited_bytes old) (edited_bytes new) old.place.start old.place.end new.place.start new.place.end start (end ∙ ap length (sym bytes)) b.bytes b.from b.to b.reads))
       becomes
 
   pub whole_text : (authority : Text) → OnOk result (BecomesAuthority old new (read_authority authority)) → OnOk result (edited_bytes new ≡ authority)
@@ -176,3 +177,10 @@ module _ {C T A c H a : _} {R E : Type 0} (result : Result R E) (text : Text) (o
       on_ok_weaker result
       (λ b. b.bytes ∙ (λ i. splice (bytes i) (start i) (end i) (read_authority-spelled authority i)) ∙ whole_replaced text authority)
       becomes
+
+  pub whole_edits : (step : AuthorityValue → AuthorityValue) → Edits step old new result → MatchResult result (λ _. IsStep step text (edited_bytes new)) (λ _. edited_bytes new ≡ text)
+  whole_edits step edits =
+      MatchResult-weaker result edits
+      (λ _ b. subst (λ t. IsStep step t (edited_bytes new)) bytes
+      (step_of_whole step (edited_bytes old) (edited_bytes new) old.place.start old.place.end new.place.start new.place.end start (end ∙ ap length (sym bytes)) b.bytes b.from b.to b.reads))
+      (λ _ same. same.bytes ∙ bytes)

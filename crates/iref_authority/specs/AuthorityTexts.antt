@@ -1,18 +1,11 @@
 -- The text of an authority that is edited in place.
-use Rattle.std.specs.Prelude.{ℕ, ◌≡◌, ◌+◌, ◌≤◌, true, Option, Some, None, length}
-use Rattle.std.specs.Str.{IsCharBoundary, IsUtf8}
-use Rattle.std.specs.declared.ops.Range.{Range}
+use Rattle.std.specs.Prelude.{ℕ, ◌≡◌, ◌+◌, true, Option, Some, None, length}
+use Rattle.std.specs.Str.{IsUtf8}
 use Rattle.std.proofs.Props.{props}
 use Rattle.iref_grammar.specs.Characters.{CharTests, AreAboveAscii}
 use Rattle.iref_grammar.specs.Rules.{Text}
 use Rattle.iref_grammar.specs.Authority.{AuthorityValue, spell_authority, read_authority, is_authority}
 use Rattle.iref_grammar.proofs.AuthorityRuleLemmas.{Decides-is_authority}
-
--- the range lies in the text, and begins and ends between characters
-pub record IsWithin (text : Text) (range : Range ℕ) : Type 0 where
-  pub start_le_end : range.start ≤ range.end
-  pub start : IsCharBoundary text range.start
-  pub end : IsCharBoundary text range.end
 
 -- how many bytes a part and its mark have, where there is one
 abbrev pub marked_length : Option Text → ℕ

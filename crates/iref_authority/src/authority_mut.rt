@@ -3,7 +3,7 @@ ghost use Rattle.std.specs.Prelude.{◌≡◌, ◌≤◌, ◌+◌, ◌-◌, ◌+
 ghost use Rattle.std.specs.Prelude.{Some, OnOk, OnErr, IfOk, IsOk, IsNone, option_map};
 ghost use Rattle.std.specs.Borrow.{sem, RestsIfErr};
 ghost use Rattle.std.specs.Option.{option_copied};
-ghost use Rattle.iref_edit.specs.Edited.{spliced};
+ghost use Rattle.iref_edit.specs.Changes.{IsWithin, replaced};
 ghost use Rattle.iref_grammar.specs.Rules.{InUtf8};
 ghost use Rattle.iref_grammar.specs.Grammar.{IsAuthority};
 ghost use Rattle.iref_grammar.specs.Tests.{is_user_info, is_port, none_or};
@@ -13,7 +13,7 @@ ghost use Rattle.iref_model.specs.PortNumbers.{port_text};
 ghost use Rattle.iref_component.specs.Components.{view_text};
 ghost use Rattle.iref_component.specs.Makers.{Parses};
 ghost use Rattle.iref_authority.specs.Authorities.{authority_text};
-ghost use Rattle.iref_authority.specs.AuthorityTexts.{IsWithin, SpellsAuthority};
+ghost use Rattle.iref_authority.specs.AuthorityTexts.{SpellsAuthority};
 
 mod tried;
 
@@ -21,6 +21,7 @@ use crate::authority::Authority;
 use crate::part::AuthorityPart;
 use crate::ranges::{host_range, port_range, user_info_range, whole_range};
 use iref_component::texts::{Host, Port, UserInfo};
+use iref_edit::change::{Change, Place};
 use iref_edit::target::Target;
 use iref_edit::text::{marked, marked_after};
 use iref_error::{InvalidAuthority, Memory};
@@ -35,10 +36,9 @@ use std::ops::Range;
 #[derive(Drop)]
 pub struct AuthorityMut<'a, C: CharSet, T: Target<AuthorityPart, C> = Vec<u8>> {
     target: &'a mut T,
-    start: usize,
-    end: usize,
+    place: Place,
     chars: PhantomData<C>,
-    ghost placed: { T.stands (T.text target.now) tt start end } by { T.one_place (T.text target.now) tt start end },
+    ghost placed: { T.stands (T.text target.now) tt place.start place.end } by { T.one_place (T.text target.now) tt place.start place.end },
 }
 
 impl<'a, C: CharSet> AuthorityMut<'a, C, Vec<u8>> {
@@ -102,8 +102,10 @@ impl<'a, C: CharSet, T: Target<AuthorityPart, C>> AuthorityMut<'a, C, T> {
     {
         AuthorityMut {
             target,
-            start: range.start,
-            end: range.end,
+            place: Place {
+                start: range.start,
+                end: range.end,
+            },
             chars: PhantomData,
         }
     }
@@ -114,7 +116,7 @@ impl<'a, C: CharSet, T: Target<AuthorityPart, C>> AuthorityMut<'a, C, T> {
         ensures in_rule { is_authority C.tests result.now ≡ true }
         ensures lies { LiesInBytes self.now }
     {
-        self.target.part((), self.start, self.end)
+        self.target.part((), self.place)
     }
 
     /// The authority.
@@ -128,13 +130,8 @@ impl<'a, C: CharSet, T: Target<AuthorityPart, C>> AuthorityMut<'a, C, T> {
     pub fn into_authority(self) -> Authority<'a, C>
         ensures { authority_text result ≡ authority_mut_text self.entry }
     {
-        let AuthorityMut {
-            target,
-            start,
-            end,
-            ..
-        } = self;
-        Authority::new_unchecked(target.part((), start, end))
+        let AuthorityMut { target, place, .. } = self;
+        Authority::new_unchecked(target.part((), place))
     }
 
     /// Where the authority stands, in bytes.
@@ -142,32 +139,32 @@ impl<'a, C: CharSet, T: Target<AuthorityPart, C>> AuthorityMut<'a, C, T> {
         ensures start { result.start ≡ authority_mut_start self.now }
         ensures end { result.end ≡ authority_mut_end self.now }
     {
-        self.start..self.end
+        self.place.start..self.place.end
     }
 
-    // Replaces a range of the authority by three pieces, as one edit.
-    fn put(
-        &mut self,
-        within: Range<usize>,
-        lead: &str,
-        middle: &str,
-        close: &str,
-    ) -> Result<(), Memory>
+    // Replaces a range of the authority by two pieces, as one edit.
+    fn put(&mut self, within: Range<usize>, pieces: (&str, &str)) -> Result<(), Memory>
         requires lies { LiesInBytes self.old }
         requires within { IsWithin (authority_mut_text self.old) within }
-        requires in_rule { is_authority C.tests (spliced (authority_mut_text self.old) within
-            (lead.now ++ middle.now ++ close.now)) ≡ true }
+        requires in_rule { is_authority C.tests (replaced (authority_mut_text self.old) within
+            (pieces.0.now ++ pieces.1.now)) ≡ true }
         ensures same { IsSameEditor self.old self.new }
         ensures ok { (value : AuthorityValue) → SpellsAuthority C.tests
-            (spliced (authority_mut_text self.old) within (lead.now ++ middle.now ++ close.now))
-            value → OnOk result (BecomesAuthority self.old self.new value) }
+            (replaced (authority_mut_text self.old) within
+            (pieces.entry.0.now ++ pieces.entry.1.now)) value
+            → OnOk result (BecomesAuthority self.old self.new value) }
         ensures err { OnErr result (IsUnchanged self.old self.new) }
-        ensures shorter { length lead.now + length middle.now + length close.now
+        ensures shorter { length pieces.entry.0.now + length pieces.entry.1.now
             ≤ within.end - within.start → IsOk result }
     {
-        self.end = self
-            .target
-            .replace((), self.start, self.end, within, lead, middle, close)?;
+        let (lead, middle) = pieces;
+        let change = Change {
+            within,
+            lead,
+            middle,
+            close: "",
+        };
+        self.place.end = self.target.replace((), self.place, change)?;
         Ok(())
     }
 
@@ -181,8 +178,7 @@ impl<'a, C: CharSet, T: Target<AuthorityPart, C>> AuthorityMut<'a, C, T> {
         ensures none { IsNone user_info.entry → IsOk result }
     {
         let within = user_info_range::<C>(self.text());
-        let (part, mark) = marked_after(user_info, "@");
-        self.put(within, part, mark, "")
+        self.put(within, marked_after(user_info, "@"))
     }
 
     // Replaces the port, or takes it away.
@@ -195,8 +191,7 @@ impl<'a, C: CharSet, T: Target<AuthorityPart, C>> AuthorityMut<'a, C, T> {
         ensures none { IsNone port.entry → IsOk result }
     {
         let within = port_range::<C>(self.text());
-        let (mark, part) = marked(":", port);
-        self.put(within, mark, part, "")
+        self.put(within, marked(":", port))
     }
 
     /// Replaces the authority, and nothing that stands before or after it.
@@ -207,7 +202,7 @@ impl<'a, C: CharSet, T: Target<AuthorityPart, C>> AuthorityMut<'a, C, T> {
         ensures err { OnErr result (IsUnchanged self.old self.new) }
     {
         let within = whole_range::<C>(self.text());
-        self.put(within, authority.as_str(), "", "")
+        self.put(within, (authority.as_str(), ""))
     }
 
     /// Replaces the user info and its `@`, or takes them away, which takes no memory: `u@h` without
@@ -230,7 +225,7 @@ impl<'a, C: CharSet, T: Target<AuthorityPart, C>> AuthorityMut<'a, C, T> {
         ensures err { OnErr result (IsUnchanged self.old self.new) }
     {
         let within = host_range::<C>(self.text());
-        self.put(within, host.as_str(), "", "")
+        self.put(within, (host.as_str(), ""))
     }
 
     /// Replaces the port and its `:`, or takes them away, which takes no memory: `h:80` without a

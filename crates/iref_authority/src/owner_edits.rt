@@ -1,27 +1,27 @@
 //! Authorities that own their text, edited in place (RFC 3986 section 3.2).
-ghost use Rattle.std.specs.Prelude.{◌≡◌, Some, IfSome, OnOk, OnErr, IsOk, IsNone};
+ghost use Rattle.std.specs.Prelude.{◌≡◌, OnOk, OnErr, IsOk, IsNone};
 ghost use Rattle.std.specs.Prelude.{length, option_map};
 ghost use Rattle.std.specs.Option.{option_copied};
-ghost use Rattle.iref_grammar.specs.Rules.{InUtf8};
 ghost use Rattle.iref_grammar.specs.Grammar.{IsAuthority, IsHost, IsPort, IsUserInfo};
 ghost use Rattle.iref_grammar.specs.Authority.{read_authority};
 ghost use Rattle.iref_model.specs.AuthoritySteps.{with_user_info, with_host, with_port};
 ghost use Rattle.iref_model.specs.PortNumbers.{port_text};
 ghost use Rattle.iref_component.specs.Components.{view_text};
-ghost use Rattle.iref_authority.specs.Authorities.{authority_text, authority_buf_text};
+ghost use Rattle.iref_component.specs.Tries.{Tests, TestsIfSome};
+ghost use Rattle.iref_authority.specs.Authorities.{authority_text, authority_buf_text, EditsOwner};
 ghost use Rattle.iref_authority.specs.AuthorityTexts.{IsWhole, one_whole, IsStep};
-ghost use Rattle.iref_error.specs.Tried.{TellsInvalid};
 
 use crate::authority::Authority;
 use crate::authority_mut::AuthorityMut;
 use crate::owner::AuthorityBuf;
 use crate::part::AuthorityPart;
 use iref_component::texts::{Host, Port, UserInfo};
+use iref_component::tried::Tried;
+use iref_edit::change::{Change, Place};
 use iref_edit::target::Target;
-use iref_error::{InvalidAuthority, InvalidHost, InvalidPort, InvalidUserInfo, Memory, TryError};
+use iref_error::{InvalidAuthority, InvalidHost, InvalidPort, InvalidUserInfo, Memory};
 use iref_grammar::chars::CharSet;
 use std::alloc::Global;
-use std::ops::Range;
 
 impl<C: CharSet> Target<AuthorityPart, C> for AuthorityBuf<C> {
     type Alloc = Global;
@@ -36,21 +36,12 @@ impl<C: CharSet> Target<AuthorityPart, C> for AuthorityBuf<C> {
         self.text.alloc()
     }
 
-    fn part(&self, context: (), start: usize, end: usize) -> &str {
+    fn part(&self, after: (), at: Place) -> &str {
         self.as_str()
     }
 
-    fn replace(
-        &mut self,
-        context: (),
-        start: usize,
-        end: usize,
-        within: Range<usize>,
-        lead: &str,
-        middle: &str,
-        close: &str,
-    ) -> Result<usize, Memory> {
-        self.text.replace(within, lead, middle, close)?;
+    fn replace(&mut self, after: (), at: Place, by: Change<'_>) -> Result<usize, Memory> {
+        self.text.replace(by)?;
         Ok(self.text.len())
     }
 }
@@ -121,13 +112,9 @@ impl<C: CharSet> AuthorityBuf<C> {
     }
 
     /// As `replace`, by a text: `Invalid` hands one back that is not an authority.
-    pub fn try_replace<'t>(
-        &mut self,
-        authority: &'t str,
-    ) -> Result<(), TryError<InvalidAuthority<&'t str>>>
+    pub fn try_replace<'t>(&mut self, authority: &'t str) -> Tried<InvalidAuthority<&'t str>>
         ensures ok { OnOk result (authority_buf_text self.new ≡ authority.now) }
-        ensures invalid { TellsInvalid (InUtf8 (IsAuthority C.tests) authority.now)
-            (λ error. error.0 ≡ authority.entry) result }
+        ensures text { Tests (IsAuthority C.tests) authority.entry (λ error. error.0) result }
         ensures err { OnErr result (authority_buf_text self.new ≡ authority_buf_text self.old) }
     {
         self.as_authority_mut().try_replace(authority)
@@ -137,39 +124,26 @@ impl<C: CharSet> AuthorityBuf<C> {
     pub fn try_set_user_info<'t>(
         &mut self,
         user_info: Option<&'t str>,
-    ) -> Result<(), TryError<InvalidUserInfo<&'t str>>>
-        ensures ok { OnOk result (IsStep (with_user_info (option_copied user_info.entry))
-            (authority_buf_text self.old) (authority_buf_text self.new)) }
-        ensures invalid { TellsInvalid (IfSome (option_copied user_info.entry) (InUtf8
-            (IsUserInfo C.tests))) (λ error. user_info.entry ≡ Some error.0) result }
-        ensures err { OnErr result (authority_buf_text self.new ≡ authority_buf_text self.old) }
-        ensures none { IsNone user_info.entry → IsOk result }
+    ) -> Tried<InvalidUserInfo<&'t str>>
+        ensures edit { EditsOwner (with_user_info (option_copied user_info.entry))
+            self.old self.new result }
+        ensures text { TestsIfSome (IsUserInfo C.tests) user_info.entry (λ error. error.0) result }
     {
         self.as_authority_mut().try_set_user_info(user_info)
     }
 
     /// As `set_host`, by a text: `Invalid` hands one back that is not a host.
-    pub fn try_set_host<'t>(&mut self, host: &'t str) -> Result<(), TryError<InvalidHost<&'t str>>>
-        ensures ok { OnOk result (IsStep (with_host host.now)
-            (authority_buf_text self.old) (authority_buf_text self.new)) }
-        ensures invalid { TellsInvalid (InUtf8 (IsHost C.tests) host.now)
-            (λ error. error.0 ≡ host.entry) result }
-        ensures err { OnErr result (authority_buf_text self.new ≡ authority_buf_text self.old) }
+    pub fn try_set_host<'t>(&mut self, host: &'t str) -> Tried<InvalidHost<&'t str>>
+        ensures edit { EditsOwner (with_host host.now) self.old self.new result }
+        ensures text { Tests (IsHost C.tests) host.entry (λ error. error.0) result }
     {
         self.as_authority_mut().try_set_host(host)
     }
 
     /// As `set_port`, by a text: `Invalid` hands one back that is not a port.
-    pub fn try_set_port<'t>(
-        &mut self,
-        port: Option<&'t str>,
-    ) -> Result<(), TryError<InvalidPort<&'t str>>>
-        ensures ok { OnOk result (IsStep (with_port (option_copied port.entry))
-            (authority_buf_text self.old) (authority_buf_text self.new)) }
-        ensures invalid { TellsInvalid (IfSome (option_copied port.entry) (InUtf8 IsPort))
-            (λ error. port.entry ≡ Some error.0) result }
-        ensures err { OnErr result (authority_buf_text self.new ≡ authority_buf_text self.old) }
-        ensures none { IsNone port.entry → IsOk result }
+    pub fn try_set_port<'t>(&mut self, port: Option<&'t str>) -> Tried<InvalidPort<&'t str>>
+        ensures edit { EditsOwner (with_port (option_copied port.entry)) self.old self.new result }
+        ensures text { TestsIfSome IsPort port.entry (λ error. error.0) result }
     {
         self.as_authority_mut().try_set_port(port)
     }

@@ -8,7 +8,8 @@ ghost use Rattle.iref_grammar.specs.Texts.{part_then, then_part};
 ghost use Rattle.iref_grammar.specs.Tests.{is_user_info, is_host, is_port, none_or};
 ghost use Rattle.iref_grammar.specs.Authority.{is_authority, read_authority};
 ghost use Rattle.iref_model.specs.AuthoritySteps.{with_user_info, with_host, with_port};
-ghost use Rattle.iref_authority.specs.AuthorityTexts.{IsWithin, SpellsAuthority, marked_length};
+ghost use Rattle.iref_authority.specs.AuthorityTexts.{SpellsAuthority, marked_length};
+ghost use Rattle.iref_edit.specs.Changes.{IsWithin};
 
 use iref_grammar::chars::CharSet;
 use iref_parse::authority::split_authority;

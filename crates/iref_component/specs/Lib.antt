@@ -27,6 +27,8 @@ pub use Rattle.iref_model.specs.ReferenceParts.{base_of, host_of, port_of, user_
 pub use Rattle.iref_component.specs.Components.{owned_text, view_text}
 pub use Rattle.iref_component.specs.Makers.{Parses}
 pub use Rattle.iref_component.specs.Ports.{port_number, signed_port_number}
+pub use Rattle.iref_component.specs.Tries.{Tests, TestsIfSome}
 pub mod Components
 pub mod Makers
 pub mod Ports
+pub mod Tries

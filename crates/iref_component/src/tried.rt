@@ -1,12 +1,31 @@
 //! Texts that are tested before an edit takes memory.
-ghost use Rattle.std.specs.Prelude.{◌≡◌, true, Some, IfSome, OnOk, IsNone, IsOk};
+ghost use Rattle.std.specs.Prelude.{◌≡◌, true, Some, IfOk, IfSome, OnOk, IsNone, IsOk};
 ghost use Rattle.std.specs.Option.{option_copied};
 ghost use Rattle.iref_grammar.specs.{InUtf8, none_or};
 ghost use Rattle.iref_error.specs.Tried.{TellsInvalid};
+ghost use Rattle.iref_component.specs.Components.{view_text};
+ghost use Rattle.iref_component.specs.Tries.{Tests};
 
 use crate::rule::Refuses;
+use crate::view::View;
 use iref_error::TryError;
 use iref_grammar::chars::CharSet;
+
+/// What an edit by a text answers, where `E` hands back one that is outside its rule.
+pub type Tried<E> = Result<(), TryError<E>>;
+
+/// The view of a text that is in a rule: `Invalid` hands back one that is not, in the rule's error.
+pub fn read<'t, R: Refuses<&'t str>, C: CharSet>(
+    text: &'t str,
+) -> Result<View<'t, R, C>, TryError<R::Error>>
+    ensures ok { IfOk result (λ view. view_text view ≡ text.now) }
+    ensures text { Tests (R.rule C.tests) text.entry R.refused result }
+{
+    match View::new(text) {
+        Ok(view) => Ok(view),
+        Err(error) => Err(TryError::Invalid(error)),
+    }
+}
 
 /// Whether the text, if there is one, is in a rule: `Invalid` hands back one that is not, in the
 /// rule's error.

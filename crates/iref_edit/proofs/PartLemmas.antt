@@ -2,6 +2,9 @@
 use Rattle.std.proofs.Common.{◌≡◌, ℕ, ◌+◌, ◌-◌, ◌≤◌, List, length, ◌∙◌, length-append, length-take, length-drop, arith, rules}
 use Rattle.std.specs.List.{splice, slice_range}
 use Rattle.std.proofs.lemmas.List.{places, same_lists}
+use Rattle.iref_edit.specs.declared.change.Change.{Change}
+use Rattle.iref_edit.specs.declared.change.Place.{Place}
+use Rattle.iref_edit.specs.Changes.{IsWithin, changed, cut_length, part_at, pieces, pieces_length}
 
 splice-within : (bs text : List ℕ) (start end from to : ℕ) → start ≤ from → from ≤ to → to ≤ end → end ≤ length bs → splice bs from to text ≡ splice bs start end (splice (slice_range bs start end) (from - start) (to - start) text)
 splice-within bs text start end from to h1 h2 h3 h4 = same_lists _ _ (search (rules, places)) (λ k d h. grind (arith, places))
@@ -37,8 +40,10 @@ part_stands text new part start end new_end a b e f = record {
   holds = rw (e, f) (slice-spliced text part start end a b);
 }
 
--- where the part ends then
-pub part_ends : (text pieces : List ℕ) (start end from to n : ℕ) → start ≤ end → end ≤ length text → from ≤ to → to ≤ length (slice_range text start end) → n ≡ length pieces
-    → start + from + n + (end - start - to) ≡ start + length (splice (slice_range text start end) from to pieces)
-part_ends text pieces start end from to n a b c d e =
-    omega (arith, slice-length text start end b, length-spliced (slice_range text start end) pieces from to c d)
+-- how long the part is then
+pub part_len : (text : List ℕ) (change : Change) (place : Place) → place.start ≤ place.end → place.end ≤ length text → IsWithin (part_at text place) change.within
+    → place.end - place.start - cut_length change + pieces_length change ≡ length (changed (part_at text place) change)
+part_len text change place a b within =
+    let part = part_at text place in
+    let added : length (pieces change) ≡ pieces_length change = simp length-append in
+    omega (arith, added, slice-length text place.start place.end b, length-spliced part (pieces change) change.within.start change.within.end within.start_le_end within.end.0)

@@ -1,43 +1,36 @@
 //! A range of a vector of bytes replaced in place.
 ghost use Rattle.std.specs.Prelude.{◌≡◌, ◌+◌, ◌-◌, ◌≤◌, ◌++◌, length, take, drop, vec_len, OnOk, OnErr, IsOk};
 ghost use Rattle.std.specs.List.{splice};
+ghost use Rattle.iref_edit.specs.Changes.{IsNoLonger, changed, pieces, pieces_length};
 ghost use Rattle.iref_edit.specs.Edited.{StandsIn, one_place};
 
+use crate::change::{Change, Place};
 use crate::target::{Part, Target};
-use crate::text::added_len;
 use iref_error::Memory;
 use iref_grammar::chars::CharSet;
 use std::alloc::{AllocError, Allocator};
-use std::ops::Range;
 use std::str;
 
-/// Replaces the bytes of a range by three pieces. All room is taken first: an `Err` changes
-/// nothing, and what is no longer than the range takes no memory.
+/// Makes the change. All room is taken first: an `Err` changes nothing, and what makes the bytes no
+/// more takes no memory.
 #[tactic(auto, using(crate::proofs::Splices::gaps))]
-pub fn replace<A: Allocator>(
-    bytes: &mut Vec<u8, A>,
-    range: Range<usize>,
-    lead: &str,
-    middle: &str,
-    close: &str,
-) -> Result<(), AllocError>
-    requires start_le_end { range.start ≤ range.end }
-    requires in_bounds { range.end ≤ vec_len bytes.old }
-    ensures ok { OnOk result (bytes.new.items ≡ splice bytes.old.items
-        range.start range.end (lead.now ++ middle.now ++ close.now)) }
+pub fn replace<A: Allocator>(bytes: &mut Vec<u8, A>, change: Change<'_>) -> Result<(), AllocError>
+    requires start_le_end { change.within.start ≤ change.within.end }
+    requires in_bounds { change.within.end ≤ vec_len bytes.old }
+    ensures ok { OnOk result (bytes.new.items ≡ changed bytes.old.items change.entry) }
     ensures err { OnErr result (bytes.new.items ≡ bytes.old.items) }
-    ensures shorter { length lead.now + length middle.now + length close.now
-        ≤ range.end - range.start → IsOk result }
+    ensures shorter { IsNoLonger change.entry → IsOk result }
 {
-    let added = added_len(lead, middle, close)?;
-    let start = range.start;
-    let cut = range.end - start;
+    let added = change.added_len()?;
+    let start = change.within.start;
+    let end = change.within.end;
+    let cut = end - start;
     if cut < added {
-        open_gap(bytes, range.end, added - cut)?;
-        fill(bytes, start, lead, middle, close);
+        open_gap(bytes, end, added - cut)?;
+        fill(bytes, &change);
     } else {
-        close_gap(bytes, start + added, range.end);
-        fill(bytes, start, lead, middle, close);
+        close_gap(bytes, start + added, end);
+        fill(bytes, &change);
     }
     Ok(())
 }
@@ -71,18 +64,23 @@ fn close_gap<A: Allocator>(bytes: &mut Vec<u8, A>, start: usize, end: usize)
     bytes.truncate(start + (len - end));
 }
 
-// Writes the pieces over what stands at `start`.
+// Writes the pieces over what stands where the change begins.
 #[tactic(auto, using(crate::proofs::Splices::gaps))]
-fn fill<A: Allocator>(bytes: &mut Vec<u8, A>, start: usize, lead: &str, middle: &str, close: &str)
-    requires { start + (length lead.now + length middle.now + length close.now)
-        ≤ vec_len bytes.old }
-    ensures { bytes.new.items ≡ splice bytes.old.items
-        start (start + (length lead.now + length middle.now + length close.now))
-        (lead.now ++ middle.now ++ close.now) }
+fn fill<A: Allocator>(bytes: &mut Vec<u8, A>, change: &Change<'_>)
+    requires { change.now.within.start + pieces_length change.now ≤ vec_len bytes.old }
+    ensures { bytes.new.items ≡ splice bytes.old.items change.now.within.start
+        (change.now.within.start + pieces_length change.now) (pieces change.now) }
 {
+    let lead = change.lead;
+    let middle = change.middle;
+    let start = change.within.start;
     overwrite(bytes, start, lead.as_bytes());
     overwrite(bytes, start + lead.len(), middle.as_bytes());
-    overwrite(bytes, start + (lead.len() + middle.len()), close.as_bytes());
+    overwrite(
+        bytes,
+        start + (lead.len() + middle.len()),
+        change.close.as_bytes(),
+    );
 }
 
 fn overwrite<A: Allocator>(bytes: &mut Vec<u8, A>, start: usize, text: &[u8])
@@ -107,24 +105,15 @@ impl<P: Part, C: CharSet, A: Allocator + Copy> Target<P, C> for Vec<u8, A> {
         *self.allocator()
     }
 
-    fn part(&self, context: P::Context, start: usize, end: usize) -> &str {
+    fn part(&self, after: P::Context, at: Place) -> &str {
         // What passes the test is text, so no byte is read again.
-        unsafe { str::from_utf8_unchecked(&self[start..end]) }
+        unsafe { str::from_utf8_unchecked(&self[at.start..at.end]) }
     }
 
-    fn replace(
-        &mut self,
-        context: P::Context,
-        start: usize,
-        end: usize,
-        within: Range<usize>,
-        lead: &str,
-        middle: &str,
-        close: &str,
-    ) -> Result<usize, Memory> {
-        let tail = end - start - within.end;
-        let range = start + within.start..start + within.end;
-        replace(self, range, lead, middle, close)?;
-        Ok(start + within.start + (lead.len() + middle.len() + close.len()) + tail)
+    fn replace(&mut self, after: P::Context, at: Place, by: Change<'_>) -> Result<usize, Memory> {
+        let len = by.len_after(at.end - at.start)?;
+        let within = at.start + by.within.start..at.start + by.within.end;
+        replace(self, Change { within, ..by })?;
+        Ok(at.start + len)
     }
 }

@@ -2,5 +2,6 @@
 #![tactic(auto)]
 
 pub mod bytes;
+pub mod change;
 pub mod target;
 pub mod text;

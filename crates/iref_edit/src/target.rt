@@ -1,16 +1,15 @@
 //! What holds a part of a text that is edited in place.
-ghost use Rattle.std.specs.Prelude.{◌≡◌, ◌+◌, ◌-◌, ◌≤◌, ◌++◌, ℕ, Bool, true, length, slice_range};
+ghost use Rattle.std.specs.Prelude.{◌≡◌, ◌+◌, ◌≤◌, ℕ, Bool, true, length};
 ghost use Rattle.std.specs.Prelude.{OnOk, OnErr, IfOk, IsOk};
-ghost use Rattle.std.specs.List.{splice};
-ghost use Rattle.std.specs.Str.{IsCharBoundary, IsUtf8};
+ghost use Rattle.std.specs.Str.{IsUtf8};
 ghost use Rattle.iref_grammar.specs.Characters.{CharTests, AreAboveAscii};
 ghost use Rattle.iref_grammar.specs.Rules.{Text};
-ghost use Rattle.iref_edit.specs.Edited.{spliced};
+ghost use Rattle.iref_edit.specs.Changes.{IsNoLonger, IsWithin, changed_at, changed_part, part_at};
 
+use crate::change::{Change, Place};
 use iref_error::Memory;
 use iref_grammar::chars::CharSet;
 use std::alloc::Allocator;
-use std::ops::Range;
 
 /// A kind of part, as the path of a reference, with what it may be in a context.
 pub trait Part {
@@ -47,43 +46,25 @@ pub trait Target<P: Part, C: CharSet> {
     fn alloc(&self) -> Self::Alloc;
 
     /// The part.
-    fn part(&self, context: P::Context, start: usize, end: usize) -> &str
-        requires { stands (text self.now) context start end }
-        ensures value { result.now ≡ slice_range (text self.now) start end }
-        ensures test { P.test C.tests context result.now ≡ true }
-        ensures start_le_end { start ≤ end }
-        ensures in_bounds { end ≤ length (text self.now) };
+    fn part(&self, after: P::Context, at: Place) -> &str
+        requires { stands (text self.now) after at.start at.end }
+        ensures value { result.now ≡ part_at (text self.now) at }
+        ensures test { P.test C.tests after result.now ≡ true }
+        ensures start_le_end { at.start ≤ at.end }
+        ensures in_bounds { at.end ≤ length (text self.now) };
 
-    /// Replaces a range of the part by three pieces, and answers where the part ends then. All
-    /// room is taken first: an `Err` changes nothing, and what is no longer than the range takes
-    /// no memory.
-    fn replace(
-        &mut self,
-        context: P::Context,
-        start: usize,
-        end: usize,
-        within: Range<usize>,
-        lead: &str,
-        middle: &str,
-        close: &str,
-    ) -> Result<usize, Memory>
-        requires stands { stands (text self.old) context start end }
-        requires ordered { within.start ≤ within.end }
-        requires cut_start { IsCharBoundary (slice_range (text self.old) start end) within.start }
-        requires cut_end { IsCharBoundary (slice_range (text self.old) start end) within.end }
-        requires test { P.test C.tests context (spliced (slice_range (text self.old) start end)
-            within (lead.now ++ middle.now ++ close.now)) ≡ true }
-        requires reads { P.reads C.tests context (slice_range (text self.old) start end) ≡ true
-            → P.reads C.tests context (spliced (slice_range (text self.old) start end)
-            within (lead.now ++ middle.now ++ close.now)) ≡ true }
-        ensures text { OnOk result (text self.new ≡ splice (text self.old) start end
-            (spliced (slice_range (text self.old) start end)
-            within (lead.now ++ middle.now ++ close.now))) }
-        ensures stands { IfOk result (λ new_end. stands (text self.new) context start new_end) }
-        ensures end { IfOk result (λ new_end. new_end ≡ start
-            + length (spliced (slice_range (text self.old) start end)
-            within (lead.now ++ middle.now ++ close.now))) }
+    /// Changes the part, and answers where it ends then. All room is taken first: an `Err` changes
+    /// nothing, and what makes the part no longer takes no memory.
+    fn replace(&mut self, after: P::Context, at: Place, by: Change<'_>) -> Result<usize, Memory>
+        requires stands { stands (text self.old) after at.start at.end }
+        requires within { IsWithin (part_at (text self.old) at) by.within }
+        requires test { P.test C.tests after (changed_part (text self.old) at by) ≡ true }
+        requires reads { P.reads C.tests after (part_at (text self.old) at) ≡ true
+            → P.reads C.tests after (changed_part (text self.old) at by) ≡ true }
+        ensures text { OnOk result (text self.new ≡ changed_at (text self.old) at by.entry) }
+        ensures stands { IfOk result (λ end. stands (text self.new) after at.start end) }
+        ensures end { IfOk result (λ end.
+            end ≡ at.start + length (changed_part (text self.old) at by.entry)) }
         ensures err { OnErr result (text self.new ≡ text self.old) }
-        ensures shorter { length lead.now + length middle.now + length close.now
-            ≤ within.end - within.start → IsOk result };
+        ensures shorter { IsNoLonger by.entry → IsOk result };
 }

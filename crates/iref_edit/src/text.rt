@@ -1,68 +1,41 @@
 //! A range of a text replaced in place.
-ghost use Rattle.std.specs.Prelude.{◌≡◌, ◌+◌, ◌-◌, ◌≤◌, ◌++◌, ◌<◌, ◌^◌, [], length};
-ghost use Rattle.std.specs.Prelude.{OnOk, OnErr, IfOk, IsOk, IsNone};
+ghost use Rattle.std.specs.Prelude.{◌≡◌, ◌+◌, ◌-◌, ◌≤◌, ◌++◌, [], length};
+ghost use Rattle.std.specs.Prelude.{OnOk, OnErr, IsOk, IsNone};
 ghost use Rattle.std.specs.Option.{option_copied};
 ghost use Rattle.std.specs.List.{splice};
 ghost use Rattle.std.specs.Str.{IsCharBoundary};
 ghost use Rattle.std.specs.String.{string_bytes, string_len, string_capacity};
 ghost use Rattle.iref_grammar.specs.Texts.{part_then, then_part};
+ghost use Rattle.iref_edit.specs.Changes.{IsNoLonger, IsWithin, changed};
 
+use crate::change::Change;
 use std::alloc::{AllocError, Allocator};
 use std::ops::Range;
 
-/// Replaces the bytes of a range by three pieces. All room is taken first: an `Err` changes
-/// nothing, and what is no longer than the range takes no memory.
-pub fn replace<A: Allocator>(
-    text: &mut String<A>,
-    range: Range<usize>,
-    lead: &str,
-    middle: &str,
-    close: &str,
-) -> Result<(), AllocError>
-    requires start_le_end { range.start ≤ range.end }
-    requires start { IsCharBoundary (string_bytes text.old) range.start }
-    requires end { IsCharBoundary (string_bytes text.old) range.end }
-    ensures ok { OnOk result (string_bytes text.new ≡ splice (string_bytes text.old)
-        range.start range.end (lead.now ++ middle.now ++ close.now)) }
+/// Makes the change. All room is taken first: an `Err` changes nothing, and what makes the text no
+/// longer takes no memory.
+pub fn replace<A: Allocator>(text: &mut String<A>, change: Change<'_>) -> Result<(), AllocError>
+    requires { IsWithin (string_bytes text.old) change.within }
+    ensures ok { OnOk result (string_bytes text.new
+        ≡ changed (string_bytes text.old) change.entry) }
     ensures err { OnErr result (string_bytes text.new ≡ string_bytes text.old) }
-    ensures shorter { length lead.now + length middle.now + length close.now
-        ≤ range.end - range.start → IsOk result }
+    ensures shorter { IsNoLonger change.entry → IsOk result }
 {
-    let added = added_len(lead, middle, close)?;
-    let start = range.start;
-    let cut = range.end - start;
+    let added = change.added_len()?;
+    let Change {
+        within,
+        lead,
+        middle,
+        close,
+    } = change;
+    let start = within.start;
+    let cut = within.end - start;
     text.reserve(added.saturating_sub(cut))?;
-    take_out(text, range);
+    take_out(text, within);
     put_in(text, start, close);
     put_in(text, start, middle);
     put_in(text, start, lead);
     Ok(())
-}
-
-// How many bytes the pieces have together, if that can be counted.
-pub(crate) fn added_len(lead: &str, middle: &str, close: &str) -> Result<usize, AllocError>
-    ensures sum { IfOk result (λ n. n ≡ length lead.now + length middle.now + length close.now) }
-    ensures fits { length lead.now + length middle.now + length close.now < 2 ^ 64 → IsOk result }
-{
-    let two = lead.len().checked_add(middle.len()).ok_or(AllocError)?;
-    two.checked_add(close.len()).ok_or(AllocError)
-}
-
-/// How many bytes a text has after a cut and three pieces, if that can be counted.
-pub fn len_after(
-    len: usize,
-    cut: usize,
-    lead: &str,
-    middle: &str,
-    close: &str,
-) -> Result<usize, AllocError>
-    requires { cut ≤ len }
-    ensures sum { IfOk result (λ n. n
-        ≡ len - cut + (length lead.now + length middle.now + length close.now)) }
-    ensures shorter { length lead.now + length middle.now + length close.now ≤ cut → IsOk result }
-{
-    let added = added_len(lead, middle, close)?;
-    (len - cut).checked_add(added).ok_or(AllocError)
 }
 
 // Takes the bytes of the range away, which takes no memory.

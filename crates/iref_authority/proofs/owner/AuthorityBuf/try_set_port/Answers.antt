@@ -2,10 +2,10 @@ use Rattle.std.proofs.Common.{rules}
 use Rattle.std.specs.Option.{option_copied}
 use Rattle.iref_model.specs.AuthoritySteps.{with_port}
 use Rattle.iref_authority.specs.Authorities.{authority_buf_text}
-use Rattle.iref_authority.proofs.EditLemmas.{whole_step}
+use Rattle.iref_authority.proofs.EditLemmas.{whole_edits}
 use Rattle.iref_authority.proofs.owner.AuthorityBuf.try_set_port.Goals as goal
 
-pub returns-clause-ok : goal.returns-clause-ok
-returns-clause-ok g c =
+pub returns-clause-edit : goal.returns-clause-edit
+returns-clause-edit g c =
     let whole = c.as_authority_mut.ensures in
-    search (rules, whole_step c.try_set_port.result (authority_buf_text c.args.self.now) c.as_authority_mut.result c.try_set_port.new.self whole.bytes whole.start whole.end (with_port (option_copied c.args.port)) c.try_set_port.ensures.ok)
+    search (rules, whole_edits c.try_set_port.result (authority_buf_text c.args.self.now) c.as_authority_mut.result c.try_set_port.new.self whole.bytes whole.start whole.end (with_port (option_copied c.args.port)) c.try_set_port.ensures.edit)
