@@ -23,14 +23,14 @@ path_mut_context p = p.context
 
 -- where the path stands
 abbrev pub path_mut_start : {C : _} {T : _} {A : _} {c : _} {t : _} {a : _} → PathMut C T A c t a → ℕ
-path_mut_start p = p.start
+path_mut_start p = p.place.start
 
 abbrev pub path_mut_end : {C : _} {T : _} {A : _} {c : _} {t : _} {a : _} → PathMut C T A c t a → ℕ
-path_mut_end p = p.end
+path_mut_end p = p.place.end
 
 -- the text of the path
 abbrev pub path_mut_text : {C : _} {T : _} {A : _} {c : _} {t : _} {a : _} → PathMut C T A c t a → Text
-path_mut_text p = slice_range (edited_bytes p) p.start p.end
+path_mut_text p = slice_range (edited_bytes p) p.place.start p.place.end
 
 -- the flag and the list that it is read as
 abbrev pub path_mut_value : {C : _} {T : _} {A : _} {c : _} {t : _} {a : _} → PathMut C T A c t a → PathValue
@@ -40,8 +40,8 @@ path_mut_value p = read_path (path_mut_text p)
 pub record IsEditorOf {C : _} {T : _} {A : _} {c : _} {t : _} {a : _} (p : PathMut C T A c t a) (bytes : Text) (context : PathContext) (start end : ℕ) : Type 0 where
   pub bytes_are : edited_bytes p ≡ bytes
   pub context_is : p.context ≡ context
-  pub from : p.start ≡ start
-  pub to : p.end ≡ end
+  pub from : p.place.start ≡ start
+  pub to : p.place.end ≡ end
 
 -- it borrows the same target still
 abbrev pub IsSameEditor : {C : _} {T : _} {A : _} {c : _} {t : _} {a : _} → PathMut C T A c t a → PathMut C T A c t a → Type 0
@@ -49,18 +49,18 @@ IsSameEditor old new = new.target.ghost_name ≡ old.target.ghost_name
 
 -- the path becomes this one, its range is exact, and no other byte changes
 pub record BecomesPath {C : _} {T : _} {A : _} {c : _} {t : _} {a : _} (old new : PathMut C T A c t a) (value : PathValue) : Type 0 where
-  pub bytes : edited_bytes new ≡ splice (edited_bytes old) old.start old.end (spell_path value)
+  pub bytes : edited_bytes new ≡ splice (edited_bytes old) old.place.start old.place.end (spell_path value)
   pub context : new.context ≡ old.context
-  pub from : new.start ≡ old.start
-  pub to : new.end ≡ old.start + length (spell_path value)
+  pub from : new.place.start ≡ old.place.start
+  pub to : new.place.end ≡ old.place.start + length (spell_path value)
   pub read : path_mut_value new ≡ value
 
 -- nothing changes
 pub record IsUnchanged {C : _} {T : _} {A : _} {c : _} {t : _} {a : _} (old new : PathMut C T A c t a) : Type 0 where
   pub bytes : edited_bytes new ≡ edited_bytes old
   pub context : new.context ≡ old.context
-  pub from : new.start ≡ old.start
-  pub to : new.end ≡ old.end
+  pub from : new.place.start ≡ old.place.start
+  pub to : new.place.end ≡ old.place.end
 
 -- the owner's text spells this path, and is read as it
 pub record SpellsPath {C : _} {c : _} (p : PathBuf C c) (value : PathValue) : Type 0 where

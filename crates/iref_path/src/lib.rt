@@ -2,6 +2,7 @@
 #![tactic(auto)]
 
 pub mod equality;
+pub mod from_segments;
 pub mod normal;
 pub mod path;
 pub mod path_buf;

@@ -1,12 +1,14 @@
 //! Paths (RFC 3986 section 3.3).
 
-ghost use Rattle.std.specs.Prelude.{◌≡◌, ◌<◌, ◌^◌, true, not, [], Some, IfOk, length, codes, option_map};
+ghost use Rattle.std.specs.Prelude.{◌≡◌, ◌<◌, ◌^◌, true, not, [], Some, IfOk, IsNone, IsOk, length, codes, option_map};
 ghost use Rattle.iref_model.specs.PathFunctions as function;
 ghost use Rattle.iref_model.specs.PathSteps as step;
+ghost use Rattle.iref_model.specs.PathSuffix.{path_suffix};
 ghost use Rattle.iref_component.specs.{IsPath, is_path, InUtf8, alone, path_key, Parses};
 ghost use Rattle.iref_component.specs.{spell_path, is_empty, view_text, normal_segments};
 ghost use Rattle.iref_path.specs.Paths.{path_text, path_value, path_buf_text, path_buf_value, segments_left};
 ghost use Rattle.iref_path.specs.NormalPaths.{normal_segments_left};
+ghost use Rattle.iref_path.specs.Suffixes.{SpellsSuffix};
 
 use crate::normal::NormalizedSegments;
 use crate::path_buf::PathBuf;
@@ -22,6 +24,7 @@ use iref_grammar::places::PathContext;
 use iref_path_text::path_text::{directory_text, parent_text};
 use iref_path_text::pieces::split_root;
 use iref_path_text::spell::normalized_text;
+use iref_path_text::suffix::suffix_text;
 use std::alloc::Global;
 use std::convert::TryFrom;
 use std::fmt;
@@ -178,15 +181,16 @@ impl<'a, C: CharSet> Path<'a, C> {
     pub fn parent_or_empty(&self) -> Self
         ensures { path_value result ≡ function.parent_or_empty (path_value self.now) }
     {
-        self.parent().unwrap_or(self.without_segments())
+        self.parent()
+            .unwrap_or(Path::without_segments(self.is_absolute()))
     }
 
-    // The empty path that is absolute where this one is.
+    // The path without segments.
     #[tactic(auto, unfolding(iref_grammar::specs::PathValue::read_path))]
-    fn without_segments(&self) -> Self
-        ensures { path_value result ≡ record (path_value self.now) { segments = [] } }
+    pub(crate) fn without_segments(absolute: bool) -> Self
+        ensures { path_value result ≡ record { absolute = absolute; segments = [] } }
     {
-        if self.is_absolute() {
+        if absolute {
             Path::empty_absolute()
         } else {
             Path::empty_relative()
@@ -213,6 +217,19 @@ impl<'a, C: CharSet> Path<'a, C> {
         let alone = PathContext::default();
         let text = normalized_text::<C, _>(alloc, alone, self.is_absolute(), self.as_str())?;
         Ok(PathBuf::new_unchecked(text))
+    }
+
+    /// What is left of the path after a prefix, as a relative path: of `/foo/bar` after `/foo` it is
+    /// `bar`, of `//foo` after `/` it is `.//foo`. None where the normal segments of the prefix are
+    /// not a beginning of the path's, after decoding, or where only one of both is absolute.
+    pub fn suffix(&self, alloc: Global, prefix: Path<'_, C>) -> Result<Option<PathBuf<C>>, Memory>
+        ensures suffix { IfOk result
+            (SpellsSuffix (path_value prefix.entry) (path_value self.now)) }
+        ensures none { IsNone (path_suffix (path_value prefix.entry) (path_value self.now))
+            → IsOk result }
+    {
+        let text = suffix_text::<C, _>(alloc, prefix.as_str(), self.as_str())?;
+        Ok(text.map(|text| PathBuf::new_unchecked(text)))
     }
 
     /// An owner of a copy.

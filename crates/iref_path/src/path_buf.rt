@@ -1,14 +1,16 @@
 //! Paths that own their text (RFC 3986 section 3.3).
 
 ghost use Rattle.std.specs.String.{string_bytes};
-ghost use Rattle.std.specs.Prelude.{◌≡◌, ◌<◌, ◌^◌, true, not, [], Some, IfOk, length, option_map};
+ghost use Rattle.std.specs.Prelude.{◌≡◌, ◌<◌, ◌^◌, true, not, [], Some, IfOk, IsNone, IsOk, length, option_map};
 ghost use Rattle.iref_model.specs.PathFunctions as function;
 ghost use Rattle.iref_model.specs.PathSteps as step;
+ghost use Rattle.iref_model.specs.PathSuffix.{path_suffix};
 ghost use Rattle.iref_component.specs.{ComparesBy, path_key, path_key_cmp, spell_path, InUtf8};
 ghost use Rattle.iref_component.specs.{Parses, view_text, is_path, alone, normal_segments};
 ghost use Rattle.iref_component.specs.{fed_path, is_empty, IsPath};
 ghost use Rattle.iref_path.specs.NormalPaths.{normal_segments_left};
 ghost use Rattle.iref_path.specs.Paths.{path_text, path_value, path_buf_text, path_buf_value, segments_left};
+ghost use Rattle.iref_path.specs.Suffixes.{SpellsSuffix};
 
 mod edits;
 mod lists;
@@ -145,6 +147,16 @@ impl<C: CharSet> PathBuf<C> {
             path_key (path_buf_value path) ≡ path_key (path_buf_value self.now)) }
     {
         self.as_path().normalized(alloc)
+    }
+
+    /// What is left of the path after a prefix, as `suffix` of the view.
+    pub fn suffix(&self, alloc: Global, prefix: Path<'_, C>) -> Result<Option<PathBuf<C>>, Memory>
+        ensures suffix { IfOk result
+            (SpellsSuffix (path_value prefix.entry) (path_buf_value self.now)) }
+        ensures none { IsNone (path_suffix (path_value prefix.entry) (path_buf_value self.now))
+            → IsOk result }
+    {
+        self.as_path().suffix(alloc, prefix)
     }
 
     /// How many segments the path has.

@@ -18,6 +18,7 @@ mod tries;
 use crate::path::Path;
 use crate::path_buf::PathBuf;
 use iref_component::texts::Segment;
+use iref_edit::change::{Change, Place};
 use iref_edit::target::Target;
 use iref_error::Memory;
 use iref_grammar::chars::CharSet;
@@ -34,10 +35,9 @@ use std::ops::Range;
 pub struct PathMut<'a, C: CharSet, T: Target<PathPart, C> = Vec<u8>> {
     target: &'a mut T,
     context: PathContext,
-    start: usize,
-    end: usize,
+    place: Place,
     chars: PhantomData<C>,
-    ghost placed: { T.stands (T.text target.now) context start end } by { T.one_place (T.text target.now) context start end },
+    ghost placed: { T.stands (T.text target.now) context place.start place.end } by { T.one_place (T.text target.now) context place.start place.end },
 }
 
 impl<'a, C: CharSet, T: Target<PathPart, C>> PathMut<'a, C, T> {
@@ -54,8 +54,10 @@ impl<'a, C: CharSet, T: Target<PathPart, C>> PathMut<'a, C, T> {
         PathMut {
             target,
             context,
-            start: range.start,
-            end: range.end,
+            place: Place {
+                start: range.start,
+                end: range.end,
+            },
             chars: PhantomData,
         }
     }
@@ -67,7 +69,7 @@ impl<'a, C: CharSet, T: Target<PathPart, C>> PathMut<'a, C, T> {
         ensures start_le_end { path_mut_start self.now ≤ path_mut_end self.now }
         ensures in_bounds { path_mut_end self.now ≤ length (edited_bytes self.now) }
     {
-        self.target.part(self.context, self.start, self.end)
+        self.target.part(self.context, self.place)
     }
 
     /// The path.
@@ -82,7 +84,7 @@ impl<'a, C: CharSet, T: Target<PathPart, C>> PathMut<'a, C, T> {
         ensures start { result.start ≡ path_mut_start self.now }
         ensures end { result.end ≡ path_mut_end self.now }
     {
-        self.start..self.end
+        self.place.start..self.place.end
     }
 
     // The allocator of what holds the path.
@@ -107,16 +109,13 @@ impl<'a, C: CharSet, T: Target<PathPart, C>> PathMut<'a, C, T> {
             + length step.entry.close.now
             ≤ length (path_mut_text self.old) - step.entry.keep → IsOk result }
     {
-        let within = step.keep..self.text().len();
-        self.end = self.target.replace(
-            self.context,
-            self.start,
-            self.end,
-            within,
-            step.lead,
-            step.middle,
-            step.close,
-        )?;
+        let change = Change {
+            within: step.keep..self.text().len(),
+            lead: step.lead,
+            middle: step.middle,
+            close: step.close,
+        };
+        self.place.end = self.target.replace(self.context, self.place, change)?;
         Ok(())
     }
 

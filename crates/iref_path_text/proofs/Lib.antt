@@ -9,3 +9,6 @@ pub mod StepValueLemmas
 pub mod GuardTextLemmas
 pub mod PopTextLemmas
 pub mod MergedLemmas
+pub mod CommonLemmas
+pub mod WayLemmas
+pub mod SuffixLemmas

@@ -96,12 +96,16 @@ order-before xs ys us vs s t order h e f =
           ∙ sym (then-assoc (slice_cmp text_order (decoded us) (decoded vs)) (text_order (percent_decode s) (percent_decode t)) order),
     )
 
+-- a list of so many items after those past a length have been passed over
+pub shortened : (xs us : List Text) (n m : ℕ) → n ≡ length xs → us ≡ take (length xs - (n - m)) xs → us ≡ take m xs
+shortened xs us n m h e = e ∙ ap (λ k. take (length xs - (k - m)) xs) h ∙ cut_to xs m
+
 -- what is known of two lists when their longer one has been cut
 pub order-cut : (xs ys us vs : List Text) (n m : ℕ) → n ≡ length xs → m ≡ length ys → us ≡ take (length xs - (n - m)) xs → vs ≡ take (length ys - (m - n)) ys
     → (length us ≡ length vs) × (ordering_then (slice_cmp text_order (decoded us) (decoded vs)) (nat_cmp n m) ≡ slice_cmp text_order (decoded xs) (decoded ys))
 order-cut xs ys us vs n m h k e f =
-    let left : us ≡ take (length ys) xs = e ∙ (λ i. take (length xs - (h i - k i)) xs) ∙ cut_to xs (length ys) in
-    let right : vs ≡ take (length xs) ys = f ∙ (λ i. take (length ys - (k i - h i)) ys) ∙ cut_to ys (length xs) in
+    let left : us ≡ take (length ys) xs = shortened xs us n m h e ∙ ap (λ j. take j xs) k in
+    let right : vs ≡ take (length xs) ys = shortened ys vs m n k f ∙ ap (λ j. take j ys) h in
     let left_size = ap length left ∙ length-take (length ys) xs in
     let right_size = ap length right ∙ length-take (length xs) ys in (
       omega (arith, left_size, right_size),

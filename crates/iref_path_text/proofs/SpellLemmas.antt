@@ -16,7 +16,7 @@ use Rattle.iref_grammar.specs.Grammar.{slash, colon}
 use Rattle.iref_grammar.specs.Texts.{all_but_last, lacks}
 use Rattle.iref_grammar.specs.Tests.{is_path, is_segment}
 use Rattle.iref_grammar.specs.declared.places.PathContext.{PathContext}
-use Rattle.iref_grammar.specs.Contexts.{fits, follows_authority, is_no_authority, is_no_scheme, is_path_in, is_readable_path, reads_as_path}
+use Rattle.iref_grammar.specs.Contexts.{alone, fits, follows_authority, is_no_authority, is_no_scheme, is_path_in, is_readable_path, reads_as_path}
 use Rattle.iref_grammar.specs.PathValue.{PathValue, is_one_empty, read_path, segments_of, shows_its_list, spell_path}
 use Rattle.iref_grammar.proofs.TextLemmas.{first_of_both, second_of_both, join-pieces_at}
 use Rattle.iref_grammar.proofs.PathLemmas.{read_path-reads, read-spelled}
@@ -32,7 +32,7 @@ use Rattle.iref_model.proofs.GuardLemmas.{guarded-fits}
 use Rattle.iref_model.proofs.PieceLemmas.{some_piece}
 use Rattle.iref_model.proofs.ItemLemmas.{name_no_parent, normal_segments-is}
 use Rattle.iref_model.proofs.NormalGrammarLemmas.{takes_dots}
-use Rattle.iref_model.proofs.StepSegmentLemmas.{TakesDots, normalized-in}
+use Rattle.iref_model.proofs.StepSegmentLemmas.{TakesDots, guarded-in, normal-in}
 use Rattle.iref_model.proofs.PathGrammarLemmas.{segments_of_path}
 use Rattle.iref_model.proofs.RewritingLemmas.{not_lone}
 
@@ -68,7 +68,7 @@ length-joined_before front s = ap length (sym (joined_before front s)) ∙ lengt
 
 -- ---- the normal list is hardly longer than the list
 
-size-cons : (s : Text) (list : List Text) → length (each_closed (s ∷ list)) ≡ length s + 1 + length (each_closed list)
+pub size-cons : (s : Text) (list : List Text) → length (each_closed (s ∷ list)) ≡ length s + 1 + length (each_closed list)
 size-cons s list =
     let whole = length-append (s ++ slash ∷ []) (each_closed list) in
     let here = length-append s (slash ∷ []) in
@@ -77,7 +77,7 @@ size-cons s list =
 pub size-append : (front back : List Text) → length (each_closed (front ++ back)) ≡ length (each_closed front) + length (each_closed back)
 size-append front back = ap length (each_closed-append front back) ∙ length-append (each_closed front) (each_closed back)
 
-size-parents : (n : ℕ) → length (each_closed (replicate n (codes ".."))) ≡ n + n + n
+pub size-parents : (n : ℕ) → length (each_closed (replicate n (codes ".."))) ≡ n + n + n
 size-parents zero = refl
 size-parents (suc n) = let rest = size-parents n in size-cons (codes "..") (replicate n (codes "..")) ∙ omega (arith, rest)
 
@@ -213,6 +213,18 @@ list-spelled context absolute (s ∷ rest) h =
     guarded-spelled context.has_scheme context.has_authority absolute s rest h
     ∙ (λ i. cond (sym some i) (lead absolute false) (lead (absolute || context.has_authority) (needs_guard context absolute s)) ++ join_with_byte slash (s ∷ rest))
 
+-- a relative list that stands alone, which may be one empty segment
+alone-spelled : (list : List Text) → lead_in alone false (length (each_closed list)) (first_or [] list) ++ join_with_byte slash list ≡ spell_path (guarded alone (record { absolute = false; segments = list }))
+unfolding spell_path guarded
+alone-spelled ([] ∷ []) = refl
+alone-spelled [] = refl
+alone-spelled ((c ∷ s) ∷ rest) = sym (list-spelled alone false ((c ∷ s) ∷ rest) refl)
+alone-spelled ([] ∷ t ∷ rest) = sym (list-spelled alone false ([] ∷ t ∷ rest) refl)
+
+pub relative-spelled : (list : List Text) (size : ℕ) (first : Text) → size ≡ length (each_closed list) → first ≡ first_or [] list
+    → lead_in alone false size first ++ join_with_byte slash list ≡ spell_path (guarded alone (record { absolute = false; segments = list }))
+relative-spelled list size first h k = (λ i. lead_in alone false (h i) (k i) ++ join_with_byte slash list) ∙ alone-spelled list
+
 -- the text of the normalized path
 pub normalized-spelled : (context : PathContext) (p : PathValue) (list : List Text) (size : ℕ) (first : Text) → list ≡ normal_segments p → size ≡ length (each_closed list) → first ≡ first_or [] list
     → lead_in context p.absolute size first ++ join_with_byte slash list ≡ spell_path (normalized context p)
@@ -224,7 +236,7 @@ normalized-spelled context p list size first e h k =
 
 -- ---- what is read in it
 
-lacks_dots : TakesDots (lacks slash)
+pub lacks_dots : TakesDots (lacks slash)
 lacks_dots = record { empty = refl; dot = refl; parent = refl }
 
 fits_parts : (context : PathContext) (p : PathValue) → fits context p ≡ true → (follows_authority context p ≡ true) × (shows_its_list p ≡ true)
@@ -233,26 +245,38 @@ fits_parts context p h = (
   first_of_both (shows_its_list p) (is_no_authority context p) (first_of_both (shows_its_list p && is_no_authority context p) (is_no_scheme context p) (second_of_both (follows_authority context p) (reads_as_path context p) h)),
 )
 
--- the text is read as the normalized path
-pub normalized-read : (context : PathContext) (absolute : Bool) (text : Text) → let p = normal_in context absolute text in read_path (spell_path p) ≡ p
-normalized-read context absolute text =
-    let p = normal_in context absolute text in
-    let reads = read_path-reads text in
-    let shows = fits_parts context p (guarded-fits context (normal (flagged_path absolute text))) in
-    read-spelled p.absolute p.segments (normalized-in (lacks slash) lacks_dots context (flagged_path absolute text) reads.segments) shows.1
+-- the text of a guarded path is read as that path
+pub guarded-read : (context : PathContext) (p : PathValue) → list_all (lacks slash) p.segments ≡ true → read_path (spell_path (guarded context p)) ≡ guarded context p
+guarded-read context p h =
+    let q = guarded context p in
+    read-spelled q.absolute q.segments (guarded-in (lacks slash) lacks_dots context p h) (fits_parts context q (guarded-fits context p)).1
 
 -- it is a path, may stand in its context, and nothing else is read there
-pub normalized-in_context : (set : CharTests) → AreAboveAscii set → (context : PathContext) (absolute : Bool) (text : Text) → is_path set text ≡ true
-    → let new = spell_path (normal_in context absolute text) in (is_path_in set context new ≡ true) × (is_path_after set context new ≡ true)
-normalized-in_context set above context absolute text h =
-    let p = normal_in context absolute text in
-    let read = normalized-read context absolute text in
-    let fit = guarded-fits context (normal (flagged_path absolute text)) in
-    let all = normalized-in (is_segment set) (takes_dots set) context (flagged_path absolute text) (segments_of_path set above text (read_path text) refl h) in
-    let path = is_path-segments set above (spell_path p) ∙ ap (λ (q : PathValue). list_all (is_segment set) q.segments) read ∙ all in (
+pub guarded-in_context : (set : CharTests) → AreAboveAscii set → (context : PathContext) (p : PathValue) → list_all (lacks slash) p.segments ≡ true → list_all (is_segment set) p.segments ≡ true
+    → let new = spell_path (guarded context p) in (is_path_in set context new ≡ true) × (is_path_after set context new ≡ true)
+guarded-in_context set above context p lack h =
+    let q = guarded context p in
+    let read = guarded-read context p lack in
+    let fit = guarded-fits context p in
+    let all = guarded-in (is_segment set) (takes_dots set) context p h in
+    let path = is_path-segments set above (spell_path q) ∙ ap (λ (r : PathValue). list_all (is_segment set) r.segments) read ∙ all in (
       ap (is_readable_path set context) read ∙ and_from _ _ all fit,
-      and_from _ _ path (ap (follows_authority context) read ∙ (fits_parts context p fit).0),
+      and_from _ _ path (ap (follows_authority context) read ∙ (fits_parts context q fit).0),
     )
+
+-- the same of a normal path that is read from a text
+module _ (context : PathContext) (absolute : Bool) (text : Text) where
+  normal_lacks : list_all (lacks slash) (normal_segments (flagged_path absolute text)) ≡ true
+  normal_lacks = normal-in (lacks slash) lacks_dots (flagged_path absolute text) (read_path-reads text).segments
+
+  pub normalized-read : let p = normal_in context absolute text in read_path (spell_path p) ≡ p
+  normalized-read = guarded-read context (normal (flagged_path absolute text)) normal_lacks
+
+  pub normalized-in_context : (set : CharTests) → AreAboveAscii set → is_path set text ≡ true
+      → let new = spell_path (normal_in context absolute text) in (is_path_in set context new ≡ true) × (is_path_after set context new ≡ true)
+  normalized-in_context set above h =
+      guarded-in_context set above context (normal (flagged_path absolute text)) normal_lacks
+      (normal-in (is_segment set) (takes_dots set) (flagged_path absolute text) (segments_of_path set above text (read_path text) refl h))
 
 pub path-utf8 : (set : CharTests) (text : Text) → is_path set text ≡ true → IsUtf8 text
 unfolding is_path

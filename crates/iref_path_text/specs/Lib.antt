@@ -23,4 +23,6 @@ pub mod PathParts
 pub mod StepTexts
 pub mod GuardTexts
 pub mod Merged
+pub mod Ways
 pub mod MeasuredPaths
+pub mod Suffixes

@@ -2,6 +2,7 @@
 //! segments from both ends, its comparison and hash by these, and the text of the normalized path.
 #![tactic(auto)]
 
+pub mod common;
 pub mod equality;
 pub mod guard;
 pub mod measured;
@@ -13,3 +14,4 @@ pub mod pieces;
 pub mod remaining;
 pub mod spell;
 pub mod steps;
+pub mod suffix;

@@ -1,37 +1,42 @@
 //! The text of a path, which is measured before it is written (RFC 3986 sections 5.2.3 and 5.2.4).
 
+ghost use Rattle.iref_grammar.specs.Contexts.{alone};
 ghost use Rattle.iref_grammar.specs.PathValue.{read_path, spell_path};
-ghost use Rattle.iref_grammar.specs.Texts.{all_but_last, is_empty};
+ghost use Rattle.iref_grammar.specs.Tests.{is_path};
+ghost use Rattle.iref_grammar.specs.Texts.{is_empty};
+ghost use Rattle.iref_model.specs.Guard.{guarded};
 ghost use Rattle.iref_model.specs.PathSteps.{normalized};
 ghost use Rattle.iref_path_text.specs.Merged.{merged_list, merged_path, path_after};
 ghost use Rattle.iref_path_text.specs.MeasuredPaths.{IsMeasured, measured_text};
 ghost use Rattle.iref_path_text.specs.Pieces.{pieces_if_some};
 ghost use Rattle.iref_path_text.specs.Spelling.{each_closed};
-ghost use Rattle.std.specs.Prelude.{◌||◌, ◌&&◌, ◌≡◌, ◌+◌, ◌<◌, ◌≤◌, ◌^◌, ◌++◌, drop, length};
+ghost use Rattle.iref_path_text.specs.Ways.{IsWaySound, path_between, way_left};
+ghost use Rattle.std.specs.Prelude.{◌||◌, ◌&&◌, ◌≡◌, ◌+◌, ◌*◌, ◌<◌, ◌≤◌, ◌^◌, ◌++◌, IfOk, drop, false, length, true};
+ghost use Rattle.std.specs.String.{string_bytes};
 
-use crate::pieces::{last_piece, split_root};
+use crate::pieces::{split_root, without_last};
 use crate::remaining::merged::Merged;
+use crate::remaining::way::Way;
 use crate::spell::{lead_in, measure, write_before, write_items};
+use iref_error::Memory;
+use iref_grammar::chars::CharSet;
 use iref_grammar::places::PathContext;
+use std::alloc::Allocator;
 
-/// The text of a path: one that is kept, or that of a normal path, which is not written yet.
+// Nothing stands before the path.
+const ALONE: PathContext = PathContext {
+    has_scheme: false,
+    has_authority: false,
+};
+
+/// The text of a path: one that is kept, or that of items, which is not written yet.
 #[derive(Clone, Copy)]
 pub struct MeasuredPath<'a> {
     // What stands first: the root and the guard, or all of the text.
     lead: &'a str,
-    items: Merged<'a>,
+    items: Way<'a>,
     // How many bytes the items have with a `/` after each.
     size: usize,
-}
-
-// The text of all segments but the last.
-fn without_last(segments: Option<&str>) -> Option<&str>
-    ensures { pieces_if_some result ≡ all_but_last (pieces_if_some segments.entry) }
-{
-    match segments {
-        Some(text) => last_piece(text).0,
-        None => None,
-    }
 }
 
 // Whether what follows these segments is absolute: after an authority, what follows none is.
@@ -50,7 +55,7 @@ impl<'a> MeasuredPath<'a> {
     {
         MeasuredPath {
             lead: path,
-            items: Merged::none(),
+            items: Way::all(Merged::none()),
             size: 0,
         }
     }
@@ -93,10 +98,40 @@ impl<'a> MeasuredPath<'a> {
             ≡ spell_path (normalized context (merged_path absolute front.entry back.entry)) }
         ensures measured { IsMeasured result }
     {
-        let items = Merged::new(absolute, front, back);
+        let items = Way::all(Merged::new(absolute, front, back));
         let (size, first) = measure(items);
         let lead = lead_in(context, absolute, size, first);
         MeasuredPath { lead, items, size }
+    }
+
+    /// The text of a relative path of these items, which stands alone.
+    pub fn relative(items: Way<'a>) -> Self
+        requires sound { IsWaySound items }
+        requires room { length (each_closed (way_left items)) + 4 < 2 ^ 64 }
+        ensures text { measured_text result ≡ spell_path (guarded alone (record {
+          absolute = false;
+          segments = way_left items.entry;
+        })) }
+        ensures measured { IsMeasured result }
+    {
+        let (size, first) = measure(items);
+        let lead = lead_in(ALONE, false, size, first);
+        MeasuredPath { lead, items, size }
+    }
+
+    /// The text of the path that leads from a base's to this one: from the base's directory where
+    /// both begin at the root, and else the normalized path.
+    pub fn between(base: &'a str, path: &'a str) -> Self
+        requires { 3 * length base.now + length path.now + 16 < 2 ^ 64 }
+        ensures text { measured_text result
+            ≡ spell_path (path_between (read_path base.now) (read_path path.now)) }
+        ensures measured { IsMeasured result }
+    {
+        if split_root(base).0 {
+            MeasuredPath::relative(Way::between(base, path))
+        } else {
+            MeasuredPath::normalized(ALONE, path)
+        }
     }
 
     /// How many bytes the text has.
@@ -105,6 +140,29 @@ impl<'a> MeasuredPath<'a> {
         ensures { result ≡ length (measured_text self.now) }
     {
         self.lead.len() + self.size.saturating_sub(1)
+    }
+
+    /// The text of a path. The room is taken once: an `Err` is that there is none.
+    pub fn to_text<C: CharSet, A: Allocator>(self, alloc: A) -> Result<String<A>, Memory>
+        requires measured { IsMeasured self }
+        requires path { is_path C.tests (measured_text self) ≡ true }
+        ensures { IfOk result (λ text. string_bytes text ≡ measured_text self.entry) }
+    {
+        let bytes = self.bytes(alloc)?;
+        // What spells a path is text, so no byte is read again.
+        let text = unsafe { String::from_utf8_unchecked(bytes) };
+        Ok(text)
+    }
+
+    // The bytes of the text.
+    fn bytes<A: Allocator>(self, alloc: A) -> Result<Vec<u8, A>, Memory>
+        requires { IsMeasured self }
+        ensures { IfOk result (λ bytes. bytes.items ≡ measured_text self.entry) }
+    {
+        let len = self.len();
+        let mut bytes = vec![in alloc; 0u8; len]?;
+        self.write_before(&mut bytes, len);
+        Ok(bytes)
     }
 
     /// Writes the text so that it ends at a place, and answers where it begins.

@@ -16,14 +16,14 @@ use std::cmp::Ordering;
 use std::hash::{Hash, Hasher};
 
 /// Whether the path is absolute.
-fn is_absolute(path: &str) -> bool
+pub(crate) fn is_absolute(path: &str) -> bool
     ensures { result ≡ (read_path path.now).absolute }
 {
     split_root(path).0
 }
 
 /// Passes over so many of the last items.
-fn skip_back(left: &mut Remaining<'_>, count: usize)
+pub(crate) fn skip_back(left: &mut Remaining<'_>, count: usize)
     requires sound { IsSound left.old }
     requires within { count ≤ length (normal_left left.old) }
     ensures items { normal_left left.new

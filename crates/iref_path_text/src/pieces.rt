@@ -2,6 +2,7 @@
 
 ghost use Rattle.std.specs.Prelude.{◌≡◌, ◌+◌, ◌<◌, ◌≤◌, ◌^◌, ◌++◌, ◌∷◌, ◌==◌, [], length, count_by, true, false};
 ghost use Rattle.iref_grammar.specs.{slash, pieces_at, segments_of, read_path};
+ghost use Rattle.iref_grammar.specs.Texts.{all_but_last};
 ghost use Rattle.iref_path_text.specs.Pieces.{pieces_if_some};
 
 /// The first segment, and the text of the others.
@@ -21,6 +22,16 @@ pub fn last_piece(text: &str) -> (Option<&str>, &str)
     match text.rsplit_once('/') {
         Some((rest, segment)) => (Some(rest), segment),
         None => (None, text),
+    }
+}
+
+/// The text of all segments but the last.
+pub fn without_last(segments: Option<&str>) -> Option<&str>
+    ensures { pieces_if_some result ≡ all_but_last (pieces_if_some segments.entry) }
+{
+    match segments {
+        Some(text) => last_piece(text).0,
+        None => None,
     }
 }
 

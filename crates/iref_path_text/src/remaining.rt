@@ -10,6 +10,7 @@ ghost use Rattle.iref_path_text.specs.Pieces.{pieces_if_some, text_at};
 ghost use Rattle.iref_path_text.specs.Remaining.{IsFate, IsSound, KeepsEnds, first_or, flagged_path, names_left, normal_left, open_at_start, to_read};
 
 pub mod merged;
+pub mod way;
 
 use crate::names::{is_name, name_stays};
 use crate::pieces::{first_piece, last_piece, split_root};
@@ -232,6 +233,7 @@ impl<'a> Remaining<'a> {
     }
 
     // The last name that stays.
+    #[inline(always)]
     fn next_back_name(&mut self) -> Option<&'a str>
         requires { IsSound self.old }
         ensures name { YieldsLastBy text_at names_left self.old result self.new }

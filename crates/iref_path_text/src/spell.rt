@@ -8,26 +8,27 @@ ghost use Rattle.iref_grammar.specs.Contexts.{is_path_in};
 ghost use Rattle.iref_grammar.specs.Grammar.{colon, slash};
 ghost use Rattle.iref_grammar.specs.PathValue.{read_path, spell_path};
 ghost use Rattle.iref_grammar.specs.Tests.{is_path};
+ghost use Rattle.iref_path_text.specs.MeasuredPaths.{IsMeasured, measured_text};
 ghost use Rattle.iref_path_text.specs.PathParts.{is_path_after};
-ghost use Rattle.iref_path_text.specs.Merged.{IsMergeSound, merged_left};
 ghost use Rattle.iref_path_text.specs.Remaining.{first_or};
 ghost use Rattle.iref_path_text.specs.Spelling.{each_closed, normal_in};
 ghost use Rattle.iref_path_text.specs.Spelling as spelling;
+ghost use Rattle.iref_path_text.specs.Ways.{IsWaySound, way_left};
 
 use crate::measured::MeasuredPath;
 use crate::pieces::split_root;
-use crate::remaining::merged::Merged;
+use crate::remaining::way::Way;
 use iref_error::Memory;
 use iref_grammar::chars::CharSet;
 use iref_grammar::places::PathContext;
 use std::alloc::Allocator;
 
 /// How many bytes the items have with a `/` after each, and the first of them, or nothing.
-pub(crate) fn measure(mut left: Merged<'_>) -> (usize, &str)
-    requires sound { IsMergeSound left }
-    requires fits { length (each_closed (merged_left left)) < 2 ^ 64 }
-    ensures size { result.0 ≡ length (each_closed (merged_left left.entry)) }
-    ensures first { result.1.now ≡ first_or [] (merged_left left.entry) }
+pub(crate) fn measure(mut left: Way<'_>) -> (usize, &str)
+    requires sound { IsWaySound left }
+    requires fits { length (each_closed (way_left left)) < 2 ^ 64 }
+    ensures size { result.0 ≡ length (each_closed (way_left left.entry)) }
+    ensures first { result.1.now ≡ first_or [] (way_left left.entry) }
 {
     let mut size: usize = 0;
     let mut first = "";
@@ -39,6 +40,7 @@ pub(crate) fn measure(mut left: Merged<'_>) -> (usize, &str)
 }
 
 /// Writes the text so that it ends at a place, and answers where it begins.
+#[inline(always)]
 pub fn write_before(buffer: &mut [u8], end: usize, text: &str) -> usize
     requires room { length text.now ≤ end }
     requires within { end ≤ length buffer.old }
@@ -53,13 +55,13 @@ pub fn write_before(buffer: &mut [u8], end: usize, text: &str) -> usize
 
 /// Writes the items, each with a `/` after it, so that they end at a place, and answers where they
 /// begin.
-fn write_closed(mut left: Merged<'_>, buffer: &mut [u8], end: usize) -> usize
-    requires sound { IsMergeSound left }
-    requires room { length (each_closed (merged_left left)) ≤ end }
+fn write_closed(mut left: Way<'_>, buffer: &mut [u8], end: usize) -> usize
+    requires sound { IsWaySound left }
+    requires room { length (each_closed (way_left left)) ≤ end }
     requires within { end ≤ length buffer.old }
-    ensures place { result + length (each_closed (merged_left left.entry)) ≡ end }
+    ensures place { result + length (each_closed (way_left left.entry)) ≡ end }
     ensures written { drop result buffer.new
-        ≡ each_closed (merged_left left.entry) ++ drop end buffer.old }
+        ≡ each_closed (way_left left.entry) ++ drop end buffer.old }
     ensures len { length buffer.new ≡ length buffer.old }
 {
     let mut start = end;
@@ -71,13 +73,13 @@ fn write_closed(mut left: Merged<'_>, buffer: &mut [u8], end: usize) -> usize
 }
 
 /// Writes the items with `/` between so that they end at a place, and answers where they begin.
-pub(crate) fn write_items(mut left: Merged<'_>, buffer: &mut [u8], end: usize) -> usize
-    requires sound { IsMergeSound left }
-    requires room { length (each_closed (merged_left left)) ≤ end + 1 }
+pub(crate) fn write_items(mut left: Way<'_>, buffer: &mut [u8], end: usize) -> usize
+    requires sound { IsWaySound left }
+    requires room { length (each_closed (way_left left)) ≤ end + 1 }
     requires within { end ≤ length buffer.old }
-    ensures place { result + length (join_with_byte slash (merged_left left.entry)) ≡ end }
+    ensures place { result + length (join_with_byte slash (way_left left.entry)) ≡ end }
     ensures written { drop result buffer.new
-        ≡ join_with_byte slash (merged_left left.entry) ++ drop end buffer.old }
+        ≡ join_with_byte slash (way_left left.entry) ++ drop end buffer.old }
     ensures len { length buffer.new ≡ length buffer.old }
 {
     let Some(last) = left.next_back() else {
@@ -138,22 +140,12 @@ pub(crate) fn lead_in(
     )
 }
 
-/// The bytes of the text of the normalized path in its context, with a flag of its own.
-#[tactic(auto, using(crate::proofs::SpellLemmas::normal_sizes))]
-fn normalized_bytes<A: Allocator>(
-    alloc: A,
-    context: PathContext,
-    absolute: bool,
-    path: &str,
-) -> Result<Vec<u8, A>, Memory>
-    ensures { IfOk result (λ bytes.
-        bytes.items ≡ spell_path (normal_in context absolute path.now)) }
+// The normalized path in its context, with a flag of its own.
+fn normal_path(context: PathContext, absolute: bool, path: &str) -> MeasuredPath<'_>
+    ensures text { measured_text result ≡ spell_path (normal_in context absolute path.now) }
+    ensures measured { IsMeasured result }
 {
-    let path = MeasuredPath::of_segments(context, absolute, None, split_root(path).1);
-    let len = path.len();
-    let mut bytes = vec![in alloc; 0u8; len]?;
-    path.write_before(&mut bytes, len);
-    Ok(bytes)
+    MeasuredPath::of_segments(context, absolute, None, split_root(path).1)
 }
 
 /// The text of the normalized path in its context, with a flag of its own (RFC 3986 section 5.2.4):
@@ -175,8 +167,6 @@ pub fn normalized_text<C: CharSet, A: Allocator>(
     ensures reads { IfOk result (λ text. is_path_in C.tests context (string_bytes text) ≡ true) }
     ensures after { IfOk result (λ text. is_path_after C.tests context (string_bytes text) ≡ true) }
 {
-    let bytes = normalized_bytes(alloc, context, absolute, path)?;
-    // What spells a path is text, so no byte is read again.
-    let text = unsafe { String::from_utf8_unchecked(bytes) };
+    let text = normal_path(context, absolute, path).to_text::<C, A>(alloc)?;
     Ok(text)
 }

@@ -12,13 +12,13 @@ use crate::path::Path;
 use crate::path_buf::PathBuf;
 use crate::path_mut::PathMut;
 use iref_component::texts::Segment;
+use iref_edit::change::{Change, Place};
 use iref_edit::target::Target;
 use iref_error::Memory;
 use iref_grammar::chars::CharSet;
 use iref_grammar::places::PathContext;
 use iref_path_text::part::PathPart;
 use std::alloc::Global;
-use std::ops::Range;
 
 impl<C: CharSet> Target<PathPart, C> for PathBuf<C> {
     type Alloc = Global;
@@ -33,21 +33,12 @@ impl<C: CharSet> Target<PathPart, C> for PathBuf<C> {
         self.text.alloc()
     }
 
-    fn part(&self, context: PathContext, start: usize, end: usize) -> &str {
+    fn part(&self, after: PathContext, at: Place) -> &str {
         self.as_str()
     }
 
-    fn replace(
-        &mut self,
-        context: PathContext,
-        start: usize,
-        end: usize,
-        within: Range<usize>,
-        lead: &str,
-        middle: &str,
-        close: &str,
-    ) -> Result<usize, Memory> {
-        self.text.replace(within, lead, middle, close)?;
+    fn replace(&mut self, after: PathContext, at: Place, by: Change<'_>) -> Result<usize, Memory> {
+        self.text.replace(by)?;
         Ok(self.len())
     }
 }

@@ -1,5 +1,5 @@
 //! Edits of a path that owns its text by many segments (RFC 3986 section 5.2.4).
-ghost use Rattle.std.specs.Prelude.{◌≡◌, [], OnOk, OnErr, IfOk, fold, map};
+ghost use Rattle.std.specs.Prelude.{◌≡◌, OnOk, OnErr, IfOk, fold, map};
 ghost use Rattle.std.specs.Iterator.{IsFinite};
 ghost use Rattle.iref_component.specs.Components.{view_text};
 ghost use Rattle.iref_grammar.specs.Contexts.{alone};
@@ -8,6 +8,7 @@ ghost use Rattle.iref_path.specs.Appends.{TakesAll, TakesFirst};
 ghost use Rattle.iref_path.specs.PathEdits.{SpellsPath};
 ghost use Rattle.iref_path.specs.Paths.{path_value, path_buf_text, path_buf_value};
 
+use crate::from_segments::text_of_segments;
 use crate::path::Path;
 use crate::path_buf::PathBuf;
 use iref_component::texts::Segment;
@@ -76,23 +77,7 @@ impl<C: CharSet> PathBuf<C> {
         ensures { IfOk result (λ path. TakesAll I.next_gives segments (λ items.
             SpellsPath path (step.from_segments absolute (map view_text items)))) }
     {
-        let mut path = PathBuf::without_segments(alloc, absolute)?;
-        for segment in segments {
-            path.push(segment)?;
-        }
-        Ok(path)
-    }
-
-    // The path without segments.
-    #[tactic(auto, unfolding(iref_grammar::specs::PathValue::read_path))]
-    fn without_segments(alloc: Global, absolute: bool) -> Result<PathBuf<C>, Memory>
-        ensures { IfOk result (λ path. path_buf_value path
-            ≡ record { absolute = absolute; segments = [] }) }
-    {
-        if absolute {
-            Path::empty_absolute().to_owned(alloc)
-        } else {
-            Ok(PathBuf::empty(alloc))
-        }
+        let text = text_of_segments::<C, Global, I>(alloc, absolute, segments)?;
+        Ok(PathBuf::new_unchecked(text))
     }
 }

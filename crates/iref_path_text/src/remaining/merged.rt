@@ -8,7 +8,7 @@ ghost use Rattle.iref_model.specs.NormalReading.{open_before, staying_before};
 ghost use Rattle.iref_path_text.specs.Merged.{IsMergeSound, merged_left, merged_list, merged_names};
 ghost use Rattle.iref_path_text.specs.Merged.{merged_path, open_before_both, to_read_of_both};
 ghost use Rattle.iref_path_text.specs.Pieces.{text_at};
-ghost use Rattle.iref_path_text.specs.Remaining.{KeepsEnds, first_or};
+ghost use Rattle.iref_path_text.specs.Remaining.{IsSound, KeepsEnds, first_or, normal_left};
 ghost use Rattle.std.specs.Iterator.{YieldsLastBy};
 ghost use Rattle.std.specs.Prelude.{◌≡◌, ◌+◌, ◌<◌, ◌≤◌, ◌^◌, [], length, IfNone, IfSome};
 
@@ -89,8 +89,19 @@ impl<'a> Merged<'a> {
         }
     }
 
+    /// What is left of a list whose segments stand in one text.
+    #[tactic(auto, unfolding(crate::specs::Merged::merged_left, crate::specs::Remaining::normal_left))]
+    pub fn behind(back: Remaining<'a>) -> Self
+        requires { IsSound back }
+        ensures items { merged_left result ≡ normal_left back.entry }
+        ensures sound { IsMergeSound result }
+    {
+        Merged { front: None, back }
+    }
+
     /// The last item that is left.
     #[tactic(auto, unfolding(crate::specs::Merged::merged_left))]
+    #[inline(always)]
     pub fn next_back(&mut self) -> Option<&'a str>
         requires { IsMergeSound self.old }
         ensures item { YieldsLastBy text_at merged_left self.old result self.new }
@@ -112,6 +123,7 @@ impl<'a> Merged<'a> {
 
     // The last name that stays. The `..` that are open before the segments behind take names of
     // those in front.
+    #[inline(always)]
     fn next_back_name(&mut self) -> Option<&'a str>
         requires { IsMergeSound self.old }
         ensures name { YieldsLastBy text_at merged_names self.old result self.new }

@@ -1,4 +1,4 @@
-use Rattle.std.proofs.Common.{◌≡◌, rules, Err, Bor, List, ℕ, refl, sym, subst}
+use Rattle.std.proofs.Common.{◌≡◌, rules, Err, refl, sym, subst}
 use Rattle.std.proofs.lemmas.List.Elements.{All-nil, All-push}
 use Rattle.iref_grammar.specs.Grammar.{IsSegment}
 use Rattle.iref_grammar.specs.Rules.{InUtf8}

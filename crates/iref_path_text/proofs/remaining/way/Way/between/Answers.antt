@@ -1,0 +1,38 @@
+use Rattle.std.proofs.Common.{◌∙◌}
+use Rattle.iref_grammar.specs.PathValue.{read_path}
+use Rattle.iref_model.specs.NormalList.{normal_segments}
+use Rattle.iref_model.specs.Relative.{directory_names}
+use Rattle.iref_path_text.specs.Remaining.{normal_left}
+use Rattle.iref_path_text.proofs.WayLemmas.{common_within, last_taken, way_between}
+use Rattle.iref_path_text.proofs.remaining.way.Way.between.Goals as goal
+
+pub overflow_sub-depth : goal.overflow_sub-depth
+overflow_sub-depth c =
+    let directory = directory_names (read_path c.args.base.now) in
+    let list = normal_segments (read_path c.args.path.now) in
+    let items = normal_left c.some_items-count.result.0 in
+    let middle = normal_left c.next_back.new.self in
+    (common_within directory list (normal_left c.directory-depth.result.0) items middle c.directory-depth.result.1 c.some_items-count.result.1 c.common_len-common.result
+    c.directory-depth.ensures.items c.directory-depth.ensures.count c.some_items-count.ensures.items c.some_items-count.ensures.count
+    (last_taken list items middle c.next_back.result c.some_items-count.ensures.items c.next_back.ensures.item) c.common_len-common.ensures).0
+
+pub overflow_sub-count-2 : goal.overflow_sub-count-2
+overflow_sub-count-2 c =
+    let directory = directory_names (read_path c.args.base.now) in
+    let list = normal_segments (read_path c.args.path.now) in
+    let items = normal_left c.some_items-count.result.0 in
+    let middle = normal_left c.next_back.new.self in
+    (common_within directory list (normal_left c.directory-depth.result.0) items middle c.directory-depth.result.1 c.some_items-count.result.1 c.common_len-common.result
+    c.directory-depth.ensures.items c.directory-depth.ensures.count c.some_items-count.ensures.items c.some_items-count.ensures.count
+    (last_taken list items middle c.next_back.result c.some_items-count.ensures.items c.next_back.ensures.item) c.common_len-common.ensures).1
+
+pub returns-clause-items : goal.returns-clause-items
+returns-clause-items c =
+    let directory = directory_names (read_path c.args.base.now) in
+    let list = normal_segments (read_path c.args.path.now) in
+    let items = normal_left c.some_items-count.result.0 in
+    let middle = normal_left c.next_back.new.self in
+    c.new.ensures.items
+    ∙ way_between directory list (normal_left c.directory-depth.result.0) items middle c.directory-depth.result.1 c.some_items-count.result.1 c.common_len-common.result
+    c.directory-depth.ensures.items c.directory-depth.ensures.count c.some_items-count.ensures.items c.some_items-count.ensures.count
+    (last_taken list items middle c.next_back.result c.some_items-count.ensures.items c.next_back.ensures.item) c.common_len-common.ensures

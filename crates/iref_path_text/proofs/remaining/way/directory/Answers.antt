@@ -1,0 +1,39 @@
+use Rattle.std.proofs.Common.{length, arith, refl, sym, subst, ap, ◌∙◌}
+use Rattle.std.proofs.lemmas.List.{append-nil}
+use Rattle.iref_model.specs.NormalList.{staying_names}
+use Rattle.iref_model.specs.NormalReading.{staying_before}
+use Rattle.iref_model.specs.Relative.{directory_names}
+use Rattle.iref_model.proofs.StayingLemmas.{staying_names-is}
+use Rattle.iref_path_text.specs.Pieces.{pieces_if_some}
+use Rattle.iref_path_text.specs.Remaining.{IsSound, normal_left}
+use Rattle.iref_path_text.proofs.WayLemmas.{fewer_without_last}
+use Rattle.iref_path_text.proofs.remaining.way.directory.Goals as goal
+
+pub survey-open_parents-requires : goal.survey-open_parents-requires
+survey-open_parents-requires c =
+    let rest = ap length c.without_last-rest.ensures in
+    let fewer = fewer_without_last (pieces_if_some c.split_root.result.1) in
+    let all = c.split_root.ensures.fewer in
+    omega (arith, rest, fewer, all)
+
+pub returns-clause-items : goal.returns-clause-items
+unfolding normal_left
+returns-clause-items c =
+    let rest = pieces_if_some c.without_last-rest.result in
+    (λ i. normal_left (c.all.ensures i)) ∙ append-nil (staying_before rest 0) ∙ sym (staying_names-is rest)
+    ∙ ap staying_names c.without_last-rest.ensures ∙ ap directory_names (sym c.split_root.ensures.path)
+
+pub returns-clause-sound : goal.returns-clause-sound
+returns-clause-sound c =
+    let rest = ap length c.without_last-rest.ensures in
+    let fewer = fewer_without_last (pieces_if_some c.split_root.result.1) in
+    let all = c.split_root.ensures.fewer in
+    subst IsSound (sym c.all.ensures) (record { countable = omega (arith, rest, fewer, all); settled = refl })
+
+pub returns-clause-fewer : goal.returns-clause-fewer
+returns-clause-fewer c =
+    let rest = ap length c.without_last-rest.ensures in
+    let fewer = fewer_without_last (pieces_if_some c.split_root.result.1) in
+    let all = c.split_root.ensures.fewer in
+    let names = c.survey-open_parents.ensures.fewer in
+    omega (arith, rest, fewer, all, names)
