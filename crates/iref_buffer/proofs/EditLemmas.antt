@@ -17,11 +17,14 @@ use Rattle.iref_grammar.specs.Tests.{none_or}
 use Rattle.iref_grammar.proofs.AuthorityLemmas.{read_authority-spelled}
 use Rattle.iref_grammar.proofs.ReadableLemmas.{readable_read}
 use Rattle.iref_grammar.proofs.ReferenceCutLemmas.{read_reference-spelled}
-use Rattle.iref_model.specs.ComponentSteps.{with_query, with_fragment, with_authority, with_scheme}
+use mathlib.Core.Bool.{true≢false}
+use Rattle.iref_model.specs.ComponentSteps.{with_query, with_fragment, with_authority, with_authority_step, with_scheme}
+use Rattle.iref_buffer.specs.AuthorityPlaces.{place_of_authority}
 use Rattle.iref_buffer.specs.declared.lengths.Lengths.{Lengths}
 use Rattle.iref_buffer.specs.PathTexts.{authority_text}
 use Rattle.iref_buffer.specs.ComponentLengths.{lengths_of, with_mark, HasLengths}
-use Rattle.iref_buffer.specs.PlaceTexts.{IsWithin, front_end, authority_start_at, authority_start}
+use Rattle.iref_buffer.specs.PlaceTexts.{front_end, authority_start_at, authority_start}
+use Rattle.iref_edit.specs.Changes.{IsWithin}
 use Rattle.iref_buffer.proofs.HeldLemmas.{fragment_marked, places_within, front_within, authority_mark_within}
 use Rattle.iref_buffer.proofs.LengthLemmas.{first_len, marked_len}
 
@@ -55,6 +58,9 @@ is_step set above test allows allowed new r e h k =
 module _ (s a p q f new : Text) where
   scheme_spliced : splice (s ++ a ++ p ++ q ++ f) 0 (length s) new ≡ new ++ a ++ p ++ q ++ f
   scheme_spliced = same_lists _ _ (search (rules, places)) (λ k d h. grind (arith, places))
+
+  marked_spliced : (mark : Text) → splice (s ++ (mark ++ a) ++ p ++ q ++ f) (length s + length mark) (length s + length (mark ++ a)) new ≡ s ++ (mark ++ new) ++ p ++ q ++ f
+  marked_spliced mark = same_lists _ _ (search (rules, places)) (λ k d h. grind (arith, places))
 
   authority_spliced : splice (s ++ a ++ p ++ q ++ f) (length s) (length s + length a) new ≡ s ++ new ++ p ++ q ++ f
   authority_spliced = same_lists _ _ (search (rules, places)) (λ k d h. grind (arith, places))
@@ -116,6 +122,17 @@ module _ (text : Text) where
       by : (mark : ℕ) (o : Option AuthorityValue) → authority_start_at (option_map (place_from (mark + 2)) (option_map spell_authority o)) (mark + length (then_part (codes "//") (option_map spell_authority o))) ≡ mark
       by mark None = omega arith
       by mark (Some authority) = omega arith
+
+  pub authority_part_replaced : (value : AuthorityValue) → is_some r.authority ≡ true
+      → splice text (place_of_authority text).start (place_of_authority text).end (spell_authority value) ≡ spell (with_authority_step (λ a. value) r)
+  unfolding spell places_of places_in
+  authority_part_replaced value has = ap (λ t. splice t (authority_mark r + 2) (path_start r) (spell_authority value)) spelled ∙ by r.authority has
+    where
+      by : (o : Option AuthorityValue) → is_some o ≡ true
+          → splice (s ++ then_part (codes "//") (option_map spell_authority o) ++ p ++ q ++ f) (length s + 2) (length s + length (then_part (codes "//") (option_map spell_authority o))) (spell_authority value)
+          ≡ s ++ then_part (codes "//") (option_map spell_authority (option_map (λ a. value) o)) ++ p ++ q ++ f
+      by None h = absurd (true≢false (sym h))
+      by (Some old) h = marked_spliced s (spell_authority old) p q f (spell_authority value) (codes "//")
 
   pub authority_replaced : (authority : Option AuthorityValue) (path : PathValue) (lead : Text) → lead ++ p ≡ spell_path path
       → splice text (authority_start (places_of text)) (places_of text).path.start (then_part (codes "//") (option_map spell_authority authority) ++ lead) ≡ spell (record r { authority = authority; path = path })

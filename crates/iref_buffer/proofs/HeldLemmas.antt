@@ -23,7 +23,8 @@ use Rattle.iref_grammar.proofs.PathTextLemmas.{Decides-is_path}
 use Rattle.iref_grammar.proofs.ComponentLemmas.{Decides-AreComponents, spelled_as_read}
 use Rattle.iref_grammar.proofs.PlaceLemmas.{scheme_place, authority_place, path_place, query_place, fragment_place}
 use Rattle.iref_grammar.proofs.ReferenceCutLemmas.{read_reference-spelled}
-use Rattle.iref_buffer.specs.PlaceTexts.{IsWithin, AreWithin, texts_at, front_end, front_end_at}
+use Rattle.iref_buffer.specs.PlaceTexts.{AreWithin, texts_at, front_end, front_end_at}
+use Rattle.iref_edit.specs.Changes.{IsWithin}
 use Rattle.iref_grammar.proofs.FrontLemmas.{read_reference-before_hash, read_reference-hierarchy}
 use Rattle.iref_grammar.specs.declared.places.Offsets.{Offsets}
 

@@ -5,4 +5,7 @@ pub mod EditLemmas
 pub mod PathEditLemmas
 pub mod LeadLemmas
 pub mod PathPlaceLemmas
-pub mod TargetLemmas
+pub mod MeasuredLemmas
+pub mod RelativeLemmas
+pub mod SchemeLemmas
+pub mod AuthorityPlaceLemmas

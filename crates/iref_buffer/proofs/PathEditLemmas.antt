@@ -11,7 +11,7 @@ use Rattle.iref_grammar.specs.Tests.{is_path, is_segment}
 use Rattle.iref_grammar.specs.Contexts.{fits, follows_authority, reads_as_path, is_path_in}
 use Rattle.iref_grammar.specs.PathValue.{spell_path, read_path}
 use Rattle.iref_grammar.specs.Reference.{ReferenceValue, context_of, spell, read_reference, is_readable}
-use Rattle.iref_grammar.specs.Places.{places_of}
+use Rattle.iref_grammar.specs.Places.{places_of, text_at}
 use Rattle.iref_grammar.proofs.PathLemmas.{read_path-reads}
 use Rattle.iref_grammar.proofs.PathTestLemmas.{is_path-segments}
 use Rattle.iref_grammar.proofs.PlaceLemmas.{path_place}
@@ -19,7 +19,7 @@ use Rattle.iref_grammar.proofs.ReadablePartsLemmas.{readable_parts, readable_fro
 use Rattle.iref_model.specs.Guard.{guarded}
 use Rattle.iref_model.specs.ComponentSteps.{with_path}
 use Rattle.iref_model.proofs.ReferenceStepLemmas.{with_path-readable}
-use Rattle.iref_buffer.specs.PlaceTexts.{IsWithin}
+use Rattle.iref_edit.specs.Changes.{IsWithin}
 use Rattle.iref_buffer.specs.PathTexts.{path_text, with_path_text, with_path_read}
 use Rattle.iref_buffer.proofs.EditLemmas.{path_replaced}
 
@@ -70,12 +70,16 @@ cut_in_part text start end i a b w = elim (cases_lt i (end - start)) [
       subst (IsCharBoundary text) (sym at) b
 ]
 
-module _ (text : Text) (placed : IsWithin text (places_of text).path) (within : Range ℕ) (inside : IsWithin (path_text text) within) where
+module _ (text : Text) (place : Range ℕ) (placed : IsWithin text place) (within : Range ℕ) (inside : IsWithin (text_at text place) within) where
   abbrev start : ℕ
-  start = (places_of text).path.start
+  start = place.start
 
   abbrev end : ℕ
-  end = (places_of text).path.end
+  end = place.end
+
+  -- no more is cut than stands there
+  pub part_cut : within.end - within.start ≤ end - start
+  part_cut = omega (arith, inside.end.0, slice-length text start end placed.end.0)
 
   pub part_within : IsWithin text (record { start = start + within.start; end = start + within.end })
   part_within = record {
@@ -84,12 +88,12 @@ module _ (text : Text) (placed : IsWithin text (places_of text).path) (within : 
     end = cut_in_part text start end within.end placed.start_le_end placed.end inside.end;
   }
 
-  pub part_replaced : (pieces : Text) → splice text (start + within.start) (start + within.end) pieces ≡ with_path_text (splice (path_text text) within.start within.end pieces) text
+  pub part_replaced : (pieces : Text) → splice text (start + within.start) (start + within.end) pieces ≡ splice text start end (splice (text_at text place) within.start within.end pieces)
   part_replaced pieces =
       let bound : start + within.end ≤ end = omega (arith, placed.start_le_end, inside.end.0, slice-length text start end placed.end.0) in
       let back : (n : ℕ) → start + n - start ≡ n = λ n. omega arith in
       splice-within text pieces start end (start + within.start) (start + within.end) (omega arith) (omega (arith, inside.start_le_end)) bound placed.end.0
-      ∙ (λ i. splice text start end (splice (path_text text) (back within.start i) (back within.end i) pieces))
+      ∙ (λ i. splice text start end (splice (text_at text place) (back within.start i) (back within.end i) pieces))
 
 -- the lengths of the path before and after
 pub path_length : (text : Text) → length (path_text text) ≡ length (spell_path (read_reference text).path)

@@ -1,18 +1,13 @@
 -- What stands at places in a text.
-use Rattle.std.specs.Prelude.{ℕ, ◌-◌, ◌≤◌, Option, Some, None, IfSome, option_map}
-use Rattle.std.specs.Str.{IsCharBoundary}
+use Rattle.std.specs.Prelude.{ℕ, ◌-◌, Option, Some, None, IfSome, option_map}
+use Rattle.iref_edit.specs.Changes.{IsWithin}
 use Rattle.std.specs.declared.ops.Range.{Range}
 use Rattle.iref_grammar.specs.declared.places.Offsets.{Offsets}
 use Rattle.iref_grammar.specs.Rules.{Text}
 use Rattle.iref_grammar.specs.ComponentTexts.{ComponentTexts}
 use Rattle.iref_grammar.specs.Places.{text_at}
 
--- the place lies in the text, and begins and ends between characters
-pub record IsWithin (text : Text) (place : Range ℕ) : Type 0 where
-  pub start_le_end : place.start ≤ place.end
-  pub start : IsCharBoundary text place.start
-  pub end : IsCharBoundary text place.end
-
+-- each place lies in the text, and begins and ends between characters
 pub record AreWithin (text : Text) (places : Offsets) : Type 0 where
   pub scheme : IfSome places.scheme (IsWithin text)
   pub authority : IfSome places.authority (IsWithin text)

@@ -10,11 +10,15 @@ ghost use Rattle.iref_component.specs.{places_of, hash_sign, CharTests, AreAbove
 ghost use Rattle.iref_component.specs.{with_query, with_fragment, hierarchy, read_reference, spell};
 ghost use Rattle.iref_component.specs.{Parses, Text, InUtf8, base_of};
 ghost use Rattle.iref_buffer.specs.ComponentLengths.{lengths_of};
-ghost use Rattle.iref_buffer.specs.PlaceTexts.{IsWithin, AreWithin, texts_at};
+ghost use Rattle.iref_buffer.specs.PlaceTexts.{AreWithin, texts_at};
+ghost use Rattle.iref_edit.specs.Changes.{IsWithin};
 ghost use Rattle.iref_buffer.specs.PlaceTexts.{front_end, authority_start};
 
+mod authority;
+mod copies;
 mod edits;
 mod path;
+mod relative;
 mod resolution;
 
 use crate::base::base_slice;
@@ -115,6 +119,11 @@ impl<R: HeldRule, C: CharSet, A: Allocator> Held<R, C, A> {
         ensures in_rule { R.test C.tests self.now ≡ true }
     {
         self.text.as_str()
+    }
+
+    /// The allocator of the text.
+    pub fn allocator(&self) -> &A {
+        self.text.allocator()
     }
 
     /// Where the components stand.

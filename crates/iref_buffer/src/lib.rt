@@ -4,4 +4,5 @@
 pub mod base;
 pub mod held;
 mod lengths;
-pub mod target;
+pub mod measured;
+pub mod relative;

@@ -4,6 +4,7 @@ ghost use Rattle.std.specs.Prelude.{length, Option, is_some, option_map, codes, 
 ghost use Rattle.std.specs.Prelude.{IsNone};
 ghost use Rattle.std.specs.Option.{option_copied};
 ghost use Rattle.std.specs.List.{splice};
+ghost use Rattle.iref_grammar.specs.Places.{places_of, text_at};
 ghost use Rattle.iref_component.specs.{Text, colon, question_mark, hash_sign, AuthorityValue};
 ghost use Rattle.iref_component.specs.{spell_authority, read_authority, is_authority, part_then};
 ghost use Rattle.iref_component.specs.{then_part, none_or, is_scheme, is_path, is_query};
@@ -13,11 +14,12 @@ ghost use Rattle.iref_component.specs.{with_path, with_authority, with_scheme};
 ghost use Rattle.iref_buffer.specs.PathTexts.{authority_text, path_text};
 ghost use Rattle.iref_buffer.specs.PathTexts.{with_path_text, with_path_read};
 ghost use Rattle.iref_buffer.specs.ComponentLengths.{HasLengths, lengths_of, with_mark};
-ghost use Rattle.iref_buffer.specs.PlaceTexts.{IsWithin};
+ghost use Rattle.iref_edit.specs.Changes.{IsNoLonger, IsWithin, changed, replaced};
 
 use super::{Held, HeldRule, authority_start, front_end};
 use crate::lengths::{Lengths, len_of};
-use iref_edit::text::{len_after, marked, marked_after, replace};
+use iref_edit::change::Change;
+use iref_edit::text::{self, marked, marked_after};
 use iref_error::Memory;
 use iref_grammar::chars::CharSet;
 use iref_grammar::places::PathContext;
@@ -137,36 +139,26 @@ impl<R: HeldRule, C: CharSet, A: Allocator> Held<R, C, A> {
         Ok(())
     }
 
-    /// Replaces a range of the path by three pieces, where the path that this leaves may stand.
-    pub fn replace_in_path(
-        &mut self,
-        within: Range<usize>,
-        lead: &str,
-        middle: &str,
-        close: &str,
-    ) -> Result<(), Memory>
-        requires within { IsWithin (path_text self.old) within }
+    /// Makes a change of the path, where the path that this leaves may stand.
+    pub fn replace_in_path(&mut self, change: Change<'_>) -> Result<(), Memory>
+        requires within { IsWithin (path_text self.old) change.within }
         requires may_stand { is_path_in C.tests (context_of (read_reference self.old))
-            (splice (path_text self.old) within.start within.end
-            (lead.now ++ middle.now ++ close.now)) ≡ true }
-        ensures text { OnOk result (self.new ≡ with_path_text
-            (splice (path_text self.old) within.start within.end
-            (lead.now ++ middle.now ++ close.now)) self.old) }
+            (changed (path_text self.old) change) ≡ true }
+        ensures text { OnOk result (self.new
+            ≡ with_path_text (changed (path_text self.old) change.entry) self.old) }
         ensures value { OnOk result (read_reference self.new ≡ with_path_read
-            (splice (path_text self.old) within.start within.end
-            (lead.now ++ middle.now ++ close.now)) (read_reference self.old)) }
+            (changed (path_text self.old) change.entry) (read_reference self.old)) }
         ensures err { OnErr result (self.new ≡ self.old) }
-        ensures shorter { length lead.now + length middle.now + length close.now
-            ≤ within.end - within.start → IsOk result }
+        ensures shorter { IsNoLonger change.entry → IsOk result }
     {
         let old = self.lengths();
-        let cut = within.end - within.start;
         let lengths = Lengths {
-            path: len_after(old.path, cut, lead, middle, close)?,
+            path: change.len_after(old.path)?,
             ..old
         };
-        let range = self.part_of_path(within);
-        self.step(lengths, range, lead, middle, close)?;
+        let place = self.path_range();
+        let range = self.part_of(place, &change.within);
+        self.step(lengths, range, change.lead, change.middle, change.close)?;
         Ok(())
     }
 
@@ -174,21 +166,27 @@ impl<R: HeldRule, C: CharSet, A: Allocator> Held<R, C, A> {
     pub(super) fn step(
         &mut self,
         lengths: Lengths,
-        range: Range<usize>,
+        within: Range<usize>,
         lead: &str,
         middle: &str,
         close: &str,
     ) -> Result<(), AllocError>
-        requires within { IsWithin self.old range }
-        requires leaves { HasLengths (R.test C.tests) lengths (splice self.old
-            range.start range.end (lead.now ++ middle.now ++ close.now)) }
-        ensures ok { OnOk result (self.new ≡ splice self.old range.start range.end
-            (lead.now ++ middle.now ++ close.now)) }
+        requires within { IsWithin self.old within }
+        requires leaves { HasLengths (R.test C.tests) lengths
+            (replaced self.old within (lead.now ++ middle.now ++ close.now)) }
+        ensures ok { OnOk result (self.new
+            ≡ replaced self.old within (lead.now ++ middle.now ++ close.now)) }
         ensures err { OnErr result (self.new ≡ self.old) }
         ensures shorter { length lead.now + length middle.now + length close.now
-            ≤ range.end - range.start → IsOk result }
+            ≤ within.end - within.start → IsOk result }
     {
-        replace(&mut self.text, range, lead, middle, close)?;
+        let change = Change {
+            within,
+            lead,
+            middle,
+            close,
+        };
+        text::replace(&mut self.text, change)?;
         self.places = lengths.places_in(self.text.as_str());
         Ok(())
     }
@@ -215,24 +213,24 @@ impl<R: HeldRule, C: CharSet, A: Allocator> Held<R, C, A> {
 
     // Where the path stands.
     pub(super) fn path_range(&self) -> Range<usize>
+        ensures place { result ≡ (places_of self.now).path }
         ensures within { IsWithin self.now result }
-        ensures replaced { (path : PathValue)
-            → splice self.now result.start result.end (spell_path path)
+        ensures replaced { (path : PathValue) → replaced self.now result (spell_path path)
             ≡ spell (record (read_reference self.now) { path = path }) }
     {
         self.places.path.start..self.places.path.end
     }
 
-    // Where a range of the path stands in the text.
-    fn part_of_path(&self, within: Range<usize>) -> Range<usize>
-        requires { IsWithin (path_text self.now) within }
+    // Where a range of what stands at a place stands in the text.
+    pub(super) fn part_of(&self, place: Range<usize>, within: &Range<usize>) -> Range<usize>
+        requires place { IsWithin self.now place }
+        requires within { IsWithin (text_at self.now place) within.now }
         ensures within { IsWithin self.now result }
-        ensures len { result.end - result.start ≡ within.end - within.start }
-        ensures replaced { (pieces : Text)
-            → splice self.now result.start result.end pieces ≡ with_path_text
-            (splice (path_text self.now) within.start within.end pieces) self.now }
+        ensures len { result.end - result.start ≡ within.now.end - within.now.start }
+        ensures replaced { (pieces : Text) → replaced self.now result pieces
+            ≡ replaced self.now place (replaced (text_at self.now place) within.now pieces) }
     {
-        let start = self.places.path.start;
+        let start = place.start;
         start + within.start..start + within.end
     }
 

@@ -10,6 +10,7 @@ ghost use Rattle.iref_buffer.specs.PathPlaces.{IsPathOf, one_path, RemovesDots};
 
 use super::{Held, HeldRule};
 use crate::lengths::Lengths;
+use iref_edit::change::{Change, Place};
 use iref_edit::target::Target;
 use iref_error::Memory;
 use iref_grammar::chars::CharSet;
@@ -18,7 +19,6 @@ use iref_path_text::part::PathPart;
 use iref_path_text::pieces::split_root;
 use iref_path_text::spell::normalized_text;
 use std::alloc::Allocator;
-use std::ops::Range;
 
 impl<R: HeldRule, C: CharSet, A: Allocator + Copy> Target<PathPart, C> for Held<R, C, A> {
     type Alloc = A;
@@ -33,21 +33,12 @@ impl<R: HeldRule, C: CharSet, A: Allocator + Copy> Target<PathPart, C> for Held<
         *self.text.allocator()
     }
 
-    fn part(&self, context: PathContext, start: usize, end: usize) -> &str {
+    fn part(&self, after: PathContext, at: Place) -> &str {
         self.slices().path
     }
 
-    fn replace(
-        &mut self,
-        context: PathContext,
-        start: usize,
-        end: usize,
-        within: Range<usize>,
-        lead: &str,
-        middle: &str,
-        close: &str,
-    ) -> Result<usize, Memory> {
-        self.replace_in_path(within, lead, middle, close)?;
+    fn replace(&mut self, after: PathContext, at: Place, by: Change<'_>) -> Result<usize, Memory> {
+        self.replace_in_path(by)?;
         Ok(self.places.path.end)
     }
 }
@@ -77,7 +68,7 @@ impl<R: HeldRule, C: CharSet, A: Allocator + Copy> Held<R, C, A> {
     {
         let context = self.context();
         let absolute = is_absolute_after(context, path);
-        let normal = normalized_text::<C, A>(self.alloc(), context, absolute, path)?;
+        let normal = normalized_text::<C, A>(*self.text.allocator(), context, absolute, path)?;
         let normal = normal.as_str();
         let lengths = Lengths {
             path: normal.len(),

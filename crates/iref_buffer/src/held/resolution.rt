@@ -1,12 +1,15 @@
 //! The text that a reference resolves to, with the places of its components (RFC 3986 sections
 //! 5.2.2 and 5.3).
+ghost use Rattle.iref_buffer.specs.ComponentLengths.{lengths_of_texts, placed};
+ghost use Rattle.iref_buffer.specs.MeasuredReferences.{IsReady, spell_texts, measured_components};
+ghost use Rattle.iref_grammar.specs.Places.{places_of};
 ghost use Rattle.iref_grammar.specs.Reference.{is_readable, read_reference, spell};
 ghost use Rattle.iref_model.specs.Resolution.{resolved};
 ghost use Rattle.iref_parse.specs.ReferenceSlices.{value_of};
 ghost use Rattle.std.specs.Prelude.{◌≡◌, ◌+◌, ◌<◌, ◌^◌, IfOk, length, true};
 
 use super::{Held, HeldRule};
-use crate::target::Target;
+use crate::measured::MeasuredReference;
 use iref_error::Memory;
 use iref_grammar::chars::CharSet;
 use iref_parse::split::ReferenceSlices;
@@ -40,11 +43,21 @@ impl<R: HeldRule, C: CharSet, A: Allocator> Held<R, C, A> {
             ≡ resolved (value_of base.entry) (value_of reference.entry)) }
     {
         count_together(base.path, reference.path)?;
-        let target = Target::resolved(base, reference);
-        let bytes = target.bytes(alloc)?;
+        Held::of_components(alloc, MeasuredReference::resolved(base, reference))
+    }
+
+    // The text of these components, which the rule allows.
+    pub(super) fn of_components(alloc: A, components: MeasuredReference<'_>) -> Result<Self, Memory>
+        requires ready { IsReady components }
+        requires in_rule { R.test C.tests (spell_texts (measured_components components)) ≡ true }
+        requires places { placed (lengths_of_texts (measured_components components))
+            ≡ places_of (spell_texts (measured_components components)) }
+        ensures { IfOk result (λ held. held ≡ spell_texts (measured_components components.entry)) }
+    {
+        let bytes = components.bytes(alloc)?;
         // What spells a reference is text, so no byte is read again.
         let text = unsafe { String::from_utf8_unchecked(bytes) };
-        let places = target.lengths().places_in(text.as_str());
+        let places = components.lengths().places_in(text.as_str());
         Ok(Held {
             text,
             places,

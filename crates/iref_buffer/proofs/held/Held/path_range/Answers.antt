@@ -1,8 +1,13 @@
-use Rattle.std.proofs.Common.{sym}
+use Rattle.std.proofs.Common.{ap, sym, ◌∙◌}
 use Rattle.std.specs.String.{string_bytes}
+use Rattle.iref_grammar.specs.declared.places.Offsets.{Offsets}
+use Rattle.iref_grammar.specs.Places.{places_of}
 use Rattle.iref_buffer.proofs.HeldLemmas.{places_within}
 use Rattle.iref_buffer.proofs.EditLemmas.{path_replaced}
 use Rattle.iref_buffer.proofs.held.Held.path_range.Goals as goal
+
+pub returns-clause-place : goal.returns-clause-place
+returns-clause-place g c = ap (λ (p : Offsets). p.path) c.self.invariant.1 ∙ ap (λ t. (places_of t).path) c.self.view_is
 
 pub returns-clause-within : goal.returns-clause-within
 returns-clause-within g c =

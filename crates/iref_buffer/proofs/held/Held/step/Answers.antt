@@ -7,14 +7,14 @@ use Rattle.iref_buffer.proofs.held.Held.step.Goals as goal
 
 pub places_in-self-inside-requires : goal.places_in-self-inside-requires
 places_in-self-inside-requires g c =
-    let new = splice c.args.self.now c.args.range.start c.args.range.end (c.args.lead.now ++ c.args.middle.now ++ c.args.close.now) in
-    let put = ap (λ t. splice t c.args.range.start c.args.range.end (c.args.lead.now ++ c.args.middle.now ++ c.args.close.now)) (sym c.self.view_is) ∙ sym c.in_ok-replace.ensures.ok in
+    let new = splice c.args.self.now c.args.within.start c.args.within.end (c.args.lead.now ++ c.args.middle.now ++ c.args.close.now) in
+    let put = ap (λ t. splice t c.args.within.start c.args.within.end (c.args.lead.now ++ c.args.middle.now ++ c.args.close.now)) (sym c.self.view_is) ∙ sym c.in_ok-replace.ensures.ok in
     ap total_length c.requires.leaves.lengths ∙ total-read new ∙ ap length (put ∙ sym c.as_str.ensures.value)
 
 pub invariant_of-self-2 : goal.invariant_of-self-2
 invariant_of-self-2 g c =
-    let new = splice c.args.self.now c.args.range.start c.args.range.end (c.args.lead.now ++ c.args.middle.now ++ c.args.close.now) in
-    let put = ap (λ t. splice t c.args.range.start c.args.range.end (c.args.lead.now ++ c.args.middle.now ++ c.args.close.now)) (sym c.self.view_is) ∙ sym c.in_ok-replace.ensures.ok in (
+    let new = splice c.args.self.now c.args.within.start c.args.within.end (c.args.lead.now ++ c.args.middle.now ++ c.args.close.now) in
+    let put = ap (λ t. splice t c.args.within.start c.args.within.end (c.args.lead.now ++ c.args.middle.now ++ c.args.close.now)) (sym c.self.view_is) ∙ sym c.in_ok-replace.ensures.ok in (
       ap (g.R.Rule.test g.C.CharSet.tests) (sym put) ∙ c.requires.leaves.in_rule,
       c.places_in-self-inside.ensures ∙ ap placed c.requires.leaves.lengths ∙ placed-read new ∙ ap places_of put,
     )

@@ -16,7 +16,7 @@ returns-clause-value g c =
 pub returns-clause-test : goal.returns-clause-test
 returns-clause-test g c =
     let s = c.requires in
-    let context : c.args.context ≡ context_of (read_reference c.args.self.now) = λ i. record { has_scheme = s.3 i; has_authority = s.4 i } in
+    let context : c.args.after ≡ context_of (read_reference c.args.self.now) = λ i. record { has_scheme = s.3 i; has_authority = s.4 i } in
     (λ i. is_path_after g.C.CharSet.tests (context i) (c.slices.ensures.texts i).path) ∙ (path_stands g.C.CharSet.tests g.met.C.CharSet.above_ascii c.args.self.now s.0).path_after
 
 pub returns-clause-start_le_end : goal.returns-clause-start_le_end

@@ -1,6 +1,7 @@
-use Rattle.std.proofs.Common.{◌≡◌, true, ◌+◌, ◌++◌, length, sym, ap, subst, ◌∙◌}
+use Rattle.std.proofs.Common.{◌≡◌, true, ◌+◌, length, sym, ap, subst, ◌∙◌}
 use Rattle.std.specs.Prelude.{is_some}
-use Rattle.std.specs.List.{splice, slice_range}
+use Rattle.std.specs.List.{slice_range}
+use Rattle.iref_edit.specs.Changes.{changed}
 use Rattle.std.specs.String.{string_bytes}
 use Rattle.iref_grammar.specs.declared.places.Offsets.{Offsets}
 use Rattle.iref_grammar.specs.Contexts.{is_path_in}
@@ -17,12 +18,11 @@ replace_in_path-requires-clause-may_stand g c =
     let text = c.args.self.now in
     let r = read_reference text in
     let s = c.requires.stands in
-    let pieces = c.args.lead.now ++ c.args.middle.now ++ c.args.close.now in
-    let context : c.args.context ≡ context_of r = λ i. record { has_scheme = s.3 i; has_authority = s.4 i } in
-    let same : slice_range text c.args.start c.args.end ≡ path_text text = λ i. slice_range text (s.1 i) (s.2 i) in
-    let stood : is_path_in set c.args.context (slice_range text c.args.start c.args.end) ≡ true =
+    let context : c.args.after ≡ context_of r = λ i. record { has_scheme = s.3 i; has_authority = s.4 i } in
+    let same : slice_range text c.args.at.start c.args.at.end ≡ path_text text = λ i. slice_range text (s.1 i) (s.2 i) in
+    let stood : is_path_in set c.args.after (slice_range text c.args.at.start c.args.at.end) ≡ true =
     (λ i. is_path_in set (context i) (same i)) ∙ ap (is_path_in set (context_of r)) (path_place text) ∙ (path_stands set g.met.C.CharSet.above_ascii text s.0).path_in in
-    (λ i. is_path_in set (sym context i) (splice (sym same i) c.args.within.start c.args.within.end pieces)) ∙ c.requires.reads stood
+    (λ i. is_path_in set (sym context i) (changed (sym same i) c.args.by)) ∙ c.requires.reads stood
 
 pub returns-clause-stands : goal.returns-clause-stands
 returns-clause-stands g c =
@@ -30,7 +30,7 @@ returns-clause-stands g c =
     let text = c.args.self.now in
     let s = c.requires.stands in
     let value = c.in_ok-replace_in_path.ensures.value in
-    let path = splice (path_text text) c.args.within.start c.args.within.end (c.args.lead.now ++ c.args.middle.now ++ c.args.close.now) in
+    let path = changed (path_text text) c.args.by in
     let place = place_of_new_path text c.replace_in_path.new.self path value in (
       subst (λ t. is_reference set t ≡ true) c.self.view_is (g.met.R.HeldRule.references set (string_bytes c.self.inside.text) c.self.invariant.0),
       s.1 ∙ sym (ap (λ p. p.start) place),
@@ -43,8 +43,7 @@ pub returns-clause-end : goal.returns-clause-end
 returns-clause-end g c =
     let text = c.args.self.now in
     let s = c.requires.stands in
-    let pieces = c.args.lead.now ++ c.args.middle.now ++ c.args.close.now in
-    let path = splice (path_text text) c.args.within.start c.args.within.end pieces in
+    let path = changed (path_text text) c.args.by in
     let place = place_of_new_path text c.replace_in_path.new.self path c.in_ok-replace_in_path.ensures.value in
     ap (λ (p : Offsets). p.path.end) c.self.invariant.1 ∙ ap (λ t. (places_of t).path.end) c.self.view_is ∙ ap (λ p. p.end) place
-    ∙ (λ i. sym s.1 i + length (splice (slice_range text (sym s.1 i) (sym s.2 i)) c.args.within.start c.args.within.end pieces))
+    ∙ (λ i. sym s.1 i + length (changed (slice_range text (sym s.1 i) (sym s.2 i)) c.args.by))

@@ -1,0 +1,78 @@
+//! The authority of a held reference as a part that is edited in place (RFC 3986 section 3.2).
+ghost use Rattle.std.specs.Prelude.{◌≡◌, true, is_some, OnErr, OnOk, IsOk};
+ghost use Rattle.iref_grammar.specs.Authority.{is_authority, read_authority};
+ghost use Rattle.iref_grammar.specs.Reference.{read_reference};
+ghost use Rattle.iref_model.specs.ComponentSteps.{with_authority_step};
+ghost use Rattle.iref_edit.specs.Changes.{IsNoLonger, IsWithin, changed, replaced};
+ghost use Rattle.iref_buffer.specs.AuthorityPlaces.{IsAuthorityOf, one_authority};
+ghost use Rattle.iref_buffer.specs.AuthorityPlaces.{authority_part, place_of_authority};
+
+use super::{Held, HeldRule, slice_at};
+use crate::lengths::Lengths;
+use iref_authority::part::AuthorityPart;
+use iref_edit::change::{Change, Place};
+use iref_edit::target::Target;
+use iref_error::Memory;
+use iref_grammar::chars::CharSet;
+use std::alloc::Allocator;
+use std::ops::Range;
+
+impl<R: HeldRule, C: CharSet, A: Allocator + Copy> Target<AuthorityPart, C> for Held<R, C, A> {
+    type Alloc = A;
+
+    ghost text = { λ held. held };
+
+    ghost stands = { λ text _. IsAuthorityOf C.tests text };
+
+    ghost one_place = { λ text _. one_authority C.tests text };
+
+    fn alloc(&self) -> A {
+        *self.text.allocator()
+    }
+
+    fn part(&self, after: (), at: Place) -> &str {
+        slice_at(self.as_str(), &(at.start..at.end))
+    }
+
+    fn replace(&mut self, after: (), at: Place, by: Change<'_>) -> Result<usize, Memory> {
+        self.replace_in_authority(by)?;
+        Ok(self.places.path.start)
+    }
+}
+
+impl<R: HeldRule, C: CharSet, A: Allocator> Held<R, C, A> {
+    /// Makes a change of the authority, where what this leaves is one.
+    pub fn replace_in_authority(&mut self, change: Change<'_>) -> Result<(), Memory>
+        requires has { is_some (read_reference self.old).authority ≡ true }
+        requires within { IsWithin (authority_part self.old) change.within }
+        requires in_rule { is_authority C.tests (changed (authority_part self.old) change) ≡ true }
+        ensures text { OnOk result (self.new ≡ replaced self.old (place_of_authority self.old)
+            (changed (authority_part self.old) change.entry)) }
+        ensures value { OnOk result (read_reference self.new ≡ with_authority_step
+            (λ old. read_authority (changed (authority_part self.old) change.entry))
+            (read_reference self.old)) }
+        ensures err { OnErr result (self.new ≡ self.old) }
+        ensures shorter { IsNoLonger change.entry → IsOk result }
+    {
+        let place = self.authority_place();
+        let lengths = Lengths {
+            authority: Some(change.len_after(place.end - place.start)?),
+            ..self.lengths()
+        };
+        let range = self.part_of(place, &change.within);
+        self.step(lengths, range, change.lead, change.middle, change.close)?;
+        Ok(())
+    }
+
+    // Where the authority stands.
+    fn authority_place(&self) -> Range<usize>
+        requires { is_some (read_reference self.now).authority ≡ true }
+        ensures place { result ≡ place_of_authority self.now }
+        ensures within { IsWithin self.now result }
+    {
+        let Some(place) = &self.places.authority else {
+            unreachable!()
+        };
+        place.start..place.end
+    }
+}

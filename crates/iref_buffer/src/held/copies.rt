@@ -1,0 +1,63 @@
+//! Held texts that are made from others: a copy, a scheme alone, a reference under a scheme.
+ghost use Rattle.std.specs.Prelude.{◌≡◌, ◌++◌, true, [], ◌∷◌, Some, IfOk, IfErr};
+ghost use Rattle.std.specs.String.{string_bytes};
+ghost use Rattle.iref_grammar.specs.Grammar.{colon};
+ghost use Rattle.iref_grammar.specs.Reference.{read_reference, spell};
+ghost use Rattle.iref_grammar.specs.Tests.{is_scheme};
+ghost use Rattle.iref_model.specs.ComponentSteps.{with_scheme};
+
+use super::{Held, HeldRule};
+use iref_error::Memory;
+use iref_grammar::chars::CharSet;
+use std::alloc::{AllocError, Allocator};
+
+// Room for the mark before a component and for the guard or the root after it.
+const MARKS: usize = 3;
+
+impl<R: HeldRule, C: CharSet, A: Allocator> Held<R, C, A> {
+    /// A copy of a text that is known to be in the rule, with room for a component that it is to
+    /// get, if there is one.
+    pub fn copied(alloc: A, text: &str, component: Option<&str>) -> Result<Self, Memory>
+        requires { R.test C.tests text.now ≡ true }
+        ensures { IfOk result (λ held. held ≡ text.now) }
+    {
+        let mut len = text.len();
+        if let Some(component) = component {
+            len = len.checked_add(component.len()).ok_or(AllocError)?;
+            len = len.checked_add(MARKS).ok_or(AllocError)?;
+        }
+        let mut copy = String::with_capacity(alloc, len)?;
+        copy.push_str(text)?;
+        Ok(Held::new_unchecked(copy))
+    }
+
+    /// The reference that is a scheme alone: of `data`, `data:`. It takes the scheme's buffer.
+    pub fn from_scheme(scheme: String<A>) -> Result<Self, Memory>
+        requires scheme { is_scheme (string_bytes scheme) ≡ true }
+        requires allowed { R.allows_scheme (Some (string_bytes scheme)) ≡ true }
+        ensures { IfOk result (λ held. held ≡ string_bytes scheme ++ colon ∷ []) }
+    {
+        let mut text = scheme;
+        text.push(':')?;
+        Ok(Held::new_unchecked(text))
+    }
+
+    /// The same reference under a scheme, with no copy where the buffer has room, or the reference
+    /// as it was.
+    pub fn into_with_scheme<S: HeldRule>(self, scheme: &str) -> Result<Held<S, C, A>, Self>
+        requires scheme { is_scheme scheme.now ≡ true }
+        requires allowed { R.allows_scheme (Some scheme.now) ≡ true }
+        requires allows { S.allows_scheme (Some scheme.now) ≡ true }
+        ensures text { IfOk result (λ held.
+            held ≡ spell (with_scheme (Some scheme.now) (read_reference self))) }
+        ensures value { IfOk result (λ held.
+            read_reference held ≡ with_scheme (Some scheme.now) (read_reference self)) }
+        ensures err { IfErr result (λ held. held ≡ self) }
+    {
+        let mut held = self;
+        match held.set_scheme(Some(scheme)) {
+            Ok(()) => Ok(held.into_rule()),
+            Err(_) => Err(held),
+        }
+    }
+}

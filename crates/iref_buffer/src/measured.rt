@@ -1,0 +1,157 @@
+//! References that are measured before they are written: what one resolves to against a base, strict
+//! (RFC 3986 sections 5.2.2 and 5.3).
+ghost use Rattle.iref_buffer.specs.ComponentLengths.{lengths_of_texts};
+ghost use Rattle.iref_buffer.specs.MeasuredReferences.{IsReady, spell_texts, measured_components};
+ghost use Rattle.iref_grammar.specs.ComponentTexts.{spell_components};
+ghost use Rattle.iref_grammar.specs.Contexts.{fits};
+ghost use Rattle.iref_grammar.specs.Reference.{context_of};
+ghost use Rattle.iref_model.specs.ComponentSteps.{guarded_reference};
+ghost use Rattle.iref_model.specs.NormalList.{normal};
+ghost use Rattle.iref_model.specs.Resolution.{resolved};
+ghost use Rattle.iref_parse.specs.ReferenceSlices.{value_of};
+ghost use Rattle.std.specs.Option.{option_copied};
+ghost use Rattle.std.specs.Prelude.{◌≡◌, ◌+◌, ◌<◌, ◌≤◌, ◌^◌, ◌++◌, IfOk, drop, is_some, length, true};
+
+use crate::lengths::{Lengths, len_of};
+use iref_edit::text::{marked, marked_after};
+use iref_error::Memory;
+use iref_grammar::places::PathContext;
+use iref_parse::split::ReferenceSlices;
+use iref_path_text::measured::MeasuredPath;
+use iref_path_text::spell::write_before;
+use std::alloc::Allocator;
+
+/// The components of a reference that is not written yet.
+#[derive(Clone, Copy)]
+pub struct MeasuredReference<'a> {
+    pub(crate) scheme: Option<&'a str>,
+    pub(crate) authority: Option<&'a str>,
+    pub(crate) path: MeasuredPath<'a>,
+    pub(crate) query: Option<&'a str>,
+    pub(crate) fragment: Option<&'a str>,
+}
+
+// What stands before a path after these components.
+fn context_after(scheme: Option<&str>, authority: Option<&str>) -> PathContext
+    ensures { result ≡ record {
+      has_scheme = is_some (option_copied scheme.entry);
+      has_authority = is_some (option_copied authority.entry);
+    } }
+{
+    PathContext {
+        has_scheme: scheme.is_some(),
+        has_authority: authority.is_some(),
+    }
+}
+
+// Writes two pieces so that they end at a place, and answers where they begin.
+fn write_pair(buffer: &mut [u8], end: usize, pair: (&str, &str)) -> usize
+    requires room { length (pair.0.now ++ pair.1.now) ≤ end }
+    requires within { end ≤ length buffer.old }
+    ensures place { result + length (pair.entry.0.now ++ pair.entry.1.now) ≡ end }
+    ensures written { drop result buffer.new
+        ≡ (pair.entry.0.now ++ pair.entry.1.now) ++ drop end buffer.old }
+    ensures len { length buffer.new ≡ length buffer.old }
+{
+    let (front, back) = pair;
+    let start = write_before(buffer, end, back);
+    write_before(buffer, start, front)
+}
+
+impl<'a> MeasuredReference<'a> {
+    // A reference under a scheme, its path made normal.
+    fn with_own_path(scheme: Option<&'a str>, reference: ReferenceSlices<'a>) -> Self
+        ensures texts { measured_components result ≡ spell_components (guarded_reference
+            (record (value_of reference.entry) {
+              scheme = option_copied scheme.entry;
+              path = normal (value_of reference.entry).path;
+            })) }
+        ensures ready { IsReady result }
+    {
+        let context = context_after(scheme, reference.authority);
+        MeasuredReference {
+            scheme,
+            authority: reference.authority,
+            path: MeasuredPath::normalized(context, reference.path),
+            query: reference.query,
+            fragment: reference.fragment,
+        }
+    }
+
+    /// The components of what the reference resolves to. A reference without a path keeps the
+    /// base's as it stands, and its query where it has none.
+    pub fn resolved(base: ReferenceSlices<'a>, reference: ReferenceSlices<'a>) -> Self
+        requires fits { fits (context_of (value_of base)) (value_of base).path ≡ true }
+        requires room { length base.path.now + length reference.path.now + 6 < 2 ^ 64 }
+        ensures texts { measured_components result ≡ spell_components
+            (resolved (value_of base.entry) (value_of reference.entry)) }
+        ensures ready { IsReady result }
+    {
+        let is_own = reference.scheme.is_some() | reference.authority.is_some();
+        if is_own {
+            return MeasuredReference::with_own_path(reference.scheme.or(base.scheme), reference);
+        }
+        let ReferenceSlices {
+            scheme,
+            authority,
+            ..
+        } = base;
+        let fragment = reference.fragment;
+        if reference.path.is_empty() {
+            return MeasuredReference {
+                scheme,
+                authority,
+                path: MeasuredPath::kept(base.path),
+                query: reference.query.or(base.query),
+                fragment,
+            };
+        }
+        let context = context_after(scheme, authority);
+        MeasuredReference {
+            scheme,
+            authority,
+            path: MeasuredPath::normalized_after(context, base.path, reference.path),
+            query: reference.query,
+            fragment,
+        }
+    }
+
+    /// How long the components are.
+    pub fn lengths(&self) -> Lengths
+        requires { IsReady self.now }
+        ensures { result ≡ lengths_of_texts (measured_components self.now) }
+    {
+        Lengths {
+            scheme: len_of(self.scheme),
+            authority: len_of(self.authority),
+            path: self.path.len(),
+            query: len_of(self.query),
+            fragment: len_of(self.fragment),
+        }
+    }
+
+    /// The bytes of the text.
+    pub fn bytes<A: Allocator>(self, alloc: A) -> Result<Vec<u8, A>, Memory>
+        requires { IsReady self }
+        ensures { IfOk result (λ bytes. bytes.items ≡ spell_texts (measured_components self.entry)) }
+    {
+        let len = self.lengths().total()?;
+        let mut bytes = vec![in alloc; 0u8; len]?;
+        self.write(&mut bytes);
+        Ok(bytes)
+    }
+
+    // Fills the buffer with the text, from its end.
+    fn write(self, buffer: &mut [u8])
+        requires ready { IsReady self }
+        requires room { length (spell_texts (measured_components self)) ≡ length buffer.old }
+        ensures { buffer.new ≡ spell_texts (measured_components self.entry) }
+    {
+        let end = buffer.len();
+        let end = write_pair(buffer, end, marked("#", self.fragment));
+        let end = write_pair(buffer, end, marked("?", self.query));
+        let end = self.path.write_before(buffer, end);
+        let end = write_pair(buffer, end, marked("//", self.authority));
+        write_pair(buffer, end, marked_after(self.scheme, ":"));
+    }
+}
