@@ -1,4 +1,6 @@
-pub mod SchemeLemmas
 pub mod ConversionLemmas
 pub mod PathStepLemmas
+pub mod AuthorityStepLemmas
 pub mod ResolutionLemmas
+pub mod SuffixLemmas
+pub mod RelativeLemmas

@@ -5,9 +5,9 @@ ghost use Rattle.iref_grammar.specs.Characters.{uri_chars};
 ghost use Rattle.iref_grammar.specs.Grammar.{IsUri, IsUriReference};
 ghost use Rattle.iref_grammar.specs.Rules.{InUtf8};
 ghost use Rattle.iref_component.specs.Makers.{Parses};
-ghost use Rattle.iref_reference.specs.Conversions.{SomeIfIn};
+ghost use Rattle.iref_reference.specs.Conversions.{BecomesUri, OwnerBecomesUri, SomeIfIn};
 ghost use Rattle.iref_reference.specs.References.{reference_text, reference_value};
-ghost use Rattle.iref_reference.specs.References.{reference_buf_text, HasSchemeOrRefused};
+ghost use Rattle.iref_reference.specs.References.{reference_buf_text, BecomesFull, OwnerBecomesFull};
 
 use crate::owner::{ReferenceBuf, UriBuf, UriRefBuf};
 use crate::view::{Reference, Uri, UriRef};
@@ -87,26 +87,12 @@ impl<'a> From<Uri<'a, UriChars>> for Uri<'a, IriChars> {
     }
 }
 
-impl<'a> TryFrom<UriRef<'a, UriChars>> for Uri<'a, IriChars> {
-    type Error = InvalidIri<UriRef<'a, UriChars>>;
-
-    ghost try_from_gives = { λ reference result.
-        HasSchemeOrRefused reference_text reference_text reference (λ error. error.0) result };
-
-    fn try_from(reference: UriRef<'a, UriChars>) -> Result<Self, InvalidIri<UriRef<'a, UriChars>>> {
-        reference.as_iri().ok_or(InvalidIri(reference))
-    }
-}
-
 impl<'a, R: HeldRule> TryFrom<Reference<'a, R, IriChars>> for Uri<'a, UriChars> {
     type Error = InvalidUri<Reference<'a, R, IriChars>>;
 
-    ghost try_from_gives = { λ iri result. Parses (InUtf8 (IsUri uri_chars))
-        (reference_text iri) reference_text (λ error. error.0 ≡ iri) result };
+    ghost try_from_gives = { λ iri result. BecomesUri IsUri (λ error. error.0) iri result };
 
-    fn try_from(
-        iri: Reference<'a, R, IriChars>,
-    ) -> Result<Self, InvalidUri<Reference<'a, R, IriChars>>> {
+    fn try_from(iri: Reference<'a, R, IriChars>) -> Result<Self, Self::Error> {
         iri.as_uri().ok_or(InvalidUri(iri))
     }
 }
@@ -114,13 +100,20 @@ impl<'a, R: HeldRule> TryFrom<Reference<'a, R, IriChars>> for Uri<'a, UriChars> 
 impl<'a, R: HeldRule> TryFrom<Reference<'a, R, IriChars>> for UriRef<'a, UriChars> {
     type Error = InvalidUriRef<Reference<'a, R, IriChars>>;
 
-    ghost try_from_gives = { λ iri result. Parses (InUtf8 (IsUriReference uri_chars))
-        (reference_text iri) reference_text (λ error. error.0 ≡ iri) result };
+    ghost try_from_gives = { λ iri result. BecomesUri IsUriReference (λ error. error.0) iri result };
 
-    fn try_from(
-        iri: Reference<'a, R, IriChars>,
-    ) -> Result<Self, InvalidUriRef<Reference<'a, R, IriChars>>> {
+    fn try_from(iri: Reference<'a, R, IriChars>) -> Result<Self, Self::Error> {
         iri.as_uri_ref().ok_or(InvalidUriRef(iri))
+    }
+}
+
+impl<'a> TryFrom<UriRef<'a, UriChars>> for Uri<'a, IriChars> {
+    type Error = InvalidIri<UriRef<'a, UriChars>>;
+
+    ghost try_from_gives = { λ reference result. BecomesFull (λ error. error.0) reference result };
+
+    fn try_from(reference: UriRef<'a, UriChars>) -> Result<Self, InvalidIri<UriRef<'a, UriChars>>> {
+        reference.as_iri().ok_or(InvalidIri(reference))
     }
 }
 
@@ -147,8 +140,7 @@ impl UriBuf<UriChars> {
 impl UriRefBuf<UriChars> {
     /// The IRI of the same text, with no copy, or the reference if it has no scheme.
     pub fn try_into_iri(self) -> Result<UriBuf<IriChars>, InvalidIri<Self>>
-        ensures { HasSchemeOrRefused reference_buf_text reference_buf_text self
-            (λ error. error.0) result }
+        ensures { OwnerBecomesFull (λ error. error.0) self result }
     {
         Ok(self.try_into_uri()?.into_iri())
     }
@@ -202,27 +194,12 @@ impl From<UriBuf<UriChars>> for UriBuf<IriChars> {
     }
 }
 
-impl TryFrom<UriRefBuf<UriChars>> for UriBuf<IriChars> {
-    type Error = InvalidIri<UriRefBuf<UriChars>>;
-
-    ghost try_from_gives = { λ reference result.
-        HasSchemeOrRefused
-        reference_buf_text reference_buf_text reference (λ error. error.0) result };
-
-    fn try_from(reference: UriRefBuf<UriChars>) -> Result<Self, InvalidIri<UriRefBuf<UriChars>>> {
-        reference.try_into_iri()
-    }
-}
-
 impl<R: HeldRule> TryFrom<ReferenceBuf<R, IriChars>> for UriBuf<UriChars> {
     type Error = InvalidUri<ReferenceBuf<R, IriChars>>;
 
-    ghost try_from_gives = { λ iri result. Parses (InUtf8 (IsUri uri_chars))
-        (reference_buf_text iri) reference_buf_text (λ error. error.0 ≡ iri) result };
+    ghost try_from_gives = { λ iri result. OwnerBecomesUri IsUri (λ error. error.0) iri result };
 
-    fn try_from(
-        iri: ReferenceBuf<R, IriChars>,
-    ) -> Result<Self, InvalidUri<ReferenceBuf<R, IriChars>>> {
+    fn try_from(iri: ReferenceBuf<R, IriChars>) -> Result<Self, Self::Error> {
         iri.try_into_uri()
     }
 }
@@ -230,12 +207,19 @@ impl<R: HeldRule> TryFrom<ReferenceBuf<R, IriChars>> for UriBuf<UriChars> {
 impl<R: HeldRule> TryFrom<ReferenceBuf<R, IriChars>> for UriRefBuf<UriChars> {
     type Error = InvalidUriRef<ReferenceBuf<R, IriChars>>;
 
-    ghost try_from_gives = { λ iri result. Parses (InUtf8 (IsUriReference uri_chars))
-        (reference_buf_text iri) reference_buf_text (λ error. error.0 ≡ iri) result };
+    ghost try_from_gives = { λ iri result. OwnerBecomesUri IsUriReference (λ e. e.0) iri result };
 
-    fn try_from(
-        iri: ReferenceBuf<R, IriChars>,
-    ) -> Result<Self, InvalidUriRef<ReferenceBuf<R, IriChars>>> {
+    fn try_from(iri: ReferenceBuf<R, IriChars>) -> Result<Self, Self::Error> {
         iri.try_into_uri_ref()
+    }
+}
+
+impl TryFrom<UriRefBuf<UriChars>> for UriBuf<IriChars> {
+    type Error = InvalidIri<UriRefBuf<UriChars>>;
+
+    ghost try_from_gives = { λ reference result. OwnerBecomesFull (λ e. e.0) reference result };
+
+    fn try_from(reference: UriRefBuf<UriChars>) -> Result<Self, InvalidIri<UriRefBuf<UriChars>>> {
+        reference.try_into_iri()
     }
 }

@@ -1,13 +1,19 @@
 //! Editors of the parts of owners, in place (RFC 3986 section 3).
-ghost use Rattle.std.specs.Prelude.{◌≡◌, true};
+ghost use Rattle.std.specs.Prelude.{◌≡◌, true, is_some, IfSome};
+ghost use Rattle.std.specs.Borrow.{sem, RestsIfNone};
 ghost use Rattle.iref_grammar.specs.Places.{places_of};
 ghost use Rattle.iref_grammar.specs.Reference.{context_of, is_reference};
 ghost use Rattle.iref_path.specs.PathEdits.{Borrows, IsEditorOf};
 ghost use Rattle.iref_buffer.specs.PathPlaces.{IsPathOf, one_path};
+ghost use Rattle.iref_buffer.specs.AuthorityPlaces.{IsAuthorityOf, one_authority};
+ghost use Rattle.iref_reference.specs.contracts.owner.ReferenceBuf.{the_row};
 ghost use Rattle.iref_reference.specs.References.{reference_buf_text, reference_buf_value};
 
 use crate::owner::ReferenceBuf;
+use iref_authority::authority_mut::AuthorityMut;
+use iref_authority::part::AuthorityPart;
 use iref_buffer::held::HeldRule;
+use iref_edit::change::{Change, Place};
 use iref_edit::target::Target;
 use iref_error::Memory;
 use iref_grammar::chars::CharSet;
@@ -15,7 +21,6 @@ use iref_grammar::places::PathContext;
 use iref_path::path_mut::PathMut;
 use iref_path_text::part::PathPart;
 use std::alloc::Global;
-use std::ops::Range;
 
 impl<R: HeldRule, C: CharSet> Target<PathPart, C> for ReferenceBuf<R, C> {
     type Alloc = Global;
@@ -30,34 +35,61 @@ impl<R: HeldRule, C: CharSet> Target<PathPart, C> for ReferenceBuf<R, C> {
         Target::<PathPart, C>::alloc(&self.held)
     }
 
-    fn part(&self, context: PathContext, start: usize, end: usize) -> &str {
-        Target::<PathPart, C>::part(&self.held, context, start, end)
+    fn part(&self, after: PathContext, at: Place) -> &str {
+        Target::<PathPart, C>::part(&self.held, after, at)
     }
 
-    fn replace(
-        &mut self,
-        context: PathContext,
-        start: usize,
-        end: usize,
-        within: Range<usize>,
-        lead: &str,
-        middle: &str,
-        close: &str,
-    ) -> Result<usize, Memory> {
-        Target::<PathPart, C>::replace(
-            &mut self.held,
-            context,
-            start,
-            end,
-            within,
-            lead,
-            middle,
-            close,
-        )
+    fn replace(&mut self, after: PathContext, at: Place, by: Change<'_>) -> Result<usize, Memory> {
+        Target::<PathPart, C>::replace(&mut self.held, after, at, by)
+    }
+}
+
+impl<R: HeldRule, C: CharSet> Target<AuthorityPart, C> for ReferenceBuf<R, C> {
+    type Alloc = Global;
+
+    ghost text = { reference_buf_text };
+
+    ghost stands = { λ text _. IsAuthorityOf C.tests text };
+
+    ghost one_place = { λ text _. one_authority C.tests text };
+
+    fn alloc(&self) -> Global {
+        Target::<AuthorityPart, C>::alloc(&self.held)
+    }
+
+    fn part(&self, after: (), at: Place) -> &str {
+        Target::<AuthorityPart, C>::part(&self.held, after, at)
+    }
+
+    fn replace(&mut self, after: (), at: Place, by: Change<'_>) -> Result<usize, Memory> {
+        Target::<AuthorityPart, C>::replace(&mut self.held, after, at, by)
     }
 }
 
 impl<R: HeldRule, C: CharSet> ReferenceBuf<R, C> {
+    ghost use Rattle.iref_authority.specs.AuthorityEdits as authority;
+
+    /// The editor of the authority, if there is one: each of its edits is one of the reference, and
+    /// keeps the other components as they are.
+    pub fn authority_mut(&mut self) -> Option<AuthorityMut<'_, C, ReferenceBuf<R, C>>>
+        ensures* unchanged_if_none { sem 𝓛 (RestsIfNone (the_row R.row C.row R.Key.row
+            (record { allows_scheme = R.allows_scheme }) R.Rule R.Key.Key C.CharSet)
+            self.entry authority.borrowed_name result
+            (λ last. reference_buf_text last ≡ reference_buf_text self.old)) }
+        ensures some { is_some result ≡ is_some (reference_buf_value self.old).authority }
+        ensures same_reference { IfSome result (λ editor.
+            authority.Borrows editor self.entry.ghost_name) }
+        ensures editor { IfSome result (λ editor. authority.IsEditorAt editor
+            (reference_buf_text self.old) (places_of (reference_buf_text self.old)).authority) }
+        ensures reference { is_reference C.tests (reference_buf_text self.old) ≡ true }
+    {
+        let _text = self.as_str();
+        let Some(place) = self.held.places().authority else {
+            return None;
+        };
+        Some(AuthorityMut::of_target(self, place))
+    }
+
     /// The editor of the path: each of its edits is one of the reference, and keeps the other
     /// components as they are.
     pub fn path_mut(&mut self) -> PathMut<'_, C, ReferenceBuf<R, C>>

@@ -1,6 +1,6 @@
 //! Conversions between URIs and references, by the names of each family.
 ghost use Rattle.iref_reference.specs.References.{reference_text, reference_value};
-ghost use Rattle.iref_reference.specs.References.{reference_buf_text, HasSchemeOrRefused};
+ghost use Rattle.iref_reference.specs.References.{reference_buf_text, OwnerBecomesFull};
 ghost use Rattle.std.specs.Prelude.{◌≡◌, true, IfSome, is_some};
 
 use crate::owner::{UriBuf, UriRefBuf};
@@ -106,8 +106,7 @@ impl UriRefBuf<UriChars> {
 
     /// The URI of the same text, with no copy, or the reference if it has no scheme.
     pub fn try_into_uri(self) -> Result<UriBuf<UriChars>, InvalidUri<Self>>
-        ensures { HasSchemeOrRefused reference_buf_text reference_buf_text self
-            (λ error. error.0) result }
+        ensures { OwnerBecomesFull (λ error. error.0) self result }
     {
         self.try_into_full()
     }
@@ -123,8 +122,7 @@ impl UriRefBuf<IriChars> {
 
     /// The IRI of the same text, with no copy, or the reference if it has no scheme.
     pub fn try_into_iri(self) -> Result<UriBuf<IriChars>, InvalidUri<Self>>
-        ensures { HasSchemeOrRefused reference_buf_text reference_buf_text self
-            (λ error. error.0) result }
+        ensures { OwnerBecomesFull (λ error. error.0) self result }
     {
         self.try_into_full()
     }

@@ -9,7 +9,7 @@ ghost use Rattle.iref_authority.specs.{authority_text};
 ghost use Rattle.iref_path.specs.{path_text};
 ghost use Rattle.iref_reference.specs.References.{reference_text, reference_value};
 ghost use Rattle.iref_reference.specs.References.{reference_buf_text, reference_buf_value};
-ghost use Rattle.iref_reference.specs.References.{HasSchemeOrRefused};
+ghost use Rattle.iref_reference.specs.References.{OwnerBecomesFull};
 ghost use Rattle.iref_reference.specs.Parts.{uri_ref_part_texts, uri_ref_parts_value};
 ghost use Rattle.iref_reference.specs.Parts.{part_texts, parts_value};
 
@@ -206,8 +206,7 @@ impl<R: HeldRule, C: CharSet> ReferenceBuf<R, C> {
 
     // The URI of the same text, with no copy, or the reference if it has no scheme.
     pub(crate) fn try_into_full(self) -> Result<UriBuf<C>, InvalidUri<Self>>
-        ensures { HasSchemeOrRefused reference_buf_text reference_buf_text self
-            (λ error. error.0) result }
+        ensures { OwnerBecomesFull (λ error. error.0) self result }
     {
         if self.reference_parts().scheme.is_some() {
             Ok(UriBuf::from_held(self.held.into_rule()))
@@ -254,9 +253,7 @@ impl<C: CharSet> UriBuf<C> {
         ensures { IfOk result (λ uri.
             reference_buf_text uri ≡ owned_text scheme ++ colon ∷ []) }
     {
-        let mut text = scheme.into_string();
-        text.push(':')?;
-        Ok(UriBuf::from_held(Held::new_unchecked(text)))
+        Ok(UriBuf::from_held(Held::from_scheme(scheme.into_string())?))
     }
 
     // The reference of the same text, with no copy.
@@ -279,9 +276,7 @@ impl<C: CharSet> From<UriBuf<C>> for UriRefBuf<C> {
 impl<C: CharSet> TryFrom<UriRefBuf<C>> for UriBuf<C> {
     type Error = InvalidUri<UriRefBuf<C>>;
 
-    ghost try_from_gives = { λ reference result.
-        HasSchemeOrRefused reference_buf_text reference_buf_text reference
-        (λ error. error.0) result };
+    ghost try_from_gives = { λ reference result. OwnerBecomesFull (λ e. e.0) reference result };
 
     fn try_from(reference: UriRefBuf<C>) -> Result<Self, InvalidUri<UriRefBuf<C>>> {
         reference.try_into_full()

@@ -13,6 +13,8 @@ ghost use Rattle.iref_authority.specs.{parts_value as authority_parts_value, aut
 ghost use Rattle.iref_path.specs.{path_text};
 ghost use Rattle.iref_reference.specs.Parts.{part_texts, parts_value, uri_ref_part_texts};
 ghost use Rattle.iref_reference.specs.Parts.{key_of_parts, uri_ref_parts_key, scheme_key};
+ghost use Rattle.iref_reference.specs.Parts.{uri_ref_parts_value};
+ghost use Rattle.iref_model.specs.Relative.{have_same_authority, have_same_scheme};
 ghost use Rattle.iref_model.proofs.PartTieLemmas.{lower_case_tie, parts_tie};
 ghost use Rattle.iref_model.proofs.TieLemmas.{texts_tie};
 
@@ -159,6 +161,22 @@ impl<'a, C: CharSet> UriRefParts<'a, C> {
             ≡ eq_by_cmp key_cmp (uri_ref_parts_key self.now) (uri_ref_parts_key other.now) }
     {
         self == other
+    }
+
+    // Whether the schemes are equal, or both absent.
+    pub(crate) fn has_scheme_of(&self, other: &Self) -> bool
+        ensures { result
+            ≡ have_same_scheme (uri_ref_parts_value self.now) (uri_ref_parts_value other.now) }
+    {
+        self.scheme == other.scheme
+    }
+
+    // Whether the authorities are equal, or both absent.
+    pub(crate) fn has_authority_of(&self, other: &Self) -> bool
+        ensures { result
+            ≡ have_same_authority (uri_ref_parts_value self.now) (uri_ref_parts_value other.now) }
+    {
+        self.authority == other.authority
     }
 
     /// The components of the reference of these bytes of UTF-8, or the bytes: `UriRef::from_bytes`

@@ -6,6 +6,8 @@ ghost use Rattle.iref_reference.specs.References.{reference_buf_text, reference_
 ghost use Rattle.iref_reference.specs.Resolutions.{IsResolved};
 ghost use Rattle.std.specs.Prelude.{◌≡◌, IfOk, OnErr, OnOk};
 
+mod owners;
+
 use crate::owner::{ReferenceBuf, UriBuf, UriRefBuf};
 use crate::view::{Reference, Uri, UriRef};
 use iref_buffer::held::{Held, HeldRule};

@@ -9,6 +9,7 @@ ghost use Rattle.iref_buffer.specs.PathPlaces.{RemovesDots};
 ghost use Rattle.iref_reference.specs.References.{reference_buf_text, reference_buf_value};
 ghost use Rattle.iref_reference.specs.References.{IsStep};
 
+pub mod copies;
 mod tried;
 
 use crate::owner::{ReferenceBuf, UriBuf, UriRefBuf};

@@ -10,14 +10,14 @@ ghost use Rattle.iref_path.specs.{path_text};
 ghost use Rattle.iref_reference.specs.Parts.{part_texts, parts_value};
 ghost use Rattle.iref_reference.specs.Parts.{uri_ref_part_texts, uri_ref_parts_value};
 ghost use Rattle.iref_reference.specs.References.{reference_text, reference_value};
-ghost use Rattle.iref_reference.specs.References.{reference_buf_text, HasSchemeOrRefused};
+ghost use Rattle.iref_reference.specs.References.{reference_buf_text, BecomesFull};
 
 use crate::owner::ReferenceBuf;
 use crate::parts::{Parts, UriRefParts};
 use crate::rule::{FullReferenceRule, HasScheme, ReferenceRule};
 use iref_authority::authority::Authority;
 use iref_buffer::base::base_text;
-use iref_buffer::held::{Held, HeldRule};
+use iref_buffer::held::HeldRule;
 use iref_component::rule::{AllowsEmpty, Refuses};
 use iref_component::texts::{Fragment, Host, Port, Query, UserInfo};
 use iref_component::view::View;
@@ -195,8 +195,7 @@ impl<'a, R: HeldRule, C: CharSet> Reference<'a, R, C> {
     pub fn to_owned(&self, alloc: Global) -> Result<ReferenceBuf<R, C>, Memory>
         ensures { IfOk result (λ copy. reference_buf_text copy ≡ reference_text self.now) }
     {
-        let text = String::from_str(alloc, self.as_str())?;
-        Ok(ReferenceBuf::from_held(Held::new_unchecked(text)))
+        self.copy_for(alloc, None)
     }
 }
 
@@ -260,8 +259,7 @@ impl<'a, C: CharSet> From<Uri<'a, C>> for UriRef<'a, C> {
 impl<'a, C: CharSet> TryFrom<UriRef<'a, C>> for Uri<'a, C> {
     type Error = InvalidUri<UriRef<'a, C>>;
 
-    ghost try_from_gives = { λ reference result.
-        HasSchemeOrRefused reference_text reference_text reference (λ error. error.0) result };
+    ghost try_from_gives = { λ reference result. BecomesFull (λ error. error.0) reference result };
 
     fn try_from(reference: UriRef<'a, C>) -> Result<Self, InvalidUri<UriRef<'a, C>>> {
         reference.to_full().ok_or(InvalidUri(reference))

@@ -1,20 +1,16 @@
 //! Owners edited by texts, each of which is tested before anything grows (RFC 3986 section 3).
-ghost use Rattle.std.specs.Prelude.{◌≡◌, Some, IfSome, OnErr, OnOk, IsNone, IsOk, option_map};
+ghost use Rattle.std.specs.Prelude.{option_map};
 ghost use Rattle.std.specs.Option.{option_copied};
-ghost use Rattle.iref_grammar.specs.Authority.{read_authority};
 ghost use Rattle.iref_grammar.specs.Grammar.{IsAuthority, IsFragment, IsPath, IsQuery, IsScheme};
-ghost use Rattle.iref_grammar.specs.PathValue.{read_path};
-ghost use Rattle.iref_grammar.specs.Rules.{InUtf8};
-ghost use Rattle.iref_model.specs.ComponentSteps.{with_authority, with_fragment, with_path};
-ghost use Rattle.iref_model.specs.ComponentSteps.{with_query, with_scheme};
-ghost use Rattle.iref_error.specs.Tried.{TellsInvalid};
-ghost use Rattle.iref_reference.specs.References.{reference_buf_text, IsStep};
+ghost use Rattle.iref_component.specs.{read_authority, read_path, with_authority, with_fragment};
+ghost use Rattle.iref_component.specs.{with_path, with_query, with_scheme, Tests, TestsIfSome};
+ghost use Rattle.iref_reference.specs.References.{Edits};
 
 use crate::owner::{ReferenceBuf, UriRefBuf};
 use iref_authority::rule::AuthorityRule;
 use iref_buffer::held::HeldRule;
 use iref_component::rules::{FragmentRule, QueryRule, SchemeRule};
-use iref_component::tried::test;
+use iref_component::tried::{Tried, test};
 use iref_error::{
     InvalidAuthority, InvalidFragment, InvalidPath, InvalidQuery, InvalidScheme, TryError,
 };
@@ -26,14 +22,10 @@ impl<R: HeldRule, C: CharSet> ReferenceBuf<R, C> {
     pub fn try_set_authority<'t>(
         &mut self,
         authority: Option<&'t str>,
-    ) -> Result<(), TryError<InvalidAuthority<&'t str>>>
-        ensures ok { OnOk result (IsStep (with_authority
-            (option_map read_authority (option_copied authority.entry)))
-            (reference_buf_text self.old) (reference_buf_text self.new)) }
-        ensures invalid { TellsInvalid (IfSome (option_copied authority.entry) (InUtf8
-            (IsAuthority C.tests))) (λ error. authority.entry ≡ Some error.0) result }
-        ensures err { OnErr result (reference_buf_text self.new ≡ reference_buf_text self.old) }
-        ensures none { IsNone authority.entry → IsOk result }
+    ) -> Tried<InvalidAuthority<&'t str>>
+        ensures set { Edits (with_authority (option_map read_authority
+            (option_copied authority.entry))) self.old self.new result }
+        ensures text { TestsIfSome (IsAuthority C.tests) authority.entry (λ error. error.0) result }
     {
         test::<AuthorityRule, C>(authority)?;
         self.held
@@ -42,28 +34,18 @@ impl<R: HeldRule, C: CharSet> ReferenceBuf<R, C> {
     }
 
     /// As `set_path`, by a text: `Invalid` hands one back that is not a path.
-    pub fn try_set_path<'t>(&mut self, path: &'t str) -> Result<(), TryError<InvalidPath<&'t str>>>
-        ensures ok { OnOk result (IsStep (with_path (read_path path.now))
-            (reference_buf_text self.old) (reference_buf_text self.new)) }
-        ensures invalid { TellsInvalid (InUtf8 (IsPath C.tests) path.now)
-            (λ error. error.0 ≡ path.entry) result }
-        ensures err { OnErr result (reference_buf_text self.new ≡ reference_buf_text self.old) }
+    pub fn try_set_path<'t>(&mut self, path: &'t str) -> Tried<InvalidPath<&'t str>>
+        ensures set { Edits (with_path (read_path path.now)) self.old self.new result }
+        ensures text { Tests (IsPath C.tests) path.entry (λ error. error.0) result }
     {
         test::<PathRule, C>(Some(path))?;
         self.held.set_path(path).map_err(|_| TryError::Memory)
     }
 
     /// As `set_query`, by a text: `Invalid` hands one back that is not a query.
-    pub fn try_set_query<'t>(
-        &mut self,
-        query: Option<&'t str>,
-    ) -> Result<(), TryError<InvalidQuery<&'t str>>>
-        ensures ok { OnOk result (IsStep (with_query (option_copied query.entry))
-            (reference_buf_text self.old) (reference_buf_text self.new)) }
-        ensures invalid { TellsInvalid (IfSome (option_copied query.entry) (InUtf8
-            (IsQuery C.tests))) (λ error. query.entry ≡ Some error.0) result }
-        ensures err { OnErr result (reference_buf_text self.new ≡ reference_buf_text self.old) }
-        ensures none { IsNone query.entry → IsOk result }
+    pub fn try_set_query<'t>(&mut self, query: Option<&'t str>) -> Tried<InvalidQuery<&'t str>>
+        ensures set { Edits (with_query (option_copied query.entry)) self.old self.new result }
+        ensures text { TestsIfSome (IsQuery C.tests) query.entry (λ error. error.0) result }
     {
         test::<QueryRule, C>(query)?;
         self.held.set_query(query).map_err(|_| TryError::Memory)
@@ -73,13 +55,9 @@ impl<R: HeldRule, C: CharSet> ReferenceBuf<R, C> {
     pub fn try_set_fragment<'t>(
         &mut self,
         fragment: Option<&'t str>,
-    ) -> Result<(), TryError<InvalidFragment<&'t str>>>
-        ensures ok { OnOk result (IsStep (with_fragment (option_copied fragment.entry))
-            (reference_buf_text self.old) (reference_buf_text self.new)) }
-        ensures invalid { TellsInvalid (IfSome (option_copied fragment.entry) (InUtf8
-            (IsFragment C.tests))) (λ error. fragment.entry ≡ Some error.0) result }
-        ensures err { OnErr result (reference_buf_text self.new ≡ reference_buf_text self.old) }
-        ensures none { IsNone fragment.entry → IsOk result }
+    ) -> Tried<InvalidFragment<&'t str>>
+        ensures set { Edits (with_fragment (option_copied fragment.entry)) self.old self.new result }
+        ensures text { TestsIfSome (IsFragment C.tests) fragment.entry (λ error. error.0) result }
     {
         test::<FragmentRule, C>(fragment)?;
         self.held
@@ -90,16 +68,9 @@ impl<R: HeldRule, C: CharSet> ReferenceBuf<R, C> {
 
 impl<C: CharSet> UriRefBuf<C> {
     /// As `set_scheme`, by a text: `Invalid` hands one back that is not a scheme.
-    pub fn try_set_scheme<'t>(
-        &mut self,
-        scheme: Option<&'t str>,
-    ) -> Result<(), TryError<InvalidScheme<&'t str>>>
-        ensures ok { OnOk result (IsStep (with_scheme (option_copied scheme.entry))
-            (reference_buf_text self.old) (reference_buf_text self.new)) }
-        ensures invalid { TellsInvalid (IfSome (option_copied scheme.entry) (InUtf8 IsScheme))
-            (λ error. scheme.entry ≡ Some error.0) result }
-        ensures err { OnErr result (reference_buf_text self.new ≡ reference_buf_text self.old) }
-        ensures none { IsNone scheme.entry → IsOk result }
+    pub fn try_set_scheme<'t>(&mut self, scheme: Option<&'t str>) -> Tried<InvalidScheme<&'t str>>
+        ensures set { Edits (with_scheme (option_copied scheme.entry)) self.old self.new result }
+        ensures text { TestsIfSome IsScheme scheme.entry (λ error. error.0) result }
     {
         test::<SchemeRule, C>(scheme)?;
         self.held.set_scheme(scheme).map_err(|_| TryError::Memory)

@@ -1,0 +1,20 @@
+use Rattle.iref_grammar.proofs.ComponentLemmas.{reference_if_full}
+use Rattle.iref_parse.specs.ReferenceSlices.{value_of}
+use Rattle.iref_reference.proofs.ResolutionLemmas.{readable_slices, resolved-scheme}
+use Rattle.iref_reference.proofs.resolution.owners.UriBuf+C.join.Goals as goal
+
+pub resolved-requires-clause-base : goal.resolved-requires-clause-base
+resolved-requires-clause-base g c =
+    let set = g.C.CharSet.tests in
+    readable_slices set c.args.self.now.held (value_of c.slices.result) c.slices.ensures.value
+    (reference_if_full set c.args.self.now.held c.slices.ensures.in_rule)
+
+pub resolved-requires-clause-reference : goal.resolved-requires-clause-reference
+resolved-requires-clause-reference g c =
+    readable_slices g.C.CharSet.tests c.as_str.result.now (value_of c.split_reference-reference.result) c.split_reference-reference.ensures.value
+    c.as_str.ensures.in_rule
+
+pub resolved-requires-clause-allowed : goal.resolved-requires-clause-allowed
+resolved-requires-clause-allowed g c =
+    resolved-scheme g.C.CharSet.tests c.args.self.now.held (value_of c.slices.result) (value_of c.split_reference-reference.result)
+    c.slices.ensures.value c.slices.ensures.in_rule

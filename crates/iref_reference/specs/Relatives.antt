@@ -1,0 +1,37 @@
+-- Texts of references that lead from a base to a target, the way back from resolution (RFC 3986 section 5.2).
+use Rattle.std.specs.Prelude.{◌≡◌, Bool, false, true, ◌&&◌, ◌||◌, is_none, is_some}
+use Rattle.iref_grammar.specs.Rules.{Text}
+use Rattle.iref_grammar.specs.Reference.{ReferenceValue, read_reference, spell}
+use Rattle.iref_model.specs.Key.{AreAlike}
+use Rattle.iref_model.specs.Relative.{relative_to}
+use Rattle.iref_model.specs.RelativeLaws.{ClimbsLeast, DoAgree, IsOnlyPath, Leads}
+use Rattle.iref_model.specs.Resolution.{resolved}
+
+-- it takes its scheme from any base
+abbrev pub takes_scheme : ReferenceValue → Bool
+takes_scheme target = is_none target.scheme && (is_some target.authority || target.path.absolute)
+
+-- the text spells what leads from the base to the target, and is read as that
+abbrev pub IsRelative : Text → Text → Text → Type 0
+IsRelative target base text =
+    (text ≡ spell (relative_to (read_reference target) (read_reference base)))
+    × (read_reference text ≡ relative_to (read_reference target) (read_reference base))
+
+-- from a base with a scheme it leads where the target leads
+abbrev pub LeadsThere : ReferenceValue → ReferenceValue → ReferenceValue → Type 0
+LeadsThere target base answer = is_some base.scheme ≡ true → Leads base answer target
+
+-- and to the target itself, where that has a scheme too
+abbrev pub LeadsToTarget : ReferenceValue → ReferenceValue → ReferenceValue → Type 0
+LeadsToTarget target base answer =
+    is_some base.scheme ≡ true → is_some target.scheme ≡ true → AreAlike (resolved base answer) target
+
+-- where scheme and authority agree and the target's path begins at the root, it writes neither
+abbrev pub WritesPathAlone : ReferenceValue → ReferenceValue → ReferenceValue → Type 0
+WritesPathAlone target base answer = DoAgree target base → IsOnlyPath answer
+
+-- and where the base has a scheme and a path that begins there too, no relative path that leads there climbs less
+abbrev pub ClimbsNoMore : ReferenceValue → ReferenceValue → ReferenceValue → Type 0
+ClimbsNoMore target base answer =
+    is_some base.scheme ≡ true → DoAgree target base → base.path.absolute ≡ true
+    → (answer.path.absolute ≡ false) × ClimbsLeast target base answer

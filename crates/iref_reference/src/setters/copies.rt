@@ -1,0 +1,112 @@
+//! Copies of references, each with one component set (RFC 3986 sections 3 and 4.2).
+ghost use Rattle.std.specs.Prelude.{◌≡◌, Some, IfErr, IfOk, option_map};
+ghost use Rattle.iref_grammar.specs.Grammar.{IsScheme};
+ghost use Rattle.iref_grammar.specs.Rules.{InUtf8};
+ghost use Rattle.iref_component.specs.{read_authority, with_authority, with_fragment, with_path};
+ghost use Rattle.iref_component.specs.{with_query, with_scheme, view_text};
+ghost use Rattle.iref_authority.specs.{authority_text};
+ghost use Rattle.iref_path.specs.{path_value};
+ghost use Rattle.iref_reference.specs.HandedBack.{TellsInvalidBeside};
+ghost use Rattle.iref_reference.specs.References.{reference_buf_text, reference_text, IsStep, StepsFrom};
+
+use crate::owner::{ReferenceBuf, UriBuf, UriRefBuf};
+use crate::view::{Reference, UriRef};
+use iref_authority::authority::Authority;
+use iref_buffer::held::{Held, HeldRule};
+use iref_component::texts::{Fragment, Query, Scheme};
+use iref_component::tried::read;
+use iref_error::{InvalidScheme, Memory, TryError};
+use iref_grammar::chars::CharSet;
+use iref_path::path::Path;
+use std::alloc::Global;
+
+/// A copy of a reference, or want of memory.
+pub type Copied<R, C> = Result<ReferenceBuf<R, C>, Memory>;
+
+impl<R: HeldRule, C: CharSet> Reference<'_, R, C> {
+    // A copy with room for a component that it is to get, if there is one.
+    pub(crate) fn copy_for(&self, alloc: Global, part: Option<&str>) -> Copied<R, C>
+        ensures { IfOk result (λ copy. reference_buf_text copy ≡ reference_text self.now) }
+    {
+        Ok(ReferenceBuf::from_held(Held::copied(alloc, self.as_str(), part)?))
+    }
+
+    /// A copy under a scheme: of `x`, under `s`, `s:x`.
+    pub fn with_scheme(&self, alloc: Global, scheme: Scheme<'_>) -> Result<UriBuf<C>, Memory>
+        ensures { StepsFrom (with_scheme (Some (view_text scheme.entry))) self.now result }
+    {
+        let reference = UriRef::<C>::new_unchecked(self.as_str());
+        let copy = reference.copy_for(alloc, Some(scheme.as_str()))?;
+        copy.into_with_scheme(scheme).map_err(|(_, error)| error)
+    }
+
+    /// A copy with another authority or none, as `set_authority` leaves it: of `//h/a`, without
+    /// one, `/a`.
+    pub fn with_authority(&self, alloc: Global, authority: Option<Authority<'_, C>>) -> Copied<R, C>
+        ensures { StepsFrom (with_authority (option_map read_authority (option_map
+            authority_text authority.entry))) self.now result }
+    {
+        let mut copy = self.copy_for(alloc, authority.map(|authority| authority.as_str()))?;
+        copy.set_authority(authority).map(|_| copy)
+    }
+
+    /// A copy with another path, as `set_path` leaves it.
+    pub fn with_path(&self, alloc: Global, path: Path<'_, C>) -> Copied<R, C>
+        ensures { StepsFrom (with_path (path_value path.entry)) self.now result }
+    {
+        let mut copy = self.copy_for(alloc, Some(path.as_str()))?;
+        copy.set_path(path).map(|_| copy)
+    }
+
+    /// A copy with another query or none.
+    pub fn with_query(&self, alloc: Global, query: Option<Query<'_, C>>) -> Copied<R, C>
+        ensures { StepsFrom (with_query (option_map view_text query.entry)) self.now result }
+    {
+        let mut copy = self.copy_for(alloc, query.map(|query| query.as_str()))?;
+        copy.set_query(query).map(|_| copy)
+    }
+
+    /// A copy with another fragment or none.
+    pub fn with_fragment(&self, alloc: Global, fragment: Option<Fragment<'_, C>>) -> Copied<R, C>
+        ensures { StepsFrom (with_fragment (option_map view_text fragment.entry))
+            self.now result }
+    {
+        let mut copy = self.copy_for(alloc, fragment.map(|fragment| fragment.as_str()))?;
+        copy.set_fragment(fragment).map(|_| copy)
+    }
+}
+
+impl<C: CharSet> UriRefBuf<C> {
+    /// The same reference under a scheme, with no copy where the buffer has room: `x` under `s` is
+    /// `s:x`. Where memory is wanted, the reference comes back as it was.
+    pub fn into_with_scheme(self, scheme: Scheme<'_>) -> Result<UriBuf<C>, (Self, Memory)>
+        ensures ok { IfOk result (λ uri. IsStep (with_scheme (Some (view_text scheme.entry)))
+            (reference_buf_text self) (reference_buf_text uri)) }
+        ensures err { IfErr result (λ error. error.0 ≡ self) }
+    {
+        match self.held.into_with_scheme(scheme.as_str()) {
+            Ok(held) => Ok(UriBuf::from_held(held)),
+            Err(held) => Err((UriRefBuf::from_held(held), Memory)),
+        }
+    }
+
+    /// As `into_with_scheme`, by a text: `Invalid` hands one back that is not a scheme, with the
+    /// reference.
+    pub fn try_into_with_scheme<'t>(
+        self,
+        scheme: &'t str,
+    ) -> Result<UriBuf<C>, (Self, TryError<InvalidScheme<&'t str>>)>
+        ensures ok { IfOk result (λ uri. IsStep (with_scheme (Some scheme.now))
+            (reference_buf_text self) (reference_buf_text uri)) }
+        ensures invalid { TellsInvalidBeside (InUtf8 IsScheme scheme.now)
+            (λ error. error.0 ≡ scheme.entry) result }
+        ensures err { IfErr result (λ error. error.0 ≡ self) }
+    {
+        match read(scheme) {
+            Ok(scheme) => self
+                .into_with_scheme(scheme)
+                .map_err(|(reference, _)| (reference, TryError::Memory)),
+            Err(error) => Err((self, error)),
+        }
+    }
+}

@@ -1,0 +1,54 @@
+//! What is left of a reference after a prefix (RFC 3986 section 6.2.2).
+ghost use Rattle.iref_model.specs.ReferenceSuffix.{reference_suffix};
+ghost use Rattle.iref_model.specs.Relative.{have_same_authority, have_same_scheme};
+ghost use Rattle.iref_reference.specs.Parts.{uri_ref_parts_value};
+ghost use Rattle.iref_reference.specs.References.{reference_value};
+ghost use Rattle.iref_reference.specs.ReferenceSuffixes.{SpellsReferenceSuffix};
+ghost use Rattle.std.specs.Prelude.{◌≡◌, ◌&&◌, IfOk, IsNone, IsOk};
+
+use crate::parts::UriRefParts;
+use crate::view::{Reference, UriRef};
+use iref_buffer::held::HeldRule;
+use iref_component::texts::{Fragment, Query};
+use iref_error::Memory;
+use iref_grammar::chars::CharSet;
+use iref_path::path_buf::PathBuf;
+use std::alloc::Global;
+
+/// What is left of a reference after a prefix: of its path, and its query and fragment.
+pub type Suffix<'a, C> = (PathBuf<C>, Option<Query<'a, C>>, Option<Fragment<'a, C>>);
+
+// Whether the schemes are equal, and the authorities.
+fn begin_alike<C: CharSet>(prefix: &UriRefParts<'_, C>, parts: &UriRefParts<'_, C>) -> bool
+    ensures { result
+        ≡ have_same_scheme (uri_ref_parts_value prefix.now) (uri_ref_parts_value parts.now)
+        && have_same_authority (uri_ref_parts_value prefix.now) (uri_ref_parts_value parts.now) }
+{
+    prefix.has_scheme_of(parts) && prefix.has_authority_of(parts)
+}
+
+impl<'a, R: HeldRule, C: CharSet> Reference<'a, R, C> {
+    /// What is left of the reference after a prefix: of `http://a/b/c?q#f` after `http://a/b?r` it
+    /// is the path `c`, with the query `q` and the fragment `f`. None where scheme or authority
+    /// differ, or the path has no such rest; that takes no memory.
+    pub fn suffix(
+        &self,
+        alloc: Global,
+        prefix: UriRef<'_, C>,
+    ) -> Result<Option<Suffix<'a, C>>, Memory>
+        ensures suffix { IfOk result
+            (SpellsReferenceSuffix (reference_value prefix.entry) (reference_value self.now)) }
+        ensures none { IsNone (reference_suffix
+            (reference_value prefix.entry) (reference_value self.now)) → IsOk result }
+    {
+        let prefix = prefix.reference_parts();
+        let parts = self.reference_parts();
+        if !begin_alike(&prefix, &parts) {
+            return Ok(None);
+        }
+        let Some(path) = parts.path.suffix(alloc, prefix.path)? else {
+            return Ok(None);
+        };
+        Ok(Some((path, parts.query, parts.fragment)))
+    }
+}
