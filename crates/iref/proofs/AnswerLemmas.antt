@@ -10,27 +10,28 @@ use Rattle.iref_grammar.proofs.PathTextLemmas.{Decides-is_path}
 use Rattle.iref_grammar.proofs.ReferenceRuleLemmas.{Decides-is_uri_reference}
 use Rattle.iref_grammar.specs.PathValue.{spell_path, read_path}
 use Rattle.iref_grammar.specs.Contexts.{alone}
-use Rattle.iref_grammar.specs.Reference.{is_reference, read_reference}
+use Rattle.iref_grammar.specs.Reference.{ReferenceValue, is_reference, is_full_reference, read_reference, spell}
 use Rattle.iref_grammar.specs.ComponentTexts.{ComponentTexts, spell_components, read_components}
 use Rattle.iref_model.specs.Guard.{guarded}
 use Rattle.iref_model.specs.NormalList.{normal}
 use Rattle.iref_model.specs.Key.{are_alike}
+use Rattle.iref_model.specs.Relative.{relative_to}
+use Rattle.iref_model.specs.Resolution.{resolved}
 use Rattle.iref_buffer.proofs.HeldLemmas.{read_components-spelled}
-use Rattle.iref_model.specs.Lines.{Request, answer_if_valid, read_line, answer, BadCommand, InvalidText, Answered, Parts, Normal, Equal, answer_to, is_valid, answer_text, part_fields, yes_or_no, tab, program_verbs}
+use Rattle.iref_model.specs.Lines.{Request, answer_if_valid, read_line, answer, BadCommand, InvalidText, Answered, Parts, Resolve, Relative, Normal, Equal, answer_to, is_valid, answer_text, part_fields, yes_or_no, tab, all_verbs}
+use Rattle.iref.specs.Runs.{line_reply, reply_to}
 
-pub answer_of : (line : Text) (request : Request) → read_line program_verbs line ≡ Some request → answer program_verbs line ≡ answer_if_valid request
+-- what is written for a line is what is written for its request
+pub reply_of : (line : Text) (asked : Option Request) → read_line all_verbs line ≡ asked → line_reply line ≡ reply_to asked
 unfolding answer
-answer_of line request e = ap (λ (r : Option Request). elim r [ None ↦ BadCommand | Some request ↦ answer_if_valid request ]) e
-
-pub no_answer : (line : Text) → read_line program_verbs line ≡ None → answer program_verbs line ≡ BadCommand
-unfolding answer
-no_answer line e = ap (λ (r : Option Request). elim r [ None ↦ BadCommand | Some request ↦ answer_if_valid request ]) e
+reply_of line None e = ap (λ (r : Option Request). answer_text (elim r [ None ↦ BadCommand | Some request ↦ answer_if_valid request ])) e
+reply_of line (Some asked) e = ap (λ (r : Option Request). answer_text (elim r [ None ↦ BadCommand | Some request ↦ answer_if_valid request ])) e
 
 -- the answer to a request whose texts are in their grammars, and to another
-valid : (request : Request) → is_valid request ≡ true → answer_if_valid request ≡ answer_to request
+pub valid : (request : Request) → is_valid request ≡ true → answer_if_valid request ≡ answer_to request
 valid request h = ap (λ (b : Bool). elim b [ true ↦ answer_to request | false ↦ InvalidText ]) h
 
-invalid : (request : Request) → is_valid request ≡ false → answer_if_valid request ≡ InvalidText
+pub invalid : (request : Request) → is_valid request ≡ false → answer_if_valid request ≡ InvalidText
 invalid request h = ap (λ (b : Bool). elim b [ true ↦ answer_to request | false ↦ InvalidText ]) h
 
 regroup : (out k a b c d e : Text) → (((((out ++ k) ++ a) ++ b) ++ c) ++ d) ++ e ≡ out ++ (k ++ (a ++ (b ++ (c ++ (d ++ e)))))
@@ -46,10 +47,10 @@ false_if_not : (b : Bool) → ¬ (b ≡ true) → b ≡ false
 false_if_not true h = absurd (h refl)
 false_if_not false h = refl
 
-reference : (text : Text) → InUtf8 (IsUriReference uri_chars) text → is_reference uri_chars text ≡ true
+pub reference : (text : Text) → InUtf8 (IsUriReference uri_chars) text → is_reference uri_chars text ≡ true
 reference text h = (Decides-is_uri_reference uri_chars uri_above_ascii text).1 h
 
-no_reference : (text : Text) → ¬ (InUtf8 (IsUriReference uri_chars) text) → is_reference uri_chars text ≡ false
+pub no_reference : (text : Text) → ¬ (InUtf8 (IsUriReference uri_chars) text) → is_reference uri_chars text ≡ false
 no_reference text h = false_if_not _ (λ e. h ((Decides-is_uri_reference uri_chars uri_above_ascii text).0 e))
 
 path : (text : Text) → InUtf8 (IsPath uri_chars) text → is_path uri_chars text ≡ true
@@ -65,6 +66,32 @@ parts_answer text t h k = valid (Parts text) (reference text h) ∙ ap (λ (u : 
 pub no_parts_answer : (text : Text) → ¬ (InUtf8 (IsUriReference uri_chars) text) → answer_if_valid (Parts text) ≡ InvalidText
 unfolding is_valid
 no_parts_answer text h = invalid (Parts text) (no_reference text h)
+
+pub resolve_answer : (reference base written : Text) (r b : ReferenceValue) → is_reference uri_chars reference ≡ true → is_full_reference uri_chars base ≡ true → r ≡ read_reference reference → b ≡ read_reference base → written ≡ spell (resolved b r) → answer_if_valid (Resolve reference base) ≡ Answered written
+unfolding is_valid answer_to
+resolve_answer reference base written r b h k e f w =
+    valid (Resolve reference base) (rw (h, k) refl) ∙ ap (λ (v : ReferenceValue). Answered (spell v)) ((λ i. resolved (sym f i) (sym e i))) ∙ ap Answered (sym w)
+
+pub no_reference_answer : (reference base : Text) → is_reference uri_chars reference ≡ false → answer_if_valid (Resolve reference base) ≡ InvalidText
+unfolding is_valid
+no_reference_answer reference base h = invalid (Resolve reference base) (rw h refl)
+
+pub no_base_answer : (reference base : Text) → is_full_reference uri_chars base ≡ false → answer_if_valid (Resolve reference base) ≡ InvalidText
+unfolding is_valid
+no_base_answer reference base h = invalid (Resolve reference base) (and_right (is_reference uri_chars reference) _ h)
+
+pub relative_answer : (target base written : Text) (t b : ReferenceValue) → is_reference uri_chars target ≡ true → is_reference uri_chars base ≡ true → t ≡ read_reference target → b ≡ read_reference base → written ≡ spell (relative_to t b) → answer_if_valid (Relative target base) ≡ Answered written
+unfolding is_valid answer_to
+relative_answer target base written t b h k e f w =
+    valid (Relative target base) (rw (h, k) refl) ∙ ap (λ (v : ReferenceValue). Answered (spell v)) ((λ i. relative_to (sym e i) (sym f i))) ∙ ap Answered (sym w)
+
+pub no_target_answer : (target base : Text) → is_reference uri_chars target ≡ false → answer_if_valid (Relative target base) ≡ InvalidText
+unfolding is_valid
+no_target_answer target base h = invalid (Relative target base) (rw h refl)
+
+pub no_relative_base_answer : (target base : Text) → is_reference uri_chars base ≡ false → answer_if_valid (Relative target base) ≡ InvalidText
+unfolding is_valid
+no_relative_base_answer target base h = invalid (Relative target base) (and_right (is_reference uri_chars target) _ h)
 
 pub normal_answer : (text same written : Text) → InUtf8 (IsPath uri_chars) text → same ≡ text → written ≡ spell_path (guarded alone (normal (read_path same))) → answer_if_valid (Normal text) ≡ Answered written
 unfolding is_valid answer_to

@@ -1,3 +1,6 @@
+pub mod EditAnswers
+pub mod EditFields
+pub mod EditSteps
 pub mod Fields
 pub mod Gathering
 pub mod Requests
@@ -20,6 +23,7 @@ pub use Rattle.iref_grammar.specs.Texts
 pub use Rattle.iref_model.specs.AuthorityKey
 pub use Rattle.iref_model.specs.AuthoritySteps
 pub use Rattle.iref_model.specs.ComponentSteps
+pub use Rattle.iref_model.specs.Edits
 pub use Rattle.iref_model.specs.HostNumbers
 pub use Rattle.iref_model.specs.Key
 pub use Rattle.iref_model.specs.Lines
@@ -27,11 +31,17 @@ pub use Rattle.iref_model.specs.NormalList
 pub use Rattle.iref_model.specs.PathFunctions
 pub use Rattle.iref_model.specs.PathKey
 pub use Rattle.iref_model.specs.PathSteps
+pub use Rattle.iref_model.specs.PathSuffix
 pub use Rattle.iref_model.specs.PortNumbers
 pub use Rattle.iref_model.specs.ReferenceParts
+pub use Rattle.iref_model.specs.ReferenceSuffix
+pub use Rattle.iref_model.specs.Relative
+pub use Rattle.iref_model.specs.RelativeLaws
+pub use Rattle.iref_model.specs.Resolution
 pub use Rattle.iref_component.specs.Makers
 pub use Rattle.iref_component.specs.Ports
 pub use Rattle.iref_component.specs.Components
+pub use Rattle.iref_component.specs.Tries
 pub use Rattle.iref_authority.specs.Authorities
 pub use Rattle.iref_authority.specs.AuthorityParts
 pub use Rattle.iref_authority.specs.AuthorityTexts
@@ -41,6 +51,11 @@ pub use Rattle.iref_path.specs.Paths
 pub use Rattle.iref_path.specs.NormalPaths
 pub use Rattle.iref_path.specs.Appends
 pub use Rattle.iref_path.specs.PathEdits
+pub use Rattle.iref_path.specs.Suffixes
 pub use Rattle.iref_reference.specs.Conversions
+pub use Rattle.iref_reference.specs.HandedBack
 pub use Rattle.iref_reference.specs.Parts
 pub use Rattle.iref_reference.specs.References
+pub use Rattle.iref_reference.specs.Relatives
+pub use Rattle.iref_reference.specs.Resolutions
+pub use Rattle.iref_reference.specs.ReferenceSuffixes

@@ -5,6 +5,7 @@ ghost use Rattle.iref.specs.Runs.{AnswersBegun, EndsWell, EndsEarly};
 
 mod answers;
 mod cut;
+mod edit_fields;
 mod lines;
 mod request;
 mod streams;

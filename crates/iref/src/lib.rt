@@ -2,6 +2,7 @@
 #![tactic(auto)]
 
 pub mod batch;
+pub mod edits;
 mod shared;
 
 pub use iref_component::pct;
@@ -16,6 +17,7 @@ pub use uri::{InvalidUri, InvalidUriRef, Uri, UriBuf, UriError, UriRef, UriRefBu
 
 /// URIs and references of URIs, with their components (RFC 3986 sections 3 and 4.1).
 pub mod uri {
+    pub use crate::edits::{EditError, apply_all, apply_all_uri};
     pub use crate::shared::{
         InvalidAuthority, InvalidFragment, InvalidHost, InvalidPath, InvalidPort, InvalidQuery,
         InvalidScheme, InvalidSegment, InvalidUserInfo, Memory, Offsets, PathContext, Port,
@@ -83,10 +85,14 @@ pub mod uri {
     pub type Fragment<'a> = iref_component::texts::Fragment<'a, UriChars>;
     /// A fragment that owns its text.
     pub type FragmentBuf = iref_component::texts::FragmentBuf<UriChars>;
+
+    /// An edit of a list.
+    pub type Edit<'a> = crate::edits::Edit<'a, UriChars>;
 }
 
 /// IRIs and references of IRIs, with their components (RFC 3987 section 2.2).
 pub mod iri {
+    pub use crate::edits::{EditError, apply_all, apply_all_uri};
     pub use crate::shared::{
         InvalidAuthority, InvalidFragment, InvalidHost, InvalidPath, InvalidPort, InvalidQuery,
         InvalidScheme, InvalidSegment, InvalidUserInfo, Memory, Offsets, PathContext, Port,
@@ -154,4 +160,7 @@ pub mod iri {
     pub type Fragment<'a> = iref_component::texts::Fragment<'a, IriChars>;
     /// A fragment that owns its text.
     pub type FragmentBuf = iref_component::texts::FragmentBuf<IriChars>;
+
+    /// An edit of a list.
+    pub type Edit<'a> = crate::edits::Edit<'a, IriChars>;
 }

@@ -16,8 +16,8 @@ const INPUTS: &[(&[u8], &[u8])] = &[
         b"error invalid\nerror command\nerror invalid\nok\t-\t-\t=\t-\t-\n",
     ),
     (
-        b"equal\thttp://a\thttp://a/\n\nparts\t1:2\nnormal\t//b",
-        b"ok\tno\nerror command\nerror invalid\nok\t/.//b\n",
+        b"equal\thttp://a\thttp://a/\n\nparts\t1:2\nedit\tx\thost=h\nresolve\tg\t/b\nnormal\t//b",
+        b"ok\tno\nerror command\nerror invalid\nerror edit\nerror invalid\nok\t/.//b\n",
     ),
     (
         b"parts\t//user:1@host.org:80/a//b?#\nnormal\ta/../..\nequal\t/./\t/\nparts\n",

@@ -24,7 +24,7 @@ module _ {A : Type 0} (text : A → Text) (a b : Option A) where
       ↔ (option_map percent_decode (option_map text a) ≡ option_map percent_decode (option_map text b))
   decoded_tie = options_tie_through _ text percent_decode (λ x y. texts_tie (percent_decode (text x)) (percent_decode (text y))) a b
 
-  authority_parts_tie : (option_eq (λ x y. is_eq (authority_key_cmp (authority_key (read_authority (text x))) (authority_key (read_authority (text y))))) a b ≡ true)
+  pub authority_parts_tie : (option_eq (λ x y. is_eq (authority_key_cmp (authority_key (read_authority (text x))) (authority_key (read_authority (text y))))) a b ≡ true)
       ↔ (option_map authority_key (option_map read_authority (option_map text a)) ≡ option_map authority_key (option_map read_authority (option_map text b)))
   authority_parts_tie =
       let value = λ (x : A). read_authority (text x) in

@@ -84,10 +84,6 @@ all_verbs =
     (codes "parts", one_text Parts) ∷ (codes "resolve", two_texts Resolve) ∷ (codes "relative", two_texts Relative)
     ∷ (codes "normal", one_text Normal) ∷ (codes "equal", two_texts Equal) ∷ (codes "edit", text_and_edits) ∷ []
 
--- the verbs that the program has so far
-abbrev pub program_verbs : Verbs
-program_verbs = (codes "parts", one_text Parts) ∷ (codes "normal", one_text Normal) ∷ (codes "equal", two_texts Equal) ∷ []
-
 abbrev pub read_fields : Verbs → List Text → Option Request
 read_fields verbs [] = None
 read_fields verbs (verb ∷ fields) = option_and_then (λ v. v.1 fields) (find (λ v. bytes_eq v.0 verb) verbs)

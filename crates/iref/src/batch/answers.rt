@@ -7,15 +7,22 @@ ghost use Rattle.iref_authority.specs.Authorities.{authority_text};
 ghost use Rattle.iref_reference.specs.Parts.{uri_ref_part_texts};
 ghost use Rattle.iref.specs.Gathering.{Extends};
 ghost use Rattle.iref.specs.Requests.{request_of};
-ghost use Rattle.iref.specs.Runs.{request_reply, line_reply, with_newline};
+ghost use Rattle.iref.specs.Runs.{request_reply, reply_to, line_reply, with_newline};
+
+mod edit;
+mod relative;
+mod resolve;
 
 use super::request::{Request, read_request};
+use edit::put_answer_to_edit;
 use iref_authority::authority::Authority;
 use iref_component::rule::Rule;
 use iref_component::view::View;
 use iref_grammar::chars::{CharSet, UriChars};
 use iref_path::path::Path;
 use iref_reference::parts::UriRefParts;
+use relative::put_answer_to_relative;
+use resolve::put_answer_to_resolve;
 use std::alloc::AllocError;
 
 /// Puts the text.
@@ -127,13 +134,16 @@ fn put_answer_to_equal(left: &[u8], right: &[u8], out: &mut Vec<u8>) -> Result<(
 /// Puts the answer to a request.
 fn put_answer_to(request: Request<'_>, out: &mut Vec<u8>) -> Result<(), AllocError>
     ensures ok { OnOk result
-        (out.new.items ≡ out.old.items ++ request_reply (request_of request.entry)) }
+        (out.new.items ≡ out.old.items ++ reply_to (request_of request.entry)) }
     ensures err { OnErr result (Extends out.old.items out.new.items) }
 {
     match request {
         Request::Parts(text) => put_answer_to_parts(text, out),
+        Request::Resolve(reference, base) => put_answer_to_resolve(reference, base, out),
+        Request::Relative(target, base) => put_answer_to_relative(target, base, out),
         Request::Normal(text) => put_answer_to_normal(text, out),
         Request::Equal(left, right) => put_answer_to_equal(left, right, out),
+        Request::Edit(text, fields) => put_answer_to_edit(text, fields, out),
     }
 }
 

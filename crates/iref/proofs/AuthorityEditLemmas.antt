@@ -1,0 +1,44 @@
+-- What an edit by an editor of the authority leaves is the step of the whole reference.
+use Rattle.std.proofs.Common.{◌≡◌, true, Result, Ok, Err, OnOk, refl, sym, ap, ◌∙◌}
+use Rattle.std.specs.Prelude.{Option, Some, None, is_some, option_map, if◌then◌else◌}
+use Rattle.iref_grammar.specs.Characters.{CharTests, AreAboveAscii}
+use Rattle.iref_grammar.specs.Rules.{Text}
+use Rattle.iref_grammar.specs.Tests.{none_or}
+use Rattle.iref_grammar.specs.Authority.{AuthorityValue, read_authority, is_authority, has_authority_parts}
+use Rattle.iref_grammar.specs.Places.{places_of}
+use Rattle.iref_grammar.specs.Reference.{is_readable, is_reference, read_reference}
+use Rattle.iref_component.specs.declared.text.View.{View}
+use Rattle.iref_component.specs.Components.{view_text}
+use Rattle.iref_model.specs.ComponentSteps.{with_authority_step}
+use Rattle.iref_model.specs.Edits.{EditStep, NoAuthority, edited, with_authority_part}
+use Rattle.iref_authority.specs.declared.authority_mut.AuthorityMut.{AuthorityMut}
+use Rattle.iref_authority.specs.AuthorityEdits.{authority_mut_value, edited_bytes, BecomesAuthority, IsEditorAt}
+use Rattle.iref_buffer.proofs.EditLemmas.{readable_of}
+use Rattle.iref_reference.proofs.AuthorityStepLemmas.{authority_step}
+
+-- an optional text that is given by a view is in the rule
+pub view_in_rule : {R C r c : _} (o : Option (View R C r c)) → none_or (r.test c.tests) (option_map view_text o) ≡ true
+view_in_rule None = refl
+view_in_rule (Some view) = view.in_rule
+
+pub authority_in_rule : (set : CharTests) (text : Text) → is_authority set text ≡ true → has_authority_parts set (read_authority text) ≡ true
+unfolding is_authority
+authority_in_rule set text h = h
+
+-- the edit of a part of the authority, done by its editor
+pub authority_edited : {C T A c H t : _} {old new : AuthorityMut C T A c H t} {text after : Text} (set : CharTests) → AreAboveAscii set → (edit : EditStep) (step : AuthorityValue → AuthorityValue)
+    → edited edit (read_reference text) ≡ with_authority_part step (read_reference text) → is_some (read_reference text).authority ≡ true → is_reference set text ≡ true
+    → (is_readable set (read_reference text) ≡ true → is_readable set (with_authority_step step (read_reference text)) ≡ true)
+    → IsEditorAt old text (places_of text).authority → after ≡ edited_bytes new → BecomesAuthority old new (step (authority_mut_value old)) → edited edit (read_reference text) ≡ Ok (read_reference after)
+authority_edited {text = text} set above edit step e has h readable of same becomes =
+    let read = (authority_step set above step h (readable (readable_of set text h)) of becomes).1 in
+    e ∙ (λ i. if has i then Ok (with_authority_step step (read_reference text)) else Err NoAuthority) ∙ ap Ok (sym (ap read_reference same ∙ read))
+
+-- the same where it is done
+pub authority_edited_on_ok : {C T A c H t : _} {text after : Text} {U E : Type 0} (old new : AuthorityMut C T A c H t) (set : CharTests) → AreAboveAscii set → (edit : EditStep) (step : AuthorityValue → AuthorityValue)
+    → edited edit (read_reference text) ≡ with_authority_part step (read_reference text) → is_some (read_reference text).authority ≡ true → is_reference set text ≡ true
+    → (is_readable set (read_reference text) ≡ true → is_readable set (with_authority_step step (read_reference text)) ≡ true)
+    → IsEditorAt old text (places_of text).authority → after ≡ edited_bytes new
+    → (result : Result U E) → OnOk result (BecomesAuthority old new (step (authority_mut_value old))) → OnOk result (edited edit (read_reference text) ≡ Ok (read_reference after))
+authority_edited_on_ok old new set above edit step e has h readable of same (Ok u) becomes = authority_edited set above edit step e has h readable of same becomes
+authority_edited_on_ok old new set above edit step e has h readable of same (Err error) becomes = tt

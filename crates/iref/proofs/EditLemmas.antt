@@ -1,0 +1,33 @@
+-- What an edit by an editor leaves is the step of the whole reference.
+use Rattle.std.proofs.Common.{◌≡◌, true, Result, Ok, Err, OnOk, sym, ap, ◌∙◌}
+use Rattle.iref_grammar.specs.declared.places.PathContext.{PathContext}
+use Rattle.iref_grammar.specs.Characters.{CharTests, AreAboveAscii}
+use Rattle.iref_grammar.specs.Rules.{Text}
+use Rattle.iref_grammar.specs.PathValue.{PathValue}
+use Rattle.iref_grammar.specs.Places.{places_of}
+use Rattle.iref_grammar.specs.Reference.{context_of, is_readable, is_reference, read_reference}
+use Rattle.iref_model.specs.ComponentSteps.{with_path_step}
+use Rattle.iref_model.specs.Edits.{EditStep, edited}
+use Rattle.iref_buffer.proofs.EditLemmas.{readable_of}
+use Rattle.iref_path.specs.declared.path_mut.PathMut.{PathMut}
+use Rattle.iref_path.specs.PathEdits.{edited_bytes, path_mut_context, path_mut_value, IsEditorOf, BecomesPath}
+use Rattle.iref_reference.proofs.PathStepLemmas.{path_step}
+
+-- the edit of the path, done by its editor
+pub path_edited : {C : _} {T : _} {A : _} {c : _} {t : _} {a : _} {old new : PathMut C T A c t a} {text after : Text} (set : CharTests) → AreAboveAscii set → (edit : EditStep) (step : PathContext → PathValue → PathValue)
+    → edited edit (read_reference text) ≡ Ok (with_path_step step (read_reference text)) → is_reference set text ≡ true
+    → (is_readable set (read_reference text) ≡ true → is_readable set (with_path_step step (read_reference text)) ≡ true)
+    → IsEditorOf old text (context_of (read_reference text)) (places_of text).path.start (places_of text).path.end → after ≡ edited_bytes new
+    → BecomesPath old new (step (path_mut_context old) (path_mut_value old)) → edited edit (read_reference text) ≡ Ok (read_reference after)
+path_edited {text} set above edit step e h readable of same becomes =
+    let read = (path_step set above step h (readable (readable_of set text h)) of becomes).1 in
+    e ∙ ap Ok (sym (ap read_reference same ∙ read))
+
+-- the same where it is done
+pub path_edited_on_ok : {C : _} {T : _} {A : _} {c : _} {t : _} {a : _} {old : PathMut C T A c t a} {text after : Text} {U E : Type 0} (new : PathMut C T A c t a) (set : CharTests) → AreAboveAscii set → (edit : EditStep) (step : PathContext → PathValue → PathValue)
+    → edited edit (read_reference text) ≡ Ok (with_path_step step (read_reference text)) → is_reference set text ≡ true
+    → (is_readable set (read_reference text) ≡ true → is_readable set (with_path_step step (read_reference text)) ≡ true)
+    → IsEditorOf old text (context_of (read_reference text)) (places_of text).path.start (places_of text).path.end → after ≡ edited_bytes new
+    → (result : Result U E) → OnOk result (BecomesPath old new (step (path_mut_context old) (path_mut_value old))) → OnOk result (edited edit (read_reference text) ≡ Ok (read_reference after))
+path_edited_on_ok new set above edit step e h readable of same (Ok u) becomes = path_edited set above edit step e h readable of same becomes
+path_edited_on_ok new set above edit step e h readable of same (Err error) becomes = tt

@@ -1,0 +1,59 @@
+use Rattle.std.proofs.Common.{rules, ap}
+use Rattle.std.specs.Prelude.{option_map}
+use Rattle.iref_component.specs.Components.{view_text}
+use Rattle.iref_grammar.specs.Authority.{read_authority}
+use Rattle.iref_grammar.specs.Reference.{read_reference}
+use Rattle.iref_authority.specs.Authorities.{authority_text}
+use Rattle.iref_model.specs.AuthoritySteps.{with_user_info, with_host, with_port}
+use Rattle.iref_model.specs.PortNumbers.{port_text}
+use Rattle.iref_model.specs.Edits.{edited}
+use Rattle.iref_model.proofs.ReferenceStepLemmas.{with_user_info-readable, with_host-readable, with_port-readable, with_whole_authority-readable}
+use Rattle.iref.specs.EditSteps.{edit_step}
+use Rattle.iref.proofs.AuthorityEditLemmas.{authority_edited_on_ok, authority_in_rule, view_in_rule}
+use Rattle.iref.proofs.PortTextLemmas.{numbers_are_ports}
+use Rattle.iref.proofs.edits.parts.edit_authority.Goals as goal
+
+pub returns-in-ReplaceAuthority-clause-ok : goal.returns-in-ReplaceAuthority-clause-ok
+unfolding edited
+returns-in-ReplaceAuthority-clause-ok g c =
+    let editor = c.authority_editor-authority.ensures in
+    let r = read_reference (g.T.Target.text c.args.owner.now) in
+    let new = read_authority (authority_text c.in-ReplaceAuthority.other) in
+    authority_edited_on_ok c.authority_editor-authority.result c.replace.new.self g.C.CharSet.tests g.met.C.CharSet.above_ascii (edit_step c.args.edit) (λ a. new) (ap (λ edit. edited (edit_step edit) r) c.in-ReplaceAuthority.is) c.requires.there editor.reference
+    (with_whole_authority-readable g.C.CharSet.tests new r (authority_in_rule g.C.CharSet.tests (authority_text c.in-ReplaceAuthority.other) c.in-ReplaceAuthority.other.text.in_rule)) editor.editor (search rules) c.replace.result c.replace.ensures.ok
+
+pub returns-in-SetUserInfo-clause-ok : goal.returns-in-SetUserInfo-clause-ok
+unfolding edited
+returns-in-SetUserInfo-clause-ok g c =
+    let editor = c.authority_editor-authority.ensures in
+    let r = read_reference (g.T.Target.text c.args.owner.now) in
+    let new = option_map view_text c.in-SetUserInfo.user_info in
+    authority_edited_on_ok c.authority_editor-authority.result c.set_user_info.new.self g.C.CharSet.tests g.met.C.CharSet.above_ascii (edit_step c.args.edit) (with_user_info new) (ap (λ edit. edited (edit_step edit) r) c.in-SetUserInfo.is) c.requires.there editor.reference
+    (with_user_info-readable g.C.CharSet.tests new r (view_in_rule c.in-SetUserInfo.user_info)) editor.editor (search rules) c.set_user_info.result c.set_user_info.ensures.ok
+
+pub returns-in-SetHost-clause-ok : goal.returns-in-SetHost-clause-ok
+unfolding edited
+returns-in-SetHost-clause-ok g c =
+    let editor = c.authority_editor-authority.ensures in
+    let r = read_reference (g.T.Target.text c.args.owner.now) in
+    let new = view_text c.in-SetHost.host in
+    authority_edited_on_ok c.authority_editor-authority.result c.set_host.new.self g.C.CharSet.tests g.met.C.CharSet.above_ascii (edit_step c.args.edit) (with_host new) (ap (λ edit. edited (edit_step edit) r) c.in-SetHost.is) c.requires.there editor.reference
+    (with_host-readable g.C.CharSet.tests new r c.in-SetHost.host.in_rule) editor.editor (search rules) c.set_host.result c.set_host.ensures.ok
+
+pub returns-in-SetPort-clause-ok : goal.returns-in-SetPort-clause-ok
+unfolding edited
+returns-in-SetPort-clause-ok g c =
+    let editor = c.authority_editor-authority.ensures in
+    let r = read_reference (g.T.Target.text c.args.owner.now) in
+    let new = option_map view_text c.in-SetPort.port in
+    authority_edited_on_ok c.authority_editor-authority.result c.set_port.new.self g.C.CharSet.tests g.met.C.CharSet.above_ascii (edit_step c.args.edit) (with_port new) (ap (λ edit. edited (edit_step edit) r) c.in-SetPort.is) c.requires.there editor.reference
+    (with_port-readable g.C.CharSet.tests new r (view_in_rule c.in-SetPort.port)) editor.editor (search rules) c.set_port.result c.set_port.ensures.ok
+
+pub returns-in-SetPortU32-clause-ok : goal.returns-in-SetPortU32-clause-ok
+unfolding edited
+returns-in-SetPortU32-clause-ok g c =
+    let editor = c.authority_editor-authority.ensures in
+    let r = read_reference (g.T.Target.text c.args.owner.now) in
+    let new = option_map port_text c.in-SetPortU32.number in
+    authority_edited_on_ok c.authority_editor-authority.result c.set_port_u32.new.self g.C.CharSet.tests g.met.C.CharSet.above_ascii (edit_step c.args.edit) (with_port new) (ap (λ edit. edited (edit_step edit) r) c.in-SetPortU32.is) c.requires.there editor.reference
+    (with_port-readable g.C.CharSet.tests new r (numbers_are_ports c.in-SetPortU32.number)) editor.editor (search rules) c.set_port_u32.result c.set_port_u32.ensures.ok

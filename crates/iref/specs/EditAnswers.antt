@@ -1,0 +1,65 @@
+-- What a list of edits leaves, and where it stops.
+use Rattle.std.specs.Prelude.{◌≡◌, ℕ, Bool, true, false, List, take, slice_get, Option, None, is_some, Result, Ok, Err, IsSomeAnd, if◌then◌else◌}
+use Rattle.iref_grammar.specs.Rules.{Text}
+use Rattle.iref_grammar.specs.Reference.{ReferenceValue, read_reference}
+use Rattle.iref_model.specs.Edits as model
+use Rattle.iref_model.specs.Edits.{EditStep, SetScheme, SetAuthority, ReplaceAuthority, SetUserInfo, SetHost, SetPort, SetPortU32, SetQuery, SetFragment, LazyPush, Push, JoinPath, Pop, Clear, Normalize, Edited, edited, edited_uri, edited_from}
+use Rattle.iref.specs.declared.edits.EditError.{EditError}
+use Rattle.iref.specs.declared.edits.EditError.TheVariants.{NoAuthority, SchemeNeeded, Memory}
+
+-- what takes a component away, or all segments, takes no memory
+abbrev pub may_take_memory : EditStep → Bool
+may_take_memory (SetScheme scheme) = is_some scheme
+may_take_memory (SetAuthority authority) = is_some authority
+may_take_memory (SetUserInfo user_info) = is_some user_info
+may_take_memory (SetPort port) = is_some port
+may_take_memory (SetPortU32 number) = is_some number
+may_take_memory (SetQuery query) = is_some query
+may_take_memory (SetFragment fragment) = is_some fragment
+may_take_memory Clear = false
+may_take_memory edit = true
+
+-- an edit is refused, or wants memory
+abbrev pub Refuses : Edited → EditStep → ReferenceValue → EditError → Type 0
+Refuses edited edit r NoAuthority = edited edit r ≡ Err model.NoAuthority
+Refuses edited edit r SchemeNeeded = edited edit r ≡ Err model.SchemeNeeded
+Refuses edited edit r Memory = may_take_memory edit ≡ true
+
+-- the edit is done, or refused with nothing changed
+abbrev pub AppliesEdit : Edited → EditStep → Text → Text → Result (Unit {0}) EditError → Type 0
+AppliesEdit edited edit old new (Ok done) = edited edit (read_reference old) ≡ Ok (read_reference new)
+AppliesEdit edited edit old new (Err error) = (new ≡ old) × Refuses edited edit (read_reference old) error
+
+-- what edits do under a rule that allows these schemes: where it needs one, none takes it away
+abbrev pub edited_in : (Option Text → Bool) → Edited
+edited_in allows = if allows None then edited else edited_uri
+
+-- all edits are done, one after the other
+abbrev pub AreDone : Edited → List EditStep → ReferenceValue → ReferenceValue → Type 0
+AreDone edited edits old new = edited_from edited 0 edits old ≡ Ok new
+
+-- the edit of this number is refused or wants memory, and those before it are done
+abbrev pub StopsAt : Edited → List EditStep → ReferenceValue → ReferenceValue → ℕ → EditError → Type 0
+StopsAt edited edits old new i NoAuthority = edited_from edited 0 edits old ≡ Err (i, model.NoAuthority, new)
+StopsAt edited edits old new i SchemeNeeded = edited_from edited 0 edits old ≡ Err (i, model.SchemeNeeded, new)
+StopsAt edited edits old new i Memory =
+    AreDone edited (take i edits) old new × IsSomeAnd (slice_get edits i) (λ edit. may_take_memory edit ≡ true)
+
+-- an edit of the path alone
+abbrev pub is_path_edit : EditStep → Bool
+is_path_edit (LazyPush segment) = true
+is_path_edit (Push segment) = true
+is_path_edit (JoinPath path) = true
+is_path_edit Pop = true
+is_path_edit Clear = true
+is_path_edit Normalize = true
+is_path_edit edit = false
+
+-- an edit of a part of the authority
+abbrev pub is_authority_edit : EditStep → Bool
+is_authority_edit (ReplaceAuthority authority) = true
+is_authority_edit (SetUserInfo user_info) = true
+is_authority_edit (SetHost host) = true
+is_authority_edit (SetPort port) = true
+is_authority_edit (SetPortU32 number) = true
+is_authority_edit edit = false

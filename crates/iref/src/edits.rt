@@ -1,0 +1,78 @@
+//! Lists of edits, each one step on the components of an owner (RFC 3986 section 3).
+ghost use Rattle.std.specs.Prelude.{◌≡◌};
+
+mod lists;
+mod parts;
+mod schemes;
+
+use iref_authority::authority::Authority;
+use iref_component::texts::{Fragment, Host, Port, Query, Scheme, Segment, UserInfo};
+use iref_error::Memory;
+use iref_grammar::chars::CharSet;
+use iref_path::path::Path;
+pub use lists::{apply_all, apply_all_uri};
+use std::fmt;
+use thiserror::Error;
+
+/// An edit of a reference or of a URI: what is set in it, or what is done to its path.
+#[derive_where(Clone, Copy, Debug)]
+pub enum Edit<'a, C: CharSet> {
+    /// Replaces the scheme, or takes it away, which a URI refuses.
+    SetScheme(Option<Scheme<'a>>),
+    /// Replaces the authority, puts one there, or takes it away.
+    SetAuthority(Option<Authority<'a, C>>),
+    /// Replaces the authority that is there.
+    ReplaceAuthority(Authority<'a, C>),
+    /// Replaces the user info of the authority, or takes it away.
+    SetUserInfo(Option<UserInfo<'a, C>>),
+    /// Replaces the host of the authority.
+    SetHost(Host<'a, C>),
+    /// Replaces the port of the authority, or takes it away.
+    SetPort(Option<Port<'a>>),
+    /// The same by a number, which is written in decimal digits without leading zeros.
+    SetPortU32(Option<u32>),
+    /// Replaces the path, guarded where it would be read as something else.
+    SetPath(Path<'a, C>),
+    /// Replaces the path by its normal form (RFC 3986 section 5.2.4).
+    SetAndNormalizePath(Path<'a, C>),
+    /// Replaces the query, or takes it away.
+    SetQuery(Option<Query<'a, C>>),
+    /// Replaces the fragment, or takes it away.
+    SetFragment(Option<Fragment<'a, C>>),
+    /// Puts a segment at the end of the path, as it is.
+    LazyPush(Segment<'a, C>),
+    /// Follows a segment: `..` takes the last one away.
+    Push(Segment<'a, C>),
+    /// Follows the segments of a relative path; an absolute one replaces the path.
+    JoinPath(Path<'a, C>),
+    /// Takes the last segment away.
+    Pop,
+    /// Takes all segments away.
+    Clear,
+    /// Puts the normal form of the path in its place.
+    Normalize,
+}
+
+/// Why an edit of a list cannot be done.
+#[derive(Clone, Copy, Debug, PartialEq, Eq, Error)]
+pub enum EditError {
+    /// The edit is of a part of the authority, and there is none.
+    #[error("no authority")]
+    NoAuthority,
+    /// The edit takes the scheme of a URI away.
+    #[error("a URI needs a scheme")]
+    SchemeNeeded,
+    /// A growth was refused, or the new length would pass what a buffer can hold.
+    #[error("out of memory")]
+    Memory,
+}
+
+impl From<Memory> for EditError {
+    ghost use Rattle.iref.specs.declared.edits.EditError.TheVariants as edit_error;
+
+    ghost from_gives = { λ _ error. error ≡ edit_error.Memory };
+
+    fn from(_: Memory) -> EditError {
+        EditError::Memory
+    }
+}

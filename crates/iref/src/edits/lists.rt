@@ -1,0 +1,102 @@
+//! Edits of a list, one after the other, up to the first that cannot be done.
+ghost use Rattle.std.specs.Prelude.{◌≡◌, OnOk, IfErr, map};
+ghost use Rattle.iref_grammar.specs.Reference.{spell};
+ghost use Rattle.iref_model.specs.Edits.{edited, edited_uri};
+ghost use Rattle.iref_reference.specs.References.{reference_buf_text, reference_buf_value};
+ghost use Rattle.iref.specs.EditAnswers.{AppliesEdit, AreDone, StopsAt, edited_in};
+ghost use Rattle.iref.specs.EditSteps.{edit_step};
+
+use crate::edits::parts::{edit_authority, edit_path};
+use crate::edits::schemes::SetsScheme;
+use crate::edits::{Edit, EditError};
+use iref_grammar::chars::CharSet;
+use iref_reference::owner::{ReferenceBuf, UriBuf, UriRefBuf};
+
+// Does one edit, or changes nothing.
+#[tactic(auto, unfolding(iref_model::specs::Edits::edited))]
+fn apply<R: SetsScheme, C: CharSet>(
+    reference: &mut ReferenceBuf<R, C>,
+    edit: Edit<'_, C>,
+) -> Result<(), EditError>
+    ensures { AppliesEdit (edited_in R.allows_scheme) (edit_step edit.entry)
+        (reference_buf_text reference.old) (reference_buf_text reference.new) result }
+{
+    match edit {
+        Edit::SetScheme(scheme) => R::set_scheme(reference, scheme),
+        Edit::SetAuthority(authority) => Ok(reference.set_authority(authority)?),
+        Edit::SetPath(path) => Ok(reference.set_path(path)?),
+        Edit::SetAndNormalizePath(path) => Ok(reference.set_and_normalize_path(path)?),
+        Edit::SetQuery(query) => Ok(reference.set_query(query)?),
+        Edit::SetFragment(fragment) => Ok(reference.set_fragment(fragment)?),
+        Edit::ReplaceAuthority(_)
+        | Edit::SetUserInfo(_)
+        | Edit::SetHost(_)
+        | Edit::SetPort(_)
+        | Edit::SetPortU32(_) => {
+            if reference.authority().is_none() {
+                return Err(EditError::NoAuthority);
+            }
+            Ok(edit_authority(reference, edit)?)
+        }
+        Edit::LazyPush(_)
+        | Edit::Push(_)
+        | Edit::JoinPath(_)
+        | Edit::Pop
+        | Edit::Clear
+        | Edit::Normalize => Ok(edit_path(reference, edit)?),
+    }
+}
+
+// Does the edits, up to the first that cannot be done: its number is in the error.
+fn apply_each<R: SetsScheme, C: CharSet>(
+    reference: &mut ReferenceBuf<R, C>,
+    edits: &[Edit<'_, C>],
+) -> Result<(), (usize, EditError)>
+    ensures ok { OnOk result (AreDone (edited_in R.allows_scheme) (map edit_step edits.now)
+        (reference_buf_value reference.old) (reference_buf_value reference.new)) }
+    ensures err { IfErr result (λ stop. StopsAt (edited_in R.allows_scheme)
+        (map edit_step edits.now) (reference_buf_value reference.old)
+        (reference_buf_value reference.new) stop.0 stop.1) }
+{
+    for (i, edit) in edits.iter().enumerate() {
+        if let Err(error) = apply(reference, *edit) {
+            return Err((i, error));
+        }
+    }
+    Ok(())
+}
+
+/// Does the edits one after the other.
+///
+/// # Errors
+///
+/// The number of the first edit that cannot be done, from 0, and why: those before it are done.
+/// `NoAuthority` where it is of a part of the authority and there is none, also to take one away.
+#[tactic(auto, using(iref_buffer::proofs::HeldLemmas::spelled))]
+pub fn apply_all<C: CharSet>(
+    reference: &mut UriRefBuf<C>,
+    edits: &[Edit<'_, C>],
+) -> Result<(), (usize, EditError)>
+    ensures ok { OnOk result (AreDone edited (map edit_step edits.now)
+        (reference_buf_value reference.old) (reference_buf_value reference.new)) }
+    ensures err { IfErr result (λ stop. StopsAt edited (map edit_step edits.now)
+        (reference_buf_value reference.old) (reference_buf_value reference.new) stop.0 stop.1) }
+    ensures spelled { reference_buf_text reference.new ≡ spell (reference_buf_value reference.new) }
+{
+    apply_each(reference, edits)
+}
+
+/// As `apply_all`, of a URI: `SchemeNeeded` where an edit takes the scheme away.
+#[tactic(auto, using(iref_buffer::proofs::HeldLemmas::spelled))]
+pub fn apply_all_uri<C: CharSet>(
+    uri: &mut UriBuf<C>,
+    edits: &[Edit<'_, C>],
+) -> Result<(), (usize, EditError)>
+    ensures ok { OnOk result (AreDone edited_uri (map edit_step edits.now)
+        (reference_buf_value uri.old) (reference_buf_value uri.new)) }
+    ensures err { IfErr result (λ stop. StopsAt edited_uri (map edit_step edits.now)
+        (reference_buf_value uri.old) (reference_buf_value uri.new) stop.0 stop.1) }
+    ensures spelled { reference_buf_text uri.new ≡ spell (reference_buf_value uri.new) }
+{
+    apply_each(uri, edits)
+}

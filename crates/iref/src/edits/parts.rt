@@ -1,0 +1,107 @@
+//! Edits of the path and of the parts of the authority, by the editors of these.
+ghost use Rattle.std.specs.Prelude.{◌≡◌, true, Ok, OnOk, OnErr, is_some};
+ghost use Rattle.iref_authority.specs.AuthorityEdits as authority;
+ghost use Rattle.iref_grammar.specs.Places.{places_of};
+ghost use Rattle.iref_grammar.specs.Reference.{context_of, is_reference, read_reference};
+ghost use Rattle.iref_model.specs.Edits.{edited};
+ghost use Rattle.iref_path.specs.PathEdits.{Borrows, IsEditorOf};
+ghost use Rattle.iref.specs.EditAnswers.{is_authority_edit, is_path_edit, may_take_memory};
+ghost use Rattle.iref.specs.EditSteps.{edit_step};
+
+use crate::edits::Edit;
+use iref_authority::authority_mut::AuthorityMut;
+use iref_authority::part::AuthorityPart;
+use iref_buffer::held::HeldRule;
+use iref_edit::target::Target;
+use iref_error::Memory;
+use iref_grammar::chars::CharSet;
+use iref_path::path_mut::PathMut;
+use iref_path_text::part::PathPart;
+use iref_reference::owner::ReferenceBuf;
+
+/// An owner of a reference whose path is edited in place.
+pub trait PathOwner<C: CharSet>: Target<PathPart, C> {
+    /// The editor of the path.
+    fn path_editor(&mut self) -> PathMut<'_, C, Self>
+        ensures same_reference { Borrows result self.entry.ghost_name }
+        ensures editor { IsEditorOf result (Self.text self.old)
+            (context_of (read_reference (Self.text self.old)))
+            (places_of (Self.text self.old)).path.start
+            (places_of (Self.text self.old)).path.end }
+        ensures reference { is_reference C.tests (Self.text self.old) ≡ true };
+}
+
+impl<R: HeldRule, C: CharSet> PathOwner<C> for ReferenceBuf<R, C> {
+    fn path_editor(&mut self) -> PathMut<'_, C, Self> {
+        self.path_mut()
+    }
+}
+
+/// Does an edit of the path.
+pub fn edit_path<C: CharSet, T: PathOwner<C>>(
+    owner: &mut T,
+    edit: Edit<'_, C>,
+) -> Result<(), Memory>
+    requires { is_path_edit (edit_step edit) ≡ true }
+    ensures ok { OnOk result (edited (edit_step edit.entry) (read_reference (T.text owner.old))
+        ≡ Ok (read_reference (T.text owner.new))) }
+    ensures err { OnErr result (T.text owner.new ≡ T.text owner.old) }
+    ensures memory { OnErr result (may_take_memory (edit_step edit.entry) ≡ true) }
+{
+    let mut path = owner.path_editor();
+    match edit {
+        Edit::LazyPush(segment) => path.lazy_push(segment),
+        Edit::Push(segment) => path.push(segment),
+        Edit::JoinPath(other) => path.join(other),
+        Edit::Pop => path.pop(),
+        Edit::Normalize => path.normalize(),
+        Edit::Clear => {
+            path.clear();
+            Ok(())
+        }
+        _ => unreachable!(),
+    }
+}
+
+/// An owner of a reference whose authority is edited in place.
+pub trait AuthorityOwner<C: CharSet>: Target<AuthorityPart, C> {
+    /// The editor of the authority, where there is one.
+    fn authority_editor(&mut self) -> AuthorityMut<'_, C, Self>
+        requires { is_some (read_reference (Self.text self.old)).authority ≡ true }
+        ensures same_reference { authority.Borrows result self.entry.ghost_name }
+        ensures editor { authority.IsEditorAt result (Self.text self.old)
+            (places_of (Self.text self.old)).authority }
+        ensures reference { is_reference C.tests (Self.text self.old) ≡ true };
+}
+
+impl<R: HeldRule, C: CharSet> AuthorityOwner<C> for ReferenceBuf<R, C> {
+    fn authority_editor(&mut self) -> AuthorityMut<'_, C, Self> {
+        match self.authority_mut() {
+            Some(authority) => authority,
+            None => unreachable!(),
+        }
+    }
+}
+
+/// Does an edit of a part of the authority, which is there.
+pub fn edit_authority<C: CharSet, T: AuthorityOwner<C>>(
+    owner: &mut T,
+    edit: Edit<'_, C>,
+) -> Result<(), Memory>
+    requires part { is_authority_edit (edit_step edit) ≡ true }
+    requires there { is_some (read_reference (T.text owner.old)).authority ≡ true }
+    ensures ok { OnOk result (edited (edit_step edit.entry) (read_reference (T.text owner.old))
+        ≡ Ok (read_reference (T.text owner.new))) }
+    ensures err { OnErr result (T.text owner.new ≡ T.text owner.old) }
+    ensures memory { OnErr result (may_take_memory (edit_step edit.entry) ≡ true) }
+{
+    let mut authority = owner.authority_editor();
+    match edit {
+        Edit::ReplaceAuthority(other) => authority.replace(other),
+        Edit::SetUserInfo(user_info) => authority.set_user_info(user_info),
+        Edit::SetHost(host) => authority.set_host(host),
+        Edit::SetPort(port) => authority.set_port(port),
+        Edit::SetPortU32(number) => authority.set_port_u32(number),
+        _ => unreachable!(),
+    }
+}

@@ -1,0 +1,48 @@
+//! The scheme set by an edit, which a URI keeps.
+ghost use Rattle.std.specs.Prelude.{option_map};
+ghost use Rattle.iref_component.specs.Components.{view_text};
+ghost use Rattle.iref_model.specs.Edits.{SetScheme};
+ghost use Rattle.iref_reference.specs.References.{reference_buf_text};
+ghost use Rattle.iref.specs.EditAnswers.{AppliesEdit, edited_in};
+
+use crate::edits::EditError;
+use iref_buffer::held::HeldRule;
+use iref_component::texts::Scheme;
+use iref_grammar::chars::CharSet;
+use iref_reference::owner::{ReferenceBuf, UriBuf, UriRefBuf};
+use iref_reference::rule::{FullReferenceRule, ReferenceRule};
+
+/// A rule of references, with what an edit of the scheme does under it.
+pub trait SetsScheme: HeldRule {
+    /// Replaces the scheme, or takes it away where the rule allows that.
+    fn set_scheme<C: CharSet>(
+        reference: &mut ReferenceBuf<Self, C>,
+        scheme: Option<Scheme<'_>>,
+    ) -> Result<(), EditError>
+        ensures { AppliesEdit (edited_in Self.allows_scheme)
+            (SetScheme (option_map view_text scheme.entry))
+            (reference_buf_text reference.old) (reference_buf_text reference.new) result };
+}
+
+impl SetsScheme for ReferenceRule {
+    #[tactic(auto, unfolding(iref_model::specs::Edits::edited))]
+    fn set_scheme<C: CharSet>(
+        reference: &mut UriRefBuf<C>,
+        scheme: Option<Scheme<'_>>,
+    ) -> Result<(), EditError> {
+        Ok(reference.set_scheme(scheme)?)
+    }
+}
+
+impl SetsScheme for FullReferenceRule {
+    #[tactic(auto, unfolding(iref_model::specs::Edits::edited, iref_model::specs::Edits::edited_uri))]
+    fn set_scheme<C: CharSet>(
+        reference: &mut UriBuf<C>,
+        scheme: Option<Scheme<'_>>,
+    ) -> Result<(), EditError> {
+        match scheme {
+            Some(scheme) => Ok(reference.set_scheme(scheme)?),
+            None => Err(EditError::SchemeNeeded),
+        }
+    }
+}
