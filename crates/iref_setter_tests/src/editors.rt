@@ -1,7 +1,11 @@
 //! Owners edited through the editor of their path.
 use crate::callers::lazy_push;
-use iref::uri::{Segment, UriBuf, UriRefBuf};
+use iref::iri::IriRefBuf;
+use iref::uri::{Port, Segment, UriBuf, UriRefBuf};
 use iref_checks::same::{same, same_text};
+use iref_grammar::chars::CharSet;
+use iref_grammar::places::Offsets;
+use iref_reference::owner;
 use std::test::Fail;
 
 /// A reference, a segment, and the reference with the segment at the end of its path.
@@ -39,4 +43,47 @@ fn the_last_segment_is_taken_away_in_place(rt: HostRuntime) -> Result<(), Fail> 
     let mut uri = UriBuf::new(String::from_str(rt.alloc(), "http://h//a")?)?;
     uri.path_mut().pop()?;
     same_text(uri.as_str(), "http://h/./")
+}
+
+// The port set in place, then the last segment taken away, then the scheme.
+fn edit_each_part<C: CharSet>(mut reference: owner::UriRefBuf<C>) -> Result<(), Fail> {
+    let Some(mut authority) = reference.authority_mut() else {
+        return Err("no authority")?;
+    };
+    authority.set_port(Some(Port::new("40")?))?;
+    same_text(reference.as_str(), "http://h:40/a?q#f")?;
+    let places = Offsets {
+        scheme: Some(0..4),
+        authority: Some(7..11),
+        path: 11..13,
+        query: Some(14..15),
+        fragment: Some(16..17),
+    };
+    same(&reference.offsets(), &places)?;
+    reference.path_mut().pop()?;
+    same_text(reference.as_str(), "http://h:40/?q#f")?;
+    let places = Offsets {
+        path: 11..12,
+        query: Some(13..14),
+        fragment: Some(15..16),
+        ..places
+    };
+    same(&reference.offsets(), &places)?;
+    reference.set_scheme(None)?;
+    same_text(reference.as_str(), "//h:40/?q#f")?;
+    let places = Offsets {
+        scheme: None,
+        authority: Some(2..6),
+        path: 6..7,
+        query: Some(8..9),
+        fragment: Some(10..11),
+    };
+    same(&reference.offsets(), &places)
+}
+
+#[test]
+fn places_move_with_each_part(rt: HostRuntime) -> Result<(), Fail> {
+    let text = "http://h/a?q#f";
+    edit_each_part(UriRefBuf::new(String::from_str(rt.alloc(), text)?)?)?;
+    edit_each_part(IriRefBuf::new(String::from_str(rt.alloc(), text)?)?)
 }

@@ -4,6 +4,8 @@
 
 pub mod callers;
 #[cfg(test)]
+mod copies;
+#[cfg(test)]
 mod editors;
 #[cfg(test)]
 mod normal;

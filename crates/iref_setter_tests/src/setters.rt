@@ -10,7 +10,7 @@ fn reference(alloc: Global, text: &str) -> Result<UriRefBuf, Fail> {
 }
 
 /// A reference, a path, and the reference with that path.
-const PATHS: &[(&str, &str, &str)] = &[
+pub const PATHS: &[(&str, &str, &str)] = &[
     ("http:old/path", "//foo/bar", "http:/.//foo/bar"),
     ("x", "1:2", "./1:2"),
     ("a?q", "b", "b?q"),
@@ -30,7 +30,7 @@ fn paths_are_guarded_where_they_are_read_otherwise(rt: HostRuntime) -> Result<()
 }
 
 /// A reference, an authority, and the reference with that authority.
-const AUTHORITIES: &[(&str, &str, &str)] = &[
+pub const AUTHORITIES: &[(&str, &str, &str)] = &[
     ("scheme:", "%61uthority", "scheme://%61uthority/"),
     ("http:/.//foo/bar", "h", "http://h/.//foo/bar"),
     ("http://h:80/a?q", "i", "http://i/a?q"),
@@ -48,7 +48,7 @@ fn paths_are_absolute_after_an_authority(rt: HostRuntime) -> Result<(), Fail> {
 }
 
 /// A reference, and the reference without its authority.
-const WITHOUT_AUTHORITY: &[(&str, &str)] = &[
+pub const WITHOUT_AUTHORITY: &[(&str, &str)] = &[
     ("scheme://authority//path", "scheme:/.//path"),
     ("//h/a", "/a"),
     ("a", "a"),

@@ -1,0 +1,152 @@
+//! Copies with one component set, by the rows of the setters, in both families.
+use crate::setters::{AUTHORITIES, PATHS, WITHOUT_AUTHORITY};
+use iref::iri::{Authority as IriAuthority, Iri, IriRef, Path as IriPath, Query as IriQuery};
+use iref::uri::{Authority, Fragment, Path, Query, Scheme, TryError, Uri, UriRef};
+use iref_checks::same::same_text;
+use std::alloc::Global;
+use std::test::Fail;
+
+// Fails unless the copy with this path has this text, and the reference its own.
+fn path_copied(alloc: Global, text: &str, path: &str, want: &str) -> Result<(), Fail> {
+    let reference = UriRef::new(text)?;
+    same_text(reference.with_path(alloc, Path::new(path)?)?.as_str(), want)?;
+    same_text(reference.as_str(), text)?;
+    let reference = IriRef::new(text)?;
+    same_text(
+        reference.with_path(alloc, IriPath::new(path)?)?.as_str(),
+        want,
+    )?;
+    same_text(reference.as_str(), text)
+}
+
+#[test]
+fn copies_have_another_path(rt: HostRuntime) -> Result<(), Fail> {
+    for row in PATHS {
+        let (text, path, want) = *row;
+        path_copied(rt.alloc(), text, path, want)?;
+    }
+    Ok(())
+}
+
+// Fails unless the copy with this authority has this text, and the reference its own.
+fn authority_copied(alloc: Global, text: &str, authority: &str, want: &str) -> Result<(), Fail> {
+    let reference = UriRef::new(text)?;
+    let copy = reference.with_authority(alloc, Some(Authority::new(authority)?))?;
+    same_text(copy.as_str(), want)?;
+    same_text(reference.as_str(), text)?;
+    let reference = IriRef::new(text)?;
+    let copy = reference.with_authority(alloc, Some(IriAuthority::new(authority)?))?;
+    same_text(copy.as_str(), want)?;
+    same_text(reference.as_str(), text)
+}
+
+#[test]
+fn copies_have_another_authority(rt: HostRuntime) -> Result<(), Fail> {
+    for row in AUTHORITIES {
+        let (text, authority, want) = *row;
+        authority_copied(rt.alloc(), text, authority, want)?;
+    }
+    Ok(())
+}
+
+#[test]
+fn copies_have_no_authority(rt: HostRuntime) -> Result<(), Fail> {
+    for row in WITHOUT_AUTHORITY {
+        let (text, want) = *row;
+        let reference = UriRef::new(text)?;
+        same_text(reference.with_authority(rt.alloc(), None)?.as_str(), want)?;
+        same_text(reference.as_str(), text)?;
+        let reference = IriRef::new(text)?;
+        same_text(reference.with_authority(rt.alloc(), None)?.as_str(), want)?;
+        same_text(reference.as_str(), text)?;
+    }
+    Ok(())
+}
+
+/// A reference, a scheme, and the reference under that scheme.
+const SCHEMES: &[(&str, &str, &str)] = &[
+    ("x", "s", "s:x"),
+    ("./foo:bar", "s", "s:./foo:bar"),
+    ("//h/a?q#f", "s", "s://h/a?q#f"),
+    ("http://h/a", "https", "https://h/a"),
+    ("", "data", "data:"),
+];
+
+#[test]
+fn copies_have_another_scheme(rt: HostRuntime) -> Result<(), Fail> {
+    for row in SCHEMES {
+        let (text, scheme, want) = *row;
+        let reference = UriRef::new(text)?;
+        let copy = reference.with_scheme(rt.alloc(), Scheme::new(scheme)?)?;
+        same_text(copy.as_str(), want)?;
+        same_text(reference.as_str(), text)?;
+        let reference = IriRef::new(text)?;
+        let copy = reference.with_scheme(rt.alloc(), Scheme::new(scheme)?)?;
+        same_text(copy.as_str(), want)?;
+        same_text(reference.as_str(), text)?;
+    }
+    Ok(())
+}
+
+#[test]
+fn queries_and_fragments_of_copies_come_and_go(rt: HostRuntime) -> Result<(), Fail> {
+    let reference = UriRef::new("a?q#f")?;
+    let copy = reference.with_query(rt.alloc(), Some(Query::new("x=y")?))?;
+    same_text(copy.as_str(), "a?x=y#f")?;
+    let copy = reference.with_fragment(rt.alloc(), Some(Fragment::new("")?))?;
+    same_text(copy.as_str(), "a?q#")?;
+    let copy = reference.with_query(rt.alloc(), None)?;
+    same_text(copy.as_str(), "a#f")?;
+    let copy = reference.with_fragment(rt.alloc(), None)?;
+    same_text(copy.as_str(), "a?q")?;
+    let reference = IriRef::new("ö#f")?;
+    let copy = reference.with_query(rt.alloc(), Some(IriQuery::new("ß")?))?;
+    same_text(copy.as_str(), "ö?ß#f")
+}
+
+#[test]
+fn copies_of_uris_are_uris(rt: HostRuntime) -> Result<(), Fail> {
+    let uri = Uri::new("scheme://authority//path")?;
+    let copy = uri.with_authority(rt.alloc(), None)?;
+    same_text(copy.scheme().as_str(), "scheme")?;
+    same_text(copy.as_str(), "scheme:/.//path")?;
+    let copy = uri.with_scheme(rt.alloc(), Scheme::new("s")?)?;
+    same_text(copy.as_str(), "s://authority//path")?;
+    let copy = Uri::new("http:old/path")?.with_path(rt.alloc(), Path::new("//foo/bar")?)?;
+    same_text(copy.scheme().as_str(), "http")?;
+    same_text(copy.as_str(), "http:/.//foo/bar")?;
+    let copy = Iri::new("s:é#ü")?.with_query(rt.alloc(), Some(IriQuery::new("ß")?))?;
+    same_text(copy.scheme().as_str(), "s")?;
+    same_text(copy.as_str(), "s:é?ß#ü")
+}
+
+#[test]
+fn references_become_uris(rt: HostRuntime) -> Result<(), Fail> {
+    for row in SCHEMES {
+        let (text, scheme, want) = *row;
+        let owner = UriRef::new(text)?.to_owned(rt.alloc())?;
+        let Ok(uri) = owner.into_with_scheme(Scheme::new(scheme)?) else {
+            return Err("out of memory")?;
+        };
+        same_text(uri.as_str(), want)?;
+        let owner = IriRef::new(text)?.to_owned(rt.alloc())?;
+        let Ok(iri) = owner.try_into_with_scheme(scheme) else {
+            return Err("refused")?;
+        };
+        same_text(iri.as_str(), want)?;
+    }
+    Ok(())
+}
+
+#[test]
+fn a_text_that_is_no_scheme_comes_back_with_the_reference(rt: HostRuntime) -> Result<(), Fail> {
+    let owner = UriRef::new("x")?.to_owned(rt.alloc())?;
+    let Err((owner, error)) = owner.try_into_with_scheme("1s") else {
+        return Err("taken")?;
+    };
+    let TryError::Invalid(error) = error else {
+        return Err("out of memory")?;
+    };
+    same_text(error.0, "1s")?;
+    same_text(owner.as_str(), "x")
+}

@@ -1,0 +1,12 @@
+//! Tests of what is left of paths and references after a prefix: outside rows, texts of 1,000,000
+//! segments, refused growths.
+#![tactic(auto)]
+
+#[cfg(test)]
+mod calls;
+#[cfg(test)]
+mod long_runs;
+#[cfg(test)]
+mod refused;
+#[cfg(test)]
+mod rows;
