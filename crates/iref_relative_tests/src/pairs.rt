@@ -20,9 +20,13 @@ const LISTS: usize = 1 + 6 + 36 + 216;
 fn text_of(front: &str, list: usize, end: &str, alloc: Global) -> Result<String, AllocError> {
     let mut text = String::from_str(alloc, front)?;
     let mut left = list;
-    while left > 0 {
-        text.push_str(SEGMENTS[(left - 1) % 6])?;
-        left = (left - 1) / 6;
+    for _ in 0..3 {
+        if left == 0 {
+            break;
+        }
+        left -= 1;
+        text.push_str(SEGMENTS[left % 6])?;
+        left /= 6;
         if left > 0 {
             text.push('/')?;
         }
