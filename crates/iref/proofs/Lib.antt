@@ -1,14 +1,4 @@
-pub mod AnswerLemmas
 pub mod AuthorityEditLemmas
-pub mod EditAnswerLemmas
-pub mod EditFieldLemmas
 pub mod EditLemmas
 pub mod EditListLemmas
-pub mod EndLemmas
-pub mod FieldLemmas
-pub mod InputLemmas
-pub mod LineLemmas
 pub mod PortTextLemmas
-pub mod ReplyLemmas
-pub mod RunLemmas
-pub mod Writing

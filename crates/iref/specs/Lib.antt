@@ -1,11 +1,5 @@
 pub mod EditAnswers
-pub mod EditFields
 pub mod EditSteps
-pub mod Fields
-pub mod Gathering
-pub mod Requests
-pub mod Runs
-pub mod StdStreams
 -- the words of contracts, for callers that list this crate alone
 pub use Rattle.iref_grammar.specs.Authority
 pub use Rattle.iref_grammar.specs.Characters
@@ -26,7 +20,6 @@ pub use Rattle.iref_model.specs.ComponentSteps
 pub use Rattle.iref_model.specs.Edits
 pub use Rattle.iref_model.specs.HostNumbers
 pub use Rattle.iref_model.specs.Key
-pub use Rattle.iref_model.specs.Lines
 pub use Rattle.iref_model.specs.NormalList
 pub use Rattle.iref_model.specs.PathFunctions
 pub use Rattle.iref_model.specs.PathKey

@@ -1,7 +1,6 @@
 //! URIs and IRIs (RFC 3986, RFC 3987).
 #![tactic(auto)]
 
-pub mod batch;
 pub mod edits;
 mod shared;
 

@@ -1,8 +1,0 @@
-use Rattle.std.specs.Option.{option_copied}
-use Rattle.iref.specs.Fields.{fields_of}
-use Rattle.iref.proofs.EditAnswerLemmas.{invalid_reply}
-use Rattle.iref.proofs.batch.answers.edit.put_answer_to_edit.Goals as goal
-
-pub returns-in-Err-Invalid-clause-ok : goal.returns-in-Err-Invalid-clause-ok
-returns-in-Err-Invalid-clause-ok c =
-    rw (invalid_reply c.args.text.now (fields_of (option_copied c.args.fields)) (rw c.in-Err-Invalid.field-0-is at c.in-Err-Invalid.ensures)) c.put_text-in-Err-Invalid.ensures.ok

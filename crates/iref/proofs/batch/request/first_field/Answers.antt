@@ -1,8 +1,0 @@
-use Rattle.iref.proofs.FieldLemmas.{field_and_rest, last_field}
-use Rattle.iref.proofs.batch.request.first_field.Goals as goal
-
-pub returns-in-Some : goal.returns-in-Some
-returns-in-Some c = field_and_rest c.args.text.now c.in-Some.field.now c.in-Some.rest.now c.in-Some.ensures.first c.in-Some.ensures.cut
-
-pub returns-in-None : goal.returns-in-None
-returns-in-None c = last_field c.args.text.now c.in-None.ensures.none

@@ -1,9 +1,0 @@
--- What a std reader or writer under `FromStd` shows.
-use Rattle.std.specs.Prelude.{Bool}
-use Rattle.iref.specs.declared.batch.streams.FromStd.{FromStd}
-
-abbrev pub inner_of : {X : Type 0} → FromStd X → X
-inner_of s = s.inner
-
-abbrev pub has_failed : {X : Type 0} → FromStd X → Bool
-has_failed s = s.has_failed

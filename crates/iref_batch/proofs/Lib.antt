@@ -1,0 +1,10 @@
+pub mod AnswerLemmas
+pub mod EditAnswerLemmas
+pub mod EditFieldLemmas
+pub mod EndLemmas
+pub mod FieldLemmas
+pub mod InputLemmas
+pub mod LineLemmas
+pub mod ReplyLemmas
+pub mod RunLemmas
+pub mod Writing

@@ -1,0 +1,34 @@
+use Rattle.std.proofs.Common.{◌∙◌, map}
+use Rattle.iref_model.specs.Edits as model
+use Rattle.iref_reference.specs.References.{reference_buf_text, reference_buf_value}
+use Rattle.iref.specs.EditSteps.{edit_step}
+use Rattle.iref_batch.proofs.EditAnswerLemmas.{edited_answer, no_edited_answer, refused_answer}
+use Rattle.iref_batch.proofs.answers.edit.put_edited.Goals as goal
+
+pub returns-in_default-clause-ok : goal.returns-in_default-clause-ok
+returns-in_default-clause-ok c =
+    rw (no_edited_answer c.args.bytes.items (map edit_step c.args.edits.now) c.in_default.ensures.0) c.put_text.ensures.ok
+
+pub returns-in-Ok-apply_all-clause-ok : goal.returns-in-Ok-apply_all-clause-ok
+returns-in-Ok-apply_all-clause-ok c =
+    rw (
+    edited_answer c.args.bytes.items (reference_buf_text c.in-Ok.reference) c.as_bytes.result.now (map edit_step c.args.edits.now)
+    (reference_buf_value c.apply_all.new.reference) c.in-Ok.ensures.0 c.in-Ok.ensures.1 c.requires
+    c.in-Ok-apply_all.ensures.ok (c.as_bytes.ensures ∙ c.in-Ok-apply_all.ensures.spelled)
+    ) c.put_answered.ensures.ok
+
+pub returns-in-Err-default-NoAuthority-clause-ok : goal.returns-in-Err-default-NoAuthority-clause-ok
+returns-in-Err-default-NoAuthority-clause-ok c =
+    rw (
+    refused_answer c.args.bytes.items (reference_buf_text c.in-Ok.reference) (map edit_step c.args.edits.now)
+    (reference_buf_value c.apply_all.new.reference) _ model.NoAuthority c.in-Ok.ensures.0 c.in-Ok.ensures.1 c.requires
+    (rw c.in-Err-default-NoAuthority.field-0-1-is at c.in-Err-default-NoAuthority.ensures.err)
+    ) c.put_text-in-Err-default-NoAuthority.ensures.ok
+
+pub returns-in-Err-default-SchemeNeeded-clause-ok : goal.returns-in-Err-default-SchemeNeeded-clause-ok
+returns-in-Err-default-SchemeNeeded-clause-ok c =
+    rw (
+    refused_answer c.args.bytes.items (reference_buf_text c.in-Ok.reference) (map edit_step c.args.edits.now)
+    (reference_buf_value c.apply_all.new.reference) _ model.SchemeNeeded c.in-Ok.ensures.0 c.in-Ok.ensures.1 c.requires
+    (rw c.in-Err-default-SchemeNeeded.field-0-1-is at c.in-Err-default-SchemeNeeded.ensures.err)
+    ) c.put_text-in-Err-default-SchemeNeeded.ensures.ok

@@ -1,0 +1,35 @@
+use Rattle.std.proofs.Common.{◌∙◌}
+use Rattle.iref_grammar.specs.Characters.{uri_chars, uri_above_ascii}
+use Rattle.iref_grammar.proofs.ComponentLemmas.{Decides-AreComponents}
+use Rattle.iref_parse.specs.ReferenceSlices.{texts_of, value_of}
+use Rattle.iref_reference.proofs.ResolutionLemmas.{readable_slices}
+use Rattle.iref_batch.proofs.AnswerLemmas.{no_relative_base_answer, no_target_answer, relative_answer}
+use Rattle.iref_batch.proofs.answers.relative.put_answer_to_relative.Goals as goal
+
+pub returns-in_default-clause-ok : goal.returns-in_default-clause-ok
+returns-in_default-clause-ok c =
+    rw (no_target_answer c.args.target.now c.args.base.now c.in_default.ensures.none) c.put_text.ensures.ok
+
+pub returns-in_default-components_of-clause-ok : goal.returns-in_default-components_of-clause-ok
+returns-in_default-components_of-clause-ok c =
+    rw (no_relative_base_answer c.args.target.now c.args.base.now c.in_default-components_of.ensures.none) c.put_text-in_default-components_of.ensures.ok
+
+pub held_relative-requires-clause-target : goal.held_relative-requires-clause-target
+held_relative-requires-clause-target c =
+    (Decides-AreComponents uri_chars uri_above_ascii c.args.target.now (texts_of c.in-Some.target) c.in-Some.ensures.value).0 c.in-Some.ensures.some
+
+pub held_relative-requires-clause-base : goal.held_relative-requires-clause-base
+held_relative-requires-clause-base c =
+    (Decides-AreComponents uri_chars uri_above_ascii c.args.base.now (texts_of c.in-Some-components_of.base) c.in-Some-components_of.ensures.value).0 c.in-Some-components_of.ensures.some
+
+pub held_relative-requires-clause-readable : goal.held_relative-requires-clause-readable
+held_relative-requires-clause-readable c =
+    readable_slices uri_chars c.args.target.now (value_of c.in-Some.target) c.in-Some.ensures.value c.in-Some.ensures.some
+
+pub returns-clause-ok : goal.returns-clause-ok
+returns-clause-ok c =
+    rw (
+    relative_answer c.args.target.now c.args.base.now c.as_bytes.result.now (value_of c.in-Some.target) (value_of c.in-Some-components_of.base)
+    c.in-Some.ensures.some c.in-Some-components_of.ensures.some c.in-Some.ensures.value c.in-Some-components_of.ensures.value
+    (c.as_bytes.ensures.value ∙ c.as_str.ensures.text ∙ c.in-Ok.ensures.text)
+    ) c.put_answered.ensures.ok

@@ -1,0 +1,38 @@
+use Rattle.std.proofs.Common.{◌∙◌}
+use Rattle.iref_grammar.specs.Characters.{uri_chars}
+use Rattle.iref_grammar.proofs.ComponentLemmas.{reference_if_full}
+use Rattle.iref_parse.specs.ReferenceSlices.{value_of}
+use Rattle.iref_reference.proofs.ResolutionLemmas.{readable_slices, resolved-scheme}
+use Rattle.iref_batch.proofs.AnswerLemmas.{resolve_answer, no_reference_answer, no_base_answer}
+use Rattle.iref_batch.proofs.answers.resolve.put_answer_to_resolve.Goals as goal
+
+pub returns-in_default-clause-ok : goal.returns-in_default-clause-ok
+returns-in_default-clause-ok c =
+    rw (no_reference_answer c.args.reference.now c.args.base.now c.in_default.ensures.none) c.put_text.ensures.ok
+
+pub returns-in_default-components_of-clause-ok : goal.returns-in_default-components_of-clause-ok
+returns-in_default-components_of-clause-ok c =
+    rw (no_base_answer c.args.reference.now c.args.base.now c.in_default-components_of.ensures.none) c.put_text-in_default-components_of.ensures.ok
+
+pub resolved-requires-clause-base : goal.resolved-requires-clause-base
+resolved-requires-clause-base c =
+    let base = c.args.base.now in
+    readable_slices uri_chars base (value_of c.in-Some-components_of.base) c.in-Some-components_of.ensures.value
+    (reference_if_full uri_chars base c.in-Some-components_of.ensures.some)
+
+pub resolved-requires-clause-reference : goal.resolved-requires-clause-reference
+resolved-requires-clause-reference c =
+    readable_slices uri_chars c.args.reference.now (value_of c.in-Some.reference) c.in-Some.ensures.value c.in-Some.ensures.some
+
+pub resolved-requires-clause-allowed : goal.resolved-requires-clause-allowed
+resolved-requires-clause-allowed c =
+    resolved-scheme uri_chars c.args.base.now (value_of c.in-Some-components_of.base) (value_of c.in-Some.reference)
+    c.in-Some-components_of.ensures.value c.in-Some-components_of.ensures.some
+
+pub returns-clause-ok : goal.returns-clause-ok
+returns-clause-ok c =
+    rw (
+    resolve_answer c.args.reference.now c.args.base.now c.as_bytes.result.now (value_of c.in-Some.reference) (value_of c.in-Some-components_of.base)
+    c.in-Some.ensures.some c.in-Some-components_of.ensures.some c.in-Some.ensures.value c.in-Some-components_of.ensures.value
+    (c.as_bytes.ensures.value ∙ c.as_str.ensures.text ∙ c.in-Ok.ensures.text)
+    ) c.put_answered.ensures.ok

@@ -1,0 +1,86 @@
+-- How far a run has come: what was read, the line begun, and the replies gathered or written.
+use Rattle.std.specs.Prelude.{◌≡◌, ◌==◌, ℕ, true, false, List, [], ◌++◌, Option, Some}
+use Rattle.std.specs.List.{All, AllZip}
+use Rattle.iref_grammar.specs.Rules.{Text}
+use Rattle.iref_grammar.specs.Texts.{is_empty}
+use Rattle.iref_model.specs.Lines.{newline, lines_of}
+use Rattle.iref_batch.specs.declared.lines.Begun.{Begun}
+use Rattle.iref_batch.specs.declared.lines.Lines.{Lines}
+use Rattle.iref_batch.specs.Runs.{IsReply, with_newline, with_newlines, AnswersBegun}
+
+-- a text without the mark
+abbrev pub Lacks : ℕ → Text → Type 0
+Lacks mark text = All (λ b. (b == mark) ≡ false) text
+
+-- a text without a newline
+abbrev pub IsLine : Text → Type 0
+IsLine text = Lacks newline text
+
+-- the text has grown at its end
+abbrev pub Extends : Text → Text → Type 0
+Extends old new = (more : Text) × (new ≡ old ++ more)
+
+-- where the writer tells its bytes, they have grown by the text
+abbrev pub Writes : Text → Option Text → Option Text → Type 0
+Writes text old new = (xs : Text) → old ≡ Some xs → new ≡ Some (xs ++ text)
+
+-- where the writer tells its bytes, they have grown by a beginning of the text
+abbrev pub WritesPart : Text → Option Text → Option Text → Type 0
+WritesPart text old new =
+    (xs : Text) → old ≡ Some xs →
+    (out : Text) × (lost : Text) × (new ≡ Some (xs ++ out)) × (text ≡ out ++ lost)
+
+-- where the writer tells its bytes, these and the replies gathered have grown by the text
+abbrev pub Gains : Text → Option Text → Option Text → Text → Text → Type 0
+Gains text old new gathered gathered_then =
+    (xs : Text) → old ≡ Some xs →
+    (out : Text) × (new ≡ Some (xs ++ out)) × (out ++ gathered_then ≡ gathered ++ text)
+
+-- a reply to the line was gathered or written
+abbrev pub Replies : Text → Option Text → Option Text → Text → Text → Type 0
+Replies line old new gathered gathered_then =
+    (reply : Text) × IsReply line reply × Gains (with_newline reply) old new gathered gathered_then
+
+-- a beginning of the replies gathered, and of one to the line, was written
+abbrev pub RepliesPart : Text → Option Text → Option Text → Text → Type 0
+RepliesPart line old new gathered =
+    (reply : Text) × IsReply line reply × WritesPart (gathered ++ with_newline reply) old new
+
+-- no byte of a line came in
+abbrev pub IsNothing : Begun → Type 0
+IsNothing begun = (begun.bytes.items ≡ []) × (begun.is_refused ≡ false)
+
+-- the bytes of the line begun are held, unless memory was refused for them
+abbrev pub Holds : Begun → Text → Type 0
+Holds begun line = begun.is_refused ≡ false → begun.bytes.items ≡ line
+
+-- the text seen is lines with a reply each, and the line begun; replies were written or gathered
+pub record InRun (seen before : Text) (contents : Option Text) (lines : Lines) : Type 0 where
+  pub ended : List Text
+  pub line : Text
+  pub replies : List Text
+  pub out : Text
+  pub seen_is : seen ≡ with_newlines ended ++ line
+  pub are_lines : All IsLine ended
+  pub is_line : IsLine line
+  pub answered : AllZip IsReply ended replies
+  pub told : contents ≡ Some (before ++ out)
+  pub out_is : out ++ lines.gathered.bytes.items ≡ with_newlines replies
+  pub kept : Holds lines.begun line
+  pub some : lines.begun.is_refused ≡ true → is_empty line ≡ false
+
+-- a run that has seen some text sees more of it
+abbrev pub SeesMore : Text → Option Text → Option Text → Lines → Lines → Type 0
+SeesMore more old new lines lines_then =
+    (seen before : Text) → InRun seen before old lines → InRun (seen ++ more) before new lines_then
+
+-- a run that has seen some text has now seen one of the same lines
+abbrev pub SeesSameLines : Option Text → Option Text → Lines → Lines → Type 0
+SeesSameLines old new lines lines_then =
+    (seen before : Text) → InRun seen before old lines →
+    (text : Text) × (lines_of text ≡ lines_of seen) × InRun text before new lines_then
+
+-- a run that has seen some text has written a beginning of the replies to it and more
+abbrev pub BreaksOff : Text → Option Text → Option Text → Lines → Type 0
+BreaksOff more old new lines =
+    (seen before : Text) → InRun seen before old lines → AnswersBegun (seen ++ more) before new

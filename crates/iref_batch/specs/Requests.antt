@@ -1,0 +1,16 @@
+-- What the program has read of a line.
+use Rattle.std.specs.Prelude.{◌∷◌, Option, Some}
+use Rattle.std.specs.Option.{option_copied}
+use Rattle.iref_model.specs.Lines as spec
+use Rattle.iref_batch.specs.Fields.{fields_of}
+use Rattle.iref_batch.specs.declared.request.Request.{Request}
+use Rattle.iref_batch.specs.declared.request.Request.TheVariants.{Parts, Resolve, Relative, Normal, Equal, Edit}
+
+-- what a value of the program asks for, if it asks for something
+abbrev pub request_of : Request → Option spec.Request
+request_of (Parts text) = Some (spec.Parts text.now)
+request_of (Resolve reference base) = Some (spec.Resolve reference.now base.now)
+request_of (Relative target base) = Some (spec.Relative target.now base.now)
+request_of (Normal text) = Some (spec.Normal text.now)
+request_of (Equal left right) = Some (spec.Equal left.now right.now)
+request_of (Edit text fields) = spec.text_and_edits (text.now ∷ fields_of (option_copied fields))

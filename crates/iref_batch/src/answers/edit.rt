@@ -1,0 +1,99 @@
+//! The answer to `edit`.
+ghost use Rattle.std.specs.Prelude.{◌≡◌, ◌++◌, ◌∷◌, true, map, IfOk, OnOk, OnErr};
+ghost use Rattle.std.specs.List.{list_all};
+ghost use Rattle.std.specs.Option.{option_copied};
+ghost use Rattle.iref_model.specs.Lines.{is_valid_edit, text_and_edits};
+ghost use Rattle.iref_model.specs.Lines as spec;
+ghost use Rattle.iref_batch.specs.EditFields.{IsRead, edits_read};
+ghost use Rattle.iref.specs.EditSteps.{edit_step};
+ghost use Rattle.iref_batch.specs.Fields.{fields_of};
+ghost use Rattle.iref_batch.specs.Gathering.{Extends};
+ghost use Rattle.iref_batch.specs.Runs.{reply_to, request_reply};
+
+use super::{put_answered, put_text};
+use crate::edit_fields::{FieldError, read_edit};
+use crate::request::first_field;
+use iref::edits::{Edit, EditError, apply_all};
+use iref_grammar::chars::UriChars;
+use iref_reference::owner::UriRefBuf;
+use std::alloc::{AllocError, Global};
+
+// The edits that the fields name. All fields are read, since one that is no edit at all goes
+// before values outside their grammar.
+fn read_edits<'a>(
+    alloc: Global,
+    fields: Option<&'a [u8]>,
+) -> Result<Vec<Edit<'a, UriChars>>, FieldError>
+    ensures { IsRead (λ edits. map edit_step edits.items) (list_all is_valid_edit)
+        (edits_read (fields_of (option_copied fields.entry))) result }
+{
+    let mut edits = Vec::new(alloc);
+    let mut are_valid = true;
+    let mut rest = fields;
+    while let Some(text) = rest {
+        let (field, others) = first_field(text);
+        match read_edit(field) {
+            Ok(edit) => edits.push(edit)?,
+            Err(FieldError::Invalid) => are_valid = false,
+            Err(error) => return Err(error),
+        }
+        rest = others;
+    }
+    if are_valid {
+        Ok(edits)
+    } else {
+        Err(FieldError::Invalid)
+    }
+}
+
+// A copy of the text, with room for more bytes.
+fn copied(alloc: Global, text: &[u8], more: usize) -> Result<Vec<u8>, AllocError>
+    ensures { IfOk result (λ bytes. bytes.items ≡ text.now) }
+{
+    let mut bytes = Vec::with_capacity(alloc, text.len().saturating_add(more))?;
+    bytes.extend_from_slice(text)?;
+    Ok(bytes)
+}
+
+// Puts the answer to a reference, which is held in these bytes, and edits.
+fn put_edited(
+    bytes: Vec<u8>,
+    edits: &[Edit<'_, UriChars>],
+    out: &mut Vec<u8>,
+) -> Result<(), AllocError>
+    requires { list_all is_valid_edit (map edit_step edits.now) ≡ true }
+    ensures ok { OnOk result (out.new.items
+        ≡ out.old.items ++ request_reply (spec.Edit bytes.items (map edit_step edits.now))) }
+    ensures err { OnErr result (Extends out.old.items out.new.items) }
+{
+    let Ok(mut reference) = UriRefBuf::<UriChars>::from_bytes(bytes) else {
+        return put_text(b"error invalid", out);
+    };
+    match apply_all(&mut reference, edits) {
+        Ok(()) => put_answered(reference.as_bytes(), out),
+        Err((_, EditError::NoAuthority)) => put_text(b"error edit", out),
+        Err((_, EditError::SchemeNeeded)) => put_text(b"error edit", out),
+        Err((_, EditError::Memory)) => Err(AllocError),
+    }
+}
+
+/// Puts the answer to `edit`.
+pub fn put_answer_to_edit(
+    text: &[u8],
+    fields: Option<&[u8]>,
+    out: &mut Vec<u8>,
+) -> Result<(), AllocError>
+    ensures ok { OnOk result (out.new.items ≡ out.old.items
+        ++ reply_to (text_and_edits (text.now ∷ fields_of (option_copied fields.entry)))) }
+    ensures err { OnErr result (Extends out.old.items out.new.items) }
+{
+    let alloc = *out.allocator();
+    let edits = match read_edits(alloc, fields) {
+        Ok(edits) => edits,
+        Err(FieldError::Command) => return put_text(b"error command", out),
+        Err(FieldError::Invalid) => return put_text(b"error invalid", out),
+        Err(FieldError::Memory) => return Err(AllocError),
+    };
+    let more = fields.map_or(0, |fields| fields.len());
+    put_edited(copied(alloc, text, more)?, edits.as_slice(), out)
+}

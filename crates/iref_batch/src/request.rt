@@ -1,0 +1,104 @@
+//! What a line asks for.
+ghost use Rattle.std.specs.Option.{option_copied};
+ghost use Rattle.std.specs.Prelude.{◌≡◌, ◌∷◌, bytes_eq, option_and_then, option_map};
+ghost use Rattle.iref_model.specs.Lines as spec;
+ghost use Rattle.iref_grammar.specs.{pieces_at, Text};
+ghost use Rattle.iref_model.specs.{tab, read_line, one_text, two_texts};
+ghost use Rattle.iref_model.specs.Lines.{all_verbs, text_and_edits};
+ghost use Rattle.iref_batch.specs.Fields.{fields_of};
+ghost use Rattle.iref_batch.specs.Requests.{request_of};
+
+use super::cut::cut_at;
+
+/// What a line asks for.
+#[derive(Clone, Copy)]
+pub enum Request<'a> {
+    /// The components of a reference.
+    Parts(&'a [u8]),
+    /// What a reference resolves to against a URI.
+    Resolve(&'a [u8], &'a [u8]),
+    /// What leads from a base, the second, to a target.
+    Relative(&'a [u8], &'a [u8]),
+    /// The normal form of a path.
+    Normal(&'a [u8]),
+    /// Whether two references are equal.
+    Equal(&'a [u8], &'a [u8]),
+    /// What a reference is after edits: the text of all their fields, if there are any.
+    Edit(&'a [u8], Option<&'a [u8]>),
+}
+
+/// The first field, and the text of the others, if there are any.
+pub fn first_field(text: &[u8]) -> (&[u8], Option<&[u8]>)
+    ensures { pieces_at tab text.now ≡ result.0.now ∷ fields_of (option_copied result.1) }
+{
+    match cut_at(b'\t', text) {
+        Some((field, rest)) => (field, Some(rest)),
+        None => (text, None),
+    }
+}
+
+/// The one field, if there is one and no other.
+fn one_field(fields: Option<&[u8]>) -> Option<&[u8]>
+    ensures { (request : Text → spec.Request) →
+        one_text request (fields_of (option_copied fields.entry))
+        ≡ option_map request (option_copied result) }
+{
+    let (field, others) = first_field(fields?);
+    match others {
+        Some(_) => None,
+        None => Some(field),
+    }
+}
+
+/// The two fields, if there are two and no other.
+fn two_fields(fields: Option<&[u8]>) -> Option<(&[u8], &[u8])>
+    ensures { (request : Text → Text → spec.Request) →
+        two_texts request (fields_of (option_copied fields.entry))
+        ≡ option_map (λ texts. request texts.0.now texts.1.now) result }
+{
+    let (first, others) = first_field(fields?);
+    let second = one_field(others)?;
+    Some((first, second))
+}
+
+/// The first field, if there is one, and the text of the others.
+fn some_fields(fields: Option<&[u8]>) -> Option<(&[u8], Option<&[u8]>)>
+    ensures { text_and_edits (fields_of (option_copied fields.entry)) ≡ option_and_then
+        (λ texts. text_and_edits (texts.0.now ∷ fields_of (option_copied texts.1))) result }
+{
+    Some(first_field(fields?))
+}
+
+/// Whether the field is the name.
+pub fn is_name(name: &[u8], field: &[u8]) -> bool
+    ensures { result ≡ bytes_eq name.now field.now }
+{
+    name == field
+}
+
+/// What a line asks for, if its verb is one of the program's and its fields are as many as that
+/// takes. The fields of edits are not looked at yet.
+pub fn read_request(line: &[u8]) -> Option<Request<'_>>
+    ensures { read_line all_verbs line.now ≡ option_and_then request_of result }
+{
+    let (verb, fields) = first_field(line);
+    if is_name(b"parts", verb) {
+        return one_field(fields).map(Request::Parts);
+    }
+    if is_name(b"resolve", verb) {
+        return two_fields(fields).map(|texts| Request::Resolve(texts.0, texts.1));
+    }
+    if is_name(b"relative", verb) {
+        return two_fields(fields).map(|texts| Request::Relative(texts.0, texts.1));
+    }
+    if is_name(b"normal", verb) {
+        return one_field(fields).map(Request::Normal);
+    }
+    if is_name(b"equal", verb) {
+        return two_fields(fields).map(|texts| Request::Equal(texts.0, texts.1));
+    }
+    if is_name(b"edit", verb) {
+        return some_fields(fields).map(|texts| Request::Edit(texts.0, texts.1));
+    }
+    None
+}

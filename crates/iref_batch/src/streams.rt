@@ -1,0 +1,112 @@
+//! Where lines come from, and where replies go.
+ghost use Rattle.std.specs.Prelude.{◌≡◌, ◌<◌, ◌≤◌, List, ℕ, Option, Bool, length, false, IfOk, is_err};
+ghost use Rattle.std.specs.Io.KnownBytes.{ReadConsumes, WriteAppends};
+
+use std::io::{Read, Write};
+
+/// A read or a write failed.
+#[derive(Debug, Drop)]
+pub struct StreamError;
+
+/// A reader that is not called again once a call has failed, an interrupted one too.
+pub trait Source {
+    /// The bytes that reads will give from here on, where they are told.
+    ghost remaining: { Self → Option (List ℕ) };
+
+    /// A call has failed.
+    ghost has_failed: { Self → Bool };
+
+    /// Reads some bytes into `buf` and answers how many; none, if `buf` has room, at the end of the
+    /// input.
+    fn read(&mut self, buf: &mut [u8]) -> Result<usize, StreamError>
+        requires { has_failed self.old ≡ false }
+        ensures bound { IfOk result (λ n. n ≤ length buf.new) }
+        ensures bytes { ReadConsumes (remaining self.old) (remaining self.new) result buf.new }
+        ensures failed { has_failed self.new ≡ is_err result };
+}
+
+/// A writer that is not called again once a call has failed, an interrupted one too.
+pub trait Sink {
+    /// The bytes that were written, where they are told.
+    ghost contents: { Self → Option (List ℕ) };
+
+    /// A call has failed.
+    ghost has_failed: { Self → Bool };
+
+    /// Writes a beginning of `bytes` and answers its length, at least 1 if there are any.
+    fn write(&mut self, bytes: &[u8]) -> Result<usize, StreamError>
+        requires { has_failed self.old ≡ false }
+        ensures bound { IfOk result (λ n. n ≤ length bytes.now) }
+        ensures some { IfOk result (λ n. 0 < length bytes.now → 0 < n) }
+        ensures bytes { WriteAppends (contents self.old) (contents self.new) result bytes.now }
+        ensures failed { has_failed self.new ≡ is_err result };
+}
+
+/// A reader or writer of std, with whether a call of it has failed.
+#[derive(Debug, Drop)]
+pub struct FromStd<X> {
+    inner: X,
+    has_failed: bool,
+}
+
+impl<X> FromStd<X> {
+    ghost use Rattle.iref_batch.specs.StdStreams.{inner_of, has_failed};
+
+    /// The reader or writer, with no failed call so far.
+    pub fn new(inner: X) -> Self
+        ensures same { inner_of result ≡ inner }
+        ensures works { has_failed result ≡ false }
+    {
+        FromStd {
+            inner,
+            has_failed: false,
+        }
+    }
+
+    /// Whether a call has failed: after a `RunError` this tells the reader's failure from the
+    /// writer's.
+    pub fn has_failed(&self) -> bool
+        ensures { result ≡ has_failed self.now }
+    {
+        self.has_failed
+    }
+
+    /// The reader or writer as it is now.
+    pub fn into_inner(self) -> X
+        ensures { result ≡ inner_of self }
+    {
+        let FromStd { inner, .. } = self;
+        inner
+    }
+}
+
+impl<R: Read> Source for FromStd<R> {
+    ghost remaining = { λ s. R.remaining s.inner };
+
+    ghost has_failed = { λ s. s.has_failed };
+
+    fn read(&mut self, buf: &mut [u8]) -> Result<usize, StreamError> {
+        let Ok(n) = self.inner.read(buf) else {
+            self.has_failed = true;
+            return Err(StreamError);
+        };
+        Ok(n)
+    }
+}
+
+impl<W: Write> Sink for FromStd<W> {
+    ghost contents = { λ s. W.contents s.inner };
+
+    ghost has_failed = { λ s. s.has_failed };
+
+    /// A write that takes no byte of some has failed.
+    fn write(&mut self, bytes: &[u8]) -> Result<usize, StreamError> {
+        match self.inner.write(bytes) {
+            Ok(n) if n > 0 || bytes.is_empty() => Ok(n),
+            _ => {
+                self.has_failed = true;
+                Err(StreamError)
+            }
+        }
+    }
+}
