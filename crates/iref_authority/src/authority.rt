@@ -1,5 +1,6 @@
 //! Borrowed authorities (RFC 3986 section 3.2).
 ghost use Rattle.std.specs.Prelude.{◌≡◌, true, [], Some, IfOk, option_map};
+ghost use Rattle.std.specs.Option.{option_copied};
 ghost use Rattle.iref_component.specs.{InUtf8, IsAuthority, is_authority, read_authority};
 ghost use Rattle.iref_component.specs.{ComparesBy, authority_key_cmp, fed_authority, Parses};
 ghost use Rattle.iref_component.specs.{view_text};
@@ -141,6 +142,13 @@ impl<'a, C: CharSet> TryFrom<&'a [u8]> for Authority<'a, C> {
     fn try_from(bytes: &'a [u8]) -> Result<Self, InvalidAuthority<&'a [u8]>> {
         Authority::from_bytes(bytes)
     }
+}
+
+/// The text of an authority, if it is there.
+pub fn text_of_authority<'a, C: CharSet>(authority: Option<Authority<'a, C>>) -> Option<&'a str>
+    ensures { option_copied result ≡ option_map authority_text authority.entry }
+{
+    Some(authority?.as_str())
 }
 
 impl<C: CharSet> fmt::Debug for Authority<'_, C> {

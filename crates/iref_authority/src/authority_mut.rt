@@ -21,6 +21,7 @@ use crate::authority::Authority;
 use crate::part::AuthorityPart;
 use crate::ranges::{host_range, port_range, user_info_range, whole_range};
 use iref_component::texts::{Host, Port, UserInfo};
+use iref_component::view::text_of;
 use iref_edit::change::{Change, Place};
 use iref_edit::target::Target;
 use iref_edit::text::{marked, marked_after};
@@ -214,7 +215,7 @@ impl<'a, C: CharSet, T: Target<AuthorityPart, C>> AuthorityMut<'a, C, T> {
         ensures err { OnErr result (IsUnchanged self.old self.new) }
         ensures none { IsNone user_info.entry → IsOk result }
     {
-        self.put_user_info(user_info.map(|user_info| user_info.as_str()))
+        self.put_user_info(text_of(user_info))
     }
 
     /// Replaces the host: of `u@h:80` what stands before the `:80` and after the `u@`.
@@ -237,7 +238,7 @@ impl<'a, C: CharSet, T: Target<AuthorityPart, C>> AuthorityMut<'a, C, T> {
         ensures err { OnErr result (IsUnchanged self.old self.new) }
         ensures none { IsNone port.entry → IsOk result }
     {
-        self.put_port(port.map(|port| port.as_str()))
+        self.put_port(text_of(port))
     }
 
     /// Replaces the port by a number in decimal digits without leading zeros, or takes it away,

@@ -116,7 +116,14 @@ pub fn view_of<R: Rule, C: CharSet>(text: Option<&str>) -> Option<View<'_, R, C>
     requires { none_or (R.test C.tests) (option_copied text) ≡ true }
     ensures { option_map view_text result ≡ option_copied text.entry }
 {
-    text.map(|text| View::new_unchecked(text))
+    Some(View::new_unchecked(text?))
+}
+
+/// The slice of a view, if it is there.
+pub fn text_of<'a, R: Rule, C: CharSet>(view: Option<View<'a, R, C>>) -> Option<&'a str>
+    ensures { option_copied result ≡ option_map view_text view.entry }
+{
+    Some(view?.as_str())
 }
 
 impl<R: AllowsEmpty, C: CharSet> View<'_, R, C> {

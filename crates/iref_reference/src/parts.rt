@@ -117,7 +117,7 @@ impl<'a, S: SchemePart<'a>, C: CharSet> Parts<'a, S, C> {
         ensures { option_map authority_parts_value result
             ≡ (parts_value S.text self.now).authority }
     {
-        self.authority.map(|authority| authority.parts())
+        Some(self.authority?.parts())
     }
 
     // The components of the text of a reference whose scheme may stand there.
@@ -203,7 +203,7 @@ fn authority_of<C: CharSet>(text: Option<&str>) -> Option<Authority<'_, C>>
     requires { none_or (is_authority C.tests) (option_copied text) ≡ true }
     ensures { option_map authority_text result ≡ option_copied text.entry }
 {
-    text.map(|text| Authority::new_unchecked(text))
+    Some(Authority::new_unchecked(text?))
 }
 
 #[tactic(auto, unfolding(iref_model::specs::Key::key, iref_model::specs::Key::fed_reference))]

@@ -40,7 +40,7 @@ impl<R: HeldRule, C: CharSet> Reference<'_, R, C> {
             (λ error. error.0 ≡ base.entry) result }
     {
         let base = Uri::new(base).map_err(TryError::Invalid)?;
-        self.resolved(alloc, base).map_err(|_| TryError::Memory)
+        self.resolved(alloc, base).or(Err(TryError::Memory))
     }
 }
 
@@ -65,6 +65,6 @@ impl<C: CharSet> Uri<'_, C> {
             (λ error. error.0 ≡ reference.entry) result }
     {
         let reference = UriRef::new(reference).map_err(TryError::Invalid)?;
-        self.joined(alloc, reference).map_err(|_| TryError::Memory)
+        self.joined(alloc, reference).or(Err(TryError::Memory))
     }
 }

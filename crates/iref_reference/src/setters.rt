@@ -13,9 +13,10 @@ pub mod copies;
 mod tried;
 
 use crate::owner::{ReferenceBuf, UriBuf, UriRefBuf};
-use iref_authority::authority::Authority;
+use iref_authority::authority::{Authority, text_of_authority};
 use iref_buffer::held::HeldRule;
 use iref_component::texts::{Fragment, Query, Scheme};
+use iref_component::view::text_of;
 use iref_error::Memory;
 use iref_grammar::chars::CharSet;
 use iref_path::path::Path;
@@ -30,8 +31,7 @@ impl<R: HeldRule, C: CharSet> ReferenceBuf<R, C> {
         ensures err { OnErr result (reference_buf_text self.new ≡ reference_buf_text self.old) }
         ensures none { IsNone authority.entry → IsOk result }
     {
-        self.held
-            .set_authority(authority.map(|authority| authority.as_str()))
+        self.held.set_authority(text_of_authority(authority))
     }
 
     /// Replaces the path, with a guard where it would be read as something else.
@@ -63,7 +63,7 @@ impl<R: HeldRule, C: CharSet> ReferenceBuf<R, C> {
         ensures err { OnErr result (reference_buf_text self.new ≡ reference_buf_text self.old) }
         ensures none { IsNone query.entry → IsOk result }
     {
-        self.held.set_query(query.map(|query| query.as_str()))
+        self.held.set_query(text_of(query))
     }
 
     /// Replaces the fragment, or takes it away, which takes no memory.
@@ -73,8 +73,7 @@ impl<R: HeldRule, C: CharSet> ReferenceBuf<R, C> {
         ensures err { OnErr result (reference_buf_text self.new ≡ reference_buf_text self.old) }
         ensures none { IsNone fragment.entry → IsOk result }
     {
-        self.held
-            .set_fragment(fragment.map(|fragment| fragment.as_str()))
+        self.held.set_fragment(text_of(fragment))
     }
 }
 
@@ -87,7 +86,7 @@ impl<C: CharSet> UriRefBuf<C> {
         ensures err { OnErr result (reference_buf_text self.new ≡ reference_buf_text self.old) }
         ensures none { IsNone scheme.entry → IsOk result }
     {
-        self.held.set_scheme(scheme.map(|scheme| scheme.as_str()))
+        self.held.set_scheme(text_of(scheme))
     }
 }
 

@@ -27,7 +27,7 @@ impl<C: CharSet, T: Target<AuthorityPart, C>> AuthorityMut<'_, C, T> {
     {
         test::<AuthorityRule, C>(Some(authority))?;
         self.replace(Authority::new_unchecked(authority))
-            .map_err(|_| TryError::Memory)
+            .or(Err(TryError::Memory))
     }
 
     /// As `set_user_info`, by a text: `Invalid` hands one back that is not a user info.
@@ -41,7 +41,7 @@ impl<C: CharSet, T: Target<AuthorityPart, C>> AuthorityMut<'_, C, T> {
         ensures text { TestsIfSome (IsUserInfo C.tests) user_info.entry (λ error. error.0) result }
     {
         test::<UserInfoRule, C>(user_info)?;
-        self.put_user_info(user_info).map_err(|_| TryError::Memory)
+        self.put_user_info(user_info).or(Err(TryError::Memory))
     }
 
     /// As `set_host`, by a text: `Invalid` hands one back that is not a host.
@@ -52,7 +52,7 @@ impl<C: CharSet, T: Target<AuthorityPart, C>> AuthorityMut<'_, C, T> {
     {
         test::<HostRule, C>(Some(host))?;
         self.set_host(Host::new_unchecked(host))
-            .map_err(|_| TryError::Memory)
+            .or(Err(TryError::Memory))
     }
 
     /// As `set_port`, by a text: `Invalid` hands one back that is not a port.
@@ -62,6 +62,6 @@ impl<C: CharSet, T: Target<AuthorityPart, C>> AuthorityMut<'_, C, T> {
         ensures text { TestsIfSome IsPort port.entry (λ error. error.0) result }
     {
         test::<PortRule, C>(port)?;
-        self.put_port(port).map_err(|_| TryError::Memory)
+        self.put_port(port).or(Err(TryError::Memory))
     }
 }

@@ -50,7 +50,7 @@ impl<C: CharSet> UriRefBuf<C> {
         ensures err { OnErr result (reference_buf_text self.new ≡ reference_buf_text self.old) }
     {
         let base = Uri::new(base).map_err(TryError::Invalid)?;
-        self.resolve(base).map_err(|_| TryError::Memory)
+        self.resolve(base).or(Err(TryError::Memory))
     }
 
     /// What it resolves to against a base, as a URI. At want of memory the reference is handed
@@ -79,9 +79,10 @@ impl<C: CharSet> UriRefBuf<C> {
         ensures err { IfErr result (λ error. error.0 ≡ self) }
     {
         match Uri::new(base) {
-            Ok(base) => self
-                .into_resolved(base)
-                .map_err(|(reference, _)| (reference, TryError::Memory)),
+            Ok(base) => match self.into_resolved(base) {
+                Ok(uri) => Ok(uri),
+                Err((reference, Memory)) => Err((reference, TryError::Memory)),
+            },
             Err(error) => Err((self, TryError::Invalid(error))),
         }
     }
@@ -114,6 +115,6 @@ impl<C: CharSet> UriBuf<C> {
         ensures err { OnErr result (reference_buf_text self.new ≡ reference_buf_text self.old) }
     {
         let reference = UriRef::new(reference).map_err(TryError::Invalid)?;
-        self.join(reference).map_err(|_| TryError::Memory)
+        self.join(reference).or(Err(TryError::Memory))
     }
 }

@@ -11,10 +11,11 @@ ghost use Rattle.iref_reference.specs.References.{reference_buf_text, reference_
 
 use crate::owner::{ReferenceBuf, UriBuf, UriRefBuf};
 use crate::view::{Reference, UriRef};
-use iref_authority::authority::Authority;
+use iref_authority::authority::{Authority, text_of_authority};
 use iref_buffer::held::{Held, HeldRule};
 use iref_component::texts::{Fragment, Query, Scheme};
 use iref_component::tried::read;
+use iref_component::view::text_of;
 use iref_error::{InvalidScheme, Memory, TryError};
 use iref_grammar::chars::CharSet;
 use iref_path::path::Path;
@@ -37,7 +38,7 @@ impl<R: HeldRule, C: CharSet> Reference<'_, R, C> {
     {
         let reference = UriRef::<C>::new_unchecked(self.as_str());
         let copy = reference.copy_for(alloc, Some(scheme.as_str()))?;
-        copy.into_with_scheme(scheme).map_err(|(_, error)| error)
+        copy.into_with_scheme(scheme).or(Err(Memory))
     }
 
     /// A copy with another authority or none, as `set_authority` leaves it: of `//h/a`, without
@@ -46,8 +47,9 @@ impl<R: HeldRule, C: CharSet> Reference<'_, R, C> {
         ensures { StepsFrom (with_authority (option_map read_authority (option_map
             authority_text authority.entry))) self.now result }
     {
-        let mut copy = self.copy_for(alloc, authority.map(|authority| authority.as_str()))?;
-        copy.set_authority(authority).map(|_| copy)
+        let mut copy = self.copy_for(alloc, text_of_authority(authority))?;
+        copy.set_authority(authority)?;
+        Ok(copy)
     }
 
     /// A copy with another path, as `set_path` leaves it.
@@ -55,15 +57,17 @@ impl<R: HeldRule, C: CharSet> Reference<'_, R, C> {
         ensures { StepsFrom (with_path (path_value path.entry)) self.now result }
     {
         let mut copy = self.copy_for(alloc, Some(path.as_str()))?;
-        copy.set_path(path).map(|_| copy)
+        copy.set_path(path)?;
+        Ok(copy)
     }
 
     /// A copy with another query or none.
     pub fn with_query(&self, alloc: Global, query: Option<Query<'_, C>>) -> Copied<R, C>
         ensures { StepsFrom (with_query (option_map view_text query.entry)) self.now result }
     {
-        let mut copy = self.copy_for(alloc, query.map(|query| query.as_str()))?;
-        copy.set_query(query).map(|_| copy)
+        let mut copy = self.copy_for(alloc, text_of(query))?;
+        copy.set_query(query)?;
+        Ok(copy)
     }
 
     /// A copy with another fragment or none.
@@ -71,8 +75,9 @@ impl<R: HeldRule, C: CharSet> Reference<'_, R, C> {
         ensures { StepsFrom (with_fragment (option_map view_text fragment.entry))
             self.now result }
     {
-        let mut copy = self.copy_for(alloc, fragment.map(|fragment| fragment.as_str()))?;
-        copy.set_fragment(fragment).map(|_| copy)
+        let mut copy = self.copy_for(alloc, text_of(fragment))?;
+        copy.set_fragment(fragment)?;
+        Ok(copy)
     }
 }
 
@@ -103,9 +108,10 @@ impl<C: CharSet> UriRefBuf<C> {
         ensures err { IfErr result (λ error. error.0 ≡ self) }
     {
         match read(scheme) {
-            Ok(scheme) => self
-                .into_with_scheme(scheme)
-                .map_err(|(reference, _)| (reference, TryError::Memory)),
+            Ok(scheme) => match self.into_with_scheme(scheme) {
+                Ok(uri) => Ok(uri),
+                Err((reference, Memory)) => Err((reference, TryError::Memory)),
+            },
             Err(error) => Err((self, error)),
         }
     }

@@ -28,9 +28,7 @@ impl<R: HeldRule, C: CharSet> ReferenceBuf<R, C> {
         ensures text { TestsIfSome (IsAuthority C.tests) authority.entry (λ error. error.0) result }
     {
         test::<AuthorityRule, C>(authority)?;
-        self.held
-            .set_authority(authority)
-            .map_err(|_| TryError::Memory)
+        self.held.set_authority(authority).or(Err(TryError::Memory))
     }
 
     /// As `set_path`, by a text: `Invalid` hands one back that is not a path.
@@ -39,7 +37,7 @@ impl<R: HeldRule, C: CharSet> ReferenceBuf<R, C> {
         ensures text { Tests (IsPath C.tests) path.entry (λ error. error.0) result }
     {
         test::<PathRule, C>(Some(path))?;
-        self.held.set_path(path).map_err(|_| TryError::Memory)
+        self.held.set_path(path).or(Err(TryError::Memory))
     }
 
     /// As `set_query`, by a text: `Invalid` hands one back that is not a query.
@@ -48,7 +46,7 @@ impl<R: HeldRule, C: CharSet> ReferenceBuf<R, C> {
         ensures text { TestsIfSome (IsQuery C.tests) query.entry (λ error. error.0) result }
     {
         test::<QueryRule, C>(query)?;
-        self.held.set_query(query).map_err(|_| TryError::Memory)
+        self.held.set_query(query).or(Err(TryError::Memory))
     }
 
     /// As `set_fragment`, by a text: `Invalid` hands one back that is not a fragment.
@@ -60,9 +58,7 @@ impl<R: HeldRule, C: CharSet> ReferenceBuf<R, C> {
         ensures text { TestsIfSome (IsFragment C.tests) fragment.entry (λ error. error.0) result }
     {
         test::<FragmentRule, C>(fragment)?;
-        self.held
-            .set_fragment(fragment)
-            .map_err(|_| TryError::Memory)
+        self.held.set_fragment(fragment).or(Err(TryError::Memory))
     }
 }
 
@@ -73,6 +69,6 @@ impl<C: CharSet> UriRefBuf<C> {
         ensures text { TestsIfSome IsScheme scheme.entry (λ error. error.0) result }
     {
         test::<SchemeRule, C>(scheme)?;
-        self.held.set_scheme(scheme).map_err(|_| TryError::Memory)
+        self.held.set_scheme(scheme).or(Err(TryError::Memory))
     }
 }
