@@ -33,7 +33,8 @@ impl<'a, C: CharSet> Authority<'a, C> {
         ensures { Parses (InUtf8 (IsAuthority C.tests)) text.now authority_text
             (λ error. error.0 ≡ text.entry) result }
     {
-        View::new(text).map(|text| Authority { text })
+        let text = View::new(text)?;
+        Ok(Authority { text })
     }
 
     /// The authority of these bytes of UTF-8, or the bytes.
@@ -41,7 +42,8 @@ impl<'a, C: CharSet> Authority<'a, C> {
         ensures { Parses (InUtf8 (IsAuthority C.tests)) bytes.now authority_text
             (λ error. error.0 ≡ bytes.entry) result }
     {
-        View::from_bytes(bytes).map(|text| Authority { text })
+        let text = View::from_bytes(bytes)?;
+        Ok(Authority { text })
     }
 
     /// The authority of a text that is known to be one.

@@ -30,7 +30,8 @@ impl<C: CharSet> AuthorityBuf<C> {
         ensures { Parses (InUtf8 (IsAuthority C.tests)) (string_bytes text) authority_buf_text
             (λ error. error.0 ≡ text) result }
     {
-        TextBuf::new(text).map(|text| AuthorityBuf { text })
+        let text = TextBuf::new(text)?;
+        Ok(AuthorityBuf { text })
     }
 
     /// The authority of these bytes of UTF-8, with no copy, or the bytes.
@@ -38,7 +39,8 @@ impl<C: CharSet> AuthorityBuf<C> {
         ensures { Parses (InUtf8 (IsAuthority C.tests)) bytes.items authority_buf_text
             (λ error. error.0 ≡ bytes) result }
     {
-        TextBuf::from_bytes(bytes).map(|text| AuthorityBuf { text })
+        let text = TextBuf::from_bytes(bytes)?;
+        Ok(AuthorityBuf { text })
     }
 
     /// The empty authority, which takes no memory.

@@ -41,7 +41,8 @@ impl<'a, C: CharSet> Path<'a, C> {
         ensures { Parses (InUtf8 (IsPath C.tests)) text.now path_text
             (λ error. error.0 ≡ text.entry) result }
     {
-        View::new(text).map(|text| Path { text })
+        let text = View::new(text)?;
+        Ok(Path { text })
     }
 
     /// The path of the UTF-8 of a text, or the bytes.
@@ -49,7 +50,8 @@ impl<'a, C: CharSet> Path<'a, C> {
         ensures { Parses (InUtf8 (IsPath C.tests)) bytes.now path_text
             (λ error. error.0 ≡ bytes.entry) result }
     {
-        View::from_bytes(bytes).map(|text| Path { text })
+        let text = View::from_bytes(bytes)?;
+        Ok(Path { text })
     }
 
     /// The path of a text that is known to be one.

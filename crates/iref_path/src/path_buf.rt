@@ -42,7 +42,8 @@ impl<C: CharSet> PathBuf<C> {
         ensures { Parses (InUtf8 (IsPath C.tests)) (string_bytes text) path_buf_text
             (λ error. error.0 ≡ text) result }
     {
-        TextBuf::new(text).map(|text| PathBuf { text })
+        let text = TextBuf::new(text)?;
+        Ok(PathBuf { text })
     }
 
     /// The path of these bytes of UTF-8, with no copy, or the bytes.
@@ -50,7 +51,8 @@ impl<C: CharSet> PathBuf<C> {
         ensures { Parses (InUtf8 (IsPath C.tests)) bytes.items path_buf_text
             (λ error. error.0 ≡ bytes) result }
     {
-        TextBuf::from_bytes(bytes).map(|text| PathBuf { text })
+        let text = TextBuf::from_bytes(bytes)?;
+        Ok(PathBuf { text })
     }
 
     // The path of a text that is known to be one.
