@@ -4,22 +4,22 @@ ghost use Rattle.std.specs.Prelude.{◌≡◌, true, length};
 ghost use Rattle.std.specs.List.{list_all};
 ghost use Rattle.std.specs.Iterator.{YieldsFirstBy, YieldsLastBy, item_count};
 ghost use Rattle.iref_component.specs.{read_path, is_path, is_segment, normal_segments, view_text};
-ghost use Rattle.iref_path_text.specs.{IsSound, normal_left};
+ghost use Rattle.iref_path_text.specs.Listed.{IsListSound, listed_left};
 
 use iref_component::texts::Segment;
 use iref_grammar::chars::CharSet;
-use iref_path_text::remaining::Remaining;
+use iref_path_text::remaining::listed::Listed;
 use std::marker::PhantomData;
 
 /// The normal segments of a path that are left.
 #[derive(Drop)]
 pub struct NormalizedSegments<'a, C: CharSet> {
-    left: Remaining<'a>,
+    left: Listed<'a>,
     count: usize,
     chars: PhantomData<C>,
-    ghost sound: { IsSound left },
-    ghost counted: { count ≡ length (normal_left left) },
-    ghost in_grammar: { list_all (is_segment C.tests) (normal_left left) ≡ true },
+    ghost sound: { IsListSound left },
+    ghost counted: { count ≡ length (listed_left left) },
+    ghost in_grammar: { list_all (is_segment C.tests) (listed_left left) ≡ true },
 }
 
 impl<'a, C: CharSet> NormalizedSegments<'a, C> {
@@ -30,7 +30,7 @@ impl<'a, C: CharSet> NormalizedSegments<'a, C> {
         requires { is_path C.tests path.now ≡ true }
         ensures { normal_segments_left result ≡ normal_segments (read_path path.now) }
     {
-        let (left, count) = Remaining::new(path);
+        let (left, count) = Listed::new(path);
         let chars = PhantomData;
         NormalizedSegments { left, count, chars }
     }

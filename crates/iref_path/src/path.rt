@@ -200,6 +200,11 @@ impl<'a, C: CharSet> Path<'a, C> {
     }
 
     /// The normal segments: the `..` that nothing cancels stand first where the path is relative.
+    ///
+    /// This reads the path once, from its end. Up to sixteen normal segments are kept in the value,
+    /// and nothing is read again for them. Where there are more, the back reads each segment once
+    /// more; the front looks ahead from each name for the `..` that takes it, as far as all that is
+    /// left where none does: so `a/x/../` repeated costs the square of its length from the front.
     pub fn normalized_segments(&self) -> NormalizedSegments<'a, C>
         ensures { normal_segments_left result ≡ normal_segments (path_value self.now) }
     {

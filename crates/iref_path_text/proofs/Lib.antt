@@ -12,3 +12,4 @@ pub mod MergedLemmas
 pub mod CommonLemmas
 pub mod WayLemmas
 pub mod SuffixLemmas
+pub mod StackLemmas

@@ -101,7 +101,7 @@ size-kept : (b : Bool) (s : Text) (list : List Text) → length (each_closed (co
 size-kept true s list = size-cons s list
 size-kept false s list = omega arith
 
-kept_size : (list : List Text) → open_before list 0 + open_before list 0 + open_before list 0 + length (each_closed (staying_before list 0)) ≤ length (each_closed list)
+pub kept_size : (list : List Text) → open_before list 0 + open_before list 0 + open_before list 0 + length (each_closed (staying_before list 0)) ≤ length (each_closed list)
 kept_size [] = omega arith
 kept_size (s ∷ rest) =
     let here = size-cons s rest in

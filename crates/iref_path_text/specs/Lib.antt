@@ -26,3 +26,5 @@ pub mod Merged
 pub mod Ways
 pub mod MeasuredPaths
 pub mod Suffixes
+pub mod Stacks
+pub mod Listed

@@ -1,6 +1,7 @@
 //! The text of a path, which is measured before it is written (RFC 3986 sections 5.2.3 and 5.2.4).
 
 ghost use Rattle.iref_grammar.specs.Contexts.{alone};
+ghost use Rattle.iref_grammar.specs.Grammar.{slash};
 ghost use Rattle.iref_grammar.specs.PathValue.{read_path, spell_path};
 ghost use Rattle.iref_grammar.specs.Tests.{is_path};
 ghost use Rattle.iref_grammar.specs.Texts.{is_empty};
@@ -9,12 +10,15 @@ ghost use Rattle.iref_model.specs.PathSteps.{normalized};
 ghost use Rattle.iref_path_text.specs.Merged.{merged_list, merged_path, path_after};
 ghost use Rattle.iref_path_text.specs.MeasuredPaths.{IsMeasured, measured_text};
 ghost use Rattle.iref_path_text.specs.Pieces.{pieces_if_some};
+ghost use Rattle.iref_path_text.specs.Remaining.{IsSound, normal_left};
 ghost use Rattle.iref_path_text.specs.Spelling.{each_closed};
 ghost use Rattle.iref_path_text.specs.Ways.{IsWaySound, path_between, way_left};
 ghost use Rattle.std.specs.Prelude.{◌||◌, ◌&&◌, ◌≡◌, ◌+◌, ◌*◌, ◌<◌, ◌≤◌, ◌^◌, ◌++◌, IfOk, drop, false, length, true};
+ghost use Rattle.std.specs.List.{join_with_byte};
 ghost use Rattle.std.specs.String.{string_bytes};
 
 use crate::pieces::{split_root, without_last};
+use crate::remaining::Remaining;
 use crate::remaining::merged::Merged;
 use crate::remaining::way::Way;
 use crate::spell::{lead_in, measure, write_before, write_items};
@@ -104,6 +108,20 @@ impl<'a> MeasuredPath<'a> {
         MeasuredPath { lead, items, size }
     }
 
+    /// What stands first, and these items, whose size is known.
+    #[tactic(auto, unfolding(crate::specs::MeasuredPaths::measured_text))]
+    pub(crate) fn of_items(lead: &'a str, items: Remaining<'a>, size: usize) -> Self
+        requires sound { IsSound items }
+        requires size { size ≡ length (each_closed (normal_left items)) }
+        requires countable { length lead.now + size < 2 ^ 64 }
+        ensures text { measured_text result
+            ≡ lead.now ++ join_with_byte slash (normal_left items.entry) }
+        ensures measured { IsMeasured result }
+    {
+        let items = Way::all(Merged::behind(items));
+        MeasuredPath { lead, items, size }
+    }
+
     /// The text of a relative path of these items, which stands alone.
     pub fn relative(items: Way<'a>) -> Self
         requires sound { IsWaySound items }
@@ -155,7 +173,7 @@ impl<'a> MeasuredPath<'a> {
     }
 
     // The bytes of the text.
-    fn bytes<A: Allocator>(self, alloc: A) -> Result<Vec<u8, A>, Memory>
+    pub(crate) fn bytes<A: Allocator>(self, alloc: A) -> Result<Vec<u8, A>, Memory>
         requires { IsMeasured self }
         ensures { IfOk result (λ bytes. bytes.items ≡ measured_text self.entry) }
     {

@@ -9,7 +9,9 @@ ghost use Rattle.iref_model.specs.{open_before, staying_before, normal_segments}
 ghost use Rattle.iref_path_text.specs.Pieces.{pieces_if_some, text_at};
 ghost use Rattle.iref_path_text.specs.Remaining.{IsFate, IsSound, KeepsEnds, first_or, flagged_path, names_left, normal_left, open_at_start, to_read};
 
+pub mod listed;
 pub mod merged;
+pub mod stack;
 pub mod way;
 
 use crate::names::{is_name, name_stays};

@@ -8,15 +8,16 @@ ghost use Rattle.iref_grammar.specs.Contexts.{is_path_in};
 ghost use Rattle.iref_grammar.specs.Grammar.{colon, slash};
 ghost use Rattle.iref_grammar.specs.PathValue.{read_path, spell_path};
 ghost use Rattle.iref_grammar.specs.Tests.{is_path};
-ghost use Rattle.iref_path_text.specs.MeasuredPaths.{IsMeasured, measured_text};
 ghost use Rattle.iref_path_text.specs.PathParts.{is_path_after};
 ghost use Rattle.iref_path_text.specs.Remaining.{first_or};
 ghost use Rattle.iref_path_text.specs.Spelling.{each_closed, normal_in};
 ghost use Rattle.iref_path_text.specs.Spelling as spelling;
+ghost use Rattle.iref_path_text.specs.Stacks.{in_order, stacked_text};
 ghost use Rattle.iref_path_text.specs.Ways.{IsWaySound, way_left};
 
 use crate::measured::MeasuredPath;
 use crate::pieces::split_root;
+use crate::remaining::stack::Stack;
 use crate::remaining::way::Way;
 use iref_error::Memory;
 use iref_grammar::chars::CharSet;
@@ -140,12 +141,101 @@ pub(crate) fn lead_in(
     )
 }
 
-// The normalized path in its context, with a flag of its own.
-fn normal_path(context: PathContext, absolute: bool, path: &str) -> MeasuredPath<'_>
-    ensures text { measured_text result ≡ spell_path (normal_in context absolute path.now) }
-    ensures measured { IsMeasured result }
+// Writes items that are given the last first, each with a `/` after it, so that they end at a place,
+// and answers where they begin.
+fn write_stacked_closed(items: &[&str], buffer: &mut [u8], end: usize) -> usize
+    requires room { length (each_closed (in_order items.now)) ≤ end }
+    requires within { end ≤ length buffer.old }
+    ensures place { result + length (each_closed (in_order items.now)) ≡ end }
+    ensures written { drop result buffer.new
+        ≡ each_closed (in_order items.now) ++ drop end buffer.old }
+    ensures len { length buffer.new ≡ length buffer.old }
 {
-    MeasuredPath::of_segments(context, absolute, None, split_root(path).1)
+    let mut start = end;
+    for item in items {
+        start = write_before(buffer, start, "/");
+        start = write_before(buffer, start, item);
+    }
+    start
+}
+
+// Writes items that are given the last first, with `/` between, so that they end at a place, and
+// answers where they begin.
+fn write_stacked(items: &[&str], buffer: &mut [u8], end: usize) -> usize
+    requires room { length (each_closed (in_order items.now)) ≤ end + 1 }
+    requires within { end ≤ length buffer.old }
+    ensures place { result + length (join_with_byte slash (in_order items.now)) ≡ end }
+    ensures written { drop result buffer.new
+        ≡ join_with_byte slash (in_order items.now) ++ drop end buffer.old }
+    ensures len { length buffer.new ≡ length buffer.old }
+{
+    let Some((last, others)) = items.split_first() else {
+        return end;
+    };
+    let start = write_before(buffer, end, last);
+    write_stacked_closed(others, buffer, start)
+}
+
+// Writes what stands first, and items that are given the last first, so that they end at a place,
+// and answers where they begin.
+fn write_stacked_text(lead: &str, items: &[&str], buffer: &mut [u8], end: usize) -> usize
+    requires room { length (stacked_text lead.now items.now) ≤ end }
+    requires within { end ≤ length buffer.old }
+    ensures place { result + length (stacked_text lead.now items.now) ≡ end }
+    ensures written { drop result buffer.new
+        ≡ stacked_text lead.now items.now ++ drop end buffer.old }
+    ensures len { length buffer.new ≡ length buffer.old }
+{
+    let start = write_stacked(items, buffer, end);
+    write_before(buffer, start, lead)
+}
+
+// How many bytes what stands first has, and items that have so many with a `/` after each.
+fn stacked_len(lead: &str, _items: &[&str], size: usize) -> usize
+    requires size { size ≡ length (each_closed (in_order _items.now)) }
+    requires countable { length lead.now + size < 2 ^ 64 }
+    ensures { result ≡ length (stacked_text lead.now _items.now) }
+{
+    lead.len() + size.saturating_sub(1)
+}
+
+// What stands first, and items that are given the last first, with `/` between. So many bytes these
+// have with a `/` after each.
+fn stacked_bytes<A: Allocator>(
+    alloc: A,
+    lead: &str,
+    items: &[&str],
+    size: usize,
+) -> Result<Vec<u8, A>, Memory>
+    requires size { size ≡ length (each_closed (in_order items.now)) }
+    requires countable { length lead.now + size < 2 ^ 64 }
+    ensures { IfOk result (λ bytes. bytes.items ≡ stacked_text lead.now items.now) }
+{
+    let len = stacked_len(lead, items, size);
+    let mut bytes = vec![in alloc; 0u8; len]?;
+    write_stacked_text(lead, items, &mut bytes, len);
+    Ok(bytes)
+}
+
+// The bytes of the normalized path in its context, with a flag of its own. The segments are read
+// once where the list has at most sixteen items, and else once more.
+fn normal_bytes<A: Allocator>(
+    alloc: A,
+    context: PathContext,
+    absolute: bool,
+    path: &str,
+) -> Result<Vec<u8, A>, Memory>
+    ensures { IfOk result (λ bytes.
+        bytes.items ≡ spell_path (normal_in context absolute path.now)) }
+{
+    let segments = split_root(path).1;
+    let mut stack = Stack::new();
+    let (left, _count) = stack.read(absolute, segments);
+    let lead = lead_in(context, absolute, stack.size, stack.first);
+    if stack.is_whole {
+        return stacked_bytes(alloc, lead, stack.items.as_slice(), stack.size);
+    }
+    MeasuredPath::of_items(lead, left, stack.size).bytes(alloc)
 }
 
 /// The text of the normalized path in its context, with a flag of its own (RFC 3986 section 5.2.4):
@@ -167,6 +257,8 @@ pub fn normalized_text<C: CharSet, A: Allocator>(
     ensures reads { IfOk result (λ text. is_path_in C.tests context (string_bytes text) ≡ true) }
     ensures after { IfOk result (λ text. is_path_after C.tests context (string_bytes text) ≡ true) }
 {
-    let text = normal_path(context, absolute, path).to_text::<C, A>(alloc)?;
+    let bytes = normal_bytes(alloc, context, absolute, path)?;
+    // What spells a path is text, so no byte is read again.
+    let text = unsafe { String::from_utf8_unchecked(bytes) };
     Ok(text)
 }
