@@ -1,5 +1,5 @@
 -- The authority of a reference where it stands, and after an edit of it.
-use Rattle.std.proofs.Common.{◌≡◌, ℕ, ◌+◌, ◌-◌, true, length, length-append, refl, sym, ◌∙◌, ap, subst, arith}
+use Rattle.std.proofs.Common.{◌≡◌, ℕ, ◌+◌, true, length, length-append, refl, sym, ◌∙◌, ap, subst, arith}
 use mathlib.Core.Bool.{true≢false}
 use Rattle.std.specs.Prelude.{codes, Option, Some, None, IfSome, is_some, option_map}
 use Rattle.std.specs.List.{splice}

@@ -8,4 +8,5 @@ pub mod PathPlaceLemmas
 pub mod MeasuredLemmas
 pub mod RelativeLemmas
 pub mod SchemeLemmas
+pub mod MappingLemmas
 pub mod AuthorityPlaceLemmas

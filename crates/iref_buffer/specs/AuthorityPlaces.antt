@@ -1,6 +1,5 @@
 -- Where the authority of a reference stands, and the text with another one.
 use Rattle.std.specs.Prelude.{ℕ, ◌≡◌, ◌+◌, true, Some}
-use Rattle.std.specs.List.{splice}
 use Rattle.std.specs.declared.ops.Range.{Range}
 use Rattle.std.proofs.Props.{props}
 use Rattle.iref_grammar.specs.Characters.{CharTests}

@@ -17,6 +17,7 @@ ghost use Rattle.iref_buffer.specs.PlaceTexts.{front_end, authority_start};
 mod authority;
 mod copies;
 mod edits;
+mod mapping;
 mod path;
 mod relative;
 mod resolution;

@@ -1,6 +1,6 @@
 -- A reference after a step of its authority, by an editor of that authority.
 use Rattle.std.proofs.Common.{◌≡◌, true, ap, sym, ◌∙◌}
-use Rattle.std.specs.Prelude.{Some, option_map}
+use Rattle.std.specs.Prelude.{option_map}
 use Rattle.std.specs.List.{splice, slice_range}
 use Rattle.iref_grammar.specs.Characters.{CharTests, AreAboveAscii}
 use Rattle.iref_grammar.specs.Rules.{Text}

@@ -4,3 +4,4 @@ pub mod AuthorityStepLemmas
 pub mod ResolutionLemmas
 pub mod SuffixLemmas
 pub mod RelativeLemmas
+pub mod MappingLemmas

@@ -21,6 +21,7 @@ pub use Rattle.iref_reference.specs.Parts.{key_of_parts, part_texts, parts_value
 pub use Rattle.iref_reference.specs.References.{BecomesFull, HasSchemeOrRefused, IsStep, OwnerBecomesFull, key_of_reference, key_of_reference_buf, reference_buf_text, reference_buf_value, reference_text, reference_value}
 pub mod Conversions
 pub mod HandedBack
+pub mod Mappings
 pub mod Parts
 pub mod References
 pub mod Relatives

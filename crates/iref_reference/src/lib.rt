@@ -5,6 +5,7 @@ pub mod comparison;
 pub mod conversions;
 pub mod editors;
 pub mod families;
+pub mod mapping;
 pub mod owner;
 pub mod parts;
 pub mod relative;

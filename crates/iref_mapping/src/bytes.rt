@@ -1,0 +1,75 @@
+//! Bytes of IRIs mapped to those of URIs (RFC 3987 section 3.1): into a new text, and in place.
+ghost use Rattle.std.specs.Prelude.{◌≡◌, ◌+◌, ◌≤◌, ◌++◌, length, take, drop, IfOk, OnOk, OnErr};
+ghost use Rattle.std.specs.String.{string_bytes};
+ghost use Rattle.iref_mapping.specs.Mapping.{mapped_byte, mapped, count_escaped};
+
+use percent_encoding::{AsciiSet, percent_encode_byte, utf8_percent_encode};
+use std::alloc::{AllocError, Allocator};
+
+/// How many bytes the mapping escapes: each takes two more places.
+pub fn count_escaped(bytes: &[u8]) -> usize
+    ensures { result ≡ count_escaped bytes.now }
+{
+    bytes.iter().filter(|byte| !byte.is_ascii()).count()
+}
+
+/// The mapping of a text: of `é%41`, `%C3%A9%41`. Its room is taken once.
+pub fn mapped<A: Allocator>(alloc: A, text: &str) -> Result<String<A>, AllocError>
+    ensures { IfOk result (λ copy. string_bytes copy ≡ mapped text.now) }
+{
+    let more = count_escaped(text.as_bytes())
+        .checked_mul(2)
+        .ok_or(AllocError)?;
+    let len = text.len().checked_add(more).ok_or(AllocError)?;
+    let mut copy = String::with_capacity(alloc, len)?;
+    utf8_percent_encode(text, AsciiSet::EMPTY).append_to(&mut copy)?;
+    Ok(copy)
+}
+
+// Writes the mapping of a byte so that it ends before `end`, and says where it begins.
+fn put_mapped(buffer: &mut [u8], end: usize, byte: u8) -> usize
+    requires room { length (mapped_byte byte) ≤ end }
+    requires within { end ≤ length buffer.old }
+    ensures start { result + length (mapped_byte byte) ≡ end }
+    ensures written { buffer.new
+        ≡ take result buffer.old ++ mapped_byte byte ++ drop end buffer.old }
+{
+    if byte.is_ascii() {
+        let start = end - 1;
+        buffer[start] = byte;
+        start
+    } else {
+        let start = end - 3;
+        buffer[start..end].copy_from_slice(percent_encode_byte(byte).as_bytes());
+        start
+    }
+}
+
+// Maps the first `from` bytes, from the last to the first, so that their mapping fills the buffer.
+fn map_to_the_end(buffer: &mut [u8], from: usize)
+    requires within { from ≤ length buffer.old }
+    requires room { length buffer.old ≡ length (mapped (take from buffer.old)) }
+    ensures { buffer.new ≡ mapped (take from buffer.old) }
+{
+    let mut left = from;
+    let mut end = buffer.len();
+    while left > 0 {
+        left -= 1;
+        let byte = buffer[left];
+        end = put_mapped(buffer, end, byte);
+    }
+}
+
+/// Maps bytes within their buffer, of which so many are escaped. The room is taken once, and
+/// nothing changes where it is refused.
+pub fn map_in_place<A: Allocator>(bytes: &mut Vec<u8, A>, escaped: usize) -> Result<(), AllocError>
+    requires { escaped ≡ count_escaped bytes.old.items }
+    ensures ok { OnOk result (bytes.new.items ≡ mapped bytes.old.items) }
+    ensures err { OnErr result (bytes.new.items ≡ bytes.old.items) }
+{
+    let from = bytes.as_slice().len();
+    bytes.reserve(2 * escaped)?;
+    bytes.resize(from + 2 * escaped, 0)?;
+    map_to_the_end(bytes.as_mut_slice(), from);
+    Ok(())
+}
