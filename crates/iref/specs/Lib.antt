@@ -1,5 +1,7 @@
 pub mod EditAnswers
 pub mod EditSteps
+pub mod PrefixIndex
+pub mod Prefixes
 -- the words of contracts, for callers that list this crate alone
 pub use Rattle.iref_grammar.specs.Authority
 pub use Rattle.iref_grammar.specs.Characters
@@ -31,6 +33,8 @@ pub use Rattle.iref_model.specs.ReferenceSuffix
 pub use Rattle.iref_model.specs.Relative
 pub use Rattle.iref_model.specs.RelativeLaws
 pub use Rattle.iref_model.specs.Resolution
+pub use Rattle.iref_mapping.specs.Mapping
+pub use Rattle.iref_mapping.specs.PrefixTable
 pub use Rattle.iref_component.specs.Makers
 pub use Rattle.iref_component.specs.Ports
 pub use Rattle.iref_component.specs.Components
@@ -47,6 +51,7 @@ pub use Rattle.iref_path.specs.PathEdits
 pub use Rattle.iref_path.specs.Suffixes
 pub use Rattle.iref_reference.specs.Conversions
 pub use Rattle.iref_reference.specs.HandedBack
+pub use Rattle.iref_reference.specs.Mappings
 pub use Rattle.iref_reference.specs.Parts
 pub use Rattle.iref_reference.specs.References
 pub use Rattle.iref_reference.specs.Relatives

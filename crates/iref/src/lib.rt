@@ -1,6 +1,7 @@
 //! URIs and IRIs (RFC 3986, RFC 3987).
 #![tactic(auto)]
 
+pub mod compact;
 pub mod edits;
 mod shared;
 

@@ -6,15 +6,19 @@ ghost use Rattle.iref.specs.Grammar.{IsPath, IsUriReference};
 ghost use Rattle.iref.specs.PathValue.{read_path, spell_path};
 ghost use Rattle.iref.specs.Rules.{InUtf8};
 ghost use Rattle.iref.specs.Reference.{read_reference};
-ghost use Rattle.std.specs.Prelude.{◌≡◌, None, Some, IfOk, MatchOption};
+ghost use Rattle.std.specs.Prelude.{◌≡◌, None, Some, Ok, IfOk, IfErr, IfSome, MatchOption};
 ghost use Rattle.iref.specs.Characters.{uri_chars};
 ghost use Rattle.std.specs.String.{string_bytes};
-ghost use Rattle.iref.specs.References.{reference_buf_value};
+ghost use Rattle.iref.specs.PrefixTable.{expanded};
+ghost use Rattle.iref.specs.References.{reference_buf_text, reference_buf_value, reference_text};
+ghost use Rattle.iref.specs.declared.compact.ExpandError.TheVariants as expand_error;
 ghost use Rattle.iref.specs.PathSteps as step;
 ghost use Rattle.iref.specs.ReferenceParts as part;
 ghost use Rattle.iref.specs.Key.{are_alike};
 
 use iref::Memory;
+use iref::compact::{ExpandError, Prefixes};
+use iref::iri::{Iri, IriBuf};
 use iref::uri::{Path, UriBuf, UriRef};
 use std::alloc::Global;
 use std::collections::HashSet;
@@ -63,4 +67,32 @@ pub fn normalized(alloc: Global, text: &str) -> Result<Option<String>, Memory>
     };
     let path = path.normalized(alloc)?;
     Ok(Some(path.into_string()))
+}
+
+/// The IRI made short by the prefixes of a context, as `schema:name` for
+/// `https://schema.org/name`; None where it begins with none of them.
+pub fn shortened(alloc: Global, context: &Prefixes, iri: Iri<'_>) -> Result<Option<String>, Memory>
+    ensures { IfOk result (λ short. IfSome short (λ text.
+        expanded (string_bytes text) context.now ≡ Ok (reference_text iri.entry))) }
+{
+    let Some(compact) = context.compact(iri) else {
+        return Ok(None);
+    };
+    Ok(Some(compact.to_text(alloc)?))
+}
+
+/// What was made short expands to the IRI that it was, where there is memory.
+pub fn expanded_again(
+    alloc: Global,
+    context: &Prefixes,
+    iri: Iri<'_>,
+) -> Result<Option<IriBuf>, ExpandError>
+    ensures ok { IfOk result (λ again. IfSome again (λ iri_again.
+        reference_buf_text iri_again ≡ reference_text iri.entry)) }
+    ensures err { IfErr result (λ error. error ≡ expand_error.Memory) }
+{
+    let Some(short) = shortened(alloc, context, iri)? else {
+        return Ok(None);
+    };
+    Ok(Some(context.expand(alloc, short.as_str())?))
 }

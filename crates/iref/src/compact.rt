@@ -1,0 +1,239 @@
+//! Prefix tables: labels that stand for the beginnings of IRIs, as in `ex:a` for
+//! `http://example.org/a`.
+ghost use Rattle.std.specs.Prelude.{◌≡◌, ◌≤◌, [], length, take, Ok, IfOk, IfErr, IfSome, OnOk, OnErr};
+ghost use Rattle.std.specs.Prelude.{option_map};
+ghost use Rattle.std.specs.String.{string_bytes};
+ghost use Rattle.std.specs.List.{find};
+ghost use Rattle.std.specs.Option.{option_copied};
+ghost use Rattle.iref.specs.PrefixIndex.{has_text};
+ghost use Rattle.iref_mapping.specs.PrefixTable.{has_label, longest_fit, IsPrefixTable};
+ghost use Rattle.iref_mapping.specs.PrefixTable.{compact_text, compacted, expanded, get, inserted};
+ghost use Rattle.iref_reference.specs.References.{reference_buf_text, reference_text};
+ghost use Rattle.iref.specs.Prefixes.{compact_value, RefusesExpand, RefusesInsert};
+
+mod entry;
+mod index;
+mod text;
+
+use crate::iri::{Iri, IriBuf};
+use entry::{Entry, add};
+use index::Index;
+use iref_error::Memory;
+use iref_parse::cut::cut;
+use std::alloc::{Allocator, Global};
+use std::marker::Model;
+use text::{after_front, iri_of, is_label, joined};
+use thiserror::Error;
+
+/// Why an entry cannot be inserted.
+#[derive(Clone, Copy, Debug, PartialEq, Eq, Error)]
+pub enum PrefixError {
+    /// The label is not an ASCII letter followed by ASCII letters, digits, `-` and `_`.
+    #[error("not a label")]
+    BadLabel,
+    /// The label has an entry.
+    #[error("the label is taken")]
+    Taken,
+    /// A growth was refused, or the new length would pass what a buffer can hold.
+    #[error("out of memory")]
+    Memory,
+}
+
+/// Why a text cannot be expanded.
+#[derive(Clone, Copy, Debug, PartialEq, Eq, Error)]
+pub enum ExpandError {
+    /// The text holds no `:`.
+    #[error("no colon")]
+    NoColon,
+    /// What stands before the first `:` is no label of the table.
+    #[error("unknown label")]
+    UnknownLabel,
+    /// A growth was refused, or the new length would pass what a buffer can hold.
+    #[error("out of memory")]
+    Memory,
+    /// The label's IRI followed by what stands after the `:` is no IRI.
+    #[error("not an IRI")]
+    NotAnIri,
+}
+
+impl From<Memory> for PrefixError {
+    ghost use Rattle.iref.specs.declared.compact.PrefixError.TheVariants as prefix_error;
+
+    ghost from_gives = { λ _ error. error ≡ prefix_error.Memory };
+
+    fn from(_: Memory) -> PrefixError {
+        PrefixError::Memory
+    }
+}
+
+impl From<Memory> for ExpandError {
+    ghost use Rattle.iref.specs.declared.compact.ExpandError.TheVariants as expand_error;
+
+    ghost from_gives = { λ _ error. error ≡ expand_error.Memory };
+
+    fn from(_: Memory) -> ExpandError {
+        ExpandError::Memory
+    }
+}
+
+/// An IRI that a table has made short: a label, and what follows the label's IRI.
+#[derive(Clone, Copy, Debug, PartialEq, Eq)]
+pub struct Compact<'a> {
+    /// The label of an entry.
+    pub label: &'a str,
+    /// What follows the entry's IRI.
+    pub rest: &'a str,
+}
+
+impl Compact<'_> {
+    /// The label, `:`, and the rest.
+    pub fn to_text(&self, alloc: Global) -> Result<String, Memory>
+        ensures { IfOk result (λ text. string_bytes text ≡ compact_text (compact_value self.now)) }
+    {
+        joined(alloc, self.label, ":", self.rest)
+    }
+}
+
+/// Labels, each with the IRI that it stands for, in the order in which they were inserted.
+#[derive(Drop)]
+pub struct Prefixes<A: Allocator = Global> {
+    entries: Vec<Entry<A>, A>,
+    index: Index<A>,
+}
+
+impl<A: Allocator> Model for Prefixes<A> {
+    ghost use Rattle.iref_mapping.specs.PrefixTable.{PrefixTable, IsPrefixTable};
+    ghost use Rattle.iref.specs.PrefixIndex.{IsIndexed};
+
+    ghost Value = { PrefixTable };
+
+    ghost view = { λ p. p.entries.items };
+
+    ghost invariant = { λ p. IsPrefixTable p.entries.items × IsIndexed p.entries.items p.index };
+}
+
+impl<A: Allocator + Copy> Prefixes<A> {
+    /// The empty table.
+    pub fn new(alloc: A) -> Self
+        ensures { result ≡ [] }
+    {
+        let entries = Vec::new(alloc);
+        let index = Index::new(alloc);
+        Prefixes { entries, index }
+    }
+
+    /// How many entries the table has.
+    pub fn len(&self) -> usize
+        ensures { result ≡ length self.now }
+    {
+        self.entries.len()
+    }
+
+    // The entry of a label.
+    #[tactic(auto, using(crate::proofs::PrefixIndexLemmas::no_number, crate::proofs::PrefixIndexLemmas::number_at))]
+    fn find(&self, label: &str) -> Option<&Entry<A>>
+        ensures { option_copied result ≡ find (has_label label.now) self.now }
+    {
+        let at = self.index.label(label)?;
+        self.entries.get(at)
+    }
+
+    // The first entry whose text is the IRI's beginning of this length.
+    #[tactic(auto, using(crate::proofs::PrefixIndexLemmas::no_number))]
+    fn beginning(&self, iri: &str, len: usize) -> Option<&Entry<A>>
+        requires { len ≤ length iri.now }
+        ensures { option_copied result ≡ find (has_text (take len iri.now)) self.now }
+    {
+        let index = &self.index;
+        if !iri.is_char_boundary(len) {
+            return None;
+        }
+        let at = index.text(&iri[..len])?;
+        self.entries.get(at)
+    }
+
+    // The first of the longest entries whose text is a beginning of the IRI's: the lengths of
+    // texts are tried from the greatest down.
+    #[tactic(auto, using(crate::proofs::PrefixSearchLemmas::all_below))]
+    fn longest_fit(&self, iri: &str) -> Option<&Entry<A>>
+        ensures entry { option_copied result ≡ longest_fit iri.now self.now }
+        ensures table { IsPrefixTable self.now }
+    {
+        let mut end = iri.len() + 1;
+        while let Some(len) = self.index.length_below(end) {
+            let entry = self.beginning(iri, len);
+            if entry.is_some() {
+                return entry;
+            }
+            end = len;
+        }
+        None
+    }
+
+    /// The IRI of a label, if the label has an entry.
+    #[tactic(auto, unfolding(iref_mapping::specs::PrefixTable::get))]
+    pub fn get(&self, label: &str) -> Option<Iri<'_>>
+        ensures { option_map reference_text result ≡ get label.now self.now }
+    {
+        Some(self.find(label)?.iri())
+    }
+
+    /// Adds a last entry. A label is an ASCII letter, then ASCII letters, digits, `-` and `_`; it
+    /// differs from all labels that are there, by its text. The table keeps two copies of both.
+    ///
+    /// # Errors
+    ///
+    /// `BadLabel`, then `Taken`, then `Memory`.
+    #[tactic(auto, using(crate::proofs::PrefixTableLemmas::no_label, crate::proofs::PrefixTableLemmas::taken, crate::proofs::PrefixTableLemmas::fresh, crate::proofs::PrefixTableLemmas::stays_table))]
+    pub fn insert(&mut self, label: &str, iri: Iri<'_>) -> Result<(), PrefixError>
+        ensures ok { OnOk result (inserted label.now (reference_text iri.entry) self.old
+            ≡ Ok self.new) }
+        ensures err { IfErr result
+            (RefusesInsert (inserted label.now (reference_text iri.entry) self.old)) }
+        ensures unchanged { OnErr result (self.new ≡ self.old) }
+    {
+        if !is_label(label) {
+            return Err(PrefixError::BadLabel);
+        }
+        if self.find(label).is_some() {
+            return Err(PrefixError::Taken);
+        }
+        Ok(add(&mut self.entries, &mut self.index, label, iri.as_str())?)
+    }
+
+    /// The IRI by its longest beginning in the table: the label of the entry whose IRI's text is a
+    /// beginning of this one's, and the rest. Where several are as long, the first inserted one
+    /// serves. None where no entry's IRI is a beginning. It takes no memory, and looks once for
+    /// each length, up to this IRI's, that an IRI of the table has.
+    #[tactic(auto, using(crate::proofs::PrefixTableLemmas::longest_begins, crate::proofs::PrefixTableLemmas::compacted_by, crate::proofs::PrefixTableLemmas::expands))]
+    pub fn compact<'a>(&'a self, iri: Iri<'a>) -> Option<Compact<'a>>
+        ensures compacted { option_map compact_value result
+            ≡ compacted (reference_text iri.entry) self.now }
+        ensures expands { IfSome result (λ compact. expanded
+            (compact_text (compact_value compact)) self.now ≡ Ok (reference_text iri.entry)) }
+    {
+        let text = iri.as_str();
+        let entry = self.longest_fit(text)?;
+        let rest = after_front(text, entry.iri().as_str())?;
+        let label = entry.label();
+        Some(Compact { label, rest })
+    }
+
+    /// The IRI that a text stands for: the text is cut at its first `:`, and the IRI of the label
+    /// before it is followed by what stands after it.
+    ///
+    /// # Errors
+    ///
+    /// `NoColon`, then `UnknownLabel`, then `Memory`, then `NotAnIri`.
+    #[tactic(auto, using(crate::proofs::PrefixTableLemmas::no_colon, crate::proofs::PrefixTableLemmas::unknown_label, crate::proofs::PrefixTableLemmas::known_label, crate::proofs::PrefixTableLemmas::has_colon, crate::proofs::PrefixTableLemmas::has_known_label))]
+    pub fn expand(&self, alloc: Global, text: &str) -> Result<IriBuf, ExpandError>
+        ensures ok { IfOk result (λ iri. expanded text.now self.now ≡ Ok (reference_buf_text iri)) }
+        ensures err { IfErr result (RefusesExpand (expanded text.now self.now)) }
+    {
+        let (label, rest) = cut(text, ':');
+        let rest = rest.ok_or(ExpandError::NoColon)?;
+        let iri = self.get(label).ok_or(ExpandError::UnknownLabel)?;
+        let text = joined(alloc, iri.as_str(), "", rest)?;
+        iri_of(text)
+    }
+}

@@ -1,0 +1,81 @@
+//! An entry of a prefix table, and texts of labels.
+ghost use Rattle.std.specs.Prelude.{◌≡◌, ◌++◌, [], ◌∷◌, true, IfOk, OnOk, OnErr};
+ghost use Rattle.std.specs.String.{string_bytes};
+ghost use Rattle.iref.specs.PrefixIndex.{IsIndexed};
+ghost use Rattle.iref_grammar.specs.Characters.{iri_chars};
+ghost use Rattle.iref_grammar.specs.Reference.{is_full_reference};
+ghost use Rattle.iref_reference.specs.References.{reference_text};
+
+use super::index::Index;
+use crate::iri::Iri;
+use iref_error::Memory;
+use std::alloc::Allocator;
+use std::marker::Model;
+
+// A label, and the text of its IRI.
+#[derive(Drop)]
+pub(super) struct Entry<A: Allocator> {
+    label: String<A>,
+    iri: String<A>,
+}
+
+impl<A: Allocator> Model for Entry<A> {
+    ghost use Rattle.std.specs.Prelude.{◌≡◌, true};
+    ghost use Rattle.std.specs.String.{string_bytes};
+    ghost use Rattle.iref_grammar.specs.Characters.{iri_chars};
+    ghost use Rattle.iref_grammar.specs.Reference.{is_full_reference};
+    ghost use Rattle.iref_mapping.specs.PrefixTable.{PrefixEntry};
+
+    ghost Value = { PrefixEntry };
+
+    ghost view = { λ e. record { label = string_bytes e.label; iri = string_bytes e.iri } };
+
+    ghost invariant = { λ e. is_full_reference iri_chars (string_bytes e.iri) ≡ true };
+}
+
+impl<A: Allocator + Copy> Entry<A> {
+    // An entry of copies.
+    pub(super) fn new(alloc: A, label: &str, iri: &str) -> Result<Self, Memory>
+        requires { is_full_reference iri_chars iri.now ≡ true }
+        ensures { IfOk result (λ entry.
+            entry ≡ record { label = label.now; iri = iri.now }) }
+    {
+        let label = String::from_str(alloc, label)?;
+        let iri = String::from_str(alloc, iri)?;
+        Ok(Entry { label, iri })
+    }
+
+    pub(super) fn label(&self) -> &str
+        ensures { result.now ≡ self.now.label }
+    {
+        self.label.as_str()
+    }
+
+    pub(super) fn iri(&self) -> Iri<'_>
+        ensures { reference_text result ≡ self.now.iri }
+    {
+        Iri::new_unchecked(self.iri.as_str())
+    }
+}
+
+// Adds a last entry, and its number to the index.
+pub(super) fn add<A: Allocator + Copy>(
+    entries: &mut Vec<Entry<A>, A>,
+    index: &mut Index<A>,
+    label: &str,
+    iri: &str,
+) -> Result<(), Memory>
+    requires iri { is_full_reference iri_chars iri.now ≡ true }
+    requires indexed { IsIndexed entries.old.items index.old }
+    ensures ok { OnOk result (entries.new.items
+        ≡ entries.old.items ++ record { label = label.now; iri = iri.now } ∷ []) }
+    ensures err { OnErr result (entries.new.items ≡ entries.old.items) }
+    ensures indexed { IsIndexed entries.new.items index.new }
+{
+    let alloc = *entries.allocator();
+    let entry = Entry::new(alloc, label, iri)?;
+    entries.reserve(1)?;
+    index.add(alloc, label, iri, entries.len())?;
+    entries.push_reserved(entry);
+    Ok(())
+}

@@ -1,0 +1,98 @@
+//! Where the entries of a prefix table are: by their labels, by their IRIs, and by the lengths of
+//! these.
+ghost use Rattle.std.specs.Prelude.{◌≡◌, length, not, is_some, IfOk, OnOk, OnErr};
+ghost use Rattle.std.specs.BTreeMap.{get_by_text};
+ghost use Rattle.iref.specs.PrefixIndex.{IsEmptyIndex, Gains, Stays, GainsLength, KeepsLengths, IsLengthBelow};
+
+use iref_error::Memory;
+use std::alloc::Allocator;
+use std::collections::{BTreeMap, BTreeSet};
+
+// Numbers of entries, by texts.
+type Places<A> = BTreeMap<String<A>, usize, A>;
+
+// Where the entries are.
+#[derive(Drop)]
+pub(super) struct Index<A: Allocator> {
+    // of each label its entry
+    labels: Places<A>,
+    // of each text the first entry whose IRI it is
+    texts: Places<A>,
+    // the lengths of the texts, and perhaps others
+    lengths: BTreeSet<usize, A>,
+}
+
+impl<A: Allocator + Copy> Index<A> {
+    pub(super) fn new(alloc: A) -> Self
+        ensures { IsEmptyIndex result }
+    {
+        Index {
+            labels: BTreeMap::new(alloc),
+            texts: BTreeMap::new(alloc),
+            lengths: BTreeSet::new(alloc),
+        }
+    }
+
+    // The number of a label's entry.
+    pub(super) fn label(&self, label: &str) -> Option<usize>
+        ensures { result ≡ get_by_text self.now.labels label.now }
+    {
+        self.labels.get(label).copied()
+    }
+
+    // The number of the first entry whose IRI this text is.
+    pub(super) fn text(&self, text: &str) -> Option<usize>
+        ensures { result ≡ get_by_text self.now.texts text.now }
+    {
+        self.texts.get(text).copied()
+    }
+
+    // The greatest of the lengths that are less than this.
+    pub(super) fn length_below(&self, end: usize) -> Option<usize>
+        ensures { IsLengthBelow self.now.lengths end result }
+    {
+        match self.lengths.range(..end).next_back() {
+            Some(len) => Some(*len),
+            None => None,
+        }
+    }
+
+    // Adds an entry of this number.
+    pub(super) fn add(&mut self, alloc: A, label: &str, text: &str, at: usize) -> Result<(), Memory>
+        ensures labels { OnOk result (Gains self.old.labels self.new.labels label.now at) }
+        ensures texts { OnOk result (Gains self.old.texts self.new.texts text.now at) }
+        ensures lengths { OnOk result (GainsLength self.old.lengths self.new.lengths (length text.now)) }
+        ensures labels_stay { OnErr result (Stays self.old.labels self.new.labels) }
+        ensures texts_stay { OnErr result (Stays self.old.texts self.new.texts) }
+        ensures lengths_stay { OnErr result (KeepsLengths self.old.lengths self.new.lengths) }
+    {
+        self.lengths.insert(text.len())?;
+        let is_new = add_first(alloc, &mut self.texts, text, at)?;
+        if let Err(error) = add_first(alloc, &mut self.labels, label, at) {
+            if is_new {
+                self.texts.remove(text);
+            }
+            return Err(error);
+        }
+        Ok(())
+    }
+}
+
+// Adds a number under a text that has none, and tells whether it had none.
+fn add_first<A: Allocator + Copy>(
+    alloc: A,
+    places: &mut Places<A>,
+    text: &str,
+    at: usize,
+) -> Result<bool, Memory>
+    ensures ok { OnOk result (Gains places.old places.new text.now at) }
+    ensures new { IfOk result (λ is_new. is_new ≡ not (is_some (get_by_text places.old text.now))) }
+    ensures err { OnErr result (Stays places.old places.new) }
+{
+    if places.contains_key(text) {
+        return Ok(false);
+    }
+    let key = String::from_str(alloc, text)?;
+    places.insert(key, at)?;
+    Ok(true)
+}

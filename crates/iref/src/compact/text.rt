@@ -1,0 +1,79 @@
+//! Texts of prefix tables: labels, and texts that are joined.
+ghost use Rattle.std.specs.Prelude.{◌≡◌, ◌++◌, IfOk, IfErr, Ok, Some, None, if◌then◌else◌, length, drop};
+ghost use Rattle.std.specs.Option.{option_copied};
+ghost use Rattle.iref_grammar.specs.Texts.{begins_with};
+ghost use Rattle.std.specs.List.{list_all};
+ghost use Rattle.std.specs.String.{string_bytes};
+ghost use Rattle.iref_mapping.specs.PrefixTable.{is_label, is_label_char, if_iri};
+ghost use Rattle.iref_reference.specs.References.{reference_buf_text};
+ghost use Rattle.iref.specs.Prefixes.{RefusesExpand};
+
+use super::ExpandError;
+use crate::iri::IriBuf;
+use iref_error::Memory;
+use std::alloc::{AllocError, Allocator};
+
+// Whether a label may hold the byte after its first letter.
+fn is_label_byte(byte: u8) -> bool
+    ensures { result ≡ is_label_char byte }
+{
+    byte.is_ascii_alphanumeric() || matches!(byte, b'-' | b'_')
+}
+
+// Whether a label may hold the bytes after its first letter.
+fn are_label_bytes(bytes: &[u8]) -> bool
+    ensures { result ≡ list_all is_label_char bytes.now }
+{
+    bytes.iter().all(|byte| is_label_byte(*byte))
+}
+
+// Whether the text is a label.
+#[tactic(auto, unfolding(iref_mapping::specs::PrefixTable::is_label))]
+pub(super) fn is_label(text: &str) -> bool
+    ensures { result ≡ is_label text.now }
+{
+    let Some((first, others)) = text.as_bytes().split_first() else {
+        return false;
+    };
+    first.is_ascii_alphabetic() && are_label_bytes(others)
+}
+
+// What follows this beginning of the text, if the text begins so.
+#[tactic(auto, using(crate::proofs::PrefixTextLemmas::after_front))]
+pub(super) fn after_front<'a>(text: &'a str, front: &str) -> Option<&'a str>
+    ensures { option_copied result
+        ≡ (if begins_with front.now text.now then Some (drop (length front.now) text.now) else None) }
+{
+    text.strip_prefix(front)
+}
+
+// The pieces one after the other.
+pub(super) fn joined<A: Allocator>(
+    alloc: A,
+    front: &str,
+    mark: &str,
+    back: &str,
+) -> Result<String<A>, Memory>
+    ensures { IfOk result (λ text.
+        string_bytes text ≡ front.now ++ mark.now ++ back.now) }
+{
+    let len = front.len().checked_add(mark.len()).ok_or(AllocError)?;
+    let len = len.checked_add(back.len()).ok_or(AllocError)?;
+    let mut text = String::with_capacity(alloc, len)?;
+    text.push_str(front)?;
+    text.push_str(mark)?;
+    text.push_str(back)?;
+    Ok(text)
+}
+
+// The IRI of a text.
+#[tactic(auto, using(crate::proofs::PrefixTableLemmas::iri_text, crate::proofs::PrefixTableLemmas::no_iri))]
+pub(super) fn iri_of(text: String) -> Result<IriBuf, ExpandError>
+    ensures ok { IfOk result (λ iri. if_iri (string_bytes text) ≡ Ok (reference_buf_text iri)) }
+    ensures err { IfErr result (RefusesExpand (if_iri (string_bytes text))) }
+{
+    match IriBuf::new(text) {
+        Ok(iri) => Ok(iri),
+        Err(_) => Err(ExpandError::NotAnIri),
+    }
+}
