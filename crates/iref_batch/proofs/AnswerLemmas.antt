@@ -3,7 +3,7 @@ use Rattle.std.proofs.Common.{◌≡◌, Bool, true, false, refl, sym, ◌∙◌
 use Rattle.std.proofs.lemmas.Bool.{and_right}
 use Rattle.std.specs.List.{join_with_byte}
 use Rattle.iref_grammar.specs.Rules.{Text, InUtf8}
-use Rattle.iref_grammar.specs.Characters.{uri_chars, uri_above_ascii}
+use Rattle.iref_grammar.specs.Characters.{iri_chars, iri_above_ascii}
 use Rattle.iref_grammar.specs.Grammar.{IsPath, IsUriReference}
 use Rattle.iref_grammar.specs.Tests.{is_path}
 use Rattle.iref_grammar.proofs.PathTextLemmas.{Decides-is_path}
@@ -18,20 +18,21 @@ use Rattle.iref_model.specs.Key.{are_alike}
 use Rattle.iref_model.specs.Relative.{relative_to}
 use Rattle.iref_model.specs.Resolution.{resolved}
 use Rattle.iref_buffer.proofs.HeldLemmas.{read_components-spelled}
-use Rattle.iref_model.specs.Lines.{Request, answer_if_valid, read_line, answer, BadCommand, InvalidText, Answered, Parts, Resolve, Relative, Normal, Equal, answer_to, is_valid, answer_text, part_fields, yes_or_no, tab, all_verbs}
+use Rattle.iref_mapping.specs.Mapping.{mapped}
+use Rattle.iref_lines.specs.Lines.{Request, answer_if_valid, read_line, answer, BadCommand, InvalidText, Answered, Parts, Resolve, Relative, Normal, Equal, ToUri, answer_to, is_valid, answer_text, part_fields, yes_or_no, tab, all_verbs}
 use Rattle.iref_batch.specs.Runs.{line_reply, reply_to}
 
 -- what is written for a line is what is written for its request
 pub reply_of : (line : Text) (asked : Option Request) → read_line all_verbs line ≡ asked → line_reply line ≡ reply_to asked
 unfolding answer
-reply_of line None e = ap (λ (r : Option Request). answer_text (elim r [ None ↦ BadCommand | Some request ↦ answer_if_valid request ])) e
-reply_of line (Some asked) e = ap (λ (r : Option Request). answer_text (elim r [ None ↦ BadCommand | Some request ↦ answer_if_valid request ])) e
+reply_of line None e = ap (λ (r : Option Request). answer_text (elim r [ None ↦ BadCommand | Some request ↦ answer_if_valid iri_chars request ])) e
+reply_of line (Some asked) e = ap (λ (r : Option Request). answer_text (elim r [ None ↦ BadCommand | Some request ↦ answer_if_valid iri_chars request ])) e
 
 -- the answer to a request whose texts are in their grammars, and to another
-pub valid : (request : Request) → is_valid request ≡ true → answer_if_valid request ≡ answer_to request
+pub valid : (request : Request) → is_valid iri_chars request ≡ true → answer_if_valid iri_chars request ≡ answer_to request
 valid request h = ap (λ (b : Bool). elim b [ true ↦ answer_to request | false ↦ InvalidText ]) h
 
-pub invalid : (request : Request) → is_valid request ≡ false → answer_if_valid request ≡ InvalidText
+pub invalid : (request : Request) → is_valid iri_chars request ≡ false → answer_if_valid iri_chars request ≡ InvalidText
 invalid request h = ap (λ (b : Bool). elim b [ true ↦ answer_to request | false ↦ InvalidText ]) h
 
 regroup : (out k a b c d e : Text) → (((((out ++ k) ++ a) ++ b) ++ c) ++ d) ++ e ≡ out ++ (k ++ (a ++ (b ++ (c ++ (d ++ e)))))
@@ -47,71 +48,79 @@ false_if_not : (b : Bool) → ¬ (b ≡ true) → b ≡ false
 false_if_not true h = absurd (h refl)
 false_if_not false h = refl
 
-pub reference : (text : Text) → InUtf8 (IsUriReference uri_chars) text → is_reference uri_chars text ≡ true
-reference text h = (Decides-is_uri_reference uri_chars uri_above_ascii text).1 h
+pub reference : (text : Text) → InUtf8 (IsUriReference iri_chars) text → is_reference iri_chars text ≡ true
+reference text h = (Decides-is_uri_reference iri_chars iri_above_ascii text).1 h
 
-pub no_reference : (text : Text) → ¬ (InUtf8 (IsUriReference uri_chars) text) → is_reference uri_chars text ≡ false
-no_reference text h = false_if_not _ (λ e. h ((Decides-is_uri_reference uri_chars uri_above_ascii text).0 e))
+pub no_reference : (text : Text) → ¬ (InUtf8 (IsUriReference iri_chars) text) → is_reference iri_chars text ≡ false
+no_reference text h = false_if_not _ (λ e. h ((Decides-is_uri_reference iri_chars iri_above_ascii text).0 e))
 
-path : (text : Text) → InUtf8 (IsPath uri_chars) text → is_path uri_chars text ≡ true
-path text h = (Decides-is_path uri_chars uri_above_ascii text).1 h
+path : (text : Text) → InUtf8 (IsPath iri_chars) text → is_path iri_chars text ≡ true
+path text h = (Decides-is_path iri_chars iri_above_ascii text).1 h
 
-no_path : (text : Text) → ¬ (InUtf8 (IsPath uri_chars) text) → is_path uri_chars text ≡ false
-no_path text h = false_if_not _ (λ e. h ((Decides-is_path uri_chars uri_above_ascii text).0 e))
+no_path : (text : Text) → ¬ (InUtf8 (IsPath iri_chars) text) → is_path iri_chars text ≡ false
+no_path text h = false_if_not _ (λ e. h ((Decides-is_path iri_chars iri_above_ascii text).0 e))
 
-pub parts_answer : (text : Text) (t : ComponentTexts) → InUtf8 (IsUriReference uri_chars) text → t ≡ spell_components (read_reference text) → answer_if_valid (Parts text) ≡ Answered (part_fields t)
+pub parts_answer : (text : Text) (t : ComponentTexts) → InUtf8 (IsUriReference iri_chars) text → t ≡ spell_components (read_reference text) → answer_if_valid iri_chars (Parts text) ≡ Answered (part_fields t)
 unfolding is_valid answer_to
 parts_answer text t h k = valid (Parts text) (reference text h) ∙ ap (λ (u : ComponentTexts). Answered (part_fields u)) (sym k)
 
-pub no_parts_answer : (text : Text) → ¬ (InUtf8 (IsUriReference uri_chars) text) → answer_if_valid (Parts text) ≡ InvalidText
+pub no_parts_answer : (text : Text) → ¬ (InUtf8 (IsUriReference iri_chars) text) → answer_if_valid iri_chars (Parts text) ≡ InvalidText
 unfolding is_valid
 no_parts_answer text h = invalid (Parts text) (no_reference text h)
 
-pub resolve_answer : (reference base written : Text) (r b : ReferenceValue) → is_reference uri_chars reference ≡ true → is_full_reference uri_chars base ≡ true → r ≡ read_reference reference → b ≡ read_reference base → written ≡ spell (resolved b r) → answer_if_valid (Resolve reference base) ≡ Answered written
+pub resolve_answer : (reference base written : Text) (r b : ReferenceValue) → is_reference iri_chars reference ≡ true → is_full_reference iri_chars base ≡ true → r ≡ read_reference reference → b ≡ read_reference base → written ≡ spell (resolved b r) → answer_if_valid iri_chars (Resolve reference base) ≡ Answered written
 unfolding is_valid answer_to
 resolve_answer reference base written r b h k e f w =
     valid (Resolve reference base) (rw (h, k) refl) ∙ ap (λ (v : ReferenceValue). Answered (spell v)) ((λ i. resolved (sym f i) (sym e i))) ∙ ap Answered (sym w)
 
-pub no_reference_answer : (reference base : Text) → is_reference uri_chars reference ≡ false → answer_if_valid (Resolve reference base) ≡ InvalidText
+pub no_reference_answer : (reference base : Text) → is_reference iri_chars reference ≡ false → answer_if_valid iri_chars (Resolve reference base) ≡ InvalidText
 unfolding is_valid
 no_reference_answer reference base h = invalid (Resolve reference base) (rw h refl)
 
-pub no_base_answer : (reference base : Text) → is_full_reference uri_chars base ≡ false → answer_if_valid (Resolve reference base) ≡ InvalidText
+pub no_base_answer : (reference base : Text) → is_full_reference iri_chars base ≡ false → answer_if_valid iri_chars (Resolve reference base) ≡ InvalidText
 unfolding is_valid
-no_base_answer reference base h = invalid (Resolve reference base) (and_right (is_reference uri_chars reference) _ h)
+no_base_answer reference base h = invalid (Resolve reference base) (and_right (is_reference iri_chars reference) _ h)
 
-pub relative_answer : (target base written : Text) (t b : ReferenceValue) → is_reference uri_chars target ≡ true → is_reference uri_chars base ≡ true → t ≡ read_reference target → b ≡ read_reference base → written ≡ spell (relative_to t b) → answer_if_valid (Relative target base) ≡ Answered written
+pub relative_answer : (target base written : Text) (t b : ReferenceValue) → is_reference iri_chars target ≡ true → is_reference iri_chars base ≡ true → t ≡ read_reference target → b ≡ read_reference base → written ≡ spell (relative_to t b) → answer_if_valid iri_chars (Relative target base) ≡ Answered written
 unfolding is_valid answer_to
 relative_answer target base written t b h k e f w =
     valid (Relative target base) (rw (h, k) refl) ∙ ap (λ (v : ReferenceValue). Answered (spell v)) ((λ i. relative_to (sym e i) (sym f i))) ∙ ap Answered (sym w)
 
-pub no_target_answer : (target base : Text) → is_reference uri_chars target ≡ false → answer_if_valid (Relative target base) ≡ InvalidText
+pub no_target_answer : (target base : Text) → is_reference iri_chars target ≡ false → answer_if_valid iri_chars (Relative target base) ≡ InvalidText
 unfolding is_valid
 no_target_answer target base h = invalid (Relative target base) (rw h refl)
 
-pub no_relative_base_answer : (target base : Text) → is_reference uri_chars base ≡ false → answer_if_valid (Relative target base) ≡ InvalidText
+pub no_relative_base_answer : (target base : Text) → is_reference iri_chars base ≡ false → answer_if_valid iri_chars (Relative target base) ≡ InvalidText
 unfolding is_valid
-no_relative_base_answer target base h = invalid (Relative target base) (and_right (is_reference uri_chars target) _ h)
+no_relative_base_answer target base h = invalid (Relative target base) (and_right (is_reference iri_chars target) _ h)
 
-pub normal_answer : (text same written : Text) → InUtf8 (IsPath uri_chars) text → same ≡ text → written ≡ spell_path (guarded alone (normal (read_path same))) → answer_if_valid (Normal text) ≡ Answered written
+pub normal_answer : (text same written : Text) → InUtf8 (IsPath iri_chars) text → same ≡ text → written ≡ spell_path (guarded alone (normal (read_path same))) → answer_if_valid iri_chars (Normal text) ≡ Answered written
 unfolding is_valid answer_to
 normal_answer text same written h e w = valid (Normal text) (path text h) ∙ ap Answered (ap (λ (s : Text). spell_path (guarded alone (normal (read_path s)))) (sym e) ∙ sym w)
 
-pub no_normal_answer : (text : Text) → ¬ (InUtf8 (IsPath uri_chars) text) → answer_if_valid (Normal text) ≡ InvalidText
+pub no_normal_answer : (text : Text) → ¬ (InUtf8 (IsPath iri_chars) text) → answer_if_valid iri_chars (Normal text) ≡ InvalidText
 unfolding is_valid
 no_normal_answer text h = invalid (Normal text) (no_path text h)
 
-pub equal_answer : (left right : Text) (t u : ComponentTexts) (alike : Bool) → InUtf8 (IsUriReference uri_chars) left → InUtf8 (IsUriReference uri_chars) right → t ≡ spell_components (read_reference left) → u ≡ spell_components (read_reference right) → alike ≡ are_alike (read_components t) (read_components u) → answer_if_valid (Equal left right) ≡ Answered (yes_or_no alike)
+pub equal_answer : (left right : Text) (t u : ComponentTexts) (alike : Bool) → InUtf8 (IsUriReference iri_chars) left → InUtf8 (IsUriReference iri_chars) right → t ≡ spell_components (read_reference left) → u ≡ spell_components (read_reference right) → alike ≡ are_alike (read_components t) (read_components u) → answer_if_valid iri_chars (Equal left right) ≡ Answered (yes_or_no alike)
 unfolding is_valid answer_to
 equal_answer left right t u alike h k e f a =
     let same_left = ap read_components e ∙ read_components-spelled left in
     let same_right = ap read_components f ∙ read_components-spelled right in
     valid (Equal left right) (rw (reference left h, reference right k) refl) ∙ ap (λ (b : Bool). Answered (yes_or_no b)) (sym (a ∙ (λ i. are_alike (same_left i) (same_right i))))
 
-pub no_left_answer : (left right : Text) → ¬ (InUtf8 (IsUriReference uri_chars) left) → answer_if_valid (Equal left right) ≡ InvalidText
+pub no_left_answer : (left right : Text) → ¬ (InUtf8 (IsUriReference iri_chars) left) → answer_if_valid iri_chars (Equal left right) ≡ InvalidText
 unfolding is_valid
 no_left_answer left right h = invalid (Equal left right) (rw (no_reference left h) refl)
 
-pub no_right_answer : (left right : Text) → ¬ (InUtf8 (IsUriReference uri_chars) right) → answer_if_valid (Equal left right) ≡ InvalidText
+pub no_right_answer : (left right : Text) → ¬ (InUtf8 (IsUriReference iri_chars) right) → answer_if_valid iri_chars (Equal left right) ≡ InvalidText
 unfolding is_valid
-no_right_answer left right h = invalid (Equal left right) (and_right (is_reference uri_chars left) _ (no_reference right h))
+no_right_answer left right h = invalid (Equal left right) (and_right (is_reference iri_chars left) _ (no_reference right h))
+
+pub to_uri_answer : (text same written : Text) → InUtf8 (IsUriReference iri_chars) text → same ≡ text → written ≡ mapped same → answer_if_valid iri_chars (ToUri text) ≡ Answered written
+unfolding is_valid answer_to
+to_uri_answer text same written h e w = valid (ToUri text) (reference text h) ∙ ap Answered (ap mapped (sym e) ∙ sym w)
+
+pub no_to_uri_answer : (text : Text) → ¬ (InUtf8 (IsUriReference iri_chars) text) → answer_if_valid iri_chars (ToUri text) ≡ InvalidText
+unfolding is_valid
+no_to_uri_answer text h = invalid (ToUri text) (no_reference text h)

@@ -2,35 +2,35 @@
 use Rattle.std.proofs.Common.{◌≡◌, ℕ, true, false, List, ◌∷◌, Option, Some, Ok, Err, refl, ap, sym, ◌∙◌, option_map}
 use Rattle.std.specs.List.{list_all}
 use Rattle.std.proofs.lemmas.Bool.{and_right}
-use Rattle.iref_grammar.specs.Characters.{uri_chars}
+use Rattle.iref_grammar.specs.Characters.{iri_chars}
 use Rattle.iref_grammar.specs.Grammar.{IsUriReference}
 use Rattle.iref_grammar.specs.Reference.{ReferenceValue, is_reference, read_reference, spell}
 use Rattle.iref_grammar.specs.Rules.{InUtf8, Text}
 use Rattle.iref_model.specs.Edits.{EditStep, EditRefusal, EditsOutcome, edited, edited_all}
-use Rattle.iref_model.specs.Lines.{Edit, Answered, InvalidText, RefusedEdit, answer_if_valid, answer_text, answer_to, edits_answer, is_valid, is_valid_edit, text_and_edits}
+use Rattle.iref_lines.specs.Lines.{Edit, Answered, InvalidText, RefusedEdit, answer_if_valid, answer_text, answer_to, edits_answer, is_valid, is_valid_edit, text_and_edits}
 use Rattle.iref.specs.EditAnswers.{AreDone}
 use Rattle.iref_batch.specs.EditFields.{edits_read}
-use Rattle.iref_batch.specs.Runs.{reply_to, request_reply}
+use Rattle.iref_batch.specs.Runs.{reply_to}
 use Rattle.iref_batch.proofs.AnswerLemmas.{invalid, no_reference, reference, valid}
 
 replied : (text : Text) (fields : List Text) (read : Option (List EditStep)) → edits_read fields ≡ read → reply_to (text_and_edits (text ∷ fields)) ≡ reply_to (option_map (Edit text) read)
 replied text fields read e = ap (λ (o : Option (List EditStep)). reply_to (option_map (Edit text) o)) e
 
-pub invalid_reply : (text : Text) (fields : List Text) → ((steps : List EditStep) × (edits_read fields ≡ Some steps) × (list_all is_valid_edit steps ≡ false)) → reply_to (text_and_edits (text ∷ fields)) ≡ answer_text InvalidText
+pub invalid_reply : (text : Text) (fields : List Text) → ((steps : List EditStep) × (edits_read fields ≡ Some steps) × (list_all (is_valid_edit iri_chars) steps ≡ false)) → reply_to (text_and_edits (text ∷ fields)) ≡ answer_text InvalidText
 unfolding is_valid
-invalid_reply text fields bad = replied text fields (Some bad.0) bad.1 ∙ ap answer_text (invalid (Edit text bad.0) (and_right (is_reference uri_chars text) _ bad.2))
+invalid_reply text fields bad = replied text fields (Some bad.0) bad.1 ∙ ap answer_text (invalid (Edit text bad.0) (and_right (is_reference iri_chars text) _ bad.2))
 
-pub no_edited_answer : (text : Text) (steps : List EditStep) → ¬ (InUtf8 (IsUriReference uri_chars) text) → answer_if_valid (Edit text steps) ≡ InvalidText
+pub no_edited_answer : (text : Text) (steps : List EditStep) → ¬ (InUtf8 (IsUriReference iri_chars) text) → answer_if_valid iri_chars (Edit text steps) ≡ InvalidText
 unfolding is_valid
 no_edited_answer text steps h = invalid (Edit text steps) (rw (no_reference text h) refl)
 
-outcome : (text same : Text) (steps : List EditStep) (left : EditsOutcome) → InUtf8 (IsUriReference uri_chars) text → same ≡ text → list_all is_valid_edit steps ≡ true → edited_all steps (read_reference same) ≡ left → answer_if_valid (Edit text steps) ≡ edits_answer left
+outcome : (text same : Text) (steps : List EditStep) (left : EditsOutcome) → InUtf8 (IsUriReference iri_chars) text → same ≡ text → list_all (is_valid_edit iri_chars) steps ≡ true → edited_all steps (read_reference same) ≡ left → answer_if_valid iri_chars (Edit text steps) ≡ edits_answer left
 unfolding is_valid answer_to
 outcome text same steps left h s v e =
     valid (Edit text steps) (rw (reference text h, v) refl) ∙ ap edits_answer (ap (λ (t : Text). edited_all steps (read_reference t)) (sym s) ∙ e)
 
-pub edited_answer : (text same written : Text) (steps : List EditStep) (new : ReferenceValue) → InUtf8 (IsUriReference uri_chars) text → same ≡ text → list_all is_valid_edit steps ≡ true → AreDone edited steps (read_reference same) new → written ≡ spell new → answer_if_valid (Edit text steps) ≡ Answered written
+pub edited_answer : (text same written : Text) (steps : List EditStep) (new : ReferenceValue) → InUtf8 (IsUriReference iri_chars) text → same ≡ text → list_all (is_valid_edit iri_chars) steps ≡ true → AreDone edited steps (read_reference same) new → written ≡ spell new → answer_if_valid iri_chars (Edit text steps) ≡ Answered written
 edited_answer text same written steps new h s v e w = outcome text same steps (Ok new) h s v e ∙ ap Answered (sym w)
 
-pub refused_answer : (text same : Text) (steps : List EditStep) (new : ReferenceValue) (i : ℕ) (refusal : EditRefusal) → InUtf8 (IsUriReference uri_chars) text → same ≡ text → list_all is_valid_edit steps ≡ true → edited_all steps (read_reference same) ≡ Err (i, refusal, new) → answer_if_valid (Edit text steps) ≡ RefusedEdit
+pub refused_answer : (text same : Text) (steps : List EditStep) (new : ReferenceValue) (i : ℕ) (refusal : EditRefusal) → InUtf8 (IsUriReference iri_chars) text → same ≡ text → list_all (is_valid_edit iri_chars) steps ≡ true → edited_all steps (read_reference same) ≡ Err (i, refusal, new) → answer_if_valid iri_chars (Edit text steps) ≡ RefusedEdit
 refused_answer text same steps new i refusal h s v e = outcome text same steps (Err (i, refusal, new)) h s v e

@@ -1,14 +1,15 @@
 -- The edits that fields name, one after the other.
-use Rattle.std.proofs.Common.{◌≡◌, ◌&&◌, Bool, true, false, List, [], ◌∷◌, ◌++◌, Option, Some, None, Result, Ok, Err, refl, ap, sym, subst, ◌∙◌, append_assoc, append-nil, bytes_eq, option_map, option_and_then, map, MatchResult, IsOkAnd}
+use Rattle.std.proofs.Common.{◌≡◌, ◌&&◌, Bool, true, false, List, [], ◌∷◌, ◌++◌, Option, Some, None, Result, Ok, Err, refl, ap, sym, subst, ◌∙◌, bytes_eq, option_map, option_and_then, MatchResult, IsOkAnd}
 use Rattle.std.specs.List.{find, list_all}
 use Rattle.std.proofs.lemmas.Slice.Eq.{bytes_eq-Decides}
+use Rattle.iref_grammar.specs.Characters.{iri_chars}
 use Rattle.iref_grammar.specs.Rules.{Text}
-use Rattle.iref_grammar.specs.IpAddresses.{all_some}
 use Rattle.iref_model.specs.Edits.{EditStep}
-use Rattle.iref_model.specs.Lines.{edit_names, equals_sign, read_edit, is_valid_edit}
+use Rattle.iref_lines.specs.Lines.{edit_names, equals_sign, read_edit, is_valid_edit}
 use Rattle.iref_grammar.specs.Texts.{after, before}
 use Rattle.iref_batch.specs.declared.edit_fields.FieldError.{FieldError}
 use Rattle.iref_batch.specs.declared.edit_fields.FieldError.TheVariants.{Command, Invalid, Memory}
+use Rattle.iref_batch.proofs.FieldListLemmas.{nothing_before, next_read, not_read, all_read}
 use Rattle.iref_batch.specs.EditFields.{IsRead, EditNames, edit_named, edits_read}
 
 -- the name that was asked for is looked up
@@ -43,31 +44,16 @@ made make shown is_valid shown_then is_valid_then step read (Err Memory) (Err e)
 pub record Reading (all left : List Text) (kept : List EditStep) (valid : Bool) : Type 0 where
   pub steps : List EditStep
   pub read : edits_read all ≡ option_map (λ more. steps ++ more) (edits_read left)
-  pub valid_is : list_all is_valid_edit steps ≡ valid
+  pub valid_is : list_all (is_valid_edit iri_chars) steps ≡ valid
   pub kept_is : valid ≡ true → kept ≡ steps
-
-no_steps : (read : Option (List EditStep)) → option_map (λ more. [] ++ more) read ≡ read
-no_steps None = refl
-no_steps (Some steps) = refl
 
 pub reading_begun : (all : List Text) → Reading all all [] true
 reading_begun all = record {
   steps = [];
-  read = sym (no_steps (edits_read all));
+  read = nothing_before (edits_read all);
   valid_is = refl;
   kept_is = λ _. refl;
 }
-
-one_step : (steps : List EditStep) (step : EditStep) (read : Option (List EditStep)) → option_map (λ more. steps ++ more) (option_map (λ more. step ∷ more) read) ≡ option_map (λ more. (steps ++ step ∷ []) ++ more) read
-one_step steps step None = refl
-one_step steps step (Some more) = ap Some (sym (append_assoc steps (step ∷ []) more))
-
-edits_read-cons : (field : Text) (rest : List Text) (step : EditStep) → read_edit field ≡ Some step → edits_read (field ∷ rest) ≡ option_map (λ more. step ∷ more) (edits_read rest)
-edits_read-cons field rest step e = ap (λ (o : Option EditStep). option_and_then (λ s. option_map (λ more. s ∷ more) (edits_read rest)) o) e
-
-next_read : (all left rest : List Text) (field : Text) (steps : List EditStep) (step : EditStep) → left ≡ field ∷ rest → read_edit field ≡ Some step → edits_read all ≡ option_map (λ more. steps ++ more) (edits_read left) → edits_read all ≡ option_map (λ more. (steps ++ step ∷ []) ++ more) (edits_read rest)
-next_read all left rest field steps step l e r =
-    r ∙ ap (λ (o : Option (List EditStep)). option_map (λ more. steps ++ more) o) (ap edits_read l ∙ edits_read-cons field rest step e) ∙ one_step steps step (edits_read rest)
 
 and_last : (a b v : Bool) → (a && (b && v)) ≡ ((a && b) && v)
 and_last true b v = refl
@@ -77,14 +63,14 @@ and_true : (v : Bool) → (v && true) ≡ v
 and_true true = refl
 and_true false = refl
 
-all_valid-push : (steps : List EditStep) (step : EditStep) → list_all is_valid_edit (steps ++ step ∷ []) ≡ (list_all is_valid_edit steps && is_valid_edit step)
-all_valid-push [] step = and_true (is_valid_edit step)
-all_valid-push (s ∷ steps) step = ap (λ (b : Bool). is_valid_edit s && b) (all_valid-push steps step) ∙ and_last (is_valid_edit s) (list_all is_valid_edit steps) (is_valid_edit step)
+all_valid-push : (steps : List EditStep) (step : EditStep) → list_all (is_valid_edit iri_chars) (steps ++ step ∷ []) ≡ (list_all (is_valid_edit iri_chars) steps && is_valid_edit iri_chars step)
+all_valid-push [] step = and_true (is_valid_edit iri_chars step)
+all_valid-push (s ∷ steps) step = ap (λ (b : Bool). is_valid_edit iri_chars s && b) (all_valid-push steps step) ∙ and_last (is_valid_edit iri_chars s) (list_all (is_valid_edit iri_chars) steps) (is_valid_edit iri_chars step)
 
-pub reading_more : (all left rest : List Text) (field : Text) (kept kept_then : List EditStep) (valid : Bool) (step : EditStep) → left ≡ field ∷ rest → read_edit field ≡ Some step → is_valid_edit step ≡ true → kept_then ≡ kept ++ step ∷ [] → Reading all left kept valid → Reading all rest kept_then valid
+pub reading_more : (all left rest : List Text) (field : Text) (kept kept_then : List EditStep) (valid : Bool) (step : EditStep) → left ≡ field ∷ rest → read_edit field ≡ Some step → is_valid_edit iri_chars step ≡ true → kept_then ≡ kept ++ step ∷ [] → Reading all left kept valid → Reading all rest kept_then valid
 reading_more all left rest field kept kept_then valid step l e v k r = record {
   steps = r.steps ++ step ∷ [];
-  read = next_read all left rest field r.steps step l e r.read;
+  read = next_read read_edit all left rest field r.steps step l e r.read;
   valid_is = all_valid-push r.steps step ∙ rw (r.valid_is, v) (and_true valid);
   kept_is = λ h. k ∙ ap (λ (s : List EditStep). s ++ step ∷ []) (r.kept_is h);
 }
@@ -93,26 +79,21 @@ and_false : (v : Bool) → (v && false) ≡ false
 and_false true = refl
 and_false false = refl
 
-pub reading_invalid : (all left rest : List Text) (field : Text) (kept : List EditStep) (valid : Bool) → left ≡ field ∷ rest → ((step : EditStep) × (read_edit field ≡ Some step) × (is_valid_edit step ≡ false)) → Reading all left kept valid → Reading all rest kept false
+pub reading_invalid : (all left rest : List Text) (field : Text) (kept : List EditStep) (valid : Bool) → left ≡ field ∷ rest → ((step : EditStep) × (read_edit field ≡ Some step) × (is_valid_edit iri_chars step ≡ false)) → Reading all left kept valid → Reading all rest kept false
 reading_invalid all left rest field kept valid l bad r = record {
   steps = r.steps ++ bad.0 ∷ [];
-  read = next_read all left rest field r.steps bad.0 l bad.1 r.read;
+  read = next_read read_edit all left rest field r.steps bad.0 l bad.1 r.read;
   valid_is = all_valid-push r.steps bad.0 ∙ rw (r.valid_is, bad.2) (and_false valid);
   kept_is = λ h. absurd (cc);
 }
 
 pub reading_bad : (all left rest : List Text) (field : Text) (kept : List EditStep) (valid : Bool) → left ≡ field ∷ rest → read_edit field ≡ None → Reading all left kept valid → edits_read all ≡ None
-reading_bad all left rest field kept valid l e r =
-    r.read ∙ ap (λ (o : Option (List EditStep)). option_map (λ more. r.steps ++ more) o)
-    (ap edits_read l ∙ ap (λ (o : Option EditStep). option_and_then (λ s. option_map (λ more. s ∷ more) (edits_read rest)) o) e)
+reading_bad all left rest field kept valid l e r = not_read read_edit all left rest field r.steps l e r.read
 
-all_read : (all : List Text) (steps : List EditStep) → edits_read all ≡ option_map (λ more. steps ++ more) (edits_read []) → edits_read all ≡ Some steps
-all_read all steps e = e ∙ ap Some (append-nil steps)
-
-pub reading_done : (all : List Text) (kept : List EditStep) (valid : Bool) → valid ≡ true → Reading all [] kept valid → (edits_read all ≡ Some kept) × (list_all is_valid_edit kept ≡ true)
+pub reading_done : (all : List Text) (kept : List EditStep) (valid : Bool) → valid ≡ true → Reading all [] kept valid → (edits_read all ≡ Some kept) × (list_all (is_valid_edit iri_chars) kept ≡ true)
 reading_done all kept valid h r =
     let same = r.kept_is h in
-    (all_read all r.steps r.read ∙ ap Some (sym same), ap (list_all is_valid_edit) same ∙ r.valid_is ∙ h)
+    (all_read read_edit all r.steps r.read ∙ ap Some (sym same), ap (list_all (is_valid_edit iri_chars)) same ∙ r.valid_is ∙ h)
 
-pub reading_refused : (all : List Text) (kept : List EditStep) (valid : Bool) → valid ≡ false → Reading all [] kept valid → (steps : List EditStep) × (edits_read all ≡ Some steps) × (list_all is_valid_edit steps ≡ false)
-reading_refused all kept valid h r = (r.steps, all_read all r.steps r.read, r.valid_is ∙ h)
+pub reading_refused : (all : List Text) (kept : List EditStep) (valid : Bool) → valid ≡ false → Reading all [] kept valid → (steps : List EditStep) × (edits_read all ≡ Some steps) × (list_all (is_valid_edit iri_chars) steps ≡ false)
+reading_refused all kept valid h r = (r.steps, all_read read_edit all r.steps r.read, r.valid_is ∙ h)

@@ -7,7 +7,7 @@ use Rattle.iref_grammar.specs.Rules.{Text}
 use Rattle.std.specs.Char.{char_set_contains}
 use Rattle.iref_grammar.specs.Texts.{after, after_first_char, before, pieces_at, is_empty}
 use Rattle.iref_grammar.proofs.CutLemmas.{after-part, before-lacking, before-part, from_first-lacking}
-use Rattle.iref_model.specs.Lines.{Request, tab, read_line, read_fields, one_text, all_verbs}
+use Rattle.iref_lines.specs.Lines.{Request, tab, read_line, read_fields, one_text, all_verbs}
 use Rattle.iref_batch.specs.Gathering.{Lacks}
 use Rattle.iref_batch.specs.Fields.{fields_of}
 
@@ -52,6 +52,7 @@ verb_read line name verb fields read e h f =
     ap (read_fields all_verbs) (e ∙ ap (λ (v : Text). v ∷ fields_of fields) same) ∙
     ap (λ (v : Option (Text × (List Text → Option Request))). option_and_then (λ w. w.1 (fields_of fields)) v) f
 
-pub nothing_read : (line verb : Text) (fields : Option Text) → pieces_at tab line ≡ verb ∷ fields_of fields → false ≡ bytes_eq (codes "parts") verb → false ≡ bytes_eq (codes "resolve") verb → false ≡ bytes_eq (codes "relative") verb → false ≡ bytes_eq (codes "normal") verb → false ≡ bytes_eq (codes "equal") verb → false ≡ bytes_eq (codes "edit") verb → read_line all_verbs line ≡ None
+pub nothing_read : (line verb : Text) (fields : Option Text) → pieces_at tab line ≡ verb ∷ fields_of fields → false ≡ bytes_eq (codes "parts") verb → false ≡ bytes_eq (codes "resolve") verb → false ≡ bytes_eq (codes "relative") verb → false ≡ bytes_eq (codes "normal") verb → false ≡ bytes_eq (codes "equal") verb → false ≡ bytes_eq (codes "edit") verb → false ≡ bytes_eq (codes "to-uri") verb → false ≡ bytes_eq (codes "compact") verb → false ≡ bytes_eq (codes "expand") verb → read_line all_verbs line ≡ None
 unfolding read_line
-nothing_read line verb fields e parts resolve relative normal equal edit = rw (e, ← parts, ← resolve, ← relative, ← normal, ← equal, ← edit) refl
+nothing_read line verb fields e parts resolve relative normal equal edit to_uri compact expand =
+    rw (e, ← parts, ← resolve, ← relative, ← normal, ← equal, ← edit, ← to_uri, ← compact, ← expand) refl

@@ -5,6 +5,9 @@ pub mod EndLemmas
 pub mod FieldLemmas
 pub mod InputLemmas
 pub mod LineLemmas
+pub mod FieldListLemmas
+pub mod PrefixFieldLemmas
+pub mod PrefixAnswerLemmas
 pub mod ReplyLemmas
 pub mod RunLemmas
 pub mod Writing

@@ -6,7 +6,7 @@ use Rattle.std.proofs.lemmas.List.Splits.{slice_split_at, slice_split_none, leng
 use Rattle.std.proofs.lemmas.List.Elements.{All-head, All-tail, All-push}
 use Rattle.iref_grammar.specs.Rules.{Text}
 use Rattle.iref_grammar.specs.Texts.{pieces_at, all_but_last, is_empty}
-use Rattle.iref_model.specs.Lines.{newline, lines_of, without_empty_last}
+use Rattle.iref_lines.specs.Lines.{newline, lines_of, without_empty_last}
 use Rattle.iref_batch.specs.Runs.{with_newlines, ended_lines}
 use Rattle.iref_batch.specs.Gathering.{IsLine}
 use Rattle.iref_model.proofs.DirectoryLemmas.{all_but_last-snoc}

@@ -4,7 +4,7 @@ use Rattle.std.specs.List.{find}
 use Rattle.iref_grammar.specs.Rules.{Text}
 use Rattle.iref_grammar.specs.IpAddresses.{all_some}
 use Rattle.iref_model.specs.Edits.{EditStep}
-use Rattle.iref_model.specs.Lines.{edit_names, read_edit}
+use Rattle.iref_lines.specs.Lines.{edit_names, read_edit}
 use Rattle.iref_batch.specs.declared.edit_fields.FieldError.{FieldError}
 use Rattle.iref_batch.specs.declared.edit_fields.FieldError.TheVariants.{Command, Invalid, Memory}
 

@@ -2,7 +2,7 @@
 use Rattle.std.specs.Prelude.{List, [], Option, Some, None}
 use Rattle.iref_grammar.specs.Rules.{Text}
 use Rattle.iref_grammar.specs.Texts.{pieces_at}
-use Rattle.iref_model.specs.Lines.{tab}
+use Rattle.iref_lines.specs.Lines.{tab}
 
 -- the fields of the text, if there is one
 abbrev pub fields_of : Option Text → List Text

@@ -1,10 +1,10 @@
 -- What the program has read of a line.
 use Rattle.std.specs.Prelude.{◌∷◌, Option, Some}
 use Rattle.std.specs.Option.{option_copied}
-use Rattle.iref_model.specs.Lines as spec
+use Rattle.iref_lines.specs.Lines as spec
 use Rattle.iref_batch.specs.Fields.{fields_of}
 use Rattle.iref_batch.specs.declared.request.Request.{Request}
-use Rattle.iref_batch.specs.declared.request.Request.TheVariants.{Parts, Resolve, Relative, Normal, Equal, Edit}
+use Rattle.iref_batch.specs.declared.request.Request.TheVariants.{Parts, Resolve, Relative, Normal, Equal, Edit, ToUri, Compact, Expand}
 
 -- what a value of the program asks for, if it asks for something
 abbrev pub request_of : Request → Option spec.Request
@@ -14,3 +14,6 @@ request_of (Relative target base) = Some (spec.Relative target.now base.now)
 request_of (Normal text) = Some (spec.Normal text.now)
 request_of (Equal left right) = Some (spec.Equal left.now right.now)
 request_of (Edit text fields) = spec.text_and_edits (text.now ∷ fields_of (option_copied fields))
+request_of (ToUri text) = Some (spec.ToUri text.now)
+request_of (Compact text fields) = spec.text_and_entries spec.Compact (text.now ∷ fields_of (option_copied fields))
+request_of (Expand text fields) = spec.text_and_entries spec.Expand (text.now ∷ fields_of (option_copied fields))

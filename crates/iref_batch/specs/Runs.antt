@@ -1,20 +1,21 @@
 -- What the program has written for what it has read.
 use Rattle.std.specs.Prelude.{◌≡◌, ◌≤◌, ◌-◌, ◌^◌, ◌⊎◌, Bool, false, List, [], ◌∷◌, ◌++◌, Option, Some, None, codes, length}
 use Rattle.std.specs.List.{flat_map, AllZip}
+use Rattle.iref_grammar.specs.Characters.{iri_chars}
 use Rattle.iref_grammar.specs.Rules.{Text}
 use Rattle.iref_grammar.specs.Texts.{pieces_at, all_but_last}
-use Rattle.iref_model.specs.Lines.{Request, BadCommand, newline, answer, answer_if_valid, answer_text, lines_of, all_verbs}
+use Rattle.iref_lines.specs.Lines.{Request, BadCommand, newline, answer, answer_if_valid, answer_text, lines_of, all_verbs}
 
 -- what is written for a request, for what may be one, and for a line
 abbrev pub request_reply : Request → Text
-request_reply request = answer_text (answer_if_valid request)
+request_reply request = answer_text (answer_if_valid iri_chars request)
 
 abbrev pub reply_to : Option Request → Text
 reply_to None = answer_text BadCommand
 reply_to (Some request) = request_reply request
 
 abbrev pub line_reply : Text → Text
-line_reply line = answer_text (answer all_verbs line)
+line_reply line = answer_text (answer iri_chars all_verbs line)
 
 -- what is written where memory was refused for a line
 abbrev pub memory_refused : Text

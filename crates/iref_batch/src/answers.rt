@@ -1,7 +1,7 @@
 //! The answer to a line.
 ghost use Rattle.std.specs.Prelude.{◌≡◌, ◌++◌, ◌∷◌, option_map, OnOk, OnErr};
 ghost use Rattle.std.specs.Option.{option_copied};
-ghost use Rattle.iref_model.specs.Lines.{Answered, answer_text, part_field, part_fields, tab, yes_or_no, Parts, Normal, Equal};
+ghost use Rattle.iref_lines.specs.Lines.{Answered, answer_text, part_field, part_fields, tab, yes_or_no, Parts, Normal, Equal};
 ghost use Rattle.iref_component.specs.Components.{view_text};
 ghost use Rattle.iref_authority.specs.Authorities.{authority_text};
 ghost use Rattle.iref_reference.specs.Parts.{uri_ref_part_texts};
@@ -10,20 +10,22 @@ ghost use Rattle.iref_batch.specs.Requests.{request_of};
 ghost use Rattle.iref_batch.specs.Runs.{request_reply, reply_to, line_reply, with_newline};
 
 mod edit;
+mod prefixes;
 mod relative;
 mod resolve;
+mod to_uri;
 
 use super::request::{Request, read_request};
 use edit::put_answer_to_edit;
-use iref_authority::authority::Authority;
+use iref::iri::{Authority, IriRefParts, Path};
 use iref_component::rule::Rule;
 use iref_component::view::View;
-use iref_grammar::chars::{CharSet, UriChars};
-use iref_path::path::Path;
-use iref_reference::parts::UriRefParts;
+use iref_grammar::chars::CharSet;
+use prefixes::{put_answer_to_compact, put_answer_to_expand};
 use relative::put_answer_to_relative;
 use resolve::put_answer_to_resolve;
 use std::alloc::AllocError;
+use to_uri::put_answer_to_to_uri;
 
 /// Puts the text.
 fn put_text(text: &[u8], out: &mut Vec<u8>) -> Result<(), AllocError>
@@ -55,14 +57,14 @@ fn bytes_of<R: Rule, C: CharSet>(part: Option<View<'_, R, C>>) -> Option<&[u8]>
     part.map(|part| part.as_bytes())
 }
 
-fn authority_bytes(authority: Option<Authority<'_, UriChars>>) -> Option<&[u8]>
+fn authority_bytes(authority: Option<Authority<'_>>) -> Option<&[u8]>
     ensures { option_copied result ≡ option_map authority_text authority.entry }
 {
     authority.map(|authority| authority.as_bytes())
 }
 
 /// Puts the answer whose fields are the parts of a reference.
-fn put_parts(parts: &UriRefParts<'_, UriChars>, out: &mut Vec<u8>) -> Result<(), AllocError>
+fn put_parts(parts: &IriRefParts<'_>, out: &mut Vec<u8>) -> Result<(), AllocError>
     ensures ok { OnOk result (out.new.items ≡
         out.old.items ++ answer_text (Answered (part_fields (uri_ref_part_texts parts.now)))) }
     ensures err { OnErr result (Extends out.old.items out.new.items) }
@@ -81,7 +83,7 @@ fn put_answer_to_parts(text: &[u8], out: &mut Vec<u8>) -> Result<(), AllocError>
     ensures ok { OnOk result (out.new.items ≡ out.old.items ++ request_reply (Parts text.now)) }
     ensures err { OnErr result (Extends out.old.items out.new.items) }
 {
-    let Ok(parts) = UriRefParts::<UriChars>::from_bytes(text) else {
+    let Ok(parts) = IriRefParts::from_bytes(text) else {
         return put_text(b"error invalid", out);
     };
     put_parts(&parts, out)
@@ -101,7 +103,7 @@ fn put_answer_to_normal(text: &[u8], out: &mut Vec<u8>) -> Result<(), AllocError
     ensures ok { OnOk result (out.new.items ≡ out.old.items ++ request_reply (Normal text.now)) }
     ensures err { OnErr result (Extends out.old.items out.new.items) }
 {
-    let Ok(path) = Path::<UriChars>::from_bytes(text) else {
+    let Ok(path) = Path::from_bytes(text) else {
         return put_text(b"error invalid", out);
     };
     let Ok(normal) = path.normalized(*out.allocator()) else {
@@ -122,10 +124,10 @@ fn put_answer_to_equal(left: &[u8], right: &[u8], out: &mut Vec<u8>) -> Result<(
         (out.new.items ≡ out.old.items ++ request_reply (Equal left.now right.now)) }
     ensures err { OnErr result (Extends out.old.items out.new.items) }
 {
-    let Ok(left) = UriRefParts::<UriChars>::from_bytes(left) else {
+    let Ok(left) = IriRefParts::from_bytes(left) else {
         return put_text(b"error invalid", out);
     };
-    let Ok(right) = UriRefParts::<UriChars>::from_bytes(right) else {
+    let Ok(right) = IriRefParts::from_bytes(right) else {
         return put_text(b"error invalid", out);
     };
     put_answered(yes_or_no(left == right), out)
@@ -144,6 +146,9 @@ fn put_answer_to(request: Request<'_>, out: &mut Vec<u8>) -> Result<(), AllocErr
         Request::Normal(text) => put_answer_to_normal(text, out),
         Request::Equal(left, right) => put_answer_to_equal(left, right, out),
         Request::Edit(text, fields) => put_answer_to_edit(text, fields, out),
+        Request::ToUri(text) => put_answer_to_to_uri(text, out),
+        Request::Compact(text, fields) => put_answer_to_compact(text, fields, out),
+        Request::Expand(text, fields) => put_answer_to_expand(text, fields, out),
     }
 }
 

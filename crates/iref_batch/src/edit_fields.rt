@@ -1,10 +1,10 @@
 //! The edits that the fields of a line name, each a name, or a name, `=` and a value.
 ghost use Rattle.std.specs.Prelude.{◌≡◌, ◌∷◌, [], Bool, Some, true, option_map};
 ghost use Rattle.std.specs.Option.{option_copied};
-ghost use Rattle.iref_grammar.specs.{Text, after, before, is_authority, is_path, uri_chars};
+ghost use Rattle.iref_grammar.specs.{Text, after, before, is_authority, is_path, iri_chars};
 ghost use Rattle.iref_grammar.specs.Tests.{none_or};
-ghost use Rattle.iref_model.specs.Lines as spec;
-ghost use Rattle.iref_model.specs.Lines.{edit_names, equals_sign, is_valid_edit};
+ghost use Rattle.iref_lines.specs.Lines as spec;
+ghost use Rattle.iref_lines.specs.Lines.{edit_names, equals_sign, is_valid_edit};
 ghost use Rattle.iref_component.specs.Components.{view_text};
 ghost use Rattle.iref_authority.specs.Authorities.{authority_text};
 ghost use Rattle.iref_path.specs.Paths.{path_text};
@@ -13,13 +13,11 @@ ghost use Rattle.iref_batch.specs.EditFields.{IsRead, edit_named, path_edit_name
 
 use super::cut::cut_at;
 use super::request::is_name;
-use iref::edits::Edit;
-use iref_authority::authority::Authority;
+use iref::iri::{Authority, Edit, Path};
 use iref_authority::rule::AuthorityRule;
 use iref_component::rule::Rule;
 use iref_component::view::View;
-use iref_grammar::chars::UriChars;
-use iref_path::path::Path;
+use iref_grammar::chars::{CharSet, IriChars};
 use iref_path::rule::PathRule;
 use std::alloc::AllocFailed;
 use std::str;
@@ -59,44 +57,44 @@ pub trait Value<'a>: Sized {
 }
 
 // The text, if it is in the rule.
-fn text_in<R: Rule>(value: &[u8]) -> Result<&str, FieldError>
-    ensures { IsRead (λ text. text.now) (R.test uri_chars) (Some value.now) result }
+fn text_in<R: Rule, C: CharSet>(value: &[u8]) -> Result<&str, FieldError>
+    ensures { IsRead (λ text. text.now) (R.test C.tests) (Some value.now) result }
 {
     match str::from_utf8(value) {
-        Ok(text) if R::accepts::<UriChars>(text) => Ok(text),
+        Ok(text) if R::accepts::<C>(text) => Ok(text),
         _ => Err(FieldError::Invalid),
     }
 }
 
-impl<'a, R: Rule> Value<'a> for View<'a, R, UriChars> {
+impl<'a, R: Rule, C: CharSet> Value<'a> for View<'a, R, C> {
     ghost text = { view_text };
 
-    ghost test = { R.test uri_chars };
+    ghost test = { R.test C.tests };
 
     fn read(value: &'a [u8]) -> Result<Self, FieldError> {
-        let text = text_in::<R>(value)?;
+        let text = text_in::<R, C>(value)?;
         Ok(View::new_unchecked(text))
     }
 }
 
-impl<'a> Value<'a> for Authority<'a, UriChars> {
+impl<'a> Value<'a> for Authority<'a> {
     ghost text = { authority_text };
 
-    ghost test = { is_authority uri_chars };
+    ghost test = { is_authority iri_chars };
 
     fn read(value: &'a [u8]) -> Result<Self, FieldError> {
-        let text = text_in::<AuthorityRule>(value)?;
+        let text = text_in::<AuthorityRule, IriChars>(value)?;
         Ok(Authority::new_unchecked(text))
     }
 }
 
-impl<'a> Value<'a> for Path<'a, UriChars> {
+impl<'a> Value<'a> for Path<'a> {
     ghost text = { path_text };
 
-    ghost test = { is_path uri_chars };
+    ghost test = { is_path iri_chars };
 
     fn read(value: &'a [u8]) -> Result<Self, FieldError> {
-        let text = text_in::<PathRule>(value)?;
+        let text = text_in::<PathRule, IriChars>(value)?;
         Ok(Path::new_unchecked(text))
     }
 }
@@ -119,11 +117,9 @@ fn needed<'a, V: Value<'a>>(value: Option<&'a [u8]>) -> Result<V, FieldError>
 }
 
 // An edit that takes no value.
-fn bare<'a>(
-    edit: Edit<'a, UriChars>,
-    value: Option<&[u8]>,
-) -> Result<Edit<'a, UriChars>, FieldError>
-    ensures { is_valid_edit (edit_step edit.entry) ≡ true → IsRead edit_step is_valid_edit
+fn bare<'a>(edit: Edit<'a>, value: Option<&[u8]>) -> Result<Edit<'a>, FieldError>
+    ensures { is_valid_edit iri_chars (edit_step edit.entry) ≡ true
+        → IsRead edit_step (is_valid_edit iri_chars)
         (spec.bare (edit_step edit.entry) (option_copied value.entry)) result }
 {
     match value {
@@ -132,8 +128,8 @@ fn bare<'a>(
     }
 }
 
-// The name of an edit, and its value, if there is a `=`.
-fn name_and_value(field: &[u8]) -> (&[u8], Option<&[u8]>)
+/// The name that begins a field, and its value, if there is a `=`.
+pub fn name_and_value(field: &[u8]) -> (&[u8], Option<&[u8]>)
     ensures name { result.0.now ≡ before (equals_sign ∷ []) field.now }
     ensures value { option_copied result.1 ≡ after equals_sign field.now }
 {
@@ -144,8 +140,8 @@ fn name_and_value(field: &[u8]) -> (&[u8], Option<&[u8]>)
 }
 
 // The edit of a path.
-fn path_edit<'a>(name: &[u8], value: Option<&'a [u8]>) -> Result<Edit<'a, UriChars>, FieldError>
-    ensures { IsRead edit_step is_valid_edit
+fn path_edit<'a>(name: &[u8], value: Option<&'a [u8]>) -> Result<Edit<'a>, FieldError>
+    ensures { IsRead edit_step (is_valid_edit iri_chars)
         (edit_named path_edit_names name.now (option_copied value.entry)) result }
 {
     if is_name(b"lazy-push", name) {
@@ -170,8 +166,8 @@ fn path_edit<'a>(name: &[u8], value: Option<&'a [u8]>) -> Result<Edit<'a, UriCha
 }
 
 // The edit of this name with this value.
-fn edit_of<'a>(name: &[u8], value: Option<&'a [u8]>) -> Result<Edit<'a, UriChars>, FieldError>
-    ensures { IsRead edit_step is_valid_edit
+fn edit_of<'a>(name: &[u8], value: Option<&'a [u8]>) -> Result<Edit<'a>, FieldError>
+    ensures { IsRead edit_step (is_valid_edit iri_chars)
         (edit_named edit_names name.now (option_copied value.entry)) result }
 {
     if is_name(b"scheme", name) {
@@ -208,8 +204,8 @@ fn edit_of<'a>(name: &[u8], value: Option<&'a [u8]>) -> Result<Edit<'a, UriChars
 }
 
 /// The edit that a field names.
-pub fn read_edit(field: &[u8]) -> Result<Edit<'_, UriChars>, FieldError>
-    ensures { IsRead edit_step is_valid_edit (spec.read_edit field.now) result }
+pub fn read_edit(field: &[u8]) -> Result<Edit<'_>, FieldError>
+    ensures { IsRead edit_step (is_valid_edit iri_chars) (spec.read_edit field.now) result }
 {
     let (name, value) = name_and_value(field);
     edit_of(name, value)

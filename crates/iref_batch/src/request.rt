@@ -1,10 +1,11 @@
 //! What a line asks for.
 ghost use Rattle.std.specs.Option.{option_copied};
-ghost use Rattle.std.specs.Prelude.{◌≡◌, ◌∷◌, bytes_eq, option_and_then, option_map};
-ghost use Rattle.iref_model.specs.Lines as spec;
+ghost use Rattle.std.specs.Prelude.{◌≡◌, ◌∷◌, bytes_eq, List, option_and_then, option_map};
+ghost use Rattle.iref_lines.specs.Lines as spec;
 ghost use Rattle.iref_grammar.specs.{pieces_at, Text};
-ghost use Rattle.iref_model.specs.{tab, read_line, one_text, two_texts};
-ghost use Rattle.iref_model.specs.Lines.{all_verbs, text_and_edits};
+ghost use Rattle.iref_lines.specs.Lines.{tab, read_line, one_text, two_texts};
+ghost use Rattle.iref_lines.specs.Lines.{all_verbs, text_and_edits, text_and_entries};
+ghost use Rattle.iref_mapping.specs.PrefixTable.{PrefixEntry};
 ghost use Rattle.iref_batch.specs.Fields.{fields_of};
 ghost use Rattle.iref_batch.specs.Requests.{request_of};
 
@@ -25,6 +26,12 @@ pub enum Request<'a> {
     Equal(&'a [u8], &'a [u8]),
     /// What a reference is after edits: the text of all their fields, if there are any.
     Edit(&'a [u8], Option<&'a [u8]>),
+    /// The reference of URIs that a reference maps to.
+    ToUri(&'a [u8]),
+    /// An IRI made short by a prefix table: the text of the fields of its entries, if there are any.
+    Compact(&'a [u8], Option<&'a [u8]>),
+    /// The IRI that a text stands for in a prefix table, likewise.
+    Expand(&'a [u8], Option<&'a [u8]>),
 }
 
 /// The first field, and the text of the others, if there are any.
@@ -63,8 +70,11 @@ fn two_fields(fields: Option<&[u8]>) -> Option<(&[u8], &[u8])>
 
 /// The first field, if there is one, and the text of the others.
 fn some_fields(fields: Option<&[u8]>) -> Option<(&[u8], Option<&[u8]>)>
-    ensures { text_and_edits (fields_of (option_copied fields.entry)) ≡ option_and_then
+    ensures edits { text_and_edits (fields_of (option_copied fields.entry)) ≡ option_and_then
         (λ texts. text_and_edits (texts.0.now ∷ fields_of (option_copied texts.1))) result }
+    ensures entries { (request : Text → List PrefixEntry → spec.Request) →
+        text_and_entries request (fields_of (option_copied fields.entry)) ≡ option_and_then (λ texts.
+        text_and_entries request (texts.0.now ∷ fields_of (option_copied texts.1))) result }
 {
     Some(first_field(fields?))
 }
@@ -99,6 +109,15 @@ pub fn read_request(line: &[u8]) -> Option<Request<'_>>
     }
     if is_name(b"edit", verb) {
         return some_fields(fields).map(|texts| Request::Edit(texts.0, texts.1));
+    }
+    if is_name(b"to-uri", verb) {
+        return one_field(fields).map(Request::ToUri);
+    }
+    if is_name(b"compact", verb) {
+        return some_fields(fields).map(|texts| Request::Compact(texts.0, texts.1));
+    }
+    if is_name(b"expand", verb) {
+        return some_fields(fields).map(|texts| Request::Expand(texts.0, texts.1));
     }
     None
 }

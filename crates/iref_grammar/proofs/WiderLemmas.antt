@@ -25,7 +25,7 @@ or_wider true b c d f g h = λ i. f refl i || d
 or_wider false b c d f g h = or_right c d (g h)
 
 -- text of characters and escapes
-encoded_wider : (test wide : ℕ → Bool) → ((c : ℕ) → test c ≡ true → wide c ≡ true) → (bytes : Text) → InUtf8 (IsEncoded test) bytes → InUtf8 (IsEncoded wide) bytes
+pub encoded_wider : (test wide : ℕ → Bool) → ((c : ℕ) → test c ≡ true → wide c ≡ true) → (bytes : Text) → InUtf8 (IsEncoded test) bytes → InUtf8 (IsEncoded wide) bytes
 encoded_wider test wide w bytes z = (z.0, z.1, z.2, more_like (Piece test) (Piece wide) by z.0 z.3)
   where
     by : (p : Text) → Piece test p → Piece wide p
@@ -41,27 +41,27 @@ module _ (small large : CharTests) (w : IsWider small large) where
       let plain = is_ascii_alphanumeric c || char_set_contains (codes "-._~") c in
       or_wider (is_unreserved small c) (is_sub_delim c) (is_unreserved large c) (is_sub_delim c) (or_wider plain (small.extra c) plain (large.extra c) (λ h. h) (w.extra c)) (λ h. h)
 
-  user_info_wider : (c : ℕ) → is_user_info_char small c ≡ true → is_user_info_char large c ≡ true
+  pub user_info_wider : (c : ℕ) → is_user_info_char small c ≡ true → is_user_info_char large c ≡ true
   unfolding is_user_info_char
   user_info_wider c = or_wider (is_reg_name_char small c) (c == colon) (is_reg_name_char large c) (c == colon) (reg_name_wider c) (λ h. h)
 
-  path_wider : (c : ℕ) → is_path_char small c ≡ true → is_path_char large c ≡ true
+  pub path_wider : (c : ℕ) → is_path_char small c ≡ true → is_path_char large c ≡ true
   unfolding is_path_char
   path_wider c = or_wider (is_user_info_char small c) (c == at_sign) (is_user_info_char large c) (c == at_sign) (user_info_wider c) (λ h. h)
 
-  fragment_wider : (c : ℕ) → is_fragment_char small c ≡ true → is_fragment_char large c ≡ true
+  pub fragment_wider : (c : ℕ) → is_fragment_char small c ≡ true → is_fragment_char large c ≡ true
   unfolding is_fragment_char
   fragment_wider c =
       or_wider (is_path_char small c || c == slash) (c == question_mark) (is_path_char large c || c == slash) (c == question_mark)
       (or_wider (is_path_char small c) (c == slash) (is_path_char large c) (c == slash) (path_wider c) (λ h. h)) (λ h. h)
 
-  query_wider : (c : ℕ) → is_query_char small c ≡ true → is_query_char large c ≡ true
+  pub query_wider : (c : ℕ) → is_query_char small c ≡ true → is_query_char large c ≡ true
   unfolding is_query_char
   query_wider c = or_wider (is_fragment_char small c) (small.private c) (is_fragment_char large c) (large.private c) (fragment_wider c) (w.private c)
 
   -- ---- the components
 
-  host_wider : (bytes : Text) → InUtf8 (IsHost small) bytes → InUtf8 (IsHost large) bytes
+  pub host_wider : (bytes : Text) → InUtf8 (IsHost small) bytes → InUtf8 (IsHost large) bytes
   host_wider bytes z = by z.3
     where
       by : IsHost small z.0 → InUtf8 (IsHost large) bytes
@@ -69,7 +69,7 @@ module _ (small large : CharTests) (w : IsWider small large) where
       by (inr (inl v)) = (z.0, z.1, z.2, inr (inl v))
       by (inr (inr r)) = let u = encoded_wider (is_reg_name_char small) (is_reg_name_char large) reg_name_wider bytes (z.0, z.1, z.2, r) in (u.0, u.1, u.2, inr (inr u.3))
 
-  authority_wider : (a : AuthorityValue) → HasAuthorityParts small a → HasAuthorityParts large a
+  pub authority_wider : (a : AuthorityValue) → HasAuthorityParts small a → HasAuthorityParts large a
   authority_wider a p = record {
     user_info = IfSome_then a.user_info p.user_info (encoded_wider (is_user_info_char small) (is_user_info_char large) user_info_wider);
     host = host_wider a.host p.host;

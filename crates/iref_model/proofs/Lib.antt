@@ -40,4 +40,3 @@ mod RelativeRows
 mod ReferenceRows
 mod NumberRows
 mod EditRows
-mod LineRows

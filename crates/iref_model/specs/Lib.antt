@@ -17,7 +17,6 @@ pub use Rattle.iref_model.specs.DotSegments.{dot_segments_removed, RemovesDotSeg
 pub use Rattle.iref_model.specs.Guard.{guarded, guarded_list}
 pub use Rattle.iref_model.specs.HostNumbers.{groups_of, groups_text, ipv4_text, ipv6_host_text, ipv6_text, literal_value, longest_run, run_start}
 pub use Rattle.iref_model.specs.Key.{are_alike, AreAlike, fed_reference, key, key_cmp}
-pub use Rattle.iref_model.specs.Lines.{answer_text, Answered, Equal, newline, Normal, one_text, part_field, part_fields, Parts, read_line, tab, two_texts, yes_or_no}
 pub use Rattle.iref_model.specs.NormalList.{counted, excess, is_dot_dot, is_name, normal, normal_segments, open_parents, stays_before}
 pub use Rattle.iref_model.specs.NormalReading.{first_left, GivesFirst, GivesLast, items_left, last_left, NormalRest, open_before, staying_before, whole_rest}
 pub use Rattle.iref_model.specs.PathFunctions.{directory, directory_text, segment_count}
@@ -53,4 +52,3 @@ pub mod ReferenceSuffix
 pub mod ReferenceParts
 pub mod Readability
 pub mod Edits
-pub mod Lines

@@ -1,5 +1,5 @@
 //! What the calls mean (RFC 3986 sections 5 and 6): normal forms, steps of edits, resolution,
-//! comparison, relative references, numbers of hosts and ports, lines; with the laws about them.
+//! comparison, relative references, numbers of hosts and ports, edits; with the laws about them.
 #![tactic(auto)]
 
 pub mod key_laws;

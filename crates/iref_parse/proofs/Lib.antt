@@ -6,3 +6,4 @@ pub mod GroupLemmas
 pub mod DoubleColonLemmas
 pub mod LiteralLemmas
 pub mod SlicePlaceLemmas
+pub mod MarkLemmas

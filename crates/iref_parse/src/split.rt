@@ -13,6 +13,7 @@ use crate::authority::is_authority;
 use crate::cut::{cut, split_before};
 use crate::scan::{is_fragment, is_path, is_query, is_scheme};
 use iref_grammar::chars::CharSet;
+use memchr::memchr2;
 
 /// The components of a reference, as slices of its text.
 #[derive(Clone, Copy, Debug, PartialEq, Eq)]
@@ -36,9 +37,7 @@ fn split_before_either(text: &str, first: u8, second: u8) -> (&str, &str)
     ensures front { result.0.now ≡ before (first ∷ second ∷ []) text.now }
     ensures back { result.1.now ≡ from_first (first ∷ second ∷ []) text.now }
 {
-    let place = text
-        .bytes()
-        .position(|byte| byte == first || byte == second);
+    let place = memchr2(first, second, text.as_bytes());
     text.split_at(place.unwrap_or(text.len()))
 }
 

@@ -2,8 +2,9 @@
 ghost use Rattle.std.specs.Prelude.{◌≡◌, ◌++◌, ◌∷◌, true, map, IfOk, OnOk, OnErr};
 ghost use Rattle.std.specs.List.{list_all};
 ghost use Rattle.std.specs.Option.{option_copied};
-ghost use Rattle.iref_model.specs.Lines.{is_valid_edit, text_and_edits};
-ghost use Rattle.iref_model.specs.Lines as spec;
+ghost use Rattle.iref_grammar.specs.{iri_chars};
+ghost use Rattle.iref_lines.specs.Lines.{is_valid_edit, text_and_edits};
+ghost use Rattle.iref_lines.specs.Lines as spec;
 ghost use Rattle.iref_batch.specs.EditFields.{IsRead, edits_read};
 ghost use Rattle.iref.specs.EditSteps.{edit_step};
 ghost use Rattle.iref_batch.specs.Fields.{fields_of};
@@ -13,18 +14,13 @@ ghost use Rattle.iref_batch.specs.Runs.{reply_to, request_reply};
 use super::{put_answered, put_text};
 use crate::edit_fields::{FieldError, read_edit};
 use crate::request::first_field;
-use iref::edits::{Edit, EditError, apply_all};
-use iref_grammar::chars::UriChars;
-use iref_reference::owner::UriRefBuf;
+use iref::iri::{Edit, EditError, IriRefBuf, apply_all};
 use std::alloc::{AllocError, Global};
 
 // The edits that the fields name. All fields are read, since one that is no edit at all goes
 // before values outside their grammar.
-fn read_edits<'a>(
-    alloc: Global,
-    fields: Option<&'a [u8]>,
-) -> Result<Vec<Edit<'a, UriChars>>, FieldError>
-    ensures { IsRead (λ edits. map edit_step edits.items) (list_all is_valid_edit)
+fn read_edits<'a>(alloc: Global, fields: Option<&'a [u8]>) -> Result<Vec<Edit<'a>>, FieldError>
+    ensures { IsRead (λ edits. map edit_step edits.items) (list_all (is_valid_edit iri_chars))
         (edits_read (fields_of (option_copied fields.entry))) result }
 {
     let mut edits = Vec::new(alloc);
@@ -56,17 +52,13 @@ fn copied(alloc: Global, text: &[u8], more: usize) -> Result<Vec<u8>, AllocError
 }
 
 // Puts the answer to a reference, which is held in these bytes, and edits.
-fn put_edited(
-    bytes: Vec<u8>,
-    edits: &[Edit<'_, UriChars>],
-    out: &mut Vec<u8>,
-) -> Result<(), AllocError>
-    requires { list_all is_valid_edit (map edit_step edits.now) ≡ true }
+fn put_edited(bytes: Vec<u8>, edits: &[Edit<'_>], out: &mut Vec<u8>) -> Result<(), AllocError>
+    requires { list_all (is_valid_edit iri_chars) (map edit_step edits.now) ≡ true }
     ensures ok { OnOk result (out.new.items
         ≡ out.old.items ++ request_reply (spec.Edit bytes.items (map edit_step edits.now))) }
     ensures err { OnErr result (Extends out.old.items out.new.items) }
 {
-    let Ok(mut reference) = UriRefBuf::<UriChars>::from_bytes(bytes) else {
+    let Ok(mut reference) = IriRefBuf::from_bytes(bytes) else {
         return put_text(b"error invalid", out);
     };
     match apply_all(&mut reference, edits) {

@@ -1,12 +1,12 @@
 //! The answer to `relative`.
 ghost use Rattle.std.specs.Prelude.{◌≡◌, ◌++◌, OnOk, OnErr};
-ghost use Rattle.iref_model.specs.Lines.{Relative};
+ghost use Rattle.iref_lines.specs.Lines.{Relative};
 ghost use Rattle.iref_batch.specs.Gathering.{Extends};
 ghost use Rattle.iref_batch.specs.Runs.{request_reply};
 
 use super::resolve::components_of;
 use super::{put_answered, put_text};
-use iref_grammar::chars::UriChars;
+use iref_grammar::chars::IriChars;
 use iref_reference::relative::held_relative;
 use iref_reference::rule::ReferenceRule;
 use std::alloc::{AllocError, Global};
@@ -28,7 +28,7 @@ pub fn put_answer_to_relative(
         return put_text(b"error invalid", out);
     };
     let alloc = *out.allocator();
-    let Ok(reference) = held_relative::<UriChars, Global>(alloc, target, base) else {
+    let Ok(reference) = held_relative::<IriChars, Global>(alloc, target, base) else {
         return Err(AllocError);
     };
     put_answered(reference.as_str().as_bytes(), out)

@@ -1,14 +1,14 @@
 //! The answer to `resolve`.
 ghost use Rattle.std.specs.Prelude.{◌≡◌, ◌++◌, true, false, IfNone, IfSome, OnOk, OnErr};
-ghost use Rattle.iref_grammar.specs.{read_reference, uri_chars};
-ghost use Rattle.iref_model.specs.Lines.{Resolve};
+ghost use Rattle.iref_grammar.specs.{read_reference, iri_chars};
+ghost use Rattle.iref_lines.specs.Lines.{Resolve};
 ghost use Rattle.iref_parse.specs.ReferenceSlices.{value_of};
 ghost use Rattle.iref_batch.specs.Gathering.{Extends};
 ghost use Rattle.iref_batch.specs.Runs.{request_reply};
 
 use super::{put_answered, put_text};
 use iref_buffer::held::{Held, HeldRule};
-use iref_grammar::chars::UriChars;
+use iref_grammar::chars::IriChars;
 use iref_parse::split::ReferenceSlices;
 use iref_reference::rule::{FullReferenceRule, ReferenceRule};
 use std::alloc::AllocError;
@@ -16,12 +16,12 @@ use std::str;
 
 /// The components of a text that is in the rule.
 pub fn components_of<R: HeldRule>(text: &[u8]) -> Option<ReferenceSlices<'_>>
-    ensures none { IfNone result (R.test uri_chars text.now ≡ false) }
-    ensures some { IfSome result (λ _. R.test uri_chars text.now ≡ true) }
+    ensures none { IfNone result (R.test iri_chars text.now ≡ false) }
+    ensures some { IfSome result (λ _. R.test iri_chars text.now ≡ true) }
     ensures value { IfSome result (λ slices. value_of slices ≡ read_reference text.now) }
 {
     let text = str::from_utf8(text).ok()?;
-    R::parse::<UriChars>(text)
+    R::parse::<IriChars>(text)
 }
 
 /// Puts the answer to `resolve`.
@@ -41,8 +41,8 @@ pub fn put_answer_to_resolve(
         return put_text(b"error invalid", out);
     };
     let alloc = *out.allocator();
-    let Ok(uri) = Held::<FullReferenceRule, UriChars>::resolved(alloc, base, reference) else {
+    let Ok(iri) = Held::<FullReferenceRule, IriChars>::resolved(alloc, base, reference) else {
         return Err(AllocError);
     };
-    put_answered(uri.as_str().as_bytes(), out)
+    put_answered(iri.as_str().as_bytes(), out)
 }

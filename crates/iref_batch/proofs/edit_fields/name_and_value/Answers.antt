@@ -1,5 +1,5 @@
 use Rattle.std.proofs.Common.{sym}
-use Rattle.iref_model.specs.Lines.{equals_sign}
+use Rattle.iref_lines.specs.Lines.{equals_sign}
 use Rattle.iref_batch.proofs.FieldLemmas.{name_before, value_after, name_alone, no_value}
 use Rattle.iref_batch.proofs.edit_fields.name_and_value.Goals as goal
 

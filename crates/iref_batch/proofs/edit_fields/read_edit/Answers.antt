@@ -1,7 +1,8 @@
 use Rattle.std.proofs.Common.{subst, Option}
 use Rattle.std.specs.Option.{option_copied}
+use Rattle.iref_grammar.specs.Characters.{iri_chars}
 use Rattle.iref_model.specs.Edits.{EditStep}
-use Rattle.iref_model.specs.Lines.{is_valid_edit}
+use Rattle.iref_lines.specs.Lines.{is_valid_edit}
 use Rattle.iref_batch.specs.EditFields.{IsRead}
 use Rattle.iref.specs.EditSteps.{edit_step}
 use Rattle.iref_batch.proofs.EditFieldLemmas.{read_is_named}
@@ -9,6 +10,6 @@ use Rattle.iref_batch.proofs.edit_fields.read_edit.Goals as goal
 
 pub returns : goal.returns
 returns c =
-    subst (λ (o : Option EditStep). IsRead edit_step is_valid_edit o c.edit_of.result)
+    subst (λ (o : Option EditStep). IsRead edit_step (is_valid_edit iri_chars) o c.edit_of.result)
     (read_is_named c.args.field.now c.name_and_value.result.0.now (option_copied c.name_and_value.result.1) c.name_and_value.ensures.name c.name_and_value.ensures.value)
     c.edit_of.ensures

@@ -1,6 +1,6 @@
 use Rattle.std.proofs.Common.{◌≡◌, ◌∷◌, ◌∙◌, refl, rules, codes, option_map, option_and_then}
 use Rattle.std.specs.Option.{option_copied}
-use Rattle.iref_model.specs.Lines.{Parts, Resolve, Relative, Normal, Equal, one_text, text_and_edits, two_texts}
+use Rattle.iref_lines.specs.Lines.{Parts, Resolve, Relative, Normal, Equal, ToUri, Compact, Expand, one_text, text_and_edits, text_and_entries, two_texts}
 use Rattle.iref_batch.specs.Fields.{fields_of}
 use Rattle.iref_batch.specs.Requests.{request_of}
 use Rattle.iref_batch.proofs.FieldLemmas.{verb_read, nothing_read}
@@ -34,8 +34,23 @@ returns-then-is_name-5 c =
 pub returns-then-is_name-6 : goal.returns-then-is_name-6
 returns-then-is_name-6 c =
     let asked : option_and_then (λ texts. text_and_edits (texts.0.now ∷ fields_of (option_copied texts.1))) c.some_fields.result ≡ option_and_then request_of c.map-then-is_name-6.result = search rules in
-    verb_read c.args.line.now (codes "edit") _ (option_copied c.first_field.result.1) text_and_edits c.first_field.ensures c.if-is_name-6.ensures refl ∙ c.some_fields.ensures ∙ asked
+    verb_read c.args.line.now (codes "edit") _ (option_copied c.first_field.result.1) text_and_edits c.first_field.ensures c.if-is_name-6.ensures refl ∙ c.some_fields.ensures.edits ∙ asked
+
+pub returns-then-is_name-7 : goal.returns-then-is_name-7
+returns-then-is_name-7 c =
+    let asked : option_map ToUri (option_copied c.one_field-then-is_name-7.result) ≡ option_and_then request_of c.map-then-is_name-7.result = search rules in
+    verb_read c.args.line.now (codes "to-uri") _ (option_copied c.first_field.result.1) (one_text ToUri) c.first_field.ensures c.if-is_name-7.ensures refl ∙ c.one_field-then-is_name-7.ensures ToUri ∙ asked
+
+pub returns-then-is_name-8 : goal.returns-then-is_name-8
+returns-then-is_name-8 c =
+    let asked : option_and_then (λ texts. text_and_entries Compact (texts.0.now ∷ fields_of (option_copied texts.1))) c.some_fields-then-is_name-8.result ≡ option_and_then request_of c.map-then-is_name-8.result = search rules in
+    verb_read c.args.line.now (codes "compact") _ (option_copied c.first_field.result.1) (text_and_entries Compact) c.first_field.ensures c.if-is_name-8.ensures refl ∙ c.some_fields-then-is_name-8.ensures.entries Compact ∙ asked
+
+pub returns-then-is_name-9 : goal.returns-then-is_name-9
+returns-then-is_name-9 c =
+    let asked : option_and_then (λ texts. text_and_entries Expand (texts.0.now ∷ fields_of (option_copied texts.1))) c.some_fields-then-is_name-9.result ≡ option_and_then request_of c.map-then-is_name-9.result = search rules in
+    verb_read c.args.line.now (codes "expand") _ (option_copied c.first_field.result.1) (text_and_entries Expand) c.first_field.ensures c.if-is_name-9.ensures refl ∙ c.some_fields-then-is_name-9.ensures.entries Expand ∙ asked
 
 pub returns : goal.returns
 returns c =
-    nothing_read c.args.line.now _ (option_copied c.first_field.result.1) c.first_field.ensures c.if-is_name.ensures c.if-is_name-2.ensures c.if-is_name-3.ensures c.if-is_name-4.ensures c.if-is_name-5.ensures c.if-is_name-6.ensures
+    nothing_read c.args.line.now _ (option_copied c.first_field.result.1) c.first_field.ensures c.if-is_name.ensures c.if-is_name-2.ensures c.if-is_name-3.ensures c.if-is_name-4.ensures c.if-is_name-5.ensures c.if-is_name-6.ensures c.if-is_name-7.ensures c.if-is_name-8.ensures c.if-is_name-9.ensures

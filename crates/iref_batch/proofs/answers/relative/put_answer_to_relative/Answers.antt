@@ -1,5 +1,5 @@
 use Rattle.std.proofs.Common.{◌∙◌}
-use Rattle.iref_grammar.specs.Characters.{uri_chars, uri_above_ascii}
+use Rattle.iref_grammar.specs.Characters.{iri_chars, iri_above_ascii}
 use Rattle.iref_grammar.proofs.ComponentLemmas.{Decides-AreComponents}
 use Rattle.iref_parse.specs.ReferenceSlices.{texts_of, value_of}
 use Rattle.iref_reference.proofs.ResolutionLemmas.{readable_slices}
@@ -16,15 +16,15 @@ returns-in_default-components_of-clause-ok c =
 
 pub held_relative-requires-clause-target : goal.held_relative-requires-clause-target
 held_relative-requires-clause-target c =
-    (Decides-AreComponents uri_chars uri_above_ascii c.args.target.now (texts_of c.in-Some.target) c.in-Some.ensures.value).0 c.in-Some.ensures.some
+    (Decides-AreComponents iri_chars iri_above_ascii c.args.target.now (texts_of c.in-Some.target) c.in-Some.ensures.value).0 c.in-Some.ensures.some
 
 pub held_relative-requires-clause-base : goal.held_relative-requires-clause-base
 held_relative-requires-clause-base c =
-    (Decides-AreComponents uri_chars uri_above_ascii c.args.base.now (texts_of c.in-Some-components_of.base) c.in-Some-components_of.ensures.value).0 c.in-Some-components_of.ensures.some
+    (Decides-AreComponents iri_chars iri_above_ascii c.args.base.now (texts_of c.in-Some-components_of.base) c.in-Some-components_of.ensures.value).0 c.in-Some-components_of.ensures.some
 
 pub held_relative-requires-clause-readable : goal.held_relative-requires-clause-readable
 held_relative-requires-clause-readable c =
-    readable_slices uri_chars c.args.target.now (value_of c.in-Some.target) c.in-Some.ensures.value c.in-Some.ensures.some
+    readable_slices iri_chars c.args.target.now (value_of c.in-Some.target) c.in-Some.ensures.value c.in-Some.ensures.some
 
 pub returns-clause-ok : goal.returns-clause-ok
 returns-clause-ok c =

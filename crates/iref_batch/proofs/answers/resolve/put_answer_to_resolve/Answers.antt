@@ -1,5 +1,5 @@
 use Rattle.std.proofs.Common.{◌∙◌}
-use Rattle.iref_grammar.specs.Characters.{uri_chars}
+use Rattle.iref_grammar.specs.Characters.{iri_chars}
 use Rattle.iref_grammar.proofs.ComponentLemmas.{reference_if_full}
 use Rattle.iref_parse.specs.ReferenceSlices.{value_of}
 use Rattle.iref_reference.proofs.ResolutionLemmas.{readable_slices, resolved-scheme}
@@ -17,16 +17,16 @@ returns-in_default-components_of-clause-ok c =
 pub resolved-requires-clause-base : goal.resolved-requires-clause-base
 resolved-requires-clause-base c =
     let base = c.args.base.now in
-    readable_slices uri_chars base (value_of c.in-Some-components_of.base) c.in-Some-components_of.ensures.value
-    (reference_if_full uri_chars base c.in-Some-components_of.ensures.some)
+    readable_slices iri_chars base (value_of c.in-Some-components_of.base) c.in-Some-components_of.ensures.value
+    (reference_if_full iri_chars base c.in-Some-components_of.ensures.some)
 
 pub resolved-requires-clause-reference : goal.resolved-requires-clause-reference
 resolved-requires-clause-reference c =
-    readable_slices uri_chars c.args.reference.now (value_of c.in-Some.reference) c.in-Some.ensures.value c.in-Some.ensures.some
+    readable_slices iri_chars c.args.reference.now (value_of c.in-Some.reference) c.in-Some.ensures.value c.in-Some.ensures.some
 
 pub resolved-requires-clause-allowed : goal.resolved-requires-clause-allowed
 resolved-requires-clause-allowed c =
-    resolved-scheme uri_chars c.args.base.now (value_of c.in-Some-components_of.base) (value_of c.in-Some.reference)
+    resolved-scheme iri_chars c.args.base.now (value_of c.in-Some-components_of.base) (value_of c.in-Some.reference)
     c.in-Some-components_of.ensures.value c.in-Some-components_of.ensures.some
 
 pub returns-clause-ok : goal.returns-clause-ok

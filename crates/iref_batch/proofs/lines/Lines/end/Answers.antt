@@ -1,6 +1,6 @@
 use Rattle.std.proofs.Common.{◌++◌, [], append-nil, sym, ap, ◌∙◌}
 use Rattle.std.proofs.lemmas.Result.{err_from_is_err_and}
-use Rattle.iref_model.specs.Lines.{lines_of}
+use Rattle.iref_lines.specs.Lines.{lines_of}
 use Rattle.iref_batch.proofs.EndLemmas.{all_answered, all_same, begun_same, breaks_at_flush}
 use Rattle.iref_batch.proofs.lines.Lines.end.Goals as goal
 

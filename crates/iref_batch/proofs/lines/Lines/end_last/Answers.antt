@@ -1,6 +1,6 @@
 use Rattle.std.proofs.Common.{◌∷◌, ◌++◌, [], refl, append-nil, sym, ap, ◌∙◌}
 use Rattle.std.proofs.lemmas.Result.{err_from_is_err_and}
-use Rattle.iref_model.specs.Lines.{newline, lines_of}
+use Rattle.iref_lines.specs.Lines.{newline, lines_of}
 use Rattle.iref_batch.proofs.RunLemmas.{no_byte}
 use Rattle.iref_batch.proofs.EndLemmas.{last_line, begun_same}
 use Rattle.iref_batch.proofs.lines.Lines.end_last.Goals as goal

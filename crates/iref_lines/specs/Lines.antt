@@ -1,8 +1,9 @@
--- The program's answers to lines.
-use Rattle.std.specs.Prelude.{ℕ, Bool, true, false, ◌&&◌, List, [], ◌∷◌, ◌++◌, map, bytes_eq, codes, Option, Some, None, Ok, Err, option_map, option_and_then, if◌then◌else◌}
+-- The program's answers to lines, over the texts of URIs or of IRIs.
+use Rattle.std.specs.Prelude.{ℕ, Bool, true, false, ◌&&◌, List, [], ◌∷◌, ◌++◌, map, bytes_eq, codes, Option, Some, None, Result, Ok, Err, option_map, option_and_then, unwrap_or, is_some, if◌then◌else◌}
+use Rattle.std.specs.Str.{is_utf8}
 use Rattle.std.specs.List.{list_all, find, flat_map, join_with_byte}
 use Rattle.iref_grammar.specs.Rules.{Text}
-use Rattle.iref_grammar.specs.Characters.{uri_chars}
+use Rattle.iref_grammar.specs.Characters.{CharTests}
 use Rattle.iref_grammar.specs.Texts.{before, after, pieces_at, is_empty}
 use Rattle.iref_grammar.specs.Tests.{is_scheme, is_user_info, is_host, is_port, is_path, is_segment, is_query, is_fragment, none_or}
 use Rattle.iref_grammar.specs.IpAddresses.{all_some}
@@ -16,6 +17,8 @@ use Rattle.iref_grammar.specs.Reference.{spell, read_reference, is_reference, is
 use Rattle.iref_model.specs.Resolution.{resolved}
 use Rattle.iref_model.specs.Key.{are_alike}
 use Rattle.iref_model.specs.Relative.{relative_to}
+use Rattle.iref_mapping.specs.Mapping.{mapped}
+use Rattle.iref_mapping.specs.PrefixTable.{PrefixEntry, PrefixTable, inserted_all, compacted, compact_text, ExpandRefusal, expanded}
 use Rattle.iref_model.specs.Edits.{EditStep, SetScheme, SetAuthority, ReplaceAuthority, SetUserInfo, SetHost, SetPort, SetPortU32, SetPath, SetAndNormalizePath, SetQuery, SetFragment, LazyPush, Push, JoinPath, Pop, Clear, Normalize, EditsOutcome, edited_all}
 
 abbrev pub tab : ℕ
@@ -35,6 +38,9 @@ pub data Request : Type 0 where
   Normal : Text → Request
   Equal : Text → Text → Request
   Edit : Text → List EditStep → Request
+  ToUri : Text → Request
+  Compact : Text → List PrefixEntry → Request
+  Expand : Text → List PrefixEntry → Request
 
 pub data LineAnswer : Type 0 where
   Answered : Text → LineAnswer
@@ -63,6 +69,10 @@ read_edit field =
     option_and_then (λ e. e.1 (after equals_sign field))
     (find (λ e. bytes_eq e.0 (before (equals_sign ∷ []) field)) edit_names)
 
+-- a field `label=IRI`
+abbrev pub read_entry : Text → Option PrefixEntry
+read_entry field = option_map (λ iri. record { label = before (equals_sign ∷ []) field; iri = iri }) (after equals_sign field)
+
 -- the verbs, each with its number of fields
 abbrev pub one_text : (Text → Request) → List Text → Option Request
 one_text request [] = None
@@ -76,13 +86,18 @@ abbrev pub text_and_edits : List Text → Option Request
 text_and_edits [] = None
 text_and_edits (r ∷ fields) = option_map (Edit r) (all_some (map read_edit fields))
 
+abbrev pub text_and_entries : (Text → List PrefixEntry → Request) → List Text → Option Request
+text_and_entries request [] = None
+text_and_entries request (t ∷ fields) = option_map (request t) (all_some (map read_entry fields))
+
 abbrev pub Verbs : Type 0
 Verbs = List (Text × (List Text → Option Request))
 
 abbrev pub all_verbs : Verbs
 all_verbs =
     (codes "parts", one_text Parts) ∷ (codes "resolve", two_texts Resolve) ∷ (codes "relative", two_texts Relative)
-    ∷ (codes "normal", one_text Normal) ∷ (codes "equal", two_texts Equal) ∷ (codes "edit", text_and_edits) ∷ []
+    ∷ (codes "normal", one_text Normal) ∷ (codes "equal", two_texts Equal) ∷ (codes "edit", text_and_edits)
+    ∷ (codes "to-uri", one_text ToUri) ∷ (codes "compact", text_and_entries Compact) ∷ (codes "expand", text_and_entries Expand) ∷ []
 
 abbrev pub read_fields : Verbs → List Text → Option Request
 read_fields verbs [] = None
@@ -92,32 +107,38 @@ unfoldable pub read_line : Verbs → Text → Option Request
 read_line verbs line = read_fields verbs (pieces_at tab line)
 
 -- each text of the request is in its grammar
-abbrev pub is_valid_edit : EditStep → Bool
-is_valid_edit (SetScheme scheme) = none_or is_scheme scheme
-is_valid_edit (SetAuthority authority) = none_or (is_authority uri_chars) authority
-is_valid_edit (ReplaceAuthority authority) = is_authority uri_chars authority
-is_valid_edit (SetUserInfo user_info) = none_or (is_user_info uri_chars) user_info
-is_valid_edit (SetHost host) = is_host uri_chars host
-is_valid_edit (SetPort port) = none_or is_port port
-is_valid_edit (SetPortU32 number) = true
-is_valid_edit (SetPath p) = is_path uri_chars p
-is_valid_edit (SetAndNormalizePath p) = is_path uri_chars p
-is_valid_edit (SetQuery query) = none_or (is_query uri_chars) query
-is_valid_edit (SetFragment fragment) = none_or (is_fragment uri_chars) fragment
-is_valid_edit (LazyPush s) = is_segment uri_chars s
-is_valid_edit (Push s) = is_segment uri_chars s
-is_valid_edit (JoinPath p) = is_path uri_chars p
-is_valid_edit Pop = true
-is_valid_edit Clear = true
-is_valid_edit Normalize = true
+abbrev pub is_valid_edit : CharTests → EditStep → Bool
+is_valid_edit set (SetScheme scheme) = none_or is_scheme scheme
+is_valid_edit set (SetAuthority authority) = none_or (is_authority set) authority
+is_valid_edit set (ReplaceAuthority authority) = is_authority set authority
+is_valid_edit set (SetUserInfo user_info) = none_or (is_user_info set) user_info
+is_valid_edit set (SetHost host) = is_host set host
+is_valid_edit set (SetPort port) = none_or is_port port
+is_valid_edit set (SetPortU32 number) = true
+is_valid_edit set (SetPath p) = is_path set p
+is_valid_edit set (SetAndNormalizePath p) = is_path set p
+is_valid_edit set (SetQuery query) = none_or (is_query set) query
+is_valid_edit set (SetFragment fragment) = none_or (is_fragment set) fragment
+is_valid_edit set (LazyPush s) = is_segment set s
+is_valid_edit set (Push s) = is_segment set s
+is_valid_edit set (JoinPath p) = is_path set p
+is_valid_edit set Pop = true
+is_valid_edit set Clear = true
+is_valid_edit set Normalize = true
 
-unfoldable pub is_valid : Request → Bool
-is_valid (Parts r) = is_reference uri_chars r
-is_valid (Resolve r base) = is_reference uri_chars r && is_full_reference uri_chars base
-is_valid (Relative target base) = is_reference uri_chars target && is_reference uri_chars base
-is_valid (Normal p) = is_path uri_chars p
-is_valid (Equal r s) = is_reference uri_chars r && is_reference uri_chars s
-is_valid (Edit r edits) = is_reference uri_chars r && list_all is_valid_edit edits
+abbrev pub are_valid_entries : CharTests → List PrefixEntry → Bool
+are_valid_entries set entries = list_all (λ (e : PrefixEntry). is_full_reference set e.iri) entries && is_some (inserted_all entries [])
+
+unfoldable pub is_valid : CharTests → Request → Bool
+is_valid set (Parts r) = is_reference set r
+is_valid set (Resolve r base) = is_reference set r && is_full_reference set base
+is_valid set (Relative target base) = is_reference set target && is_reference set base
+is_valid set (Normal p) = is_path set p
+is_valid set (Equal r s) = is_reference set r && is_reference set s
+is_valid set (Edit r edits) = is_reference set r && list_all (is_valid_edit set) edits
+is_valid set (ToUri r) = is_reference set r
+is_valid set (Compact iri entries) = is_full_reference set iri && are_valid_entries set entries
+is_valid set (Expand text entries) = is_utf8 text && are_valid_entries set entries
 
 -- `-` where a part is absent, else `=` and its text
 abbrev pub part_field : Option Text → Text
@@ -136,6 +157,14 @@ edits_answer (Err refused) = RefusedEdit
 abbrev pub yes_or_no : Bool → Text
 yes_or_no alike = if alike then codes "yes" else codes "no"
 
+-- the table of entries that can be inserted
+abbrev pub table_of : List PrefixEntry → PrefixTable
+table_of entries = unwrap_or (inserted_all entries []) []
+
+abbrev pub expanded_answer : Result Text ExpandRefusal → LineAnswer
+expanded_answer (Ok iri) = Answered iri
+expanded_answer (Err refusal) = InvalidText
+
 unfoldable pub answer_to : Request → LineAnswer
 answer_to (Parts r) = Answered (part_fields (spell_components (read_reference r)))
 answer_to (Resolve r base) = Answered (spell (resolved (read_reference base) (read_reference r)))
@@ -143,13 +172,16 @@ answer_to (Relative target base) = Answered (spell (relative_to (read_reference 
 answer_to (Normal p) = Answered (spell_path (guarded alone (normal (read_path p))))
 answer_to (Equal r s) = Answered (yes_or_no (are_alike (read_reference r) (read_reference s)))
 answer_to (Edit r edits) = edits_answer (edited_all edits (read_reference r))
+answer_to (ToUri r) = Answered (mapped r)
+answer_to (Compact iri entries) = Answered (part_field (option_map compact_text (compacted iri (table_of entries))))
+answer_to (Expand text entries) = expanded_answer (expanded text (table_of entries))
 
 -- first the command is looked at, then the texts, then the edits
-abbrev pub answer_if_valid : Request → LineAnswer
-answer_if_valid request = elim (is_valid request) [ true ↦ answer_to request | false ↦ InvalidText ]
+abbrev pub answer_if_valid : CharTests → Request → LineAnswer
+answer_if_valid set request = elim (is_valid set request) [ true ↦ answer_to request | false ↦ InvalidText ]
 
-unfoldable pub answer : Verbs → Text → LineAnswer
-answer verbs line = elim (read_line verbs line) [ None ↦ BadCommand | Some request ↦ answer_if_valid request ]
+unfoldable pub answer : CharTests → Verbs → Text → LineAnswer
+answer set verbs line = elim (read_line verbs line) [ None ↦ BadCommand | Some request ↦ answer_if_valid set request ]
 
 abbrev pub answer_text : LineAnswer → Text
 answer_text (Answered text) = codes "ok" ++ tab ∷ text
@@ -166,6 +198,6 @@ without_empty_last (line ∷ lines) =
 abbrev pub lines_of : Text → List Text
 lines_of input = without_empty_last (pieces_at newline input)
 
--- what a program with these verbs writes for what it reads, where memory is found
-unfoldable pub output : Verbs → Text → Text
-output verbs input = flat_map (λ line. answer_text (answer verbs line) ++ newline ∷ []) (lines_of input)
+-- what a program with these verbs, over these texts, writes for what it reads, where memory is found
+unfoldable pub output : CharTests → Verbs → Text → Text
+output set verbs input = flat_map (λ line. answer_text (answer set verbs line) ++ newline ∷ []) (lines_of input)

@@ -1,0 +1,45 @@
+-- Answers to lines of prefix tables.
+use Rattle.std.proofs.Common.{◌≡◌, true, false, List, ◌∷◌, Option, Some, Result, refl, ap, sym, ◌∙◌, option_map}
+use Rattle.std.specs.Str.{is_utf8}
+use Rattle.std.proofs.lemmas.Bool.{and_left, and_right, false_from_ne_true}
+use Rattle.iref_grammar.specs.Characters.{iri_chars, iri_above_ascii}
+use Rattle.iref_grammar.specs.Grammar.{IsUri}
+use Rattle.iref_grammar.specs.Reference.{is_full_reference}
+use Rattle.iref_grammar.specs.Rules.{InUtf8, Text}
+use Rattle.iref_grammar.proofs.ReferenceRuleLemmas.{Decides-is_uri}
+use Rattle.iref_mapping.specs.PrefixTable.{PrefixEntry, CompactValue, compacted, compact_text, ExpandRefusal, expanded}
+use Rattle.iref_lines.specs.Lines.{Request, Compact, Expand, Answered, InvalidText, answer_if_valid, answer_text, answer_to, are_valid_entries, expanded_answer, is_valid, part_field, text_and_entries}
+use Rattle.iref_batch.specs.PrefixFields.{entries_read}
+use Rattle.iref_batch.specs.Runs.{reply_to}
+use Rattle.iref_batch.proofs.AnswerLemmas.{invalid, valid}
+use Rattle.iref_batch.proofs.PrefixFieldLemmas.{valid_table}
+
+pub entries_reply : (request : Text → List PrefixEntry → Request) (text : Text) (fields : List Text) (read : Option (List PrefixEntry)) → entries_read fields ≡ read → reply_to (text_and_entries request (text ∷ fields)) ≡ reply_to (option_map (request text) read)
+entries_reply request text fields read e = ap (λ (o : Option (List PrefixEntry)). reply_to (option_map (request text) o)) e
+
+pub invalid_compact : (text : Text) (fields : List Text) → ((es : List PrefixEntry) × (entries_read fields ≡ Some es) × (are_valid_entries iri_chars es ≡ false)) → reply_to (text_and_entries Compact (text ∷ fields)) ≡ answer_text InvalidText
+unfolding is_valid
+invalid_compact text fields bad = entries_reply Compact text fields (Some bad.0) bad.1 ∙ ap answer_text (invalid (Compact text bad.0) (and_right (is_full_reference iri_chars text) _ bad.2))
+
+pub invalid_expand : (text : Text) (fields : List Text) → ((es : List PrefixEntry) × (entries_read fields ≡ Some es) × (are_valid_entries iri_chars es ≡ false)) → reply_to (text_and_entries Expand (text ∷ fields)) ≡ answer_text InvalidText
+unfolding is_valid
+invalid_expand text fields bad = entries_reply Expand text fields (Some bad.0) bad.1 ∙ ap answer_text (invalid (Expand text bad.0) (and_right (is_utf8 text) _ bad.2))
+
+module _ (es : List PrefixEntry) (v : are_valid_entries iri_chars es ≡ true) where
+  pub compact_answer : (text same : Text) (found : Option CompactValue) → InUtf8 (IsUri iri_chars) text → same ≡ text → found ≡ compacted same es → answer_if_valid iri_chars (Compact text es) ≡ Answered (part_field (option_map compact_text found))
+  unfolding is_valid answer_to
+  compact_answer text same found h s f =
+      valid (Compact text es) (rw ((Decides-is_uri iri_chars iri_above_ascii text).1 h, v) refl)
+      ∙ ap (λ (o : Option CompactValue). Answered (part_field (option_map compact_text o))) ((λ i. compacted (sym s i) (valid_table es v i)) ∙ sym f)
+
+  pub expand_answer : (text : Text) (outcome : Result Text ExpandRefusal) → is_utf8 text ≡ true → expanded text es ≡ outcome → answer_if_valid iri_chars (Expand text es) ≡ expanded_answer outcome
+  unfolding is_valid answer_to
+  expand_answer text outcome h f = valid (Expand text es) (rw (h, v) refl) ∙ ap expanded_answer (ap (expanded text) (valid_table es v) ∙ f)
+
+pub no_compact_answer : (es : List PrefixEntry) (text : Text) → ¬ (InUtf8 (IsUri iri_chars) text) → answer_if_valid iri_chars (Compact text es) ≡ InvalidText
+unfolding is_valid
+no_compact_answer es text h = invalid (Compact text es) (and_left _ (are_valid_entries iri_chars es) (false_from_ne_true _ (λ e. h ((Decides-is_uri iri_chars iri_above_ascii text).0 e))))
+
+pub no_expand_answer : (es : List PrefixEntry) (text : Text) → is_utf8 text ≡ false → answer_if_valid iri_chars (Expand text es) ≡ InvalidText
+unfolding is_valid
+no_expand_answer es text h = invalid (Expand text es) (and_left _ (are_valid_entries iri_chars es) h)

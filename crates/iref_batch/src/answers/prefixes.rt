@@ -1,0 +1,153 @@
+//! The answers to `compact` and `expand`, by a table of the entries that the fields name.
+ghost use Rattle.std.specs.Prelude.{◌≡◌, ◌++◌, ◌∷◌, Some, true, OnOk, OnErr, IfErr};
+ghost use Rattle.std.specs.Option.{option_copied};
+ghost use Rattle.iref_grammar.specs.{iri_chars};
+ghost use Rattle.iref_lines.specs.Lines as spec;
+ghost use Rattle.iref_lines.specs.Lines.{Answered, answer_text, are_valid_entries, part_field, read_entry, text_and_entries};
+ghost use Rattle.iref_mapping.specs.PrefixTable.{compact_text};
+ghost use Rattle.iref.specs.Prefixes.{compact_value};
+ghost use Rattle.iref_batch.specs.EditFields.{IsRead};
+ghost use Rattle.iref_batch.specs.Fields.{fields_of};
+ghost use Rattle.iref_batch.specs.Gathering.{Extends};
+ghost use Rattle.iref_batch.specs.PrefixFields.{entries_read, HasTaken, TakesNot};
+ghost use Rattle.iref_batch.specs.Runs.{reply_to, request_reply};
+
+use super::{put_answered, put_text};
+use crate::edit_fields::{FieldError, name_and_value};
+use crate::request::first_field;
+use iref::compact::{Compact, ExpandError, PrefixError, Prefixes};
+use iref::iri::Iri;
+use std::alloc::{AllocError, Global};
+use std::str;
+
+// Adds the entry of a field, `label=IRI`, to the table.
+fn insert_field(table: &mut Prefixes, field: &[u8]) -> Result<(), FieldError>
+    ensures ok { OnOk result (HasTaken (read_entry field.now) table.old table.new) }
+    ensures err { IfErr result (TakesNot (read_entry field.now) table.old) }
+    ensures unchanged { OnErr result (table.new ≡ table.old) }
+{
+    let (label, iri) = name_and_value(field);
+    let Some(iri) = iri else {
+        return Err(FieldError::Command);
+    };
+    let Ok(label) = str::from_utf8(label) else {
+        return Err(FieldError::Invalid);
+    };
+    let Ok(iri) = Iri::from_bytes(iri) else {
+        return Err(FieldError::Invalid);
+    };
+    match table.insert(label, iri) {
+        Ok(()) => Ok(()),
+        Err(PrefixError::BadLabel) => Err(FieldError::Invalid),
+        Err(PrefixError::Taken) => Err(FieldError::Invalid),
+        Err(PrefixError::Memory) => Err(FieldError::Memory),
+    }
+}
+
+// The table of the entries that the fields name. All fields are read, since one without `=` goes
+// before entries that no table takes.
+fn read_table(alloc: Global, fields: Option<&[u8]>) -> Result<Prefixes, FieldError>
+    ensures { IsRead (λ table. table) (are_valid_entries iri_chars)
+        (entries_read (fields_of (option_copied fields.entry))) result }
+{
+    let mut table = Prefixes::new(alloc);
+    let mut are_valid = true;
+    let mut rest = fields;
+    while let Some(text) = rest {
+        let (field, others) = first_field(text);
+        match insert_field(&mut table, field) {
+            Ok(()) => {}
+            Err(FieldError::Invalid) => are_valid = false,
+            Err(error) => return Err(error),
+        }
+        rest = others;
+    }
+    if are_valid {
+        Ok(table)
+    } else {
+        Err(FieldError::Invalid)
+    }
+}
+
+// Puts the answer of an IRI made short: `=`, the label, `:`, and the rest.
+fn put_short(short: Compact<'_>, out: &mut Vec<u8>) -> Result<(), AllocError>
+    ensures ok { OnOk result (out.new.items ≡ out.old.items
+        ++ answer_text (Answered (part_field (Some (compact_text (compact_value short.entry)))))) }
+    ensures err { OnErr result (Extends out.old.items out.new.items) }
+{
+    out.extend_from_slice(b"ok\t=")?;
+    out.extend_from_slice(short.label.as_bytes())?;
+    out.extend_from_slice(b":")?;
+    out.extend_from_slice(short.rest.as_bytes())
+}
+
+// Puts the answer of what a table makes of an IRI.
+fn put_compact(table: &Prefixes, text: &[u8], out: &mut Vec<u8>) -> Result<(), AllocError>
+    requires { are_valid_entries iri_chars table.now ≡ true }
+    ensures ok { OnOk result
+        (out.new.items ≡ out.old.items ++ request_reply (spec.Compact text.now table.now)) }
+    ensures err { OnErr result (Extends out.old.items out.new.items) }
+{
+    let Ok(iri) = Iri::from_bytes(text) else {
+        return put_text(b"error invalid", out);
+    };
+    match table.compact(iri) {
+        Some(short) => put_short(short, out),
+        None => put_answered(b"-", out),
+    }
+}
+
+// Puts the answer of the IRI that a text stands for in a table.
+fn put_expanded(table: &Prefixes, text: &[u8], out: &mut Vec<u8>) -> Result<(), AllocError>
+    requires { are_valid_entries iri_chars table.now ≡ true }
+    ensures ok { OnOk result
+        (out.new.items ≡ out.old.items ++ request_reply (spec.Expand text.now table.now)) }
+    ensures err { OnErr result (Extends out.old.items out.new.items) }
+{
+    let Ok(text) = str::from_utf8(text) else {
+        return put_text(b"error invalid", out);
+    };
+    match table.expand(*out.allocator(), text) {
+        Ok(iri) => put_answered(iri.as_bytes(), out),
+        Err(ExpandError::Memory) => Err(AllocError),
+        Err(ExpandError::NoColon) => put_text(b"error invalid", out),
+        Err(ExpandError::UnknownLabel) => put_text(b"error invalid", out),
+        Err(ExpandError::NotAnIri) => put_text(b"error invalid", out),
+    }
+}
+
+/// Puts the answer to `compact`.
+pub fn put_answer_to_compact(
+    text: &[u8],
+    fields: Option<&[u8]>,
+    out: &mut Vec<u8>,
+) -> Result<(), AllocError>
+    ensures ok { OnOk result (out.new.items ≡ out.old.items ++ reply_to (text_and_entries
+        spec.Compact (text.now ∷ fields_of (option_copied fields.entry)))) }
+    ensures err { OnErr result (Extends out.old.items out.new.items) }
+{
+    match read_table(*out.allocator(), fields) {
+        Ok(table) => put_compact(&table, text, out),
+        Err(FieldError::Command) => put_text(b"error command", out),
+        Err(FieldError::Invalid) => put_text(b"error invalid", out),
+        Err(FieldError::Memory) => Err(AllocError),
+    }
+}
+
+/// Puts the answer to `expand`.
+pub fn put_answer_to_expand(
+    text: &[u8],
+    fields: Option<&[u8]>,
+    out: &mut Vec<u8>,
+) -> Result<(), AllocError>
+    ensures ok { OnOk result (out.new.items ≡ out.old.items ++ reply_to (text_and_entries
+        spec.Expand (text.now ∷ fields_of (option_copied fields.entry)))) }
+    ensures err { OnErr result (Extends out.old.items out.new.items) }
+{
+    match read_table(*out.allocator(), fields) {
+        Ok(table) => put_expanded(&table, text, out),
+        Err(FieldError::Command) => put_text(b"error command", out),
+        Err(FieldError::Invalid) => put_text(b"error invalid", out),
+        Err(FieldError::Memory) => Err(AllocError),
+    }
+}
