@@ -54,3 +54,11 @@ pub fn shows<T: Display>(value: &T, want: &str, alloc: Global) -> Result<(), Fai
     let shown = format!(in alloc; "{value}")?;
     same_text(shown.as_str(), want)
 }
+
+/// Fails unless the part is printed so, or unless `-` is wanted where it is absent.
+pub fn is_part<P: Display + Drop>(part: Option<P>, want: &str, alloc: Global) -> Result<(), Fail> {
+    match part {
+        Some(part) => shows(&part, want, alloc),
+        None => same_text("-", want),
+    }
+}

@@ -1,7 +1,8 @@
 //! Tests of conversions: between URIs and IRIs, views and owners, and with URLs.
 #![tactic(auto)]
 
-pub mod callers;
+#[cfg(test)]
+mod callers;
 #[cfg(test)]
 mod memory;
 #[cfg(test)]

@@ -1,8 +1,4 @@
-//! Texts that are in some of the grammars, and what a conversion makes of them.
-use iref_checks::same::{holds, shows};
-use std::alloc::Global;
-use std::fmt::Display;
-use std::test::Fail;
+//! Texts that are in some of the grammars.
 
 /// A reference of IRIs, and which else it is.
 pub struct Row {
@@ -61,23 +57,3 @@ pub const ROWS: &[Row] = &[
         is_iri: true,
     },
 ];
-
-/// Fails unless the conversion is taken as it should be, and what it gives or hands back is printed
-/// as the text.
-pub fn converts<T: Display + Drop, E: Display + Drop>(
-    converted: Result<T, E>,
-    text: &str,
-    want: bool,
-    alloc: Global,
-) -> Result<(), Fail> {
-    match converted {
-        Ok(value) => {
-            holds(want, text)?;
-            shows(&value, text, alloc)
-        }
-        Err(refused) => {
-            holds(!want, text)?;
-            shows(&refused, text, alloc)
-        }
-    }
-}

@@ -1,5 +1,6 @@
 //! Conversions with URLs.
-use iref::{Iri, IriBuf, IriRefBuf, Uri, UriBuf, UriRefBuf};
+use crate::callers::uri_of;
+use iref::{Iri, IriRefBuf, Uri, UriBuf};
 use iref_checks::same::{holds, same, same_text, shows};
 use iref_url::{FromUrlError, ToUrl, TryFromUrl, Url};
 use std::alloc::Global;
@@ -41,9 +42,9 @@ fn keeps<T: TryFromUrl + Display + Drop>(
 #[test]
 fn a_url_is_kept_where_it_is_a_uri(rt: HostRuntime) -> Result<(), Fail> {
     for row in URLS {
+        let uri = uri_of(Url::parse(rt.alloc(), row.0)?);
+        same(&uri.is_some(), &row.2)?;
         keeps::<UriBuf>(row, rt.alloc())?;
-        keeps::<UriRefBuf>(row, rt.alloc())?;
-        keeps::<IriBuf>(row, rt.alloc())?;
         keeps::<IriRefBuf>(row, rt.alloc())?;
     }
     Ok(())
@@ -57,32 +58,20 @@ fn has_url<T: ToUrl>(value: &T, want: Option<&str>, alloc: Global) -> Result<(),
     }
 }
 
-/// URIs, and the texts of their URLs.
-const URIS: &[(&str, Option<&str>)] = &[
+/// IRIs, and the texts of their URLs.
+const IRIS: &[(&str, Option<&str>)] = &[
     ("http://example.org", Some("http://example.org/")),
     ("http://", None),
+    ("http://a/é", Some("http://a/%C3%A9")),
 ];
 
 #[test]
-fn a_uri_has_the_url_that_is_parsed_from_it(rt: HostRuntime) -> Result<(), Fail> {
-    for row in URIS {
-        has_url(&Uri::new(row.0)?, row.1, rt.alloc())?;
-        has_url(&Uri::new(row.0)?.to_owned(rt.alloc())?, row.1, rt.alloc())?;
+fn an_iri_has_the_url_that_is_parsed_from_it(rt: HostRuntime) -> Result<(), Fail> {
+    for row in IRIS {
         has_url(&Iri::new(row.0)?, row.1, rt.alloc())?;
         has_url(&Iri::new(row.0)?.to_owned(rt.alloc())?, row.1, rt.alloc())?;
     }
-    Ok(())
-}
-
-#[test]
-fn the_url_of_an_iri_is_escaped(rt: HostRuntime) -> Result<(), Fail> {
-    let iri = Iri::new("http://a/é")?;
-    has_url(&iri, Some("http://a/%C3%A9"), rt.alloc())?;
-    has_url(
-        &iri.to_owned(rt.alloc())?,
-        Some("http://a/%C3%A9"),
-        rt.alloc(),
-    )
+    has_url(&Uri::new("http://")?, None, rt.alloc())
 }
 
 #[test]

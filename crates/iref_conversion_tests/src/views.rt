@@ -1,109 +1,66 @@
-//! Conversions between views.
-use crate::texts::{ROWS, Row, converts};
+//! Conversions between views. Each `TryFrom` and `From` is the call that is named after its result,
+//! and those of an IRI are those of its reference.
+use crate::texts::ROWS;
 use iref::{Iri, IriRef, Uri, UriRef};
-use iref_checks::same::{same, shows};
-use std::alloc::Global;
+use iref_checks::same::{same, same_text, shows};
+use iref_checks::tried::gives;
 use std::convert::TryFrom;
 use std::test::Fail;
 
-fn of_iri_ref(row: &Row, alloc: Global) -> Result<(), Fail> {
-    let reference = IriRef::new(row.text)?;
-    converts(
-        reference.as_uri().ok_or(row.text),
-        row.text,
-        row.is_uri,
-        alloc,
-    )?;
-    converts(
-        reference.as_uri_ref().ok_or(row.text),
-        row.text,
-        row.is_uri_ref,
-        alloc,
-    )?;
-    converts(
-        reference.as_iri().ok_or(row.text),
-        row.text,
-        row.is_iri,
-        alloc,
-    )?;
-    converts(Uri::try_from(reference), row.text, row.is_uri, alloc)?;
-    converts(UriRef::try_from(reference), row.text, row.is_uri_ref, alloc)?;
-    converts(Iri::try_from(reference), row.text, row.is_iri, alloc)
-}
-
-fn of_iri(row: &Row, alloc: Global) -> Result<(), Fail> {
-    let iri = Iri::new(row.text)?;
-    converts(iri.as_uri().ok_or(row.text), row.text, row.is_uri, alloc)?;
-    converts(
-        iri.as_uri_ref().ok_or(row.text),
-        row.text,
-        row.is_uri_ref,
-        alloc,
-    )?;
-    converts(Uri::try_from(iri), row.text, row.is_uri, alloc)?;
-    converts(UriRef::try_from(iri), row.text, row.is_uri_ref, alloc)?;
-    shows(&iri.as_iri_ref(), row.text, alloc)?;
-    shows(&IriRef::from(iri), row.text, alloc)
-}
-
-fn of_uri_ref(row: &Row, alloc: Global) -> Result<(), Fail> {
-    let reference = UriRef::new(row.text)?;
-    converts(
-        reference.as_uri().ok_or(row.text),
-        row.text,
-        row.is_uri,
-        alloc,
-    )?;
-    converts(
-        reference.as_iri().ok_or(row.text),
-        row.text,
-        row.is_iri,
-        alloc,
-    )?;
-    converts(Uri::try_from(reference), row.text, row.is_uri, alloc)?;
-    converts(Iri::try_from(reference), row.text, row.is_iri, alloc)?;
-    shows(&reference.as_iri_ref(), row.text, alloc)?;
-    shows(&IriRef::from(reference), row.text, alloc)
-}
-
-fn of_uri(row: &Row, alloc: Global) -> Result<(), Fail> {
-    let uri = Uri::new(row.text)?;
-    shows(&uri.as_uri_ref(), row.text, alloc)?;
-    shows(&uri.as_iri(), row.text, alloc)?;
-    shows(&uri.as_iri_ref(), row.text, alloc)?;
-    shows(&UriRef::from(uri), row.text, alloc)?;
-    shows(&Iri::from(uri), row.text, alloc)?;
-    shows(&IriRef::from(uri), row.text, alloc)
-}
-
 #[test]
-fn views_of_iris_are_uris_where_the_text_is_one(rt: HostRuntime) -> Result<(), Fail> {
+fn references_of_iris_are_what_their_text_is(rt: HostRuntime) -> Result<(), Fail> {
     for row in ROWS {
-        of_iri_ref(row, rt.alloc())?;
-        if row.is_iri {
-            of_iri(row, rt.alloc())?;
-        }
+        let (text, alloc) = (row.text, rt.alloc());
+        let reference = IriRef::new(text)?;
+        gives(Uri::try_from(reference), text, row.is_uri, alloc)?;
+        gives(UriRef::try_from(reference), text, row.is_uri_ref, alloc)?;
+        gives(Iri::try_from(reference), text, row.is_iri, alloc)?;
     }
     Ok(())
 }
 
 #[test]
-fn views_of_uris_are_iris(rt: HostRuntime) -> Result<(), Fail> {
+fn references_of_uris_are_of_iris(rt: HostRuntime) -> Result<(), Fail> {
     for row in ROWS {
+        let (text, alloc) = (row.text, rt.alloc());
         if row.is_uri_ref {
-            of_uri_ref(row, rt.alloc())?;
-        }
-        if row.is_uri {
-            of_uri(row, rt.alloc())?;
+            let reference = UriRef::new(text)?;
+            gives(Uri::try_from(reference), text, row.is_uri, alloc)?;
+            gives(Iri::try_from(reference), text, row.is_iri, alloc)?;
+            shows(&IriRef::from(reference), text, alloc)?;
         }
     }
     Ok(())
+}
+
+#[test]
+fn uris_are_iris_and_references(rt: HostRuntime) -> Result<(), Fail> {
+    for row in ROWS {
+        let (text, alloc) = (row.text, rt.alloc());
+        if row.is_uri {
+            let uri = Uri::new(text)?;
+            shows(&UriRef::from(uri), text, alloc)?;
+            shows(&Iri::from(uri), text, alloc)?;
+            shows(&IriRef::from(uri), text, alloc)?;
+        }
+    }
+    Ok(())
+}
+
+#[test]
+fn views_are_converted_one_into_another() -> Result<(), Fail> {
+    let uri = Uri::new("s:a")?;
+    let iri = uri.as_uri_ref().as_iri().ok_or("refused")?;
+    let reference = iri.as_iri_ref().as_uri_ref().ok_or("refused")?;
+    let uri = reference.as_uri().ok_or("refused")?;
+    let reference = uri.as_iri().as_uri_ref().ok_or("refused")?;
+    let iri = reference.as_iri_ref().as_iri().ok_or("refused")?;
+    same_text(iri.as_uri().ok_or("refused")?.as_iri_ref().as_str(), "s:a")
 }
 
 #[test]
 fn an_iri_beyond_ascii_is_no_uri_and_equals_its_escaped_text() -> Result<(), Fail> {
     let iri = Iri::new("http://a/é")?;
     same(&iri, &Iri::new("http://a/%C3%A9")?)?;
-    same(&iri.as_uri(), &None)?;
-    same(&Uri::new("http://a/é").is_ok(), &false)
+    same(&iri.as_uri(), &None)
 }

@@ -1,14 +1,16 @@
-//! Tests of what references are made of: components, places, bases, the texts up to the query, and
-//! conversions.
+//! Tests of what texts are made of: the parts of authorities and references, the places and bases
+//! of references, the sizes of segments, and hosts and ports as numbers.
 #![tactic(auto)]
 
 #[cfg(test)]
-mod components;
+mod authorities;
 #[cfg(test)]
-mod conversions;
+mod hosts;
 #[cfg(test)]
-mod offsets;
+mod places;
 #[cfg(test)]
-mod shown;
+mod ports;
 #[cfg(test)]
-mod split;
+mod references;
+#[cfg(test)]
+mod segments;

@@ -1,0 +1,22 @@
+//! Tests of all types of texts: which texts they are, how they compare, what is printed of them and
+//! of errors, and that the names of each family are of it.
+#![tactic(auto)]
+
+#[cfg(test)]
+mod authorities;
+#[cfg(test)]
+mod bytes;
+#[cfg(test)]
+mod components;
+#[cfg(test)]
+mod errors;
+#[cfg(test)]
+mod families;
+#[cfg(test)]
+mod paths;
+#[cfg(test)]
+mod references;
+#[cfg(test)]
+mod texts;
+#[cfg(test)]
+mod wrong_rows;
