@@ -1,10 +1,8 @@
-//! Tests of authorities edited in place: outside rows, and heaps that refuse.
+//! Tests of authorities edited in place: outside rows, and texts that are refused.
 #![tactic(auto)]
 
 #[cfg(test)]
 mod edits;
-#[cfg(test)]
-mod heaps;
 #[cfg(test)]
 mod owners;
 #[cfg(test)]

@@ -13,7 +13,7 @@ const INPUTS: &[(&[u8], &[u8])] = &[
     (b"parts\tx\r\n", b"error invalid\n"),
     (
         b"parts\t\xff\n\xff\xfe\nparts\t\xc3\xa9\nparts\t\n",
-        b"error invalid\nerror command\nerror invalid\nok\t-\t-\t=\t-\t-\n",
+        b"error invalid\nerror command\nok\t-\t-\t=\xc3\xa9\t-\t-\nok\t-\t-\t=\t-\t-\n",
     ),
     (
         b"equal\thttp://a\thttp://a/\n\nparts\t1:2\nedit\tx\thost=h\nresolve\tg\t/b\nnormal\t//b",

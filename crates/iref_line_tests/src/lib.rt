@@ -8,3 +8,5 @@ mod failures;
 mod inputs;
 #[cfg(test)]
 mod streams;
+#[cfg(test)]
+mod turns;

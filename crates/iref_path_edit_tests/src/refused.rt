@@ -1,10 +1,9 @@
-//! Edits whose growth is refused, each in turn: on heaps of growing size, until the edit is done.
+//! Lists of segments whose growths are refused, each in turn: on heaps of growing size, until all
+//! are appended.
 use crate::rows::editor;
-use iref::Memory;
 use iref::chars::UriChars;
 use iref::uri::Path;
-use iref_checks::same::{holds, same_bytes, same_text};
-use iref_path::from_segments::text_of_segments;
+use iref_checks::same::holds;
 use iref_path::path_mut::PathMut;
 use linked_list_allocator::LocalHeap;
 use std::alloc::Global;
@@ -13,16 +12,11 @@ use std::test::Fail;
 /// How many bytes the largest heap has.
 const MOST: usize = 400;
 
-/// An edit that may grow.
+/// A call that takes segments one by one.
 #[derive(Clone, Copy)]
 enum Edit {
-    LazyPush,
-    Push,
-    Pop,
-    Replace,
-    Join,
-    Normalize,
     LazyAppend,
+    TryLazyAppend,
     Append,
     TryAppend,
 }
@@ -33,42 +27,6 @@ type Row = (Edit, &'static str, &'static str, &'static [&'static str]);
 
 const ROWS: &[Row] = &[
     (
-        Edit::LazyPush,
-        "/a",
-        "a-segment-that-fills-a-block",
-        &["/a", "/a/a-segment-that-fills-a-block"],
-    ),
-    (
-        Edit::Push,
-        "",
-        "a:segment-that-fills-a-block",
-        &["", "./a:segment-that-fills-a-block"],
-    ),
-    (
-        Edit::Pop,
-        "../../../../..",
-        "",
-        &["../../../../..", "../../../../../.."],
-    ),
-    (
-        Edit::Replace,
-        "a",
-        "//a-segment-that-fills-a-block",
-        &["a", "/.//a-segment-that-fills-a-block"],
-    ),
-    (
-        Edit::Join,
-        "/a/b",
-        "../a-segment-that-fills-a-block/c",
-        &["/a/b", "/a/a-segment-that-fills-a-block/c"],
-    ),
-    (
-        Edit::Normalize,
-        "../a-segment-that-fills-a-block/../b",
-        "",
-        &["../a-segment-that-fills-a-block/../b", "../b"],
-    ),
-    (
         Edit::LazyAppend,
         "/a",
         "a-segment-that-fills-a-block/./another-that-is-as-long-as-all-before-it",
@@ -77,6 +35,16 @@ const ROWS: &[Row] = &[
             "/a/a-segment-that-fills-a-block",
             "/a/a-segment-that-fills-a-block/.",
             "/a/a-segment-that-fills-a-block/./another-that-is-as-long-as-all-before-it",
+        ],
+    ),
+    (
+        Edit::TryLazyAppend,
+        "",
+        "a:segment-that-fills-a-block/another-that-is-longer-than-all-before-it",
+        &[
+            "",
+            "./a:segment-that-fills-a-block",
+            "./a:segment-that-fills-a-block/another-that-is-longer-than-all-before-it",
         ],
     ),
     (
@@ -106,13 +74,8 @@ fn is_done(
 ) -> Result<bool, Fail> {
     let given = Path::new(argument)?;
     Ok(match edit {
-        Edit::LazyPush => path.try_lazy_push(argument).is_ok(),
-        Edit::Push => path.try_push(argument).is_ok(),
-        Edit::Pop => path.pop().is_ok(),
-        Edit::Replace => path.replace(given).is_ok(),
-        Edit::Join => path.join(given).is_ok(),
-        Edit::Normalize => path.normalize().is_ok(),
         Edit::LazyAppend => path.lazy_append(given.segments()).is_ok(),
+        Edit::TryLazyAppend => path.try_lazy_append(argument.split('/')).is_ok(),
         Edit::Append => path.append(given.segments()).is_ok(),
         Edit::TryAppend => path.try_append(argument.split('/')).is_ok(),
     })
@@ -157,50 +120,9 @@ fn is_refused_until_done(alloc: Global, row: Row) -> Result<(), Fail> {
 }
 
 #[test]
-fn a_refused_edit_changes_nothing_and_a_refused_append_keeps_its_beginning(
-    rt: HostRuntime,
-) -> Result<(), Fail> {
+fn a_refused_append_keeps_its_beginning(rt: HostRuntime) -> Result<(), Fail> {
     for row in ROWS {
         is_refused_until_done(rt.alloc(), *row)?;
-    }
-    Ok(())
-}
-
-/// A flag, segments, and the path that pushing them gives.
-const MADE: &[(bool, &str, &str)] = &[
-    (
-        true,
-        "a-segment-that-fills-a-block/b/..",
-        "/a-segment-that-fills-a-block/",
-    ),
-    (
-        false,
-        "a:segment/one-that-fills-a-block/another-one/.",
-        "./a:segment/one-that-fills-a-block/another-one/",
-    ),
-];
-
-#[test]
-fn each_growth_of_a_path_of_segments_is_refused(rt: HostRuntime) -> Result<(), Fail> {
-    for row in MADE {
-        let (absolute, segments, want) = *row;
-        let mut is_refused = false;
-        let mut is_done = false;
-        for size in 1..MOST {
-            let heap = LocalHeap::new(rt.alloc(), size)?;
-            let segments = Path::new(segments)?.segments();
-            match text_of_segments::<UriChars, &LocalHeap, _>(&heap, absolute, segments) {
-                Ok(text) => {
-                    same_text(text.as_str(), want)?;
-                    is_done = true;
-                }
-                Err(Memory) => {
-                    holds(!is_done, "refused with more memory")?;
-                    is_refused = true;
-                }
-            }
-        }
-        holds(is_refused && is_done, want)?;
     }
     Ok(())
 }

@@ -9,6 +9,4 @@ mod long_runs;
 #[cfg(test)]
 mod pairs;
 #[cfg(test)]
-mod refused;
-#[cfg(test)]
 mod rows;

@@ -10,8 +10,6 @@ mod editors;
 #[cfg(test)]
 mod normal;
 #[cfg(test)]
-mod refused_growth;
-#[cfg(test)]
 mod setters;
 #[cfg(test)]
 mod tried;

@@ -1,0 +1,64 @@
+//! Authorities.
+use crate::edited::{Edited, Refused, are_done};
+use iref::uri::{Authority, AuthorityBuf, Host, Offsets, Port, UserInfo};
+use std::test::Fail;
+
+/// An edit of an authority.
+#[derive(Clone, Copy)]
+enum Edit {
+    Replace(&'static str),
+    TryReplace(&'static str),
+    SetUserInfo(&'static str),
+    TrySetUserInfo(&'static str),
+    SetHost(&'static str),
+    TrySetHost(&'static str),
+    SetPort(&'static str),
+    TrySetPort(&'static str),
+    SetPortU32(u32),
+}
+
+impl Edited<Edit> for AuthorityBuf {
+    fn of_text(text: String) -> Result<Self, Fail> {
+        Ok(AuthorityBuf::new(text)?)
+    }
+
+    fn edit(&mut self, edit: Edit) -> Result<(), Refused> {
+        match edit {
+            Edit::Replace(text) => self.replace(Authority::new(text)?)?,
+            Edit::TryReplace(text) => self.try_replace(text)?,
+            Edit::SetUserInfo(text) => self.set_user_info(Some(UserInfo::new(text)?))?,
+            Edit::TrySetUserInfo(text) => self.try_set_user_info(Some(text))?,
+            Edit::SetHost(text) => self.set_host(Host::new(text)?)?,
+            Edit::TrySetHost(text) => self.try_set_host(text)?,
+            Edit::SetPort(text) => self.set_port(Some(Port::new(text)?))?,
+            Edit::TrySetPort(text) => self.try_set_port(Some(text))?,
+            Edit::SetPortU32(number) => self.set_port_u32(Some(number))?,
+        }
+        Ok(())
+    }
+
+    fn text(&self) -> &str {
+        self.as_str()
+    }
+
+    fn places(&self) -> Option<Offsets> {
+        None
+    }
+}
+
+const EDITS: &[(&str, Edit, &str)] = &[
+    ("h", Edit::Replace("u@host:80"), "u@host:80"),
+    ("h", Edit::TryReplace("u@host:80"), "u@host:80"),
+    ("h:1", Edit::SetUserInfo("user"), "user@h:1"),
+    ("u@h", Edit::TrySetUserInfo("user:1"), "user:1@h"),
+    ("u@h:1", Edit::SetHost("example"), "u@example:1"),
+    ("u@h:1", Edit::TrySetHost("[::1]"), "u@[::1]:1"),
+    ("u@h", Edit::SetPort("8080"), "u@h:8080"),
+    ("u@h:1", Edit::TrySetPort("8080"), "u@h:8080"),
+    ("h:1", Edit::SetPortU32(4_294_967_295), "h:4294967295"),
+];
+
+#[test]
+fn edits_are_done_or_change_nothing(rt: HostRuntime) -> Result<(), Fail> {
+    are_done::<Edit, AuthorityBuf>(EDITS, rt.alloc())
+}
