@@ -21,3 +21,5 @@ mod paths;
 mod prefixes;
 #[cfg(test)]
 mod references;
+#[cfg(test)]
+mod urls;
