@@ -13,3 +13,4 @@ pub mod CommonLemmas
 pub mod WayLemmas
 pub mod SuffixLemmas
 pub mod StackLemmas
+pub mod RewritingLemmas

@@ -28,3 +28,4 @@ pub mod MeasuredPaths
 pub mod Suffixes
 pub mod Stacks
 pub mod Listed
+pub mod Rewriting

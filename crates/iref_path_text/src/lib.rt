@@ -12,6 +12,8 @@ pub mod part;
 pub mod path_text;
 pub mod pieces;
 pub mod remaining;
+pub mod rewriting;
 pub mod spell;
 pub mod steps;
 pub mod suffix;
+pub mod target;

@@ -67,7 +67,7 @@ fn ends_in_dots(rest: Option<&str>) -> bool
 }
 
 /// How many `..` stand first in a list before which so many are open.
-fn leading_parents(absolute: bool, open_parents: usize) -> usize
+pub(crate) fn leading_parents(absolute: bool, open_parents: usize) -> usize
     ensures { result ≡ (if absolute then 0 else open_parents) }
 {
     if absolute { 0 } else { open_parents }

@@ -1,0 +1,22 @@
+-- A path that is rewritten over its own bytes, from the back.
+use Rattle.std.specs.Prelude.{ℕ, ◌-◌, ◌==◌, List, [], ◌++◌, take, if◌then◌else◌}
+use Rattle.std.specs.List.{join_with_byte, splice}
+use Rattle.iref_edit.specs.Changes.{part_at}
+use Rattle.iref_edit.specs.declared.change.Place.{Place}
+use Rattle.iref_grammar.specs.Grammar.{slash}
+use Rattle.iref_grammar.specs.PathValue.{read_path}
+use Rattle.iref_grammar.specs.Rules.{Text}
+use Rattle.iref_grammar.specs.Texts.{pieces_at}
+use Rattle.iref_model.specs.NormalList.{normal_segments}
+
+-- the segments before a place, where one begins: a `/` stands after each
+abbrev pub pieces_before : Text → ℕ → List Text
+pieces_before text place = if place == 0 then [] else pieces_at slash (take (place - 1) text)
+
+-- what stands first, and the normal list of the path with `/` between
+abbrev pub rewritten : Text → Text → Text
+rewritten lead path = lead ++ join_with_byte slash (normal_segments (read_path path))
+
+-- the text with that in place of the path at a place
+abbrev pub rewritten_at : Text → Text → Place → Text
+rewritten_at lead text place = splice text place.start place.end (rewritten lead (part_at text place))

@@ -1,0 +1,244 @@
+//! A path rewritten over its own bytes, from the back (RFC 3986 section 5.2.4). What is written
+//! never passes what is not yet read.
+
+ghost use Rattle.std.specs.Prelude.{◌≡◌, ◌+◌, ◌-◌, ◌<◌, ◌≤◌, ◌^◌, ◌∷◌, ◌++◌, [], codes, drop, false, length, replicate, slice_range, take, vec_len, if◌then◌else◌};
+ghost use Rattle.std.specs.List.{join_with_byte, splice};
+ghost use Rattle.iref_grammar.specs.Grammar.{slash};
+ghost use Rattle.iref_grammar.specs.Texts.{pieces_at};
+ghost use Rattle.iref_model.specs.NormalReading.{items, open_before, staying_before};
+ghost use Rattle.iref_path_text.specs.Rewriting.{pieces_before, rewritten, rewritten_at};
+ghost use Rattle.iref_edit.specs.Changes.{part_at};
+ghost use Rattle.iref_grammar.specs.PathValue.{read_path, spell_path};
+ghost use Rattle.iref_model.specs.PathSteps.{normalized};
+ghost use Rattle.std.specs.Str.{IsUtf8};
+ghost use Rattle.std.specs.String.{string_bytes, string_len};
+ghost use Rattle.iref_path_text.specs.Spelling.{each_closed};
+
+use crate::names::bytes_stay;
+use crate::pieces::split_root;
+use crate::remaining::leading_parents;
+use crate::remaining::stack::Stack;
+use crate::spell::{lead_in, write_before};
+use iref_edit::bytes::replace;
+use iref_edit::change::{Change, Place};
+use iref_grammar::places::PathContext;
+use memchr::memrchr;
+use std::alloc::Allocator;
+use std::mem;
+use std::ops::Range;
+
+// Where the segment begins that ends, with the `/` after it, at a place.
+fn segment_before(bytes: &[u8], end: usize) -> usize
+    requires some { 0 < end }
+    requires within { end ≤ length bytes.now + 1 }
+    ensures pieces { pieces_before bytes.now end ≡ pieces_before bytes.now result
+        ++ slice_range bytes.now result (end - 1) ∷ [] }
+    ensures less { result < end }
+{
+    match memrchr(b'/', &bytes[..end - 1]) {
+        Some(slash) => slash + 1,
+        None => 0,
+    }
+}
+
+// Moves a segment, if it is a name that stays, so that it ends, with a `/` after it, at a place, and
+// answers where that begins.
+fn move_segment(
+    bytes: &mut [u8],
+    segment: usize,
+    segment_end: usize,
+    end: usize,
+    open_parents: &mut usize,
+) -> usize
+    requires countable { open_parents.old + 1 < 2 ^ 64 }
+    requires start_le_end { segment ≤ segment_end }
+    requires before { segment_end < end }
+    requires within { end ≤ length bytes.old }
+    ensures place { result + length (each_closed (staying_before
+        (slice_range bytes.old segment segment_end ∷ []) open_parents.old)) ≡ end }
+    ensures written { drop result bytes.new ≡ each_closed (staying_before
+        (slice_range bytes.old segment segment_end ∷ []) open_parents.old) ++ drop end bytes.old }
+    ensures parents { open_parents.new
+        ≡ open_before (slice_range bytes.old segment segment_end ∷ []) open_parents.old }
+    ensures unread { take segment bytes.new ≡ take segment bytes.old }
+    ensures len { length bytes.new ≡ length bytes.old }
+{
+    if !bytes_stay(&bytes[segment..segment_end], open_parents) {
+        return end;
+    }
+    bytes[end - 1] = b'/';
+    let start = end - 1 - (segment_end - segment);
+    bytes.copy_within(segment..segment_end, start);
+    start
+}
+
+// Moves the names that stay before a place, with a `/` after each, so that they end at another, and
+// answers where they begin then, and how many `..` are open before them.
+fn move_names(
+    bytes: &mut [u8],
+    mut unread: usize,
+    mut open_parents: usize,
+    end: usize,
+) -> (usize, usize)
+    requires countable { unread + open_parents < 2 ^ 64 }
+    requires before { unread ≤ end }
+    requires within { end ≤ length bytes.old }
+    ensures place { result.0
+        + length (each_closed (staying_before (pieces_before bytes.old unread) open_parents))
+        ≡ end }
+    ensures written { drop result.0 bytes.new
+        ≡ each_closed (staying_before (pieces_before bytes.old unread) open_parents)
+        ++ drop end bytes.old }
+    ensures parents { result.1 ≡ open_before (pieces_before bytes.old unread) open_parents }
+    ensures len { length bytes.new ≡ length bytes.old }
+{
+    let mut start = end;
+    while unread > 0 {
+        let segment = segment_before(bytes, unread);
+        start = move_segment(bytes, segment, unread - 1, start, &mut open_parents);
+        unread = segment;
+    }
+    (start, open_parents)
+}
+
+// Writes so many `..`, with a `/` after each, so that they end at a place, and answers where they
+// begin.
+fn write_parents(bytes: &mut [u8], count: usize, end: usize) -> usize
+    requires room { length (each_closed (replicate count (codes ".."))) ≤ end }
+    requires within { end ≤ length bytes.old }
+    ensures place { result + length (each_closed (replicate count (codes ".."))) ≡ end }
+    ensures written { drop result bytes.new
+        ≡ each_closed (replicate count (codes "..")) ++ drop end bytes.old }
+    ensures len { length bytes.new ≡ length bytes.old }
+{
+    let mut start = end;
+    for _ in 0..count {
+        start = write_before(bytes, start, "../");
+    }
+    start
+}
+
+// Where the names end that move: one that comes last stays where it is.
+fn moved_end(stays: bool, last: usize, len: usize) -> usize
+    requires { last ≤ len }
+    ensures place { result ≡ (if stays then last else len) }
+    ensures within { result ≤ len }
+{
+    if stays { last } else { len }
+}
+
+// Writes the normal list of the segments over them, with `/` between, so that it ends where they
+// end, and answers where it begins.
+fn write_list(bytes: &mut [u8], absolute: bool) -> usize
+    requires { absolute ≡ false → length (join_with_byte slash (items (record {
+      absolute = absolute;
+      segments = pieces_at slash bytes.old;
+    }))) ≤ length bytes.old }
+    ensures place { result + length (join_with_byte slash (items (record {
+      absolute = absolute;
+      segments = pieces_at slash bytes.old;
+    }))) ≡ length bytes.old }
+    ensures written { drop result bytes.new ≡ join_with_byte slash (items (record {
+      absolute = absolute;
+      segments = pieces_at slash bytes.old;
+    })) }
+    ensures len { length bytes.new ≡ length bytes.old }
+{
+    let len = bytes.len();
+    let last = segment_before(bytes, len + 1);
+    let mut open_parents: usize = 0;
+    let stays = bytes_stay(&bytes[last..], &mut open_parents);
+    let end = moved_end(stays, last, len);
+    let (start, open_parents) = move_names(bytes, last, open_parents, end);
+    write_parents(bytes, leading_parents(absolute, open_parents), start)
+}
+
+// Writes what stands first and the normal list of the path over the path, so that they end where it
+// ends, and answers where they begin.
+fn write_over(path: &mut [u8], lead: &str) -> usize
+    requires { length (rewritten lead.now path.old) ≤ length path.old }
+    ensures place { result + length (rewritten lead.now path.old) ≡ length path.old }
+    ensures written { drop result path.new ≡ rewritten lead.now path.old }
+    ensures len { length path.new ≡ length path.old }
+{
+    let absolute = path.starts_with(b"/");
+    let root = usize::from(absolute);
+    let start = write_list(&mut path[root..], absolute);
+    write_before(path, root + start, lead)
+}
+
+// The same of the path at a place. So many bytes stand there then before what is written.
+fn write_at(bytes: &mut [u8], at: Place, lead: &str) -> usize
+    requires start_le_end { at.start ≤ at.end }
+    requires in_bounds { at.end ≤ length bytes.old }
+    requires shorter { length (rewritten lead.now (part_at bytes.old at)) ≤ at.end - at.start }
+    ensures place { result + length (rewritten lead.now (part_at bytes.old at))
+        ≡ at.end - at.start }
+    ensures written { splice bytes.new at.start (at.start + result) []
+        ≡ rewritten_at lead.now bytes.old at }
+    ensures len { length bytes.new ≡ length bytes.old }
+{
+    write_over(&mut bytes[at.start..at.end], lead)
+}
+
+// Takes the bytes of the range away.
+fn cut<A: Allocator>(bytes: &mut Vec<u8, A>, within: Range<usize>)
+    requires start_le_end { within.start ≤ within.end }
+    requires in_bounds { within.end ≤ vec_len bytes.old }
+    ensures { bytes.new.items ≡ splice bytes.old.items within.start within.end [] }
+{
+    let change = Change {
+        within,
+        lead: "",
+        middle: "",
+        close: "",
+    };
+    replace(bytes, change).unwrap();
+}
+
+/// Puts what stands first and the normal list of the path at a place in the place of the path, and
+/// answers where that ends. It takes no memory.
+pub fn rewrite<A: Allocator>(bytes: &mut Vec<u8, A>, at: Place, lead: &str) -> usize
+    requires start_le_end { at.start ≤ at.end }
+    requires in_bounds { at.end ≤ vec_len bytes.old }
+    requires shorter { length (rewritten lead.now (part_at bytes.old.items at))
+        ≤ at.end - at.start }
+    ensures items { bytes.new.items ≡ rewritten_at lead.now bytes.old.items at }
+    ensures end { result ≡ at.start + length (rewritten lead.now (part_at bytes.old.items at)) }
+{
+    let unused = write_at(bytes.as_mut_slice(), at, lead);
+    cut(bytes, at.start..at.start + unused);
+    at.end - unused
+}
+
+/// The same of a text.
+pub fn rewrite_text<A: Allocator + Copy>(text: &mut String<A>, at: Place, lead: &str) -> usize
+    requires start_le_end { at.start ≤ at.end }
+    requires in_bounds { at.end ≤ string_len text.old }
+    requires shorter { length (rewritten lead.now (part_at (string_bytes text.old) at))
+        ≤ at.end - at.start }
+    requires utf8 { IsUtf8 (rewritten_at lead.now (string_bytes text.old) at) }
+    ensures bytes { string_bytes text.new ≡ rewritten_at lead.now (string_bytes text.old) at }
+    ensures end { result
+        ≡ at.start + length (rewritten lead.now (part_at (string_bytes text.old) at)) }
+{
+    let empty = String::new(*text.allocator());
+    let mut bytes = mem::replace(text, empty).into_bytes();
+    let end = rewrite(&mut bytes, at, lead);
+    // What is left is text, so no byte is read again.
+    *text = unsafe { String::from_utf8_unchecked(bytes) };
+    end
+}
+
+/// What stands first in the normal form of a path in its context, and how many bytes this has.
+pub fn normal_lead(context: PathContext, path: &str) -> (&'static str, usize)
+    ensures text { rewritten result.0.now path.now
+        ≡ spell_path (normalized context (read_path path.now)) }
+    ensures len { result.1 ≡ length (rewritten result.0.now path.now) }
+{
+    let (absolute, segments) = split_root(path);
+    let mut stack = Stack::new();
+    stack.read(absolute, segments);
+    let lead = lead_in(context, absolute, stack.size, stack.first);
+    (lead, lead.len() + stack.size.saturating_sub(1))
+}

@@ -1,0 +1,39 @@
+//! What holds a path that is rewritten in its own bytes (RFC 3986 section 5.2.4).
+ghost use Rattle.std.specs.Prelude.{◌≡◌, ◌+◌, ◌-◌, ◌≤◌, true, length};
+ghost use Rattle.iref_edit.specs.Changes.{part_at};
+ghost use Rattle.iref_grammar.specs.Contexts.{is_path_in};
+ghost use Rattle.iref_path_text.specs.PathParts.{is_path_after};
+ghost use Rattle.iref_path_text.specs.Rewriting.{rewritten, rewritten_at};
+
+use crate::part::PathPart;
+use crate::rewriting::rewrite;
+use iref_edit::change::Place;
+use iref_edit::target::Target;
+use iref_grammar::chars::CharSet;
+use iref_grammar::places::PathContext;
+use std::alloc::Allocator;
+
+/// What holds a path, and rewrites it in its own bytes.
+pub trait PathTarget<C: CharSet>: Target<PathPart, C> {
+    /// Puts what stands first and the normal list in the place of the path, and answers where that
+    /// ends. It takes no memory.
+    fn rewrite(&mut self, after: PathContext, at: Place, lead: &str) -> usize
+        requires stands { Self.stands (Self.text self.old) after at.start at.end }
+        requires shorter { length (rewritten lead.now (part_at (Self.text self.old) at))
+            ≤ at.end - at.start }
+        requires test { is_path_after C.tests after
+            (rewritten lead.now (part_at (Self.text self.old) at)) ≡ true }
+        requires reads { is_path_in C.tests after (part_at (Self.text self.old) at) ≡ true
+            → is_path_in C.tests after (rewritten lead.now (part_at (Self.text self.old) at))
+            ≡ true }
+        ensures text { Self.text self.new ≡ rewritten_at lead.now (Self.text self.old) at }
+        ensures stands { Self.stands (Self.text self.new) after at.start result }
+        ensures end { result
+            ≡ at.start + length (rewritten lead.now (part_at (Self.text self.old) at)) };
+}
+
+impl<C: CharSet, A: Allocator + Copy> PathTarget<C> for Vec<u8, A> {
+    fn rewrite(&mut self, after: PathContext, at: Place, lead: &str) -> usize {
+        rewrite(self, at, lead)
+    }
+}
