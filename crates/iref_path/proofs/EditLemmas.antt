@@ -1,22 +1,26 @@
 -- The text that an edit leaves.
-use Rattle.std.proofs.Common.{Bool, true, subst, ◌≡◌, ℕ, ◌+◌, ◌-◌, [], ◌++◌, length, take, refl, sym, ap, ◌∙◌, arith}
+use Rattle.std.proofs.Common.{Bool, true, subst, ◌≡◌, ℕ, ◌+◌, ◌-◌, ◌≤◌, [], ◌++◌, length, take, refl, sym, ap, ◌∙◌, arith}
 use Rattle.std.proofs.lemmas.List.{append-nil, drop_all, take_all}
 use Rattle.std.specs.List.{splice, slice_range}
 use Rattle.iref_grammar.specs.declared.places.PathContext.{PathContext}
 use Rattle.iref_grammar.specs.Rules.{Text}
-use Rattle.iref_grammar.specs.Characters.{CharTests}
-use Rattle.iref_grammar.specs.Contexts.{is_path_in}
+use Rattle.iref_grammar.specs.Characters.{AreAboveAscii, CharTests}
+use Rattle.iref_grammar.specs.Contexts.{follows_authority, is_path_in}
+use Rattle.iref_grammar.specs.Tests.{is_path}
+use Rattle.iref_grammar.proofs.TextLemmas.{first_of_both}
 use Rattle.iref_grammar.proofs.PathLemmas.{read_path-reads}
 use Rattle.iref_model.specs.DotSegments.{RemovesDotSegments}
 use Rattle.iref_model.specs.PathSteps.{normalized}
 use Rattle.iref_model.proofs.RewritingLemmas.{path_removes_dot_segments}
 use Rattle.iref_path_text.specs.Remaining.{flagged_path}
+use Rattle.iref_path_text.specs.Rewriting.{rewritten}
 use Rattle.iref_path_text.specs.Spelling.{normal_in}
+use Rattle.iref_path_text.proofs.SpellLemmas.{normalized-in_context}
 use Rattle.iref_grammar.specs.PathValue.{PathValue, read_path, spell_path}
 use Rattle.iref_path_text.specs.declared.steps.Step.{Step}
 use Rattle.iref_path_text.specs.PathParts.{is_path_after, step_text, StepsTo}
 use Rattle.iref_path.specs.declared.path_mut.PathMut.{PathMut}
-use Rattle.iref_path.specs.PathEdits.{edited_bytes, path_mut_context, path_mut_value, IsEditorOf, BecomesPath}
+use Rattle.iref_path.specs.PathEdits.{edited_bytes, path_mut_context, path_mut_text, path_mut_value, IsEditorOf, BecomesPath}
 
 -- the part after a step
 pub step_spliced : (path : Text) (step : Step) (n : ℕ) → n ≡ length path → splice path step.keep n (step.lead.now ++ step.middle.now ++ step.close.now) ≡ step_text path step
@@ -63,3 +67,20 @@ normal_dots context old new authority absolute e =
     let removed = path_removes_dot_segments context (read_path old) authority absolute (read_path-reads old).segments in
     let text : spell_path (normalized context (read_path old)) ≡ new = sym (ap spell_path e) ∙ (read_path-reads new).spelled in
     subst (λ left. RemovesDotSegments old [] left) text (subst (λ input. RemovesDotSegments input [] (spell_path (normalized context (read_path old)))) (read_path-reads old).spelled removed)
+
+-- the normal form that is written over the path may stand there
+pub normal_fits : (set : CharTests) → AreAboveAscii set → (context : PathContext) (path old lead : Text) → path ≡ old → rewritten lead path ≡ spell_path (normalized context (read_path path)) → is_path_after set context path ≡ true
+    → (rewritten lead old ≡ spell_path (normalized context (read_path old))) × (is_path_in set context (rewritten lead old) ≡ true) × (is_path_after set context (rewritten lead old) ≡ true)
+normal_fits set above context path old lead e spelled h =
+    let text : rewritten lead old ≡ spell_path (normalized context (read_path old)) = ap (rewritten lead) (sym e) ∙ spelled ∙ ap (λ t. spell_path (normalized context (read_path t))) e in
+    let path_is : is_path set old ≡ true = first_of_both (is_path set old) (follows_authority context (read_path old)) (ap (is_path_after set context) (sym e) ∙ h) in
+    let fit = normalized-in_context context (read_path old).absolute old set above path_is in
+    (text, ap (is_path_in set context) text ∙ fit.0, ap (is_path_after set context) text ∙ fit.1)
+
+-- where the normal form of a whole text is no longer, that of the edited path is not
+pub whole_shorter : {C : _} {T : _} {A : _} {c : _} {t : _} {a : _} {old : PathMut C T A c t a} {bytes : Text} {context : PathContext} → IsEditorOf old bytes context 0 (length bytes)
+    → length (spell_path (normalized context (read_path bytes))) ≤ length bytes → length (spell_path (normalized (path_mut_context old) (path_mut_value old))) ≤ length (path_mut_text old)
+whole_shorter {C} {T} {A} {c} {t} {a} {old} {bytes} {context} of h =
+    let text : path_mut_text old ≡ bytes = (λ i. slice_range (of.bytes_are i) (of.from i) (of.to i)) ∙ slice_all bytes 0 (length bytes) refl (omega arith) in
+    let Fits : PathContext → Text → Type 0 = λ where_it_is path. length (spell_path (normalized where_it_is (read_path path))) ≤ length path in
+    subst (λ where_it_is. Fits where_it_is (path_mut_text old)) (sym of.context_is) (subst (Fits context) (sym text) h)

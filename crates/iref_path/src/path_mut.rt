@@ -5,7 +5,6 @@ ghost use Rattle.std.specs.Str.{IsCharBoundary};
 ghost use Rattle.iref_grammar.specs.Contexts.{alone, follows_authority, is_path_in};
 ghost use Rattle.iref_grammar.specs.PathValue.{PathValue, read_path};
 ghost use Rattle.iref_grammar.specs.Texts.{is_empty};
-ghost use Rattle.iref_model.specs.DotSegments.{RemovesDotSegments};
 ghost use Rattle.iref_component.specs.Components.{view_text};
 ghost use Rattle.iref_model.specs.PathSteps as step;
 ghost use Rattle.iref_path_text.specs.PathParts.{is_path_after, step_text, StepsTo};
@@ -13,6 +12,7 @@ ghost use Rattle.iref_path.specs.Paths.{path_text, path_value, path_buf_text, pa
 
 mod bytes;
 mod lists;
+mod normal;
 mod tries;
 
 use crate::path::Path;
@@ -24,7 +24,6 @@ use iref_error::Memory;
 use iref_grammar::chars::CharSet;
 use iref_grammar::places::PathContext;
 use iref_path_text::part::PathPart;
-use iref_path_text::spell::normalized_text;
 use iref_path_text::steps::{self, Step};
 use std::fmt;
 use std::marker::PhantomData;
@@ -197,22 +196,6 @@ impl<'a, C: CharSet, T: Target<PathPart, C>> PathMut<'a, C, T> {
     {
         let step = steps::replaced::<C>(self.context, self.text(), path.as_str());
         self.apply(step)
-    }
-
-    /// Puts the path of the normal segments in its place, guarded where that is needed (RFC 3986
-    /// section 5.2.4). Under an authority that is what `remove_dot_segments` leaves.
-    pub fn normalize(&mut self) -> Result<(), Memory>
-        ensures same { IsSameEditor self.old self.new }
-        ensures ok { OnOk result (BecomesPath self.old self.new (step.normalized
-            (path_mut_context self.old) (path_mut_value self.old))) }
-        ensures dots { (path_mut_context self.old).has_authority ≡ true
-            → (path_mut_value self.old).absolute ≡ true → OnOk result
-            (RemovesDotSegments (path_mut_text self.old) [] (path_mut_text self.new)) }
-        ensures err { OnErr result (IsUnchanged self.old self.new) }
-    {
-        let absolute = self.as_path().is_absolute();
-        let text = normalized_text::<C, _>(self.alloc(), self.context, absolute, self.text())?;
-        self.put(text.as_str())
     }
 
     /// Takes the segments away, so that the path is `/` or empty.

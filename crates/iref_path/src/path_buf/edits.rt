@@ -1,5 +1,6 @@
 //! Edits of a path that owns its text (RFC 3986 sections 3.3 and 5.2.4).
-ghost use Rattle.std.specs.Prelude.{◌≡◌, ◌&&◌, not, length, OnOk, OnErr, IfOk};
+ghost use Rattle.std.specs.Prelude.{◌≡◌, ◌&&◌, ◌≤◌, not, length, OnOk, OnErr, IfOk, IsOk};
+ghost use Rattle.iref_grammar.specs.PathValue.{spell_path};
 ghost use Rattle.iref_grammar.specs.Texts.{is_empty};
 ghost use Rattle.iref_grammar.specs.Contexts.{alone};
 ghost use Rattle.iref_component.specs.Components.{view_text};
@@ -18,7 +19,10 @@ use iref_error::Memory;
 use iref_grammar::chars::CharSet;
 use iref_grammar::places::PathContext;
 use iref_path_text::part::PathPart;
+use iref_path_text::rewriting::rewrite_text;
+use iref_path_text::target::PathTarget;
 use std::alloc::Global;
+use std::mem;
 
 impl<C: CharSet> Target<PathPart, C> for PathBuf<C> {
     type Alloc = Global;
@@ -40,6 +44,16 @@ impl<C: CharSet> Target<PathPart, C> for PathBuf<C> {
     fn replace(&mut self, after: PathContext, at: Place, by: Change<'_>) -> Result<usize, Memory> {
         self.text.replace(by)?;
         Ok(self.len())
+    }
+}
+
+impl<C: CharSet> PathTarget<C> for PathBuf<C> {
+    fn rewrite(&mut self, after: PathContext, at: Place, lead: &str) -> usize {
+        let empty = PathBuf::empty(self.text.alloc());
+        let mut text = mem::replace(self, empty).into_string();
+        let end = rewrite_text(&mut text, at, lead);
+        *self = PathBuf::new_unchecked(text);
+        end
     }
 }
 
@@ -108,11 +122,13 @@ impl<C: CharSet> PathBuf<C> {
     }
 
     /// Puts the path of the normal segments in its place, guarded where that is needed (RFC 3986
-    /// section 5.2.4).
+    /// section 5.2.4). Memory is taken only where that path is longer, as `./a:b` for `a:b`.
     pub fn normalize(&mut self) -> Result<(), Memory>
         ensures ok { OnOk result (SpellsPath self.new (step.normalized alone
             (path_buf_value self.old))) }
         ensures err { OnErr result (path_buf_text self.new ≡ path_buf_text self.old) }
+        ensures shorter { length (spell_path (step.normalized alone (path_buf_value self.old)))
+            ≤ length (path_buf_text self.old) → IsOk result }
     {
         self.as_path_mut().normalize()?;
         Ok(())
