@@ -1,11 +1,15 @@
 //! The path of a held reference as a part that is edited in place, and as a normal one (RFC 3986
 //! sections 3.3 and 5.2.4).
-ghost use Rattle.std.specs.Prelude.{◌≡◌, ◌||◌, ◌&&◌, not, true, OnErr, OnOk};
+ghost use Rattle.std.specs.Prelude.{◌≡◌, ◌-◌, ◌≤◌, ◌||◌, ◌&&◌, length, not, true, OnErr, OnOk};
+ghost use Rattle.iref_grammar.specs.Contexts.{is_path_in};
+ghost use Rattle.iref_grammar.specs.Places.{places_of};
 ghost use Rattle.iref_grammar.specs.PathValue.{read_path};
 ghost use Rattle.iref_grammar.specs.Reference.{context_of, read_reference, spell};
 ghost use Rattle.iref_grammar.specs.Tests.{is_path};
 ghost use Rattle.iref_grammar.specs.Texts.{is_empty};
 ghost use Rattle.iref_model.specs.ComponentSteps.{with_path, with_new_normal_path};
+ghost use Rattle.iref_path_text.specs.Rewriting.{rewritten};
+ghost use Rattle.iref_buffer.specs.PathTexts.{path_text, with_path_read, with_path_text};
 ghost use Rattle.iref_buffer.specs.PathPlaces.{IsPathOf, one_path, RemovesDots};
 
 use super::{Held, HeldRule};
@@ -17,7 +21,9 @@ use iref_grammar::chars::CharSet;
 use iref_grammar::places::PathContext;
 use iref_path_text::part::PathPart;
 use iref_path_text::pieces::split_root;
+use iref_path_text::rewriting::rewrite_text;
 use iref_path_text::spell::normalized_text;
+use iref_path_text::target::PathTarget;
 use std::alloc::Allocator;
 
 impl<R: HeldRule, C: CharSet, A: Allocator + Copy> Target<PathPart, C> for Held<R, C, A> {
@@ -43,6 +49,13 @@ impl<R: HeldRule, C: CharSet, A: Allocator + Copy> Target<PathPart, C> for Held<
     }
 }
 
+impl<R: HeldRule, C: CharSet, A: Allocator + Copy> PathTarget<C> for Held<R, C, A> {
+    fn rewrite(&mut self, after: PathContext, at: Place, lead: &str) -> usize {
+        self.rewrite_path(lead);
+        self.places.path.end
+    }
+}
+
 impl<R: HeldRule, C: CharSet, A: Allocator> Held<R, C, A> {
     /// What stands before the path.
     pub fn context(&self) -> PathContext
@@ -53,6 +66,33 @@ impl<R: HeldRule, C: CharSet, A: Allocator> Held<R, C, A> {
 }
 
 impl<R: HeldRule, C: CharSet, A: Allocator + Copy> Held<R, C, A> {
+    // Puts what stands first and the normal list in the place of the path, where that may stand.
+    // It takes no memory.
+    fn rewrite_path(&mut self, lead: &str)
+        requires shorter { length (rewritten lead.now (path_text self.old))
+            ≤ (places_of self.old).path.end - (places_of self.old).path.start }
+        requires may_stand { is_path_in C.tests (context_of (read_reference self.old))
+            (rewritten lead.now (path_text self.old)) ≡ true }
+        ensures text { self.new
+            ≡ with_path_text (rewritten lead.now (path_text self.old)) self.old }
+        ensures value { read_reference self.new ≡ with_path_read
+            (rewritten lead.now (path_text self.old)) (read_reference self.old) }
+    {
+        let old = self.lengths();
+        let range = self.path_range();
+        let start = range.start;
+        let place = Place {
+            start,
+            end: range.end,
+        };
+        let end = rewrite_text(&mut self.text, place, lead);
+        let lengths = Lengths {
+            path: end - start,
+            ..old
+        };
+        self.places = lengths.places_in(self.text.as_str());
+    }
+
     /// Replaces the path by its normal form, with a guard where that would be read as something
     /// else.
     pub fn set_and_normalize_path(&mut self, path: &str) -> Result<(), Memory>
