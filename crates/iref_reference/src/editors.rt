@@ -20,6 +20,7 @@ use iref_grammar::chars::CharSet;
 use iref_grammar::places::PathContext;
 use iref_path::path_mut::PathMut;
 use iref_path_text::part::PathPart;
+use iref_path_text::target::PathTarget;
 use std::alloc::Global;
 
 impl<R: HeldRule, C: CharSet> Target<PathPart, C> for ReferenceBuf<R, C> {
@@ -41,6 +42,12 @@ impl<R: HeldRule, C: CharSet> Target<PathPart, C> for ReferenceBuf<R, C> {
 
     fn replace(&mut self, after: PathContext, at: Place, by: Change<'_>) -> Result<usize, Memory> {
         Target::<PathPart, C>::replace(&mut self.held, after, at, by)
+    }
+}
+
+impl<R: HeldRule, C: CharSet> PathTarget<C> for ReferenceBuf<R, C> {
+    fn rewrite(&mut self, after: PathContext, at: Place, lead: &str) -> usize {
+        self.held.rewrite(after, at, lead)
     }
 }
 
