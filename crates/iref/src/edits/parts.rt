@@ -16,11 +16,11 @@ use iref_edit::target::Target;
 use iref_error::Memory;
 use iref_grammar::chars::CharSet;
 use iref_path::path_mut::PathMut;
-use iref_path_text::part::PathPart;
+use iref_path_text::target::PathTarget;
 use iref_reference::owner::ReferenceBuf;
 
 /// An owner of a reference whose path is edited in place.
-pub trait PathOwner<C: CharSet>: Target<PathPart, C> {
+pub trait PathOwner<C: CharSet>: PathTarget<C> {
     /// The editor of the path.
     fn path_editor(&mut self) -> PathMut<'_, C, Self>
         ensures same_reference { Borrows result self.entry.ghost_name }
