@@ -4,7 +4,8 @@ ghost use Rattle.iref_grammar.specs.Grammar.{IsAuthority};
 ghost use Rattle.iref_grammar.specs.Authority.{AuthorityValue, is_authority, read_authority};
 ghost use Rattle.iref_grammar.proofs.AuthorityRuleLemmas.{Decides-is_authority};
 ghost use Rattle.iref_grammar.proofs.EmptyLemmas.{is_authority_empty};
-ghost use Rattle.iref_model.specs.AuthorityKey.{authority_key, authority_key_cmp, fed_authority, authority_keys_total};
+ghost use Rattle.iref_model.specs.AuthorityKey.{authority_key, authority_key_cmp, fed_authority};
+ghost use Rattle.iref_model.specs.AuthorityKey.{authority_keys_total};
 ghost use Rattle.iref_model.proofs.KeyOrderLemmas.{authority_keys_tell};
 
 use crate::parts::parts_of;

@@ -99,7 +99,7 @@ impl TryFrom<Port<'_>> for u8 {
     ghost try_from_gives = { λ port n. n ≡ port_number (2 ^ 8) (view_text port) };
 
     fn try_from(port: Port<'_>) -> Result<u8, PortError> {
-        u8::try_from(port.number()?).map_err(|_| PortError::OutOfRange)
+        u8::try_from(port.number()?).or(Err(PortError::OutOfRange))
     }
 }
 
@@ -109,7 +109,7 @@ impl TryFrom<Port<'_>> for u16 {
     ghost try_from_gives = { λ port n. n ≡ port_number (2 ^ 16) (view_text port) };
 
     fn try_from(port: Port<'_>) -> Result<u16, PortError> {
-        u16::try_from(port.number()?).map_err(|_| PortError::OutOfRange)
+        u16::try_from(port.number()?).or(Err(PortError::OutOfRange))
     }
 }
 
@@ -119,7 +119,7 @@ impl TryFrom<Port<'_>> for u32 {
     ghost try_from_gives = { λ port n. n ≡ port_number (2 ^ 32) (view_text port) };
 
     fn try_from(port: Port<'_>) -> Result<u32, PortError> {
-        u32::try_from(port.number()?).map_err(|_| PortError::OutOfRange)
+        u32::try_from(port.number()?).or(Err(PortError::OutOfRange))
     }
 }
 
@@ -129,7 +129,7 @@ impl TryFrom<Port<'_>> for u64 {
     ghost try_from_gives = { λ port n. n ≡ port_number (2 ^ 64) (view_text port) };
 
     fn try_from(port: Port<'_>) -> Result<u64, PortError> {
-        u64::try_from(port.number()?).map_err(|_| PortError::OutOfRange)
+        u64::try_from(port.number()?).or(Err(PortError::OutOfRange))
     }
 }
 
@@ -149,7 +149,7 @@ impl TryFrom<Port<'_>> for i8 {
     ghost try_from_gives = { λ port n. n ≡ signed_port_number (2 ^ 7) (view_text port) };
 
     fn try_from(port: Port<'_>) -> Result<i8, PortError> {
-        i8::try_from(port.number()?).map_err(|_| PortError::OutOfRange)
+        i8::try_from(port.number()?).or(Err(PortError::OutOfRange))
     }
 }
 
@@ -159,7 +159,7 @@ impl TryFrom<Port<'_>> for i16 {
     ghost try_from_gives = { λ port n. n ≡ signed_port_number (2 ^ 15) (view_text port) };
 
     fn try_from(port: Port<'_>) -> Result<i16, PortError> {
-        i16::try_from(port.number()?).map_err(|_| PortError::OutOfRange)
+        i16::try_from(port.number()?).or(Err(PortError::OutOfRange))
     }
 }
 
@@ -169,7 +169,7 @@ impl TryFrom<Port<'_>> for i32 {
     ghost try_from_gives = { λ port n. n ≡ signed_port_number (2 ^ 31) (view_text port) };
 
     fn try_from(port: Port<'_>) -> Result<i32, PortError> {
-        i32::try_from(port.number()?).map_err(|_| PortError::OutOfRange)
+        i32::try_from(port.number()?).or(Err(PortError::OutOfRange))
     }
 }
 
@@ -179,7 +179,7 @@ impl TryFrom<Port<'_>> for i64 {
     ghost try_from_gives = { λ port n. n ≡ signed_port_number (2 ^ 63) (view_text port) };
 
     fn try_from(port: Port<'_>) -> Result<i64, PortError> {
-        i64::try_from(port.number()?).map_err(|_| PortError::OutOfRange)
+        i64::try_from(port.number()?).or(Err(PortError::OutOfRange))
     }
 }
 
@@ -189,7 +189,7 @@ impl TryFrom<Port<'_>> for i128 {
     ghost try_from_gives = { λ port n. n ≡ signed_port_number (2 ^ 127) (view_text port) };
 
     fn try_from(port: Port<'_>) -> Result<i128, PortError> {
-        i128::try_from(port.number()?).map_err(|_| PortError::OutOfRange)
+        i128::try_from(port.number()?).or(Err(PortError::OutOfRange))
     }
 }
 
