@@ -21,7 +21,8 @@ use std::convert::TryFrom;
 use std::fmt;
 use std::hash::Hash;
 
-/// An authority, as `user@example.org:8080`.
+/// An authority (RFC 3986 section 3.2): that of `//u@h:80/x` is `u@h:80`. `InvalidAuthority` holds
+/// a text that is none, as `h:8a`.
 #[derive_where(Clone, Copy, PartialEq, Eq, PartialOrd, Ord, Hash)]
 pub struct Authority<'a, C: CharSet> {
     pub(crate) text: View<'a, AuthorityRule, C>,

@@ -32,8 +32,9 @@ use std::fmt;
 use std::marker::PhantomData;
 use std::ops::Range;
 
-/// The editor of an authority that stands in a vector of bytes, or in another text that it borrows.
-/// It knows where the authority stands, and its end moves with each edit.
+/// The editor of an authority that stands in a vector of bytes, or in another text that it borrows:
+/// of `//h:80/x` the bytes 2 to 6 are edited to `//h/x` by a port of `None`. It knows where the
+/// authority stands, in bytes, and its end moves with each edit; a refused edit changes nothing.
 #[derive(Drop)]
 pub struct AuthorityMut<'a, C: CharSet, T: Target<AuthorityPart, C> = Vec<u8>> {
     target: &'a mut T,

@@ -10,8 +10,9 @@ use iref_grammar::chars::CharSet;
 use iref_parse::authority::split_authority;
 use std::hash::Hash;
 
-/// The parts of an authority, which compare as it does: by the decoded user info and host, and by
-/// the text of the port.
+/// The parts of an authority (RFC 3986 section 3.2): `u@h:80` has the user info `u`, the host `h`
+/// and the port `80`. They compare as it does: by the decoded user info and host, and by the text
+/// of the port.
 #[derive_where(Clone, Copy, Debug, PartialEq, Eq, PartialOrd, Ord, Hash)]
 pub struct AuthorityParts<'a, C: CharSet> {
     /// What stands before the first `@`.

@@ -59,7 +59,8 @@ pub trait Key {
         ensures { state.new ≡ fold H.write state.old (fed (key text.now)) };
 }
 
-/// The bytes that a text decodes to: each escape is one byte (RFC 3986 section 2.1).
+/// The bytes that a text decodes to (RFC 3986 section 2.1): each escape is one byte, so `%41` and
+/// `A` have one key.
 pub struct DecodedBytes;
 
 impl Key for DecodedBytes {
@@ -90,7 +91,7 @@ impl Key for DecodedBytes {
     }
 }
 
-/// The text with its ASCII letters in lower case.
+/// The text with its ASCII letters in lower case (RFC 3986 section 6.2.2.1): `HTTP` has `http`.
 pub struct LowerCase;
 
 impl Key for LowerCase {
@@ -123,7 +124,7 @@ impl Key for LowerCase {
     }
 }
 
-/// The text itself.
+/// The text itself: `80` and `080` have two keys.
 pub struct SameText;
 
 impl Key for SameText {

@@ -12,10 +12,11 @@ pub use iref_error::InvalidPctStr;
 use iref_grammar::chars::{CharSet, UriChars};
 use percent_encoding::{PercentDecode, percent_decode_str};
 
-/// A percent-encoded text: each `%` stands before two hexadecimal digits.
+/// A percent-encoded text (RFC 3986 section 2.1), where each `%` stands before two hexadecimal
+/// digits: `a%20b` decodes to the three bytes of `a b`. `InvalidPctStr` holds any other, as `a%2`.
 pub type PctStr<'a> = View<'a, PctStrRule, UriChars>;
 
-/// A percent-encoded text that owns its text.
+/// A percent-encoded text that owns its text, as `%41`, which is equal to `A`.
 pub type PctString = TextBuf<PctStrRule, UriChars>;
 
 impl<'a> PctStr<'a> {

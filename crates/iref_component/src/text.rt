@@ -7,7 +7,8 @@ use iref_grammar::chars::CharSet;
 use std::alloc::AllocError;
 use std::marker::PhantomData;
 
-/// A borrowed text of a rule.
+/// A borrowed text of a rule, as the port `80` within `//h:80`. It copies, and its length
+/// is in bytes.
 pub struct View<'a, R: Rule, C: CharSet> {
     pub(crate) text: &'a str,
     pub(crate) rule: PhantomData<(R, C)>,
@@ -26,7 +27,7 @@ impl<R: Rule, C: CharSet> Clone for View<'_, R, C> {
 
 impl<R: Rule, C: CharSet> Copy for View<'_, R, C> {}
 
-/// An owned text of a rule.
+/// An owned text of a rule, as the port `80` that was made of a number.
 #[derive(Drop)]
 pub struct TextBuf<R: Rule, C: CharSet> {
     pub(crate) text: String,

@@ -11,7 +11,8 @@ use crate::view::View;
 use iref_error::TryError;
 use iref_grammar::chars::CharSet;
 
-/// What an edit by a text answers, where `E` hands back one that is outside its rule.
+/// What an edit by a text answers, where `E` hands back one that is outside its rule: an edit by
+/// the port `8a` is refused with `Invalid(InvalidPort("8a"))`, and `Memory` is want of room.
 pub type Tried<E> = Result<(), TryError<E>>;
 
 /// The view of a text that is in a rule: `Invalid` hands back one that is not, in the rule's error.

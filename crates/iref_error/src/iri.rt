@@ -7,7 +7,8 @@ use crate::invalid::{
 use std::fmt;
 use thiserror::Error;
 
-/// The component of an IRI that was refused, with the input.
+/// The component of an IRI that was refused, with the input: `Port(InvalidPort("8a"))` is
+/// printed as `invalid IRI authority port: 8a`.
 #[derive(Clone, Copy, Debug, PartialEq, Eq, Drop, Error)]
 #[error_bound(T: fmt::Display)]
 pub enum IriError<T> {

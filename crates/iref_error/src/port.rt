@@ -2,7 +2,8 @@
 use std::fmt;
 use thiserror::Error;
 
-/// Why a port is no number of a type.
+/// Why a port is no number of a type: that of `//h:` is `Empty`, and `256` is `OutOfRange` of a
+/// `u8`.
 #[derive(Clone, Copy, Debug, PartialEq, Eq, Error)]
 pub enum PortError {
     /// It has no digits.
