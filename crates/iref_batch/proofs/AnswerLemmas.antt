@@ -1,5 +1,5 @@
 -- Answers to lines.
-use Rattle.std.proofs.Common.{◌≡◌, Bool, true, false, refl, sym, ◌∙◌, [], ◌∷◌, ◌++◌, Option, Some, None, ap, append_assoc, codes}
+use Rattle.std.proofs.Common.{◌≡◌, Bool, true, false, refl, sym, subst, ◌∙◌, [], ◌∷◌, ◌++◌, Option, Some, None, ap, append_assoc, codes}
 use Rattle.std.proofs.lemmas.Bool.{and_right}
 use Rattle.std.specs.List.{join_with_byte}
 use Rattle.iref_grammar.specs.Rules.{Text, InUtf8}
@@ -14,7 +14,8 @@ use Rattle.iref_grammar.specs.Reference.{ReferenceValue, is_reference, is_full_r
 use Rattle.iref_grammar.specs.ComponentTexts.{ComponentTexts, spell_components, read_components}
 use Rattle.iref_model.specs.Guard.{guarded}
 use Rattle.iref_model.specs.NormalList.{normal}
-use Rattle.iref_model.specs.Key.{are_alike}
+use Rattle.iref_model.specs.Key.{key, are_alike}
+use Rattle.iref_model.proofs.TieLemmas.{references_tie}
 use Rattle.iref_model.specs.Relative.{relative_to}
 use Rattle.iref_model.specs.Resolution.{resolved}
 use Rattle.iref_buffer.proofs.HeldLemmas.{read_components-spelled}
@@ -108,6 +109,13 @@ equal_answer left right t u alike h k e f a =
     let same_left = ap read_components e ∙ read_components-spelled left in
     let same_right = ap read_components f ∙ read_components-spelled right in
     valid (Equal left right) (rw (reference left h, reference right k) refl) ∙ ap (λ (b : Bool). Answered (yes_or_no b)) (sym (a ∙ (λ i. are_alike (same_left i) (same_right i))))
+
+-- one text twice
+pub same_answer : (left right : Text) → left ≡ right → InUtf8 (IsUriReference iri_chars) left → answer_if_valid iri_chars (Equal left right) ≡ Answered (codes "yes")
+same_answer left right e h =
+    let t = spell_components (read_reference left) in
+    equal_answer left right t t true h (subst (λ (r : Text). InUtf8 (IsUriReference iri_chars) r) e h) refl (ap (λ (r : Text). spell_components (read_reference r)) e)
+    (sym ((references_tie (key (read_components t)) (key (read_components t))).1 refl))
 
 pub no_left_answer : (left right : Text) → ¬ (InUtf8 (IsUriReference iri_chars) left) → answer_if_valid iri_chars (Equal left right) ≡ InvalidText
 unfolding is_valid

@@ -118,19 +118,22 @@ fn yes_or_no(alike: bool) -> &'static [u8]
     if alike { b"yes" } else { b"no" }
 }
 
-/// Puts the answer to `equal`.
+/// Puts the answer to `equal`. A text is read once where it stands twice.
 fn put_answer_to_equal(left: &[u8], right: &[u8], out: &mut Vec<u8>) -> Result<(), AllocError>
     ensures ok { OnOk result
         (out.new.items ≡ out.old.items ++ request_reply (Equal left.now right.now)) }
     ensures err { OnErr result (Extends out.old.items out.new.items) }
 {
-    let Ok(left) = IriRefParts::from_bytes(left) else {
+    let Ok(left_parts) = IriRefParts::from_bytes(left) else {
         return put_text(b"error invalid", out);
     };
-    let Ok(right) = IriRefParts::from_bytes(right) else {
+    if left == right {
+        return put_answered(b"yes", out);
+    }
+    let Ok(right_parts) = IriRefParts::from_bytes(right) else {
         return put_text(b"error invalid", out);
     };
-    put_answered(yes_or_no(left == right), out)
+    put_answered(yes_or_no(left_parts == right_parts), out)
 }
 
 /// Puts the answer to a request.

@@ -27,7 +27,7 @@ impl From<StreamError> for RunError {
 }
 
 /// How many bytes are asked for at once.
-const BLOCK: usize = 8192;
+const BLOCK: usize = 1 << 16;
 
 /// Answers each line of the reader's input by a line to the writer, up to the end of the input.
 /// A line for which memory is refused is answered `error memory`, and the run goes on.

@@ -11,7 +11,19 @@ use super::streams::{Sink, StreamError};
 use std::alloc::Global;
 
 /// How many bytes of replies are gathered before they are written.
-const GATHERED: usize = 8192;
+const GATHERED: usize = 1 << 16;
+
+/// How many bytes of room a buffer keeps for what comes next.
+const KEPT: usize = 1 << 17;
+
+/// Empties the buffer. Room that it took for one long line is given back, so that a later line finds
+/// it.
+fn empty(bytes: &mut Vec<u8>)
+    ensures { bytes.new.items ≡ [] }
+{
+    bytes.clear();
+    bytes.shrink_to(KEPT);
+}
 
 /// Writes all of the bytes, or a beginning of them before a failed write.
 fn write_all<W: Sink>(writer: &mut W, bytes: &[u8]) -> Result<(), StreamError>
@@ -48,7 +60,7 @@ impl Gathered {
             (WritesPart self.old.bytes.items (W.contents writer.old) (W.contents writer.new)) }
     {
         write_all(writer, self.bytes.as_slice())?;
-        self.bytes.clear();
+        empty(&mut self.bytes);
         Ok(())
     }
 
@@ -116,6 +128,7 @@ impl Begun {
             return;
         }
         if self.bytes.extend_from_slice(more).is_err() {
+            empty(&mut self.bytes);
             self.is_refused = true;
         }
     }
@@ -183,7 +196,7 @@ impl Lines {
             (W.contents writer.old) (W.contents writer.new) self.old) }
     {
         self.reply(tail, writer)?;
-        self.begun.bytes.clear();
+        empty(&mut self.begun.bytes);
         self.begun.is_refused = false;
         Ok(())
     }

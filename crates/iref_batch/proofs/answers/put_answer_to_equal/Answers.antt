@@ -1,4 +1,4 @@
-use Rattle.std.proofs.Common.{◌∙◌}
+use Rattle.std.proofs.Common.{◌≡◌, ◌∙◌, rules}
 use Rattle.std.proofs.lemmas.Bool.Decides.{same_from_decides}
 use Rattle.iref_model.proofs.TieLemmas.{references_tie}
 use Rattle.iref_model.proofs.PartTieLemmas.{lower_case_tie, parts_tie}
@@ -6,13 +6,18 @@ use Rattle.iref_component.specs.Components.{view_text}
 use Rattle.iref_path.specs.Paths.{path_text}
 use Rattle.iref_authority.specs.Authorities.{authority_text}
 use Rattle.iref_reference.specs.Parts.{uri_ref_part_texts}
-use Rattle.iref_batch.proofs.AnswerLemmas.{no_left_answer, no_right_answer, equal_answer}
+use Rattle.iref_batch.proofs.AnswerLemmas.{no_left_answer, no_right_answer, same_answer, equal_answer}
 use Rattle.iref_batch.proofs.answers.put_answer_to_equal.Goals as goal
 
 pub returns-in_default-clause-ok : goal.returns-in_default-clause-ok
 returns-in_default-clause-ok c =
     let left = c.args.left.now in
     rw (no_left_answer left c.args.right.now c.in_default.ensures.0) c.put_text.ensures.ok
+
+pub returns-then-eq-clause-ok : goal.returns-then-eq-clause-ok
+returns-then-eq-clause-ok c =
+    let same : c.args.left.now ≡ c.args.right.now = search rules in
+    rw (same_answer c.args.left.now c.args.right.now same c.in-Ok.ensures.0) c.put_answered.ensures.ok
 
 pub returns-in_default-from_bytes-clause-ok : goal.returns-in_default-from_bytes-clause-ok
 returns-in_default-from_bytes-clause-ok c =
@@ -23,13 +28,13 @@ pub returns-clause-ok : goal.returns-clause-ok
 returns-clause-ok c =
     let left = c.args.left.now in
     let right = c.args.right.now in
-    let a = c.in-Ok.left in
-    let b = c.in-Ok-from_bytes.right in
+    let a = c.in-Ok.left_parts in
+    let b = c.in-Ok-from_bytes.right_parts in
     let keys = parts_tie authority_text view_text view_text _ _ _ (lower_case_tie view_text a.scheme b.scheme) a.authority b.authority (path_text a.path) (path_text b.path) a.query b.query a.fragment b.fragment in
-    let alike = c.eq.ensures ∙ same_from_decides _ _ keys (references_tie _ _) in
+    let alike = c.eq-2.ensures ∙ same_from_decides _ _ keys (references_tie _ _) in
     rw (
-      equal_answer left right (uri_ref_part_texts a) (uri_ref_part_texts b) c.eq.result
+      equal_answer left right (uri_ref_part_texts a) (uri_ref_part_texts b) c.eq-2.result
           c.in-Ok.ensures.0 c.in-Ok-from_bytes.ensures.0
           c.in-Ok.ensures.1 c.in-Ok-from_bytes.ensures.1 alike,
       ← c.yes_or_no.ensures,
-    ) c.put_answered.ensures.ok
+    ) c.put_answered-2.ensures.ok

@@ -5,7 +5,7 @@ use Rattle.iref_batch.proofs.EndLemmas.{breaks_at_line}
 use Rattle.iref_batch.proofs.lines.Lines.end_line.Goals as goal
 
 pub returns-clause-ok : goal.returns-clause-ok
-returns-clause-ok g c = in_run_line c.args.tail.now _ _ _ _ c.requires.line (c.clear.ensures.items, refl) c.in_ok-reply.ensures.ok
+returns-clause-ok g c = in_run_line c.args.tail.now _ _ _ _ c.requires.line (c.empty.ensures, refl) c.in_ok-reply.ensures.ok
 
 pub returns-in_err-reply-clause-cut : goal.returns-in_err-reply-clause-cut
 returns-in_err-reply-clause-cut g c =
