@@ -7,3 +7,4 @@ pub mod DoubleColonLemmas
 pub mod LiteralLemmas
 pub mod SlicePlaceLemmas
 pub mod MarkLemmas
+pub mod AuthorityLemmas

@@ -3,6 +3,7 @@
 ghost use Rattle.std.specs.Prelude.{◌≡◌};
 ghost use Rattle.std.specs.Option.{option_copied};
 ghost use Rattle.iref_grammar.specs.Authority.{read_authority, read_host_and_port, bracketed, after_bracketed};
+ghost use Rattle.iref_grammar.specs.Authority.{has_authority_parts};
 ghost use Rattle.iref_grammar.specs.Authority as authority;
 ghost use Rattle.iref_grammar.specs.Tests as test;
 ghost use Rattle.iref_grammar.specs.Tests.{none_or};
@@ -25,6 +26,7 @@ pub struct AuthoritySlices<'a> {
 }
 
 // The front in which no `:` ends the host, up to the `]` of a bracketed address, and what follows.
+#[inline(always)]
 fn split_address(text: &str) -> (&str, &str)
     ensures front { result.0.now ≡ bracketed text.now }
     ensures back { result.1.now ≡ after_bracketed text.now }
@@ -37,6 +39,7 @@ fn split_address(text: &str) -> (&str, &str)
 }
 
 // The host and the port, beside the user info that stands before them.
+#[inline(always)]
 fn split_host<'a>(user_info: Option<&'a str>, text: &'a str) -> AuthoritySlices<'a>
     ensures { authority_of result ≡ read_host_and_port (option_copied user_info.entry) text.now }
 {
@@ -61,13 +64,20 @@ pub fn split_authority(text: &str) -> AuthoritySlices<'_>
     }
 }
 
-/// Whether the text is an authority (RFC 3986 section 3.2).
-#[tactic(auto, unfolding(iref_grammar::specs::Authority::is_authority, iref_grammar::specs::Authority::has_authority_parts))]
-pub fn is_authority<C: CharSet>(text: &str) -> bool
-    ensures { result ≡ authority.is_authority C.tests text.now }
+// Whether each part is in its rule.
+#[tactic(auto, unfolding(iref_grammar::specs::Authority::has_authority_parts))]
+fn are_parts<C: CharSet>(parts: AuthoritySlices<'_>) -> bool
+    ensures { result ≡ has_authority_parts C.tests (authority_of parts.entry) }
 {
-    let parts = split_authority(text);
     parts.user_info.is_none_or(|text| is_user_info::<C>(text))
         && is_host::<C>(parts.host)
         && parts.port.is_none_or(|text| is_port(text))
+}
+
+/// Whether the text is an authority (RFC 3986 section 3.2). Most often it is a host alone.
+#[tactic(auto, unfolding(iref_grammar::specs::Authority::is_authority))]
+pub fn is_authority<C: CharSet>(text: &str) -> bool
+    ensures { result ≡ authority.is_authority C.tests text.now }
+{
+    is_host::<C>(text) || are_parts::<C>(split_authority(text))
 }

@@ -5,6 +5,7 @@ ghost use Rattle.std.specs.Option.{option_copied};
 ghost use Rattle.iref_grammar.specs.Texts.{before, from_first, after};
 
 /// What stands before the first of the mark, or all of the text, and what follows it.
+#[inline(always)]
 pub fn cut(text: &str, mark: char) -> (&str, Option<&str>)
     requires { mark < 128 }
     ensures before { result.0.now ≡ before (mark ∷ []) text.now }
@@ -17,6 +18,7 @@ pub fn cut(text: &str, mark: char) -> (&str, Option<&str>)
 }
 
 /// What stands before the first of the mark, or all of the text, and the text from the mark on.
+#[inline(always)]
 pub fn split_before(text: &str, mark: char) -> (&str, &str)
     requires { mark < 128 }
     ensures before { result.0.now ≡ before (mark ∷ []) text.now }

@@ -1,6 +1,6 @@
 //! Whether a text is in a rule of single characters and escapes.
 
-ghost use Rattle.std.specs.Prelude.{◌≡◌, ◌==◌, ◌&&◌, ◌||◌, ℕ, ◌+◌, ◌<◌, Bool, ◌∷◌, chars, length, slice_index, MatchOption};
+ghost use Rattle.std.specs.Prelude.{◌≡◌, ◌==◌, ◌&&◌, ◌||◌, ℕ, ◌+◌, ◌<◌, Bool, ◌∷◌, ◌≤◌, chars, length, slice_index, IfSome, MatchOption};
 ghost use Rattle.std.specs.List.{list_all};
 ghost use Rattle.std.specs.Char.{is_ascii};
 ghost use Rattle.iref_grammar.specs.Grammar as grammar;
@@ -220,26 +220,58 @@ fn after_ascii(text: &str) -> &str
     &text[1..]
 }
 
-// The same. Most often the first character is one byte, for which the table serves.
-fn after_first<R: CharRule>(text: &str) -> Option<&str>
-    requires { 0 < length text.now }
-    ensures { ScansTo R.allowed 0 0 text.now result }
+// What follows the first character, if it is one byte that the rule's table has.
+fn after_one<R: CharRule>(text: &str) -> Option<&str>
+    ensures { IfSome result (λ _. ScansTo R.allowed 0 0 text.now result) }
 {
-    if R::allows_byte(text.as_bytes()[0]) {
+    if !text.is_empty() && R::allows_byte(text.as_bytes()[0]) {
         Some(after_ascii(text))
     } else {
-        after_char_or_escape::<R>(text)
+        None
     }
+}
+
+// What follows the first two characters, if each is such a byte.
+fn after_two<R: CharRule>(text: &str) -> Option<&str>
+    ensures { IfSome result (λ _. ScansTo R.allowed 0 0 text.now result) }
+{
+    after_one::<R>(after_one::<R>(text)?)
+}
+
+// What follows the first four characters, if each is such a byte.
+fn after_four<R: CharRule>(text: &str) -> Option<&str>
+    ensures { IfSome result (λ _. ScansTo R.allowed 0 0 text.now result) }
+{
+    if text.len() < 4 {
+        return None;
+    }
+    after_two::<R>(after_two::<R>(text)?)
+}
+
+// What is left from the first character on that is no such byte.
+fn after_plain<R: CharRule>(text: &str) -> &str
+    ensures same { test.is_encoded R.allowed (chars result.now)
+        ≡ test.is_encoded R.allowed (chars text.now) }
+    ensures no_longer { length result.now ≤ length text.now }
+{
+    let mut rest = text;
+    while let Some(after) = after_four::<R>(rest) {
+        rest = after;
+    }
+    while let Some(after) = after_one::<R>(rest) {
+        rest = after;
+    }
+    rest
 }
 
 // Whether the text is one of characters that the rule allows, and of escapes.
 fn is_encoded<R: CharRule>(text: &str) -> bool
     ensures { result ≡ test.is_encoded R.allowed (chars text.now) }
 {
-    let mut rest = text;
+    let mut rest = after_plain::<R>(text);
     while !rest.is_empty() {
-        match after_first::<R>(rest) {
-            Some(after) => rest = after,
+        match after_char_or_escape::<R>(rest) {
+            Some(after) => rest = after_plain::<R>(after),
             None => return false,
         }
     }

@@ -31,6 +31,7 @@ pub struct ReferenceSlices<'a> {
 }
 
 // What stands before the first of two marks, and the text from there on.
+#[inline(always)]
 fn split_before_either(text: &str, first: u8, second: u8) -> (&str, &str)
     requires first_is_ascii { first < 128 }
     requires second_is_ascii { second < 128 }
@@ -42,6 +43,7 @@ fn split_before_either(text: &str, first: u8, second: u8) -> (&str, &str)
 }
 
 // The scheme, if a `:` stands before each `/`, and what follows it.
+#[inline(always)]
 fn split_scheme(text: &str) -> (Option<&str>, &str)
     ensures scheme { option_copied result.0 ≡ (spec.split_scheme text.now).0 }
     ensures rest { result.1.now ≡ (spec.split_scheme text.now).1 }
@@ -54,6 +56,7 @@ fn split_scheme(text: &str) -> (Option<&str>, &str)
 }
 
 // The authority between `//` and the next `/`, and the path.
+#[inline(always)]
 fn split_authority(text: &str) -> (Option<&str>, &str)
     ensures authority { option_copied result.0 ≡ (spec.split_authority text.now).0 }
     ensures path { result.1.now ≡ (spec.split_authority text.now).1 }
@@ -68,6 +71,7 @@ fn split_authority(text: &str) -> (Option<&str>, &str)
 }
 
 // What stands before the query and the fragment, and these two.
+#[inline(always)]
 fn split_tail(text: &str) -> (&str, Option<&str>, Option<&str>)
     ensures front { result.0.now ≡ hierarchy text.now }
     ensures query { option_copied result.1 ≡ after question_mark
@@ -81,6 +85,7 @@ fn split_tail(text: &str) -> (&str, Option<&str>, Option<&str>)
 
 /// Splits a text into the components that it has as a reference (RFC 3986 section 4.1).
 #[tactic(auto, unfolding(iref_grammar::specs::Reference::read_reference))]
+#[inline(always)]
 pub fn split_reference(text: &str) -> ReferenceSlices<'_>
     ensures value { value_of result ≡ read_reference text.now }
     ensures texts { texts_of result ≡ spell_components (read_reference text.now) }
@@ -98,6 +103,7 @@ pub fn split_reference(text: &str) -> ReferenceSlices<'_>
 }
 
 // Whether each slice is in the rule of its component.
+#[inline(always)]
 fn are_components<C: CharSet>(slices: ReferenceSlices<'_>) -> bool
     ensures { Decides result (AreComponents C.tests (texts_of slices.entry)) }
 {
@@ -113,6 +119,7 @@ fn are_components<C: CharSet>(slices: ReferenceSlices<'_>) -> bool
 }
 
 /// The components of a text that is a reference (RFC 3986 section 4.1).
+#[inline(always)]
 pub fn parse_reference<C: CharSet>(text: &str) -> Option<ReferenceSlices<'_>>
     ensures accepted { is_some result ≡ is_reference C.tests text.now }
     ensures value { IfSome result (λ s. value_of s ≡ read_reference text.now) }

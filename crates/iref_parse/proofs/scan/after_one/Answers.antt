@@ -1,6 +1,6 @@
 use Rattle.std.proofs.Common.{◌∙◌, sym, ap, slice_index, chars, ◌∷◌}
 use Rattle.iref_parse.proofs.ScanLemmas.{after_byte}
-use Rattle.iref_parse.proofs.scan.after_first.Goals as goal
+use Rattle.iref_parse.proofs.scan.after_one.Goals as goal
 
 pub returns-then-allows_byte : goal.returns-then-allows_byte
 returns-then-allows_byte g c =

@@ -1,0 +1,6 @@
+use Rattle.std.proofs.Common.{sym, ◌∙◌}
+use Rattle.iref_parse.proofs.AuthorityLemmas.{host_alone}
+use Rattle.iref_parse.proofs.authority.is_authority.Goals as goal
+
+pub returns-then-is_host : goal.returns-then-is_host
+returns-then-is_host g c = c.if-is_host.true ∙ sym (host_alone g.C.CharSet.tests g.met.C.CharSet.above_ascii c.args.text.now (sym c.is_host.ensures ∙ c.if-is_host.true))
