@@ -42,13 +42,27 @@ fn split_before_either(text: &str, first: u8, second: u8) -> (&str, &str)
     text.split_at(place.unwrap_or(text.len()))
 }
 
+// The same byte by byte, which costs less where a mark is near.
+#[inline(always)]
+fn split_before_near(text: &str, first: u8, second: u8) -> (&str, &str)
+    requires first_is_ascii { first < 128 }
+    requires second_is_ascii { second < 128 }
+    ensures front { result.0.now ≡ before (first ∷ second ∷ []) text.now }
+    ensures back { result.1.now ≡ from_first (first ∷ second ∷ []) text.now }
+{
+    let place = text
+        .bytes()
+        .position(|byte| byte == first || byte == second);
+    text.split_at(place.unwrap_or(text.len()))
+}
+
 // The scheme, if a `:` stands before each `/`, and what follows it.
 #[inline(always)]
 fn split_scheme(text: &str) -> (Option<&str>, &str)
     ensures scheme { option_copied result.0 ≡ (spec.split_scheme text.now).0 }
     ensures rest { result.1.now ≡ (spec.split_scheme text.now).1 }
 {
-    let (scheme, rest) = split_before_either(text, b':', b'/');
+    let (scheme, rest) = split_before_near(text, b':', b'/');
     match rest.strip_prefix(':') {
         Some(rest) => (Some(scheme), rest),
         None => (None, text),
@@ -79,6 +93,9 @@ fn split_tail(text: &str) -> (&str, Option<&str>, Option<&str>)
     ensures fragment { option_copied result.2 ≡ after hash_sign text.now }
 {
     let (front, tail) = split_before_either(text, b'?', b'#');
+    if tail.is_empty() {
+        return (front, None, None);
+    }
     let (query, fragment) = cut(tail, '#');
     (front, query.strip_prefix('?'), fragment)
 }

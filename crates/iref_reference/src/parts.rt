@@ -181,6 +181,7 @@ impl<'a, C: CharSet> UriRefParts<'a, C> {
 
     /// The components of the reference of these bytes of UTF-8, or the bytes: `UriRef::from_bytes`
     /// and `parts` by one split.
+    #[inline(always)]
     pub fn from_bytes(bytes: &'a [u8]) -> Result<Self, InvalidUriRef<&'a [u8]>>
         ensures { MatchResult result
             (λ parts. InUtf8 (IsUriReference C.tests) bytes.now
