@@ -9,7 +9,7 @@ ghost use Rattle.iref_mapping.specs.PrefixTable.{PrefixEntry};
 ghost use Rattle.iref_batch.specs.Fields.{fields_of};
 ghost use Rattle.iref_batch.specs.Requests.{request_of};
 
-use super::cut::cut_at;
+use super::cut::{cut_at, cut_near};
 
 /// What a line asks for.
 #[derive(Clone, Copy)]
@@ -86,12 +86,22 @@ pub fn is_name(name: &[u8], field: &[u8]) -> bool
     name == field
 }
 
+/// The verb, and the text of the fields, if there are any.
+fn verb_and_fields(line: &[u8]) -> (&[u8], Option<&[u8]>)
+    ensures { pieces_at tab line.now ≡ result.0.now ∷ fields_of (option_copied result.1) }
+{
+    match cut_near(b'\t', line) {
+        Some((verb, rest)) => (verb, Some(rest)),
+        None => (line, None),
+    }
+}
+
 /// What a line asks for, if its verb is one of the program's and its fields are as many as that
 /// takes. The fields of edits are not looked at yet.
 pub fn read_request(line: &[u8]) -> Option<Request<'_>>
     ensures { read_line all_verbs line.now ≡ option_and_then request_of result }
 {
-    let (verb, fields) = first_field(line);
+    let (verb, fields) = verb_and_fields(line);
     if is_name(b"parts", verb) {
         return one_field(fields).map(Request::Parts);
     }
