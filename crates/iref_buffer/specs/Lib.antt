@@ -27,3 +27,4 @@ pub mod PathPlaces
 pub mod MeasuredReferences
 pub mod Relatives
 pub mod AuthorityPlaces
+pub mod Steps

@@ -129,7 +129,8 @@ impl<R: HeldRule, C: CharSet, A: Allocator> Held<R, C, A> {
 
     /// Where the components stand.
     pub fn places(&self) -> Offsets
-        ensures { result ≡ places_of self.now }
+        ensures places { result ≡ places_of self.now }
+        ensures in_rule { R.test C.tests self.now ≡ true }
     {
         self.places.clone().unwrap()
     }

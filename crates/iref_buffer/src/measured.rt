@@ -1,5 +1,5 @@
-//! References that are measured before they are written: what one resolves to against a base, strict
-//! (RFC 3986 sections 5.2.2 and 5.3).
+//! References that are measured before they are written: what one resolves to against a base,
+//! strict (RFC 3986 sections 5.2.2 and 5.3).
 ghost use Rattle.iref_buffer.specs.ComponentLengths.{lengths_of_texts};
 ghost use Rattle.iref_buffer.specs.MeasuredReferences.{IsReady, spell_texts, measured_components};
 ghost use Rattle.iref_grammar.specs.ComponentTexts.{spell_components};
@@ -10,7 +10,8 @@ ghost use Rattle.iref_model.specs.NormalList.{normal};
 ghost use Rattle.iref_model.specs.Resolution.{resolved};
 ghost use Rattle.iref_parse.specs.ReferenceSlices.{value_of};
 ghost use Rattle.std.specs.Option.{option_copied};
-ghost use Rattle.std.specs.Prelude.{◌≡◌, ◌+◌, ◌<◌, ◌≤◌, ◌^◌, ◌++◌, IfOk, drop, is_some, length, true};
+ghost use Rattle.std.specs.Prelude.{◌≡◌, ◌+◌, ◌<◌, ◌≤◌, ◌^◌, ◌++◌, true};
+ghost use Rattle.std.specs.Prelude.{IfOk, drop, is_some, length};
 
 use crate::lengths::{Lengths, len_of};
 use iref_edit::text::{marked, marked_after};
@@ -133,7 +134,8 @@ impl<'a> MeasuredReference<'a> {
     /// The bytes of the text.
     pub fn bytes<A: Allocator>(self, alloc: A) -> Result<Vec<u8, A>, Memory>
         requires { IsReady self }
-        ensures { IfOk result (λ bytes. bytes.items ≡ spell_texts (measured_components self.entry)) }
+        ensures { IfOk result (λ bytes.
+            bytes.items ≡ spell_texts (measured_components self.entry)) }
     {
         let len = self.lengths().total()?;
         let mut bytes = vec![in alloc; 0u8; len]?;

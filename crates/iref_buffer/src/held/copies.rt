@@ -2,7 +2,7 @@
 ghost use Rattle.std.specs.Prelude.{◌≡◌, ◌++◌, true, [], ◌∷◌, Some, IfOk, IfErr};
 ghost use Rattle.std.specs.String.{string_bytes};
 ghost use Rattle.iref_grammar.specs.Grammar.{colon};
-ghost use Rattle.iref_grammar.specs.Reference.{read_reference, spell};
+ghost use Rattle.iref_buffer.specs.Steps.{IsStep};
 ghost use Rattle.iref_grammar.specs.Tests.{is_scheme};
 ghost use Rattle.iref_model.specs.ComponentSteps.{with_scheme};
 
@@ -48,10 +48,7 @@ impl<R: HeldRule, C: CharSet, A: Allocator> Held<R, C, A> {
         requires scheme { is_scheme scheme.now ≡ true }
         requires allowed { R.allows_scheme (Some scheme.now) ≡ true }
         requires allows { S.allows_scheme (Some scheme.now) ≡ true }
-        ensures text { IfOk result (λ held.
-            held ≡ spell (with_scheme (Some scheme.now) (read_reference self))) }
-        ensures value { IfOk result (λ held.
-            read_reference held ≡ with_scheme (Some scheme.now) (read_reference self)) }
+        ensures ok { IfOk result (IsStep (with_scheme (Some scheme.now)) self) }
         ensures err { IfErr result (λ held. held ≡ self) }
     {
         let mut held = self;

@@ -13,6 +13,7 @@ ghost use Rattle.iref_component.specs.{PathValue, read_path, spell_path, with_qu
 ghost use Rattle.iref_component.specs.{with_path, with_authority, with_scheme};
 ghost use Rattle.iref_buffer.specs.PathTexts.{authority_text, path_text};
 ghost use Rattle.iref_buffer.specs.PathTexts.{with_path_text, with_path_read};
+ghost use Rattle.iref_buffer.specs.Steps.{StepsOrStays};
 ghost use Rattle.iref_buffer.specs.ComponentLengths.{HasLengths, lengths_of, with_mark};
 ghost use Rattle.iref_edit.specs.Changes.{IsNoLonger, IsWithin, changed, replaced};
 
@@ -31,11 +32,8 @@ impl<R: HeldRule, C: CharSet, A: Allocator> Held<R, C, A> {
     /// Replaces the query, or takes it away, which takes no memory.
     pub fn set_query(&mut self, query: Option<&str>) -> Result<(), Memory>
         requires { none_or (is_query C.tests) (option_copied query) ≡ true }
-        ensures text { OnOk result (self.new
-            ≡ spell (with_query (option_copied query.entry) (read_reference self.old))) }
-        ensures value { OnOk result (read_reference self.new
-            ≡ with_query (option_copied query.entry) (read_reference self.old)) }
-        ensures err { OnErr result (self.new ≡ self.old) }
+        ensures set { StepsOrStays (with_query (option_copied query.entry)) self.old self.new
+            result }
         ensures none { IsNone query.entry → IsOk result }
     {
         let lengths = Lengths {
@@ -51,11 +49,8 @@ impl<R: HeldRule, C: CharSet, A: Allocator> Held<R, C, A> {
     /// Replaces the fragment, or takes it away, which takes no memory.
     pub fn set_fragment(&mut self, fragment: Option<&str>) -> Result<(), Memory>
         requires { none_or (is_fragment C.tests) (option_copied fragment) ≡ true }
-        ensures text { OnOk result (self.new
-            ≡ spell (with_fragment (option_copied fragment.entry) (read_reference self.old))) }
-        ensures value { OnOk result (read_reference self.new
-            ≡ with_fragment (option_copied fragment.entry) (read_reference self.old)) }
-        ensures err { OnErr result (self.new ≡ self.old) }
+        ensures set { StepsOrStays (with_fragment (option_copied fragment.entry)) self.old self.new
+            result }
         ensures none { IsNone fragment.entry → IsOk result }
     {
         let lengths = Lengths {
@@ -71,11 +66,7 @@ impl<R: HeldRule, C: CharSet, A: Allocator> Held<R, C, A> {
     /// Replaces the path, with a guard where it would be read as something else.
     pub fn set_path(&mut self, path: &str) -> Result<(), Memory>
         requires { is_path C.tests path.now ≡ true }
-        ensures text { OnOk result (self.new
-            ≡ spell (with_path (read_path path.now) (read_reference self.old))) }
-        ensures value { OnOk result (read_reference self.new
-            ≡ with_path (read_path path.now) (read_reference self.old)) }
-        ensures err { OnErr result (self.new ≡ self.old) }
+        ensures { StepsOrStays (with_path (read_path path.now)) self.old self.new result }
     {
         let old = self.lengths();
         let guard = guard_of(old.context(), path);
@@ -93,11 +84,8 @@ impl<R: HeldRule, C: CharSet, A: Allocator> Held<R, C, A> {
     pub fn set_scheme(&mut self, scheme: Option<&str>) -> Result<(), Memory>
         requires scheme { none_or is_scheme (option_copied scheme) ≡ true }
         requires allowed { R.allows_scheme (option_copied scheme) ≡ true }
-        ensures text { OnOk result (self.new
-            ≡ spell (with_scheme (option_copied scheme.entry) (read_reference self.old))) }
-        ensures value { OnOk result (read_reference self.new
-            ≡ with_scheme (option_copied scheme.entry) (read_reference self.old)) }
-        ensures err { OnErr result (self.new ≡ self.old) }
+        ensures set { StepsOrStays (with_scheme (option_copied scheme.entry)) self.old self.new
+            result }
         ensures none { IsNone scheme.entry → IsOk result }
     {
         let old = self.lengths();
@@ -117,13 +105,8 @@ impl<R: HeldRule, C: CharSet, A: Allocator> Held<R, C, A> {
     /// the path becomes absolute, and where it goes a path that begins with `//` is guarded.
     pub fn set_authority(&mut self, authority: Option<&str>) -> Result<(), Memory>
         requires { none_or (is_authority C.tests) (option_copied authority) ≡ true }
-        ensures text { OnOk result (self.new ≡ spell (with_authority
-            (option_map read_authority (option_copied authority.entry))
-            (read_reference self.old))) }
-        ensures value { OnOk result (read_reference self.new ≡ with_authority
-            (option_map read_authority (option_copied authority.entry))
-            (read_reference self.old)) }
-        ensures err { OnErr result (self.new ≡ self.old) }
+        ensures set { StepsOrStays (with_authority
+            (option_map read_authority (option_copied authority.entry))) self.old self.new result }
         ensures none { IsNone authority.entry → IsOk result }
     {
         let old = self.lengths();

@@ -2,11 +2,12 @@
 //! 5.2.2 and 5.3).
 ghost use Rattle.iref_buffer.specs.ComponentLengths.{lengths_of_texts, placed};
 ghost use Rattle.iref_buffer.specs.MeasuredReferences.{IsReady, spell_texts, measured_components};
+ghost use Rattle.iref_buffer.specs.Steps.{Spells};
 ghost use Rattle.iref_grammar.specs.Places.{places_of};
-ghost use Rattle.iref_grammar.specs.Reference.{is_readable, read_reference, spell};
+ghost use Rattle.iref_grammar.specs.Reference.{is_readable};
 ghost use Rattle.iref_model.specs.Resolution.{resolved};
 ghost use Rattle.iref_parse.specs.ReferenceSlices.{value_of};
-ghost use Rattle.std.specs.Prelude.{◌≡◌, ◌+◌, ◌<◌, ◌^◌, IfOk, length, true};
+ghost use Rattle.std.specs.Prelude.{◌≡◌, ◌+◌, ◌*◌, ◌<◌, ◌^◌, IfOk, length, true};
 
 use super::{Held, HeldRule};
 use crate::measured::MeasuredReference;
@@ -16,12 +17,14 @@ use iref_parse::split::ReferenceSlices;
 use std::alloc::{AllocError, Allocator};
 use std::marker::PhantomData;
 
-// Refuses two paths that cannot be counted together, since no text can hold them.
-fn count_together(base: &str, reference: &str) -> Result<(), AllocError>
-    ensures { IfOk result (λ _. length base.now + length reference.now + 6 < 2 ^ 64) }
+// Refuses a base's path and another one of which the bytes and the steps between cannot be counted,
+// since no text can hold them.
+pub(super) fn count_paths(base: &str, other: &str) -> Result<(), AllocError>
+    ensures { IfOk result (λ _. 3 * length base.now + length other.now + 16 < 2 ^ 64) }
 {
-    let paths = base.len().checked_add(reference.len()).ok_or(AllocError)?;
-    paths.checked_add(6).ok_or(AllocError)?;
+    let climbs = base.len().checked_mul(3).ok_or(AllocError)?;
+    let steps = climbs.checked_add(other.len()).ok_or(AllocError)?;
+    steps.checked_add(16).ok_or(AllocError)?;
     Ok(())
 }
 
@@ -37,12 +40,9 @@ impl<R: HeldRule, C: CharSet, A: Allocator> Held<R, C, A> {
         requires reference { is_readable C.tests (value_of reference) ≡ true }
         requires allowed { R.allows_scheme
             (resolved (value_of base) (value_of reference)).scheme ≡ true }
-        ensures text { IfOk result (λ held.
-            held ≡ spell (resolved (value_of base.entry) (value_of reference.entry))) }
-        ensures value { IfOk result (λ held. read_reference held
-            ≡ resolved (value_of base.entry) (value_of reference.entry)) }
+        ensures { IfOk result (Spells (resolved (value_of base.entry) (value_of reference.entry))) }
     {
-        count_together(base.path, reference.path)?;
+        count_paths(base.path, reference.path)?;
         Held::of_components(alloc, MeasuredReference::resolved(base, reference))
     }
 

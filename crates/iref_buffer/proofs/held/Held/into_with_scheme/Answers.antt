@@ -7,5 +7,5 @@ pub into_rule-requires : goal.into_rule-requires
 unfolding with_scheme
 into_rule-requires g c = λ in_rule.
     let set = g.C.CharSet.tests in
-    let allowed = ap (λ (r : ReferenceValue). g.S.HeldRule.allows_scheme r.scheme) c.in-Ok.ensures.value ∙ c.requires.allows in
+    let allowed = ap (λ (r : ReferenceValue). g.S.HeldRule.allows_scheme r.scheme) c.in-Ok.ensures.set.1 ∙ c.requires.allows in
     g.met.S.HeldRule.by_scheme set c.set_scheme.new.self (g.met.R.HeldRule.references set c.set_scheme.new.self in_rule) allowed

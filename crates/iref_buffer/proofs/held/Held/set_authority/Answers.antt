@@ -31,21 +31,8 @@ step-requires-clause-leaves g c =
     let part = c.len_of.ensures ∙ ap (option_map length) (authority_spelled text) in
     record { in_rule = step.leaves.in_rule; lengths = (λ i. record (c.lengths-old.ensures.lengths i) { authority = part i; path = len i }) ∙ step.leaves.lengths }
 
-pub returns-clause-text : goal.returns-clause-text
-returns-clause-text g c =
-    let old = read_reference c.args.self.now in
-    let text = option_copied c.args.authority in
-    let new = option_map read_authority text in
-    let lead = c.authority_lead-lead.result.now in
-    let range = c.authority_range-range.result in
-    let known = some_read text ∙ sym (is_some-copied c.args.authority) ∙ sym c.is_some.ensures in
-    let put = c.authority_lead-lead.ensures.spelled new known in
-    let spelled = ap (λ t. splice c.args.self.now range.start range.end (t ++ lead)) (c.marked.ensures.pieces ∙ ap (then_part (codes "//")) (authority_spelled text))
-    ∙ c.authority_range-range.ensures.replaced new (with_authority new old).path lead put in
-    c.in_ok-step.ensures.ok ∙ spelled ∙ ap spell (with_authority-parts new old)
-
-pub returns-clause-value : goal.returns-clause-value
-returns-clause-value g c =
+pub returns-clause-set : goal.returns-clause-set
+returns-clause-set g c =
     let set = g.C.CharSet.tests in
     let old = read_reference c.args.self.now in
     let text = option_copied c.args.authority in
@@ -57,5 +44,7 @@ returns-clause-value g c =
     let spelled = ap (λ t. splice c.args.self.now range.start range.end (t ++ lead)) (c.marked.ensures.pieces ∙ ap (then_part (codes "//")) (authority_spelled text))
     ∙ c.authority_range-range.ensures.replaced new (with_authority new old).path lead put in
     let step = is_step set g.met.C.CharSet.above_ascii (g.R.Rule.test set) g.R.HeldRule.allows_scheme (g.met.R.HeldRule.by_scheme set) _ (record old { authority = new; path = (with_authority new old).path }) spelled
-    (ap (is_readable set) (with_authority-parts new old) ∙ with_authority-readable set new old (authority_read set text c.requires) c.lengths-old.ensures.readable) c.lengths-old.ensures.allowed in
-    ap read_reference c.in_ok-step.ensures.ok ∙ step.value ∙ with_authority-parts new old
+    (ap (is_readable set) (with_authority-parts new old) ∙ with_authority-readable set new old (authority_read set text c.requires) c.lengths-old.ensures.readable) c.lengths-old.ensures.allowed in (
+      c.in_ok-step.ensures.ok ∙ spelled ∙ ap spell (with_authority-parts new old),
+      ap read_reference c.in_ok-step.ensures.ok ∙ step.value ∙ with_authority-parts new old,
+    )

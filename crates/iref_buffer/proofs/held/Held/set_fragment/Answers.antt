@@ -20,13 +20,13 @@ step-requires-clause-leaves g c =
     (with_fragment-readable set fragment old c.requires c.lengths.ensures.readable) c.lengths.ensures.allowed in
     record { in_rule = step.leaves.in_rule; lengths = (λ i. record (c.lengths.ensures.lengths i) { fragment = c.len_of.ensures i }) ∙ step.leaves.lengths }
 
-pub returns-clause-value : goal.returns-clause-value
-returns-clause-value g c =
+pub returns-clause-set : goal.returns-clause-set
+returns-clause-set g c =
     let set = g.C.CharSet.tests in
     let old = read_reference c.args.self.now in
     let fragment = option_copied c.args.fragment in
     let range = c.fragment_range-range.result in
     let spelled = ap (splice c.args.self.now range.start range.end) (append-nil _ ∙ c.marked.ensures.pieces) ∙ c.fragment_range-range.ensures.replaced fragment in
-    ap read_reference c.in_ok-step.ensures.ok
-    ∙ (is_step set g.met.C.CharSet.above_ascii (g.R.Rule.test set) g.R.HeldRule.allows_scheme (g.met.R.HeldRule.by_scheme set) _ (with_fragment fragment old) spelled
-    (with_fragment-readable set fragment old c.requires c.lengths.ensures.readable) c.lengths.ensures.allowed).value
+    let step = is_step set g.met.C.CharSet.above_ascii (g.R.Rule.test set) g.R.HeldRule.allows_scheme (g.met.R.HeldRule.by_scheme set) _ (with_fragment fragment old) spelled
+    (with_fragment-readable set fragment old c.requires c.lengths.ensures.readable) c.lengths.ensures.allowed in
+    (c.in_ok-step.ensures.ok ∙ spelled, ap read_reference c.in_ok-step.ensures.ok ∙ step.value)

@@ -24,18 +24,8 @@ step-requires-clause-leaves g c =
     let len = sym (length-append c.guard_of-guard.result.now c.args.path.now) ∙ ap length put in
     record { in_rule = step.leaves.in_rule; lengths = (λ i. record (c.lengths-old.ensures.lengths i) { path = len i }) ∙ step.leaves.lengths }
 
-pub returns-clause-text : goal.returns-clause-text
-returns-clause-text g c =
-    let old = read_reference c.args.self.now in
-    let path = guarded (context_of old) (read_path c.args.path.now) in
-    let range = c.path_range-range.result in
-    let context = c.context.ensures ∙ ap context_by c.lengths-old.ensures.lengths ∙ context-lengths old in
-    let put = c.guard_of-guard.ensures.spelled ∙ ap (λ x. spell_path (guarded x (read_path c.args.path.now))) context in
-    c.in_ok-step.ensures.ok ∙ ap (splice c.args.self.now range.start range.end) (append-nil _ ∙ put) ∙ c.path_range-range.ensures.replaced path
-    ∙ ap spell (with_path-guarded c.args.path.now old)
-
-pub returns-clause-value : goal.returns-clause-value
-returns-clause-value g c =
+pub returns : goal.returns
+returns g c =
     let set = g.C.CharSet.tests in
     let old = read_reference c.args.self.now in
     let path = guarded (context_of old) (read_path c.args.path.now) in
@@ -43,7 +33,8 @@ returns-clause-value g c =
     let context = c.context.ensures ∙ ap context_by c.lengths-old.ensures.lengths ∙ context-lengths old in
     let put = c.guard_of-guard.ensures.spelled ∙ ap (λ x. spell_path (guarded x (read_path c.args.path.now))) context in
     let spelled = ap (splice c.args.self.now range.start range.end) (append-nil _ ∙ put) ∙ c.path_range-range.ensures.replaced path in
-    ap read_reference c.in_ok-step.ensures.ok
-    ∙ (is_step set g.met.C.CharSet.above_ascii (g.R.Rule.test set) g.R.HeldRule.allows_scheme (g.met.R.HeldRule.by_scheme set) _ (record old { path = path }) spelled
-    (guarded_path-readable set g.met.C.CharSet.above_ascii c.args.path.now old c.requires c.lengths-old.ensures.readable) c.lengths-old.ensures.allowed).value
-    ∙ with_path-guarded c.args.path.now old
+    let step = is_step set g.met.C.CharSet.above_ascii (g.R.Rule.test set) g.R.HeldRule.allows_scheme (g.met.R.HeldRule.by_scheme set) _ (record old { path = path }) spelled
+    (guarded_path-readable set g.met.C.CharSet.above_ascii c.args.path.now old c.requires c.lengths-old.ensures.readable) c.lengths-old.ensures.allowed in (
+      c.in_ok-step.ensures.ok ∙ spelled ∙ ap spell (with_path-guarded c.args.path.now old),
+      ap read_reference c.in_ok-step.ensures.ok ∙ step.value ∙ with_path-guarded c.args.path.now old,
+    )

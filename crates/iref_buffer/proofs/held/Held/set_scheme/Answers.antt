@@ -24,20 +24,8 @@ step-requires-clause-leaves g c =
     let len = scheme_path_length c.args.self.now lead (with_scheme new old).path c.lengths-old.result c.lengths-old.ensures.lengths put in
     record { in_rule = step.leaves.in_rule; lengths = (λ i. record (c.lengths-old.ensures.lengths i) { scheme = c.len_of.ensures i; path = len i }) ∙ step.leaves.lengths }
 
-pub returns-clause-text : goal.returns-clause-text
-returns-clause-text g c =
-    let old = read_reference c.args.self.now in
-    let new = option_copied c.args.scheme in
-    let lead = c.scheme_lead-lead.result.now in
-    let range = c.scheme_range-range.result in
-    let known = sym (is_some-copied c.args.scheme) ∙ sym c.is_some.ensures in
-    let put = c.scheme_lead-lead.ensures.spelled new known in
-    let spelled = ap (λ t. splice c.args.self.now range.start range.end (t ++ lead)) (c.marked_after.ensures.pieces)
-    ∙ c.scheme_range-range.ensures.replaced new (with_scheme new old).path lead put in
-    c.in_ok-step.ensures.ok ∙ spelled ∙ ap spell (with_scheme-parts new old)
-
-pub returns-clause-value : goal.returns-clause-value
-returns-clause-value g c =
+pub returns-clause-set : goal.returns-clause-set
+returns-clause-set g c =
     let set = g.C.CharSet.tests in
     let old = read_reference c.args.self.now in
     let new = option_copied c.args.scheme in
@@ -48,5 +36,7 @@ returns-clause-value g c =
     let spelled = ap (λ t. splice c.args.self.now range.start range.end (t ++ lead)) (c.marked_after.ensures.pieces)
     ∙ c.scheme_range-range.ensures.replaced new (with_scheme new old).path lead put in
     let step = is_step set g.met.C.CharSet.above_ascii (g.R.Rule.test set) g.R.HeldRule.allows_scheme (g.met.R.HeldRule.by_scheme set) _ (record old { scheme = new; path = (with_scheme new old).path }) spelled
-    (ap (is_readable set) (with_scheme-parts new old) ∙ with_scheme-readable set new old c.requires.scheme c.lengths-old.ensures.readable) c.requires.allowed in
-    ap read_reference c.in_ok-step.ensures.ok ∙ step.value ∙ with_scheme-parts new old
+    (ap (is_readable set) (with_scheme-parts new old) ∙ with_scheme-readable set new old c.requires.scheme c.lengths-old.ensures.readable) c.requires.allowed in (
+      c.in_ok-step.ensures.ok ∙ spelled ∙ ap spell (with_scheme-parts new old),
+      ap read_reference c.in_ok-step.ensures.ok ∙ step.value ∙ with_scheme-parts new old,
+    )
