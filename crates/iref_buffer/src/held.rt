@@ -34,7 +34,8 @@ use std::fmt;
 use std::marker::{Model, PhantomData};
 use std::ops::Range;
 
-/// A rule of references: of all of them, or of those with a scheme.
+/// A rule of references: of all of them, or of those with a scheme, which `s:a` is in and `a` is
+/// not (RFC 3986 sections 3 and 4.1).
 pub trait HeldRule: Keyed {
     /// The schemes that the rule allows.
     ghost allows_scheme: { Option Text → Bool };
@@ -62,7 +63,9 @@ pub trait HeldRule: Keyed {
         → Self.test tests (spell (base_of (read_reference text))) ≡ true };
 }
 
-/// A text in a rule of references, with the places of its components beside it.
+/// A text in a rule of references, with the places of its components beside it, in bytes: of
+/// `s:/a?q` the path is at 2 to 4. `new` hands back a text that is outside the rule (RFC 3986
+/// sections 3 and 4.1).
 #[derive(Drop)]
 pub struct Held<R: HeldRule, C: CharSet, A: Allocator = Global> {
     text: String<A>,

@@ -8,7 +8,8 @@ use iref_grammar::places::{Offsets, PathContext};
 use std::alloc::AllocError;
 use std::ops::Range;
 
-/// The lengths of the components in bytes, without `:`, `//`, `?` and `#`.
+/// The lengths of the components in bytes, without `:`, `//`, `?` and `#`: of `s:/a?q` they are 1,
+/// none, 2, 1 and none (RFC 3986 section 5.3).
 #[derive(Clone, Copy)]
 pub struct Lengths {
     /// The scheme's, if there is one.

@@ -14,7 +14,7 @@ use Rattle.iref_authority.specs.AuthorityEdits.{edited_bytes, authority_mut_valu
 use Rattle.iref_buffer.specs.AuthorityPlaces.{authority_part}
 use Rattle.iref_buffer.proofs.AuthorityPlaceLemmas.{authority_read_there, place_is, some_if_placed}
 use Rattle.iref_buffer.proofs.EditLemmas.{authority_part_replaced}
-use Rattle.iref_reference.specs.References.{IsStep}
+use Rattle.iref_buffer.specs.Steps.{IsStep}
 
 pub authority_step : {C T A c H a : _} {old new : AuthorityMut C T A c H a} {text : Text} (set : CharTests) → AreAboveAscii set → (step : AuthorityValue → AuthorityValue)
     → is_reference set text ≡ true → is_readable set (with_authority_step step (read_reference text)) ≡ true → IsEditorAt old text (places_of text).authority

@@ -14,7 +14,7 @@ use Rattle.iref_path.specs.declared.path_mut.PathMut.{PathMut}
 use Rattle.iref_path.specs.PathEdits.{edited_bytes, path_mut_context, path_mut_value, IsEditorOf, BecomesPath}
 use Rattle.iref_buffer.proofs.EditLemmas.{path_replaced}
 use Rattle.iref_buffer.proofs.PathPlaceLemmas.{path_stands}
-use Rattle.iref_reference.specs.References.{IsStep}
+use Rattle.iref_buffer.specs.Steps.{IsStep}
 
 pub path_step : {C : _} {T : _} {A : _} {c : _} {t : _} {a : _} {old new : PathMut C T A c t a} {text : Text} (set : CharTests) → AreAboveAscii set → (step : PathContext → PathValue → PathValue)
     → is_reference set text ≡ true → is_readable set (with_path_step step (read_reference text)) ≡ true

@@ -1,12 +1,19 @@
 -- Texts of IRIs, mapped to URIs (RFC 3987 section 3.1).
 use Rattle.std.specs.Prelude.{◌≡◌, Bool}
 use Rattle.iref_grammar.specs.Rules.{Text}
-use Rattle.iref_grammar.specs.Reference.{read_reference}
+use Rattle.iref_grammar.specs.Reference.{ReferenceValue, read_reference}
 use Rattle.iref_mapping.specs.Mapping.{mapped, mapped_reference}
+use Rattle.iref_reference.specs.declared.owner.ReferenceBuf.{ReferenceBuf}
+use Rattle.iref_reference.specs.References.{key_of_reference_buf, reference_buf_text}
 
 -- the text is the mapping of an IRI, and is read as the IRI with each component mapped
 abbrev pub IsMapped : Text → Text → Type 0
 IsMapped iri text = (text ≡ mapped iri) × (read_reference text ≡ mapped_reference (read_reference iri))
+
+-- the owner holds the mapping of an IRI of this text and key: it has the same key, and the very text where that is in the rule
+abbrev pub IsMappingOf : {R C K : _} → (Text → Type 0) → Text → ReferenceValue → ReferenceBuf R C K → Type 0
+IsMappingOf rule iri key uri =
+    IsMapped iri (reference_buf_text uri) × (key_of_reference_buf uri ≡ key) × (rule iri → reference_buf_text uri ≡ iri)
 
 -- of two values with the keys of two IRIs, equality is what it is of these
 abbrev pub KeepsEquality : {V W K : Type 0} → (V → K) → (W → K) → (V → V → Bool) → (W → W → Bool) → Type 0

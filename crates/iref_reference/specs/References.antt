@@ -1,9 +1,10 @@
 -- The texts of references, borrowed and owned, what they are read as, and what they are compared by.
 use Rattle.std.specs.Prelude.{◌≡◌, ⊤, None, Result, MatchResult}
 use Rattle.iref_grammar.specs.Rules.{Text}
-use Rattle.iref_grammar.specs.Reference.{ReferenceValue, read_reference, spell}
+use Rattle.iref_grammar.specs.Reference.{ReferenceValue, read_reference}
 use Rattle.iref_model.specs.Key.{key}
 use Rattle.iref_component.specs.Components.{view_text}
+use Rattle.iref_buffer.specs.Steps.{IsStep, StepsOrStays}
 use Rattle.iref_reference.specs.declared.view.Reference.{Reference}
 use Rattle.iref_reference.specs.declared.owner.ReferenceBuf.{ReferenceBuf}
 
@@ -39,13 +40,9 @@ BecomesFull input reference result = HasSchemeOrRefused reference_text reference
 abbrev pub OwnerBecomesFull : {R C K S D L : _} {E : Type 0} → (E → ReferenceBuf R C K) → ReferenceBuf R C K → Result (ReferenceBuf S D L) E → Type 0
 OwnerBecomesFull input reference result = HasSchemeOrRefused reference_buf_text reference_buf_text reference input result
 
--- the text is edited by a step: it spells the step of what the old text is read as, and is read as that
-abbrev pub IsStep : (ReferenceValue → ReferenceValue) → Text → Text → Type 0
-IsStep step old new = (new ≡ spell (step (read_reference old))) × (read_reference new ≡ step (read_reference old))
-
 -- an edit of an owner: at Ok it is this step of the text, and at an Err the text is as it was
 abbrev pub Edits : {R C K : _} {V E : Type 0} → (ReferenceValue → ReferenceValue) → ReferenceBuf R C K → ReferenceBuf R C K → Result V E → Type 0
-Edits step old new result = MatchResult result (λ _. IsStep step (reference_buf_text old) (reference_buf_text new)) (λ _. reference_buf_text new ≡ reference_buf_text old)
+Edits step old new result = StepsOrStays step (reference_buf_text old) (reference_buf_text new) result
 
 -- an owner that takes memory: this step of the text of a view
 abbrev pub StepsFrom : {R C r k c S D K : _} {E : Type 0} → (ReferenceValue → ReferenceValue) → Reference R C r k c → Result (ReferenceBuf S D K) E → Type 0

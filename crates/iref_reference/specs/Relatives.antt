@@ -1,11 +1,12 @@
 -- Texts of references that lead from a base to a target, the way back from resolution (RFC 3986 section 5.2).
 use Rattle.std.specs.Prelude.{◌≡◌, Bool, false, true, ◌&&◌, ◌||◌, is_none, is_some}
 use Rattle.iref_grammar.specs.Rules.{Text}
-use Rattle.iref_grammar.specs.Reference.{ReferenceValue, read_reference, spell}
+use Rattle.iref_grammar.specs.Reference.{ReferenceValue, read_reference}
 use Rattle.iref_model.specs.Key.{AreAlike}
 use Rattle.iref_model.specs.Relative.{relative_to}
 use Rattle.iref_model.specs.RelativeLaws.{ClimbsLeast, DoAgree, IsOnlyPath, Leads}
 use Rattle.iref_model.specs.Resolution.{resolved}
+use Rattle.iref_buffer.specs.Steps.{Spells}
 
 -- it takes its scheme from any base
 abbrev pub takes_scheme : ReferenceValue → Bool
@@ -13,9 +14,7 @@ takes_scheme target = is_none target.scheme && (is_some target.authority || targ
 
 -- the text spells what leads from the base to the target, and is read as that
 abbrev pub IsRelative : Text → Text → Text → Type 0
-IsRelative target base text =
-    (text ≡ spell (relative_to (read_reference target) (read_reference base)))
-    × (read_reference text ≡ relative_to (read_reference target) (read_reference base))
+IsRelative target base text = Spells (relative_to (read_reference target) (read_reference base)) text
 
 -- from a base with a scheme it leads where the target leads
 abbrev pub LeadsThere : ReferenceValue → ReferenceValue → ReferenceValue → Type 0

@@ -1,11 +1,9 @@
 -- Texts that references resolve to (RFC 3986 section 5.2).
-use Rattle.std.specs.Prelude.{◌≡◌}
 use Rattle.iref_grammar.specs.Rules.{Text}
-use Rattle.iref_grammar.specs.Reference.{read_reference, spell}
+use Rattle.iref_grammar.specs.Reference.{read_reference}
 use Rattle.iref_model.specs.Resolution.{resolved}
+use Rattle.iref_buffer.specs.Steps.{Spells}
 
 -- the text spells what the reference resolves to against the base, and is read as that
 abbrev pub IsResolved : Text → Text → Text → Type 0
-IsResolved base reference text =
-    (text ≡ spell (resolved (read_reference base) (read_reference reference)))
-    × (read_reference text ≡ resolved (read_reference base) (read_reference reference))
+IsResolved base reference text = Spells (resolved (read_reference base) (read_reference reference)) text

@@ -8,7 +8,7 @@ ghost use Rattle.iref_reference.specs.Parts.{uri_ref_parts_key, uri_parts_key};
 ghost use Rattle.iref_reference.specs.References.{key_of_reference, key_of_reference_buf};
 ghost use Rattle.iref_model.proofs.KeyOrderLemmas.{keys_total, fed_where_tied};
 
-use crate::owner::{ReferenceBuf, UriBuf, UriRefBuf};
+use crate::owner::ReferenceBuf;
 use crate::parts::{UriParts, UriRefParts};
 use crate::view::{Uri, UriRef};
 use iref_buffer::held::HeldRule;
@@ -78,16 +78,13 @@ pub fn references_compare_by_key<C: CharSet>()
         ⟦<Uri<'static, C> as Hash>⟧.hash_input }
 {}
 
-/// Owners are equal, in order and hashed by the key of the reference, as their views.
-pub fn owners_compare_by_key<C: CharSet>()
-    ensures references { ComparesBy key_of_reference_buf key_cmp fed_reference
-        ⟦<UriRefBuf<C> as PartialEq>⟧.eq
-        ⟦<UriRefBuf<C> as Ord>⟧.cmp
-        ⟦<UriRefBuf<C> as Hash>⟧.hash_input }
-    ensures uris { ComparesBy key_of_reference_buf key_cmp fed_reference
-        ⟦<UriBuf<C> as PartialEq>⟧.eq
-        ⟦<UriBuf<C> as Ord>⟧.cmp
-        ⟦<UriBuf<C> as Hash>⟧.hash_input }
+/// Owners under any rule are equal, in order and hashed by the key of the reference, as their
+/// views.
+pub fn owners_compare_by_key<R: HeldRule, C: CharSet>()
+    ensures { ComparesBy key_of_reference_buf key_cmp fed_reference
+        ⟦<ReferenceBuf<R, C> as PartialEq>⟧.eq
+        ⟦<ReferenceBuf<R, C> as Ord>⟧.cmp
+        ⟦<ReferenceBuf<R, C> as Hash>⟧.hash_input }
 {}
 
 /// The components of references and of URIs are equal, in order and hashed by the key of the

@@ -7,7 +7,8 @@ ghost use Rattle.iref_grammar.specs.Rules.{InUtf8};
 ghost use Rattle.iref_component.specs.Makers.{Parses};
 ghost use Rattle.iref_reference.specs.Conversions.{BecomesUri, OwnerBecomesUri, SomeIfIn};
 ghost use Rattle.iref_reference.specs.References.{reference_text, reference_value};
-ghost use Rattle.iref_reference.specs.References.{reference_buf_text, BecomesFull, OwnerBecomesFull};
+ghost use Rattle.iref_reference.specs.References.{reference_buf_text, BecomesFull};
+ghost use Rattle.iref_reference.specs.References.{OwnerBecomesFull};
 
 use crate::owner::{ReferenceBuf, UriBuf, UriRefBuf};
 use crate::view::{Reference, Uri, UriRef};
@@ -100,7 +101,7 @@ impl<'a, R: HeldRule> TryFrom<Reference<'a, R, IriChars>> for Uri<'a, UriChars> 
 impl<'a, R: HeldRule> TryFrom<Reference<'a, R, IriChars>> for UriRef<'a, UriChars> {
     type Error = InvalidUriRef<Reference<'a, R, IriChars>>;
 
-    ghost try_from_gives = { λ iri result. BecomesUri IsUriReference (λ error. error.0) iri result };
+    ghost try_from_gives = { λ iri result. BecomesUri IsUriReference (λ e. e.0) iri result };
 
     fn try_from(iri: Reference<'a, R, IriChars>) -> Result<Self, Self::Error> {
         iri.as_uri_ref().ok_or(InvalidUriRef(iri))

@@ -90,7 +90,6 @@ impl<R: HeldRule, C: CharSet> ReferenceBuf<R, C> {
             (reference_buf_text self.old) (places_of (reference_buf_text self.old)).authority) }
         ensures reference { is_reference C.tests (reference_buf_text self.old) ≡ true }
     {
-        let _text = self.as_str();
         let Some(place) = self.held.places().authority else {
             return None;
         };
@@ -107,7 +106,6 @@ impl<R: HeldRule, C: CharSet> ReferenceBuf<R, C> {
             (places_of (reference_buf_text self.old)).path.end }
         ensures reference { is_reference C.tests (reference_buf_text self.old) ≡ true }
     {
-        let _text = self.as_str();
         let context = self.held.context();
         let path = self.held.places().path;
         PathMut::of_target(self, context, path)

@@ -3,7 +3,7 @@
 ghost use Rattle.iref_grammar.specs.Characters.{uri_chars};
 ghost use Rattle.iref_grammar.specs.Grammar.{IsUri, IsUriReference};
 ghost use Rattle.iref_grammar.specs.Rules.{InUtf8};
-ghost use Rattle.iref_reference.specs.Mappings.{IsMapped, KeepsEquality};
+ghost use Rattle.iref_reference.specs.Mappings.{IsMappingOf, KeepsEquality};
 ghost use Rattle.iref_reference.specs.References.{key_of_reference, key_of_reference_buf};
 ghost use Rattle.iref_reference.specs.References.{reference_buf_text, reference_text};
 ghost use Rattle.std.specs.Char.{is_ascii};
@@ -11,50 +11,38 @@ ghost use Rattle.std.specs.List.{list_all};
 ghost use Rattle.std.specs.Prelude.{◌≡◌, IfErr, IfOk, IsOk, true};
 
 use crate::owner::{ReferenceBuf, UriBuf, UriRefBuf};
-use crate::rule::{FullReferenceRule, ReferenceRule};
 use crate::view::{Reference, Uri, UriRef};
 use iref_buffer::held::{Held, HeldRule};
 use iref_error::Memory;
 use iref_grammar::chars::{IriChars, UriChars};
 use std::alloc::Global;
 
-impl<'a, R: HeldRule> Reference<'a, R, IriChars> {
+impl<R: HeldRule> Reference<'_, R, IriChars> {
     // The mapping, in the same rule over the characters of URIs.
-    #[tactic(auto, using(crate::proofs::MappingLemmas::mappings))]
     fn mapped(&self, alloc: Global) -> Result<ReferenceBuf<R, UriChars>, Memory>
-        ensures ok { IfOk result (λ uri. IsMapped (reference_text self.now)
-            (reference_buf_text uri)) }
-        ensures key { IfOk result (λ uri. key_of_reference_buf uri ≡ key_of_reference self.now) }
-        ensures same { InUtf8 (IsUriReference uri_chars) (reference_text self.now)
-            → IfOk result (λ uri. reference_buf_text uri ≡ reference_text self.now) }
+        ensures { IfOk result (IsMappingOf (InUtf8 (R.rule uri_chars)) (reference_text self.now)
+            (key_of_reference self.now)) }
     {
         let held = Held::mapped::<IriChars>(alloc, self.as_str())?;
         Ok(ReferenceBuf::from_held(held))
     }
 }
 
-impl<'a> Reference<'a, ReferenceRule, IriChars> {
+impl UriRef<'_, IriChars> {
     /// The reference of URIs that it maps to: of `//é?%41`, `//%C3%A9?%41`. It equals this one.
     pub fn to_uri_ref(&self, alloc: Global) -> Result<UriRefBuf<UriChars>, Memory>
-        ensures ok { IfOk result (λ uri. IsMapped (reference_text self.now)
-            (reference_buf_text uri)) }
-        ensures key { IfOk result (λ uri. key_of_reference_buf uri ≡ key_of_reference self.now) }
-        ensures same { InUtf8 (IsUriReference uri_chars) (reference_text self.now)
-            → IfOk result (λ uri. reference_buf_text uri ≡ reference_text self.now) }
+        ensures { IfOk result (IsMappingOf (InUtf8 (IsUriReference uri_chars))
+            (reference_text self.now) (key_of_reference self.now)) }
     {
         self.mapped(alloc)
     }
 }
 
-impl<'a> Reference<'a, FullReferenceRule, IriChars> {
+impl Uri<'_, IriChars> {
     /// The URI that it maps to: of `http://é`, `http://%C3%A9`. It equals this one.
-    #[tactic(auto, using(crate::proofs::MappingLemmas::uri_is_uri_reference))]
     pub fn to_uri(&self, alloc: Global) -> Result<UriBuf<UriChars>, Memory>
-        ensures ok { IfOk result (λ uri. IsMapped (reference_text self.now)
-            (reference_buf_text uri)) }
-        ensures key { IfOk result (λ uri. key_of_reference_buf uri ≡ key_of_reference self.now) }
-        ensures same { InUtf8 (IsUri uri_chars) (reference_text self.now)
-            → IfOk result (λ uri. reference_buf_text uri ≡ reference_text self.now) }
+        ensures { IfOk result (IsMappingOf (InUtf8 (IsUri uri_chars)) (reference_text self.now)
+            (key_of_reference self.now)) }
     {
         self.mapped(alloc)
     }
@@ -62,13 +50,9 @@ impl<'a> Reference<'a, FullReferenceRule, IriChars> {
 
 impl<R: HeldRule> ReferenceBuf<R, IriChars> {
     // The mapping within the buffer, in the same rule over the characters of URIs.
-    #[tactic(auto, using(crate::proofs::MappingLemmas::mappings))]
     fn into_mapped(self) -> Result<ReferenceBuf<R, UriChars>, (Self, Memory)>
-        ensures ok { IfOk result (λ uri. IsMapped (reference_buf_text self)
-            (reference_buf_text uri)) }
-        ensures key { IfOk result (λ uri. key_of_reference_buf uri ≡ key_of_reference_buf self) }
-        ensures same { InUtf8 (IsUriReference uri_chars) (reference_buf_text self)
-            → IfOk result (λ uri. reference_buf_text uri ≡ reference_buf_text self) }
+        ensures ok { IfOk result (IsMappingOf (InUtf8 (R.rule uri_chars)) (reference_buf_text self)
+            (key_of_reference_buf self)) }
         ensures ascii { list_all is_ascii (reference_buf_text self) ≡ true → IsOk result }
         ensures err { IfErr result (λ error. error.0 ≡ self) }
     {
@@ -79,15 +63,12 @@ impl<R: HeldRule> ReferenceBuf<R, IriChars> {
     }
 }
 
-impl ReferenceBuf<ReferenceRule, IriChars> {
+impl UriRefBuf<IriChars> {
     /// The reference of URIs that it maps to, as `to_uri_ref` says, within its buffer. A text of
     /// ASCII takes no memory. Where memory is wanted, the reference comes back as it was.
     pub fn into_uri_ref(self) -> Result<UriRefBuf<UriChars>, (Self, Memory)>
-        ensures ok { IfOk result (λ uri. IsMapped (reference_buf_text self)
-            (reference_buf_text uri)) }
-        ensures key { IfOk result (λ uri. key_of_reference_buf uri ≡ key_of_reference_buf self) }
-        ensures same { InUtf8 (IsUriReference uri_chars) (reference_buf_text self)
-            → IfOk result (λ uri. reference_buf_text uri ≡ reference_buf_text self) }
+        ensures ok { IfOk result (IsMappingOf (InUtf8 (IsUriReference uri_chars))
+            (reference_buf_text self) (key_of_reference_buf self)) }
         ensures ascii { list_all is_ascii (reference_buf_text self) ≡ true → IsOk result }
         ensures err { IfErr result (λ error. error.0 ≡ self) }
     {
@@ -95,16 +76,12 @@ impl ReferenceBuf<ReferenceRule, IriChars> {
     }
 }
 
-impl ReferenceBuf<FullReferenceRule, IriChars> {
+impl UriBuf<IriChars> {
     /// The URI that it maps to, as `to_uri` says, within its buffer. A text of ASCII takes no
     /// memory. Where memory is wanted, the IRI comes back as it was.
-    #[tactic(auto, using(crate::proofs::MappingLemmas::uri_is_uri_reference))]
     pub fn into_uri(self) -> Result<UriBuf<UriChars>, (Self, Memory)>
-        ensures ok { IfOk result (λ uri. IsMapped (reference_buf_text self)
-            (reference_buf_text uri)) }
-        ensures key { IfOk result (λ uri. key_of_reference_buf uri ≡ key_of_reference_buf self) }
-        ensures same { InUtf8 (IsUri uri_chars) (reference_buf_text self)
-            → IfOk result (λ uri. reference_buf_text uri ≡ reference_buf_text self) }
+        ensures ok { IfOk result (IsMappingOf (InUtf8 (IsUri uri_chars)) (reference_buf_text self)
+            (key_of_reference_buf self)) }
         ensures ascii { list_all is_ascii (reference_buf_text self) ≡ true → IsOk result }
         ensures err { IfErr result (λ error. error.0 ≡ self) }
     {
@@ -112,8 +89,8 @@ impl ReferenceBuf<FullReferenceRule, IriChars> {
     }
 }
 
-/// Two IRIs are equal exactly if their mappings are, by the `==` of each: of a mapping it asks what
-/// the clause `key` of each call above says.
+/// Two IRIs are equal exactly if their mappings are, by the `==` of each: of a mapping it asks for
+/// the key that each call above says it has.
 pub fn mappings_are_equal_as_their_iris()
     ensures references { KeepsEquality key_of_reference key_of_reference_buf
         ⟦<UriRef<'static, IriChars> as PartialEq>⟧.eq

@@ -1,7 +1,8 @@
 //! References that own their text (RFC 3986 sections 3 and 4.1).
 ghost use Rattle.std.specs.Prelude.{◌≡◌, ◌++◌, true, [], ◌∷◌, Some, None, IfOk, option_map};
 ghost use Rattle.std.specs.String.{string_bytes};
-ghost use Rattle.iref_component.specs.{colon, hash_sign, spell_authority, before, spell_path, places_of};
+ghost use Rattle.iref_component.specs.{colon, hash_sign, spell_authority, before, spell_path};
+ghost use Rattle.iref_component.specs.{places_of};
 ghost use Rattle.iref_component.specs.{spell_components, hierarchy, spell, InUtf8, with_query};
 ghost use Rattle.iref_component.specs.{with_fragment, user_info_of, host_of, port_of, base_of};
 ghost use Rattle.iref_component.specs.{Parses, view_text, owned_text};
@@ -28,16 +29,18 @@ use std::alloc::Global;
 use std::convert::TryFrom;
 use std::fmt;
 
-/// A reference of a rule that owns its text, and knows where its components are.
+/// A reference of a rule that owns its text, and knows where its components are, in bytes: of
+/// `s:/a?q` the query is at 5 to 6. `new` of what is outside the rule is an error that holds it
+/// (RFC 3986 sections 3 and 4.1).
 #[derive(Drop)]
 pub struct ReferenceBuf<R: HeldRule, C: CharSet> {
     pub(crate) held: Held<R, C>,
 }
 
-/// A reference that owns its text (RFC 3986 section 4.1).
+/// A reference that owns its text, as `../b?c` (RFC 3986 section 4.1).
 pub type UriRefBuf<C> = ReferenceBuf<ReferenceRule, C>;
 
-/// A URI that owns its text (RFC 3986 section 3).
+/// A URI that owns its text, as `http://example.org/a` (RFC 3986 section 3).
 pub type UriBuf<C> = ReferenceBuf<FullReferenceRule, C>;
 
 impl<R: HeldRule + Refuses<String>, C: CharSet> ReferenceBuf<R, C> {

@@ -30,7 +30,8 @@ use std::cmp::Ordering;
 use std::hash::{Hash, Hasher};
 use std::str;
 
-/// What stands for the scheme among the components: a scheme, or one that may be absent.
+/// What stands for the scheme among the components: of a URI a scheme, as `s` of `s:a`, of a
+/// reference one that may be absent (RFC 3986 section 3.1).
 pub trait SchemePart<'a>: Copy + Ord {
     /// The text of the scheme, if it is there.
     ghost text: { Self → Option Text };
@@ -90,7 +91,8 @@ impl<'a> SchemePart<'a> for Option<Scheme<'a>> {
     }
 }
 
-/// The components of a reference, which compare as it does: each by itself.
+/// The components of a reference, which compare as it does: each by itself. Of `//h/a?q` they are
+/// no scheme, the authority `h`, the path `/a`, the query `q` and no fragment (RFC 3986 section 3).
 #[derive_where(Clone, Copy, Debug, PartialEq, Eq, PartialOrd, Ord; S)]
 pub struct Parts<'a, S, C: CharSet> {
     /// What stands before the first `:`, if it is a scheme's.

@@ -2,7 +2,8 @@
 //! 5.2).
 ghost use Rattle.iref_buffer.specs.Relatives.{agree};
 ghost use Rattle.iref_grammar.specs.ComponentTexts.{AreComponents};
-ghost use Rattle.iref_grammar.specs.Reference.{is_readable, read_reference, spell};
+ghost use Rattle.iref_buffer.specs.Steps.{Spells};
+ghost use Rattle.iref_grammar.specs.Reference.{is_readable};
 ghost use Rattle.iref_model.specs.Relative.{relative_to, schemes_agree};
 ghost use Rattle.iref_parse.specs.ReferenceSlices.{texts_of, value_of};
 ghost use Rattle.iref_reference.specs.Parts.{uri_ref_parts_value};
@@ -53,10 +54,7 @@ pub fn held_relative<C: CharSet, A: Allocator>(
     requires target { AreComponents C.tests (texts_of target) }
     requires base { AreComponents C.tests (texts_of base) }
     requires readable { is_readable C.tests (value_of target) ≡ true }
-    ensures text { IfOk result (λ held.
-        held ≡ spell (relative_to (value_of target.entry) (value_of base.entry))) }
-    ensures value { IfOk result (λ held.
-        read_reference held ≡ relative_to (value_of target.entry) (value_of base.entry)) }
+    ensures { IfOk result (Spells (relative_to (value_of target.entry) (value_of base.entry))) }
 {
     let agrees = agree::<C>(
         &UriRefParts::from_slices(target),
@@ -66,8 +64,8 @@ pub fn held_relative<C: CharSet, A: Allocator>(
 }
 
 impl<R: HeldRule, C: CharSet> Reference<'_, R, C> {
-    /// As `relative_to`, with room of any allocator.
-    pub fn held_relative_to<A: Allocator>(
+    // As `relative_to`, with room of any allocator.
+    fn held_relative_to<A: Allocator>(
         &self,
         alloc: A,
         base: UriRef<'_, C>,

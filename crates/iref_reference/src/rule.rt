@@ -7,7 +7,8 @@ ghost use Rattle.iref_component.specs.{is_full_reference, Text, CharTests};
 ghost use Rattle.iref_model.proofs.KeyOrderLemmas.{keys_tell, keys_total};
 ghost use Rattle.iref_grammar.proofs.EmptyLemmas.{is_reference_empty};
 ghost use Rattle.iref_grammar.proofs.ReferenceRuleLemmas.{Decides-is_uri_reference, Decides-is_uri};
-ghost use Rattle.iref_grammar.proofs.ComponentLemmas.{reference_if_full, scheme_if_full, full_if_scheme};
+ghost use Rattle.iref_grammar.proofs.ComponentLemmas.{reference_if_full, scheme_if_full};
+ghost use Rattle.iref_grammar.proofs.ComponentLemmas.{full_if_scheme};
 ghost use Rattle.iref_buffer.proofs.BaseLemmas.{base_of-in_rule, base_of-in_full_rule};
 
 use crate::parts::{SchemePart, UriRefParts};
@@ -21,7 +22,8 @@ use iref_parse::split::{self, ReferenceSlices, parse_reference};
 use std::cmp::Ordering;
 use std::hash::{Hash, Hasher};
 
-/// A rule of references, with what stands for the scheme among their components.
+/// A rule of references, with what stands for the scheme among their components: of URIs a scheme,
+/// of references one that may be absent (RFC 3986 section 3.1).
 pub trait HasScheme<'a>: HeldRule {
     /// What stands for the scheme.
     type Scheme: SchemePart<'a>;
@@ -31,7 +33,7 @@ pub trait HasScheme<'a>: HeldRule {
         → Self.Scheme.allows (read_reference text).scheme };
 }
 
-/// The rule of references (RFC 3986 section 4.1).
+/// The rule of references: `../b` and `s:a` are in it (RFC 3986 section 4.1).
 pub struct ReferenceRule;
 
 impl Rule for ReferenceRule {
@@ -88,7 +90,7 @@ impl<'a> HasScheme<'a> for ReferenceRule {
     ghost allowed = { λ _ _ _. record {} };
 }
 
-/// The rule of references with a scheme (RFC 3986 section 3).
+/// The rule of references with a scheme: `s:a` is in it, `../b` is not (RFC 3986 section 3).
 pub struct FullReferenceRule;
 
 impl Rule for FullReferenceRule {
@@ -145,7 +147,8 @@ impl<'a> HasScheme<'a> for FullReferenceRule {
     ghost allowed = { scheme_if_full };
 }
 
-/// The components, each as it is compared by itself.
+/// The components, each as it is compared by itself: `HTTP://%61` and `http://a` have one key
+/// (RFC 3986 section 6.2.2).
 pub struct ReferenceKey;
 
 impl Key for ReferenceKey {

@@ -1,13 +1,12 @@
 //! Owners edited in place, a component at a time (RFC 3986 sections 3 and 4.2).
-ghost use Rattle.std.specs.Prelude.{◌≡◌, Some, OnErr, OnOk, IsNone, IsOk, option_map};
+ghost use Rattle.std.specs.Prelude.{Some, OnOk, IsNone, IsOk, option_map};
 ghost use Rattle.iref_component.specs.{read_authority, with_authority, with_fragment, with_path};
 ghost use Rattle.iref_component.specs.{with_query, with_scheme, view_text};
 ghost use Rattle.iref_authority.specs.{authority_text};
 ghost use Rattle.iref_path.specs.{path_value};
 ghost use Rattle.iref_model.specs.ComponentSteps.{with_new_normal_path};
 ghost use Rattle.iref_buffer.specs.PathPlaces.{RemovesDots};
-ghost use Rattle.iref_reference.specs.References.{reference_buf_text, reference_buf_value};
-ghost use Rattle.iref_reference.specs.References.{IsStep};
+ghost use Rattle.iref_reference.specs.References.{Edits, reference_buf_value};
 
 pub mod copies;
 mod tried;
@@ -25,10 +24,8 @@ impl<R: HeldRule, C: CharSet> ReferenceBuf<R, C> {
     /// Replaces the authority, or takes it away, which takes no memory. Where one comes in, the
     /// path becomes absolute; where it goes, a path that begins with `//` is guarded.
     pub fn set_authority(&mut self, authority: Option<Authority<'_, C>>) -> Result<(), Memory>
-        ensures ok { OnOk result (IsStep (with_authority
-            (option_map read_authority (option_map authority_text authority.entry)))
-            (reference_buf_text self.old) (reference_buf_text self.new)) }
-        ensures err { OnErr result (reference_buf_text self.new ≡ reference_buf_text self.old) }
+        ensures set { Edits (with_authority (option_map read_authority
+            (option_map authority_text authority.entry))) self.old self.new result }
         ensures none { IsNone authority.entry → IsOk result }
     {
         self.held.set_authority(text_of_authority(authority))
@@ -36,9 +33,7 @@ impl<R: HeldRule, C: CharSet> ReferenceBuf<R, C> {
 
     /// Replaces the path, with a guard where it would be read as something else.
     pub fn set_path(&mut self, path: Path<'_, C>) -> Result<(), Memory>
-        ensures ok { OnOk result (IsStep (with_path (path_value path.entry))
-            (reference_buf_text self.old) (reference_buf_text self.new)) }
-        ensures err { OnErr result (reference_buf_text self.new ≡ reference_buf_text self.old) }
+        ensures { Edits (with_path (path_value path.entry)) self.old self.new result }
     {
         self.held.set_path(path.as_str())
     }
@@ -46,21 +41,19 @@ impl<R: HeldRule, C: CharSet> ReferenceBuf<R, C> {
     /// Replaces the path by its normal form, with a guard where that would be read as something
     /// else. After an authority `/a/../b/.` becomes `/b/` (RFC 3986 section 5.2.4).
     pub fn set_and_normalize_path(&mut self, path: Path<'_, C>) -> Result<(), Memory>
-        ensures ok { OnOk result (IsStep (with_new_normal_path (path_value path.entry))
-            (reference_buf_text self.old) (reference_buf_text self.new)) }
+        ensures set { Edits (with_new_normal_path (path_value path.entry)) self.old self.new
+            result }
         ensures rewritten { OnOk result (RemovesDots
             (with_path (path_value path.entry) (reference_buf_value self.old))
             (reference_buf_value self.new)) }
-        ensures err { OnErr result (reference_buf_text self.new ≡ reference_buf_text self.old) }
     {
         self.held.set_and_normalize_path(path.as_str())
     }
 
     /// Replaces the query, or takes it away, which takes no memory.
     pub fn set_query(&mut self, query: Option<Query<'_, C>>) -> Result<(), Memory>
-        ensures ok { OnOk result (IsStep (with_query (option_map view_text query.entry))
-            (reference_buf_text self.old) (reference_buf_text self.new)) }
-        ensures err { OnErr result (reference_buf_text self.new ≡ reference_buf_text self.old) }
+        ensures set { Edits (with_query (option_map view_text query.entry)) self.old self.new
+            result }
         ensures none { IsNone query.entry → IsOk result }
     {
         self.held.set_query(text_of(query))
@@ -68,9 +61,8 @@ impl<R: HeldRule, C: CharSet> ReferenceBuf<R, C> {
 
     /// Replaces the fragment, or takes it away, which takes no memory.
     pub fn set_fragment(&mut self, fragment: Option<Fragment<'_, C>>) -> Result<(), Memory>
-        ensures ok { OnOk result (IsStep (with_fragment (option_map view_text fragment.entry))
-            (reference_buf_text self.old) (reference_buf_text self.new)) }
-        ensures err { OnErr result (reference_buf_text self.new ≡ reference_buf_text self.old) }
+        ensures set { Edits (with_fragment (option_map view_text fragment.entry)) self.old self.new
+            result }
         ensures none { IsNone fragment.entry → IsOk result }
     {
         self.held.set_fragment(text_of(fragment))
@@ -81,9 +73,8 @@ impl<C: CharSet> UriRefBuf<C> {
     /// Replaces the scheme, or takes it away, which takes no memory. Where it goes, a path whose
     /// first segment holds a `:` is guarded.
     pub fn set_scheme(&mut self, scheme: Option<Scheme<'_>>) -> Result<(), Memory>
-        ensures ok { OnOk result (IsStep (with_scheme (option_map view_text scheme.entry))
-            (reference_buf_text self.old) (reference_buf_text self.new)) }
-        ensures err { OnErr result (reference_buf_text self.new ≡ reference_buf_text self.old) }
+        ensures set { Edits (with_scheme (option_map view_text scheme.entry)) self.old self.new
+            result }
         ensures none { IsNone scheme.entry → IsOk result }
     {
         self.held.set_scheme(text_of(scheme))
@@ -93,9 +84,7 @@ impl<C: CharSet> UriRefBuf<C> {
 impl<C: CharSet> UriBuf<C> {
     /// Replaces the scheme.
     pub fn set_scheme(&mut self, scheme: Scheme<'_>) -> Result<(), Memory>
-        ensures ok { OnOk result (IsStep (with_scheme (Some (view_text scheme.entry)))
-            (reference_buf_text self.old) (reference_buf_text self.new)) }
-        ensures err { OnErr result (reference_buf_text self.new ≡ reference_buf_text self.old) }
+        ensures { Edits (with_scheme (Some (view_text scheme.entry))) self.old self.new result }
     {
         self.held.set_scheme(Some(scheme.as_str()))
     }

@@ -15,7 +15,8 @@ use iref_grammar::chars::CharSet;
 use iref_path::path_buf::PathBuf;
 use std::alloc::Global;
 
-/// What is left of a reference after a prefix: of its path, and its query and fragment.
+/// What is left of a reference after a prefix, of its path, and its query and fragment: of `/a/b?q`
+/// after `/a` the path `b` and the query `q` (RFC 3986 section 6.2.2).
 pub type Suffix<'a, C> = (PathBuf<C>, Option<Query<'a, C>>, Option<Fragment<'a, C>>);
 
 // Whether the schemes are equal, and the authorities.

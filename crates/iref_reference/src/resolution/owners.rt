@@ -4,7 +4,8 @@ ghost use Rattle.iref_grammar.specs.Grammar.{IsUri, IsUriReference};
 ghost use Rattle.iref_grammar.specs.Rules.{InUtf8};
 ghost use Rattle.iref_error.specs.Tried.{TellsInvalid};
 ghost use Rattle.iref_reference.specs.HandedBack.{TellsInvalidBeside};
-ghost use Rattle.iref_reference.specs.References.{reference_buf_text, reference_buf_value, reference_text};
+ghost use Rattle.iref_reference.specs.References.{reference_buf_text, reference_buf_value};
+ghost use Rattle.iref_reference.specs.References.{reference_text};
 ghost use Rattle.iref_reference.specs.Resolutions.{IsResolved};
 ghost use Rattle.std.specs.Prelude.{◌≡◌, IfErr, IfOk, IsSome, OnErr, OnOk};
 

@@ -7,7 +7,8 @@ ghost use Rattle.iref_component.specs.{with_query, with_scheme, view_text};
 ghost use Rattle.iref_authority.specs.{authority_text};
 ghost use Rattle.iref_path.specs.{path_value};
 ghost use Rattle.iref_reference.specs.HandedBack.{TellsInvalidBeside};
-ghost use Rattle.iref_reference.specs.References.{reference_buf_text, reference_text, IsStep, StepsFrom};
+ghost use Rattle.iref_buffer.specs.Steps.{IsStep};
+ghost use Rattle.iref_reference.specs.References.{reference_buf_text, reference_text, StepsFrom};
 
 use crate::owner::{ReferenceBuf, UriBuf, UriRefBuf};
 use crate::view::{Reference, UriRef};
@@ -21,7 +22,8 @@ use iref_grammar::chars::CharSet;
 use iref_path::path::Path;
 use std::alloc::Global;
 
-/// A copy of a reference, or want of memory.
+/// A copy of a reference, as of `a?q` with the query `x`, `a?x`, or want of memory (RFC 3986
+/// section 4.1).
 pub type Copied<R, C> = Result<ReferenceBuf<R, C>, Memory>;
 
 impl<R: HeldRule, C: CharSet> Reference<'_, R, C> {

@@ -54,7 +54,8 @@ impl<R: HeldRule, C: CharSet> ReferenceBuf<R, C> {
         &mut self,
         fragment: Option<&'t str>,
     ) -> Tried<InvalidFragment<&'t str>>
-        ensures set { Edits (with_fragment (option_copied fragment.entry)) self.old self.new result }
+        ensures set { Edits (with_fragment (option_copied fragment.entry)) self.old self.new
+            result }
         ensures text { TestsIfSome (IsFragment C.tests) fragment.entry (λ error. error.0) result }
     {
         test::<FragmentRule, C>(fragment)?;

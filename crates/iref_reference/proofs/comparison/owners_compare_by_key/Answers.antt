@@ -3,8 +3,5 @@ use Rattle.iref_model.proofs.TieLemmas.{references_tie}
 use Rattle.iref_reference.specs.References.{key_of_reference_buf}
 use Rattle.iref_reference.proofs.comparison.owners_compare_by_key.Goals as goal
 
-pub returns-clause-references : goal.returns-clause-references
-returns-clause-references g c = (λ a b. references_tie (key_of_reference_buf a) (key_of_reference_buf b), λ a b. refl, λ v. refl)
-
-pub returns-clause-uris : goal.returns-clause-uris
-returns-clause-uris g c = (λ a b. references_tie (key_of_reference_buf a) (key_of_reference_buf b), λ a b. refl, λ v. refl)
+pub returns : goal.returns
+returns g c = (λ a b. references_tie (key_of_reference_buf a) (key_of_reference_buf b), λ a b. refl, λ v. refl)

@@ -25,6 +25,6 @@ resolved-requires-clause-allowed g c =
 pub returns-clause-scheme : goal.returns-clause-scheme
 returns-clause-scheme g c =
     ap (λ (text : Text). is_some (read_reference text).scheme) c.from_held.ensures
-    ∙ ap (λ (r : ReferenceValue). is_some r.scheme) c.in_ok-held.ensures.value
+    ∙ ap (λ (r : ReferenceValue). is_some r.scheme) c.in_ok-held.ensures.1
     ∙ resolved-scheme g.C.CharSet.tests c.as_str.result.now (value_of c.split_reference-base.result) (value_of c.slices.result)
     c.split_reference-base.ensures.value c.as_str.ensures.in_rule
