@@ -129,3 +129,5 @@ module _ {A : Type 0} (table : PrefixTable) (old new : Index A) (h : IsIndexed t
     texts = λ other. subst (IsNumber (has_text other) table) (sym (texts other)) (h.texts other);
     lengths = lengths_stay old.lengths new.lengths table lengths h.lengths;
   }
+
+pub ruleset numbers = (no_number, number_at)

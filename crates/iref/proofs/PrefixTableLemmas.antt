@@ -96,3 +96,13 @@ no_iri text h = by (is_full_reference iri_chars text) (Decides-is_uri iri_chars 
     by : (b : Bool) → (b ≡ true → InUtf8 (IsUri iri_chars) text) → (if b then Ok text else Err NotAnIri) ≡ Err NotAnIri
     by true m = absurd (h (m refl))
     by false m = refl
+
+-- ---- what each call takes
+
+pub ruleset inserts = (no_label, taken, fresh, stays_table)
+
+pub ruleset compacts = (longest_begins, compacted_by, expands)
+
+pub ruleset expanding = (no_colon, unknown_label, known_label, has_colon, has_known_label)
+
+pub ruleset iris = (iri_text, no_iri)

@@ -1,5 +1,5 @@
 -- What a list of edits leaves, and where it stops.
-use Rattle.std.specs.Prelude.{◌≡◌, ℕ, Bool, true, false, List, take, slice_get, Option, None, is_some, Result, Ok, Err, IsSomeAnd, if◌then◌else◌}
+use Rattle.std.specs.Prelude.{◌≡◌, ℕ, Bool, true, false, List, take, slice_get, Option, None, is_some, Result, MatchResult, Ok, Err, IsSomeAnd, if◌then◌else◌}
 use Rattle.iref_grammar.specs.Rules.{Text}
 use Rattle.iref_grammar.specs.Reference.{ReferenceValue, read_reference}
 use Rattle.iref_model.specs.Edits as model
@@ -44,6 +44,10 @@ StopsAt edited edits old new i NoAuthority = edited_from edited 0 edits old ≡ 
 StopsAt edited edits old new i SchemeNeeded = edited_from edited 0 edits old ≡ Err (i, model.SchemeNeeded, new)
 StopsAt edited edits old new i Memory =
     AreDone edited (take i edits) old new × IsSomeAnd (slice_get edits i) (λ edit. may_take_memory edit ≡ true)
+
+-- all edits are done, or those before the one that stops
+abbrev pub AppliesEdits : Edited → List EditStep → ReferenceValue → ReferenceValue → Result (Unit {0}) (ℕ × EditError) → Type 0
+AppliesEdits edited edits old new result = MatchResult result (λ _. AreDone edited edits old new) (λ stop. StopsAt edited edits old new stop.0 stop.1)
 
 -- an edit of the path alone
 abbrev pub is_path_edit : EditStep → Bool

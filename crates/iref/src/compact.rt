@@ -1,7 +1,7 @@
 //! Prefix tables: labels that stand for the beginnings of IRIs, as in `ex:a` for
 //! `http://example.org/a`.
-ghost use Rattle.std.specs.Prelude.{◌≡◌, ◌≤◌, [], length, take, Ok, IfOk, IfErr, IfSome, OnOk, OnErr};
-ghost use Rattle.std.specs.Prelude.{option_map};
+ghost use Rattle.std.specs.Prelude.{◌≡◌, ◌≤◌, [], length, take, option_map};
+ghost use Rattle.std.specs.Prelude.{Ok, IfOk, IfErr, IfSome, OnOk, OnErr};
 ghost use Rattle.std.specs.String.{string_bytes};
 ghost use Rattle.std.specs.List.{find};
 ghost use Rattle.std.specs.Option.{option_copied};
@@ -25,7 +25,7 @@ use std::marker::Model;
 use text::{after_front, iri_of, is_label, joined};
 use thiserror::Error;
 
-/// Why an entry cannot be inserted.
+/// Why an entry cannot be inserted, as one under the label `1x`.
 #[derive(Clone, Copy, Debug, PartialEq, Eq, Error)]
 pub enum PrefixError {
     /// The label is not an ASCII letter followed by ASCII letters, digits, `-` and `_`.
@@ -39,7 +39,7 @@ pub enum PrefixError {
     Memory,
 }
 
-/// Why a text cannot be expanded.
+/// Why a text cannot be expanded, as one without a `:`.
 #[derive(Clone, Copy, Debug, PartialEq, Eq, Error)]
 pub enum ExpandError {
     /// The text holds no `:`.
@@ -76,7 +76,8 @@ impl From<Memory> for ExpandError {
     }
 }
 
-/// An IRI that a table has made short: a label, and what follows the label's IRI.
+/// An IRI that a table has made short, `ex:a` for `http://example.org/a`: a label, and what follows
+/// the label's IRI.
 #[derive(Clone, Copy, Debug, PartialEq, Eq)]
 pub struct Compact<'a> {
     /// The label of an entry.
@@ -94,7 +95,9 @@ impl Compact<'_> {
     }
 }
 
-/// Labels, each with the IRI that it stands for, in the order in which they were inserted.
+/// Labels, each with the IRI that it stands for, in the order in which they were inserted: with `ex`
+/// for `http://example.org/`, `compact` of `http://example.org/a` answers `ex` and `a`, and `expand`
+/// of `ex:a` that IRI (RFC 3987 section 2.2).
 #[derive(Drop)]
 pub struct Prefixes<A: Allocator = Global> {
     entries: Vec<Entry<A>, A>,
@@ -130,7 +133,7 @@ impl<A: Allocator + Copy> Prefixes<A> {
     }
 
     // The entry of a label.
-    #[tactic(auto, using(crate::proofs::PrefixIndexLemmas::no_number, crate::proofs::PrefixIndexLemmas::number_at))]
+    #[tactic(auto, using(crate::proofs::PrefixIndexLemmas::numbers))]
     fn find(&self, label: &str) -> Option<&Entry<A>>
         ensures { option_copied result ≡ find (has_label label.now) self.now }
     {
@@ -184,7 +187,7 @@ impl<A: Allocator + Copy> Prefixes<A> {
     /// # Errors
     ///
     /// `BadLabel`, then `Taken`, then `Memory`.
-    #[tactic(auto, using(crate::proofs::PrefixTableLemmas::no_label, crate::proofs::PrefixTableLemmas::taken, crate::proofs::PrefixTableLemmas::fresh, crate::proofs::PrefixTableLemmas::stays_table))]
+    #[tactic(auto, using(crate::proofs::PrefixTableLemmas::inserts))]
     pub fn insert(&mut self, label: &str, iri: Iri<'_>) -> Result<(), PrefixError>
         ensures ok { OnOk result (inserted label.now (reference_text iri.entry) self.old
             ≡ Ok self.new) }
@@ -205,7 +208,7 @@ impl<A: Allocator + Copy> Prefixes<A> {
     /// beginning of this one's, and the rest. Where several are as long, the first inserted one
     /// serves. None where no entry's IRI is a beginning. It takes no memory, and looks once for
     /// each length, up to this IRI's, that an IRI of the table has.
-    #[tactic(auto, using(crate::proofs::PrefixTableLemmas::longest_begins, crate::proofs::PrefixTableLemmas::compacted_by, crate::proofs::PrefixTableLemmas::expands))]
+    #[tactic(auto, using(crate::proofs::PrefixTableLemmas::compacts))]
     pub fn compact<'a>(&'a self, iri: Iri<'a>) -> Option<Compact<'a>>
         ensures compacted { option_map compact_value result
             ≡ compacted (reference_text iri.entry) self.now }
@@ -225,7 +228,7 @@ impl<A: Allocator + Copy> Prefixes<A> {
     /// # Errors
     ///
     /// `NoColon`, then `UnknownLabel`, then `Memory`, then `NotAnIri`.
-    #[tactic(auto, using(crate::proofs::PrefixTableLemmas::no_colon, crate::proofs::PrefixTableLemmas::unknown_label, crate::proofs::PrefixTableLemmas::known_label, crate::proofs::PrefixTableLemmas::has_colon, crate::proofs::PrefixTableLemmas::has_known_label))]
+    #[tactic(auto, using(crate::proofs::PrefixTableLemmas::expanding))]
     pub fn expand(&self, alloc: Global, text: &str) -> Result<IriBuf, ExpandError>
         ensures ok { IfOk result (λ iri. expanded text.now self.now ≡ Ok (reference_buf_text iri)) }
         ensures err { IfErr result (RefusesExpand (expanded text.now self.now)) }

@@ -14,7 +14,8 @@ pub use lists::{apply_all, apply_all_uri};
 use std::fmt;
 use thiserror::Error;
 
-/// An edit of a reference or of a URI: what is set in it, or what is done to its path.
+/// An edit of a reference or of a URI: what is set in it, or what is done to its path. `Pop` leaves
+/// `//h/?q` of `//h/a?q` (RFC 3986 sections 3 and 5.2.4).
 #[derive_where(Clone, Copy, Debug)]
 pub enum Edit<'a, C: CharSet> {
     /// Replaces the scheme, or takes it away, which a URI refuses.
@@ -53,7 +54,7 @@ pub enum Edit<'a, C: CharSet> {
     Normalize,
 }
 
-/// Why an edit of a list cannot be done.
+/// Why an edit of a list cannot be done, as `SetHost` of `s:a` (RFC 3986 section 3.2).
 #[derive(Clone, Copy, Debug, PartialEq, Eq, Error)]
 pub enum EditError {
     /// The edit is of a part of the authority, and there is none.

@@ -2,7 +2,8 @@
 //! these.
 ghost use Rattle.std.specs.Prelude.{◌≡◌, length, not, is_some, IfOk, OnOk, OnErr};
 ghost use Rattle.std.specs.BTreeMap.{get_by_text};
-ghost use Rattle.iref.specs.PrefixIndex.{IsEmptyIndex, Gains, Stays, GainsLength, KeepsLengths, IsLengthBelow};
+ghost use Rattle.iref.specs.PrefixIndex.{IsEmptyIndex, Gains, Stays};
+ghost use Rattle.iref.specs.PrefixIndex.{GainsLength, KeepsLengths, IsLengthBelow};
 
 use iref_error::Memory;
 use std::alloc::Allocator;
@@ -61,7 +62,8 @@ impl<A: Allocator + Copy> Index<A> {
     pub(super) fn add(&mut self, alloc: A, label: &str, text: &str, at: usize) -> Result<(), Memory>
         ensures labels { OnOk result (Gains self.old.labels self.new.labels label.now at) }
         ensures texts { OnOk result (Gains self.old.texts self.new.texts text.now at) }
-        ensures lengths { OnOk result (GainsLength self.old.lengths self.new.lengths (length text.now)) }
+        ensures lengths { OnOk result
+            (GainsLength self.old.lengths self.new.lengths (length text.now)) }
         ensures labels_stay { OnErr result (Stays self.old.labels self.new.labels) }
         ensures texts_stay { OnErr result (Stays self.old.texts self.new.texts) }
         ensures lengths_stay { OnErr result (KeepsLengths self.old.lengths self.new.lengths) }

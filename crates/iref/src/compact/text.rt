@@ -1,5 +1,6 @@
 //! Texts of prefix tables: labels, and texts that are joined.
-ghost use Rattle.std.specs.Prelude.{◌≡◌, ◌++◌, IfOk, IfErr, Ok, Some, None, if◌then◌else◌, length, drop};
+ghost use Rattle.std.specs.Prelude.{◌≡◌, ◌++◌, if◌then◌else◌, length, drop};
+ghost use Rattle.std.specs.Prelude.{IfOk, IfErr, Ok, Some, None};
 ghost use Rattle.std.specs.Option.{option_copied};
 ghost use Rattle.iref_grammar.specs.Texts.{begins_with};
 ghost use Rattle.std.specs.List.{list_all};
@@ -42,7 +43,8 @@ pub(super) fn is_label(text: &str) -> bool
 #[tactic(auto, using(crate::proofs::PrefixTextLemmas::after_front))]
 pub(super) fn after_front<'a>(text: &'a str, front: &str) -> Option<&'a str>
     ensures { option_copied result
-        ≡ (if begins_with front.now text.now then Some (drop (length front.now) text.now) else None) }
+        ≡ (if begins_with front.now text.now then Some (drop (length front.now) text.now)
+        else None) }
 {
     text.strip_prefix(front)
 }
@@ -67,7 +69,7 @@ pub(super) fn joined<A: Allocator>(
 }
 
 // The IRI of a text.
-#[tactic(auto, using(crate::proofs::PrefixTableLemmas::iri_text, crate::proofs::PrefixTableLemmas::no_iri))]
+#[tactic(auto, using(crate::proofs::PrefixTableLemmas::iris))]
 pub(super) fn iri_of(text: String) -> Result<IriBuf, ExpandError>
     ensures ok { IfOk result (λ iri. if_iri (string_bytes text) ≡ Ok (reference_buf_text iri)) }
     ensures err { IfErr result (RefusesExpand (if_iri (string_bytes text))) }

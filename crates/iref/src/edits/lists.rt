@@ -1,9 +1,9 @@
 //! Edits of a list, one after the other, up to the first that cannot be done.
-ghost use Rattle.std.specs.Prelude.{◌≡◌, OnOk, IfErr, map};
+ghost use Rattle.std.specs.Prelude.{◌≡◌, map};
 ghost use Rattle.iref_grammar.specs.Reference.{spell};
 ghost use Rattle.iref_model.specs.Edits.{edited, edited_uri};
 ghost use Rattle.iref_reference.specs.References.{reference_buf_text, reference_buf_value};
-ghost use Rattle.iref.specs.EditAnswers.{AppliesEdit, AreDone, StopsAt, edited_in};
+ghost use Rattle.iref.specs.EditAnswers.{AppliesEdit, AppliesEdits, edited_in};
 ghost use Rattle.iref.specs.EditSteps.{edit_step};
 
 use crate::edits::parts::{edit_authority, edit_path};
@@ -52,11 +52,8 @@ fn apply_each<R: SetsScheme, C: CharSet>(
     reference: &mut ReferenceBuf<R, C>,
     edits: &[Edit<'_, C>],
 ) -> Result<(), (usize, EditError)>
-    ensures ok { OnOk result (AreDone (edited_in R.allows_scheme) (map edit_step edits.now)
-        (reference_buf_value reference.old) (reference_buf_value reference.new)) }
-    ensures err { IfErr result (λ stop. StopsAt (edited_in R.allows_scheme)
-        (map edit_step edits.now) (reference_buf_value reference.old)
-        (reference_buf_value reference.new) stop.0 stop.1) }
+    ensures { AppliesEdits (edited_in R.allows_scheme) (map edit_step edits.now)
+        (reference_buf_value reference.old) (reference_buf_value reference.new) result }
 {
     for (i, edit) in edits.iter().enumerate() {
         if let Err(error) = apply(reference, *edit) {
@@ -77,10 +74,8 @@ pub fn apply_all<C: CharSet>(
     reference: &mut UriRefBuf<C>,
     edits: &[Edit<'_, C>],
 ) -> Result<(), (usize, EditError)>
-    ensures ok { OnOk result (AreDone edited (map edit_step edits.now)
-        (reference_buf_value reference.old) (reference_buf_value reference.new)) }
-    ensures err { IfErr result (λ stop. StopsAt edited (map edit_step edits.now)
-        (reference_buf_value reference.old) (reference_buf_value reference.new) stop.0 stop.1) }
+    ensures list { AppliesEdits edited (map edit_step edits.now)
+        (reference_buf_value reference.old) (reference_buf_value reference.new) result }
     ensures spelled { reference_buf_text reference.new ≡ spell (reference_buf_value reference.new) }
 {
     apply_each(reference, edits)
@@ -92,10 +87,8 @@ pub fn apply_all_uri<C: CharSet>(
     uri: &mut UriBuf<C>,
     edits: &[Edit<'_, C>],
 ) -> Result<(), (usize, EditError)>
-    ensures ok { OnOk result (AreDone edited_uri (map edit_step edits.now)
-        (reference_buf_value uri.old) (reference_buf_value uri.new)) }
-    ensures err { IfErr result (λ stop. StopsAt edited_uri (map edit_step edits.now)
-        (reference_buf_value uri.old) (reference_buf_value uri.new) stop.0 stop.1) }
+    ensures list { AppliesEdits edited_uri (map edit_step edits.now)
+        (reference_buf_value uri.old) (reference_buf_value uri.new) result }
     ensures spelled { reference_buf_text uri.new ≡ spell (reference_buf_value uri.new) }
 {
     apply_each(uri, edits)

@@ -14,35 +14,35 @@ unfolding edited
 returns-in_ok-set_authority-in-SetAuthority g c =
     let r = read_reference (reference_buf_text c.args.reference.now) in
     kept_in g.R.HeldRule.allows_scheme (edit_step c.args.edit) r (ap (λ edit. drops_scheme (edit_step edit)) c.in-SetAuthority.is)
-    (ap (λ edit. edited (edit_step edit) r) c.in-SetAuthority.is ∙ ap Ok (sym c.in_ok-set_authority-in-SetAuthority.ensures.ok.1))
+    (ap (λ edit. edited (edit_step edit) r) c.in-SetAuthority.is ∙ ap Ok (sym c.in_ok-set_authority-in-SetAuthority.ensures.set.1))
 
 pub returns-in_ok-set_path-in-SetPath : goal.returns-in_ok-set_path-in-SetPath
 unfolding edited
 returns-in_ok-set_path-in-SetPath g c =
     let r = read_reference (reference_buf_text c.args.reference.now) in
     kept_in g.R.HeldRule.allows_scheme (edit_step c.args.edit) r (ap (λ edit. drops_scheme (edit_step edit)) c.in-SetPath.is)
-    (ap (λ edit. edited (edit_step edit) r) c.in-SetPath.is ∙ ap Ok (sym c.in_ok-set_path-in-SetPath.ensures.ok.1))
+    (ap (λ edit. edited (edit_step edit) r) c.in-SetPath.is ∙ ap Ok (sym c.in_ok-set_path-in-SetPath.ensures.1))
 
 pub returns-in_ok-set_and_normalize_path-in-SetAndNormalizePath : goal.returns-in_ok-set_and_normalize_path-in-SetAndNormalizePath
 unfolding edited
 returns-in_ok-set_and_normalize_path-in-SetAndNormalizePath g c =
     let r = read_reference (reference_buf_text c.args.reference.now) in
     kept_in g.R.HeldRule.allows_scheme (edit_step c.args.edit) r (ap (λ edit. drops_scheme (edit_step edit)) c.in-SetAndNormalizePath.is)
-    (ap (λ edit. edited (edit_step edit) r) c.in-SetAndNormalizePath.is ∙ ap Ok (sym c.in_ok-set_and_normalize_path-in-SetAndNormalizePath.ensures.ok.1))
+    (ap (λ edit. edited (edit_step edit) r) c.in-SetAndNormalizePath.is ∙ ap Ok (sym c.in_ok-set_and_normalize_path-in-SetAndNormalizePath.ensures.set.1))
 
 pub returns-in_ok-set_query-in-SetQuery : goal.returns-in_ok-set_query-in-SetQuery
 unfolding edited
 returns-in_ok-set_query-in-SetQuery g c =
     let r = read_reference (reference_buf_text c.args.reference.now) in
     kept_in g.R.HeldRule.allows_scheme (edit_step c.args.edit) r (ap (λ edit. drops_scheme (edit_step edit)) c.in-SetQuery.is)
-    (ap (λ edit. edited (edit_step edit) r) c.in-SetQuery.is ∙ ap Ok (sym c.in_ok-set_query-in-SetQuery.ensures.ok.1))
+    (ap (λ edit. edited (edit_step edit) r) c.in-SetQuery.is ∙ ap Ok (sym c.in_ok-set_query-in-SetQuery.ensures.set.1))
 
 pub returns-in_ok-set_fragment-in-SetFragment : goal.returns-in_ok-set_fragment-in-SetFragment
 unfolding edited
 returns-in_ok-set_fragment-in-SetFragment g c =
     let r = read_reference (reference_buf_text c.args.reference.now) in
     kept_in g.R.HeldRule.allows_scheme (edit_step c.args.edit) r (ap (λ edit. drops_scheme (edit_step edit)) c.in-SetFragment.is)
-    (ap (λ edit. edited (edit_step edit) r) c.in-SetFragment.is ∙ ap Ok (sym c.in_ok-set_fragment-in-SetFragment.ensures.ok.1))
+    (ap (λ edit. edited (edit_step edit) r) c.in-SetFragment.is ∙ ap Ok (sym c.in_ok-set_fragment-in-SetFragment.ensures.set.1))
 
 pub returns-in_ok-edit_path-in-LazyPush : goal.returns-in_ok-edit_path-in-LazyPush
 returns-in_ok-edit_path-in-LazyPush g c =

@@ -13,10 +13,10 @@ loop-i-preserved g c =
     done_at (edited_in g.R.HeldRule.allows_scheme) edit_step c.args.edits.now c.loop-i.i c.index-edits-i.result (reference_buf_value c.args.reference.now) (reference_buf_text c.loop-i.reference) (reference_buf_text c.apply.new.reference)
     c.loop-i-test.true c.index-edits-i.is c.loop-i.invariant (rw c.in_default.is at c.apply.ensures)
 
-pub returns-in-Err-clause-err : goal.returns-in-Err-clause-err
-returns-in-Err-clause-err g c =
+pub returns-in-Err : goal.returns-in-Err
+returns-in-Err g c =
     stops_at (edited_in g.R.HeldRule.allows_scheme) edit_step c.args.edits.now c.loop-i.i c.index-edits-i.result (reference_buf_value c.args.reference.now) (reference_buf_text c.loop-i.reference) (reference_buf_text c.apply.new.reference)
     c.loop-i-test.true c.index-edits-i.is c.loop-i.invariant c.in-Err.error (rw c.in-Err.is at c.apply.ensures)
 
-pub returns-clause-ok : goal.returns-clause-ok
-returns-clause-ok g c = all_done (edited_in g.R.HeldRule.allows_scheme) edit_step c.args.edits.now c.loop-i.i (reference_buf_value c.args.reference.now) (reference_buf_value c.loop-i.reference) c.loop-i-test.false c.loop-i.invariant
+pub returns : goal.returns
+returns g c = all_done (edited_in g.R.HeldRule.allows_scheme) edit_step c.args.edits.now c.loop-i.i (reference_buf_value c.args.reference.now) (reference_buf_value c.loop-i.reference) c.loop-i-test.false c.loop-i.invariant
