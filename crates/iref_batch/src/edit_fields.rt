@@ -22,7 +22,7 @@ use iref_path::rule::PathRule;
 use std::alloc::AllocFailed;
 use std::str;
 
-/// Why fields are no list of edits.
+/// Why fields are no list of edits: `frobnicate=x` is no command, `port=x` is invalid.
 #[derive(Clone, Copy, Debug)]
 pub enum FieldError {
     /// No edit has the name, or a value is missing or one too many.
@@ -43,7 +43,7 @@ impl<T: Drop> From<AllocFailed<T>> for FieldError {
     }
 }
 
-/// What an edit may take as its value.
+/// What an edit may take as its value: `h` of `host=h` is a host (RFC 3986 section 3.2.2).
 pub trait Value<'a>: Sized {
     /// Its text.
     ghost text: { Self → Text };
@@ -101,7 +101,8 @@ impl<'a> Value<'a> for Path<'a> {
 
 // The value of an edit that may do without.
 fn optional<'a, V: Value<'a>>(value: Option<&'a [u8]>) -> Result<Option<V>, FieldError>
-    ensures { IsRead (option_map V.text) (none_or V.test) (Some (option_copied value.entry)) result }
+    ensures { IsRead (option_map V.text) (none_or V.test) (Some (option_copied value.entry))
+        result }
 {
     match value {
         Some(value) => V::read(value).map(Some),

@@ -2,7 +2,7 @@
 use thiserror::Error;
 use url::Url;
 
-/// A URL that was not converted, handed back.
+/// A URL that was not converted, handed back, as `http://a/[b]`, whose text is outside RFC 3986.
 #[derive(Debug, PartialEq, Eq, Drop, Error)]
 pub enum FromUrlError {
     /// The text of the URL is outside the grammar.

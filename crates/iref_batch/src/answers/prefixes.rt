@@ -3,7 +3,8 @@ ghost use Rattle.std.specs.Prelude.{◌≡◌, ◌++◌, ◌∷◌, Some, true, 
 ghost use Rattle.std.specs.Option.{option_copied};
 ghost use Rattle.iref_grammar.specs.{iri_chars};
 ghost use Rattle.iref_lines.specs.Lines as spec;
-ghost use Rattle.iref_lines.specs.Lines.{Answered, answer_text, are_valid_entries, part_field, read_entry, text_and_entries};
+ghost use Rattle.iref_lines.specs.Lines.{Answered, answer_text, are_valid_entries, part_field};
+ghost use Rattle.iref_lines.specs.Lines.{read_entry, text_and_entries};
 ghost use Rattle.iref_mapping.specs.PrefixTable.{compact_text};
 ghost use Rattle.iref.specs.Prefixes.{compact_value};
 ghost use Rattle.iref_batch.specs.EditFields.{IsRead};

@@ -31,5 +31,5 @@ returns-clause-ok c =
     rw (
     relative_answer c.args.target.now c.args.base.now c.as_bytes.result.now (value_of c.in-Some.target) (value_of c.in-Some-components_of.base)
     c.in-Some.ensures.some c.in-Some-components_of.ensures.some c.in-Some.ensures.value c.in-Some-components_of.ensures.value
-    (c.as_bytes.ensures.value ∙ c.as_str.ensures.text ∙ c.in-Ok.ensures.text)
+    (c.as_bytes.ensures.value ∙ c.as_str.ensures.text ∙ c.in-Ok.ensures.0)
     ) c.put_answered.ensures.ok

@@ -34,5 +34,5 @@ returns-clause-ok c =
     rw (
     resolve_answer c.args.reference.now c.args.base.now c.as_bytes.result.now (value_of c.in-Some.reference) (value_of c.in-Some-components_of.base)
     c.in-Some.ensures.some c.in-Some-components_of.ensures.some c.in-Some.ensures.value c.in-Some-components_of.ensures.value
-    (c.as_bytes.ensures.value ∙ c.as_str.ensures.text ∙ c.in-Ok.ensures.text)
+    (c.as_bytes.ensures.value ∙ c.as_str.ensures.text ∙ c.in-Ok.ensures.0)
     ) c.put_answered.ensures.ok

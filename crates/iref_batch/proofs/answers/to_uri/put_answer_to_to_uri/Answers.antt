@@ -9,6 +9,6 @@ pub returns-clause-ok : goal.returns-clause-ok
 returns-clause-ok c =
     rw (
       to_uri_answer c.args.text.now (reference_text c.in-Ok.reference) (reference_buf_text c.in-Ok-to_uri_ref.mapping) c.in-Ok.ensures.0
-          c.in-Ok.ensures.1 c.in-Ok-to_uri_ref.ensures.ok.0,
+          c.in-Ok.ensures.1 c.in-Ok-to_uri_ref.ensures.0.0,
       ← c.as_bytes.ensures,
     ) c.put_answered.ensures.ok
