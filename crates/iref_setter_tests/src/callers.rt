@@ -3,7 +3,8 @@ ghost use Rattle.std.specs.Prelude.{◌≡◌, OnErr, OnOk};
 ghost use Rattle.iref_component.specs.Components.{view_text};
 ghost use Rattle.iref_model.specs.ComponentSteps.{with_path_step};
 ghost use Rattle.iref_model.specs.PathSteps.{lazy_pushed};
-ghost use Rattle.iref_reference.specs.References.{reference_buf_text, IsStep};
+ghost use Rattle.iref_buffer.specs.Steps.{IsStep};
+ghost use Rattle.iref_reference.specs.References.{reference_buf_text};
 
 use iref_component::texts::Segment;
 use iref_error::Memory;
