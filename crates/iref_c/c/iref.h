@@ -1,0 +1,122 @@
+/*
+ * URIs and IRIs, as RFC 3986 and RFC 3987 say, for C.
+ *
+ * Texts. A text is a pointer to its first byte and its length in bytes. It need not end in a byte of value 0, and any
+ * bytes may stand in it. Bytes that are not UTF-8 are in no rule, so a call refuses them. Nothing is kept between calls.
+ *
+ * Families. Each URI is an IRI, and each reference of URIs one of IRIs, so the calls on IRIs serve for URIs: of URIs they
+ * answer URIs. iref_parse_uri and iref_parse_uri_reference tell whether a text is of the narrower family.
+ *
+ * What the caller owes. No pointer is NULL, not even one of length 0. What is passed as a text holds that many bytes that
+ * can be read, and does not change during the call. What is passed as a buffer holds that many bytes that can be read and
+ * written, and each place for a result is aligned as its type is. No buffer or place for a result overlaps anything else
+ * that is passed. malloc, realloc and free are of one allocator, and iref_normalize_path, iref_resolve, iref_relative and
+ * iref_to_uri are not called from a signal handler, nor in the forked child of a process with threads. All calls may run
+ * in several threads at once. Nothing checks any of this.
+ *
+ * Results. A call answers a status, one of those below. Where it is not IREF_OK, nothing is written, but that *needed is
+ * written at IREF_SHORT too.
+ *
+ * Example. Prints http://a/b/g:
+ *
+ *     const char *reference = "../g", *base = "http://a/b/c/d";
+ *     char out[64];
+ *     size_t needed;
+ *     if (iref_resolve(reference, strlen(reference), base, strlen(base), out, sizeof out, &needed) == IREF_OK)
+ *         printf("%.*s\n", (int)needed, out);
+ */
+#ifndef IREF_H
+#define IREF_H
+
+#include <stddef.h>
+#include <stdint.h>
+
+#ifdef __cplusplus
+extern "C" {
+#endif
+
+/* Statuses. */
+#define IREF_OK 0             /* done */
+#define IREF_INVALID 1        /* the text, or the first of two, is not in the rule that its call names */
+#define IREF_SECOND_INVALID 2 /* the first of two texts is in its rule, and the second is not in its own */
+#define IREF_SHORT 3          /* the buffer is too short: *needed is the length that serves */
+#define IREF_MEMORY 4         /* memory was refused */
+
+/* Where a component stands in its text. */
+struct iref_place {
+    size_t is_there; /* 1 where there is one, else 0, and then the others are 0 too */
+    size_t start;    /* where it begins, in bytes from the beginning of the text */
+    size_t end;      /* where it ends: the place of the byte after its last, so that end - start bytes are in it */
+};
+
+/* Where the components of a text stand, without the marks `:`, `//`, `@`, `?` and `#` between them (RFC 3986 section 3). */
+struct iref_places {
+    struct iref_place scheme;    /* section 3.1 */
+    struct iref_place authority; /* section 3.2: user info, host and port, with `@` and `:` between them */
+    struct iref_place user_info; /* section 3.2.1 */
+    struct iref_place host;      /* section 3.2.2: there where the authority is, and may be empty */
+    struct iref_place port;      /* section 3.2.3: its digits, and may be empty */
+    struct iref_place path;      /* section 3.3: always there, and may be empty */
+    struct iref_place query;     /* section 3.4 */
+    struct iref_place fragment;  /* section 3.5 */
+};
+
+/* Whether a text is in a rule, and then the places of its components: IREF_OK or IREF_INVALID. Of `//h:80` the host is
+ * at 2 to 3 and the port at 4 to 6. */
+
+/* A URI: it has a scheme (RFC 3986 section 3). */
+uint32_t iref_parse_uri(const char *text, size_t length, struct iref_places *places);
+
+/* A reference of URIs: a URI, or one that is relative to a URI (RFC 3986 section 4.1). */
+uint32_t iref_parse_uri_reference(const char *text, size_t length, struct iref_places *places);
+
+/* An IRI: a URI with characters beyond ASCII (RFC 3987 section 2.2). */
+uint32_t iref_parse_iri(const char *text, size_t length, struct iref_places *places);
+
+/* A reference of IRIs (RFC 3987 section 2.2). */
+uint32_t iref_parse_iri_reference(const char *text, size_t length, struct iref_places *places);
+
+/* Comparison of references of IRIs (RFC 3986 section 6.2.2): schemes without regard to case, paths with their dots
+ * removed, and escapes as the bytes that they stand for; no rule of a scheme is used. The three agree: two references are
+ * equal exactly where their order is 0, and equal ones have one hash. Each answers IREF_OK, IREF_INVALID or
+ * IREF_SECOND_INVALID. */
+
+/* *equal becomes 1 where the references are equal, else 0: it is 1 of `HTTP://a/%7Eb/./c` and `http://a/~b/c`. */
+uint32_t iref_equal(const char *first, size_t first_length, const char *second, size_t second_length, uint32_t *equal);
+
+/* *order becomes -1 where the first reference comes before the second, 0 where they are equal, and 1 where it comes after:
+ * component by component, one that is absent first, and each byte by byte. */
+uint32_t iref_compare(const char *first, size_t first_length, const char *second, size_t second_length, int32_t *order);
+
+/* *hash becomes the hash of the reference, by SipHash-1-3 with keys of 0: the same in each run of each program. So whoever
+ * may choose the texts can choose many with one hash. */
+uint32_t iref_hash(const char *text, size_t length, uint64_t *hash);
+
+/* Texts that are written into the caller's buffer `out` of `out_length` bytes, and *needed becomes their length. At
+ * IREF_SHORT that is more than out_length, and the buffer is as it was. At IREF_OK the text stands first in the buffer, no
+ * byte follows it, and the bytes of the buffer behind it are as they were. Each answers IREF_OK, IREF_INVALID, IREF_SHORT
+ * or IREF_MEMORY, and where there are two texts IREF_SECOND_INVALID too. */
+
+/* The normal form of a path of IRIs: without the segments `.` and `..` (RFC 3986 section 5.2.4), but for those `..` that
+ * nothing cancels. Where it would be read as something else, a segment `.` stands first: `a/..//b` gives `.//b`. */
+uint32_t iref_normalize_path(const char *path, size_t path_length, char *out, size_t out_length, size_t *needed);
+
+/* What a reference of IRIs resolves to against a base, which is an IRI: strict (RFC 3986 section 5.2). `../g` and
+ * `http://a/b/c/d` give `http://a/b/g`. */
+uint32_t iref_resolve(const char *reference, size_t reference_length, const char *base, size_t base_length, char *out,
+                      size_t out_length, size_t *needed);
+
+/* A reference that leads from a base to a target, both references of IRIs: the way back from resolution. From
+ * `http://a/b/c/d` to `http://a/b` it is `../../b`. What differs in scheme or authority is given whole. */
+uint32_t iref_relative(const char *target, size_t target_length, const char *base, size_t base_length, char *out,
+                       size_t out_length, size_t *needed);
+
+/* The reference of URIs that a reference of IRIs maps to (RFC 3987 section 3.1): each byte beyond ASCII becomes its escape.
+ * `http://a/\u00E9` gives `http://a/%C3%A9`. It equals the one that it maps. */
+uint32_t iref_to_uri(const char *reference, size_t reference_length, char *out, size_t out_length, size_t *needed);
+
+#ifdef __cplusplus
+}
+#endif
+
+#endif

@@ -1,0 +1,24 @@
+-- What the calls that compare tell, as numbers.
+use Rattle.std.specs.Prelude.{ℕ, ℤ, pos, negsuc, fold, if◌then◌else◌}
+use Rattle.std.specs.declared.cmp.Ordering.{Ordering}
+use Rattle.std.specs.declared.cmp.Ordering.TheVariants.{Less, Equal, Greater}
+use Rattle.std.specs.Hash.DefaultHasher.{initial, write, finish}
+use Rattle.iref.specs.Key.{are_alike, fed_reference, key, key_cmp}
+use Rattle.iref_grammar.specs.Reference.{ReferenceValue}
+
+-- whether they are equal
+abbrev pub equal_number : ReferenceValue → ReferenceValue → ℕ
+equal_number r s = if are_alike r s then 1 else 0
+
+abbrev pub number_of_order : Ordering → ℤ
+number_of_order Less = negsuc 0
+number_of_order Equal = pos 0
+number_of_order Greater = pos 1
+
+-- the order of their keys
+abbrev pub order_number : ReferenceValue → ReferenceValue → ℤ
+order_number r s = number_of_order (key_cmp (key r) (key s))
+
+-- what std's hasher answers that is fed the key
+abbrev pub hash_number : ReferenceValue → ℕ
+hash_number r = finish (fold write initial (fed_reference (key r)))

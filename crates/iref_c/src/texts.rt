@@ -1,0 +1,112 @@
+//! Texts that are written into the caller's buffer: normal paths, resolution, relative references
+//! and the mapping to URIs (RFC 3986 section 5.2, RFC 3987 section 3.1).
+ghost use Rattle.iref.specs.Mapping.{mapped};
+ghost use Rattle.iref.specs.PathSteps as step;
+ghost use Rattle.iref.specs.Relative.{relative_to};
+ghost use Rattle.iref.specs.Resolution.{resolved};
+ghost use Rattle.iref_grammar.specs.Characters.{iri_chars};
+ghost use Rattle.iref_grammar.specs.Contexts.{alone};
+ghost use Rattle.iref_grammar.specs.Grammar.{IsPath, IsUri, IsUriReference};
+ghost use Rattle.iref_grammar.specs.PathValue.{read_path, spell_path};
+ghost use Rattle.iref_grammar.specs.Reference.{read_reference, spell};
+ghost use Rattle.iref_grammar.specs.Rules.{InUtf8};
+ghost use Rattle.iref_c.specs.Answers.{Writes};
+ghost use Rattle.std.specs.Prelude.{⊤};
+
+use crate::status::{INVALID, MEMORY, SECOND_INVALID};
+use crate::write::write_text;
+use iref::iri::{Iri, IriRef, Path};
+use std::alloc::Global;
+
+/// Writes the normal form of a path.
+#[unsafe(no_mangle)]
+pub extern "C" fn iref_normalize_path(
+    alloc: Global,
+    path: &[u8],
+    out: &mut [u8],
+    needed: &mut usize,
+) -> u32
+    ensures { Writes (InUtf8 (IsPath iri_chars) path.now) ⊤
+        (spell_path (step.normalized alone (read_path path.now)))
+        out.old out.new needed.old needed.new result }
+{
+    let Ok(path) = Path::from_bytes(path) else {
+        return INVALID;
+    };
+    match path.normalized(alloc) {
+        Ok(path) => write_text(path.as_bytes(), out, needed),
+        Err(_) => MEMORY,
+    }
+}
+
+/// Writes what a reference resolves to against a base.
+#[unsafe(no_mangle)]
+pub extern "C" fn iref_resolve(
+    alloc: Global,
+    reference: &[u8],
+    base: &[u8],
+    out: &mut [u8],
+    needed: &mut usize,
+) -> u32
+    ensures { Writes (InUtf8 (IsUriReference iri_chars) reference.now)
+        (InUtf8 (IsUri iri_chars) base.now)
+        (spell (resolved (read_reference base.now) (read_reference reference.now)))
+        out.old out.new needed.old needed.new result }
+{
+    let Ok(reference) = IriRef::from_bytes(reference) else {
+        return INVALID;
+    };
+    let Ok(base) = Iri::from_bytes(base) else {
+        return SECOND_INVALID;
+    };
+    match reference.resolved(alloc, base) {
+        Ok(iri) => write_text(iri.as_bytes(), out, needed),
+        Err(_) => MEMORY,
+    }
+}
+
+/// Writes a reference that leads from a base to a target.
+#[unsafe(no_mangle)]
+pub extern "C" fn iref_relative(
+    alloc: Global,
+    target: &[u8],
+    base: &[u8],
+    out: &mut [u8],
+    needed: &mut usize,
+) -> u32
+    ensures { Writes (InUtf8 (IsUriReference iri_chars) target.now)
+        (InUtf8 (IsUriReference iri_chars) base.now)
+        (spell (relative_to (read_reference target.now) (read_reference base.now)))
+        out.old out.new needed.old needed.new result }
+{
+    let Ok(target) = IriRef::from_bytes(target) else {
+        return INVALID;
+    };
+    let Ok(base) = IriRef::from_bytes(base) else {
+        return SECOND_INVALID;
+    };
+    match target.relative_to(alloc, base) {
+        Ok(reference) => write_text(reference.as_bytes(), out, needed),
+        Err(_) => MEMORY,
+    }
+}
+
+/// Writes the reference of URIs that a reference of IRIs maps to.
+#[unsafe(no_mangle)]
+pub extern "C" fn iref_to_uri(
+    alloc: Global,
+    reference: &[u8],
+    out: &mut [u8],
+    needed: &mut usize,
+) -> u32
+    ensures { Writes (InUtf8 (IsUriReference iri_chars) reference.now) ⊤
+        (mapped reference.now) out.old out.new needed.old needed.new result }
+{
+    let Ok(reference) = IriRef::from_bytes(reference) else {
+        return INVALID;
+    };
+    match reference.to_uri_ref(alloc) {
+        Ok(uri) => write_text(uri.as_bytes(), out, needed),
+        Err(_) => MEMORY,
+    }
+}
