@@ -2,7 +2,8 @@
  * URIs and IRIs, as RFC 3986 and RFC 3987 say, for C.
  *
  * Texts. A text is a pointer to its first byte and its length in bytes. It need not end in a byte of value 0, and any
- * bytes may stand in it. Bytes that are not UTF-8 are in no rule, so a call refuses them. Nothing is kept between calls.
+ * bytes may stand in it. Bytes that are not UTF-8 are in no rule, so a call refuses them. Nothing is kept between calls, so
+ * they may run in several threads at once.
  *
  * Families. Each URI is an IRI, and each reference of URIs one of IRIs, so the calls on IRIs serve for URIs: of URIs they
  * answer URIs. iref_parse_uri and iref_parse_uri_reference tell whether a text is of the narrower family.
@@ -11,8 +12,8 @@
  * can be read, and does not change during the call. What is passed as a buffer holds that many bytes that can be read and
  * written, and each place for a result is aligned as its type is. No buffer or place for a result overlaps anything else
  * that is passed. malloc, realloc and free are of one allocator, and iref_normalize_path, iref_resolve, iref_relative and
- * iref_to_uri are not called from a signal handler, nor in the forked child of a process with threads. All calls may run
- * in several threads at once. Nothing checks any of this.
+ * iref_to_uri are not called from a signal handler, nor in the forked child of a process with threads. Nothing checks any of
+ * this.
  *
  * Results. A call answers a status, one of those below. Where it is not IREF_OK, nothing is written, but that *needed is
  * written at IREF_SHORT too.

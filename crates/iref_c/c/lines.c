@@ -217,13 +217,33 @@ static void check_pair(struct text first, struct text second) {
     expect(equal == 1 || hash_of(first) != hash_of(second), "two references of these have one hash", first);
 }
 
+/* The texts that were looked at last, for pairs with the next one. */
+#define RECENT 16
+#define LONGEST 256
+
+static struct {
+    char at[LONGEST];
+    size_t length;
+} recent[RECENT];
+
+static size_t seen;
+
+/* Beside itself and those before it. */
+static void check_pairs(struct text text) {
+    check_pair(text, text);
+    for (size_t i = 0; i < seen && i < RECENT; i++) check_pair(text, (struct text){recent[i].at, recent[i].length});
+    if (text.length <= LONGEST) {
+        memcpy(recent[seen % RECENT].at, text.at, text.length);
+        recent[seen++ % RECENT].length = text.length;
+    }
+}
+
 /* Every call, over the texts of a line. */
 static void check(const struct text *fields, size_t count) {
     struct text texts[2] = {fields[count > 1 ? 1 : 0], fields[count - 1]};
     for (size_t verb = 0; verb < VERB_COUNT; verb++) check_written(&VERBS[verb], texts);
     for (size_t i = 0; i < count; i++) check_places(fields[i]);
-    for (size_t i = 0; i < count; i++)
-        for (size_t j = 0; j < count; j++) check_pair(fields[i], fields[j]);
+    for (size_t i = 0; i < count; i++) check_pairs(fields[i]);
 }
 
 /* Bytes that are not UTF-8 are refused by every call, and the empty text is a reference. */

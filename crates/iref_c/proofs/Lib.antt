@@ -1,1 +1,3 @@
+pub mod ComparisonLemmas
+mod PartPlaceRows
 pub mod PlaceLemmas

@@ -1,14 +1,17 @@
 -- What the calls that compare tell, as numbers.
-use Rattle.std.specs.Prelude.{ℕ, ℤ, pos, negsuc, fold, if◌then◌else◌}
+use Rattle.std.specs.Prelude.{ℕ, Bool, ℤ, pos, negsuc, fold, if◌then◌else◌}
 use Rattle.std.specs.declared.cmp.Ordering.{Ordering}
 use Rattle.std.specs.declared.cmp.Ordering.TheVariants.{Less, Equal, Greater}
 use Rattle.std.specs.Hash.DefaultHasher.{initial, write, finish}
 use Rattle.iref.specs.Key.{are_alike, fed_reference, key, key_cmp}
 use Rattle.iref_grammar.specs.Reference.{ReferenceValue}
 
+abbrev pub number_of_equality : Bool → ℕ
+number_of_equality b = if b then 1 else 0
+
 -- whether they are equal
 abbrev pub equal_number : ReferenceValue → ReferenceValue → ℕ
-equal_number r s = if are_alike r s then 1 else 0
+equal_number r s = number_of_equality (are_alike r s)
 
 abbrev pub number_of_order : Ordering → ℤ
 number_of_order Less = negsuc 0

@@ -1,11 +1,11 @@
 //! Equality, order and hash of references, which agree (RFC 3986 section 6.2.2).
 ghost use Rattle.iref_grammar.specs.Characters.{iri_chars};
 ghost use Rattle.iref_grammar.specs.Grammar.{IsUriReference};
-ghost use Rattle.iref_grammar.specs.Reference.{read_reference};
+ghost use Rattle.iref_grammar.specs.Reference.{read_reference, ReferenceValue};
 ghost use Rattle.iref_grammar.specs.Rules.{InUtf8};
 ghost use Rattle.iref_c.specs.Answers.{Tells};
 ghost use Rattle.iref_c.specs.Comparison.{equal_number, hash_number, number_of_order, order_number};
-ghost use Rattle.std.specs.Prelude.{◌≡◌, ⊤};
+ghost use Rattle.std.specs.Prelude.{◌≡◌, ◌↔◌, pos, ⊤};
 
 use crate::status::{INVALID, OK, SECOND_INVALID};
 use iref::iri::IriRef;
@@ -73,3 +73,12 @@ pub extern "C" fn iref_hash(text: &[u8], hash: &mut u64) -> u32
     *hash = hasher.finish();
     OK
 }
+
+/// The three agree: references are equal exactly where their order is 0, and equal ones have one
+/// hash.
+pub fn equality_order_and_hash_agree()
+    ensures order { (r s : ReferenceValue) → (equal_number r s ≡ 1)
+        ↔ (order_number r s ≡ pos 0) }
+    ensures hash { (r s : ReferenceValue) → equal_number r s ≡ 1
+        → hash_number r ≡ hash_number s }
+{}

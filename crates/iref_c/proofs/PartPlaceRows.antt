@@ -1,0 +1,34 @@
+-- Worked rows of the places that C is told of the parts of an authority, computed.
+use Prim.Native.String.{String}
+use Rattle.std.specs.Prelude.{◌≡◌, ℕ, List, [], ◌∷◌, map, codes, Option, Some, None, option_map, refl}
+use Rattle.iref_grammar.specs.Authority.{read_authority}
+use Rattle.iref_grammar.specs.Reference.{read_reference}
+use Rattle.iref_c.specs.declared.places.Place.{Place}
+use Rattle.iref_c.specs.declared.places.Places.{Places}
+use Rattle.iref_c.specs.PartPlaces.{all_places, place_for_c}
+
+abbrev Ends : Type 0
+Ends = Option (ℕ × ℕ)
+
+-- text; where user info, host and port begin and end
+abbrev parts : List (String × Ends × Ends × Ends)
+parts =
+    ("//user:1@host.org:80/a//b?#", Some (2, 8), Some (9, 17), Some (18, 20))
+    ∷ ("http://[::1]:/", None, Some (7, 12), Some (13, 13))
+    ∷ ("//@:80", Some (2, 2), Some (3, 3), Some (4, 6))
+    ∷ ("s://h", None, Some (4, 5), None)
+    ∷ ("//", None, Some (2, 2), None)
+    ∷ ("s:a@b:1", None, None, None)
+    ∷ []
+
+abbrev place : Ends → Place
+place ends = place_for_c (option_map (λ (e : ℕ × ℕ). record { start = e.0; end = e.1 }) ends)
+
+abbrev told : Places → Place × Place × Place
+told places = (places.user_info, places.host, places.port)
+
+parts_hold :
+    map (λ row. told (all_places (read_reference (codes row.0)))) parts
+    ≡ map (λ row. (place row.1, place row.2, place row.3)) parts
+unfolding all_places read_reference read_authority
+parts_hold = refl

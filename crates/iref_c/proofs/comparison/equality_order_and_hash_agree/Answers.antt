@@ -1,0 +1,5 @@
+use Rattle.iref_c.proofs.ComparisonLemmas.{equal-hash, equal-order}
+use Rattle.iref_c.proofs.comparison.equality_order_and_hash_agree.Goals as goal
+
+pub returns : goal.returns
+returns c = record { order = equal-order; hash = equal-hash }
