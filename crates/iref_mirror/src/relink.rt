@@ -26,7 +26,7 @@ pub fn relinked(alloc: Global, page: &str, link: &str) -> Result<Option<UriRefBu
     ensures { IfOk result (λ answer. MatchOption answer
         (¬ (InUtf8 (IsUri uri_chars) page.now × InUtf8 (IsUriReference uri_chars) link.now))
         (λ answer. IsRelinked (read_reference page.now) (read_reference link.now)
-            (reference_buf_value answer))) }
+        (reference_buf_value answer))) }
 {
     let (Ok(page), Ok(link)) = (Uri::new(page), UriRef::new(link)) else {
         return Ok(None);
