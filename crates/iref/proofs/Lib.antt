@@ -1,4 +1,5 @@
 pub mod AuthorityEditLemmas
+pub mod ComponentRuleLemmas
 pub mod EditLemmas
 pub mod EditListLemmas
 pub mod PortTextLemmas

@@ -1,3 +1,4 @@
+pub mod ComponentRules
 pub mod EditAnswers
 pub mod EditSteps
 pub mod PrefixIndex
@@ -35,6 +36,7 @@ pub use Rattle.iref_model.specs.RelativeLaws
 pub use Rattle.iref_model.specs.Resolution
 pub use Rattle.iref_mapping.specs.Mapping
 pub use Rattle.iref_mapping.specs.PrefixTable
+pub use Rattle.iref_parse.specs.ReferenceSlices
 pub use Rattle.iref_component.specs.Makers
 pub use Rattle.iref_component.specs.Ports
 pub use Rattle.iref_component.specs.Components

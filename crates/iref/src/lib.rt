@@ -8,6 +8,7 @@ mod shared;
 pub use iref_component::pct;
 pub use iref_error::InvalidPctStr;
 pub use iref_grammar::chars;
+pub use iref_parse::split::{ReferenceSlices, split_reference};
 pub use iri::{InvalidIri, InvalidIriRef, Iri, IriBuf, IriError, IriRef, IriRefBuf};
 pub use shared::{
     InvalidPort, InvalidScheme, Memory, Offsets, PathContext, Port, PortBuf, PortError, Scheme,
