@@ -49,8 +49,19 @@ fn are_done_of_uri(alloc: Global, texts: &[&str], edits: &[Edit<'_>]) -> Result<
     same_text(owner.as_str(), last)
 }
 
+// Fails unless each edit of these texts leaves those, or nothing changed and it does so then, of a
+// reference and of a URI.
+fn are_edited(alloc: Global, rows: &[(Edit<'_>, &str, &str)]) -> Result<(), Fail> {
+    for row in rows {
+        let (edit, text, want) = *row;
+        are_done(alloc, &[text, want], &[edit])?;
+        are_done_of_uri(alloc, &[text, want], &[edit])?;
+    }
+    Ok(())
+}
+
 #[test]
-fn each_edit_is_done_or_changes_nothing(rt: HostRuntime) -> Result<(), Fail> {
+fn components_are_set_or_nothing_changes(rt: HostRuntime) -> Result<(), Fail> {
     let rows = [
         (
             Edit::SetScheme(Some(Scheme::new("https")?)),
@@ -62,6 +73,29 @@ fn each_edit_is_done_or_changes_nothing(rt: HostRuntime) -> Result<(), Fail> {
             "s:?q#f",
             "s://host/?q#f",
         ),
+        (Edit::SetPath(Path::new("//b")?), "s:a?q", "s:/.//b?q"),
+        (
+            Edit::SetAndNormalizePath(Path::new("b/./c/..")?),
+            "s://h?q",
+            "s://h/b/?q",
+        ),
+        (
+            Edit::SetQuery(Some(Query::new("x=y")?)),
+            "s:a#f",
+            "s:a?x=y#f",
+        ),
+        (
+            Edit::SetFragment(Some(Fragment::new("")?)),
+            "s:a?q",
+            "s:a?q#",
+        ),
+    ];
+    are_edited(rt.alloc(), &rows)
+}
+
+#[test]
+fn parts_of_authorities_are_set_or_nothing_changes(rt: HostRuntime) -> Result<(), Fail> {
+    let rows = [
         (
             Edit::ReplaceAuthority(Authority::new("u@host")?),
             "s://h/a",
@@ -79,22 +113,13 @@ fn each_edit_is_done_or_changes_nothing(rt: HostRuntime) -> Result<(), Fail> {
             "s://h:80/a",
         ),
         (Edit::SetPortU32(Some(80)), "s://h/a", "s://h:80/a"),
-        (Edit::SetPath(Path::new("//b")?), "s:a?q", "s:/.//b?q"),
-        (
-            Edit::SetAndNormalizePath(Path::new("b/./c/..")?),
-            "s://h?q",
-            "s://h/b/?q",
-        ),
-        (
-            Edit::SetQuery(Some(Query::new("x=y")?)),
-            "s:a#f",
-            "s:a?x=y#f",
-        ),
-        (
-            Edit::SetFragment(Some(Fragment::new("")?)),
-            "s:a?q",
-            "s:a?q#",
-        ),
+    ];
+    are_edited(rt.alloc(), &rows)
+}
+
+#[test]
+fn paths_are_edited_or_nothing_changes(rt: HostRuntime) -> Result<(), Fail> {
+    let rows = [
         (
             Edit::LazyPush(Segment::new("..")?),
             "s://h/a?q",
@@ -109,12 +134,7 @@ fn each_edit_is_done_or_changes_nothing(rt: HostRuntime) -> Result<(), Fail> {
         (Edit::Pop, "s:..?q", "s:../..?q"),
         (Edit::Normalize, "s:a/..//b?q", "s:.//b?q"),
     ];
-    for row in &rows {
-        let (edit, text, want) = *row;
-        are_done(rt.alloc(), &[text, want], &[edit])?;
-        are_done_of_uri(rt.alloc(), &[text, want], &[edit])?;
-    }
-    Ok(())
+    are_edited(rt.alloc(), &rows)
 }
 
 #[test]

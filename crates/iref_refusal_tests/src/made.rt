@@ -1,8 +1,8 @@
 //! Calls that make a new value.
 use crate::edited::{Refused, text_of};
 use iref::uri::{
-    Authority, Fragment, Host, HostBuf, Path, PathBuf, PortBuf, Query, Scheme, SchemeBuf, Uri,
-    UriBuf, UriRef,
+    Authority, Fragment, HostBuf, Path, PathBuf, PortBuf, Query, Scheme, SchemeBuf, Uri, UriBuf,
+    UriRef,
 };
 use iref_checks::same::same_text;
 use std::alloc::Global;
@@ -18,8 +18,9 @@ trait Made: Copy {
 fn are_made<M: Made>(rows: &[(M, &str)], alloc: Global) -> Result<(), Fail> {
     for row in rows {
         let (call, want) = *row;
-        let Ok(text) = call.made(alloc).or_else(|_| call.made(alloc)) else {
-            return Err("refused twice")?;
+        let text = match call.made(alloc) {
+            Ok(text) => text,
+            Err(_) => call.made(alloc).or(Err("refused twice"))?,
         };
         same_text(text.as_str(), want)?;
     }

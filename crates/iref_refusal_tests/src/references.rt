@@ -124,20 +124,24 @@ enum Into {
     TryWithScheme(&'static str),
 }
 
+// The URI, or the reference without the error beside it.
+fn handed_back<E: Drop>(made: Result<UriBuf, (UriRefBuf, E)>) -> Result<UriBuf, UriRefBuf> {
+    match made {
+        Ok(uri) => Ok(uri),
+        Err((reference, _)) => Err(reference),
+    }
+}
+
 impl Into {
     // The URI, or the reference that was handed back.
     fn uri(self, reference: UriRefBuf) -> Result<Result<UriBuf, UriRefBuf>, Fail> {
         Ok(match self {
-            Into::Resolved(base) => reference
-                .into_resolved(Uri::new(base)?)
-                .map_err(|back| back.0),
-            Into::TryResolved(base) => reference.try_into_resolved(base).map_err(|back| back.0),
-            Into::WithScheme(scheme) => reference
-                .into_with_scheme(Scheme::new(scheme)?)
-                .map_err(|back| back.0),
-            Into::TryWithScheme(scheme) => reference
-                .try_into_with_scheme(scheme)
-                .map_err(|back| back.0),
+            Into::Resolved(base) => handed_back(reference.into_resolved(Uri::new(base)?)),
+            Into::TryResolved(base) => handed_back(reference.try_into_resolved(base)),
+            Into::WithScheme(scheme) => {
+                handed_back(reference.into_with_scheme(Scheme::new(scheme)?))
+            }
+            Into::TryWithScheme(scheme) => handed_back(reference.try_into_with_scheme(scheme)),
         })
     }
 }

@@ -1,13 +1,11 @@
 //! Tests of strict resolution: rows of RFC 3986 section 5.4 and of relative, empty and guarded
-//! paths, texts that are refused, want of memory, and texts of 1,000,000 segments.
+//! paths, texts that are refused, and texts of 1,000,000 segments.
 #![tactic(auto)]
 
 #[cfg(test)]
 mod calls;
 #[cfg(test)]
 mod long_runs;
-#[cfg(test)]
-mod refused;
 #[cfg(test)]
 mod rows;
 #[cfg(test)]

@@ -1,21 +1,16 @@
 //! Copies with one component set, by the rows of the setters, in both families.
 use crate::setters::{AUTHORITIES, PATHS, WITHOUT_AUTHORITY};
-use iref::iri::{Authority as IriAuthority, Iri, IriRef, Path as IriPath, Query as IriQuery};
-use iref::uri::{Authority, Fragment, Path, Query, Scheme, TryError, Uri, UriRef};
+use iref::iri::{Authority, Iri, IriRef, Path, Query as IriQuery};
+use iref::uri::{self, Fragment, Query, Scheme, TryError, Uri, UriRef};
 use iref_checks::same::same_text;
 use std::alloc::Global;
 use std::test::Fail;
 
 // Fails unless the copy with this path has this text, and the reference its own.
 fn path_copied(alloc: Global, text: &str, path: &str, want: &str) -> Result<(), Fail> {
-    let reference = UriRef::new(text)?;
-    same_text(reference.with_path(alloc, Path::new(path)?)?.as_str(), want)?;
-    same_text(reference.as_str(), text)?;
     let reference = IriRef::new(text)?;
-    same_text(
-        reference.with_path(alloc, IriPath::new(path)?)?.as_str(),
-        want,
-    )?;
+    let copy = reference.with_path(alloc, Path::new(path)?)?;
+    same_text(copy.as_str(), want)?;
     same_text(reference.as_str(), text)
 }
 
@@ -30,12 +25,8 @@ fn copies_have_another_path(rt: HostRuntime) -> Result<(), Fail> {
 
 // Fails unless the copy with this authority has this text, and the reference its own.
 fn authority_copied(alloc: Global, text: &str, authority: &str, want: &str) -> Result<(), Fail> {
-    let reference = UriRef::new(text)?;
-    let copy = reference.with_authority(alloc, Some(Authority::new(authority)?))?;
-    same_text(copy.as_str(), want)?;
-    same_text(reference.as_str(), text)?;
     let reference = IriRef::new(text)?;
-    let copy = reference.with_authority(alloc, Some(IriAuthority::new(authority)?))?;
+    let copy = reference.with_authority(alloc, Some(Authority::new(authority)?))?;
     same_text(copy.as_str(), want)?;
     same_text(reference.as_str(), text)
 }
@@ -53,9 +44,6 @@ fn copies_have_another_authority(rt: HostRuntime) -> Result<(), Fail> {
 fn copies_have_no_authority(rt: HostRuntime) -> Result<(), Fail> {
     for row in WITHOUT_AUTHORITY {
         let (text, want) = *row;
-        let reference = UriRef::new(text)?;
-        same_text(reference.with_authority(rt.alloc(), None)?.as_str(), want)?;
-        same_text(reference.as_str(), text)?;
         let reference = IriRef::new(text)?;
         same_text(reference.with_authority(rt.alloc(), None)?.as_str(), want)?;
         same_text(reference.as_str(), text)?;
@@ -76,10 +64,6 @@ const SCHEMES: &[(&str, &str, &str)] = &[
 fn copies_have_another_scheme(rt: HostRuntime) -> Result<(), Fail> {
     for row in SCHEMES {
         let (text, scheme, want) = *row;
-        let reference = UriRef::new(text)?;
-        let copy = reference.with_scheme(rt.alloc(), Scheme::new(scheme)?)?;
-        same_text(copy.as_str(), want)?;
-        same_text(reference.as_str(), text)?;
         let reference = IriRef::new(text)?;
         let copy = reference.with_scheme(rt.alloc(), Scheme::new(scheme)?)?;
         same_text(copy.as_str(), want)?;
@@ -112,7 +96,7 @@ fn copies_of_uris_are_uris(rt: HostRuntime) -> Result<(), Fail> {
     same_text(copy.as_str(), "scheme:/.//path")?;
     let copy = uri.with_scheme(rt.alloc(), Scheme::new("s")?)?;
     same_text(copy.as_str(), "s://authority//path")?;
-    let copy = Uri::new("http:old/path")?.with_path(rt.alloc(), Path::new("//foo/bar")?)?;
+    let copy = Uri::new("http:old/path")?.with_path(rt.alloc(), uri::Path::new("//foo/bar")?)?;
     same_text(copy.scheme().as_str(), "http")?;
     same_text(copy.as_str(), "http:/.//foo/bar")?;
     let copy = Iri::new("s:é#ü")?.with_query(rt.alloc(), Some(IriQuery::new("ß")?))?;

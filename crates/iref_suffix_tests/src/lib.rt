@@ -1,12 +1,10 @@
-//! Tests of what is left of paths and references after a prefix: outside rows, texts of 1,000,000
-//! segments, refused growths.
+//! Tests of what is left of paths and references after a prefix: outside rows, and texts of
+//! 1,000,000 segments.
 #![tactic(auto)]
 
 #[cfg(test)]
 mod calls;
 #[cfg(test)]
 mod long_runs;
-#[cfg(test)]
-mod refused;
 #[cfg(test)]
 mod rows;
