@@ -3,7 +3,7 @@
 use crate::rows::editor;
 use iref::chars::UriChars;
 use iref::uri::Path;
-use iref_checks::same::holds;
+use iref_checks::same::{holds, same_bytes};
 use iref_path::path_mut::PathMut;
 use linked_list_allocator::LocalHeap;
 use std::alloc::Global;
@@ -123,6 +123,45 @@ fn is_refused_until_done(alloc: Global, row: Row) -> Result<(), Fail> {
 fn a_refused_append_keeps_its_beginning(rt: HostRuntime) -> Result<(), Fail> {
     for row in ROWS {
         is_refused_until_done(rt.alloc(), *row)?;
+    }
+    Ok(())
+}
+
+/// A path, and its normal form, which is no longer.
+const NORMALIZED: &[(&str, &str)] = &[
+    (
+        "a/b/b/b/b/b/b/b/b/b/b/b/b/b/b/b/b/b/b/b/b/b/b/b/b/b/b/b/b/b/b/b/b/b/b/b/b/b/b/b/b/..",
+        "a/b/b/b/b/b/b/b/b/b/b/b/b/b/b/b/b/b/b/b/b/b/b/b/b/b/b/b/b/b/b/b/b/b/b/b/b/b/b/b/",
+    ),
+    ("/a/../..//b/.", "/.//b/"),
+    ("x/../1:2", "./1:2"),
+    ("../a/./../b", "../b"),
+];
+
+// Whether this heap can hold the path; if so, it is normalized without further memory.
+fn is_normalized(heap: &LocalHeap, text: &str, want: &str) -> Result<bool, Fail> {
+    let Ok(copy) = String::from_str(heap, text) else {
+        return Ok(false);
+    };
+    let mut bytes = copy.into_bytes();
+    let Some(mut path) = editor(&mut bytes, 0..text.len()) else {
+        return Err("no path")?;
+    };
+    path.normalize()?;
+    same_bytes(bytes.as_slice(), want.as_bytes())?;
+    Ok(true)
+}
+
+#[test]
+fn dots_are_removed_without_memory(rt: HostRuntime) -> Result<(), Fail> {
+    for row in NORMALIZED {
+        let (text, want) = *row;
+        let mut held = false;
+        for size in 1..MOST {
+            let heap = LocalHeap::new(rt.alloc(), size)?;
+            held |= is_normalized(&heap, text, want)?;
+        }
+        holds(held, text)?;
     }
     Ok(())
 }

@@ -133,6 +133,8 @@ fn paths_are_edited_or_nothing_changes(rt: HostRuntime) -> Result<(), Fail> {
         ),
         (Edit::Pop, "s:..?q", "s:../..?q"),
         (Edit::Normalize, "s:a/..//b?q", "s:.//b?q"),
+        (Edit::Normalize, "s:..?q", "s:../?q"),
+        (Edit::Normalize, "s://h/a/../..//b/.?q", "s://h//b/?q"),
     ];
     are_edited(rt.alloc(), &rows)
 }

@@ -66,6 +66,7 @@ const EDITS: &[(&str, Edit, &str)] = &[
     ("", Edit::TryJoin("a/b/../c"), "a/c"),
     ("a/../b:c/d", Edit::Normalize, "./b:c/d"),
     ("../a/../b", Edit::Normalize, "../b"),
+    ("//b", Edit::Normalize, "/.//b"),
 ];
 
 #[test]
