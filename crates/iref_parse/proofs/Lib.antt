@@ -4,6 +4,7 @@ pub mod DigitLemmas
 pub mod OctetLemmas
 pub mod GroupLemmas
 pub mod DoubleColonLemmas
+pub mod Ipv6ScanLemmas
 pub mod LiteralLemmas
 pub mod SlicePlaceLemmas
 pub mod MarkLemmas

@@ -14,3 +14,4 @@ pub use Rattle.iref_parse.specs.ReferenceSlices.{texts_of, value_of}
 pub mod AuthoritySlices
 pub mod ReferenceSlices
 pub mod IpGroups
+pub mod Ipv6Scan

@@ -8,7 +8,8 @@ ghost use Rattle.iref_grammar.specs.Texts.{before, after};
 ghost use Rattle.iref_grammar.specs.Tests as test;
 
 use crate::cut::cut;
-use crate::ip::{are_hexadecimal, ipv4_value, ipv6_value};
+use crate::ip::{are_hexadecimal, ipv4_value};
+use crate::ipv6::is_ipv6;
 use crate::scan::{is_future_char, is_reg_name};
 use iref_grammar::chars::CharSet;
 
@@ -71,7 +72,7 @@ pub fn in_brackets(text: &str) -> Option<&str>
 pub fn is_ip_literal(text: &str) -> bool
     ensures { result ≡ test.is_ip_literal text.now }
 {
-    in_brackets(text).is_some_and(|address| ipv6_value(address).is_some() || is_ipvfuture(address))
+    in_brackets(text).is_some_and(|address| is_ipv6(address) || is_ipvfuture(address))
 }
 
 /// Whether the text is an IPv4 address.

@@ -7,6 +7,7 @@ pub mod cut;
 pub mod decoded;
 pub mod host;
 pub mod ip;
+pub mod ipv6;
 pub mod places;
 pub mod scan;
 pub mod split;

@@ -1,0 +1,233 @@
+-- What is read in one scan is an IPv6 address.
+use Rattle.std.proofs.Common.{◌≡◌, ℕ, ◌+◌, ◌-◌, ◌<◌, ◌≤◌, zero, suc, Bool, true, false, cond, ◌&&◌, ◌||◌, List, [], ◌∷◌, ◌++◌, length, append_assoc, length-append, refl, sym, ◌∙◌, ap, subst, arith, ◌⊎◌, inl, inr, lit<}
+use Rattle.std.specs.Prelude.{◌==◌, nat_lt, codes, is_some}
+use Rattle.std.specs.List.{list_all, AllZip, join_with_byte}
+use Rattle.std.specs.Char.{is_ascii_hexdigit}
+use Rattle.std.specs.Str.Parse.{digits_value}
+use Rattle.std.proofs.lemmas.Bool.Decides.{nat_tests}
+use Rattle.std.proofs.lemmas.Bool.{eqb-true, and_from, and_parts}
+use Rattle.std.proofs.lemmas.List.{append-nil, nil_from_length}
+use Rattle.std.proofs.lemmas.List.Folds.{list_all-append}
+use mathlib.Core.Bool.{true≢false}
+use Rattle.iref_grammar.specs.Rules.{Text}
+use Rattle.iref_grammar.specs.Texts.{is_empty}
+use Rattle.iref_grammar.specs.IpAddresses.{IsGroup, AreGroups, IsShortIpv6, IsFullIpv6, IsIpv6, number_of, filled_groups, ipv6_value}
+use Rattle.iref_grammar.proofs.Ipv6CompleteLemmas.{ipv6_value-complete}
+use Rattle.iref_parse.specs.Ipv6Scan.{ends_in_groups, is_after_gap, has_groups, opens_with_gap, is_plain_ipv6}
+
+below : (m n : ℕ) → nat_lt m n ≡ true → m < n
+below m n h = grind (arith, nat_tests)
+
+-- the digits of the group that is read
+record Digits (front : Text) (count : ℕ) : Type 0 where
+  hex : list_all is_ascii_hexdigit front ≡ true
+  size : length front ≡ count
+  short : count ≤ 4
+
+no_digits : Digits [] 0
+no_digits = record { hex = refl; size = refl; short = omega arith }
+
+one_more : (front : Text) (count c : ℕ) → Digits front count → is_ascii_hexdigit c ≡ true → count < 4 → Digits (front ++ c ∷ []) (count + 1)
+one_more front count c d h few = record {
+  hex = list_all-append is_ascii_hexdigit front (c ∷ []) ∙ and_from _ _ d.hex (and_from _ _ h refl);
+  size = length-append front (c ∷ []) ∙ ap (λ n. n + 1) d.size;
+  short = omega (arith, few);
+}
+
+as_group : (front : Text) (count : ℕ) → Digits front count → 0 < count → IsGroup front (digits_value 16 front)
+as_group front count d some = record { nonempty = omega (arith, d.size, some); short = omega (arith, d.size, d.short); digits = d.hex; value = refl }
+
+-- groups with `:` between, one at least
+record Groups (text : Text) : Type 0 where
+  first : Text
+  pieces : List Text
+  values : List ℕ
+  groups : AllZip IsGroup (first ∷ pieces) values
+  spelled : text ≡ join_with_byte 58 (first ∷ pieces)
+
+abbrev last_group : (front : Text) (count : ℕ) → Digits front count → 0 < count → Groups (front ++ [])
+last_group front count d some = record { first = front; pieces = []; values = digits_value 16 front ∷ []; groups = (as_group front count d some, tt); spelled = append-nil front }
+
+abbrev then_groups : (front : Text) (count : ℕ) → Digits front count → 0 < count → (c : ℕ) (rest : Text) → c ≡ 58 → Groups rest → Groups (front ++ c ∷ rest)
+then_groups front count d some c rest e z = record {
+  first = front;
+  pieces = z.first ∷ z.pieces;
+  values = digits_value 16 front ∷ z.values;
+  groups = (as_group front count d some, z.groups);
+  spelled = λ i. front ++ e i ∷ z.spelled i;
+}
+
+-- at a digit and at a colon
+ends_at_digit : (room count c : ℕ) (cs : Text) → is_ascii_hexdigit c ≡ true → ends_in_groups room count (c ∷ cs) ≡ true → (count < 4) × (ends_in_groups room (count + 1) cs ≡ true)
+ends_at_digit room count c cs e h =
+    let both = and_parts (nat_lt count 4) (ends_in_groups room (count + 1) cs) (ap (λ b. cond b (nat_lt count 4 && ends_in_groups room (count + 1) cs) (c == 58 && (nat_lt 0 count && (nat_lt 0 room && ends_in_groups (room - 1) 0 cs)))) (sym e) ∙ h) in
+    (below count 4 both.0, both.1)
+
+ends_at_colon : (room count c : ℕ) (cs : Text) → is_ascii_hexdigit c ≡ false → ends_in_groups room count (c ∷ cs) ≡ true → (c ≡ 58) × (0 < count) × (0 < room) × (ends_in_groups (room - 1) 0 cs ≡ true)
+ends_at_colon room count c cs e h =
+    let rest = ends_in_groups (room - 1) 0 cs in
+    let colon = and_parts (c == 58) (nat_lt 0 count && (nat_lt 0 room && rest)) (ap (λ b. cond b (nat_lt count 4 && ends_in_groups room (count + 1) cs) (c == 58 && (nat_lt 0 count && (nat_lt 0 room && rest)))) (sym e) ∙ h) in
+    let digits = and_parts (nat_lt 0 count) (nat_lt 0 room && rest) colon.1 in
+    let more = and_parts (nat_lt 0 room) rest digits.1 in
+    (eqb-true c 58 colon.0, below 0 count digits.0, below 0 room more.0, more.1)
+
+abbrev FewGroups : ℕ → Text → Type 0
+FewGroups room text = (z : Groups text) × (length z.values ≤ room + 1)
+
+groups_to_end : (room count : ℕ) (front text : Text) → Digits front count → ends_in_groups room count text ≡ true → FewGroups room (front ++ text)
+groups_to_end room count front [] d h = (last_group front count d (below 0 count h), omega arith)
+groups_to_end room count front (c ∷ cs) d h = by (λ r n f k e. groups_to_end r n f cs k e) (is_ascii_hexdigit c) refl
+  where
+    by : ((r n : ℕ) (f : Text) → Digits f n → ends_in_groups r n cs ≡ true → FewGroups r (f ++ cs)) → (b : Bool) → is_ascii_hexdigit c ≡ b → FewGroups room (front ++ c ∷ cs)
+    by rest true e =
+        let at = ends_at_digit room count c cs e h in
+        subst (FewGroups room) (append_assoc front (c ∷ []) cs) (rest room (count + 1) (front ++ c ∷ []) (one_more front count c d e at.0) at.1)
+    by rest false e =
+        let at = ends_at_colon room count c cs e h in
+        let z = rest (room - 1) 0 [] no_digits at.3 in
+        (then_groups front count d at.1 c cs at.0 z.0, omega (arith, z.1, at.2))
+
+abbrev AfterGap : ℕ → Text → Type 0
+AfterGap room text = (right : List ℕ) × AreGroups text right × (length right ≤ room)
+
+after_gap : (room : ℕ) (text : Text) → is_after_gap room text ≡ true → AfterGap room text
+after_gap room [] h = ([], ([], tt, refl), omega arith)
+after_gap room (c ∷ cs) h =
+    let more = and_parts (nat_lt 0 room) (ends_in_groups (room - 1) 0 (c ∷ cs)) h in
+    let some = below 0 room more.0 in
+    let z = groups_to_end (room - 1) 0 [] (c ∷ cs) no_digits more.1 in
+    (z.0.values, (z.0.first ∷ z.0.pieces, z.0.groups, z.0.spelled), omega (arith, z.1, some))
+
+-- groups that each stand before a `:`
+abbrev closed : List Text → Text
+closed [] = []
+closed (p ∷ pieces) = p ++ 58 ∷ closed pieces
+
+closed-join : (p : Text) (pieces : List Text) → closed (p ∷ pieces) ≡ join_with_byte 58 (p ∷ pieces) ++ 58 ∷ []
+closed-join p [] = refl
+closed-join p (q ∷ pieces) = ap (λ t. p ++ 58 ∷ t) (closed-join q pieces) ∙ sym (append_assoc p (58 ∷ join_with_byte 58 (q ∷ pieces)) (58 ∷ []))
+
+-- what is left from the group that is read on: groups that fill the room, or `::` after some
+record Gap (room : ℕ) (text : Text) : Type 0 where
+  pieces : List Text
+  left : List ℕ
+  groups : AllZip IsGroup pieces left
+  after : Text
+  right : List ℕ
+  right_groups : AreGroups after right
+  few : length left + length right ≤ room
+  begun : room < 7 + length left
+  spelled : text ≡ closed pieces ++ 58 ∷ after
+
+abbrev Filled : ℕ → Text → Type 0
+Filled room text = (z : Groups text) × (length z.values ≡ room + 1)
+
+abbrev at_colon : ℕ → ℕ → Text → Bool
+at_colon room count cs = cond (nat_lt 0 count) (nat_lt 0 room && has_groups (room - 1) 0 cs) (nat_lt room 7 && is_after_gap room cs)
+
+has_at_digit : (room count c : ℕ) (cs : Text) → is_ascii_hexdigit c ≡ true → has_groups room count (c ∷ cs) ≡ true → (count < 4) × (has_groups room (count + 1) cs ≡ true)
+has_at_digit room count c cs e h =
+    let both = and_parts (nat_lt count 4) (has_groups room (count + 1) cs) (ap (λ b. cond b (nat_lt count 4 && has_groups room (count + 1) cs) (c == 58 && at_colon room count cs)) (sym e) ∙ h) in
+    (below count 4 both.0, both.1)
+
+has_at_colon : (room count c : ℕ) (cs : Text) → is_ascii_hexdigit c ≡ false → has_groups room count (c ∷ cs) ≡ true → (c ≡ 58) × (at_colon room count cs ≡ true)
+has_at_colon room count c cs e h =
+    let both = and_parts (c == 58) (at_colon room count cs) (ap (λ b. cond b (nat_lt count 4 && has_groups room (count + 1) cs) (c == 58 && at_colon room count cs)) (sym e) ∙ h) in
+    (eqb-true c 58 both.0, both.1)
+
+begins_gap : (room : ℕ) (front : Text) → Digits front 0 → (c : ℕ) (cs : Text) → c ≡ 58 → room < 7 → AfterGap room cs → Gap room (front ++ c ∷ cs)
+begins_gap room front d c cs e some z = record {
+  pieces = [];
+  left = [];
+  groups = tt;
+  after = cs;
+  right = z.0;
+  right_groups = z.1;
+  few = omega (arith, z.2);
+  begun = omega (arith, some);
+  spelled = λ i. nil_from_length front d.size i ++ e i ∷ cs;
+}
+
+then_gap : (room count : ℕ) (front : Text) → Digits front count → 0 < count → 0 < room → (c : ℕ) (cs : Text) → c ≡ 58 → Gap (room - 1) cs → Gap room (front ++ c ∷ cs)
+then_gap room count front d some more c cs e g = record {
+  pieces = front ∷ g.pieces;
+  left = digits_value 16 front ∷ g.left;
+  groups = (as_group front count d some, g.groups);
+  after = g.after;
+  right = g.right;
+  right_groups = g.right_groups;
+  few = omega (arith, g.few, more);
+  begun = omega (arith, g.begun);
+  spelled = (λ i. front ++ e i ∷ g.spelled i) ∙ sym (append_assoc front (58 ∷ closed g.pieces) (58 ∷ g.after));
+}
+
+abbrev Read : ℕ → Text → Type 0
+Read room text = Filled room text ⊎ Gap room text
+
+groups_read : (room count : ℕ) (front text : Text) → Digits front count → has_groups room count text ≡ true → Read room (front ++ text)
+groups_read room count front [] d h =
+    let both = and_parts (room == 0) (nat_lt 0 count) h in
+    inl (last_group front count d (below 0 count both.1), omega (arith, eqb-true room 0 both.0))
+groups_read room count front (c ∷ cs) d h = by (λ r n f k e. groups_read r n f cs k e) (is_ascii_hexdigit c) refl
+  where
+    colon : ((r n : ℕ) (f : Text) → Digits f n → has_groups r n cs ≡ true → Read r (f ++ cs)) → c ≡ 58 → (b : Bool) → nat_lt 0 count ≡ b
+        → cond b (nat_lt 0 room && has_groups (room - 1) 0 cs) (nat_lt room 7 && is_after_gap room cs) ≡ true → Read room (front ++ c ∷ cs)
+    colon rest e true some k =
+        let more = and_parts (nat_lt 0 room) (has_groups (room - 1) 0 cs) k in
+        elim (rest (room - 1) 0 [] no_digits more.1) [
+          | inl z ↦ inl (then_groups front count d (below 0 count some) c cs e z.0, omega (arith, z.1, below 0 room more.0))
+          | inr g ↦ inr (then_gap room count front d (below 0 count some) (below 0 room more.0) c cs e g)
+        ]
+    colon rest e false none k =
+        let more = and_parts (nat_lt room 7) (is_after_gap room cs) k in
+        let zero_digits : count ≡ 0 = grind (arith, nat_tests) in
+        inr (begins_gap room front (subst (Digits front) zero_digits d) c cs e (below room 7 more.0) (after_gap room cs more.1))
+
+    by : ((r n : ℕ) (f : Text) → Digits f n → has_groups r n cs ≡ true → Read r (f ++ cs)) → (b : Bool) → is_ascii_hexdigit c ≡ b → Read room (front ++ c ∷ cs)
+    by rest true e =
+        let at = has_at_digit room count c cs e h in
+        subst (Read room) (append_assoc front (c ∷ []) cs) (rest room (count + 1) (front ++ c ∷ []) (one_more front count c d e at.0) at.1)
+    by rest false e = let at = has_at_colon room count c cs e h in colon rest at.0 (nat_lt 0 count) refl at.1
+
+-- ---- the address
+
+address : (text : Text) (groups : List ℕ) → IsFullIpv6 text groups ⊎ IsShortIpv6 text groups → is_some (ipv6_value text) ≡ true
+address text groups z = ap is_some (ipv6_value-complete text (number_of 65536 groups) (groups, z, refl))
+
+short_address : (text before after : Text) (left right : List ℕ) → AreGroups before left → AreGroups after right → length left + length right ≤ 7 → text ≡ before ++ codes "::" ++ after → is_some (ipv6_value text) ≡ true
+short_address text before after left right g k few e =
+    address text (filled_groups left right)
+    (inr (record { before = before; after = after; left = left; right = right; left_groups = g; right_groups = inl k; few = few; spelled = e; value = refl }))
+
+gap_first : (text rest : Text) → text ≡ codes "::" ++ rest → is_after_gap 7 rest ≡ true → is_some (ipv6_value text) ≡ true
+gap_first text rest e h = let z = after_gap 7 rest h in short_address text [] rest [] z.0 ([], tt, refl) z.1 (omega (arith, z.2)) e
+
+groups_first : (text : Text) → has_groups 7 0 text ≡ true → is_some (ipv6_value text) ≡ true
+groups_first text h = elim (groups_read 7 0 [] text no_digits h) [
+  | inl z ↦ address text z.0.values (inl (inl (z.0.first ∷ z.0.pieces, z.0.groups, z.0.spelled), z.1))
+  | inr g ↦ by g.pieces g.left g.groups g.after g.right g.right_groups g.few g.begun g.spelled
+]
+  where
+    by : (pieces : List Text) (left : List ℕ) → AllZip IsGroup pieces left → (after : Text) (right : List ℕ) → AreGroups after right → length left + length right ≤ 7 → 7 < 7 + length left → text ≡ closed pieces ++ 58 ∷ after
+        → is_some (ipv6_value text) ≡ true
+    by [] [] z after right k few some e = absurd (omega (arith, some))
+    by [] (n ∷ ns) z after right k few some e = absurd z
+    by (p ∷ pieces) left z after right k few some e =
+        let before = join_with_byte 58 (p ∷ pieces) in
+        short_address text before after left right (p ∷ pieces, z, refl) k few
+        (e ∙ ap (λ t. t ++ 58 ∷ after) (closed-join p pieces) ∙ append_assoc before (58 ∷ []) (58 ∷ after) ∙ sym (append_assoc before (codes "::") after))
+
+opened : (text : Text) → opens_with_gap text ≡ true → is_some (ipv6_value text) ≡ true
+opened [] h = absurd (true≢false (sym h))
+opened (a ∷ []) h = absurd (true≢false (sym h))
+opened (a ∷ b ∷ cs) h =
+    let first = and_parts (a == 58) (b == 58 && is_after_gap 7 cs) h in
+    let second = and_parts (b == 58) (is_after_gap 7 cs) first.1 in
+    gap_first (a ∷ b ∷ cs) cs (λ i. eqb-true a 58 first.0 i ∷ eqb-true b 58 second.0 i ∷ cs) second.1
+
+pub plain_address : (text : Text) → is_plain_ipv6 text ≡ true → is_some (ipv6_value text) ≡ true
+plain_address text h = by (has_groups 7 0 text) refl h
+  where
+    by : (b : Bool) → has_groups 7 0 text ≡ b → (b || opens_with_gap text) ≡ true → is_some (ipv6_value text) ≡ true
+    by true e k = groups_first text e
+    by false e k = opened text k
