@@ -1,23 +1,63 @@
--- A host alone is an authority.
-use Rattle.std.proofs.Common.{◌≡◌, true, ◌&&◌, sym, ◌∙◌, ap}
-use Rattle.std.specs.Prelude.{None}
+-- A host alone, and a host with a port, is an authority.
+use Rattle.std.proofs.Common.{◌≡◌, true, false, Bool, ◌&&◌, ◌||◌, [], ◌∷◌, ◌++◌, append_assoc, sym, ◌∙◌, ap, refl, subst, cond}
+use Rattle.std.specs.Prelude.{Option, Some, None, is_some, ◌==◌}
+use Rattle.std.specs.List.{list_all}
+use Rattle.std.specs.Char.{is_ascii_digit}
 use Rattle.std.proofs.lemmas.List.{append-nil}
+use Rattle.std.proofs.lemmas.Bool.{eqb-true, and_parts}
 use Rattle.iref_grammar.specs.Characters.{CharTests, AreAboveAscii}
 use Rattle.iref_grammar.specs.Rules.{Text}
-use Rattle.iref_grammar.specs.Tests.{is_host}
+use Rattle.iref_grammar.specs.Grammar.{colon, left_bracket, right_bracket}
+use Rattle.iref_grammar.specs.Texts.{lacks, before, after, then_part}
+use Rattle.iref_grammar.specs.Tests.{is_host, is_port, is_ip_literal, is_ip_address, is_ipvfuture, is_reg_name, in_brackets, ends_here, some_and, none_or}
 use Rattle.iref_grammar.specs.Authority.{AuthorityValue, spell_authority, read_authority, has_authority_parts, is_authority}
+use Rattle.iref_grammar.proofs.CutLemmas.{cut, before-part, after-part}
+use Rattle.iref_grammar.proofs.HostLemmas.{before_lacks}
 use Rattle.iref_grammar.proofs.AuthorityLemmas.{read_authority-back, delimited_authority}
+use Rattle.iref_parse.specs.AuthoritySlices.{is_port_part}
+use Rattle.iref_parse.specs.Ipv6Scan.{is_plain_ipv6}
+use Rattle.iref_parse.proofs.Ipv6ScanLemmas.{plain_address}
 
-abbrev alone : Text → AuthorityValue
-alone host = record { user_info = None; host = host; port = None }
+abbrev without_user_info : Text → Option Text → AuthorityValue
+without_user_info host port = record { user_info = None; host = host; port = port }
 
-spelled_alone : (host : Text) → spell_authority (alone host) ≡ host
+spelled_without : (host : Text) (port : Option Text) → spell_authority (without_user_info host port) ≡ host ++ then_part (colon ∷ []) port
 unfolding spell_authority
-spelled_alone host = append-nil host
+spelled_without host port = refl
+
+host_and_port : (set : CharTests) → AreAboveAscii set → (host : Text) (port : Option Text) → is_host set host ≡ true → none_or is_port port ≡ true → is_authority set (host ++ then_part (colon ∷ []) port) ≡ true
+unfolding is_authority has_authority_parts
+host_and_port set above host port h k =
+    let parts : has_authority_parts set (without_user_info host port) ≡ true = λ i. h i && k i in
+    ap (λ t. has_authority_parts set (read_authority t)) (sym (spelled_without host port))
+    ∙ ap (has_authority_parts set) (read_authority-back (without_user_info host port) (delimited_authority set above (without_user_info host port) parts)) ∙ parts
 
 pub host_alone : (set : CharTests) → AreAboveAscii set → (host : Text) → is_host set host ≡ true → is_authority set host ≡ true
-unfolding is_authority has_authority_parts
-host_alone set above host h =
-    let parts : has_authority_parts set (alone host) ≡ true = λ i. h i && true in
-    ap (λ t. has_authority_parts set (read_authority t)) (sym (spelled_alone host))
-    ∙ ap (has_authority_parts set) (read_authority-back (alone host) (delimited_authority set above (alone host) parts)) ∙ parts
+host_alone set above host h = ap (is_authority set) (sym (append-nil host)) ∙ host_and_port set above host None h refl
+
+-- a port after a host
+port_after : (set : CharTests) → AreAboveAscii set → (host end : Text) → is_host set host ≡ true → is_port_part end ≡ true → is_authority set (host ++ end) ≡ true
+unfolding is_port
+port_after set above host [] h k = host_and_port set above host None h refl
+port_after set above host (c ∷ port) h k =
+    let both = and_parts (c == colon) (list_all is_ascii_digit port) k in
+    ap (λ d. is_authority set (host ++ d ∷ port)) (eqb-true c colon both.0) ∙ host_and_port set above host (Some port) h both.1
+
+abbrev in_its_brackets : Text → Text
+in_its_brackets inside = left_bracket ∷ (inside ++ right_bracket ∷ [])
+
+address_host : (set : CharTests) (inside : Text) → lacks right_bracket inside ≡ true → is_plain_ipv6 inside ≡ true → is_host set (in_its_brackets inside) ≡ true
+unfolding is_host is_ip_literal
+address_host set inside h k =
+    let read : in_brackets (in_its_brackets inside) ≡ Some inside = λ i. cond (ends_here (after-part right_bracket inside (Some []) h i)) (Some (before-part right_bracket inside (Some []) h i)) None in
+    let literal : is_ip_literal (in_its_brackets inside) ≡ true = ap (some_and is_ip_address) read ∙ (λ i. plain_address inside k i || is_ipvfuture inside) in
+    λ i. literal i || is_reg_name set (in_its_brackets inside)
+
+-- an address in brackets, read up to its `]`
+pub address_authority : (text rest inside end : Text) → text ≡ left_bracket ∷ rest → inside ≡ before (right_bracket ∷ []) rest → Some end ≡ after right_bracket rest → is_plain_ipv6 inside ≡ true → is_port_part end ≡ true
+    → (set : CharTests) → AreAboveAscii set → is_authority set text ≡ true
+address_authority text rest inside end e f g h k set above =
+    let host = address_host set inside (ap (lacks right_bracket) f ∙ before_lacks right_bracket rest) h in
+    let spelled : left_bracket ∷ rest ≡ in_its_brackets inside ++ end =
+    ap (λ t. left_bracket ∷ t) (sym (cut right_bracket rest) ∙ (λ i. sym f i ++ then_part (right_bracket ∷ []) (sym g i)) ∙ sym (append_assoc inside (right_bracket ∷ []) end)) in
+    ap (is_authority set) (e ∙ spelled) ∙ port_after set above (in_its_brackets inside) end host k

@@ -1,17 +1,19 @@
 //! The split of an authority (RFC 3986 section 3.2), and whether a text is one.
 
-ghost use Rattle.std.specs.Prelude.{◌≡◌};
+ghost use Rattle.std.specs.Prelude.{◌≡◌, true};
 ghost use Rattle.std.specs.Option.{option_copied};
 ghost use Rattle.iref_grammar.specs.Authority.{read_authority, read_host_and_port, bracketed, after_bracketed};
 ghost use Rattle.iref_grammar.specs.Authority.{has_authority_parts};
 ghost use Rattle.iref_grammar.specs.Authority as authority;
 ghost use Rattle.iref_grammar.specs.Tests as test;
 ghost use Rattle.iref_grammar.specs.Tests.{none_or};
-ghost use Rattle.iref_parse.specs.AuthoritySlices.{authority_of};
+ghost use Rattle.iref_grammar.specs.Characters.{CharTests, AreAboveAscii};
+ghost use Rattle.iref_parse.specs.AuthoritySlices.{authority_of, is_port_part};
 
 use crate::cut::{cut, split_before};
 use crate::host::is_host;
-use crate::scan::{is_port, is_user_info};
+use crate::ipv6::is_plain_ipv6;
+use crate::scan::{are_digits, is_port, is_user_info};
 use iref_grammar::chars::CharSet;
 
 /// The parts of an authority, as slices of its text.
@@ -64,6 +66,32 @@ pub fn split_authority(text: &str) -> AuthoritySlices<'_>
     }
 }
 
+// Whether the bytes are nothing, or `:` and a port.
+fn is_port_part(bytes: &[u8]) -> bool
+    ensures { result ≡ is_port_part bytes.now }
+{
+    let Some((first, port)) = bytes.split_first() else {
+        return true;
+    };
+    *first == b':' && are_digits(port)
+}
+
+// Whether the text is an IPv6 address of groups alone in brackets, and a port, if any.
+fn is_plain_address(text: &str) -> bool
+    ensures { result ≡ true → (set : CharTests) → AreAboveAscii set
+        → authority.is_authority set text.now ≡ true }
+{
+    let Some(rest) = text.strip_prefix('[') else {
+        return false;
+    };
+    match cut(rest, ']') {
+        (inside, Some(end)) => {
+            is_plain_ipv6(inside.as_bytes()) && is_port_part(end.as_bytes())
+        }
+        (_, None) => false,
+    }
+}
+
 // Whether each part is in its rule.
 #[tactic(auto, unfolding(iref_grammar::specs::Authority::has_authority_parts))]
 fn are_parts<C: CharSet>(parts: AuthoritySlices<'_>) -> bool
@@ -74,10 +102,14 @@ fn are_parts<C: CharSet>(parts: AuthoritySlices<'_>) -> bool
         && parts.port.is_none_or(|text| is_port(text))
 }
 
-/// Whether the text is an authority (RFC 3986 section 3.2). Most often it is a host alone.
+/// Whether the text is an authority (RFC 3986 section 3.2). Most often it is a host alone, or an
+/// IPv6 address and a port.
 #[tactic(auto, unfolding(iref_grammar::specs::Authority::is_authority))]
 pub fn is_authority<C: CharSet>(text: &str) -> bool
     ensures { result ≡ authority.is_authority C.tests text.now }
 {
+    if is_plain_address(text) {
+        return true;
+    }
     is_host::<C>(text) || are_parts::<C>(split_authority(text))
 }

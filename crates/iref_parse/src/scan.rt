@@ -2,7 +2,7 @@
 
 ghost use Rattle.std.specs.Prelude.{◌≡◌, ◌==◌, ◌&&◌, ◌||◌, ℕ, ◌+◌, ◌<◌, Bool, ◌∷◌, ◌≤◌, chars, length, slice_index, IfSome, MatchOption};
 ghost use Rattle.std.specs.List.{list_all};
-ghost use Rattle.std.specs.Char.{is_ascii};
+ghost use Rattle.std.specs.Char.{is_ascii, is_ascii_digit};
 ghost use Rattle.iref_grammar.specs.Grammar as grammar;
 ghost use Rattle.iref_grammar.specs.Tests as test;
 ghost use Rattle.iref_grammar.specs.{slash, is_not_percent, ScansTo};
@@ -344,12 +344,19 @@ pub fn is_scheme(text: &str) -> bool
     first.is_ascii_alphabetic() && are_scheme_chars(others)
 }
 
+/// Whether each byte is a decimal digit.
+pub(crate) fn are_digits(bytes: &[u8]) -> bool
+    ensures { result ≡ list_all is_ascii_digit bytes.now }
+{
+    bytes.iter().all(|b| b.is_ascii_digit())
+}
+
 #[tactic(auto, unfolding(iref_grammar::specs::Tests::is_port))]
 /// Whether the text is a port (RFC 3986 section 3.2.3).
 pub fn is_port(text: &str) -> bool
     ensures { result ≡ test.is_port text.now }
 {
-    text.as_bytes().iter().all(|b| b.is_ascii_digit())
+    are_digits(text.as_bytes())
 }
 
 #[tactic(auto, using(crate::proofs::ScanLemmas::utf8), unfolding(iref_grammar::specs::Tests::is_pct_str))]
