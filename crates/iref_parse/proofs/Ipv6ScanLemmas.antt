@@ -1,5 +1,5 @@
 -- What is read in one scan is an IPv6 address.
-use Rattle.std.proofs.Common.{◌≡◌, ℕ, ◌+◌, ◌-◌, ◌<◌, ◌≤◌, zero, suc, Bool, true, false, cond, ◌&&◌, ◌||◌, List, [], ◌∷◌, ◌++◌, length, append_assoc, length-append, refl, sym, ◌∙◌, ap, subst, arith, ◌⊎◌, inl, inr, lit<}
+use Rattle.std.proofs.Common.{◌≡◌, ℕ, ◌+◌, ◌-◌, ◌<◌, ◌≤◌, Bool, true, false, cond, ◌&&◌, ◌||◌, List, [], ◌∷◌, ◌++◌, length, append_assoc, length-append, refl, sym, ◌∙◌, ap, subst, arith, ◌⊎◌, inl, inr}
 use Rattle.std.specs.Prelude.{◌==◌, nat_lt, codes, is_some}
 use Rattle.std.specs.List.{list_all, AllZip, join_with_byte}
 use Rattle.std.specs.Char.{is_ascii_hexdigit}
@@ -10,8 +10,7 @@ use Rattle.std.proofs.lemmas.List.{append-nil, nil_from_length}
 use Rattle.std.proofs.lemmas.List.Folds.{list_all-append}
 use mathlib.Core.Bool.{true≢false}
 use Rattle.iref_grammar.specs.Rules.{Text}
-use Rattle.iref_grammar.specs.Texts.{is_empty}
-use Rattle.iref_grammar.specs.IpAddresses.{IsGroup, AreGroups, IsShortIpv6, IsFullIpv6, IsIpv6, number_of, filled_groups, ipv6_value}
+use Rattle.iref_grammar.specs.IpAddresses.{IsGroup, AreGroups, IsShortIpv6, IsFullIpv6, number_of, filled_groups, ipv6_value}
 use Rattle.iref_grammar.proofs.Ipv6CompleteLemmas.{ipv6_value-complete}
 use Rattle.iref_parse.specs.Ipv6Scan.{ends_in_groups, is_after_gap, has_groups, opens_with_gap, is_plain_ipv6}
 

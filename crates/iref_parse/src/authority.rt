@@ -85,9 +85,7 @@ fn is_plain_address(text: &str) -> bool
         return false;
     };
     match cut(rest, ']') {
-        (inside, Some(end)) => {
-            is_plain_ipv6(inside.as_bytes()) && is_port_part(end.as_bytes())
-        }
+        (inside, Some(end)) => { is_plain_ipv6(inside.as_bytes()) && is_port_part(end.as_bytes()) }
         (_, None) => false,
     }
 }
