@@ -27,67 +27,83 @@ pub mod uri {
     pub use iref_error::{InvalidUri, InvalidUriRef, UriError};
     use iref_grammar::chars::UriChars;
 
-    /// A URI (RFC 3986 section 3).
+    /// A URI (RFC 3986 section 3): `http://a/b?q#f` and `urn:isbn:1`, but not `//a/b`, which has no
+    /// scheme.
     pub type Uri<'a> = iref_reference::view::Uri<'a, UriChars>;
-    /// A reference of URIs (RFC 3986 section 4.1).
+    /// A reference of URIs (RFC 3986 section 4.1): any URI, and what is relative to one, as
+    /// `//a/b`, `../b`, `?q` and the empty text.
     pub type UriRef<'a> = iref_reference::view::UriRef<'a, UriChars>;
-    /// A URI that owns its text.
+    /// A URI that owns its text (RFC 3986 section 3), and is edited in place: `set_query` of `q`
+    /// makes `http://a/b?q` of `http://a/b`. It never loses its scheme.
     pub type UriBuf = iref_reference::owner::UriBuf<UriChars>;
-    /// A reference of URIs that owns its text.
+    /// A reference of URIs that owns its text (RFC 3986 section 4.1): `resolve` against
+    /// `http://a/b/c` makes `http://a/g` of `../g`.
     pub type UriRefBuf = iref_reference::owner::UriRefBuf<UriChars>;
 
-    /// The components of a URI.
+    /// The components of a URI (RFC 3986 section 3): of `http://a/b` the scheme `http`, the
+    /// authority `a`, the path `/b`, no query and no fragment.
     pub type UriParts<'a> = iref_reference::parts::UriParts<'a, UriChars>;
-    /// The components of a reference.
+    /// The components of a reference (RFC 3986 section 4.1): of `?#` no scheme, no authority, the
+    /// empty path, and an empty query and fragment, which are there.
     pub type UriRefParts<'a> = iref_reference::parts::UriRefParts<'a, UriChars>;
 
-    /// An authority (RFC 3986 section 3.2).
+    /// An authority (RFC 3986 section 3.2): in `//u@h:80/x` it is `u@h:80`, with the host `h`.
     pub type Authority<'a> = iref_authority::authority::Authority<'a, UriChars>;
-    /// An authority that owns its text.
+    /// An authority that owns its text (RFC 3986 section 3.2): `set_port` of `80` makes `h:80` of
+    /// `h`.
     pub type AuthorityBuf = iref_authority::owner::AuthorityBuf<UriChars>;
-    /// The editor of an authority in a vector of bytes.
+    /// The editor of an authority in a vector of bytes (RFC 3986 section 3.2): at the bytes 2 to 6
+    /// of `//h:80/x`, `set_port` of None leaves `//h/x`.
     pub type AuthorityMut<'a> = iref_authority::authority_mut::AuthorityMut<'a, UriChars>;
-    /// The parts of an authority.
+    /// The parts of an authority (RFC 3986 section 3.2): of `u@h:` the user info `u`, the host `h`
+    /// and an empty port, which is there.
     pub type AuthorityParts<'a> = iref_authority::parts::AuthorityParts<'a, UriChars>;
 
-    /// A user info (RFC 3986 section 3.2.1).
+    /// A user info (RFC 3986 section 3.2.1): in `//u:p@h` it is `u:p`.
     pub type UserInfo<'a> = iref_component::texts::UserInfo<'a, UriChars>;
-    /// A user info that owns its text.
+    /// A user info that owns its text (RFC 3986 section 3.2.1), as `u:p` of `//u:p@h`.
     pub type UserInfoBuf = iref_component::texts::UserInfoBuf<UriChars>;
 
-    /// A host (RFC 3986 section 3.2.2).
+    /// A host (RFC 3986 section 3.2.2): a name as `a.org`, an address as `10.0.0.1`, or one in
+    /// brackets, as `[::1]`. In `//u@:80` it is empty.
     pub type Host<'a> = iref_component::texts::Host<'a, UriChars>;
-    /// A host that owns its text.
+    /// A host that owns its text (RFC 3986 section 3.2.2): that of the IPv6 number 1 is `[::1]`.
     pub type HostBuf = iref_component::texts::HostBuf<UriChars>;
 
-    /// A path (RFC 3986 section 3.3).
+    /// A path (RFC 3986 section 3.3): `/a/b` has the segments `a` and `b`, `a/` the segments `a`
+    /// and an empty one.
     pub type Path<'a> = iref_path::path::Path<'a, UriChars>;
-    /// A path that owns its text.
+    /// A path that owns its text (RFC 3986 section 3.3): `push` of `c` makes `/a/c` of `/a`.
     pub type PathBuf = iref_path::path_buf::PathBuf<UriChars>;
-    /// The editor of a path in a vector of bytes.
+    /// The editor of a path in a vector of bytes (RFC 3986 section 3.3): at the bytes 8 to 12 of
+    /// `http://h/a/b?q`, `pop` leaves `http://h/a?q`.
     pub type PathMut<'a> = iref_path::path_mut::PathMut<'a, UriChars>;
 
-    /// A segment of a path (RFC 3986 section 3.3).
+    /// A segment of a path (RFC 3986 section 3.3): `b%2Fc` is one, `b/c` is none, and the empty
+    /// text is one.
     pub type Segment<'a> = iref_component::texts::Segment<'a, UriChars>;
-    /// A segment that owns its text.
+    /// A segment that owns its text (RFC 3986 section 3.3), as `b` of `a/b`.
     pub type SegmentBuf = iref_component::texts::SegmentBuf<UriChars>;
 
-    /// The segments of a path that are left.
+    /// The segments of a path that are left, from both ends (RFC 3986 section 3.3): of `/a//b` they
+    /// are `a`, an empty one and `b`.
     pub type Segments<'a> = iref_path::segments::Segments<'a, UriChars>;
-    /// The normal segments of a path that are left.
+    /// The segments of a path without its dots that are left, from both ends (RFC 3986 section
+    /// 5.2.4): of `a/../b/./c` they are `b` and `c`.
     pub type NormalizedSegments<'a> = iref_path::normal::NormalizedSegments<'a, UriChars>;
 
-    /// A query (RFC 3986 section 3.4).
+    /// A query (RFC 3986 section 3.4): in `a?x=1?y` it is `x=1?y`.
     pub type Query<'a> = iref_component::texts::Query<'a, UriChars>;
-    /// A query that owns its text.
+    /// A query that owns its text (RFC 3986 section 3.4), as `q` of `a?q`.
     pub type QueryBuf = iref_component::texts::QueryBuf<UriChars>;
 
-    /// A fragment (RFC 3986 section 3.5).
+    /// A fragment (RFC 3986 section 3.5): in `a#b/c` it is `b/c`.
     pub type Fragment<'a> = iref_component::texts::Fragment<'a, UriChars>;
-    /// A fragment that owns its text.
+    /// A fragment that owns its text (RFC 3986 section 3.5), as `f` of `a#f`.
     pub type FragmentBuf = iref_component::texts::FragmentBuf<UriChars>;
 
-    /// An edit of a list.
+    /// An edit of a list, for `apply_all`: `Edit::Push` of the segment `b` makes `http://h/a/b` of
+    /// `http://h/a`.
     pub type Edit<'a> = crate::edits::Edit<'a, UriChars>;
 }
 
@@ -102,66 +118,83 @@ pub mod iri {
     pub use iref_error::{InvalidIri, InvalidIriRef, IriError};
     use iref_grammar::chars::IriChars;
 
-    /// An IRI (RFC 3987 section 2.2).
+    /// An IRI (RFC 3987 section 2.2): `http://é/b` and each URI, but not `//é/b`, which has no
+    /// scheme.
     pub type Iri<'a> = iref_reference::view::Uri<'a, IriChars>;
-    /// A reference of IRIs (RFC 3987 section 2.2).
+    /// A reference of IRIs (RFC 3987 section 2.2): any IRI, and what is relative to one, as `//é`,
+    /// `../ü` and the empty text.
     pub type IriRef<'a> = iref_reference::view::UriRef<'a, IriChars>;
-    /// An IRI that owns its text.
+    /// An IRI that owns its text (RFC 3987 section 2.2): `into_uri` makes the URI `http://a/%C3%A9`
+    /// of `http://a/é`. It never loses its scheme.
     pub type IriBuf = iref_reference::owner::UriBuf<IriChars>;
-    /// A reference of IRIs that owns its text.
+    /// A reference of IRIs that owns its text (RFC 3987 section 2.2): `resolve` against
+    /// `http://a/b/c` makes `http://a/ü` of `../ü`.
     pub type IriRefBuf = iref_reference::owner::UriRefBuf<IriChars>;
 
-    /// The components of an IRI.
+    /// The components of an IRI (RFC 3987 section 2.2): of `http://a/é` the scheme `http`, the
+    /// authority `a`, the path `/é`, no query and no fragment.
     pub type IriParts<'a> = iref_reference::parts::UriParts<'a, IriChars>;
-    /// The components of a reference.
+    /// The components of a reference (RFC 3987 section 2.2): of `?ü` the empty path and the query
+    /// `ü`, and no others.
     pub type IriRefParts<'a> = iref_reference::parts::UriRefParts<'a, IriChars>;
 
-    /// An authority (RFC 3987 section 2.2).
+    /// An authority (RFC 3987 section 2.2): in `//u@é:80/x` it is `u@é:80`, with the host `é`.
     pub type Authority<'a> = iref_authority::authority::Authority<'a, IriChars>;
-    /// An authority that owns its text.
+    /// An authority that owns its text (RFC 3987 section 2.2): `set_port` of `80` makes `é:80` of
+    /// `é`.
     pub type AuthorityBuf = iref_authority::owner::AuthorityBuf<IriChars>;
-    /// The editor of an authority in a vector of bytes.
+    /// The editor of an authority in a vector of bytes (RFC 3987 section 2.2): at the bytes 2 to 7
+    /// of `//é:80/x`, `set_port` of None leaves `//é/x`.
     pub type AuthorityMut<'a> = iref_authority::authority_mut::AuthorityMut<'a, IriChars>;
-    /// The parts of an authority.
+    /// The parts of an authority (RFC 3987 section 2.2): of `u@é:` the user info `u`, the host `é`
+    /// and an empty port, which is there.
     pub type AuthorityParts<'a> = iref_authority::parts::AuthorityParts<'a, IriChars>;
 
-    /// A user info (RFC 3987 section 2.2).
+    /// A user info (RFC 3987 section 2.2): in `//é:p@h` it is `é:p`.
     pub type UserInfo<'a> = iref_component::texts::UserInfo<'a, IriChars>;
-    /// A user info that owns its text.
+    /// A user info that owns its text (RFC 3987 section 2.2), as `é` of `//é@h`.
     pub type UserInfoBuf = iref_component::texts::UserInfoBuf<IriChars>;
 
-    /// A host (RFC 3987 section 2.2).
+    /// A host (RFC 3987 section 2.2): a name as `é.org`, an address as `10.0.0.1`, or one in
+    /// brackets, as `[::1]`. In `//u@:80` it is empty.
     pub type Host<'a> = iref_component::texts::Host<'a, IriChars>;
-    /// A host that owns its text.
+    /// A host that owns its text (RFC 3987 section 2.2): that of the IPv6 number 1 is `[::1]`.
     pub type HostBuf = iref_component::texts::HostBuf<IriChars>;
 
-    /// A path (RFC 3987 section 2.2).
+    /// A path (RFC 3987 section 2.2): `/é/b` has the segments `é` and `b`, `é/` the segments `é`
+    /// and an empty one.
     pub type Path<'a> = iref_path::path::Path<'a, IriChars>;
-    /// A path that owns its text.
+    /// A path that owns its text (RFC 3987 section 2.2): `push` of `ü` makes `/a/ü` of `/a`.
     pub type PathBuf = iref_path::path_buf::PathBuf<IriChars>;
-    /// The editor of a path in a vector of bytes.
+    /// The editor of a path in a vector of bytes (RFC 3987 section 2.2): at the bytes 8 to 13 of
+    /// `http://h/a/é?q`, `pop` leaves `http://h/a?q`.
     pub type PathMut<'a> = iref_path::path_mut::PathMut<'a, IriChars>;
 
-    /// A segment of a path (RFC 3987 section 2.2).
+    /// A segment of a path (RFC 3987 section 2.2): `é%2Fc` is one, `é/c` is none, and the empty
+    /// text is one.
     pub type Segment<'a> = iref_component::texts::Segment<'a, IriChars>;
-    /// A segment that owns its text.
+    /// A segment that owns its text (RFC 3987 section 2.2), as `é` of `a/é`.
     pub type SegmentBuf = iref_component::texts::SegmentBuf<IriChars>;
 
-    /// The segments of a path that are left.
+    /// The segments of a path that are left, from both ends (RFC 3987 section 2.2): of `/é//b` they
+    /// are `é`, an empty one and `b`.
     pub type Segments<'a> = iref_path::segments::Segments<'a, IriChars>;
-    /// The normal segments of a path that are left.
+    /// The segments of a path without its dots that are left, from both ends (RFC 3986 section
+    /// 5.2.4): of `é/../b/./ü` they are `b` and `ü`.
     pub type NormalizedSegments<'a> = iref_path::normal::NormalizedSegments<'a, IriChars>;
 
-    /// A query (RFC 3987 section 2.2).
+    /// A query (RFC 3987 section 2.2): in `a?é=1` it is `é=1`. Private characters as U+E000 stand
+    /// here alone.
     pub type Query<'a> = iref_component::texts::Query<'a, IriChars>;
-    /// A query that owns its text.
+    /// A query that owns its text (RFC 3987 section 2.2), as `é` of `a?é`.
     pub type QueryBuf = iref_component::texts::QueryBuf<IriChars>;
 
-    /// A fragment (RFC 3987 section 2.2).
+    /// A fragment (RFC 3987 section 2.2): in `a#é/c` it is `é/c`.
     pub type Fragment<'a> = iref_component::texts::Fragment<'a, IriChars>;
-    /// A fragment that owns its text.
+    /// A fragment that owns its text (RFC 3987 section 2.2), as `é` of `a#é`.
     pub type FragmentBuf = iref_component::texts::FragmentBuf<IriChars>;
 
-    /// An edit of a list.
+    /// An edit of a list, for `apply_all`: `Edit::Push` of the segment `é` makes `http://h/a/é` of
+    /// `http://h/a`.
     pub type Edit<'a> = crate::edits::Edit<'a, IriChars>;
 }

@@ -17,7 +17,8 @@ use std::alloc::Global;
 use std::convert::TryFrom;
 use std::fmt;
 
-/// An authority that owns its text, as `u@h`, which is edited in place to `u@h:80`.
+/// An authority that owns its text (RFC 3986 section 3.2), as `u@h`, which is edited in place to
+/// `u@h:80`.
 #[derive(Drop)]
 #[derive_where(PartialEq, Eq, PartialOrd, Ord, Hash)]
 pub struct AuthorityBuf<C: CharSet> {

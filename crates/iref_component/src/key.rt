@@ -15,7 +15,8 @@ use iref_parse::decoded::{decoded_cmp, decoded_eq, hash_decoded};
 use std::cmp::Ordering;
 use std::hash::Hasher;
 
-/// What texts are compared by.
+/// What texts are compared by (RFC 3986 section 6.2.2): of schemes their lower case, so that `HTTP`
+/// and `http` have one key.
 pub trait Key {
     /// What keys are.
     ghost Kept: { Type 0 };

@@ -5,7 +5,8 @@ ghost use Rattle.iref_grammar.specs.{CharTests, AreAboveAscii, Text, AcceptsExac
 use crate::key::{DecodedBytes, Key};
 use iref_grammar::chars::CharSet;
 
-/// A rule of the grammar, over any set of characters.
+/// A rule of the grammar, over any set of characters: that of ports has `80` and the empty text
+/// (RFC 3986 appendix A).
 pub trait Rule {
     /// The rule, of texts.
     ghost rule: { CharTests → Text → Type 0 };

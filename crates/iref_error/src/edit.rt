@@ -3,8 +3,8 @@ use std::alloc::{AllocError, AllocFailed};
 use std::fmt;
 use thiserror::Error;
 
-/// A growth was refused, or the new length, in bytes, would pass what a buffer can hold. It is
-/// printed as `out of memory`.
+/// A growth was refused, or the new length, in bytes, would pass what a buffer can hold:
+/// `set_query` answers it and leaves `http://a` as it was. It is printed as `out of memory`.
 #[derive(Clone, Copy, Debug, PartialEq, Eq, Error)]
 #[error("out of memory")]
 pub struct Memory;

@@ -21,7 +21,7 @@ pub trait CharSet {
     ghost above_ascii: { AreAboveAscii tests };
 }
 
-/// The characters of URIs.
+/// The characters of URIs: none beyond ASCII (RFC 3986 section 2).
 pub struct UriChars;
 
 impl CharSet for UriChars {
@@ -38,7 +38,7 @@ impl CharSet for UriChars {
     }
 }
 
-/// The characters of IRIs.
+/// The characters of IRIs, as `é`, and in a query private ones, as U+E000 (RFC 3987 section 2.2).
 pub struct IriChars;
 
 impl CharSet for IriChars {

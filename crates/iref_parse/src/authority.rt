@@ -16,7 +16,8 @@ use crate::ipv6::is_plain_ipv6;
 use crate::scan::{are_digits, is_port, is_user_info};
 use iref_grammar::chars::CharSet;
 
-/// The parts of an authority, as slices of its text.
+/// The parts of an authority, as slices of its text (RFC 3986 section 3.2): of `u@h:80` they are
+/// `u`, `h` and `80`.
 #[derive(Clone, Copy)]
 pub struct AuthoritySlices<'a> {
     /// What stands before the first `@`.

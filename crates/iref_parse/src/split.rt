@@ -15,7 +15,8 @@ use crate::scan::{is_fragment, is_path, is_query, is_scheme};
 use iref_grammar::chars::CharSet;
 use memchr::memchr2;
 
-/// The components of a reference, as slices of its text.
+/// The components of a reference, as slices of its text (RFC 3986 appendix B): of `s://h/p?q#f`
+/// they are `s`, `h`, `/p`, `q` and `f`.
 #[derive(Clone, Copy, Debug, PartialEq, Eq)]
 pub struct ReferenceSlices<'a> {
     /// What stands before the first `:`.

@@ -11,7 +11,8 @@ use iref_grammar::chars::CharSet;
 use iref_path_text::remaining::listed::Listed;
 use std::marker::PhantomData;
 
-/// The normal segments of a path that are left.
+/// The normal segments of a path that are left, from both ends (RFC 3986 section 5.2.4): of
+/// `a/../b/./c` they are `b` and `c`.
 #[derive(Drop)]
 pub struct NormalizedSegments<'a, C: CharSet> {
     left: Listed<'a>,

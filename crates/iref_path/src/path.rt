@@ -29,7 +29,8 @@ use std::alloc::Global;
 use std::convert::TryFrom;
 use std::fmt;
 
-/// A path.
+/// A path (RFC 3986 section 3.3): `/a//b` has the segments `a`, the empty one and `b`.
+/// `InvalidPath` holds a text that is none, as `a?b`.
 #[derive_where(Clone, Copy, PartialEq, Eq, PartialOrd, Ord, Hash)]
 pub struct Path<'a, C: CharSet> {
     pub(crate) text: View<'a, PathRule, C>,

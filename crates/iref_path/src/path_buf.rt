@@ -29,7 +29,7 @@ use std::convert::TryFrom;
 use std::fmt;
 use std::hash::Hash;
 
-/// A path that owns its text.
+/// A path that owns its text (RFC 3986 section 3.3), as `/a`, which is edited in place to `/a/b`.
 #[derive(Drop)]
 #[derive_where(PartialEq, Eq, PartialOrd, Ord, Hash)]
 pub struct PathBuf<C: CharSet> {

@@ -29,7 +29,8 @@ use std::fmt;
 use std::marker::PhantomData;
 use std::ops::Range;
 
-/// The editor of a path that stands in a vector of bytes, or in another text that it borrows.
+/// The editor of a path that stands in a vector of bytes, or in another text that it borrows (RFC
+/// 3986 section 3.3): at the bytes 8 to 12 of `http://h/a/b?q`, `pop` leaves `http://h/a?q`.
 #[derive(Drop)]
 pub struct PathMut<'a, C: CharSet, T: Target<PathPart, C> = Vec<u8>> {
     target: &'a mut T,

@@ -11,7 +11,8 @@ use iref_grammar::chars::CharSet;
 use iref_path_text::pieces::{first_piece, last_piece, piece_count};
 use std::marker::PhantomData;
 
-/// The segments of a path that are left.
+/// The segments of a path that are left, from both ends (RFC 3986 section 3.3): of `/a//b` they are
+/// `a`, the empty one and `b`.
 #[derive(Drop)]
 pub struct Segments<'a, C: CharSet> {
     // The text of those segments, with `/` between.

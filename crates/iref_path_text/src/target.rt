@@ -13,7 +13,7 @@ use iref_grammar::chars::CharSet;
 use iref_grammar::places::PathContext;
 use std::alloc::Allocator;
 
-/// What holds a path, and rewrites it in its own bytes.
+/// What holds a path, and rewrites it in its own bytes: of `/a/../b` it leaves `/b` there.
 pub trait PathTarget<C: CharSet>: Target<PathPart, C> {
     /// Puts what stands first and the normal list in the place of the path, and answers where that
     /// ends. It takes no memory.

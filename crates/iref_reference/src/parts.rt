@@ -107,10 +107,12 @@ pub struct Parts<'a, S, C: CharSet> {
     pub fragment: Option<Fragment<'a, C>>,
 }
 
-/// The components of a reference (RFC 3986 section 4.1).
+/// The components of a reference (RFC 3986 section 4.1): of `//h?` the authority `h`, the empty
+/// path and an empty query.
 pub type UriRefParts<'a, C> = Parts<'a, Option<Scheme<'a>>, C>;
 
-/// The components of a URI (RFC 3986 section 3).
+/// The components of a URI (RFC 3986 section 3): of `urn:isbn:1` the scheme `urn` and the path
+/// `isbn:1`.
 pub type UriParts<'a, C> = Parts<'a, Scheme<'a>, C>;
 
 impl<'a, S: SchemePart<'a>, C: CharSet> Parts<'a, S, C> {
