@@ -1,11 +1,8 @@
 //! Owners edited through the editor of their path.
-use crate::callers::lazy_push;
 use iref::iri::IriRefBuf;
 use iref::uri::{Port, Segment, UriBuf, UriRefBuf};
 use iref_checks::same::{same, same_text};
-use iref_grammar::chars::CharSet;
 use iref_grammar::places::Offsets;
-use iref_reference::owner;
 use std::test::Fail;
 
 /// A reference, a segment, and the reference with the segment at the end of its path.
@@ -22,7 +19,8 @@ fn a_segment_is_pushed_in_place(rt: HostRuntime) -> Result<(), Fail> {
     for row in PUSHED {
         let (text, segment, want) = *row;
         let mut reference = UriRefBuf::new(String::from_str(rt.alloc(), text)?)?;
-        lazy_push(&mut reference, Segment::new(segment)?)?;
+        let segment = Segment::new(segment)?;
+        reference.path_mut().lazy_push(segment)?;
         same_text(reference.as_str(), want)?;
     }
     Ok(())
@@ -46,7 +44,7 @@ fn the_last_segment_is_taken_away_in_place(rt: HostRuntime) -> Result<(), Fail> 
 }
 
 // The port set in place, then the last segment taken away, then the scheme.
-fn edit_each_part<C: CharSet>(mut reference: owner::UriRefBuf<C>) -> Result<(), Fail> {
+fn edit_each_part(mut reference: IriRefBuf) -> Result<(), Fail> {
     let Some(mut authority) = reference.authority_mut() else {
         return Err("no authority")?;
     };
@@ -84,6 +82,5 @@ fn edit_each_part<C: CharSet>(mut reference: owner::UriRefBuf<C>) -> Result<(), 
 #[test]
 fn places_move_with_each_part(rt: HostRuntime) -> Result<(), Fail> {
     let text = "http://h/a?q#f";
-    edit_each_part(UriRefBuf::new(String::from_str(rt.alloc(), text)?)?)?;
     edit_each_part(IriRefBuf::new(String::from_str(rt.alloc(), text)?)?)
 }

@@ -2,7 +2,6 @@
 //! edits that are refused.
 #![tactic(auto)]
 
-pub mod callers;
 #[cfg(test)]
 mod copies;
 #[cfg(test)]
