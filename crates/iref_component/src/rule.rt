@@ -2,7 +2,7 @@
 ghost use Rattle.std.specs.Prelude.{◌≡◌, Bool, true, []};
 ghost use Rattle.iref_grammar.specs.{CharTests, AreAboveAscii, Text, AcceptsExactly, is_pct_str};
 
-use crate::key::{DecodedBytes, Key};
+use crate::key::Key;
 use iref_grammar::chars::CharSet;
 
 /// A rule of the grammar, over any set of characters: that of ports has `80` and the empty text
@@ -52,23 +52,9 @@ pub trait AllowsEmpty: Rule {
     ghost allows_empty: { (tests : CharTests) → Self.test tests [] ≡ true };
 }
 
-/// A rule whose texts are percent-encoded (RFC 3986 section 2.1), the empty text among them. They
-/// are compared by the bytes that they decode to (section 6.2.2.2).
+/// A rule whose texts are percent-encoded (RFC 3986 section 2.1).
 pub trait Escaped: Rule {
     /// Each `%` has two hexadecimal digits after it.
     ghost escaped: { (tests : CharTests) (text : Text) → Self.test tests text ≡ true
         → is_pct_str text ≡ true };
-
-    /// The empty text is in the rule.
-    ghost has_empty: { (tests : CharTests) → Self.test tests [] ≡ true };
-}
-
-impl<R: Escaped> AllowsEmpty for R {
-    ghost allows_empty = { R.has_empty };
-}
-
-impl<R: Escaped> Keyed for R {
-    type Key = DecodedBytes;
-
-    ghost keyed = { λ _ _ _. record {} };
 }

@@ -11,13 +11,12 @@ ghost use Rattle.iref_grammar.proofs.EmptyLemmas.{is_segment_empty, is_user_info
 ghost use Rattle.iref_grammar.proofs.HostRuleLemmas.{Decides-is_host};
 ghost use Rattle.iref_grammar.proofs.LeafLemmas.{Decides-is_fragment, Decides-is_query};
 ghost use Rattle.iref_grammar.proofs.LeafLemmas.{Decides-is_segment, Decides-is_user_info};
-ghost use Rattle.iref_grammar.proofs.PartRuleLemmas.{Decides-is_port_bytes};
-ghost use Rattle.iref_grammar.proofs.PartRuleLemmas.{Decides-is_scheme_bytes};
+ghost use Rattle.iref_grammar.proofs.PartRuleLemmas.{Decides-is_port_bytes, Decides-is_scheme_bytes};
 ghost use Rattle.iref_grammar.proofs.PctLemmas.{Decides-is_pct_str, fragment_is_pct_str};
 ghost use Rattle.iref_grammar.proofs.PctLemmas.{host_is_pct_str, query_is_pct_str};
 ghost use Rattle.iref_grammar.proofs.PctLemmas.{segment_is_pct_str, user_info_is_pct_str};
 
-use crate::key::{Key, LowerCase, SameText};
+use crate::key::{DecodedBytes, Key, LowerCase, SameText};
 use crate::rule::{AllowsEmpty, Escaped, Keyed, Refuses, Rule};
 use iref_error::{
     InvalidFragment, InvalidHost, InvalidPctStr, InvalidPort, InvalidQuery, InvalidScheme,
@@ -82,10 +81,18 @@ impl<T> Refuses<T> for UserInfoRule {
     }
 }
 
+impl Keyed for UserInfoRule {
+    type Key = DecodedBytes;
+
+    ghost keyed = { λ _ _ _. record {} };
+}
+
+impl AllowsEmpty for UserInfoRule {
+    ghost allows_empty = { is_user_info_empty };
+}
+
 impl Escaped for UserInfoRule {
     ghost escaped = { user_info_is_pct_str };
-
-    ghost has_empty = { is_user_info_empty };
 }
 
 /// The rule of hosts (RFC 3986 section 3.2.2).
@@ -113,10 +120,18 @@ impl<T> Refuses<T> for HostRule {
     }
 }
 
+impl Keyed for HostRule {
+    type Key = DecodedBytes;
+
+    ghost keyed = { λ _ _ _. record {} };
+}
+
+impl AllowsEmpty for HostRule {
+    ghost allows_empty = { is_host_empty };
+}
+
 impl Escaped for HostRule {
     ghost escaped = { host_is_pct_str };
-
-    ghost has_empty = { is_host_empty };
 }
 
 /// The rule of ports (RFC 3986 section 3.2.3).
@@ -179,13 +194,21 @@ impl<T> Refuses<T> for SegmentRule {
     }
 }
 
-impl Escaped for SegmentRule {
-    ghost escaped = { segment_is_pct_str };
+impl Keyed for SegmentRule {
+    type Key = DecodedBytes;
 
-    ghost has_empty = { is_segment_empty };
+    ghost keyed = { λ _ _ _. record {} };
 }
 
-/// The rule of queries (RFC 3986 section 3.4).
+impl AllowsEmpty for SegmentRule {
+    ghost allows_empty = { is_segment_empty };
+}
+
+impl Escaped for SegmentRule {
+    ghost escaped = { segment_is_pct_str };
+}
+
+/// The rule of querys (RFC 3986 section 3.4).
 pub struct QueryRule;
 
 impl Rule for QueryRule {
@@ -210,10 +233,18 @@ impl<T> Refuses<T> for QueryRule {
     }
 }
 
+impl Keyed for QueryRule {
+    type Key = DecodedBytes;
+
+    ghost keyed = { λ _ _ _. record {} };
+}
+
+impl AllowsEmpty for QueryRule {
+    ghost allows_empty = { is_query_empty };
+}
+
 impl Escaped for QueryRule {
     ghost escaped = { query_is_pct_str };
-
-    ghost has_empty = { is_query_empty };
 }
 
 /// The rule of fragments (RFC 3986 section 3.5).
@@ -241,10 +272,18 @@ impl<T> Refuses<T> for FragmentRule {
     }
 }
 
+impl Keyed for FragmentRule {
+    type Key = DecodedBytes;
+
+    ghost keyed = { λ _ _ _. record {} };
+}
+
+impl AllowsEmpty for FragmentRule {
+    ghost allows_empty = { is_fragment_empty };
+}
+
 impl Escaped for FragmentRule {
     ghost escaped = { fragment_is_pct_str };
-
-    ghost has_empty = { is_fragment_empty };
 }
 
 /// The rule of percent-encoded texts (RFC 3986 section 2.1).
@@ -272,10 +311,18 @@ impl<T> Refuses<T> for PctStrRule {
     }
 }
 
+impl Keyed for PctStrRule {
+    type Key = DecodedBytes;
+
+    ghost keyed = { λ _ _ _. record {} };
+}
+
+impl AllowsEmpty for PctStrRule {
+    ghost allows_empty = { λ _. is_pct_str_empty };
+}
+
 impl Escaped for PctStrRule {
     ghost escaped = { λ _ _ in_rule. in_rule };
-
-    ghost has_empty = { λ _. is_pct_str_empty };
 }
 
 /// The texts of a rule compare by the bytes that they decode to (RFC 3986 section 6.2.2.2), but
