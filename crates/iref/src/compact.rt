@@ -1,15 +1,13 @@
 //! Prefix tables: labels that stand for the beginnings of IRIs, as in `ex:a` for
 //! `http://example.org/a`.
-ghost use Rattle.std.specs.Prelude.{◌≡◌, ◌≤◌, [], length, take, option_map};
-ghost use Rattle.std.specs.Prelude.{Ok, IfOk, IfErr, IfSome, OnOk, OnErr};
-ghost use Rattle.std.specs.String.{string_bytes};
-ghost use Rattle.std.specs.List.{find};
+ghost use Rattle.std.specs.Prelude.{◌≡◌, ◌≤◌, [], length, take, option_map, Ok, IfOk, IfErr};
+ghost use Rattle.std.specs.{Prelude.{IfSome, OnOk, OnErr}, String.{string_bytes}, List.{find}};
 ghost use Rattle.std.specs.Option.{option_copied};
 ghost use Rattle.iref.specs.PrefixIndex.{has_text};
+ghost use Rattle.iref.specs.Prefixes.{compact_value, RefusesExpand, RefusesInsert};
 ghost use Rattle.iref_mapping.specs.PrefixTable.{has_label, longest_fit, IsPrefixTable};
 ghost use Rattle.iref_mapping.specs.PrefixTable.{compact_text, compacted, expanded, get, inserted};
 ghost use Rattle.iref_reference.specs.References.{reference_buf_text, reference_text};
-ghost use Rattle.iref.specs.Prefixes.{compact_value, RefusesExpand, RefusesInsert};
 
 mod entry;
 mod index;
@@ -95,9 +93,9 @@ impl Compact<'_> {
     }
 }
 
-/// Labels, each with the IRI that it stands for, in the order in which they were inserted: with `ex`
-/// for `http://example.org/`, `compact` of `http://example.org/a` answers `ex` and `a`, and `expand`
-/// of `ex:a` that IRI (RFC 3987 section 2.2).
+/// Labels, each with the IRI that it stands for, in the order in which they were inserted: with
+/// `ex` for `http://example.org/`, `compact` of `http://example.org/a` answers `ex` and `a`, and
+/// `expand` of `ex:a` that IRI (RFC 3987 section 2.2).
 #[derive(Drop)]
 pub struct Prefixes<A: Allocator = Global> {
     entries: Vec<Entry<A>, A>,

@@ -1,17 +1,14 @@
 //! Edits of an authority in place (RFC 3986 section 3.2).
 ghost use Rattle.std.specs.Prelude.{◌≡◌, ◌≤◌, ◌+◌, ◌-◌, ◌++◌, true, length, slice_range, vec_len};
 ghost use Rattle.std.specs.Prelude.{Some, OnOk, OnErr, IfOk, IsOk, IsNone, option_map};
-ghost use Rattle.std.specs.Borrow.{sem, RestsIfErr};
-ghost use Rattle.std.specs.Option.{option_copied};
+ghost use Rattle.std.specs.{Borrow.{sem, RestsIfErr}, Option.{option_copied}};
 ghost use Rattle.iref_edit.specs.Changes.{IsWithin, replaced};
-ghost use Rattle.iref_grammar.specs.Rules.{InUtf8};
-ghost use Rattle.iref_grammar.specs.Grammar.{IsAuthority};
+ghost use Rattle.iref_grammar.specs.{Rules.{InUtf8}, Grammar.{IsAuthority}};
 ghost use Rattle.iref_grammar.specs.Tests.{is_user_info, is_port, none_or};
 ghost use Rattle.iref_grammar.specs.Authority.{AuthorityValue, is_authority, read_authority};
 ghost use Rattle.iref_model.specs.AuthoritySteps.{with_user_info, with_host, with_port};
 ghost use Rattle.iref_model.specs.PortNumbers.{port_text};
-ghost use Rattle.iref_component.specs.Components.{view_text};
-ghost use Rattle.iref_component.specs.Makers.{Parses};
+ghost use Rattle.iref_component.specs.{Components.{view_text}, Makers.{Parses}};
 ghost use Rattle.iref_authority.specs.Authorities.{authority_text};
 ghost use Rattle.iref_authority.specs.AuthorityTexts.{SpellsAuthority};
 
@@ -40,14 +37,14 @@ pub struct AuthorityMut<'a, C: CharSet, T: Target<AuthorityPart, C> = Vec<u8>> {
     target: &'a mut T,
     place: Place,
     chars: PhantomData<C>,
-    ghost placed: { T.stands (T.text target.now) tt place.start place.end } by { T.one_place (T.text target.now) tt place.start place.end },
+    ghost placed: { T.stands (T.text target.now) tt place.start place.end }
+        by { T.one_place (T.text target.now) tt place.start place.end },
 }
 
 impl<'a, C: CharSet> AuthorityMut<'a, C, Vec<u8>> {
     ghost use Rattle.iref_authority.specs.AuthorityEdits.{borrowed_name, Borrows, edited_bytes};
     ghost use Rattle.iref_authority.specs.AuthorityEdits.{authority_mut_start, authority_mut_end};
-    ghost use Rattle.iref_authority.specs.AuthorityEdits.{authority_mut_text};
-    ghost use Rattle.iref_authority.specs.Rows.{bytes_row};
+    ghost use Rattle.iref_authority.specs.{AuthorityEdits.{authority_mut_text}, Rows.{bytes_row}};
 
     /// The editor of the authority in a range of the bytes, or what stands in the range.
     pub fn new(

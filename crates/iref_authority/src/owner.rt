@@ -1,6 +1,5 @@
 //! Authorities that own their text (RFC 3986 section 3.2).
-ghost use Rattle.std.specs.String.{string_bytes};
-ghost use Rattle.std.specs.Prelude.{◌≡◌, true, [], Some, option_map};
+ghost use Rattle.std.specs.{String.{string_bytes}, Prelude.{◌≡◌, true, [], Some, option_map}};
 ghost use Rattle.iref_component.specs.{view_text, is_authority, read_authority, IsAuthority};
 ghost use Rattle.iref_component.specs.{InUtf8, Parses};
 ghost use Rattle.iref_authority.specs.Authorities.{authority_text, authority_buf_text};

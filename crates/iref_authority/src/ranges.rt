@@ -1,9 +1,7 @@
 //! Where the parts of an authority stand in its text, each with its mark (RFC 3986 section 3.2).
-ghost use Rattle.std.specs.Prelude.{◌≡◌, true, [], ◌∷◌, Option};
-ghost use Rattle.std.specs.Option.{option_copied};
+ghost use Rattle.std.specs.{Prelude.{◌≡◌, true, [], ◌∷◌, Option}, Option.{option_copied}};
 ghost use Rattle.std.specs.List.{splice};
-ghost use Rattle.iref_grammar.specs.Rules.{Text};
-ghost use Rattle.iref_grammar.specs.Grammar.{at_sign, colon};
+ghost use Rattle.iref_grammar.specs.{Rules.{Text}, Grammar.{at_sign, colon}};
 ghost use Rattle.iref_grammar.specs.Texts.{part_then, then_part};
 ghost use Rattle.iref_grammar.specs.Tests.{is_user_info, is_host, is_port, none_or};
 ghost use Rattle.iref_grammar.specs.Authority.{is_authority, read_authority};

@@ -1,12 +1,12 @@
 //! The answer to a line.
 ghost use Rattle.std.specs.Prelude.{◌≡◌, ◌++◌, ◌∷◌, option_map, OnOk, OnErr};
 ghost use Rattle.std.specs.Option.{option_copied};
-ghost use Rattle.iref_lines.specs.Lines.{Answered, answer_text, part_field, part_fields, tab, yes_or_no, Parts, Normal, Equal};
+ghost use Rattle.iref_lines.specs.Lines.{Answered, answer_text, part_field, part_fields, tab};
+ghost use Rattle.iref_lines.specs.Lines.{yes_or_no, Parts, Normal, Equal};
 ghost use Rattle.iref_component.specs.Components.{view_text};
 ghost use Rattle.iref_authority.specs.Authorities.{authority_text};
 ghost use Rattle.iref_reference.specs.Parts.{uri_ref_part_texts};
-ghost use Rattle.iref_batch.specs.Gathering.{Extends};
-ghost use Rattle.iref_batch.specs.Requests.{request_of};
+ghost use Rattle.iref_batch.specs.{Gathering.{Extends}, Requests.{request_of}};
 ghost use Rattle.iref_batch.specs.Runs.{request_reply, reply_to, line_reply, with_newline};
 
 mod edit;

@@ -3,7 +3,9 @@ ghost use Rattle.std.specs.Prelude.{◌≡◌, ◌++◌, ◌∷◌, [], true, fa
 ghost use Rattle.iref_grammar.specs.{Text, is_empty};
 ghost use Rattle.iref_lines.specs.Lines.{newline};
 ghost use Rattle.iref_batch.specs.Runs.{memory_refused, with_newline, AnswersAll};
-ghost use Rattle.iref_batch.specs.Gathering.{Lacks, Writes, WritesPart, Replies, RepliesPart, IsNothing, Holds, InRun, SeesMore, SeesSameLines, BreaksOff};
+ghost use Rattle.iref_batch.specs.Gathering.{Lacks, Writes, WritesPart, Replies, RepliesPart};
+ghost use Rattle.iref_batch.specs.Gathering.{IsNothing, Holds, InRun, SeesMore, SeesSameLines};
+ghost use Rattle.iref_batch.specs.Gathering.{BreaksOff};
 
 use super::answers::answer_line;
 use super::cut::cut_at;
@@ -16,8 +18,8 @@ const GATHERED: usize = 1 << 16;
 /// How many bytes of room a buffer keeps for what comes next.
 const KEPT: usize = 1 << 17;
 
-/// Empties the buffer. Room that it took for one long line is given back, so that a later line finds
-/// it.
+/// Empties the buffer. Room that it took for one long line is given back, so that a later line
+/// finds it.
 fn empty(bytes: &mut Vec<u8>)
     ensures { bytes.new.items ≡ [] }
 {

@@ -3,11 +3,10 @@ ghost use Rattle.std.specs.Option.{option_copied};
 ghost use Rattle.std.specs.Prelude.{◌≡◌, ◌∷◌, bytes_eq, List, option_and_then, option_map};
 ghost use Rattle.iref_lines.specs.Lines as spec;
 ghost use Rattle.iref_grammar.specs.{pieces_at, Text};
-ghost use Rattle.iref_lines.specs.Lines.{tab, read_line, one_text, two_texts};
-ghost use Rattle.iref_lines.specs.Lines.{all_verbs, text_and_edits, text_and_entries};
+ghost use Rattle.iref_lines.specs.Lines.{tab, read_line, one_text, two_texts, all_verbs};
+ghost use Rattle.iref_lines.specs.Lines.{text_and_edits, text_and_entries};
 ghost use Rattle.iref_mapping.specs.PrefixTable.{PrefixEntry};
-ghost use Rattle.iref_batch.specs.Fields.{fields_of};
-ghost use Rattle.iref_batch.specs.Requests.{request_of};
+ghost use Rattle.iref_batch.specs.{Fields.{fields_of}, Requests.{request_of}};
 
 use super::cut::{cut_at, cut_near};
 
@@ -28,7 +27,8 @@ pub enum Request<'a> {
     Edit(&'a [u8], Option<&'a [u8]>),
     /// The reference of URIs that a reference maps to.
     ToUri(&'a [u8]),
-    /// An IRI made short by a prefix table: the text of the fields of its entries, if there are any.
+    /// An IRI made short by a prefix table: the text of the fields of its entries, if there are
+    /// any.
     Compact(&'a [u8], Option<&'a [u8]>),
     /// The IRI that a text stands for in a prefix table, likewise.
     Expand(&'a [u8], Option<&'a [u8]>),
@@ -73,8 +73,9 @@ fn some_fields(fields: Option<&[u8]>) -> Option<(&[u8], Option<&[u8]>)>
     ensures edits { text_and_edits (fields_of (option_copied fields.entry)) ≡ option_and_then
         (λ texts. text_and_edits (texts.0.now ∷ fields_of (option_copied texts.1))) result }
     ensures entries { (request : Text → List PrefixEntry → spec.Request) →
-        text_and_entries request (fields_of (option_copied fields.entry)) ≡ option_and_then (λ texts.
-        text_and_entries request (texts.0.now ∷ fields_of (option_copied texts.1))) result }
+        text_and_entries request (fields_of (option_copied fields.entry)) ≡ option_and_then
+        (λ texts. text_and_entries request (texts.0.now ∷ fields_of (option_copied texts.1)))
+        result }
 {
     Some(first_field(fields?))
 }

@@ -1,8 +1,7 @@
 //! A text in a rule of references, with the places of its components beside it.
 ghost use Rattle.std.specs.String.{string_bytes};
-ghost use Rattle.std.specs.Prelude.{◌≡◌, ◌≤◌, Bool, true, [], ◌∷◌};
-ghost use Rattle.std.specs.Prelude.{Option, None, IfSome, is_some, option_map};
-ghost use Rattle.std.specs.Option.{option_copied};
+ghost use Rattle.std.specs.Prelude.{◌≡◌, ◌≤◌, Bool, true, [], ◌∷◌, Option, None, IfSome, is_some};
+ghost use Rattle.std.specs.{Prelude.{option_map}, Option.{option_copied}};
 ghost use Rattle.iref_grammar.specs.Places.{text_at};
 ghost use Rattle.iref_parse.specs.{texts_of, value_of};
 ghost use Rattle.iref_component.specs.{AreComponents, spell_components, is_readable, is_reference};
@@ -10,9 +9,8 @@ ghost use Rattle.iref_component.specs.{places_of, hash_sign, CharTests, AreAbove
 ghost use Rattle.iref_component.specs.{with_query, with_fragment, hierarchy, read_reference, spell};
 ghost use Rattle.iref_component.specs.{Parses, Text, InUtf8, base_of};
 ghost use Rattle.iref_buffer.specs.ComponentLengths.{lengths_of};
-ghost use Rattle.iref_buffer.specs.PlaceTexts.{AreWithin, texts_at};
+ghost use Rattle.iref_buffer.specs.PlaceTexts.{AreWithin, texts_at, front_end, authority_start};
 ghost use Rattle.iref_edit.specs.Changes.{IsWithin};
-ghost use Rattle.iref_buffer.specs.PlaceTexts.{front_end, authority_start};
 
 mod authority;
 mod copies;

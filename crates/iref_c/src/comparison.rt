@@ -1,8 +1,6 @@
 //! Equality, order and hash of references, which agree (RFC 3986 section 6.2.2).
-ghost use Rattle.iref_grammar.specs.Characters.{iri_chars};
-ghost use Rattle.iref_grammar.specs.Grammar.{IsUriReference};
-ghost use Rattle.iref_grammar.specs.Reference.{read_reference, ReferenceValue};
-ghost use Rattle.iref_grammar.specs.Rules.{InUtf8};
+ghost use Rattle.iref_grammar.specs.{Characters.{iri_chars}, Grammar.{IsUriReference}};
+ghost use Rattle.iref_grammar.specs.{Reference.{read_reference, ReferenceValue}, Rules.{InUtf8}};
 ghost use Rattle.iref_c.specs.Answers.{Tells};
 ghost use Rattle.iref_c.specs.Comparison.{equal_number, hash_number, number_of_order, order_number};
 ghost use Rattle.std.specs.Prelude.{◌≡◌, ◌↔◌, pos, ⊤};

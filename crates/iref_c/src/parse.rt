@@ -1,11 +1,9 @@
 //! Whether a text is in a rule, with the places of its components (RFC 3986 sections 3 and 4.1,
 //! RFC 3987 section 2.2).
 ghost use Rattle.iref_grammar.specs.Characters.{iri_chars, uri_chars};
-ghost use Rattle.iref_grammar.specs.Grammar.{IsUri, IsUriReference};
-ghost use Rattle.iref_grammar.specs.Reference.{read_reference};
+ghost use Rattle.iref_grammar.specs.{Grammar.{IsUri, IsUriReference}, Reference.{read_reference}};
 ghost use Rattle.iref_grammar.specs.Rules.{InUtf8};
-ghost use Rattle.iref_c.specs.Answers.{Tells};
-ghost use Rattle.iref_c.specs.PartPlaces.{all_places};
+ghost use Rattle.iref_c.specs.{Answers.{Tells}, PartPlaces.{all_places}};
 ghost use Rattle.std.specs.Prelude.{⊤};
 
 use crate::places::Places;

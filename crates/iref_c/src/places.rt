@@ -2,12 +2,10 @@
 ghost use Rattle.std.specs.Prelude.{◌≡◌, ◌+◌, ◌<◌, ◌^◌, [], ◌∷◌, length, option_map, IfSome, Some};
 ghost use Rattle.std.specs.Option.{option_copied};
 ghost use Rattle.iref_grammar.specs.Authority.{read_authority, spell_authority};
-ghost use Rattle.iref_grammar.specs.Grammar.{at_sign, colon};
-ghost use Rattle.iref_grammar.specs.Places.{place_from};
+ghost use Rattle.iref_grammar.specs.{Grammar.{at_sign, colon}, Places.{place_from}};
 ghost use Rattle.iref_grammar.specs.Reference.{read_reference, spell};
 ghost use Rattle.iref_grammar.specs.Texts.{part_then, then_part};
-ghost use Rattle.iref_parse.specs.AuthoritySlices.{authority_of};
-ghost use Rattle.iref_parse.specs.ReferenceSlices.{value_of};
+ghost use Rattle.iref_parse.specs.{AuthoritySlices.{authority_of}, ReferenceSlices.{value_of}};
 ghost use Rattle.iref_c.specs.PartPlaces.{all_places, authority_places, place_for_c, places_from};
 
 use iref_parse::authority::{AuthoritySlices, split_authority};

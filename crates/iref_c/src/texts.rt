@@ -2,14 +2,11 @@
 //! and the mapping to URIs (RFC 3986 section 5.2, RFC 3987 section 3.1).
 ghost use Rattle.iref.specs.Mapping.{mapped};
 ghost use Rattle.iref.specs.PathSteps as step;
-ghost use Rattle.iref.specs.Relative.{relative_to};
-ghost use Rattle.iref.specs.Resolution.{resolved};
-ghost use Rattle.iref_grammar.specs.Characters.{iri_chars};
-ghost use Rattle.iref_grammar.specs.Contexts.{alone};
+ghost use Rattle.iref.specs.{Relative.{relative_to}, Resolution.{resolved}};
+ghost use Rattle.iref_grammar.specs.{Characters.{iri_chars}, Contexts.{alone}};
 ghost use Rattle.iref_grammar.specs.Grammar.{IsPath, IsUri, IsUriReference};
 ghost use Rattle.iref_grammar.specs.PathValue.{read_path, spell_path};
-ghost use Rattle.iref_grammar.specs.Reference.{read_reference, spell};
-ghost use Rattle.iref_grammar.specs.Rules.{InUtf8};
+ghost use Rattle.iref_grammar.specs.{Reference.{read_reference, spell}, Rules.{InUtf8}};
 ghost use Rattle.iref_c.specs.Answers.{Writes};
 ghost use Rattle.std.specs.Prelude.{⊤};
 

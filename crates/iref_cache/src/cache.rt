@@ -1,11 +1,8 @@
 //! A map of std over URIs: two spellings of one URI find one entry, as `HTTP://a/%7Eb/./c` and
 //! `http://a/~b/c`.
-ghost use Rattle.std.specs.Prelude.{◌≡◌, IfOk, MatchOption, OnErr, OnOk};
-ghost use Rattle.std.specs.Option.{option_copied};
+ghost use Rattle.std.specs.{Prelude.{◌≡◌, IfOk, MatchOption, OnErr, OnOk}, Option.{option_copied}};
 ghost use Rattle.std.specs.HashMap.{IsUnchanged};
-ghost use Rattle.iref.specs.Characters.{uri_chars};
-ghost use Rattle.iref.specs.Grammar.{IsUri};
-ghost use Rattle.iref.specs.Rules.{InUtf8};
+ghost use Rattle.iref.specs.{Characters.{uri_chars}, Grammar.{IsUri}, Rules.{InUtf8}};
 ghost use Rattle.iref.specs.References.{reference_buf_text, reference_buf_value};
 ghost use Rattle.iref_cache.specs.Caches.{HasPut, found};
 

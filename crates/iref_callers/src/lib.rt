@@ -3,10 +3,8 @@
 #![tactic(auto)]
 
 ghost use Rattle.std.specs.Prelude.{◌≡◌, IfOk, count_by, fold, length, map, max, reverse};
-ghost use Rattle.iref.specs.Texts.{is_empty};
-ghost use Rattle.iref.specs.NormalList.{normal_segments};
-ghost use Rattle.iref.specs.Components.{view_text};
-ghost use Rattle.iref.specs.Paths.{path_value};
+ghost use Rattle.iref.specs.{Texts.{is_empty}, NormalList.{normal_segments}};
+ghost use Rattle.iref.specs.{Components.{view_text}, Paths.{path_value}};
 
 use iref::uri::{Path, Segment};
 use std::alloc::{AllocError, Global};

@@ -1,7 +1,6 @@
 //! A hasher that records what it is fed, and what a comparison of two values must say.
 ghost use Rattle.iref_checks.specs.Recording.{AreFedAlike, record_write, recorded, recorded_length};
-ghost use Rattle.std.specs.Ordering.{is_eq};
-ghost use Rattle.std.specs.Prelude.{◌≡◌, ◌↔◌, true};
+ghost use Rattle.std.specs.{Ordering.{is_eq}, Prelude.{◌≡◌, ◌↔◌, true}};
 
 use arrayvec::ArrayVec;
 use std::hash::{Hash, Hasher};

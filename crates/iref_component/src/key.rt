@@ -1,9 +1,6 @@
 //! What texts are compared by, in their order, and fed to hashers (RFC 3986 section 6.2.2).
-ghost use Rattle.std.specs.Prelude.{◌≡◌, fold, true};
-ghost use Rattle.std.specs.Str.{str_to_ascii_lowercase};
-ghost use Rattle.std.specs.Hash.{HashWrites};
-ghost use Rattle.std.specs.Ordering.{is_eq, eq_by_cmp};
-ghost use Rattle.std.specs.Cmp.{IsTotalOrder};
+ghost use Rattle.std.specs.{Prelude.{◌≡◌, fold, true}, Str.{str_to_ascii_lowercase}};
+ghost use Rattle.std.specs.{Hash.{HashWrites}, Ordering.{is_eq, eq_by_cmp}, Cmp.{IsTotalOrder}};
 ghost use Rattle.std.specs.Cmp.Lexicographic.{nat_list_cmp_total};
 ghost use Rattle.std.specs.declared.cmp.Ordering.{Ordering};
 ghost use Rattle.percent_encoding.specs.Percent.{percent_decode};

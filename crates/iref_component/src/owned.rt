@@ -1,13 +1,11 @@
 //! Owned texts of a rule: what the owners share that are not edited in place.
-ghost use Rattle.std.specs.Prelude.{◌≡◌, true, [], length, Some};
-ghost use Rattle.std.specs.String.{string_bytes};
+ghost use Rattle.std.specs.{Prelude.{◌≡◌, true, [], length, Some}, String.{string_bytes}};
 ghost use Rattle.std.specs.Ordering.{on, as_partial_cmp, eq_by_cmp};
 ghost use Rattle.std.specs.Cmp.{on_total, on_equiv, po, partial_equiv_from_equiv, eq_by_cmp_equiv};
 ghost use Rattle.std.specs.Cmp.Rules.{comparing};
 ghost use Rattle.std.proofs.Common.{rules, ap, refl};
 ghost use Rattle.iref_grammar.specs.{InUtf8, is_empty};
-ghost use Rattle.iref_component.specs.Makers.{Parses};
-ghost use Rattle.iref_component.specs.Components.{view_text, owned_text};
+ghost use Rattle.iref_component.specs.{Makers.{Parses}, Components.{view_text, owned_text}};
 
 mod edits;
 

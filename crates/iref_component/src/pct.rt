@@ -1,7 +1,6 @@
 //! Percent-encoded texts (RFC 3986 section 2.1).
 ghost use Rattle.std.specs.Prelude.{◌≡◌};
-ghost use Rattle.percent_encoding.specs.Iter.{decoded_bytes};
-ghost use Rattle.percent_encoding.specs.Percent.{percent_decode};
+ghost use Rattle.percent_encoding.specs.{Iter.{decoded_bytes}, Percent.{percent_decode}};
 ghost use Rattle.iref_component.specs.Components.{view_text, owned_text};
 
 use crate::owned::TextBuf;

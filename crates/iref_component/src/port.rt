@@ -1,6 +1,5 @@
 //! The numbers of ports (RFC 3986 section 3.2.3).
-ghost use Rattle.std.specs.Prelude.{◌≡◌, ◌^◌, IfOk};
-ghost use Rattle.std.specs.Result.{result_ok};
+ghost use Rattle.std.specs.{Prelude.{◌≡◌, ◌^◌, IfOk}, Result.{result_ok}};
 ghost use Rattle.iref_model.specs.PortNumbers.{port_text};
 ghost use Rattle.iref_component.specs.Components.{view_text, owned_text};
 ghost use Rattle.iref_component.specs.Ports.{port_number, signed_port_number};

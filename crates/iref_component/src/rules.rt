@@ -1,6 +1,5 @@
 //! The rules of the texts that have no parts, and what each compares by.
-ghost use Rattle.std.specs.Prelude.{◌≡◌};
-ghost use Rattle.std.specs.Str.{str_to_ascii_lowercase};
+ghost use Rattle.std.specs.{Prelude.{◌≡◌}, Str.{str_to_ascii_lowercase}};
 ghost use Rattle.percent_encoding.specs.Percent.{percent_decode};
 ghost use Rattle.iref_grammar.specs.{IsFragment, IsHost, IsPctStr, IsPort, IsQuery, IsScheme};
 ghost use Rattle.iref_grammar.specs.{IsSegment, IsUserInfo, is_fragment, is_host, is_pct_str};
@@ -11,7 +10,8 @@ ghost use Rattle.iref_grammar.proofs.EmptyLemmas.{is_segment_empty, is_user_info
 ghost use Rattle.iref_grammar.proofs.HostRuleLemmas.{Decides-is_host};
 ghost use Rattle.iref_grammar.proofs.LeafLemmas.{Decides-is_fragment, Decides-is_query};
 ghost use Rattle.iref_grammar.proofs.LeafLemmas.{Decides-is_segment, Decides-is_user_info};
-ghost use Rattle.iref_grammar.proofs.PartRuleLemmas.{Decides-is_port_bytes, Decides-is_scheme_bytes};
+ghost use Rattle.iref_grammar.proofs.PartRuleLemmas.{Decides-is_port_bytes};
+ghost use Rattle.iref_grammar.proofs.PartRuleLemmas.{Decides-is_scheme_bytes};
 ghost use Rattle.iref_grammar.proofs.PctLemmas.{Decides-is_pct_str, fragment_is_pct_str};
 ghost use Rattle.iref_grammar.proofs.PctLemmas.{host_is_pct_str, query_is_pct_str};
 ghost use Rattle.iref_grammar.proofs.PctLemmas.{segment_is_pct_str, user_info_is_pct_str};

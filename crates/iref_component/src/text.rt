@@ -1,6 +1,5 @@
 //! A text of a rule, borrowed or owned.
-ghost use Rattle.std.specs.Prelude.{◌≡◌, ⊤, true};
-ghost use Rattle.std.specs.String.{string_bytes};
+ghost use Rattle.std.specs.{Prelude.{◌≡◌, ⊤, true}, String.{string_bytes}};
 
 use crate::rule::Rule;
 use iref_grammar::chars::CharSet;

@@ -3,8 +3,7 @@ ghost use Rattle.std.specs.Prelude.{◌≡◌, true, Some, IfOk, IfSome, OnOk, I
 ghost use Rattle.std.specs.Option.{option_copied};
 ghost use Rattle.iref_grammar.specs.{InUtf8, none_or};
 ghost use Rattle.iref_error.specs.Tried.{TellsInvalid};
-ghost use Rattle.iref_component.specs.Components.{view_text};
-ghost use Rattle.iref_component.specs.Tries.{Tests};
+ghost use Rattle.iref_component.specs.{Components.{view_text}, Tries.{Tests}};
 
 use crate::rule::Refuses;
 use crate::view::View;

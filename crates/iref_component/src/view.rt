@@ -1,13 +1,11 @@
 //! Borrowed texts of a rule: what the views of all rules share.
 ghost use Rattle.std.specs.Prelude.{◌≡◌, true, [], length, Some, IfOk, option_map};
-ghost use Rattle.std.specs.Option.{option_copied};
-ghost use Rattle.std.specs.Ordering.{on, as_partial_cmp, eq_by_cmp};
+ghost use Rattle.std.specs.{Option.{option_copied}, Ordering.{on, as_partial_cmp, eq_by_cmp}};
 ghost use Rattle.std.specs.Cmp.{on_total, on_equiv, po, partial_equiv_from_equiv, eq_by_cmp_equiv};
 ghost use Rattle.std.specs.Cmp.Rules.{comparing};
 ghost use Rattle.std.proofs.Common.{rules, ap, refl};
 ghost use Rattle.iref_grammar.specs.{InUtf8, none_or, is_empty};
-ghost use Rattle.iref_component.specs.Makers.{Parses};
-ghost use Rattle.iref_component.specs.Components.{view_text, owned_text};
+ghost use Rattle.iref_component.specs.{Makers.{Parses}, Components.{view_text, owned_text}};
 
 use crate::key::Key;
 use crate::rule::{AllowsEmpty, Keyed, Refuses, Rule};

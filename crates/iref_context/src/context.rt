@@ -1,7 +1,6 @@
 //! A context of prefixes, as in JSON-LD: IRIs made short, as `schema:name` for
 //! `https://schema.org/name`.
-ghost use Rattle.std.specs.Prelude.{◌≡◌, Ok, IfOk, IfSome, option_map};
-ghost use Rattle.std.specs.String.{string_bytes};
+ghost use Rattle.std.specs.{Prelude.{◌≡◌, Ok, IfOk, IfSome, option_map}, String.{string_bytes}};
 ghost use Rattle.iref.specs.PrefixTable.{compact_text, compacted, expanded};
 ghost use Rattle.iref.specs.References.{reference_text};
 

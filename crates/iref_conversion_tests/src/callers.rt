@@ -1,9 +1,6 @@
 //! A caller, proved from the public clauses alone.
-ghost use Rattle.iref.specs.Characters.{uri_chars};
-ghost use Rattle.iref.specs.Conversions.{SomeIfIn};
-ghost use Rattle.iref.specs.Grammar.{IsUri};
-ghost use Rattle.iref.specs.References.{reference_buf_text};
-ghost use Rattle.iref.specs.Rules.{InUtf8};
+ghost use Rattle.iref.specs.{Characters.{uri_chars}, Conversions.{SomeIfIn}, Grammar.{IsUri}};
+ghost use Rattle.iref.specs.{References.{reference_buf_text}, Rules.{InUtf8}};
 ghost use Rattle.iref_url.specs.Parts.{serialize};
 
 use iref::UriBuf;

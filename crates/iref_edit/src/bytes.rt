@@ -1,6 +1,6 @@
 //! A range of a vector of bytes replaced in place.
-ghost use Rattle.std.specs.Prelude.{◌≡◌, ◌+◌, ◌-◌, ◌≤◌, ◌++◌, length, take, drop, vec_len, OnOk, OnErr, IsOk};
-ghost use Rattle.std.specs.List.{splice};
+ghost use Rattle.std.specs.Prelude.{◌≡◌, ◌+◌, ◌-◌, ◌≤◌, ◌++◌, length, take, drop, vec_len, OnOk};
+ghost use Rattle.std.specs.{Prelude.{OnErr, IsOk}, List.{splice}};
 ghost use Rattle.iref_edit.specs.Changes.{IsNoLonger, changed, pieces, pieces_length};
 ghost use Rattle.iref_edit.specs.Edited.{StandsIn, one_place};
 

@@ -1,9 +1,7 @@
 //! What holds a part of a text that is edited in place.
-ghost use Rattle.std.specs.Prelude.{◌≡◌, ◌+◌, ◌≤◌, ℕ, Bool, true, length};
-ghost use Rattle.std.specs.Prelude.{OnOk, OnErr, IfOk, IsOk};
+ghost use Rattle.std.specs.Prelude.{◌≡◌, ◌+◌, ◌≤◌, ℕ, Bool, true, length, OnOk, OnErr, IfOk, IsOk};
 ghost use Rattle.std.specs.Str.{IsUtf8};
-ghost use Rattle.iref_grammar.specs.Characters.{CharTests, AreAboveAscii};
-ghost use Rattle.iref_grammar.specs.Rules.{Text};
+ghost use Rattle.iref_grammar.specs.{Characters.{CharTests, AreAboveAscii}, Rules.{Text}};
 ghost use Rattle.iref_edit.specs.Changes.{IsNoLonger, IsWithin, changed_at, changed_part, part_at};
 
 use crate::change::{Change, Place};

@@ -2,9 +2,10 @@
 #![tactic(auto)]
 
 ghost use Rattle.std.specs.Prelude.{◌≡◌, ◌↔◌, true};
-ghost use Rattle.iref_grammar.specs.Rules.{Text, AcceptsExactly, InUtf8};
-ghost use Rattle.iref_grammar.specs.Grammar.{IsAuthority};
-ghost use Rattle.iref_grammar.specs.Authority.{AuthorityValue, HasAuthorityParts, has_authority_parts, spell_authority, read_authority, is_authority};
+ghost use Rattle.iref_grammar.specs.{Rules.{Text, AcceptsExactly, InUtf8}, Grammar.{IsAuthority}};
+ghost use Rattle.iref_grammar.specs.Authority.{AuthorityValue, HasAuthorityParts};
+ghost use Rattle.iref_grammar.specs.Authority.{has_authority_parts, spell_authority};
+ghost use Rattle.iref_grammar.specs.Authority.{read_authority, is_authority};
 
 use crate::chars::CharSet;
 

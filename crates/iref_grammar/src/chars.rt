@@ -2,7 +2,8 @@
 #![tactic(auto)]
 
 ghost use Rattle.std.specs.Prelude.{◌≡◌};
-ghost use Rattle.iref_grammar.specs.Characters.{CharTests, AreAboveAscii, uri_chars, iri_chars, uri_above_ascii, iri_above_ascii};
+ghost use Rattle.iref_grammar.specs.Characters.{CharTests, AreAboveAscii, uri_chars, iri_chars};
+ghost use Rattle.iref_grammar.specs.Characters.{uri_above_ascii, iri_above_ascii};
 
 /// The characters that a grammar adds to those of ASCII.
 pub trait CharSet {
@@ -47,11 +48,18 @@ impl CharSet for IriChars {
     ghost above_ascii = { iri_above_ascii };
 
     fn is_extra(c: char) -> bool {
-        matches!(c, '\u{A0}'..='\u{D7FF}' | '\u{F900}'..='\u{FDCF}' | '\u{FDF0}'..='\u{FFEF}' | '\u{E1000}'..='\u{EFFFD}')
+        matches!(
+            c,
+            '\u{A0}'..='\u{D7FF}' | '\u{F900}'..='\u{FDCF}' | '\u{FDF0}'..='\u{FFEF}'
+                | '\u{E1000}'..='\u{EFFFD}'
+        )
             || (matches!(c, '\u{10000}'..='\u{DFFFD}') && (c as u32) % 0x1_0000 <= 0xFFFD)
     }
 
     fn is_private(c: char) -> bool {
-        matches!(c, '\u{E000}'..='\u{F8FF}' | '\u{F0000}'..='\u{FFFFD}' | '\u{100000}'..='\u{10FFFD}')
+        matches!(
+            c,
+            '\u{E000}'..='\u{F8FF}' | '\u{F0000}'..='\u{FFFFD}' | '\u{100000}'..='\u{10FFFD}'
+        )
     }
 }

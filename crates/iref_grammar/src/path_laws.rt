@@ -1,12 +1,11 @@
 //! Laws of paths: each is the contract of a function that does nothing.
 #![tactic(auto)]
 
-ghost use Rattle.std.specs.Prelude.{◌≡◌, ◌↔◌, Bool, true, false};
-ghost use Rattle.std.specs.List.{list_all};
+ghost use Rattle.std.specs.{Prelude.{◌≡◌, ◌↔◌, Bool, true, false}, List.{list_all}};
 ghost use Rattle.iref_grammar.specs.declared.places.PathContext.{PathContext};
 ghost use Rattle.iref_grammar.specs.Rules.{Text, ◌or◌, Empty, AcceptsExactly};
-ghost use Rattle.iref_grammar.specs.Grammar.{IsAbEmptyPath, IsAbsolutePath, IsRootlessPath, IsNoSchemePath};
-ghost use Rattle.iref_grammar.specs.Tests.{is_segment, is_path};
+ghost use Rattle.iref_grammar.specs.Grammar.{IsAbEmptyPath, IsAbsolutePath, IsRootlessPath};
+ghost use Rattle.iref_grammar.specs.{Grammar.{IsNoSchemePath}, Tests.{is_segment, is_path}};
 ghost use Rattle.iref_grammar.specs.PathValue.{PathValue, IsReadAs, spell_path, read_path};
 ghost use Rattle.iref_grammar.specs.Contexts.{is_readable_path, is_path_in, alone};
 

@@ -2,8 +2,7 @@
 #![tactic(auto)]
 
 ghost use Rattle.std.specs.Prelude.{◌≡◌, codes};
-ghost use Rattle.iref_grammar.specs.Contexts.{context_from};
-ghost use Rattle.iref_grammar.specs.Texts.{begins_with, from_first};
+ghost use Rattle.iref_grammar.specs.{Contexts.{context_from}, Texts.{begins_with, from_first}};
 
 use std::ops::Range;
 

@@ -2,13 +2,12 @@
 #![tactic(auto)]
 
 ghost use Rattle.std.specs.Prelude.{◌≡◌, ◌↔◌, IsSome, option_map, true};
-ghost use Rattle.iref_grammar.specs.Characters.{uri_chars};
-ghost use Rattle.iref_grammar.specs.Rules.{Text, AcceptsExactly, InUtf8};
-ghost use Rattle.iref_grammar.specs.Grammar.{IsUri, IsUriReference};
-ghost use Rattle.iref_grammar.specs.Authority.{spell_authority};
-ghost use Rattle.iref_grammar.specs.PathValue.{spell_path};
-ghost use Rattle.iref_grammar.specs.Places.{places_of, text_at};
-ghost use Rattle.iref_grammar.specs.Reference.{ReferenceValue, IsReadable, IsReadAsReference, is_readable, spell, read_reference, is_reference, is_full_reference};
+ghost use Rattle.iref_grammar.specs.{Characters.{uri_chars}, Rules.{Text, AcceptsExactly, InUtf8}};
+ghost use Rattle.iref_grammar.specs.{Grammar.{IsUri, IsUriReference}, Authority.{spell_authority}};
+ghost use Rattle.iref_grammar.specs.{PathValue.{spell_path}, Places.{places_of, text_at}};
+ghost use Rattle.iref_grammar.specs.Reference.{ReferenceValue, IsReadable, IsReadAsReference};
+ghost use Rattle.iref_grammar.specs.Reference.{is_readable, spell, read_reference, is_reference};
+ghost use Rattle.iref_grammar.specs.Reference.{is_full_reference};
 ghost use Rattle.iref_grammar.specs.ComponentTexts.{ComponentTexts, AreComponents, read_components};
 
 use crate::chars::CharSet;

@@ -1,6 +1,5 @@
 //! Callers that compare mappings, proved from the public clauses alone.
-ghost use Rattle.iref.specs.Key.{are_alike};
-ghost use Rattle.iref.specs.References.{reference_value, reference_buf_value};
+ghost use Rattle.iref.specs.{Key.{are_alike}, References.{reference_value, reference_buf_value}};
 ghost use Rattle.std.specs.Prelude.{◌≡◌, IfOk};
 
 use iref::{IriRef, IriRefBuf, Memory};

@@ -1,9 +1,7 @@
 //! Links told from the page that they stand on.
 ghost use Rattle.std.specs.Prelude.{IfOk, MatchOption};
-ghost use Rattle.iref.specs.Characters.{uri_chars};
-ghost use Rattle.iref.specs.Grammar.{IsUri, IsUriReference};
-ghost use Rattle.iref.specs.Reference.{read_reference};
-ghost use Rattle.iref.specs.Rules.{InUtf8};
+ghost use Rattle.iref.specs.{Characters.{uri_chars}, Grammar.{IsUri, IsUriReference}};
+ghost use Rattle.iref.specs.{Reference.{read_reference}, Rules.{InUtf8}};
 ghost use Rattle.iref.specs.References.{reference_buf_value, reference_value};
 ghost use Rattle.iref_mirror.specs.Links.{IsRelinked};
 

@@ -1,8 +1,6 @@
 //! Laws of the comparison of references: each is the contract of a function that does nothing.
 
-ghost use Rattle.std.specs.Prelude.{true, ◌≡◌, ◌↔◌};
-ghost use Rattle.std.specs.Cmp.{IsTotalOrder};
-ghost use Rattle.std.specs.Ordering.{on};
+ghost use Rattle.std.specs.{Prelude.{true, ◌≡◌, ◌↔◌}, Cmp.{IsTotalOrder}, Ordering.{on}};
 ghost use Rattle.iref_grammar.specs.Reference.{ReferenceValue};
 ghost use Rattle.iref_model.specs.Key.{AreAlike, are_alike, key, key_cmp};
 

@@ -2,11 +2,11 @@
 
 ghost use Rattle.std.specs.Prelude.{◌≡◌, is_some, true, false};
 ghost use Rattle.iref_grammar.specs.Characters.{CharTests, AreAboveAscii};
-ghost use Rattle.iref_grammar.specs.Reference.{ReferenceValue, IsReadable, is_readable, read_reference, spell};
-ghost use Rattle.iref_model.specs.Resolution.{resolved};
-ghost use Rattle.iref_model.specs.Key.{AreAlike};
-ghost use Rattle.iref_model.specs.Relative.{relative_to};
-ghost use Rattle.iref_model.specs.RelativeLaws.{AreTargetAndBase, DoAgree, IsOnlyPath, Leads, ClimbsLeast};
+ghost use Rattle.iref_grammar.specs.Reference.{ReferenceValue, IsReadable, is_readable};
+ghost use Rattle.iref_grammar.specs.Reference.{read_reference, spell};
+ghost use Rattle.iref_model.specs.{Resolution.{resolved}, Key.{AreAlike}, Relative.{relative_to}};
+ghost use Rattle.iref_model.specs.RelativeLaws.{AreTargetAndBase, DoAgree, IsOnlyPath, Leads};
+ghost use Rattle.iref_model.specs.RelativeLaws.{ClimbsLeast};
 
 /// What a readable reference resolves to under a readable base is readable.
 pub fn resolved_reference_is_readable()

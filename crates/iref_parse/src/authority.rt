@@ -1,13 +1,11 @@
 //! The split of an authority (RFC 3986 section 3.2), and whether a text is one.
 
-ghost use Rattle.std.specs.Prelude.{◌≡◌, true};
-ghost use Rattle.std.specs.Option.{option_copied};
-ghost use Rattle.iref_grammar.specs.Authority.{read_authority, read_host_and_port, bracketed, after_bracketed};
-ghost use Rattle.iref_grammar.specs.Authority.{has_authority_parts};
+ghost use Rattle.std.specs.{Prelude.{◌≡◌, true}, Option.{option_copied}};
+ghost use Rattle.iref_grammar.specs.Authority.{read_authority, read_host_and_port, bracketed};
+ghost use Rattle.iref_grammar.specs.Authority.{after_bracketed, has_authority_parts};
 ghost use Rattle.iref_grammar.specs.Authority as authority;
 ghost use Rattle.iref_grammar.specs.Tests as test;
-ghost use Rattle.iref_grammar.specs.Tests.{none_or};
-ghost use Rattle.iref_grammar.specs.Characters.{CharTests, AreAboveAscii};
+ghost use Rattle.iref_grammar.specs.{Tests.{none_or}, Characters.{CharTests, AreAboveAscii}};
 ghost use Rattle.iref_parse.specs.AuthoritySlices.{authority_of, is_port_part};
 
 use crate::cut::{cut, split_before};

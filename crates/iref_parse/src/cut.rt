@@ -1,7 +1,6 @@
 //! A text cut at the first of a mark.
 
-ghost use Rattle.std.specs.Prelude.{◌≡◌, ◌<◌, [], ◌∷◌};
-ghost use Rattle.std.specs.Option.{option_copied};
+ghost use Rattle.std.specs.{Prelude.{◌≡◌, ◌<◌, [], ◌∷◌}, Option.{option_copied}};
 ghost use Rattle.iref_grammar.specs.Texts.{before, from_first, after};
 
 /// What stands before the first of the mark, or all of the text, and what follows it.

@@ -1,7 +1,6 @@
 //! The one split of a reference into its components (RFC 3986 section 4.1 and appendix B).
 
-ghost use Rattle.std.specs.Prelude.{◌≡◌, ◌<◌, [], ◌∷◌, IfSome, is_some};
-ghost use Rattle.std.specs.Bool.{Decides};
+ghost use Rattle.std.specs.{Prelude.{◌≡◌, ◌<◌, [], ◌∷◌, IfSome, is_some}, Bool.{Decides}};
 ghost use Rattle.std.specs.Option.{option_copied};
 ghost use Rattle.iref_grammar.specs.Reference as spec;
 ghost use Rattle.iref_grammar.specs.{hash_sign, question_mark, before, from_first, after};

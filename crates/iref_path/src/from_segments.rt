@@ -1,6 +1,5 @@
 //! The text of a path that is made of segments (RFC 3986 section 5.2.4).
-ghost use Rattle.std.specs.Prelude.{◌≡◌, true, OnOk, IfOk, map};
-ghost use Rattle.std.specs.Iterator.{IsFinite};
+ghost use Rattle.std.specs.{Prelude.{◌≡◌, true, OnOk, IfOk, map}, Iterator.{IsFinite}};
 ghost use Rattle.std.specs.String.{string_bytes};
 ghost use Rattle.iref_component.specs.{alone, is_path, read_path, view_text};
 ghost use Rattle.iref_model.specs.PathSteps as step;

@@ -1,7 +1,6 @@
 //! The normal segments of a path, from both ends (RFC 3986 section 5.2.4).
 
-ghost use Rattle.std.specs.Prelude.{◌≡◌, true, length};
-ghost use Rattle.std.specs.List.{list_all};
+ghost use Rattle.std.specs.{Prelude.{◌≡◌, true, length}, List.{list_all}};
 ghost use Rattle.std.specs.Iterator.{YieldsFirstBy, YieldsLastBy, item_count};
 ghost use Rattle.iref_component.specs.{read_path, is_path, is_segment, normal_segments, view_text};
 ghost use Rattle.iref_path_text.specs.Listed.{IsListSound, listed_left};

@@ -1,13 +1,14 @@
 //! Paths (RFC 3986 section 3.3).
 
-ghost use Rattle.std.specs.Prelude.{◌≡◌, ◌<◌, ◌^◌, true, not, [], Some, IfOk, IsNone, IsOk, length, codes, option_map};
+ghost use Rattle.std.specs.Prelude.{◌≡◌, ◌<◌, ◌^◌, true, not, [], Some, IfOk, IsNone, IsOk, length};
+ghost use Rattle.std.specs.Prelude.{codes, option_map};
 ghost use Rattle.iref_model.specs.PathFunctions as function;
 ghost use Rattle.iref_model.specs.PathSteps as step;
 ghost use Rattle.iref_model.specs.PathSuffix.{path_suffix};
 ghost use Rattle.iref_component.specs.{IsPath, is_path, InUtf8, alone, path_key, Parses};
 ghost use Rattle.iref_component.specs.{spell_path, is_empty, view_text, normal_segments};
-ghost use Rattle.iref_path.specs.Paths.{path_text, path_value, path_buf_text, path_buf_value, segments_left};
-ghost use Rattle.iref_path.specs.NormalPaths.{normal_segments_left};
+ghost use Rattle.iref_path.specs.Paths.{path_text, path_value, path_buf_text, path_buf_value};
+ghost use Rattle.iref_path.specs.{Paths.{segments_left}, NormalPaths.{normal_segments_left}};
 ghost use Rattle.iref_path.specs.Suffixes.{SpellsSuffix};
 
 use crate::normal::NormalizedSegments;
@@ -227,9 +228,9 @@ impl<'a, C: CharSet> Path<'a, C> {
         Ok(PathBuf::new_unchecked(text))
     }
 
-    /// What is left of the path after a prefix, as a relative path: of `/foo/bar` after `/foo` it is
-    /// `bar`, of `//foo` after `/` it is `.//foo`. None where the normal segments of the prefix are
-    /// not a beginning of the path's, after decoding, or where only one of both is absolute.
+    /// What is left of the path after a prefix, as a relative path: of `/foo/bar` after `/foo` it
+    /// is `bar`, of `//foo` after `/` it is `.//foo`. None where the normal segments of the prefix
+    /// are not a beginning of the path's, after decoding, or where only one of both is absolute.
     pub fn suffix(&self, alloc: Global, prefix: Path<'_, C>) -> Result<Option<PathBuf<C>>, Memory>
         ensures suffix { IfOk result
             (SpellsSuffix (path_value prefix.entry) (path_value self.now)) }

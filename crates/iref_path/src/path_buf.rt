@@ -1,7 +1,8 @@
 //! Paths that own their text (RFC 3986 section 3.3).
 
 ghost use Rattle.std.specs.String.{string_bytes};
-ghost use Rattle.std.specs.Prelude.{◌≡◌, ◌<◌, ◌^◌, true, not, [], Some, IfOk, IsNone, IsOk, length, option_map};
+ghost use Rattle.std.specs.Prelude.{◌≡◌, ◌<◌, ◌^◌, true, not, [], Some, IfOk, IsNone, IsOk, length};
+ghost use Rattle.std.specs.Prelude.{option_map};
 ghost use Rattle.iref_model.specs.PathFunctions as function;
 ghost use Rattle.iref_model.specs.PathSteps as step;
 ghost use Rattle.iref_model.specs.PathSuffix.{path_suffix};
@@ -9,8 +10,8 @@ ghost use Rattle.iref_component.specs.{ComparesBy, path_key, path_key_cmp, spell
 ghost use Rattle.iref_component.specs.{Parses, view_text, is_path, alone, normal_segments};
 ghost use Rattle.iref_component.specs.{fed_path, is_empty, IsPath};
 ghost use Rattle.iref_path.specs.NormalPaths.{normal_segments_left};
-ghost use Rattle.iref_path.specs.Paths.{path_text, path_value, path_buf_text, path_buf_value, segments_left};
-ghost use Rattle.iref_path.specs.Suffixes.{SpellsSuffix};
+ghost use Rattle.iref_path.specs.Paths.{path_text, path_value, path_buf_text, path_buf_value};
+ghost use Rattle.iref_path.specs.{Paths.{segments_left}, Suffixes.{SpellsSuffix}};
 
 mod edits;
 mod lists;

@@ -1,10 +1,8 @@
 //! Edits of a path in place (RFC 3986 section 3.3).
-ghost use Rattle.std.specs.Prelude.{◌≡◌, ◌≤◌, ◌+◌, ◌-◌, ◌&&◌, true, not, [], length, Some};
-ghost use Rattle.std.specs.Prelude.{OnOk, OnErr, IfOk, IsOk};
-ghost use Rattle.std.specs.Str.{IsCharBoundary};
+ghost use Rattle.std.specs.Prelude.{◌≡◌, ◌≤◌, ◌+◌, ◌-◌, ◌&&◌, true, not, [], length, Some, OnOk};
+ghost use Rattle.std.specs.{Prelude.{OnErr, IfOk, IsOk}, Str.{IsCharBoundary}};
 ghost use Rattle.iref_grammar.specs.Contexts.{alone, follows_authority, is_path_in};
-ghost use Rattle.iref_grammar.specs.PathValue.{PathValue, read_path};
-ghost use Rattle.iref_grammar.specs.Texts.{is_empty};
+ghost use Rattle.iref_grammar.specs.{PathValue.{PathValue, read_path}, Texts.{is_empty}};
 ghost use Rattle.iref_component.specs.Components.{view_text};
 ghost use Rattle.iref_model.specs.PathSteps as step;
 ghost use Rattle.iref_path_text.specs.PathParts.{is_path_after, step_text, StepsTo};
@@ -37,13 +35,15 @@ pub struct PathMut<'a, C: CharSet, T: Target<PathPart, C> = Vec<u8>> {
     context: PathContext,
     place: Place,
     chars: PhantomData<C>,
-    ghost placed: { T.stands (T.text target.now) context place.start place.end } by { T.one_place (T.text target.now) context place.start place.end },
+    ghost placed: { T.stands (T.text target.now) context place.start place.end }
+        by { T.one_place (T.text target.now) context place.start place.end },
 }
 
 impl<'a, C: CharSet, T: Target<PathPart, C>> PathMut<'a, C, T> {
-    ghost use Rattle.iref_path.specs.PathEdits.{Borrows, edited_bytes, path_mut_context, path_mut_start, path_mut_end};
-    ghost use Rattle.iref_path.specs.PathEdits.{path_mut_text, path_mut_value};
-    ghost use Rattle.iref_path.specs.PathEdits.{IsEditorOf, IsSameEditor, BecomesPath, IsUnchanged};
+    ghost use Rattle.iref_path.specs.PathEdits.{Borrows, edited_bytes, path_mut_context};
+    ghost use Rattle.iref_path.specs.PathEdits.{path_mut_start, path_mut_end, path_mut_text};
+    ghost use Rattle.iref_path.specs.PathEdits.{path_mut_value, IsEditorOf, IsSameEditor};
+    ghost use Rattle.iref_path.specs.PathEdits.{BecomesPath, IsUnchanged};
 
     /// The path in a range of what holds it, with what stands before it.
     pub fn of_target(target: &'a mut T, context: PathContext, range: Range<usize>) -> Self

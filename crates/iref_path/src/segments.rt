@@ -1,7 +1,6 @@
 //! The segments of a path, from both ends.
 
-ghost use Rattle.std.specs.Prelude.{◌≡◌, true};
-ghost use Rattle.std.specs.List.{list_all};
+ghost use Rattle.std.specs.{Prelude.{◌≡◌, true}, List.{list_all}};
 ghost use Rattle.std.specs.Iterator.{YieldsFirstBy, YieldsLastBy, item_count};
 ghost use Rattle.iref_component.specs.{is_segment, view_text};
 ghost use Rattle.iref_path_text.specs.{pieces_if_some};

@@ -1,8 +1,7 @@
 //! The longest common beginning of two normal lists, which are read from the back, and take no
 //! memory.
 
-ghost use Rattle.std.specs.List.{common_prefix_len};
-ghost use Rattle.std.specs.Prelude.{◌≡◌, length};
+ghost use Rattle.std.specs.{List.{common_prefix_len}, Prelude.{◌≡◌, length}};
 ghost use Rattle.iref_model.specs.PathSuffix.{same_decoded};
 ghost use Rattle.iref_path_text.specs.Remaining.{IsSound, normal_left};
 

@@ -3,7 +3,9 @@
 ghost use Rattle.std.specs.Prelude.{◌≡◌, ◌≢◌, ◌↔◌, ◌+◌, ◌<◌, ◌≤◌, ◌^◌, ◌∷◌, true};
 ghost use Rattle.iref_grammar.specs.{read_path};
 ghost use Rattle.iref_model.specs.{items_compared, IsCountedAnswer, path_key};
-ghost use Rattle.iref_path_text.specs.Unread.{AreCounted, HasRoomFor, HaveRoom, IsAnswer, IsCountable, IsShorter, IsWhole, all_items_unread, items_unread, path_unread, steps_count, steps_taken};
+ghost use Rattle.iref_path_text.specs.Unread.{AreCounted, HasRoomFor, HaveRoom, IsAnswer};
+ghost use Rattle.iref_path_text.specs.Unread.{IsCountable, IsShorter, IsWhole, all_items_unread};
+ghost use Rattle.iref_path_text.specs.Unread.{items_unread, path_unread, steps_count, steps_taken};
 
 use crate::names::name_stays;
 use crate::pieces::{last_piece, split_root};
@@ -52,7 +54,9 @@ pub struct Unread<'a> {
 }
 
 impl<'a> Unread<'a> {
-    ghost use Rattle.iref_path_text.specs.Unread.{GivesItem, GivesSegment, HasRoom, IsCountable, IsCounted, IsShorter, IsWhole, all_items_unread, item_given, items_unread, path_unread};
+    ghost use Rattle.iref_path_text.specs.Unread.{GivesItem, GivesSegment, HasRoom, IsCountable};
+    ghost use Rattle.iref_path_text.specs.Unread.{IsCounted, IsShorter, IsWhole, all_items_unread};
+    ghost use Rattle.iref_path_text.specs.Unread.{item_given, items_unread, path_unread};
 
     /// The path, of which nothing has been read.
     #[tactic(auto, using(crate::proofs::UnreadLemmas::sizes), unfolding(crate::specs::Unread::unread_in))]

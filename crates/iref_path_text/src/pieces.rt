@@ -1,6 +1,7 @@
 //! The segments of a text, taken from either end.
 
-ghost use Rattle.std.specs.Prelude.{◌≡◌, ◌+◌, ◌<◌, ◌≤◌, ◌^◌, ◌++◌, ◌∷◌, ◌==◌, [], length, count_by, true, false};
+ghost use Rattle.std.specs.Prelude.{◌≡◌, ◌+◌, ◌<◌, ◌≤◌, ◌^◌, ◌++◌, ◌∷◌, ◌==◌, [], length, count_by};
+ghost use Rattle.std.specs.Prelude.{true, false};
 ghost use Rattle.iref_grammar.specs.{slash, pieces_at, segments_of, read_path};
 ghost use Rattle.iref_grammar.specs.Texts.{all_but_last};
 ghost use Rattle.iref_path_text.specs.Pieces.{pieces_if_some};

@@ -1,18 +1,17 @@
 //! A path rewritten over its own bytes, from the back (RFC 3986 section 5.2.4). What is written
 //! never passes what is not yet read.
 
-ghost use Rattle.std.specs.Prelude.{◌≡◌, ◌+◌, ◌-◌, ◌<◌, ◌≤◌, ◌^◌, ◌∷◌, ◌++◌, [], codes, drop, false, length, replicate, slice_range, take, vec_len, if◌then◌else◌};
-ghost use Rattle.std.specs.List.{join_with_byte, splice};
-ghost use Rattle.iref_grammar.specs.Grammar.{slash};
-ghost use Rattle.iref_grammar.specs.Texts.{pieces_at};
-ghost use Rattle.iref_model.specs.NormalReading.{items, open_before, staying_before};
-ghost use Rattle.iref_path_text.specs.Rewriting.{pieces_before, rewritten, rewritten_at};
-ghost use Rattle.iref_edit.specs.Changes.{part_at};
-ghost use Rattle.iref_grammar.specs.PathValue.{read_path, spell_path};
-ghost use Rattle.iref_model.specs.PathSteps.{normalized};
-ghost use Rattle.std.specs.Str.{IsUtf8};
+ghost use Rattle.std.specs.Prelude.{◌≡◌, ◌+◌, ◌-◌, ◌<◌, ◌≤◌, ◌^◌, ◌∷◌, ◌++◌, [], codes, drop};
+ghost use Rattle.std.specs.Prelude.{false, length, replicate, slice_range, take, vec_len};
+ghost use Rattle.std.specs.{Prelude.{if◌then◌else◌}, List.{join_with_byte, splice}, Str.{IsUtf8}};
 ghost use Rattle.std.specs.String.{string_bytes, string_len};
+ghost use Rattle.iref_grammar.specs.{Grammar.{slash}, Texts.{pieces_at}};
+ghost use Rattle.iref_grammar.specs.PathValue.{read_path, spell_path};
+ghost use Rattle.iref_model.specs.NormalReading.{items, open_before, staying_before};
+ghost use Rattle.iref_model.specs.PathSteps.{normalized};
+ghost use Rattle.iref_path_text.specs.Rewriting.{pieces_before, rewritten, rewritten_at};
 ghost use Rattle.iref_path_text.specs.Spelling.{each_closed};
+ghost use Rattle.iref_edit.specs.Changes.{part_at};
 
 use crate::names::bytes_stay;
 use crate::pieces::split_root;
@@ -41,8 +40,8 @@ fn segment_before(bytes: &[u8], end: usize) -> usize
     }
 }
 
-// Moves a segment, if it is a name that stays, so that it ends, with a `/` after it, at a place, and
-// answers where that begins.
+// Moves a segment, if it is a name that stays, so that it ends, with a `/` after it, at a place,
+// and answers where that begins.
 fn move_segment(
     bytes: &mut [u8],
     segment: usize,

@@ -1,15 +1,12 @@
 //! The text of a normalized path, which is measured and written from its end (RFC 3986 section
 //! 5.2.4).
 
-ghost use Rattle.std.specs.Prelude.{◌≡◌, ◌+◌, ◌-◌, ◌<◌, ◌≤◌, ◌^◌, ◌++◌, ◌||◌, ◌&&◌, ◌==◌, not, true, [], drop, length, IfOk};
-ghost use Rattle.std.specs.List.{join_with_byte, list_any};
-ghost use Rattle.std.specs.String.{string_bytes};
-ghost use Rattle.iref_grammar.specs.Contexts.{is_path_in};
-ghost use Rattle.iref_grammar.specs.Grammar.{colon, slash};
-ghost use Rattle.iref_grammar.specs.PathValue.{read_path, spell_path};
-ghost use Rattle.iref_grammar.specs.Tests.{is_path};
-ghost use Rattle.iref_path_text.specs.PathParts.{is_path_after};
-ghost use Rattle.iref_path_text.specs.Remaining.{first_or};
+ghost use Rattle.std.specs.Prelude.{◌≡◌, ◌+◌, ◌-◌, ◌<◌, ◌≤◌, ◌^◌, ◌++◌, ◌||◌, ◌&&◌, ◌==◌, not};
+ghost use Rattle.std.specs.Prelude.{true, [], drop, length, IfOk};
+ghost use Rattle.std.specs.{List.{join_with_byte, list_any}, String.{string_bytes}};
+ghost use Rattle.iref_grammar.specs.{Contexts.{is_path_in}, Grammar.{colon, slash}};
+ghost use Rattle.iref_grammar.specs.{PathValue.{read_path, spell_path}, Tests.{is_path}};
+ghost use Rattle.iref_path_text.specs.{PathParts.{is_path_after}, Remaining.{first_or}};
 ghost use Rattle.iref_path_text.specs.Spelling.{each_closed, normal_in};
 ghost use Rattle.iref_path_text.specs.Spelling as spelling;
 ghost use Rattle.iref_path_text.specs.Stacks.{in_order, stacked_text};
@@ -141,8 +138,8 @@ pub(crate) fn lead_in(
     )
 }
 
-// Writes items that are given the last first, each with a `/` after it, so that they end at a place,
-// and answers where they begin.
+// Writes items that are given the last first, each with a `/` after it, so that they end at a
+// place, and answers where they begin.
 fn write_stacked_closed(items: &[&str], buffer: &mut [u8], end: usize) -> usize
     requires room { length (each_closed (in_order items.now)) ≤ end }
     requires within { end ≤ length buffer.old }

@@ -1,13 +1,11 @@
 //! What is left of a path after a prefix, by normal lists.
 
-ghost use Rattle.iref_grammar.specs.PathValue.{read_path, spell_path};
-ghost use Rattle.iref_grammar.specs.Tests.{is_path};
+ghost use Rattle.iref_grammar.specs.{PathValue.{read_path, spell_path}, Tests.{is_path}};
 ghost use Rattle.iref_model.specs.PathSuffix.{path_suffix};
-ghost use Rattle.iref_path_text.specs.Spelling.{each_closed};
-ghost use Rattle.iref_path_text.specs.Suffixes.{way_path};
+ghost use Rattle.iref_path_text.specs.{Spelling.{each_closed}, Suffixes.{way_path}};
 ghost use Rattle.iref_path_text.specs.Ways.{IsWaySound, way_left};
-ghost use Rattle.std.specs.Prelude.{◌≡◌, ◌+◌, ◌<◌, ◌^◌, IfOk, IfSome, IsNone, IsOk, length, option_map, true};
-ghost use Rattle.std.specs.String.{string_bytes};
+ghost use Rattle.std.specs.Prelude.{◌≡◌, ◌+◌, ◌<◌, ◌^◌, IfOk, IfSome, IsNone, IsOk, length};
+ghost use Rattle.std.specs.{Prelude.{option_map, true}, String.{string_bytes}};
 
 use crate::common::common_len;
 use crate::measured::MeasuredPath;

@@ -1,8 +1,6 @@
 //! Editors of the parts of owners, in place (RFC 3986 section 3).
-ghost use Rattle.std.specs.Prelude.{◌≡◌, true, is_some, IfSome};
-ghost use Rattle.std.specs.Borrow.{sem, RestsIfNone};
-ghost use Rattle.iref_grammar.specs.Places.{places_of};
-ghost use Rattle.iref_grammar.specs.Reference.{context_of, is_reference};
+ghost use Rattle.std.specs.{Prelude.{◌≡◌, true, is_some, IfSome}, Borrow.{sem, RestsIfNone}};
+ghost use Rattle.iref_grammar.specs.{Places.{places_of}, Reference.{context_of, is_reference}};
 ghost use Rattle.iref_path.specs.PathEdits.{Borrows, IsEditorOf};
 ghost use Rattle.iref_buffer.specs.PathPlaces.{IsPathOf, one_path};
 ghost use Rattle.iref_buffer.specs.AuthorityPlaces.{IsAuthorityOf, one_authority};

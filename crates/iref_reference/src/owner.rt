@@ -11,8 +11,8 @@ ghost use Rattle.iref_path.specs.{path_text};
 ghost use Rattle.iref_reference.specs.References.{reference_text, reference_value};
 ghost use Rattle.iref_reference.specs.References.{reference_buf_text, reference_buf_value};
 ghost use Rattle.iref_reference.specs.References.{OwnerBecomesFull};
-ghost use Rattle.iref_reference.specs.Parts.{uri_ref_part_texts, uri_ref_parts_value};
-ghost use Rattle.iref_reference.specs.Parts.{part_texts, parts_value};
+ghost use Rattle.iref_reference.specs.Parts.{uri_ref_part_texts, uri_ref_parts_value, part_texts};
+ghost use Rattle.iref_reference.specs.Parts.{parts_value};
 
 use crate::parts::{Parts, UriRefParts};
 use crate::rule::{FullReferenceRule, HasScheme, ReferenceRule};

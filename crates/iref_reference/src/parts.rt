@@ -1,9 +1,8 @@
 //! The components of references and of URIs.
 ghost use Rattle.std.specs.Prelude.{MatchResult, ◌≡◌, ◌↔◌, true, Option, Some, option_map, is_some};
-ghost use Rattle.std.specs.Str.{str_to_ascii_lowercase};
-ghost use Rattle.std.specs.Ordering.{eq_by_cmp};
-ghost use Rattle.std.proofs.Common.{ap};
+ghost use Rattle.std.specs.{Str.{str_to_ascii_lowercase}, Ordering.{eq_by_cmp}};
 ghost use Rattle.std.specs.Option.{option_copied};
+ghost use Rattle.std.proofs.Common.{ap};
 ghost use Rattle.std.proofs.lemmas.Option.{same_Some};
 ghost use Rattle.iref_parse.specs.{texts_of};
 ghost use Rattle.iref_component.specs.{AreComponents, spell_components, is_scheme, none_or};

@@ -1,9 +1,7 @@
 //! References that lead from a base to a target, the way back from resolution (RFC 3986 section
 //! 5.2).
-ghost use Rattle.iref_buffer.specs.Relatives.{agree};
-ghost use Rattle.iref_grammar.specs.ComponentTexts.{AreComponents};
-ghost use Rattle.iref_buffer.specs.Steps.{Spells};
-ghost use Rattle.iref_grammar.specs.Reference.{is_readable};
+ghost use Rattle.iref_buffer.specs.{Relatives.{agree}, Steps.{Spells}};
+ghost use Rattle.iref_grammar.specs.{ComponentTexts.{AreComponents}, Reference.{is_readable}};
 ghost use Rattle.iref_model.specs.Relative.{relative_to, schemes_agree};
 ghost use Rattle.iref_parse.specs.ReferenceSlices.{texts_of, value_of};
 ghost use Rattle.iref_reference.specs.Parts.{uri_ref_parts_value};

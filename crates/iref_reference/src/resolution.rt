@@ -1,6 +1,5 @@
 //! References resolved against a base, strict (RFC 3986 section 5.2).
-ghost use Rattle.iref_grammar.specs.Grammar.{IsUri, IsUriReference};
-ghost use Rattle.iref_grammar.specs.Rules.{InUtf8};
+ghost use Rattle.iref_grammar.specs.{Grammar.{IsUri, IsUriReference}, Rules.{InUtf8}};
 ghost use Rattle.iref_error.specs.Tried.{TellsInvalid};
 ghost use Rattle.iref_reference.specs.References.{reference_buf_text, reference_text};
 ghost use Rattle.iref_reference.specs.Resolutions.{IsResolved};

@@ -1,14 +1,14 @@
 //! Borrowed references (RFC 3986 sections 3 and 4.1).
-ghost use Rattle.std.specs.Prelude.{IfOk, IfSome, is_some};
-ghost use Rattle.std.specs.Prelude.{◌≡◌, true, [], ◌∷◌, Some, None, option_map};
+ghost use Rattle.std.specs.Prelude.{IfOk, IfSome, is_some, ◌≡◌, true, [], ◌∷◌, Some, None};
+ghost use Rattle.std.specs.Prelude.{option_map};
 ghost use Rattle.iref_component.specs.{Parses, view_text, spell_components, hierarchy, spell};
 ghost use Rattle.iref_component.specs.{spell_authority, with_query, with_fragment, InUtf8};
 ghost use Rattle.iref_component.specs.{user_info_of, host_of, port_of, base_of, spell_path, before};
 ghost use Rattle.iref_component.specs.{hash_sign};
 ghost use Rattle.iref_authority.specs.{authority_text};
 ghost use Rattle.iref_path.specs.{path_text};
-ghost use Rattle.iref_reference.specs.Parts.{part_texts, parts_value};
-ghost use Rattle.iref_reference.specs.Parts.{uri_ref_part_texts, uri_ref_parts_value};
+ghost use Rattle.iref_reference.specs.Parts.{part_texts, parts_value, uri_ref_part_texts};
+ghost use Rattle.iref_reference.specs.Parts.{uri_ref_parts_value};
 ghost use Rattle.iref_reference.specs.References.{reference_text, reference_value};
 ghost use Rattle.iref_reference.specs.References.{reference_buf_text, BecomesFull};
 

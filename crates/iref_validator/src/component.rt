@@ -1,10 +1,7 @@
 //! Which component of a text keeps it from being an IRI reference.
 ghost use Rattle.std.specs.Prelude.{MatchResult};
-ghost use Rattle.iref.specs.Characters.{iri_chars};
-ghost use Rattle.iref.specs.ComponentTexts.{spell_components};
-ghost use Rattle.iref.specs.Grammar.{IsUriReference};
-ghost use Rattle.iref.specs.Reference.{read_reference};
-ghost use Rattle.iref.specs.Rules.{InUtf8};
+ghost use Rattle.iref.specs.{Characters.{iri_chars}, ComponentTexts.{spell_components}};
+ghost use Rattle.iref.specs.{Grammar.{IsUriReference}, Reference.{read_reference}, Rules.{InUtf8}};
 ghost use Rattle.iref_validator.specs.Components.{IsChecked, IsFirstOutside};
 
 use iref::iri::{Authority, Fragment, Path, Query, Scheme};

@@ -2,8 +2,7 @@
 ghost use Rattle.std.specs.Prelude.{◌≡◌, ◌++◌, [], ◌∷◌, true, IfOk, OnOk, OnErr};
 ghost use Rattle.std.specs.String.{string_bytes};
 ghost use Rattle.iref.specs.PrefixIndex.{IsIndexed};
-ghost use Rattle.iref_grammar.specs.Characters.{iri_chars};
-ghost use Rattle.iref_grammar.specs.Reference.{is_full_reference};
+ghost use Rattle.iref_grammar.specs.{Characters.{iri_chars}, Reference.{is_full_reference}};
 ghost use Rattle.iref_reference.specs.References.{reference_text};
 
 use super::index::Index;
@@ -20,10 +19,8 @@ pub(super) struct Entry<A: Allocator> {
 }
 
 impl<A: Allocator> Model for Entry<A> {
-    ghost use Rattle.std.specs.Prelude.{◌≡◌, true};
-    ghost use Rattle.std.specs.String.{string_bytes};
-    ghost use Rattle.iref_grammar.specs.Characters.{iri_chars};
-    ghost use Rattle.iref_grammar.specs.Reference.{is_full_reference};
+    ghost use Rattle.std.specs.{Prelude.{◌≡◌, true}, String.{string_bytes}};
+    ghost use Rattle.iref_grammar.specs.{Characters.{iri_chars}, Reference.{is_full_reference}};
     ghost use Rattle.iref_mapping.specs.PrefixTable.{PrefixEntry};
 
     ghost Value = { PrefixEntry };

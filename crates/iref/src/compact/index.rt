@@ -2,8 +2,8 @@
 //! these.
 ghost use Rattle.std.specs.Prelude.{◌≡◌, length, not, is_some, IfOk, OnOk, OnErr};
 ghost use Rattle.std.specs.BTreeMap.{get_by_text};
-ghost use Rattle.iref.specs.PrefixIndex.{IsEmptyIndex, Gains, Stays};
-ghost use Rattle.iref.specs.PrefixIndex.{GainsLength, KeepsLengths, IsLengthBelow};
+ghost use Rattle.iref.specs.PrefixIndex.{IsEmptyIndex, Gains, Stays, GainsLength, KeepsLengths};
+ghost use Rattle.iref.specs.PrefixIndex.{IsLengthBelow};
 
 use iref_error::Memory;
 use std::alloc::Allocator;

@@ -1,10 +1,8 @@
 //! Texts of prefix tables: labels, and texts that are joined.
-ghost use Rattle.std.specs.Prelude.{◌≡◌, ◌++◌, if◌then◌else◌, length, drop};
-ghost use Rattle.std.specs.Prelude.{IfOk, IfErr, Ok, Some, None};
-ghost use Rattle.std.specs.Option.{option_copied};
-ghost use Rattle.iref_grammar.specs.Texts.{begins_with};
-ghost use Rattle.std.specs.List.{list_all};
+ghost use Rattle.std.specs.Prelude.{◌≡◌, ◌++◌, if◌then◌else◌, length, drop, IfOk, IfErr, Ok, Some};
+ghost use Rattle.std.specs.{Prelude.{None}, Option.{option_copied}, List.{list_all}};
 ghost use Rattle.std.specs.String.{string_bytes};
+ghost use Rattle.iref_grammar.specs.Texts.{begins_with};
 ghost use Rattle.iref_mapping.specs.PrefixTable.{is_label, is_label_char, if_iri};
 ghost use Rattle.iref_reference.specs.References.{reference_buf_text};
 ghost use Rattle.iref.specs.Prefixes.{RefusesExpand};

@@ -1,15 +1,12 @@
 //! The answer to `edit`.
 ghost use Rattle.std.specs.Prelude.{◌≡◌, ◌++◌, ◌∷◌, true, map, IfOk, OnOk, OnErr};
-ghost use Rattle.std.specs.List.{list_all};
-ghost use Rattle.std.specs.Option.{option_copied};
+ghost use Rattle.std.specs.{List.{list_all}, Option.{option_copied}};
 ghost use Rattle.iref_grammar.specs.{iri_chars};
 ghost use Rattle.iref_lines.specs.Lines.{is_valid_edit, text_and_edits};
 ghost use Rattle.iref_lines.specs.Lines as spec;
-ghost use Rattle.iref_batch.specs.EditFields.{IsRead, edits_read};
+ghost use Rattle.iref_batch.specs.{EditFields.{IsRead, edits_read}, Fields.{fields_of}};
+ghost use Rattle.iref_batch.specs.{Gathering.{Extends}, Runs.{reply_to, request_reply}};
 ghost use Rattle.iref.specs.EditSteps.{edit_step};
-ghost use Rattle.iref_batch.specs.Fields.{fields_of};
-ghost use Rattle.iref_batch.specs.Gathering.{Extends};
-ghost use Rattle.iref_batch.specs.Runs.{reply_to, request_reply};
 
 use super::{put_answered, put_text};
 use crate::edit_fields::{FieldError, read_edit};

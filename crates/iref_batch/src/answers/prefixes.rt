@@ -7,9 +7,7 @@ ghost use Rattle.iref_lines.specs.Lines.{Answered, answer_text, are_valid_entrie
 ghost use Rattle.iref_lines.specs.Lines.{read_entry, text_and_entries};
 ghost use Rattle.iref_mapping.specs.PrefixTable.{compact_text};
 ghost use Rattle.iref.specs.Prefixes.{compact_value};
-ghost use Rattle.iref_batch.specs.EditFields.{IsRead};
-ghost use Rattle.iref_batch.specs.Fields.{fields_of};
-ghost use Rattle.iref_batch.specs.Gathering.{Extends};
+ghost use Rattle.iref_batch.specs.{EditFields.{IsRead}, Fields.{fields_of}, Gathering.{Extends}};
 ghost use Rattle.iref_batch.specs.PrefixFields.{entries_read, HasTaken, TakesNot};
 ghost use Rattle.iref_batch.specs.Runs.{reply_to, request_reply};
 

@@ -1,8 +1,7 @@
 //! The answer to `relative`.
 ghost use Rattle.std.specs.Prelude.{◌≡◌, ◌++◌, OnOk, OnErr};
 ghost use Rattle.iref_lines.specs.Lines.{Relative};
-ghost use Rattle.iref_batch.specs.Gathering.{Extends};
-ghost use Rattle.iref_batch.specs.Runs.{request_reply};
+ghost use Rattle.iref_batch.specs.{Gathering.{Extends}, Runs.{request_reply}};
 
 use super::resolve::components_of;
 use super::{put_answered, put_text};

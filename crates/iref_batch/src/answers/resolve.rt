@@ -3,8 +3,7 @@ ghost use Rattle.std.specs.Prelude.{◌≡◌, ◌++◌, true, false, IfNone, If
 ghost use Rattle.iref_grammar.specs.{read_reference, iri_chars};
 ghost use Rattle.iref_lines.specs.Lines.{Resolve};
 ghost use Rattle.iref_parse.specs.ReferenceSlices.{value_of};
-ghost use Rattle.iref_batch.specs.Gathering.{Extends};
-ghost use Rattle.iref_batch.specs.Runs.{request_reply};
+ghost use Rattle.iref_batch.specs.{Gathering.{Extends}, Runs.{request_reply}};
 
 use super::{put_answered, put_text};
 use iref_buffer::held::{Held, HeldRule};

@@ -4,8 +4,8 @@ ghost use Rattle.iref_grammar.specs.Authority.{is_authority, read_authority};
 ghost use Rattle.iref_grammar.specs.Reference.{read_reference};
 ghost use Rattle.iref_model.specs.ComponentSteps.{with_authority_step};
 ghost use Rattle.iref_edit.specs.Changes.{IsNoLonger, IsWithin, changed, replaced};
-ghost use Rattle.iref_buffer.specs.AuthorityPlaces.{IsAuthorityOf, one_authority};
-ghost use Rattle.iref_buffer.specs.AuthorityPlaces.{authority_part, place_of_authority};
+ghost use Rattle.iref_buffer.specs.AuthorityPlaces.{IsAuthorityOf, one_authority, authority_part};
+ghost use Rattle.iref_buffer.specs.AuthorityPlaces.{place_of_authority};
 
 use super::{Held, HeldRule, slice_at};
 use crate::lengths::Lengths;

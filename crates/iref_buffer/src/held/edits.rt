@@ -1,9 +1,7 @@
 //! Edits of a held text: each is one step of the reference, and moves the places with the text.
 ghost use Rattle.std.specs.Prelude.{◌≡◌, ◌≤◌, ◌<◌, ◌+◌, ◌-◌, ◌^◌, ◌++◌, true, false, [], ◌∷◌};
 ghost use Rattle.std.specs.Prelude.{length, Option, is_some, option_map, codes, OnOk, OnErr, IsOk};
-ghost use Rattle.std.specs.Prelude.{IsNone};
-ghost use Rattle.std.specs.Option.{option_copied};
-ghost use Rattle.std.specs.List.{splice};
+ghost use Rattle.std.specs.{Prelude.{IsNone}, Option.{option_copied}, List.{splice}};
 ghost use Rattle.iref_grammar.specs.Places.{places_of, text_at};
 ghost use Rattle.iref_component.specs.{Text, colon, question_mark, hash_sign, AuthorityValue};
 ghost use Rattle.iref_component.specs.{spell_authority, read_authority, is_authority, part_then};
@@ -11,9 +9,8 @@ ghost use Rattle.iref_component.specs.{then_part, none_or, is_scheme, is_path, i
 ghost use Rattle.iref_component.specs.{is_fragment, context_of, read_reference, spell, is_path_in};
 ghost use Rattle.iref_component.specs.{PathValue, read_path, spell_path, with_query, with_fragment};
 ghost use Rattle.iref_component.specs.{with_path, with_authority, with_scheme};
-ghost use Rattle.iref_buffer.specs.PathTexts.{authority_text, path_text};
-ghost use Rattle.iref_buffer.specs.PathTexts.{with_path_text, with_path_read};
-ghost use Rattle.iref_buffer.specs.Steps.{StepsOrStays};
+ghost use Rattle.iref_buffer.specs.PathTexts.{authority_text, path_text, with_path_text};
+ghost use Rattle.iref_buffer.specs.{PathTexts.{with_path_read}, Steps.{StepsOrStays}};
 ghost use Rattle.iref_buffer.specs.ComponentLengths.{HasLengths, lengths_of, with_mark};
 ghost use Rattle.iref_edit.specs.Changes.{IsNoLonger, IsWithin, changed, replaced};
 

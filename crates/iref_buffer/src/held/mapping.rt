@@ -1,7 +1,6 @@
 //! Held texts of IRIs, mapped to those of URIs (RFC 3987 section 3.1).
 ghost use Rattle.iref_mapping.specs.Mapping.{mapped};
-ghost use Rattle.std.specs.Char.{is_ascii};
-ghost use Rattle.std.specs.List.{list_all};
+ghost use Rattle.std.specs.{Char.{is_ascii}, List.{list_all}};
 ghost use Rattle.std.specs.Prelude.{◌≡◌, IfErr, IfOk, IsOk, true};
 
 use super::{Held, HeldRule};

@@ -1,6 +1,5 @@
 //! The text that leads from a base to a target, with the places of its components.
-ghost use Rattle.iref_buffer.specs.Relatives.{agree};
-ghost use Rattle.iref_buffer.specs.Steps.{Spells};
+ghost use Rattle.iref_buffer.specs.{Relatives.{agree}, Steps.{Spells}};
 ghost use Rattle.iref_grammar.specs.Reference.{is_readable};
 ghost use Rattle.iref_model.specs.Relative.{relative_to};
 ghost use Rattle.iref_parse.specs.ReferenceSlices.{value_of};

@@ -3,8 +3,7 @@
 ghost use Rattle.iref_buffer.specs.ComponentLengths.{lengths_of_texts, placed};
 ghost use Rattle.iref_buffer.specs.MeasuredReferences.{IsReady, spell_texts, measured_components};
 ghost use Rattle.iref_buffer.specs.Steps.{Spells};
-ghost use Rattle.iref_grammar.specs.Places.{places_of};
-ghost use Rattle.iref_grammar.specs.Reference.{is_readable};
+ghost use Rattle.iref_grammar.specs.{Places.{places_of}, Reference.{is_readable}};
 ghost use Rattle.iref_model.specs.Resolution.{resolved};
 ghost use Rattle.iref_parse.specs.ReferenceSlices.{value_of};
 ghost use Rattle.std.specs.Prelude.{◌≡◌, ◌+◌, ◌*◌, ◌<◌, ◌^◌, IfOk, length, true};

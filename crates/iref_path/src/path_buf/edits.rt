@@ -1,8 +1,6 @@
 //! Edits of a path that owns its text (RFC 3986 sections 3.3 and 5.2.4).
 ghost use Rattle.std.specs.Prelude.{◌≡◌, ◌&&◌, ◌≤◌, not, length, OnOk, OnErr, IfOk, IsOk};
-ghost use Rattle.iref_grammar.specs.PathValue.{spell_path};
-ghost use Rattle.iref_grammar.specs.Texts.{is_empty};
-ghost use Rattle.iref_grammar.specs.Contexts.{alone};
+ghost use Rattle.iref_grammar.specs.{PathValue.{spell_path}, Texts.{is_empty}, Contexts.{alone}};
 ghost use Rattle.iref_component.specs.Components.{view_text};
 ghost use Rattle.iref_model.specs.PathSteps as step;
 ghost use Rattle.iref_path.specs.PathEdits.{Borrows, IsEditorOf, SpellsPath};

@@ -1,11 +1,9 @@
 //! Edits of a path that owns its text by many segments (RFC 3986 section 5.2.4).
-ghost use Rattle.std.specs.Prelude.{◌≡◌, OnOk, OnErr, IfOk, fold, map};
-ghost use Rattle.std.specs.Iterator.{IsFinite};
+ghost use Rattle.std.specs.{Prelude.{◌≡◌, OnOk, OnErr, IfOk, fold, map}, Iterator.{IsFinite}};
 ghost use Rattle.iref_component.specs.Components.{view_text};
 ghost use Rattle.iref_grammar.specs.Contexts.{alone};
 ghost use Rattle.iref_model.specs.PathSteps as step;
-ghost use Rattle.iref_path.specs.Appends.{TakesAll, TakesFirst};
-ghost use Rattle.iref_path.specs.PathEdits.{SpellsPath};
+ghost use Rattle.iref_path.specs.{Appends.{TakesAll, TakesFirst}, PathEdits.{SpellsPath}};
 ghost use Rattle.iref_path.specs.Paths.{path_value, path_buf_text, path_buf_value};
 
 use crate::from_segments::text_of_segments;

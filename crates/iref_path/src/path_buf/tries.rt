@@ -1,13 +1,9 @@
 //! Edits of a path that owns its text by a text that is tested first.
-ghost use Rattle.std.specs.Prelude.{◌≡◌, OnOk, OnErr, fold, map};
-ghost use Rattle.std.specs.Iterator.{IsFinite};
-ghost use Rattle.iref_grammar.specs.Contexts.{alone};
-ghost use Rattle.iref_grammar.specs.Grammar.{IsPath, IsSegment};
-ghost use Rattle.iref_grammar.specs.PathValue.{read_path};
-ghost use Rattle.iref_grammar.specs.Rules.{InUtf8};
+ghost use Rattle.std.specs.{Prelude.{◌≡◌, OnOk, OnErr, fold, map}, Iterator.{IsFinite}};
+ghost use Rattle.iref_grammar.specs.{Contexts.{alone}, Grammar.{IsPath, IsSegment}};
+ghost use Rattle.iref_grammar.specs.{PathValue.{read_path}, Rules.{InUtf8}};
 ghost use Rattle.iref_model.specs.PathSteps as step;
-ghost use Rattle.iref_path.specs.Appends.{TriesItems};
-ghost use Rattle.iref_path.specs.PathEdits.{SpellsPath};
+ghost use Rattle.iref_path.specs.{Appends.{TriesItems}, PathEdits.{SpellsPath}};
 ghost use Rattle.iref_path.specs.Paths.{path_buf_text, path_buf_value};
 ghost use Rattle.iref_error.specs.Tried.{TellsInvalid};
 

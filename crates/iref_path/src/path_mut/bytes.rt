@@ -1,11 +1,8 @@
 //! The editor of a path in a vector of bytes.
 ghost use Rattle.std.specs.Prelude.{◌≡◌, ◌≤◌, true, take, slice_range, vec_len, IfOk, IfErr};
-ghost use Rattle.iref_grammar.specs.Contexts.{context_from};
-ghost use Rattle.iref_grammar.specs.Grammar.{IsPath};
-ghost use Rattle.iref_grammar.specs.Rules.{InUtf8};
+ghost use Rattle.iref_grammar.specs.{Contexts.{context_from}, Grammar.{IsPath}, Rules.{InUtf8}};
 ghost use Rattle.iref_grammar.specs.Tests.{is_path};
-ghost use Rattle.iref_path.specs.BytePaths.{MayFollow};
-ghost use Rattle.iref_path.specs.PathEdits.{Borrows, IsEditorOf};
+ghost use Rattle.iref_path.specs.{BytePaths.{MayFollow}, PathEdits.{Borrows, IsEditorOf}};
 
 use crate::path::Path;
 use crate::path_mut::PathMut;

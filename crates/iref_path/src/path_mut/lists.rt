@@ -1,12 +1,10 @@
 //! Edits of a path in place by many segments (RFC 3986 section 5.2.4).
-ghost use Rattle.std.specs.Prelude.{◌≡◌, OnOk, OnErr, fold, map};
-ghost use Rattle.std.specs.Iterator.{IsFinite};
+ghost use Rattle.std.specs.{Prelude.{◌≡◌, OnOk, OnErr, fold, map}, Iterator.{IsFinite}};
 ghost use Rattle.iref_component.specs.Components.{view_text};
 ghost use Rattle.iref_model.specs.PathSteps as step;
-ghost use Rattle.iref_path.specs.Appends.{TakesAll, TakesFirst};
-ghost use Rattle.iref_path.specs.Paths.{path_value};
-ghost use Rattle.iref_path.specs.PathEdits.{path_mut_context, path_mut_value};
-ghost use Rattle.iref_path.specs.PathEdits.{IsSameEditor, BecomesPath, IsUnchanged};
+ghost use Rattle.iref_path.specs.{Appends.{TakesAll, TakesFirst}, Paths.{path_value}};
+ghost use Rattle.iref_path.specs.PathEdits.{path_mut_context, path_mut_value, IsSameEditor};
+ghost use Rattle.iref_path.specs.PathEdits.{BecomesPath, IsUnchanged};
 
 use crate::path::Path;
 use crate::path_mut::PathMut;

@@ -1,13 +1,11 @@
 //! Edits of a path in place by a text that is tested first.
-ghost use Rattle.std.specs.Prelude.{◌≡◌, OnOk, OnErr, fold, map};
-ghost use Rattle.std.specs.Iterator.{IsFinite};
-ghost use Rattle.iref_grammar.specs.Grammar.{IsPath, IsSegment};
-ghost use Rattle.iref_grammar.specs.PathValue.{read_path};
+ghost use Rattle.std.specs.{Prelude.{◌≡◌, OnOk, OnErr, fold, map}, Iterator.{IsFinite}};
+ghost use Rattle.iref_grammar.specs.{Grammar.{IsPath, IsSegment}, PathValue.{read_path}};
 ghost use Rattle.iref_grammar.specs.Rules.{InUtf8};
 ghost use Rattle.iref_model.specs.PathSteps as step;
 ghost use Rattle.iref_path.specs.Appends.{TriesItems};
-ghost use Rattle.iref_path.specs.PathEdits.{path_mut_context, path_mut_value};
-ghost use Rattle.iref_path.specs.PathEdits.{IsSameEditor, BecomesPath, IsUnchanged};
+ghost use Rattle.iref_path.specs.PathEdits.{path_mut_context, path_mut_value, IsSameEditor};
+ghost use Rattle.iref_path.specs.PathEdits.{BecomesPath, IsUnchanged};
 ghost use Rattle.iref_error.specs.Tried.{TellsInvalid};
 
 use crate::path::Path;

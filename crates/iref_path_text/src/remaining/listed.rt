@@ -5,8 +5,7 @@ ghost use Rattle.iref_grammar.specs.PathValue.{read_path};
 ghost use Rattle.iref_model.specs.NormalList.{normal_segments};
 ghost use Rattle.iref_path_text.specs.Listed.{IsListSound, KeepsList, listed_left, on_stack};
 ghost use Rattle.iref_path_text.specs.Pieces.{text_at};
-ghost use Rattle.std.specs.Iterator.{YieldsFirstBy, YieldsLastBy};
-ghost use Rattle.std.specs.Prelude.{◌≡◌, length};
+ghost use Rattle.std.specs.{Iterator.{YieldsFirstBy, YieldsLastBy}, Prelude.{◌≡◌, length}};
 
 use super::Remaining;
 use super::stack::Stack;

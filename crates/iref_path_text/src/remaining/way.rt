@@ -3,12 +3,12 @@
 ghost use Rattle.iref_grammar.specs.{read_path};
 ghost use Rattle.iref_model.specs.NormalList.{normal_segments};
 ghost use Rattle.iref_model.specs.Relative.{directory_names, steps_between};
-ghost use Rattle.iref_path_text.specs.Merged.{IsMergeSound, merged_left};
-ghost use Rattle.iref_path_text.specs.Pieces.{text_at};
+ghost use Rattle.iref_path_text.specs.{Merged.{IsMergeSound, merged_left}, Pieces.{text_at}};
 ghost use Rattle.iref_path_text.specs.Remaining.{IsSound, normal_left};
 ghost use Rattle.iref_path_text.specs.Ways.{IsWaySound, items_down, way_left, with_last};
 ghost use Rattle.std.specs.Iterator.{YieldsLastBy};
-ghost use Rattle.std.specs.Prelude.{◌≡◌, ◌+◌, ◌-◌, ◌<◌, ◌≤◌, ◌^◌, ◌++◌, codes, drop, length, replicate};
+ghost use Rattle.std.specs.Prelude.{◌≡◌, ◌+◌, ◌-◌, ◌<◌, ◌≤◌, ◌^◌, ◌++◌, codes, drop, length};
+ghost use Rattle.std.specs.Prelude.{replicate};
 
 use super::merged::Merged;
 use super::{Remaining, survey};

@@ -1,14 +1,13 @@
 //! Copies of references, each with one component set (RFC 3986 sections 3 and 4.2).
 ghost use Rattle.std.specs.Prelude.{◌≡◌, Some, IfErr, IfOk, option_map};
-ghost use Rattle.iref_grammar.specs.Grammar.{IsScheme};
-ghost use Rattle.iref_grammar.specs.Rules.{InUtf8};
+ghost use Rattle.iref_grammar.specs.{Grammar.{IsScheme}, Rules.{InUtf8}};
 ghost use Rattle.iref_component.specs.{read_authority, with_authority, with_fragment, with_path};
 ghost use Rattle.iref_component.specs.{with_query, with_scheme, view_text};
 ghost use Rattle.iref_authority.specs.{authority_text};
 ghost use Rattle.iref_path.specs.{path_value};
 ghost use Rattle.iref_reference.specs.HandedBack.{TellsInvalidBeside};
-ghost use Rattle.iref_buffer.specs.Steps.{IsStep};
 ghost use Rattle.iref_reference.specs.References.{reference_buf_text, reference_text, StepsFrom};
+ghost use Rattle.iref_buffer.specs.Steps.{IsStep};
 
 use crate::owner::{ReferenceBuf, UriBuf, UriRefBuf};
 use crate::view::{Reference, UriRef};

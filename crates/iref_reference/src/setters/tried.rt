@@ -1,6 +1,5 @@
 //! Owners edited by texts, each of which is tested before anything grows (RFC 3986 section 3).
-ghost use Rattle.std.specs.Prelude.{option_map};
-ghost use Rattle.std.specs.Option.{option_copied};
+ghost use Rattle.std.specs.{Prelude.{option_map}, Option.{option_copied}};
 ghost use Rattle.iref_grammar.specs.Grammar.{IsAuthority, IsFragment, IsPath, IsQuery, IsScheme};
 ghost use Rattle.iref_component.specs.{read_authority, read_path, with_authority, with_fragment};
 ghost use Rattle.iref_component.specs.{with_path, with_query, with_scheme, Tests, TestsIfSome};
