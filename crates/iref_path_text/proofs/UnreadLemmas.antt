@@ -4,12 +4,14 @@ use Rattle.std.proofs.lemmas.List.{length-reverse}
 use Rattle.std.specs.Prelude.{◌==◌, ◌≢◌, Some, None, codes}
 use Rattle.std.specs.Borrow.{Bor}
 use Rattle.iref_grammar.specs.Rules.{Text}
+use Rattle.iref_grammar.specs.PathValue.{PathValue}
 use Rattle.iref_model.specs.NormalList.{is_dot_dot, is_name, counted}
 use Rattle.iref_model.specs.CountedEquality.{item_before, items_read, all_items_read, Comparison, IsCountedAnswer, items_compared}
+use Rattle.iref_model.specs.PathSuffix.{same_decoded}
 use Rattle.iref_model.proofs.CountedLemmas.{compared_same}
 use Rattle.iref_path_text.specs.declared.equality.Unread.{Unread}
 use Rattle.iref_path_text.specs.declared.equality.Steps.{Steps}
-use Rattle.iref_path_text.specs.Unread.{AreCounted, GivesSegment, IsAnswer, IsShorter, all_items_unread, items_unread, path_unread, segments_unread, steps_taken, unread_in}
+use Rattle.iref_path_text.specs.Unread.{AreCounted, GivesSegment, IsAnswer, all_items_unread, item_given, items_unread, path_unread, segments_unread, steps_taken, unread_in}
 
 -- what a read tells of the items
 pub after_read : (u v : Unread) (s : Bor Text) → GivesSegment u (Some s) v → items_unread u ≡ items_read v.absolute v.open_parents (s.now ∷ segments_unread v)
@@ -73,18 +75,41 @@ first_none u v h zero =
 
 pub ruleset sizes = (length-reverse)
 
+module _ (u v l r : Unread) (s t : Bor Text) (left : all_items_unread u ≡ item_given s l ∷ items_unread l) (right : all_items_unread v ≡ item_given t r ∷ items_unread r) where
+  compared_first : items_compared (all_items_unread u) (all_items_unread v) ≡ items_compared (item_given s l ∷ items_unread l) (item_given t r ∷ items_unread r)
+  compared_first = λ i. items_compared (left i) (right i)
+
+  abbrev apart : Comparison
+  apart = record { equal = false; left = segments_unread l; right = segments_unread r }
+
+  -- the last items differ
+  pub first_apart : false ≡ same_decoded s.now t.now → IsAnswer (items_compared (all_items_unread u) (all_items_unread v)) false l r
+  first_apart h = subst (λ c. IsAnswer c false l r) (sym compared_first)
+      (subst (λ b. IsAnswer (cond b (items_compared (items_unread l) (items_unread r)) apart) false l r) h (refl, refl, refl))
+
+  -- they do not, so the others decide
+  pub first_alike : (equal : Bool) (x y : Unread) → true ≡ same_decoded s.now t.now → IsAnswer (items_compared (items_unread l) (items_unread r)) equal x y
+      → IsAnswer (items_compared (all_items_unread u) (all_items_unread v)) equal x y
+  first_alike equal x y h answer = subst (λ c. IsAnswer c equal x y) (sym compared_first)
+      (subst (λ b. IsAnswer (cond b (items_compared (items_unread l) (items_unread r)) apart) equal x y) h answer)
+
+-- the same paths
+pub of_paths : (u v : Unread) (p q : PathValue) → path_unread u ≡ p → path_unread v ≡ q → (equal : Bool) (steps : ℕ) → IsCountedAnswer (path_unread u) (path_unread v) equal steps → IsCountedAnswer p q equal steps
+of_paths u v p q h k equal steps answer =
+    subst (λ x. IsCountedAnswer x q equal steps) h (subst (λ y. IsCountedAnswer (path_unread u) y equal steps) k answer)
+
 -- what was read of both decides
 pub counted_by_items : (u v : Unread) → u.absolute ≡ v.absolute → (equal : Bool) (left right : Unread) → IsAnswer (items_compared (all_items_unread u) (all_items_unread v)) equal left right
-    → (before after : Steps) → AreCounted before u v after left right → IsShorter left u → IsShorter right v → IsCountedAnswer (path_unread u) (path_unread v) equal (steps_taken before after)
+    → (before after : Steps) → AreCounted before u v after left right → IsCountedAnswer (path_unread u) (path_unread v) equal (steps_taken before after)
 unfolding all_items_unread unread_in
-counted_by_items u v flags equal left right answer before after counted left_shorter right_shorter =
+counted_by_items u v flags equal left right answer before after read_of =
     let p = path_unread u in
     let q = path_unread v in
     let c : Comparison = items_compared (all_items_unread u) (all_items_unread v) in
     let p_size = length-reverse p.segments in
     let q_size = length-reverse q.segments in
     let steps : steps_taken before after ≡ length p.segments - length (segments_unread left) + (length q.segments - length (segments_unread right)) =
-    omega (arith, p_size, q_size, left_shorter, right_shorter, counted) in
+    omega (arith, p_size, q_size, read_of) in
     let read : length p.segments - length c.left + (length q.segments - length c.right) ≡ steps_taken before after =
     (λ i. length p.segments - length (sym answer.1 i) + (length q.segments - length (sym answer.2 i))) ∙ sym steps in
     subst (λ n. IsCountedAnswer p q equal n) read

@@ -56,9 +56,9 @@ abbrev pub HasRoom : Steps → Unread → Type 0
 HasRoom steps u = steps_count steps + length (segments_unread u) < 2 ^ 128
 
 -- each segment that was read has been counted
-abbrev pub IsCounted : Steps → Unread → Steps → Unread → Type 0
-IsCounted before unread_before after unread_after =
-    steps_count after + length (segments_unread unread_after) ≡ steps_count before + length (segments_unread unread_before)
+pub record IsCounted (before : Steps) (unread_before : Unread) (after : Steps) (unread_after : Unread) : Type 0 where
+  pub shorter : length (segments_unread unread_after) ≤ length (segments_unread unread_before)
+  pub counted : steps_count after + length (segments_unread unread_after) ≡ steps_count before + length (segments_unread unread_before)
 
 -- the last segment that was left, or none; what is known of the others stays
 pub record GivesSegment (before : Unread) (given : Option (Bor Text)) (after : Unread) : Type 0 where
@@ -83,11 +83,9 @@ abbrev pub HaveRoom : Steps → Unread → Unread → Type 0
 HaveRoom steps left right =
     steps_count steps + length (segments_unread left) + length (segments_unread right) < 2 ^ 128
 
-abbrev pub AreCounted : Steps → Unread → Unread → Steps → Unread → Unread → Type 0
-AreCounted before left_before right_before after left_after right_after =
-    steps_count after + length (segments_unread left_after) + length (segments_unread right_after)
-    ≡ steps_count before + length (segments_unread left_before) + length (segments_unread right_before)
-
--- no more segments are left than were
-abbrev pub IsShorter : Unread → Unread → Type 0
-IsShorter after before = length (segments_unread after) ≤ length (segments_unread before)
+-- each segment that was read of both has been counted
+pub record AreCounted (before : Steps) (left_before right_before : Unread) (after : Steps) (left_after right_after : Unread) : Type 0 where
+  pub left_shorter : length (segments_unread left_after) ≤ length (segments_unread left_before)
+  pub right_shorter : length (segments_unread right_after) ≤ length (segments_unread right_before)
+  pub counted : steps_count after + length (segments_unread left_after) + length (segments_unread right_after)
+      ≡ steps_count before + length (segments_unread left_before) + length (segments_unread right_before)

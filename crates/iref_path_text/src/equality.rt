@@ -4,8 +4,7 @@ ghost use Rattle.std.specs.Prelude.{◌≡◌, ◌≢◌, ◌↔◌, ◌+◌, �
 ghost use Rattle.iref_grammar.specs.{read_path};
 ghost use Rattle.iref_model.specs.{items_compared, IsCountedAnswer, path_key};
 ghost use Rattle.iref_path_text.specs.Unread.{AreCounted, HasRoomFor, HaveRoom, IsAnswer};
-ghost use Rattle.iref_path_text.specs.Unread.{IsCountable, IsShorter, IsWhole, all_items_unread};
-ghost use Rattle.iref_path_text.specs.Unread.{items_unread, path_unread, steps_count, steps_taken};
+ghost use Rattle.iref_path_text.specs.Unread.{IsCountable, items_unread, steps_count, steps_taken};
 
 use crate::names::name_stays;
 use crate::pieces::{last_piece, split_root};
@@ -55,8 +54,8 @@ pub struct Unread<'a> {
 
 impl<'a> Unread<'a> {
     ghost use Rattle.iref_path_text.specs.Unread.{GivesItem, GivesSegment, HasRoom, IsCountable};
-    ghost use Rattle.iref_path_text.specs.Unread.{IsCounted, IsShorter, IsWhole, all_items_unread};
-    ghost use Rattle.iref_path_text.specs.Unread.{item_given, items_unread, path_unread};
+    ghost use Rattle.iref_path_text.specs.Unread.{IsCounted, IsWhole, all_items_unread, item_given};
+    ghost use Rattle.iref_path_text.specs.Unread.{items_unread, path_unread};
 
     /// The path, of which nothing has been read.
     #[tactic(auto, using(crate::proofs::UnreadLemmas::sizes), unfolding(crate::specs::Unread::unread_in))]
@@ -77,7 +76,6 @@ impl<'a> Unread<'a> {
     fn read(&mut self, steps: &mut Steps) -> Option<&'a str>
         requires { HasRoom steps.old self.old }
         ensures segment { GivesSegment self.old result self.new }
-        ensures shorter { IsShorter self.new self.old }
         ensures counted { IsCounted steps.old self.old steps.new self.new }
     {
         let (rest, segment) = last_piece(self.rest?);
@@ -94,7 +92,6 @@ impl<'a> Unread<'a> {
         ensures item { all_items_unread self.old
             ≡ item_given result self.new ∷ items_unread self.new }
         ensures countable { IsCountable self.new }
-        ensures shorter { IsShorter self.new self.old }
         ensures counted { IsCounted steps.old self.old steps.new self.new }
     {
         let Some(segment) = self.read(steps) else {
@@ -113,7 +110,6 @@ impl<'a> Unread<'a> {
         requires room { HasRoom steps.old self.old }
         ensures item { GivesItem self.old result self.new }
         ensures countable { IsCountable self.new }
-        ensures shorter { IsShorter self.new self.old }
         ensures counted { IsCounted steps.old self.old steps.new self.new }
     {
         while let Some(segment) = self.read(steps) {
@@ -137,8 +133,6 @@ fn items_eq(left: &mut Unread<'_>, right: &mut Unread<'_>, steps: &mut Steps) ->
     ensures answer { IsAnswer
         (items_compared (items_unread left.old) (items_unread right.old))
         result left.new right.new }
-    ensures left_shorter { IsShorter left.new left.old }
-    ensures right_shorter { IsShorter right.new right.old }
     ensures counted { AreCounted steps.old left.old right.old steps.new left.new right.new }
 {
     while let Some(item) = left.next_back(steps) {
@@ -152,44 +146,9 @@ fn items_eq(left: &mut Unread<'_>, right: &mut Unread<'_>, steps: &mut Steps) ->
     right.next_back(steps).is_none()
 }
 
-/// Whether two paths, of which nothing has been read, have the same items.
-fn all_items_eq(left: &mut Unread<'_>, right: &mut Unread<'_>, steps: &mut Steps) -> bool
-    requires left { IsWhole left.old }
-    requires right { IsWhole right.old }
-    requires room { HaveRoom steps.old left.old right.old }
-    ensures answer { IsAnswer
-        (items_compared (all_items_unread left.old) (all_items_unread right.old))
-        result left.new right.new }
-    ensures left_shorter { IsShorter left.new left.old }
-    ensures right_shorter { IsShorter right.new right.old }
-    ensures counted { AreCounted steps.old left.old right.old steps.new left.new right.new }
-{
-    let item = left.first_back(steps);
-    let other = right.first_back(steps);
-    decoded_eq(item, other) && items_eq(left, right, steps)
-}
-
-/// Whether two paths, of which nothing has been read, are equal.
-#[tactic(auto, using(crate::proofs::UnreadLemmas::sizes), unfolding(crate::specs::Unread::unread_in))]
-fn unread_eq(mut left: Unread<'_>, mut right: Unread<'_>, steps: &mut Steps) -> bool
-    requires left { IsWhole left }
-    requires right { IsWhole right }
-    requires room { HasRoomFor steps.old (path_unread left) (path_unread right) }
-    ensures counted { IsCountedAnswer
-        (path_unread left.entry) (path_unread right.entry)
-        result (steps_taken steps.old steps.new) }
-    ensures flags { left.entry.absolute ≢ right.entry.absolute
-        → steps_count steps.new ≡ steps_count steps.old }
-    ensures grown { steps_count steps.old ≤ steps_count steps.new }
-{
-    if left.absolute != right.absolute {
-        return false;
-    }
-    all_items_eq(&mut left, &mut right, steps)
-}
-
 /// Whether the texts of two paths are those of equal paths. The count grows by the segments that
 /// are read.
+#[tactic(auto, using(crate::proofs::UnreadLemmas::sizes), unfolding(crate::specs::Unread::unread_in))]
 pub fn path_texts_eq_counted(a: &str, b: &str, steps: &mut Steps) -> bool
     requires { HasRoomFor steps.old (read_path a.now) (read_path b.now) }
     ensures counted { IsCountedAnswer (read_path a.now) (read_path b.now) result
@@ -198,13 +157,23 @@ pub fn path_texts_eq_counted(a: &str, b: &str, steps: &mut Steps) -> bool
         → steps_count steps.new ≡ steps_count steps.old }
     ensures grown { steps_count steps.old ≤ steps_count steps.new }
 {
-    unread_eq(Unread::new(a), Unread::new(b), steps)
+    let mut left = Unread::new(a);
+    let mut right = Unread::new(b);
+    if left.absolute != right.absolute {
+        return false;
+    }
+    let item = left.first_back(steps);
+    let other = right.first_back(steps);
+    if !decoded_eq(item, other) {
+        return false;
+    }
+    items_eq(&mut left, &mut right, steps)
 }
 
 /// Whether the texts of two paths are those of equal paths.
-#[tactic(auto, using(crate::proofs::UnreadLemmas::sizes, iref_model::proofs::CountedLemmas::decided), unfolding(crate::specs::Unread::unread_in))]
+#[tactic(auto, using(crate::proofs::SlashLemmas::segment_counts, iref_model::proofs::CountedLemmas::decided))]
 pub fn path_texts_eq(a: &str, b: &str) -> bool
     ensures { (result ≡ true) ↔ (path_key (read_path a.now) ≡ path_key (read_path b.now)) }
 {
-    unread_eq(Unread::new(a), Unread::new(b), &mut Steps::new())
+    path_texts_eq_counted(a, b, &mut Steps::new())
 }

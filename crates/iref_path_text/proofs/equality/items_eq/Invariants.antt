@@ -1,6 +1,6 @@
 use Rattle.std.proofs.Common.{◌≡◌, length}
 use Rattle.iref_model.specs.CountedEquality.{items_compared}
-use Rattle.iref_path_text.specs.Unread.{HaveRoom, IsCountable, AreCounted, IsShorter, items_unread}
+use Rattle.iref_path_text.specs.Unread.{HaveRoom, IsCountable, AreCounted, items_unread}
 use Rattle.iref_path_text.proofs.equality.items_eq.Given as goal
 
 abbrev pub invariant-loop-item : goal.invariant-loop-item
@@ -9,8 +9,6 @@ invariant-loop-item l = record {
   left : IsCountable l.left;
   right : IsCountable l.right;
   room : HaveRoom l.steps l.left l.right;
-  left_shorter : IsShorter l.left l.fn.left;
-  right_shorter : IsShorter l.right l.fn.right;
   counted : AreCounted l.fn.steps l.fn.left l.fn.right l.steps l.left l.right;
 }
 

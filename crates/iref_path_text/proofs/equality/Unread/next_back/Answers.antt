@@ -25,7 +25,6 @@ loop-segment-preserved c =
           ∙ none_given v.absolute v.open_parents _ c.in-Some.segment.now (segments_unread v) c.if-name_stays.ensures.counted c.if-name_stays.ensures.stays);
       countable = omega (arith, so_far, read, c.in-Some.ensures.segment.open_parents, c.if-name_stays.ensures.counted, most);
       room = search rules;
-      shorter = search rules;
       counted = search rules;
     }
 

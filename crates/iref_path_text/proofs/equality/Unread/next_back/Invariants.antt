@@ -1,5 +1,5 @@
 use Rattle.std.proofs.Common.{◌≡◌, length}
-use Rattle.iref_path_text.specs.Unread.{HasRoom, IsCountable, IsCounted, IsShorter, items_unread, segments_unread}
+use Rattle.iref_path_text.specs.Unread.{HasRoom, IsCountable, IsCounted, items_unread, segments_unread}
 use Rattle.iref_path_text.proofs.equality.Unread.next_back.Given as goal
 
 abbrev pub invariant-loop-segment : goal.invariant-loop-segment
@@ -7,7 +7,6 @@ invariant-loop-segment l = record {
   same : items_unread l.self ≡ items_unread l.fn.self;
   countable : IsCountable l.self;
   room : HasRoom l.steps l.self;
-  shorter : IsShorter l.self l.fn.self;
   counted : IsCounted l.fn.steps l.fn.self l.steps l.self;
 }
 
