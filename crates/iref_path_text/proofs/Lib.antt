@@ -14,3 +14,4 @@ pub mod WayLemmas
 pub mod SuffixLemmas
 pub mod StackLemmas
 pub mod RewritingLemmas
+pub mod WrittenLemmas

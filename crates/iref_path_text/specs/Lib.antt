@@ -29,3 +29,4 @@ pub mod Suffixes
 pub mod Stacks
 pub mod Listed
 pub mod Rewriting
+pub mod Written

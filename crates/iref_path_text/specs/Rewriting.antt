@@ -1,5 +1,5 @@
 -- A path that is rewritten over its own bytes, from the back.
-use Rattle.std.specs.Prelude.{ℕ, ◌-◌, ◌==◌, List, [], ◌++◌, take, if◌then◌else◌}
+use Rattle.std.specs.Prelude.{ℕ, Bool, ◌-◌, ◌==◌, List, [], ◌++◌, take, if◌then◌else◌}
 use Rattle.std.specs.List.{join_with_byte, splice}
 use Rattle.iref_edit.specs.Changes.{part_at}
 use Rattle.iref_edit.specs.declared.change.Place.{Place}
@@ -8,10 +8,15 @@ use Rattle.iref_grammar.specs.PathValue.{read_path}
 use Rattle.iref_grammar.specs.Rules.{Text}
 use Rattle.iref_grammar.specs.Texts.{pieces_at}
 use Rattle.iref_model.specs.NormalList.{normal_segments}
+use Rattle.iref_model.specs.NormalReading.{items}
 
 -- the segments before a place, where one begins: a `/` stands after each
 abbrev pub pieces_before : Text → ℕ → List Text
 pieces_before text place = if place == 0 then [] else pieces_at slash (take (place - 1) text)
+
+-- the items of these segments with `/` between
+abbrev pub items_text : Bool → Text → Text
+items_text absolute segments = join_with_byte slash (items (record { absolute = absolute; segments = pieces_at slash segments }))
 
 -- what stands first, and the normal list of the path with `/` between
 abbrev pub rewritten : Text → Text → Text

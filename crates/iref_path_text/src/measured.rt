@@ -9,6 +9,7 @@ ghost use Rattle.iref_path_text.specs.MeasuredPaths.{IsMeasured, measured_text};
 ghost use Rattle.iref_path_text.specs.{Pieces.{pieces_if_some}, Remaining.{IsSound, normal_left}};
 ghost use Rattle.iref_path_text.specs.Spelling.{each_closed};
 ghost use Rattle.iref_path_text.specs.Ways.{IsWaySound, path_between, way_left};
+ghost use Rattle.iref_path_text.specs.Written.{WritesBefore};
 ghost use Rattle.std.specs.Prelude.{◌||◌, ◌&&◌, ◌≡◌, ◌+◌, ◌*◌, ◌<◌, ◌≤◌, ◌^◌, ◌++◌, IfOk, drop};
 ghost use Rattle.std.specs.{Prelude.{false, length, true}, List.{join_with_byte}};
 ghost use Rattle.std.specs.String.{string_bytes};
@@ -184,10 +185,7 @@ impl<'a> MeasuredPath<'a> {
         requires measured { IsMeasured self }
         requires room { length (measured_text self) ≤ end }
         requires within { end ≤ length buffer.old }
-        ensures place { result + length (measured_text self.entry) ≡ end }
-        ensures written { drop result buffer.new
-            ≡ measured_text self.entry ++ drop end buffer.old }
-        ensures len { length buffer.new ≡ length buffer.old }
+        ensures { WritesBefore end (measured_text self.entry) buffer.old buffer.new result }
     {
         let start = write_items(self.items, buffer, end);
         write_before(buffer, start, self.lead)

@@ -3,14 +3,14 @@
 
 ghost use Rattle.std.specs.Prelude.{◌≡◌, ◌+◌, ◌-◌, ◌<◌, ◌≤◌, ◌^◌, ◌∷◌, ◌++◌, [], codes, drop};
 ghost use Rattle.std.specs.Prelude.{false, length, replicate, slice_range, take, vec_len};
-ghost use Rattle.std.specs.{Prelude.{if◌then◌else◌}, List.{join_with_byte, splice}, Str.{IsUtf8}};
+ghost use Rattle.std.specs.{Prelude.{if◌then◌else◌}, List.{splice}, Str.{IsUtf8}};
 ghost use Rattle.std.specs.String.{string_bytes, string_len};
-ghost use Rattle.iref_grammar.specs.{Grammar.{slash}, Texts.{pieces_at}};
 ghost use Rattle.iref_grammar.specs.PathValue.{read_path, spell_path};
-ghost use Rattle.iref_model.specs.NormalReading.{items, open_before, staying_before};
+ghost use Rattle.iref_model.specs.NormalReading.{open_before, staying_before};
 ghost use Rattle.iref_model.specs.PathSteps.{normalized};
-ghost use Rattle.iref_path_text.specs.Rewriting.{pieces_before, rewritten, rewritten_at};
-ghost use Rattle.iref_path_text.specs.Spelling.{each_closed};
+ghost use Rattle.iref_path_text.specs.Rewriting.{items_text, pieces_before, rewritten};
+ghost use Rattle.iref_path_text.specs.{Rewriting.{rewritten_at}, Spelling.{each_closed}};
+ghost use Rattle.iref_path_text.specs.Written.{WritesBefore};
 ghost use Rattle.iref_edit.specs.Changes.{part_at};
 
 use crate::names::bytes_stay;
@@ -53,14 +53,12 @@ fn move_segment(
     requires start_le_end { segment ≤ segment_end }
     requires before { segment_end < end }
     requires within { end ≤ length bytes.old }
-    ensures place { result + length (each_closed (staying_before
-        (slice_range bytes.old segment segment_end ∷ []) open_parents.old)) ≡ end }
-    ensures written { drop result bytes.new ≡ each_closed (staying_before
-        (slice_range bytes.old segment segment_end ∷ []) open_parents.old) ++ drop end bytes.old }
+    ensures text { WritesBefore end (each_closed (staying_before
+        (slice_range bytes.old segment segment_end ∷ []) open_parents.old))
+        bytes.old bytes.new result }
     ensures parents { open_parents.new
         ≡ open_before (slice_range bytes.old segment segment_end ∷ []) open_parents.old }
     ensures unread { take segment bytes.new ≡ take segment bytes.old }
-    ensures len { length bytes.new ≡ length bytes.old }
 {
     if !bytes_stay(&bytes[segment..segment_end], open_parents) {
         return end;
@@ -82,14 +80,10 @@ fn move_names(
     requires countable { unread + open_parents < 2 ^ 64 }
     requires before { unread ≤ end }
     requires within { end ≤ length bytes.old }
-    ensures place { result.0
-        + length (each_closed (staying_before (pieces_before bytes.old unread) open_parents))
-        ≡ end }
-    ensures written { drop result.0 bytes.new
-        ≡ each_closed (staying_before (pieces_before bytes.old unread) open_parents)
-        ++ drop end bytes.old }
+    ensures text { WritesBefore end
+        (each_closed (staying_before (pieces_before bytes.old unread) open_parents))
+        bytes.old bytes.new result.0 }
     ensures parents { result.1 ≡ open_before (pieces_before bytes.old unread) open_parents }
-    ensures len { length bytes.new ≡ length bytes.old }
 {
     let mut start = end;
     while unread > 0 {
@@ -105,10 +99,8 @@ fn move_names(
 fn write_parents(bytes: &mut [u8], count: usize, end: usize) -> usize
     requires room { length (each_closed (replicate count (codes ".."))) ≤ end }
     requires within { end ≤ length bytes.old }
-    ensures place { result + length (each_closed (replicate count (codes ".."))) ≡ end }
-    ensures written { drop result bytes.new
-        ≡ each_closed (replicate count (codes "..")) ++ drop end bytes.old }
-    ensures len { length bytes.new ≡ length bytes.old }
+    ensures { WritesBefore end (each_closed (replicate count (codes "..")))
+        bytes.old bytes.new result }
 {
     let mut start = end;
     for _ in 0..count {
@@ -129,19 +121,10 @@ fn moved_end(stays: bool, last: usize, len: usize) -> usize
 // Writes the normal list of the segments over them, with `/` between, so that it ends where they
 // end, and answers where it begins.
 fn write_list(bytes: &mut [u8], absolute: bool) -> usize
-    requires { absolute ≡ false → length (join_with_byte slash (items (record {
-      absolute = absolute;
-      segments = pieces_at slash bytes.old;
-    }))) ≤ length bytes.old }
-    ensures place { result + length (join_with_byte slash (items (record {
-      absolute = absolute;
-      segments = pieces_at slash bytes.old;
-    }))) ≡ length bytes.old }
-    ensures written { drop result bytes.new ≡ join_with_byte slash (items (record {
-      absolute = absolute;
-      segments = pieces_at slash bytes.old;
-    })) }
-    ensures len { length bytes.new ≡ length bytes.old }
+    requires { absolute ≡ false
+        → length (items_text absolute bytes.old) ≤ length bytes.old }
+    ensures { WritesBefore (length bytes.old) (items_text absolute bytes.old)
+        bytes.old bytes.new result }
 {
     let len = bytes.len();
     let last = segment_before(bytes, len + 1);
@@ -156,9 +139,8 @@ fn write_list(bytes: &mut [u8], absolute: bool) -> usize
 // ends, and answers where they begin.
 fn write_over(path: &mut [u8], lead: &str) -> usize
     requires { length (rewritten lead.now path.old) ≤ length path.old }
-    ensures place { result + length (rewritten lead.now path.old) ≡ length path.old }
-    ensures written { drop result path.new ≡ rewritten lead.now path.old }
-    ensures len { length path.new ≡ length path.old }
+    ensures { WritesBefore (length path.old) (rewritten lead.now path.old)
+        path.old path.new result }
 {
     let absolute = path.starts_with(b"/");
     let root = usize::from(absolute);

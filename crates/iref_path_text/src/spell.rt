@@ -10,7 +10,7 @@ ghost use Rattle.iref_path_text.specs.{PathParts.{is_path_after}, Remaining.{fir
 ghost use Rattle.iref_path_text.specs.Spelling.{each_closed, normal_in};
 ghost use Rattle.iref_path_text.specs.Spelling as spelling;
 ghost use Rattle.iref_path_text.specs.Stacks.{in_order, stacked_text};
-ghost use Rattle.iref_path_text.specs.Ways.{IsWaySound, way_left};
+ghost use Rattle.iref_path_text.specs.{Ways.{IsWaySound, way_left}, Written.{WritesBefore}};
 
 use crate::measured::MeasuredPath;
 use crate::pieces::split_root;
@@ -42,9 +42,7 @@ pub(crate) fn measure(mut left: Way<'_>) -> (usize, &str)
 pub fn write_before(buffer: &mut [u8], end: usize, text: &str) -> usize
     requires room { length text.now ≤ end }
     requires within { end ≤ length buffer.old }
-    ensures place { result + length text.now ≡ end }
-    ensures written { drop result buffer.new ≡ text.now ++ drop end buffer.old }
-    ensures len { length buffer.new ≡ length buffer.old }
+    ensures { WritesBefore end text.now buffer.old buffer.new result }
 {
     let start = end - text.len();
     buffer[start..end].copy_from_slice(text.as_bytes());
@@ -57,10 +55,7 @@ fn write_closed(mut left: Way<'_>, buffer: &mut [u8], end: usize) -> usize
     requires sound { IsWaySound left }
     requires room { length (each_closed (way_left left)) ≤ end }
     requires within { end ≤ length buffer.old }
-    ensures place { result + length (each_closed (way_left left.entry)) ≡ end }
-    ensures written { drop result buffer.new
-        ≡ each_closed (way_left left.entry) ++ drop end buffer.old }
-    ensures len { length buffer.new ≡ length buffer.old }
+    ensures { WritesBefore end (each_closed (way_left left.entry)) buffer.old buffer.new result }
 {
     let mut start = end;
     while let Some(item) = left.next_back() {
@@ -75,10 +70,8 @@ pub(crate) fn write_items(mut left: Way<'_>, buffer: &mut [u8], end: usize) -> u
     requires sound { IsWaySound left }
     requires room { length (each_closed (way_left left)) ≤ end + 1 }
     requires within { end ≤ length buffer.old }
-    ensures place { result + length (join_with_byte slash (way_left left.entry)) ≡ end }
-    ensures written { drop result buffer.new
-        ≡ join_with_byte slash (way_left left.entry) ++ drop end buffer.old }
-    ensures len { length buffer.new ≡ length buffer.old }
+    ensures { WritesBefore end (join_with_byte slash (way_left left.entry))
+        buffer.old buffer.new result }
 {
     let Some(last) = left.next_back() else {
         return end;
@@ -143,10 +136,7 @@ pub(crate) fn lead_in(
 fn write_stacked_closed(items: &[&str], buffer: &mut [u8], end: usize) -> usize
     requires room { length (each_closed (in_order items.now)) ≤ end }
     requires within { end ≤ length buffer.old }
-    ensures place { result + length (each_closed (in_order items.now)) ≡ end }
-    ensures written { drop result buffer.new
-        ≡ each_closed (in_order items.now) ++ drop end buffer.old }
-    ensures len { length buffer.new ≡ length buffer.old }
+    ensures { WritesBefore end (each_closed (in_order items.now)) buffer.old buffer.new result }
 {
     let mut start = end;
     for item in items {
@@ -161,10 +151,8 @@ fn write_stacked_closed(items: &[&str], buffer: &mut [u8], end: usize) -> usize
 fn write_stacked(items: &[&str], buffer: &mut [u8], end: usize) -> usize
     requires room { length (each_closed (in_order items.now)) ≤ end + 1 }
     requires within { end ≤ length buffer.old }
-    ensures place { result + length (join_with_byte slash (in_order items.now)) ≡ end }
-    ensures written { drop result buffer.new
-        ≡ join_with_byte slash (in_order items.now) ++ drop end buffer.old }
-    ensures len { length buffer.new ≡ length buffer.old }
+    ensures { WritesBefore end (join_with_byte slash (in_order items.now))
+        buffer.old buffer.new result }
 {
     let Some((last, others)) = items.split_first() else {
         return end;
@@ -178,10 +166,7 @@ fn write_stacked(items: &[&str], buffer: &mut [u8], end: usize) -> usize
 fn write_stacked_text(lead: &str, items: &[&str], buffer: &mut [u8], end: usize) -> usize
     requires room { length (stacked_text lead.now items.now) ≤ end }
     requires within { end ≤ length buffer.old }
-    ensures place { result + length (stacked_text lead.now items.now) ≡ end }
-    ensures written { drop result buffer.new
-        ≡ stacked_text lead.now items.now ++ drop end buffer.old }
-    ensures len { length buffer.new ≡ length buffer.old }
+    ensures { WritesBefore end (stacked_text lead.now items.now) buffer.old buffer.new result }
 {
     let start = write_stacked(items, buffer, end);
     write_before(buffer, start, lead)
