@@ -100,7 +100,7 @@ fn needs_guard(context: PathContext, absolute: bool, first: &str) -> bool
 }
 
 /// The root, and the guard.
-fn lead(absolute: bool, guard: bool) -> &'static str
+pub(crate) fn lead(absolute: bool, guard: bool) -> &'static str
     ensures { result.now ≡ spelling.lead absolute guard }
 {
     match (absolute, guard) {

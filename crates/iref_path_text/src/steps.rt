@@ -9,7 +9,7 @@ ghost use Rattle.iref_path_text.specs.StepTexts as texts;
 
 use crate::guard::guard_of;
 use crate::pieces::{last_piece, split_root};
-use crate::spell::has_colon;
+use crate::spell::{has_colon, lead};
 use iref_grammar::chars::CharSet;
 use iref_grammar::places::PathContext;
 
@@ -254,12 +254,7 @@ fn pushed_lead(context: PathContext, absolute: bool, segment: &str) -> &'static 
     ensures { result.now ≡ texts.pushed_lead context absolute segment.now }
 {
     let rooted = absolute | context.has_authority;
-    match (rooted, first_needs_guard(context, rooted, segment)) {
-        (true, true) => "/./",
-        (true, false) => "/",
-        (false, true) => "./",
-        (false, false) => "",
-    }
+    lead(rooted, first_needs_guard(context, rooted, segment))
 }
 
 /// Whether a first segment would be read as something else.
