@@ -99,7 +99,8 @@ impl<'a> MeasuredPath<'a> {
             ≡ spell_path (normalized context (merged_path absolute front.entry back.entry)) }
         ensures measured { IsMeasured result }
     {
-        let items = Way::all(Merged::new(absolute, front, back));
+        let (items, _count) = Merged::new(absolute, front, back);
+        let items = Way::all(items);
         let (size, first) = measure(items);
         let lead = lead_in(context, absolute, size, first);
         MeasuredPath { lead, items, size }

@@ -19,6 +19,7 @@ pub mod way;
 
 use crate::names::{is_name, name_stays};
 use crate::pieces::{first_piece, last_piece, split_root};
+use merged::Merged;
 
 /// The items that are left: first the `..`, then the names that stay, then the empty segment that
 /// closes the list.
@@ -32,31 +33,6 @@ pub struct Remaining<'a> {
     closes: bool,
     // No `..` is in the rest, and none is open behind it: so its names stay.
     settled: bool,
-}
-
-/// How many `..` stand first in a relative list, how many names stay, and the first of these, or
-/// nothing.
-fn survey(rest: Option<&str>) -> (usize, usize, &str)
-    requires { length (pieces_if_some rest) < 2 ^ 64 }
-    ensures parents { result.0 ≡ open_before (pieces_if_some rest.entry) 0 }
-    ensures names { result.1 ≡ length (staying_before (pieces_if_some rest.entry) 0) }
-    ensures first { result.2.now ≡ first_or [] (staying_before (pieces_if_some rest.entry) 0) }
-    ensures fewer { result.0 + result.1 ≤ length (pieces_if_some rest.entry) }
-{
-    let mut left = Remaining {
-        parents: 0,
-        rest,
-        open_parents: 0,
-        closes: false,
-        settled: false,
-    };
-    let mut names: usize = 0;
-    let mut first = "";
-    while let Some(name) = left.next_back_name() {
-        names += 1;
-        first = name;
-    }
-    (left.open_parents, names, first)
 }
 
 /// Whether the last segment is `.` or `..`.
@@ -93,31 +69,16 @@ fn is_one_empty(parents: usize, names: usize, first: &str, closes: bool) -> bool
 }
 
 impl<'a> Remaining<'a> {
-    /// All items of a path, and how many they are.
+    /// All items of a path, and how many they are. Only a relative list keeps the `..` that nothing
+    /// cancels.
     pub fn new(path: &'a str) -> (Self, usize)
         ensures items { normal_left result.0 ≡ normal_segments (read_path path.now) }
         ensures count { result.1 ≡ length (normal_left result.0) }
         ensures sound { IsSound result.0 }
     {
-        Remaining::with_flag(split_root(path).0, path)
-    }
-
-    /// All items of a path that is read as absolute or relative, whatever its text begins with,
-    /// and how many they are. Only a relative list keeps the `..` that nothing cancels.
-    pub fn with_flag(absolute: bool, path: &'a str) -> (Self, usize)
-        ensures items { normal_left result.0 ≡ normal_segments (flagged_path absolute path.now) }
-        ensures count { result.1 ≡ length (normal_left result.0) }
-        ensures sound { IsSound result.0 }
-    {
-        let rest = split_root(path).1;
-        let (open_parents, names, first) = survey(rest);
-        let parents = leading_parents(absolute, open_parents);
-        let closes = ends_in_dots(rest);
-        if is_one_empty(parents, names, first, closes) {
-            return (Remaining::all(0, None, false), 0);
-        }
-        let count = parents + names + closing_count(closes);
-        (Remaining::all(parents, rest, closes), count)
+        let (absolute, segments) = split_root(path);
+        let (items, count) = Merged::new(absolute, None, segments);
+        (items.back, count)
     }
 
     // The items of a list, of which none has been given.

@@ -5,12 +5,13 @@ ghost use Rattle.iref_grammar.specs.Texts.{is_empty};
 ghost use Rattle.iref_model.specs.NormalList as list;
 ghost use Rattle.iref_model.specs.NormalList.{normal_segments};
 ghost use Rattle.iref_model.specs.NormalReading.{open_before, staying_before};
-ghost use Rattle.iref_path_text.specs.Merged.{IsMergeSound, merged_left, merged_list, merged_names};
-ghost use Rattle.iref_path_text.specs.Merged.{merged_path, open_before_both, to_read_of_both};
+ghost use Rattle.iref_path_text.specs.Merged.{IsBehind, IsMergeSound, merged_left, merged_list};
+ghost use Rattle.iref_path_text.specs.Merged.{merged_names, merged_path, open_before_both};
+ghost use Rattle.iref_path_text.specs.Merged.{to_read_of_both};
 ghost use Rattle.iref_path_text.specs.Pieces.{text_at};
 ghost use Rattle.iref_path_text.specs.Remaining.{IsSound, KeepsEnds, first_or, normal_left};
 ghost use Rattle.std.specs.Iterator.{YieldsLastBy};
-ghost use Rattle.std.specs.Prelude.{◌≡◌, ◌+◌, ◌<◌, ◌≤◌, ◌^◌, [], length, IfNone, IfSome};
+ghost use Rattle.std.specs.Prelude.{◌≡◌, ◌+◌, ◌<◌, ◌≤◌, ◌^◌, [], length, IfNone, IfSome, None};
 
 use super::{Remaining, closing_count, ends_in_dots, is_one_empty, leading_parents};
 
@@ -19,12 +20,12 @@ use super::{Remaining, closing_count, ends_in_dots, is_one_empty, leading_parent
 pub struct Merged<'a> {
     // The text of the segments in front, until those behind have been read.
     front: Option<&'a str>,
-    back: Remaining<'a>,
+    pub(super) back: Remaining<'a>,
 }
 
 /// How many `..` stand first in a relative list, how many names stay, and the first of these, or
 /// nothing.
-fn survey<'a>(front: Option<&'a str>, back: Option<&'a str>) -> (usize, usize, &'a str)
+pub(super) fn survey<'a>(front: Option<&'a str>, back: Option<&'a str>) -> (usize, usize, &'a str)
     requires { length (merged_list front back) < 2 ^ 64 }
     ensures parents { result.0 ≡ open_before (merged_list front.entry back.entry) 0 }
     ensures names { result.1 ≡ length (staying_before (merged_list front.entry back.entry) 0) }
@@ -57,30 +58,32 @@ fn both_end_in_dots(front: Option<&str>, back: Option<&str>) -> bool
 }
 
 impl<'a> Merged<'a> {
-    /// All items of the path of these segments. Only a relative list keeps the `..` that nothing
-    /// cancels.
-    pub fn new(absolute: bool, front: Option<&'a str>, back: Option<&'a str>) -> Self
+    /// All items of the path of these segments, and how many they are. Only a relative list keeps
+    /// the `..` that nothing cancels.
+    pub fn new(absolute: bool, front: Option<&'a str>, back: Option<&'a str>) -> (Self, usize)
         requires { length (merged_list front back) + 1 < 2 ^ 64 }
-        ensures items { merged_left result
+        ensures items { merged_left result.0
             ≡ normal_segments (merged_path absolute front.entry back.entry) }
-        ensures sound { IsMergeSound result }
+        ensures count { result.1 ≡ length (merged_left result.0) }
+        ensures behind { front.entry ≡ None → IsBehind result.0 }
+        ensures sound { IsMergeSound result.0 }
     {
         let (open_parents, names, first) = survey(front, back);
         let parents = leading_parents(absolute, open_parents);
         let closes = both_end_in_dots(front, back);
         if is_one_empty(parents, names, first, closes) {
-            return Merged::none();
+            return (Merged::none(), 0);
         }
-        Merged {
-            front,
-            back: Remaining::all(parents, back, closes),
-        }
+        let back = Remaining::all(parents, back, closes);
+        let count = parents + names + closing_count(closes);
+        (Merged { front, back }, count)
     }
 
     /// No items.
     #[tactic(auto, unfolding(crate::specs::Merged::merged_left))]
     pub fn none() -> Self
         ensures items { merged_left result ≡ [] }
+        ensures behind { IsBehind result }
         ensures sound { IsMergeSound result }
     {
         Merged {

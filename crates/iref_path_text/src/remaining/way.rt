@@ -10,8 +10,8 @@ ghost use Rattle.std.specs.Iterator.{YieldsLastBy};
 ghost use Rattle.std.specs.Prelude.{◌≡◌, ◌+◌, ◌-◌, ◌<◌, ◌≤◌, ◌^◌, ◌++◌, codes, drop, length};
 ghost use Rattle.std.specs.Prelude.{replicate};
 
-use super::merged::Merged;
-use super::{Remaining, survey};
+use super::Remaining;
+use super::merged::{Merged, survey};
 use crate::common::common_len;
 use crate::pieces::{split_root, without_last};
 
@@ -33,7 +33,7 @@ fn directory(path: &str) -> (Remaining<'_>, usize)
     ensures fewer { result.1 ≤ length path.now + 1 }
 {
     let rest = without_last(split_root(path).1);
-    let (_open_parents, names, _first) = survey(rest);
+    let (_open_parents, names, _first) = survey(None, rest);
     (Remaining::all(0, rest, false), names)
 }
 
