@@ -7,9 +7,9 @@ ghost use Rattle.iref_grammar.specs.Reference.{context_of};
 ghost use Rattle.iref_model.specs.{ComponentSteps.{guarded_reference}, NormalList.{normal}};
 ghost use Rattle.iref_model.specs.Resolution.{resolved};
 ghost use Rattle.iref_parse.specs.ReferenceSlices.{value_of};
+ghost use Rattle.iref_path_text.specs.Written.{WritesBefore};
 ghost use Rattle.std.specs.Option.{option_copied};
-ghost use Rattle.std.specs.Prelude.{◌≡◌, ◌+◌, ◌<◌, ◌≤◌, ◌^◌, ◌++◌, true, IfOk, drop, is_some};
-ghost use Rattle.std.specs.Prelude.{length};
+ghost use Rattle.std.specs.Prelude.{◌≡◌, ◌+◌, ◌<◌, ◌≤◌, ◌^◌, ◌++◌, true, IfOk, is_some, length};
 
 use crate::lengths::{Lengths, len_of};
 use iref_edit::text::{marked, marked_after};
@@ -45,13 +45,12 @@ fn context_after(scheme: Option<&str>, authority: Option<&str>) -> PathContext
 }
 
 // Writes two pieces so that they end at a place, and answers where they begin.
+#[tactic(auto, using(iref_path_text::proofs::WrittenLemmas::both_written))]
 fn write_pair(buffer: &mut [u8], end: usize, pair: (&str, &str)) -> usize
     requires room { length (pair.0.now ++ pair.1.now) ≤ end }
     requires within { end ≤ length buffer.old }
-    ensures place { result + length (pair.entry.0.now ++ pair.entry.1.now) ≡ end }
-    ensures written { drop result buffer.new
-        ≡ (pair.entry.0.now ++ pair.entry.1.now) ++ drop end buffer.old }
-    ensures len { length buffer.new ≡ length buffer.old }
+    ensures { WritesBefore end (pair.entry.0.now ++ pair.entry.1.now)
+        buffer.old buffer.new result }
 {
     let (front, back) = pair;
     let start = write_before(buffer, end, back);
