@@ -1,6 +1,6 @@
 -- What an edit leaves is the spelling of the step of the value.
 use Rattle.std.proofs.Common.{◌≡◌, ℕ, ◌+◌, ◌-◌, ◌≤◌, Bool, true, [], ◌∷◌, ◌++◌, length, rules, refl, sym, ◌∙◌, ap, subst, arith, append_assoc}
-use Rattle.std.specs.Prelude.{codes, Option, Some, None, IfSome, is_some, option_map}
+use Rattle.std.specs.Prelude.{codes, Option, Some, None, IfSome, is_some, option_map, Result, Ok, Err, OnOk, OnErr}
 use Rattle.std.specs.List.{splice}
 use Rattle.std.specs.Str.{IsCharBoundary}
 use Rattle.std.proofs.lemmas.Str.{IsCharBoundary-end}
@@ -23,6 +23,7 @@ use Rattle.iref_buffer.specs.AuthorityPlaces.{place_of_authority}
 use Rattle.iref_buffer.specs.declared.lengths.Lengths.{Lengths}
 use Rattle.iref_buffer.specs.PathTexts.{authority_text}
 use Rattle.iref_buffer.specs.ComponentLengths.{lengths_of, with_mark, HasLengths}
+use Rattle.iref_buffer.specs.Steps.{StepsOrStays}
 use Rattle.iref_buffer.specs.PlaceTexts.{front_end, authority_start_at, authority_start}
 use Rattle.iref_edit.specs.Changes.{IsWithin}
 use Rattle.iref_buffer.proofs.HeldLemmas.{fragment_marked, places_within, front_within, authority_mark_within}
@@ -52,6 +53,16 @@ is_step set above test allows allowed new r e h k =
       };
       value = read;
     }
+
+-- what an edit answers for
+pub after_ok : {V E P Q : Type 0} (result : Result V E) → (P → Q) → OnOk result P → OnOk result Q
+after_ok (Ok v) f h = f h
+after_ok (Err e) f h = h
+
+pub steps_or_stays : {V E : Type 0} (result : Result V E) (step : ReferenceValue → ReferenceValue) (old new text : Text) → OnOk result (new ≡ text) → OnErr result (new ≡ old)
+    → text ≡ spell (step (read_reference old)) → read_reference text ≡ step (read_reference old) → StepsOrStays step old new result
+steps_or_stays (Ok v) step old new text ok err spelled value = (ok ∙ spelled, ap read_reference ok ∙ value)
+steps_or_stays (Err e) step old new text ok err spelled value = err
 
 -- ---- the parts of a spelling, with some of them replaced
 

@@ -60,8 +60,7 @@ impl<R: HeldRule, C: CharSet, A: Allocator> Held<R, C, A> {
             ..self.lengths()
         };
         let range = self.part_of(place, &change.within);
-        self.step(lengths, range, change.lead, change.middle, change.close)?;
-        Ok(())
+        self.step(lengths, range, change.lead, change.middle, change.close)
     }
 
     // Where the authority stands.

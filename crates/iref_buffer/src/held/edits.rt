@@ -22,7 +22,7 @@ use iref_error::Memory;
 use iref_grammar::chars::CharSet;
 use iref_grammar::places::PathContext;
 use iref_path_text::guard::{guard_of, root_of};
-use std::alloc::{AllocError, Allocator};
+use std::alloc::Allocator;
 use std::ops::Range;
 
 impl<R: HeldRule, C: CharSet, A: Allocator> Held<R, C, A> {
@@ -39,8 +39,7 @@ impl<R: HeldRule, C: CharSet, A: Allocator> Held<R, C, A> {
         };
         let range = self.query_range();
         let (mark, part) = marked("?", query);
-        self.step(lengths, range, mark, part, "")?;
-        Ok(())
+        self.step(lengths, range, mark, part, "")
     }
 
     /// Replaces the fragment, or takes it away, which takes no memory.
@@ -56,8 +55,7 @@ impl<R: HeldRule, C: CharSet, A: Allocator> Held<R, C, A> {
         };
         let range = self.fragment_range();
         let (mark, part) = marked("#", fragment);
-        self.step(lengths, range, mark, part, "")?;
-        Ok(())
+        self.step(lengths, range, mark, part, "")
     }
 
     /// Replaces the path, with a guard where it would be read as something else.
@@ -72,8 +70,7 @@ impl<R: HeldRule, C: CharSet, A: Allocator> Held<R, C, A> {
             ..old
         };
         let range = self.path_range();
-        self.step(lengths, range, guard, path, "")?;
-        Ok(())
+        self.step(lengths, range, guard, path, "")
     }
 
     /// Replaces the scheme, or takes it away, which takes no memory. A path whose first segment
@@ -94,8 +91,7 @@ impl<R: HeldRule, C: CharSet, A: Allocator> Held<R, C, A> {
         };
         let range = self.scheme_range();
         let (part, mark) = marked_after(scheme, ":");
-        self.step(lengths, range, part, mark, lead)?;
-        Ok(())
+        self.step(lengths, range, part, mark, lead)
     }
 
     /// Replaces the authority, or takes it away, which takes no memory. Where one comes to stand
@@ -115,8 +111,7 @@ impl<R: HeldRule, C: CharSet, A: Allocator> Held<R, C, A> {
         };
         let range = self.authority_range();
         let (mark, part) = marked("//", authority);
-        self.step(lengths, range, mark, part, lead)?;
-        Ok(())
+        self.step(lengths, range, mark, part, lead)
     }
 
     /// Makes a change of the path, where the path that this leaves may stand.
@@ -138,8 +133,7 @@ impl<R: HeldRule, C: CharSet, A: Allocator> Held<R, C, A> {
         };
         let place = self.path_range();
         let range = self.part_of(place, &change.within);
-        self.step(lengths, range, change.lead, change.middle, change.close)?;
-        Ok(())
+        self.step(lengths, range, change.lead, change.middle, change.close)
     }
 
     // Replaces a range of the text by three pieces, which leaves components of these lengths.
@@ -150,7 +144,7 @@ impl<R: HeldRule, C: CharSet, A: Allocator> Held<R, C, A> {
         lead: &str,
         middle: &str,
         close: &str,
-    ) -> Result<(), AllocError>
+    ) -> Result<(), Memory>
         requires within { IsWithin self.old within }
         requires leaves { HasLengths (R.test C.tests) lengths
             (replaced self.old within (lead.now ++ middle.now ++ close.now)) }

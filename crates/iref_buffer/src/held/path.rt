@@ -113,8 +113,7 @@ impl<R: HeldRule, C: CharSet, A: Allocator + Copy> Held<R, C, A> {
             ..self.lengths()
         };
         let range = self.path_range();
-        self.step(lengths, range, normal, "", "")?;
-        Ok(())
+        self.step(lengths, range, normal, "", "")
     }
 }
 

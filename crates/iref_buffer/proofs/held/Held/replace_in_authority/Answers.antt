@@ -9,7 +9,7 @@ use Rattle.iref_edit.specs.Changes.{IsWithin, changed, cut_length, pieces, piece
 use Rattle.iref_edit.proofs.PartLemmas.{part_len}
 use Rattle.iref_buffer.specs.AuthorityPlaces.{authority_part, place_of_authority}
 use Rattle.iref_buffer.proofs.AuthorityPlaceLemmas.{authority_text_replaced, length_of_new_authority}
-use Rattle.iref_buffer.proofs.EditLemmas.{authority_read, is_step}
+use Rattle.iref_buffer.proofs.EditLemmas.{after_ok, authority_read, is_step}
 use Rattle.iref_buffer.proofs.PathEditLemmas.{part_cut}
 use Rattle.iref_buffer.proofs.held.Held.replace_in_authority.Goals as goal
 
@@ -42,7 +42,7 @@ pub returns-clause-text : goal.returns-clause-text
 returns-clause-text g c =
     let text = c.args.self.now in
     let at = c.authority_place-place.ensures.place in
-    c.in_ok-step.ensures.ok ∙ c.part_of-range.ensures.replaced (pieces c.args.change) ∙ (λ i. replaced text (at i) (changed (text_at text (at i)) c.args.change))
+    after_ok c.step.result (λ put. put ∙ c.part_of-range.ensures.replaced (pieces c.args.change) ∙ (λ i. replaced text (at i) (changed (text_at text (at i)) c.args.change))) c.step.ensures.ok
 
 pub returns-clause-value : goal.returns-clause-value
 returns-clause-value g c =
@@ -52,6 +52,6 @@ returns-clause-value g c =
     let new = changed (authority_part text) c.args.change in
     let at = c.authority_place-place.ensures.place in
     let spelled = c.part_of-range.ensures.replaced (pieces c.args.change) ∙ (λ i. replaced text (at i) (changed (text_at text (at i)) c.args.change)) ∙ authority_text_replaced text new c.requires.has in
-    ap read_reference c.in_ok-step.ensures.ok
-    ∙ (is_step set g.met.C.CharSet.above_ascii (g.R.Rule.test set) g.R.HeldRule.allows_scheme (g.met.R.HeldRule.by_scheme set) _ (with_authority_step (λ a. read_authority new) old) spelled
-    (with_whole_authority-readable set (read_authority new) old (authority_read set (Some new) c.requires.in_rule) c.lengths.ensures.readable) c.lengths.ensures.allowed).value
+    let step = is_step set g.met.C.CharSet.above_ascii (g.R.Rule.test set) g.R.HeldRule.allows_scheme (g.met.R.HeldRule.by_scheme set) _ (with_authority_step (λ a. read_authority new) old) spelled
+    (with_whole_authority-readable set (read_authority new) old (authority_read set (Some new) c.requires.in_rule) c.lengths.ensures.readable) c.lengths.ensures.allowed in
+    after_ok c.step.result (λ put. ap read_reference put ∙ step.value) c.step.ensures.ok

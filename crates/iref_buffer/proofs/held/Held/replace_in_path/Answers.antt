@@ -4,7 +4,7 @@ use Rattle.iref_grammar.specs.Places.{text_at}
 use Rattle.iref_grammar.specs.Reference.{read_reference}
 use Rattle.iref_edit.specs.Changes.{IsWithin, changed, cut_length, pieces, pieces_length, replaced}
 use Rattle.iref_buffer.specs.PathTexts.{path_text, with_path_read}
-use Rattle.iref_buffer.proofs.EditLemmas.{is_step}
+use Rattle.iref_buffer.proofs.EditLemmas.{after_ok, is_step}
 use Rattle.iref_buffer.proofs.PathEditLemmas.{read_path-readable, path_text_replaced, path_length, part_length}
 use Rattle.iref_buffer.proofs.held.Held.replace_in_path.Goals as goal
 
@@ -35,7 +35,7 @@ pub returns-clause-text : goal.returns-clause-text
 returns-clause-text g c =
     let text = c.args.self.now in
     let at = c.path_range-place.ensures.place in
-    c.in_ok-step.ensures.ok ∙ c.part_of-range.ensures.replaced (pieces c.args.change) ∙ (λ i. replaced text (at i) (changed (text_at text (at i)) c.args.change))
+    after_ok c.step.result (λ put. put ∙ c.part_of-range.ensures.replaced (pieces c.args.change) ∙ (λ i. replaced text (at i) (changed (text_at text (at i)) c.args.change))) c.step.ensures.ok
 
 pub returns-clause-value : goal.returns-clause-value
 returns-clause-value g c =
@@ -46,6 +46,6 @@ returns-clause-value g c =
     let path = changed (path_text text) c.args.change in
     let at = c.path_range-place.ensures.place in
     let spelled = c.part_of-range.ensures.replaced new ∙ (λ i. replaced text (at i) (changed (text_at text (at i)) c.args.change)) ∙ path_text_replaced text path in
-    ap read_reference c.in_ok-step.ensures.ok
-    ∙ (is_step set g.met.C.CharSet.above_ascii (g.R.Rule.test set) g.R.HeldRule.allows_scheme (g.met.R.HeldRule.by_scheme set) _ (with_path_read path old) spelled
-    (read_path-readable set old path c.lengths-old.ensures.readable c.requires.may_stand) c.lengths-old.ensures.allowed).value
+    let step = is_step set g.met.C.CharSet.above_ascii (g.R.Rule.test set) g.R.HeldRule.allows_scheme (g.met.R.HeldRule.by_scheme set) _ (with_path_read path old) spelled
+    (read_path-readable set old path c.lengths-old.ensures.readable c.requires.may_stand) c.lengths-old.ensures.allowed in
+    after_ok c.step.result (λ put. ap read_reference put ∙ step.value) c.step.ensures.ok

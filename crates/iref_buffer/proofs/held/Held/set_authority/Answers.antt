@@ -10,7 +10,7 @@ use Rattle.iref_grammar.proofs.ComponentLemmas.{is_some-copied}
 use Rattle.iref_model.specs.ComponentSteps.{with_authority}
 use Rattle.iref_model.proofs.ReferenceStepLemmas.{with_authority-readable}
 use Rattle.iref_buffer.specs.declared.lengths.Lengths.{Lengths}
-use Rattle.iref_buffer.proofs.EditLemmas.{is_step, authority_spelled, authority_read, some_read, with_authority-parts}
+use Rattle.iref_buffer.proofs.EditLemmas.{is_step, steps_or_stays, authority_spelled, authority_read, some_read, with_authority-parts}
 use Rattle.iref_buffer.proofs.held.Held.set_authority.Goals as goal
 
 pub step-requires-clause-leaves : goal.step-requires-clause-leaves
@@ -44,7 +44,5 @@ returns-clause-set g c =
     let spelled = ap (λ t. splice c.args.self.now range.start range.end (t ++ lead)) (c.marked.ensures.pieces ∙ ap (then_part (codes "//")) (authority_spelled text))
     ∙ c.authority_range-range.ensures.replaced new (with_authority new old).path lead put in
     let step = is_step set g.met.C.CharSet.above_ascii (g.R.Rule.test set) g.R.HeldRule.allows_scheme (g.met.R.HeldRule.by_scheme set) _ (record old { authority = new; path = (with_authority new old).path }) spelled
-    (ap (is_readable set) (with_authority-parts new old) ∙ with_authority-readable set new old (authority_read set text c.requires) c.lengths-old.ensures.readable) c.lengths-old.ensures.allowed in (
-      c.in_ok-step.ensures.ok ∙ spelled ∙ ap spell (with_authority-parts new old),
-      ap read_reference c.in_ok-step.ensures.ok ∙ step.value ∙ with_authority-parts new old,
-    )
+    (ap (is_readable set) (with_authority-parts new old) ∙ with_authority-readable set new old (authority_read set text c.requires) c.lengths-old.ensures.readable) c.lengths-old.ensures.allowed in
+    steps_or_stays c.step.result (with_authority new) c.args.self.now _ _ c.step.ensures.ok c.step.ensures.err (spelled ∙ ap spell (with_authority-parts new old)) (step.value ∙ with_authority-parts new old)

@@ -5,7 +5,7 @@ use Rattle.std.proofs.lemmas.List.{append-nil}
 use Rattle.iref_grammar.specs.Reference.{read_reference}
 use Rattle.iref_model.specs.ComponentSteps.{with_query}
 use Rattle.iref_model.proofs.ReferenceStepLemmas.{with_query-readable}
-use Rattle.iref_buffer.proofs.EditLemmas.{is_step}
+use Rattle.iref_buffer.proofs.EditLemmas.{is_step, steps_or_stays}
 use Rattle.iref_buffer.proofs.held.Held.set_query.Goals as goal
 
 pub step-requires-clause-leaves : goal.step-requires-clause-leaves
@@ -29,4 +29,4 @@ returns-clause-set g c =
     let spelled = ap (splice c.args.self.now range.start range.end) (append-nil _ ∙ c.marked.ensures.pieces) ∙ c.query_range-range.ensures.replaced query in
     let step = is_step set g.met.C.CharSet.above_ascii (g.R.Rule.test set) g.R.HeldRule.allows_scheme (g.met.R.HeldRule.by_scheme set) _ (with_query query old) spelled
     (with_query-readable set query old c.requires c.lengths.ensures.readable) c.lengths.ensures.allowed in
-    (c.in_ok-step.ensures.ok ∙ spelled, ap read_reference c.in_ok-step.ensures.ok ∙ step.value)
+    steps_or_stays c.step.result (with_query query) c.args.self.now _ _ c.step.ensures.ok c.step.ensures.err spelled step.value

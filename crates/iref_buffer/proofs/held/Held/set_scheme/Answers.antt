@@ -5,7 +5,7 @@ use Rattle.iref_grammar.specs.Reference.{read_reference, spell, is_readable}
 use Rattle.iref_grammar.proofs.ComponentLemmas.{is_some-copied}
 use Rattle.iref_model.specs.ComponentSteps.{with_scheme}
 use Rattle.iref_model.proofs.ReferenceStepLemmas.{with_scheme-readable}
-use Rattle.iref_buffer.proofs.EditLemmas.{is_step, scheme_path_length, with_scheme-parts}
+use Rattle.iref_buffer.proofs.EditLemmas.{is_step, steps_or_stays, scheme_path_length, with_scheme-parts}
 use Rattle.iref_buffer.proofs.held.Held.set_scheme.Goals as goal
 
 pub step-requires-clause-leaves : goal.step-requires-clause-leaves
@@ -36,7 +36,5 @@ returns-clause-set g c =
     let spelled = ap (λ t. splice c.args.self.now range.start range.end (t ++ lead)) (c.marked_after.ensures.pieces)
     ∙ c.scheme_range-range.ensures.replaced new (with_scheme new old).path lead put in
     let step = is_step set g.met.C.CharSet.above_ascii (g.R.Rule.test set) g.R.HeldRule.allows_scheme (g.met.R.HeldRule.by_scheme set) _ (record old { scheme = new; path = (with_scheme new old).path }) spelled
-    (ap (is_readable set) (with_scheme-parts new old) ∙ with_scheme-readable set new old c.requires.scheme c.lengths-old.ensures.readable) c.requires.allowed in (
-      c.in_ok-step.ensures.ok ∙ spelled ∙ ap spell (with_scheme-parts new old),
-      ap read_reference c.in_ok-step.ensures.ok ∙ step.value ∙ with_scheme-parts new old,
-    )
+    (ap (is_readable set) (with_scheme-parts new old) ∙ with_scheme-readable set new old c.requires.scheme c.lengths-old.ensures.readable) c.requires.allowed in
+    steps_or_stays c.step.result (with_scheme new) c.args.self.now _ _ c.step.ensures.ok c.step.ensures.err (spelled ∙ ap spell (with_scheme-parts new old)) (step.value ∙ with_scheme-parts new old)
