@@ -17,7 +17,8 @@ use Rattle.iref_grammar.specs.PathValue.{PathValue, read_path, spell_path, segme
 use Rattle.iref_grammar.proofs.PathLemmas.{read_path-reads}
 use Rattle.iref_model.specs.Guard.{guarded}
 use Rattle.iref_model.specs.PathSteps.{lazy_pushed, closed_path, cleared}
-use Rattle.iref_path_text.specs.StepTexts.{pushed_lead, first_needs_guard, root_len, close_after}
+use Rattle.iref_path_text.specs.Spelling.{first_needs_guard}
+use Rattle.iref_path_text.specs.StepTexts.{pushed_lead, root_len, close_after}
 
 at : (has_scheme has_authority absolute : Bool) (s : Text) → let context : PathContext = record { has_scheme = has_scheme; has_authority = has_authority } in let p : PathValue = record { absolute = absolute; segments = [] } in
     pushed_lead context absolute s ++ s ≡ spell_path (lazy_pushed context s p)

@@ -13,10 +13,13 @@ use Rattle.iref_path_text.specs.Remaining.{flagged_path}
 abbrev pub each_closed : List Text → Text
 each_closed segments = flat_map (λ s. s ++ slash ∷ []) segments
 
--- where the list begins with this segment, a scheme or an authority would be read, or the segment would not show
+-- a first segment would be read as a scheme, or would not show
+abbrev pub first_needs_guard : PathContext → Bool → Text → Bool
+first_needs_guard context rooted s = is_empty s || not (rooted || context.has_scheme) && char_set_contains s colon
+
+-- a list begins with this segment where no authority stands before it
 abbrev pub needs_guard : PathContext → Bool → Text → Bool
-needs_guard context absolute first =
-    not context.has_authority && (is_empty first || not absolute && not context.has_scheme && char_set_contains first colon)
+needs_guard context absolute first = not context.has_authority && first_needs_guard context absolute first
 
 -- the root, and the guard
 abbrev pub lead : Bool → Bool → Text

@@ -1,11 +1,9 @@
 -- What the steps of a path write.
-use Rattle.std.specs.Prelude.{ℕ, Bool, not, ◌&&◌, ◌||◌, [], codes, if◌then◌else◌}
-use Rattle.std.specs.Char.{char_set_contains}
+use Rattle.std.specs.Prelude.{ℕ, Bool, ◌||◌, [], codes, if◌then◌else◌}
 use Rattle.iref_grammar.specs.declared.places.PathContext.{PathContext}
 use Rattle.iref_grammar.specs.Rules.{Text}
-use Rattle.iref_grammar.specs.Grammar.{colon}
 use Rattle.iref_grammar.specs.Texts.{is_empty}
-use Rattle.iref_path_text.specs.Spelling.{lead}
+use Rattle.iref_path_text.specs.Spelling.{first_needs_guard, lead}
 
 -- how many bytes the root takes
 abbrev pub root_len : Bool → ℕ
@@ -18,11 +16,6 @@ close_after is_empty = if is_empty then [] else codes "/"
 -- what follows segments that stay, where they are one empty segment
 abbrev pub list_guard : Text → Text
 list_guard segments = if is_empty segments then codes "./" else []
-
--- a first segment that would be read as something else
-abbrev pub first_needs_guard : PathContext → Bool → Text → Bool
-first_needs_guard context rooted s =
-    is_empty s || not (rooted || context.has_scheme) && char_set_contains s colon
 
 -- before a first segment that is pushed
 abbrev pub pushed_lead : PathContext → Bool → Text → Text

@@ -88,15 +88,20 @@ pub fn has_colon(text: &str) -> bool
     text.bytes().any(|byte| byte == b':')
 }
 
-/// Whether a list that begins with this segment needs a guard: without an authority the segment
-/// would not show where it is empty, or be read as a scheme.
+/// Whether a first segment would be read as something else: it would not show where it is empty, or
+/// be read as a scheme.
+pub(crate) fn first_needs_guard(context: PathContext, rooted: bool, segment: &str) -> bool
+    ensures { result ≡ spelling.first_needs_guard context rooted segment.now }
+{
+    let after_mark = rooted | context.has_scheme;
+    segment.is_empty() || !after_mark && has_colon(segment)
+}
+
+/// Whether a list that begins with this segment needs a guard: after an authority none does.
 fn needs_guard(context: PathContext, absolute: bool, first: &str) -> bool
     ensures { result ≡ spelling.needs_guard context absolute first.now }
 {
-    if context.has_authority {
-        return false;
-    }
-    first.is_empty() || !absolute && !context.has_scheme && has_colon(first)
+    !context.has_authority && first_needs_guard(context, absolute, first)
 }
 
 /// The root, and the guard.

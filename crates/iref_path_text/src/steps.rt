@@ -9,7 +9,7 @@ ghost use Rattle.iref_path_text.specs.StepTexts as texts;
 
 use crate::guard::guard_of;
 use crate::pieces::{last_piece, split_root};
-use crate::spell::{has_colon, lead};
+use crate::spell::{first_needs_guard, lead};
 use iref_grammar::chars::CharSet;
 use iref_grammar::places::PathContext;
 
@@ -255,12 +255,4 @@ fn pushed_lead(context: PathContext, absolute: bool, segment: &str) -> &'static 
 {
     let rooted = absolute | context.has_authority;
     lead(rooted, first_needs_guard(context, rooted, segment))
-}
-
-/// Whether a first segment would be read as something else.
-fn first_needs_guard(context: PathContext, rooted: bool, segment: &str) -> bool
-    ensures { result ≡ texts.first_needs_guard context rooted segment.now }
-{
-    let after_mark = rooted | context.has_scheme;
-    segment.is_empty() || !after_mark && has_colon(segment)
 }
