@@ -63,9 +63,6 @@ pub length-join : (list : List Text) → length (join_with_byte slash list) ≡ 
 length-join [] = refl
 length-join (s ∷ rest) = let size = length-joined s rest in omega (arith, size)
 
-pub length-joined_before : (front : List Text) (s : Text) → length (join_with_byte slash (front ++ s ∷ [])) ≡ length (each_closed front) + length s
-length-joined_before front s = ap length (sym (joined_before front s)) ∙ length-append (each_closed front) s
-
 -- ---- the normal list is hardly longer than the list
 
 pub size-cons : (s : Text) (list : List Text) → length (each_closed (s ∷ list)) ≡ length s + 1 + length (each_closed list)
@@ -281,8 +278,6 @@ module _ (context : PathContext) (absolute : Bool) (text : Text) where
 pub path-utf8 : (set : CharTests) (text : Text) → is_path set text ≡ true → IsUtf8 text
 unfolding is_path
 path-utf8 set text h = IsUtf8-from_is_utf8 text (first_of_both _ _ h)
-
-pub ruleset normal_sizes = (normal_size-text)
 
 pub any-contained : (text : Text) (mark : ℕ) → list_any (λ c. c == mark) text ≡ char_set_contains text mark
 any-contained [] mark = refl
