@@ -10,7 +10,7 @@ use Rattle.iref_model.specs.ComponentSteps.{with_path_step}
 use Rattle.iref_model.specs.Edits.{EditStep, edited}
 use Rattle.iref_buffer.proofs.EditLemmas.{readable_of}
 use Rattle.iref_path.specs.declared.path_mut.PathMut.{PathMut}
-use Rattle.iref_path.specs.PathEdits.{edited_bytes, path_mut_context, path_mut_value, IsEditorOf, BecomesPath}
+use Rattle.iref_path.specs.PathEdits.{edited_bytes, path_mut_context, path_mut_value, IsEditorOf, BecomesPath, Edits}
 use Rattle.iref_reference.proofs.PathStepLemmas.{path_step}
 
 -- the edit of the path, done by its editor
@@ -28,6 +28,6 @@ pub path_edited_on_ok : {C : _} {T : _} {A : _} {c : _} {t : _} {a : _} {old : P
     → edited edit (read_reference text) ≡ Ok (with_path_step step (read_reference text)) → is_reference set text ≡ true
     → (is_readable set (read_reference text) ≡ true → is_readable set (with_path_step step (read_reference text)) ≡ true)
     → IsEditorOf old text (context_of (read_reference text)) (places_of text).path.start (places_of text).path.end → after ≡ edited_bytes new
-    → (result : Result U E) → OnOk result (BecomesPath old new (step (path_mut_context old) (path_mut_value old))) → OnOk result (edited edit (read_reference text) ≡ Ok (read_reference after))
-path_edited_on_ok new set above edit step e h readable of same (Ok u) becomes = path_edited set above edit step e h readable of same becomes
-path_edited_on_ok new set above edit step e h readable of same (Err error) becomes = tt
+    → (result : Result U E) → Edits step old new result → OnOk result (edited edit (read_reference text) ≡ Ok (read_reference after))
+path_edited_on_ok new set above edit step e h readable of same (Ok u) edits = path_edited set above edit step e h readable of same edits.outcome
+path_edited_on_ok new set above edit step e h readable of same (Err error) edits = tt

@@ -1,3 +1,4 @@
 pub mod EditLemmas
 pub mod ManyLemmas
+pub mod OwnerLemmas
 pub mod TryLemmas

@@ -1,5 +1,5 @@
 -- Where an edit by texts of an iterator stops.
-use Rattle.std.proofs.Common.{List, [], ◌∷◌, ◌++◌, Option, Some, Result, Ok, Err, OnOk, OnErr, refl, sym, subst}
+use Rattle.std.proofs.Common.{List, [], ◌∷◌, ◌++◌, Option, Some, Result, Ok, Err, MatchResult, refl, sym, subst}
 use Rattle.std.specs.Iterator.{Yields, Drains}
 use Rattle.std.specs.List.{All}
 use Rattle.std.specs.Result.{result_or}
@@ -21,9 +21,9 @@ stops_after steps s before rest items next in_rule hands_back Holds Memory given
 
 -- all items were taken, and one step more is tried
 pub tries_then : {S X V E F : Type 0} (steps : S → Option X → S → Type 0) (s : S) (items : List X) (in_rule : X → Type 0) (hands_back : X → E → Type 0) (Whole Before : List X → Type 0) (result : Result V F)
-    → Drains steps s items → All in_rule items → OnOk result (Whole items) → OnErr result (Before items) → TriesItems steps s in_rule hands_back Whole Before (result_or result (Err Memory))
-tries_then steps s items in_rule hands_back Whole Before (Ok value) given all whole before = (items, given, (all, whole))
-tries_then steps s items in_rule hands_back Whole Before (Err error) given all whole before = (items, given.1.0, given.1.1, all, before)
+    → Drains steps s items → All in_rule items → MatchResult result (λ _. Whole items) (λ _. Before items) → TriesItems steps s in_rule hands_back Whole Before (result_or result (Err Memory))
+tries_then steps s items in_rule hands_back Whole Before (Ok value) given all holds = (items, given, (all, holds))
+tries_then steps s items in_rule hands_back Whole Before (Err error) given all holds = (items, given.1.0, given.1.1, all, holds)
 
 -- what is true of the items, seen otherwise
 stops_weaker : {S X E : Type 0} (steps : S → Option X → S → Type 0) (s : S) (in_rule : X → Type 0) (hands_back : X → E → Type 0) {Before Before2 : List X → Type 0} (error : TryError E)

@@ -1,9 +1,20 @@
--- What an edit takes of an iterator.
-use Rattle.std.specs.Prelude.{List, Option, Result, [], ◌∷◌, ◌++◌, MatchResult}
+-- What an edit by many segments takes of an iterator, and what it makes of a path.
+use Rattle.std.specs.Prelude.{List, Option, Result, [], ◌∷◌, ◌++◌, ◌≡◌, fold, map, MatchResult}
+use Rattle.std.specs.Borrow.{Bor}
 use Rattle.std.specs.Iterator.{Yields, Drains}
 use Rattle.std.specs.List.{All}
+use Rattle.iref_grammar.specs.declared.places.PathContext.{PathContext}
+use Rattle.iref_grammar.specs.Characters.{CharTests}
+use Rattle.iref_grammar.specs.Grammar.{IsSegment}
+use Rattle.iref_grammar.specs.PathValue.{PathValue}
+use Rattle.iref_grammar.specs.Rules.{Text, InUtf8}
+use Rattle.iref_model.specs.PathSteps.{followed}
+use Rattle.iref_component.specs.declared.text.View.{View}
+use Rattle.iref_component.specs.Components.{view_text}
 use Rattle.iref_error.specs.declared.edit.TryError.{TryError}
 use Rattle.iref_error.specs.declared.edit.TryError.TheVariants.{Invalid, Memory}
+use Rattle.iref_error.specs.declared.invalid.InvalidSegment.{InvalidSegment}
+use Rattle.iref_path.specs.PathEdits.{PathStep}
 
 -- it takes all items, up to the first None, and this is true of them
 abbrev pub TakesAll : {S X : Type 0} → (S → Option X → S → Type 0) → S → (List X → Type 0) → Type 0
@@ -21,3 +32,22 @@ StopsAfter {S} {X} {E} steps s in_rule hands_back Holds Memory = (items : List X
 -- at Ok all items are in the rule, and the first is true of them; at an error the second is true of those before it
 abbrev pub TriesItems : {S X V E : Type 0} → (S → Option X → S → Type 0) → S → (X → Type 0) → (X → E → Type 0) → (List X → Type 0) → (List X → Type 0) → Result V (TryError E) → Type 0
 TriesItems steps s in_rule hands_back Whole Before result = MatchResult result (λ _. TakesAll steps s (λ items. All in_rule items × Whole items)) (StopsAfter steps s in_rule hands_back Before)
+
+-- what the texts of segments make of a path, in the context of what stands before it
+abbrev pub ListStep : Type 0
+ListStep = PathContext → List Text → PathValue → PathValue
+
+-- the segments followed one by one, and the path not closed
+abbrev pub followed_each : ListStep
+followed_each context items path = fold (followed context) path items
+
+-- an edit by segments: at Ok all were taken, and the path becomes what the first makes of their texts; at an Err some were, and it becomes what the second makes of theirs
+abbrev pub Appends : {R : _} {C : _} {r : _} {c : _} {S V E : Type 0} → (S → Option (View R C r c) → S → Type 0) → S → (PathStep → Type 0) → ListStep → ListStep → Result V E → Type 0
+Appends steps s Becomes whole before result =
+    MatchResult result (λ _. TakesAll steps s (λ items. Becomes (λ context. whole context (map view_text items)))) (λ _. TakesFirst steps s (λ items. Becomes (λ context. before context (map view_text items))))
+
+-- the same by texts that are tested first: an error hands back the first that is not a segment, and is of want of memory otherwise
+abbrev pub TriesAppends : {S V : Type 0} → CharTests → (S → Option (Bor Text) → S → Type 0) → S → (PathStep → Type 0) → ListStep → ListStep → Result V (TryError (InvalidSegment (Bor Text))) → Type 0
+TriesAppends set steps s Becomes whole before result =
+    TriesItems steps s (λ item. InUtf8 (IsSegment set) item.now) (λ item error. error.0 ≡ item)
+    (λ items. Becomes (λ context. whole context (map (λ item. item.now) items))) (λ items. Becomes (λ context. before context (map (λ item. item.now) items))) result

@@ -1,8 +1,9 @@
 -- What callers see of an editor of a path, and what an edit does.
 use Rattle.std.specs.Borrow.{GName}
-use Rattle.std.specs.Prelude.{ℕ, ◌≡◌, ◌+◌, length, slice_range}
+use Rattle.std.specs.Prelude.{ℕ, ◌≡◌, ◌+◌, length, slice_range, Result, MatchResult}
 use Rattle.std.specs.List.{splice}
 use Rattle.iref_grammar.specs.declared.places.PathContext.{PathContext}
+use Rattle.iref_grammar.specs.Contexts.{alone}
 use Rattle.iref_grammar.specs.Rules.{Text}
 use Rattle.iref_grammar.specs.PathValue.{PathValue, read_path, spell_path}
 use Rattle.iref_path.specs.declared.path_mut.PathMut.{PathMut}
@@ -62,7 +63,32 @@ pub record IsUnchanged {C : _} {T : _} {A : _} {c : _} {t : _} {a : _} (old new 
   pub from : new.place.start ≡ old.place.start
   pub to : new.place.end ≡ old.place.end
 
+-- an edit: it borrows the same target still, at Ok the path becomes this one, and at an Err nothing changes
+pub record EditsTo {C : _} {T : _} {A : _} {c : _} {t : _} {a : _} {V E : Type 0} (value : PathValue) (old new : PathMut C T A c t a) (result : Result V E) : Type 0 where
+  pub same : IsSameEditor old new
+  pub outcome : MatchResult result (λ _. BecomesPath old new value) (λ _. IsUnchanged old new)
+
+-- what an edit makes of a path, in the context of what stands before it
+abbrev pub PathStep : Type 0
+PathStep = PathContext → PathValue → PathValue
+
+-- the path becomes what this step makes of it
+abbrev pub Becomes : {C : _} {T : _} {A : _} {c : _} {t : _} {a : _} → PathMut C T A c t a → PathMut C T A c t a → PathStep → Type 0
+Becomes old new step = BecomesPath old new (step (path_mut_context old) (path_mut_value old))
+
+-- an edit whose path is what this step makes of the old one
+abbrev pub Edits : {C : _} {T : _} {A : _} {c : _} {t : _} {a : _} {V E : Type 0} → PathStep → PathMut C T A c t a → PathMut C T A c t a → Result V E → Type 0
+Edits step old new result = EditsTo (step (path_mut_context old) (path_mut_value old)) old new result
+
 -- the owner's text spells this path, and is read as it
 pub record SpellsPath {C : _} {c : _} (p : PathBuf C c) (value : PathValue) : Type 0 where
   pub text : path_buf_text p ≡ spell_path value
   pub read : path_buf_value p ≡ value
+
+-- the owner's path, which stands alone, becomes what this step makes of it
+abbrev pub OwnerBecomes : {C : _} {c : _} → PathBuf C c → PathBuf C c → PathStep → Type 0
+OwnerBecomes old new step = SpellsPath new (step alone (path_buf_value old))
+
+-- an edit of an owner: at Ok its path becomes what the step makes of it, and at an Err its text is as it was
+abbrev pub EditsOwner : {C : _} {c : _} {V E : Type 0} → (PathValue → PathValue) → PathBuf C c → PathBuf C c → Result V E → Type 0
+EditsOwner step old new result = MatchResult result (λ _. SpellsPath new (step (path_buf_value old))) (λ _. path_buf_text new ≡ path_buf_text old)

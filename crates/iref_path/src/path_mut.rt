@@ -1,6 +1,6 @@
 //! Edits of a path in place (RFC 3986 section 3.3).
-ghost use Rattle.std.specs.Prelude.{◌≡◌, ◌≤◌, ◌+◌, ◌-◌, ◌&&◌, true, not, [], length, Some, OnOk};
-ghost use Rattle.std.specs.{Prelude.{OnErr, IfOk, IsOk}, Str.{IsCharBoundary}};
+ghost use Rattle.std.specs.Prelude.{◌≡◌, ◌≤◌, ◌+◌, ◌-◌, ◌&&◌, true, not, length, Some, IfOk, IsOk};
+ghost use Rattle.std.specs.Str.{IsCharBoundary};
 ghost use Rattle.iref_grammar.specs.Contexts.{alone, follows_authority, is_path_in};
 ghost use Rattle.iref_grammar.specs.{PathValue.{PathValue, read_path}, Texts.{is_empty}};
 ghost use Rattle.iref_component.specs.Components.{view_text};
@@ -43,7 +43,7 @@ impl<'a, C: CharSet, T: Target<PathPart, C>> PathMut<'a, C, T> {
     ghost use Rattle.iref_path.specs.PathEdits.{Borrows, edited_bytes, path_mut_context};
     ghost use Rattle.iref_path.specs.PathEdits.{path_mut_start, path_mut_end, path_mut_text};
     ghost use Rattle.iref_path.specs.PathEdits.{path_mut_value, IsEditorOf, IsSameEditor};
-    ghost use Rattle.iref_path.specs.PathEdits.{BecomesPath, IsUnchanged};
+    ghost use Rattle.iref_path.specs.PathEdits.{BecomesPath, Edits, EditsTo};
 
     /// The path in a range of what holds it, with what stands before it.
     pub fn of_target(target: &'a mut T, context: PathContext, range: Range<usize>) -> Self
@@ -100,11 +100,9 @@ impl<'a, C: CharSet, T: Target<PathPart, C>> PathMut<'a, C, T> {
         requires reads { is_path_in C.tests (path_mut_context self.old) (path_mut_text self.old)
             ≡ true → is_path_in C.tests (path_mut_context self.old)
             (step_text (path_mut_text self.old) step) ≡ true }
-        ensures same { IsSameEditor self.old self.new }
-        ensures ok { (value : PathValue) → StepsTo C.tests (path_mut_context self.old)
+        ensures edit { (value : PathValue) → StepsTo C.tests (path_mut_context self.old)
             (path_mut_text self.old) (step_text (path_mut_text self.old) step.entry) value
-            → OnOk result (BecomesPath self.old self.new value) }
-        ensures err { OnErr result (IsUnchanged self.old self.new) }
+            → EditsTo value self.old self.new result }
         ensures shorter { length step.entry.lead.now + length step.entry.middle.now
             + length step.entry.close.now
             ≤ length (path_mut_text self.old) - step.entry.keep → IsOk result }
@@ -124,10 +122,7 @@ impl<'a, C: CharSet, T: Target<PathPart, C>> PathMut<'a, C, T> {
         requires path { is_path_after C.tests (path_mut_context self.old) text.now ≡ true }
         requires reads { is_path_in C.tests (path_mut_context self.old) (path_mut_text self.old)
             ≡ true → is_path_in C.tests (path_mut_context self.old) text.now ≡ true }
-        ensures same { IsSameEditor self.old self.new }
-        ensures ok { (value : PathValue) → read_path text.now ≡ value
-            → OnOk result (BecomesPath self.old self.new value) }
-        ensures err { OnErr result (IsUnchanged self.old self.new) }
+        ensures { EditsTo (read_path text.now) self.old self.new result }
     {
         let _path = self.text();
         self.apply(Step {
@@ -140,10 +135,8 @@ impl<'a, C: CharSet, T: Target<PathPart, C>> PathMut<'a, C, T> {
 
     /// Puts a segment at the end, as it is: `.` and `..` too.
     pub fn lazy_push(&mut self, segment: Segment<'_, C>) -> Result<(), Memory>
-        ensures same { IsSameEditor self.old self.new }
-        ensures ok { OnOk result (BecomesPath self.old self.new (step.lazy_pushed
-            (path_mut_context self.old) (view_text segment.entry) (path_mut_value self.old))) }
-        ensures err { OnErr result (IsUnchanged self.old self.new) }
+        ensures { Edits (λ context. step.lazy_pushed context (view_text segment.entry))
+            self.old self.new result }
     {
         let step = steps::lazy_pushed::<C>(self.context, self.text(), segment.as_str());
         self.apply(step)
@@ -152,10 +145,8 @@ impl<'a, C: CharSet, T: Target<PathPart, C>> PathMut<'a, C, T> {
     /// Follows a segment: `.` closes the path, `..` takes the last segment away and closes it, and
     /// any other is put at the end (RFC 3986 section 5.2.4). `foo/bar` and `..` give `foo/`.
     pub fn push(&mut self, segment: Segment<'_, C>) -> Result<(), Memory>
-        ensures same { IsSameEditor self.old self.new }
-        ensures ok { OnOk result (BecomesPath self.old self.new (step.pushed
-            (path_mut_context self.old) (view_text segment.entry) (path_mut_value self.old))) }
-        ensures err { OnErr result (IsUnchanged self.old self.new) }
+        ensures { Edits (λ context. step.pushed context (view_text segment.entry))
+            self.old self.new result }
     {
         let step = steps::pushed::<C>(self.context, self.text(), segment.as_str());
         self.apply(step)
@@ -164,10 +155,7 @@ impl<'a, C: CharSet, T: Target<PathPart, C>> PathMut<'a, C, T> {
     /// Takes the last segment away: where there is none to take, or where it is `..`, a `..` stands
     /// at the end then. `//a` gives `/./`.
     pub fn pop(&mut self) -> Result<(), Memory>
-        ensures same { IsSameEditor self.old self.new }
-        ensures ok { OnOk result (BecomesPath self.old self.new (step.popped
-            (path_mut_context self.old) (path_mut_value self.old))) }
-        ensures err { OnErr result (IsUnchanged self.old self.new) }
+        ensures { Edits step.popped self.old self.new result }
     {
         let step = steps::popped::<C>(self.context, self.text());
         self.apply(step)
@@ -175,12 +163,9 @@ impl<'a, C: CharSet, T: Target<PathPart, C>> PathMut<'a, C, T> {
 
     /// The same, and whether the path changed: an absolute path without segments stays.
     pub fn try_pop(&mut self) -> Result<bool, Memory>
-        ensures same { IsSameEditor self.old self.new }
-        ensures ok { OnOk result (BecomesPath self.old self.new (step.popped
-            (path_mut_context self.old) (path_mut_value self.old))) }
+        ensures edit { Edits step.popped self.old self.new result }
         ensures changed { IfOk result (λ changed. changed ≡ not ((path_mut_value self.old).absolute
             && is_empty (path_mut_value self.old).segments)) }
-        ensures err { OnErr result (IsUnchanged self.old self.new) }
     {
         let path = self.as_path();
         let changes = path.is_relative() || !path.is_empty();
@@ -190,10 +175,8 @@ impl<'a, C: CharSet, T: Target<PathPart, C>> PathMut<'a, C, T> {
 
     /// Puts another path in its place, after what guards it there.
     pub fn replace(&mut self, path: Path<'_, C>) -> Result<(), Memory>
-        ensures same { IsSameEditor self.old self.new }
-        ensures ok { OnOk result (BecomesPath self.old self.new (step.replaced
-            (path_mut_context self.old) (path_value path.entry) (path_mut_value self.old))) }
-        ensures err { OnErr result (IsUnchanged self.old self.new) }
+        ensures { Edits (λ context. step.replaced context (path_value path.entry))
+            self.old self.new result }
     {
         let step = steps::replaced::<C>(self.context, self.text(), path.as_str());
         self.apply(step)

@@ -1,9 +1,8 @@
 //! Edits of a path that owns its text (RFC 3986 sections 3.3 and 5.2.4).
-ghost use Rattle.std.specs.Prelude.{◌≡◌, ◌&&◌, ◌≤◌, not, length, OnOk, OnErr, IfOk, IsOk};
-ghost use Rattle.iref_grammar.specs.{PathValue.{spell_path}, Texts.{is_empty}, Contexts.{alone}};
-ghost use Rattle.iref_component.specs.Components.{view_text};
+ghost use Rattle.std.specs.Prelude.{◌≡◌, ◌&&◌, ◌≤◌, not, length, IfOk, IsOk};
+ghost use Rattle.iref_component.specs.{alone, is_empty, spell_path, view_text};
 ghost use Rattle.iref_model.specs.PathSteps as step;
-ghost use Rattle.iref_path.specs.PathEdits.{Borrows, IsEditorOf, SpellsPath};
+ghost use Rattle.iref_path.specs.PathEdits.{Borrows, EditsOwner, IsEditorOf, SpellsPath};
 ghost use Rattle.iref_path.specs.Paths.{path_value, path_buf_text, path_buf_value};
 ghost use Rattle.iref_path.specs.WholePaths.{IsWholePath, one_whole_path};
 
@@ -67,43 +66,34 @@ impl<C: CharSet> PathBuf<C> {
 
     /// Puts a segment at the end, as it is: `.` and `..` too.
     pub fn lazy_push(&mut self, segment: Segment<'_, C>) -> Result<(), Memory>
-        ensures ok { OnOk result (SpellsPath self.new (step.lazy_pushed alone
-            (view_text segment.entry) (path_buf_value self.old))) }
-        ensures err { OnErr result (path_buf_text self.new ≡ path_buf_text self.old) }
+        ensures { EditsOwner (step.lazy_pushed alone (view_text segment.entry))
+            self.old self.new result }
     {
-        self.as_path_mut().lazy_push(segment)?;
-        Ok(())
+        self.as_path_mut().lazy_push(segment)
     }
 
     /// Follows a segment: `.` closes the path, `..` takes the last segment away and closes it, and
     /// any other is put at the end (RFC 3986 section 5.2.4). `foo/bar` and `..` give `foo/`.
     pub fn push(&mut self, segment: Segment<'_, C>) -> Result<(), Memory>
-        ensures ok { OnOk result (SpellsPath self.new (step.pushed alone
-            (view_text segment.entry) (path_buf_value self.old))) }
-        ensures err { OnErr result (path_buf_text self.new ≡ path_buf_text self.old) }
+        ensures { EditsOwner (step.pushed alone (view_text segment.entry))
+            self.old self.new result }
     {
-        self.as_path_mut().push(segment)?;
-        Ok(())
+        self.as_path_mut().push(segment)
     }
 
     /// Takes the last segment away: where there is none to take, or where it is `..`, a `..` stands
     /// at the end then. `//a` gives `/./`.
     pub fn pop(&mut self) -> Result<(), Memory>
-        ensures ok { OnOk result (SpellsPath self.new (step.popped alone
-            (path_buf_value self.old))) }
-        ensures err { OnErr result (path_buf_text self.new ≡ path_buf_text self.old) }
+        ensures { EditsOwner (step.popped alone) self.old self.new result }
     {
-        self.as_path_mut().pop()?;
-        Ok(())
+        self.as_path_mut().pop()
     }
 
     /// The same, and whether the path changed: an absolute path without segments stays.
     pub fn try_pop(&mut self) -> Result<bool, Memory>
-        ensures ok { OnOk result (SpellsPath self.new (step.popped alone
-            (path_buf_value self.old))) }
+        ensures edit { EditsOwner (step.popped alone) self.old self.new result }
         ensures changed { IfOk result (λ changed. changed ≡ not ((path_buf_value self.old).absolute
             && is_empty (path_buf_value self.old).segments)) }
-        ensures err { OnErr result (path_buf_text self.new ≡ path_buf_text self.old) }
     {
         let changes = self.is_relative() || !self.is_empty();
         self.pop()?;
@@ -112,9 +102,8 @@ impl<C: CharSet> PathBuf<C> {
 
     /// Puts another path in its place, after what guards it there.
     pub fn replace(&mut self, path: Path<'_, C>) -> Result<(), Memory>
-        ensures ok { OnOk result (SpellsPath self.new (step.replaced alone
-            (path_value path.entry) (path_buf_value self.old))) }
-        ensures err { OnErr result (path_buf_text self.new ≡ path_buf_text self.old) }
+        ensures { EditsOwner (step.replaced alone (path_value path.entry))
+            self.old self.new result }
     {
         self.as_path_mut().replace(path)
     }
@@ -122,14 +111,11 @@ impl<C: CharSet> PathBuf<C> {
     /// Puts the path of the normal segments in its place, guarded where that is needed (RFC 3986
     /// section 5.2.4). Memory is taken only where that path is longer, as `./a:b` for `a:b`.
     pub fn normalize(&mut self) -> Result<(), Memory>
-        ensures ok { OnOk result (SpellsPath self.new (step.normalized alone
-            (path_buf_value self.old))) }
-        ensures err { OnErr result (path_buf_text self.new ≡ path_buf_text self.old) }
+        ensures edit { EditsOwner (step.normalized alone) self.old self.new result }
         ensures shorter { length (spell_path (step.normalized alone (path_buf_value self.old)))
             ≤ length (path_buf_text self.old) → IsOk result }
     {
-        self.as_path_mut().normalize()?;
-        Ok(())
+        self.as_path_mut().normalize()
     }
 
     /// Takes the segments away, so that the path is `/` or empty.

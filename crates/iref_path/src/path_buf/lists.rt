@@ -1,10 +1,10 @@
 //! Edits of a path that owns its text by many segments (RFC 3986 section 5.2.4).
-ghost use Rattle.std.specs.{Prelude.{◌≡◌, OnOk, OnErr, IfOk, fold, map}, Iterator.{IsFinite}};
-ghost use Rattle.iref_component.specs.Components.{view_text};
-ghost use Rattle.iref_grammar.specs.Contexts.{alone};
+ghost use Rattle.std.specs.{Prelude.{IfOk, map}, Iterator.{IsFinite}};
+ghost use Rattle.iref_component.specs.{alone, view_text};
 ghost use Rattle.iref_model.specs.PathSteps as step;
-ghost use Rattle.iref_path.specs.{Appends.{TakesAll, TakesFirst}, PathEdits.{SpellsPath}};
-ghost use Rattle.iref_path.specs.Paths.{path_value, path_buf_text, path_buf_value};
+ghost use Rattle.iref_path.specs.Appends.{Appends, TakesAll, followed_each};
+ghost use Rattle.iref_path.specs.PathEdits.{EditsOwner, OwnerBecomes, SpellsPath};
+ghost use Rattle.iref_path.specs.Paths.{path_value};
 
 use crate::from_segments::text_of_segments;
 use crate::path::Path;
@@ -23,12 +23,8 @@ impl<C: CharSet> PathBuf<C> {
     ) -> Result<(), Memory>
         requires can { I.can_next segments }
         requires ends { IsFinite (I.remaining segments) }
-        ensures ok { OnOk result (TakesAll I.next_gives segments (λ items.
-            SpellsPath self.new (step.lazy_appended alone (map view_text items)
-            (path_buf_value self.old)))) }
-        ensures err { OnErr result (TakesFirst I.next_gives segments (λ items.
-            SpellsPath self.new (step.lazy_appended alone (map view_text items)
-            (path_buf_value self.old)))) }
+        ensures { Appends I.next_gives segments (OwnerBecomes self.old self.new)
+            step.lazy_appended step.lazy_appended result }
     {
         self.as_path_mut().lazy_append(segments)
     }
@@ -42,12 +38,8 @@ impl<C: CharSet> PathBuf<C> {
     ) -> Result<(), Memory>
         requires can { I.can_next segments }
         requires ends { IsFinite (I.remaining segments) }
-        ensures ok { OnOk result (TakesAll I.next_gives segments (λ items.
-            SpellsPath self.new (step.appended alone (map view_text items)
-            (path_buf_value self.old)))) }
-        ensures err { OnErr result (TakesFirst I.next_gives segments (λ items.
-            SpellsPath self.new (fold (step.followed alone) (path_buf_value self.old)
-            (map view_text items)))) }
+        ensures { Appends I.next_gives segments (OwnerBecomes self.old self.new)
+            step.appended followed_each result }
     {
         self.as_path_mut().append(segments)
     }
@@ -55,12 +47,9 @@ impl<C: CharSet> PathBuf<C> {
     /// Puts an absolute path in its place, and appends the segments of a relative one to it: `../b`
     /// after `/x/a` gives `/x/b`. This is one edit, so an `Err` changes nothing.
     pub fn join(&mut self, path: Path<'_, C>) -> Result<(), Memory>
-        ensures ok { OnOk result (SpellsPath self.new (step.joined alone
-            (path_value path.entry) (path_buf_value self.old))) }
-        ensures err { OnErr result (path_buf_text self.new ≡ path_buf_text self.old) }
+        ensures { EditsOwner (step.joined alone (path_value path.entry)) self.old self.new result }
     {
-        self.as_path_mut().join(path)?;
-        Ok(())
+        self.as_path_mut().join(path)
     }
 
     /// The path that pushing these segments one by one on the empty or the absolute path gives:

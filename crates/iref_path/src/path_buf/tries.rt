@@ -1,51 +1,30 @@
 //! Edits of a path that owns its text by a text that is tested first.
-ghost use Rattle.std.specs.{Prelude.{◌≡◌, OnOk, OnErr, fold, map}, Iterator.{IsFinite}};
-ghost use Rattle.iref_grammar.specs.{Contexts.{alone}, Grammar.{IsPath, IsSegment}};
-ghost use Rattle.iref_grammar.specs.{PathValue.{read_path}, Rules.{InUtf8}};
+ghost use Rattle.std.specs.Iterator.{IsFinite};
+ghost use Rattle.iref_component.specs.{alone, read_path, IsPath, IsSegment, Tests};
 ghost use Rattle.iref_model.specs.PathSteps as step;
-ghost use Rattle.iref_path.specs.{Appends.{TriesItems}, PathEdits.{SpellsPath}};
-ghost use Rattle.iref_path.specs.Paths.{path_buf_text, path_buf_value};
-ghost use Rattle.iref_error.specs.Tried.{TellsInvalid};
+ghost use Rattle.iref_path.specs.Appends.{TriesAppends, followed_each};
+ghost use Rattle.iref_path.specs.PathEdits.{EditsOwner, OwnerBecomes};
 
-use crate::path::Path;
 use crate::path_buf::PathBuf;
-use iref_component::texts::Segment;
-use iref_error::{InvalidPath, InvalidSegment, TryError};
+use iref_component::tried::Tried;
+use iref_error::{InvalidPath, InvalidSegment};
 use iref_grammar::chars::CharSet;
 
 impl<C: CharSet> PathBuf<C> {
     /// Puts a text at the end as a segment, as it is.
-    pub fn try_lazy_push<'t>(
-        &mut self,
-        segment: &'t str,
-    ) -> Result<(), TryError<InvalidSegment<&'t str>>>
-        ensures invalid { TellsInvalid (InUtf8 (IsSegment C.tests) segment.entry.now)
-            (λ error. error.0 ≡ segment.entry) result }
-        ensures ok { OnOk result (SpellsPath self.new (step.lazy_pushed
-            alone segment.entry.now (path_buf_value self.old))) }
-        ensures err { OnErr result (path_buf_text self.new ≡ path_buf_text self.old) }
+    pub fn try_lazy_push<'t>(&mut self, segment: &'t str) -> Tried<InvalidSegment<&'t str>>
+        ensures edit { EditsOwner (step.lazy_pushed alone segment.now) self.old self.new result }
+        ensures text { Tests (IsSegment C.tests) segment.entry (λ error. error.0) result }
     {
-        match Segment::new(segment) {
-            Ok(segment) => self.lazy_push(segment).or(Err(TryError::Memory)),
-            Err(error) => Err(TryError::Invalid(error)),
-        }
+        self.as_path_mut().try_lazy_push(segment)
     }
 
     /// Follows a text as a segment, as `push` does.
-    pub fn try_push<'t>(
-        &mut self,
-        segment: &'t str,
-    ) -> Result<(), TryError<InvalidSegment<&'t str>>>
-        ensures invalid { TellsInvalid (InUtf8 (IsSegment C.tests) segment.entry.now)
-            (λ error. error.0 ≡ segment.entry) result }
-        ensures ok { OnOk result (SpellsPath self.new (step.pushed
-            alone segment.entry.now (path_buf_value self.old))) }
-        ensures err { OnErr result (path_buf_text self.new ≡ path_buf_text self.old) }
+    pub fn try_push<'t>(&mut self, segment: &'t str) -> Tried<InvalidSegment<&'t str>>
+        ensures edit { EditsOwner (step.pushed alone segment.now) self.old self.new result }
+        ensures text { Tests (IsSegment C.tests) segment.entry (λ error. error.0) result }
     {
-        match Segment::new(segment) {
-            Ok(segment) => self.push(segment).or(Err(TryError::Memory)),
-            Err(error) => Err(TryError::Invalid(error)),
-        }
+        self.as_path_mut().try_push(segment)
     }
 
     /// Puts each text at the end as a segment, as it is. The iterator is asked up to its first
@@ -53,15 +32,11 @@ impl<C: CharSet> PathBuf<C> {
     pub fn try_lazy_append<'t, I: Iterator<Item = &'t str> + Drop>(
         &mut self,
         segments: I,
-    ) -> Result<(), TryError<InvalidSegment<&'t str>>>
+    ) -> Tried<InvalidSegment<&'t str>>
         requires can { I.can_next segments }
         requires ends { IsFinite (I.remaining segments) }
-        ensures { TriesItems I.next_gives segments
-            (λ item. InUtf8 (IsSegment C.tests) item.now) (λ item error. error.0 ≡ item)
-            (λ items. SpellsPath self.new (step.lazy_appended alone
-            (map (λ item. item.now) items) (path_buf_value self.old)))
-            (λ items. SpellsPath self.new (step.lazy_appended alone
-            (map (λ item. item.now) items) (path_buf_value self.old))) result }
+        ensures { TriesAppends C.tests I.next_gives segments (OwnerBecomes self.old self.new)
+            step.lazy_appended step.lazy_appended result }
     {
         self.as_path_mut().try_lazy_append(segments)
     }
@@ -73,44 +48,30 @@ impl<C: CharSet> PathBuf<C> {
     pub fn try_append<'t, I: Iterator<Item = &'t str> + Drop>(
         &mut self,
         segments: I,
-    ) -> Result<(), TryError<InvalidSegment<&'t str>>>
+    ) -> Tried<InvalidSegment<&'t str>>
         requires can { I.can_next segments }
         requires ends { IsFinite (I.remaining segments) }
-        ensures { TriesItems I.next_gives segments
-            (λ item. InUtf8 (IsSegment C.tests) item.now) (λ item error. error.0 ≡ item)
-            (λ items. SpellsPath self.new (step.appended alone
-            (map (λ item. item.now) items) (path_buf_value self.old)))
-            (λ items. SpellsPath self.new (fold (step.followed alone)
-            (path_buf_value self.old) (map (λ item. item.now) items))) result }
+        ensures { TriesAppends C.tests I.next_gives segments (OwnerBecomes self.old self.new)
+            step.appended followed_each result }
     {
         self.as_path_mut().try_append(segments)
     }
 
     /// Puts the path of a text in its place, after what guards it there.
-    pub fn try_replace<'t>(&mut self, path: &'t str) -> Result<(), TryError<InvalidPath<&'t str>>>
-        ensures invalid { TellsInvalid (InUtf8 (IsPath C.tests) path.entry.now)
-            (λ error. error.0 ≡ path.entry) result }
-        ensures ok { OnOk result (SpellsPath self.new (step.replaced
-            alone (read_path path.entry.now) (path_buf_value self.old))) }
-        ensures err { OnErr result (path_buf_text self.new ≡ path_buf_text self.old) }
+    pub fn try_replace<'t>(&mut self, path: &'t str) -> Tried<InvalidPath<&'t str>>
+        ensures edit { EditsOwner (step.replaced alone (read_path path.now))
+            self.old self.new result }
+        ensures text { Tests (IsPath C.tests) path.entry (λ error. error.0) result }
     {
-        match Path::new(path) {
-            Ok(path) => self.replace(path).or(Err(TryError::Memory)),
-            Err(error) => Err(TryError::Invalid(error)),
-        }
+        self.as_path_mut().try_replace(path)
     }
 
     /// Joins the path of a text, as `join` does.
-    pub fn try_join<'t>(&mut self, path: &'t str) -> Result<(), TryError<InvalidPath<&'t str>>>
-        ensures invalid { TellsInvalid (InUtf8 (IsPath C.tests) path.entry.now)
-            (λ error. error.0 ≡ path.entry) result }
-        ensures ok { OnOk result (SpellsPath self.new (step.joined
-            alone (read_path path.entry.now) (path_buf_value self.old))) }
-        ensures err { OnErr result (path_buf_text self.new ≡ path_buf_text self.old) }
+    pub fn try_join<'t>(&mut self, path: &'t str) -> Tried<InvalidPath<&'t str>>
+        ensures edit { EditsOwner (step.joined alone (read_path path.now))
+            self.old self.new result }
+        ensures text { Tests (IsPath C.tests) path.entry (λ error. error.0) result }
     {
-        match Path::new(path) {
-            Ok(path) => self.join(path).or(Err(TryError::Memory)),
-            Err(error) => Err(TryError::Invalid(error)),
-        }
+        self.as_path_mut().try_join(path)
     }
 }

@@ -1,10 +1,9 @@
 //! Edits of a path in place by many segments (RFC 3986 section 5.2.4).
-ghost use Rattle.std.specs.{Prelude.{◌≡◌, OnOk, OnErr, fold, map}, Iterator.{IsFinite}};
-ghost use Rattle.iref_component.specs.Components.{view_text};
+ghost use Rattle.std.specs.Iterator.{IsFinite};
+ghost use Rattle.iref_component.specs.{view_text};
 ghost use Rattle.iref_model.specs.PathSteps as step;
-ghost use Rattle.iref_path.specs.{Appends.{TakesAll, TakesFirst}, Paths.{path_value}};
-ghost use Rattle.iref_path.specs.PathEdits.{path_mut_context, path_mut_value, IsSameEditor};
-ghost use Rattle.iref_path.specs.PathEdits.{BecomesPath, IsUnchanged};
+ghost use Rattle.iref_path.specs.{Appends.{Appends, followed_each}, Paths.{path_value}};
+ghost use Rattle.iref_path.specs.PathEdits.{Becomes, Edits, IsSameEditor};
 
 use crate::path::Path;
 use crate::path_mut::PathMut;
@@ -19,10 +18,8 @@ use iref_path_text::steps;
 impl<C: CharSet, T: Target<PathPart, C>> PathMut<'_, C, T> {
     // Follows a segment, without closing the path.
     pub(super) fn follow(&mut self, segment: Segment<'_, C>) -> Result<(), Memory>
-        ensures same { IsSameEditor self.old self.new }
-        ensures ok { OnOk result (BecomesPath self.old self.new (step.followed
-            (path_mut_context self.old) (path_mut_value self.old) (view_text segment.entry))) }
-        ensures err { OnErr result (IsUnchanged self.old self.new) }
+        ensures { Edits (λ context path. step.followed context path (view_text segment.entry))
+            self.old self.new result }
     {
         let step = steps::followed::<C>(self.context, self.text(), segment.as_str());
         self.apply(step)
@@ -30,10 +27,7 @@ impl<C: CharSet, T: Target<PathPart, C>> PathMut<'_, C, T> {
 
     // Closes the path.
     pub(super) fn close(&mut self) -> Result<(), Memory>
-        ensures same { IsSameEditor self.old self.new }
-        ensures ok { OnOk result (BecomesPath self.old self.new (step.closed_path
-            (path_mut_context self.old) (path_mut_value self.old))) }
-        ensures err { OnErr result (IsUnchanged self.old self.new) }
+        ensures { Edits step.closed_path self.old self.new result }
     {
         let step = steps::closed::<C>(self.context, self.text());
         self.apply(step)
@@ -48,12 +42,8 @@ impl<C: CharSet, T: Target<PathPart, C>> PathMut<'_, C, T> {
         requires can { I.can_next segments }
         requires ends { IsFinite (I.remaining segments) }
         ensures same { IsSameEditor self.old self.new }
-        ensures ok { OnOk result (TakesAll I.next_gives segments (λ items.
-            BecomesPath self.old self.new (step.lazy_appended (path_mut_context self.old)
-            (map view_text items) (path_mut_value self.old)))) }
-        ensures err { OnErr result (TakesFirst I.next_gives segments (λ items.
-            BecomesPath self.old self.new (step.lazy_appended (path_mut_context self.old)
-            (map view_text items) (path_mut_value self.old)))) }
+        ensures edit { Appends I.next_gives segments (Becomes self.old self.new)
+            step.lazy_appended step.lazy_appended result }
     {
         let _path = self.text();
         for segment in segments {
@@ -72,12 +62,8 @@ impl<C: CharSet, T: Target<PathPart, C>> PathMut<'_, C, T> {
         requires can { I.can_next segments }
         requires ends { IsFinite (I.remaining segments) }
         ensures same { IsSameEditor self.old self.new }
-        ensures ok { OnOk result (TakesAll I.next_gives segments (λ items.
-            BecomesPath self.old self.new (step.appended (path_mut_context self.old)
-            (map view_text items) (path_mut_value self.old)))) }
-        ensures err { OnErr result (TakesFirst I.next_gives segments (λ items.
-            BecomesPath self.old self.new (fold (step.followed (path_mut_context self.old))
-            (path_mut_value self.old) (map view_text items)))) }
+        ensures edit { Appends I.next_gives segments (Becomes self.old self.new)
+            step.appended followed_each result }
     {
         let _path = self.text();
         let mut ends_in_dots = false;
@@ -94,10 +80,8 @@ impl<C: CharSet, T: Target<PathPart, C>> PathMut<'_, C, T> {
     /// Puts an absolute path in its place, and appends the segments of a relative one to it: `../b`
     /// after `/x/a` gives `/x/b`. This is one edit, so an `Err` changes nothing.
     pub fn join(&mut self, path: Path<'_, C>) -> Result<(), Memory>
-        ensures same { IsSameEditor self.old self.new }
-        ensures ok { OnOk result (BecomesPath self.old self.new (step.joined
-            (path_mut_context self.old) (path_value path.entry) (path_mut_value self.old))) }
-        ensures err { OnErr result (IsUnchanged self.old self.new) }
+        ensures { Edits (λ context. step.joined context (path_value path.entry))
+            self.old self.new result }
     {
         if path.is_absolute() {
             return self.replace(path);

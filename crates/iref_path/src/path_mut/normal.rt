@@ -1,10 +1,10 @@
 //! The normal form of a path in its place (RFC 3986 section 5.2.4).
-ghost use Rattle.std.specs.Prelude.{◌≡◌, ◌≤◌, true, [], length, OnOk, OnErr, IsOk};
-ghost use Rattle.iref_grammar.specs.PathValue.{spell_path};
+ghost use Rattle.std.specs.Prelude.{◌≡◌, ◌≤◌, true, [], length, OnOk, IsOk};
+ghost use Rattle.iref_component.specs.{spell_path};
 ghost use Rattle.iref_model.specs.DotSegments.{RemovesDotSegments};
 ghost use Rattle.iref_model.specs.PathSteps as step;
 ghost use Rattle.iref_path.specs.PathEdits.{path_mut_context, path_mut_text, path_mut_value};
-ghost use Rattle.iref_path.specs.PathEdits.{IsSameEditor, BecomesPath, IsUnchanged};
+ghost use Rattle.iref_path.specs.PathEdits.{Edits};
 
 use crate::path_mut::PathMut;
 use iref_error::Memory;
@@ -18,13 +18,10 @@ impl<C: CharSet, T: PathTarget<C>> PathMut<'_, C, T> {
     /// section 5.2.4). Under an authority that is what `remove_dot_segments` leaves. Memory is
     /// taken only where that path is longer, as `./a:b` for `a:b` and `../` for `..`.
     pub fn normalize(&mut self) -> Result<(), Memory>
-        ensures same { IsSameEditor self.old self.new }
-        ensures ok { OnOk result (BecomesPath self.old self.new (step.normalized
-            (path_mut_context self.old) (path_mut_value self.old))) }
+        ensures edit { Edits step.normalized self.old self.new result }
         ensures dots { (path_mut_context self.old).has_authority ≡ true
             → (path_mut_value self.old).absolute ≡ true → OnOk result
             (RemovesDotSegments (path_mut_text self.old) [] (path_mut_text self.new)) }
-        ensures err { OnErr result (IsUnchanged self.old self.new) }
         ensures shorter { length (spell_path (step.normalized
             (path_mut_context self.old) (path_mut_value self.old)))
             ≤ length (path_mut_text self.old) → IsOk result }
@@ -40,10 +37,7 @@ impl<C: CharSet, T: PathTarget<C>> PathMut<'_, C, T> {
 
     // Puts the normal form in its place, once it is made beside the path.
     fn put_normal(&mut self) -> Result<(), Memory>
-        ensures same { IsSameEditor self.old self.new }
-        ensures ok { OnOk result (BecomesPath self.old self.new (step.normalized
-            (path_mut_context self.old) (path_mut_value self.old))) }
-        ensures err { OnErr result (IsUnchanged self.old self.new) }
+        ensures { Edits step.normalized self.old self.new result }
     {
         let absolute = self.as_path().is_absolute();
         let text = normalized_text::<C, _>(self.alloc(), self.context, absolute, self.text())?;

@@ -1,16 +1,15 @@
 //! Edits of a path in place by a text that is tested first.
-ghost use Rattle.std.specs.{Prelude.{◌≡◌, OnOk, OnErr, fold, map}, Iterator.{IsFinite}};
-ghost use Rattle.iref_grammar.specs.{Grammar.{IsPath, IsSegment}, PathValue.{read_path}};
-ghost use Rattle.iref_grammar.specs.Rules.{InUtf8};
+ghost use Rattle.std.specs.Iterator.{IsFinite};
+ghost use Rattle.iref_component.specs.{read_path, IsPath, IsSegment, Tests};
 ghost use Rattle.iref_model.specs.PathSteps as step;
-ghost use Rattle.iref_path.specs.Appends.{TriesItems};
-ghost use Rattle.iref_path.specs.PathEdits.{path_mut_context, path_mut_value, IsSameEditor};
-ghost use Rattle.iref_path.specs.PathEdits.{BecomesPath, IsUnchanged};
-ghost use Rattle.iref_error.specs.Tried.{TellsInvalid};
+ghost use Rattle.iref_path.specs.Appends.{TriesAppends, followed_each};
+ghost use Rattle.iref_path.specs.PathEdits.{Becomes, Edits, IsSameEditor};
 
 use crate::path::Path;
 use crate::path_mut::PathMut;
-use iref_component::texts::Segment;
+use crate::rule::PathRule;
+use iref_component::rules::SegmentRule;
+use iref_component::tried::{Tried, read};
 use iref_edit::target::Target;
 use iref_error::{InvalidPath, InvalidSegment, TryError};
 use iref_grammar::chars::CharSet;
@@ -19,39 +18,23 @@ use iref_path_text::part::PathPart;
 
 impl<C: CharSet, T: Target<PathPart, C>> PathMut<'_, C, T> {
     /// Puts a text at the end as a segment, as it is.
-    pub fn try_lazy_push<'t>(
-        &mut self,
-        segment: &'t str,
-    ) -> Result<(), TryError<InvalidSegment<&'t str>>>
-        ensures same { IsSameEditor self.old self.new }
-        ensures invalid { TellsInvalid (InUtf8 (IsSegment C.tests) segment.entry.now)
-            (λ error. error.0 ≡ segment.entry) result }
-        ensures ok { OnOk result (BecomesPath self.old self.new (step.lazy_pushed
-            (path_mut_context self.old) segment.entry.now (path_mut_value self.old))) }
-        ensures err { OnErr result (IsUnchanged self.old self.new) }
+    pub fn try_lazy_push<'t>(&mut self, segment: &'t str) -> Tried<InvalidSegment<&'t str>>
+        ensures edit { Edits (λ context. step.lazy_pushed context segment.now)
+            self.old self.new result }
+        ensures text { Tests (IsSegment C.tests) segment.entry (λ error. error.0) result }
     {
-        match Segment::new(segment) {
-            Ok(segment) => self.lazy_push(segment).or(Err(TryError::Memory)),
-            Err(error) => Err(TryError::Invalid(error)),
-        }
+        let segment = read::<SegmentRule, C>(segment)?;
+        self.lazy_push(segment).or(Err(TryError::Memory))
     }
 
     /// Follows a text as a segment, as `push` does.
-    pub fn try_push<'t>(
-        &mut self,
-        segment: &'t str,
-    ) -> Result<(), TryError<InvalidSegment<&'t str>>>
-        ensures same { IsSameEditor self.old self.new }
-        ensures invalid { TellsInvalid (InUtf8 (IsSegment C.tests) segment.entry.now)
-            (λ error. error.0 ≡ segment.entry) result }
-        ensures ok { OnOk result (BecomesPath self.old self.new (step.pushed
-            (path_mut_context self.old) segment.entry.now (path_mut_value self.old))) }
-        ensures err { OnErr result (IsUnchanged self.old self.new) }
+    pub fn try_push<'t>(&mut self, segment: &'t str) -> Tried<InvalidSegment<&'t str>>
+        ensures edit { Edits (λ context. step.pushed context segment.now)
+            self.old self.new result }
+        ensures text { Tests (IsSegment C.tests) segment.entry (λ error. error.0) result }
     {
-        match Segment::new(segment) {
-            Ok(segment) => self.push(segment).or(Err(TryError::Memory)),
-            Err(error) => Err(TryError::Invalid(error)),
-        }
+        let segment = read::<SegmentRule, C>(segment)?;
+        self.push(segment).or(Err(TryError::Memory))
     }
 
     /// Puts each text at the end as a segment, as it is. The iterator is asked up to its first
@@ -59,18 +42,12 @@ impl<C: CharSet, T: Target<PathPart, C>> PathMut<'_, C, T> {
     pub fn try_lazy_append<'t, I: Iterator<Item = &'t str> + Drop>(
         &mut self,
         segments: I,
-    ) -> Result<(), TryError<InvalidSegment<&'t str>>>
+    ) -> Tried<InvalidSegment<&'t str>>
         requires can { I.can_next segments }
         requires ends { IsFinite (I.remaining segments) }
         ensures same { IsSameEditor self.old self.new }
-        ensures tried { TriesItems I.next_gives segments
-            (λ item. InUtf8 (IsSegment C.tests) item.now) (λ item error. error.0 ≡ item)
-            (λ items. BecomesPath self.old self.new (step.lazy_appended
-            (path_mut_context self.old) (map (λ item. item.now) items)
-            (path_mut_value self.old)))
-            (λ items. BecomesPath self.old self.new (step.lazy_appended
-            (path_mut_context self.old) (map (λ item. item.now) items)
-            (path_mut_value self.old))) result }
+        ensures edit { TriesAppends C.tests I.next_gives segments (Becomes self.old self.new)
+            step.lazy_appended step.lazy_appended result }
     {
         let _path = self.text();
         for segment in segments {
@@ -80,18 +57,13 @@ impl<C: CharSet, T: Target<PathPart, C>> PathMut<'_, C, T> {
     }
 
     // Follows a text as a segment, without closing the path.
-    fn try_follow<'t>(&mut self, segment: &'t str) -> Result<(), TryError<InvalidSegment<&'t str>>>
-        ensures same { IsSameEditor self.old self.new }
-        ensures invalid { TellsInvalid (InUtf8 (IsSegment C.tests) segment.entry.now)
-            (λ error. error.0 ≡ segment.entry) result }
-        ensures ok { OnOk result (BecomesPath self.old self.new (step.followed
-            (path_mut_context self.old) (path_mut_value self.old) segment.entry.now)) }
-        ensures err { OnErr result (IsUnchanged self.old self.new) }
+    fn try_follow<'t>(&mut self, segment: &'t str) -> Tried<InvalidSegment<&'t str>>
+        ensures edit { Edits (λ context path. step.followed context path segment.now)
+            self.old self.new result }
+        ensures text { Tests (IsSegment C.tests) segment.entry (λ error. error.0) result }
     {
-        match Segment::new(segment) {
-            Ok(segment) => self.follow(segment).or(Err(TryError::Memory)),
-            Err(error) => Err(TryError::Invalid(error)),
-        }
+        let segment = read::<SegmentRule, C>(segment)?;
+        self.follow(segment).or(Err(TryError::Memory))
     }
 
     /// Follows each text as a segment, and closes the path after a last `.` or `..`, as `append`
@@ -101,17 +73,12 @@ impl<C: CharSet, T: Target<PathPart, C>> PathMut<'_, C, T> {
     pub fn try_append<'t, I: Iterator<Item = &'t str> + Drop>(
         &mut self,
         segments: I,
-    ) -> Result<(), TryError<InvalidSegment<&'t str>>>
+    ) -> Tried<InvalidSegment<&'t str>>
         requires can { I.can_next segments }
         requires ends { IsFinite (I.remaining segments) }
         ensures same { IsSameEditor self.old self.new }
-        ensures tried { TriesItems I.next_gives segments
-            (λ item. InUtf8 (IsSegment C.tests) item.now) (λ item error. error.0 ≡ item)
-            (λ items. BecomesPath self.old self.new (step.appended (path_mut_context self.old)
-            (map (λ item. item.now) items) (path_mut_value self.old)))
-            (λ items. BecomesPath self.old self.new (fold (step.followed
-            (path_mut_context self.old)) (path_mut_value self.old)
-            (map (λ item. item.now) items))) result }
+        ensures edit { TriesAppends C.tests I.next_gives segments (Becomes self.old self.new)
+            step.appended followed_each result }
     {
         let _path = self.text();
         let mut ends_in_dots = false;
@@ -127,32 +94,22 @@ impl<C: CharSet, T: Target<PathPart, C>> PathMut<'_, C, T> {
     }
 
     /// Puts the path of a text in its place, after what guards it there.
-    pub fn try_replace<'t>(&mut self, path: &'t str) -> Result<(), TryError<InvalidPath<&'t str>>>
-        ensures same { IsSameEditor self.old self.new }
-        ensures invalid { TellsInvalid (InUtf8 (IsPath C.tests) path.entry.now)
-            (λ error. error.0 ≡ path.entry) result }
-        ensures ok { OnOk result (BecomesPath self.old self.new (step.replaced
-            (path_mut_context self.old) (read_path path.entry.now) (path_mut_value self.old))) }
-        ensures err { OnErr result (IsUnchanged self.old self.new) }
+    pub fn try_replace<'t>(&mut self, path: &'t str) -> Tried<InvalidPath<&'t str>>
+        ensures edit { Edits (λ context. step.replaced context (read_path path.now))
+            self.old self.new result }
+        ensures text { Tests (IsPath C.tests) path.entry (λ error. error.0) result }
     {
-        match Path::new(path) {
-            Ok(path) => self.replace(path).or(Err(TryError::Memory)),
-            Err(error) => Err(TryError::Invalid(error)),
-        }
+        let text = read::<PathRule, C>(path)?;
+        self.replace(Path { text }).or(Err(TryError::Memory))
     }
 
     /// Joins the path of a text, as `join` does.
-    pub fn try_join<'t>(&mut self, path: &'t str) -> Result<(), TryError<InvalidPath<&'t str>>>
-        ensures same { IsSameEditor self.old self.new }
-        ensures invalid { TellsInvalid (InUtf8 (IsPath C.tests) path.entry.now)
-            (λ error. error.0 ≡ path.entry) result }
-        ensures ok { OnOk result (BecomesPath self.old self.new (step.joined
-            (path_mut_context self.old) (read_path path.entry.now) (path_mut_value self.old))) }
-        ensures err { OnErr result (IsUnchanged self.old self.new) }
+    pub fn try_join<'t>(&mut self, path: &'t str) -> Tried<InvalidPath<&'t str>>
+        ensures edit { Edits (λ context. step.joined context (read_path path.now))
+            self.old self.new result }
+        ensures text { Tests (IsPath C.tests) path.entry (λ error. error.0) result }
     {
-        match Path::new(path) {
-            Ok(path) => self.join(path).or(Err(TryError::Memory)),
-            Err(error) => Err(TryError::Invalid(error)),
-        }
+        let text = read::<PathRule, C>(path)?;
+        self.join(Path { text }).or(Err(TryError::Memory))
     }
 }

@@ -1,6 +1,6 @@
 use Rattle.std.proofs.Common.{rules, refl, true, length}
 use Rattle.std.proofs.lemmas.Bool.{and_from, and_parts}
-use Rattle.std.proofs.lemmas.Result.{on_ok_weaker}
+use Rattle.std.proofs.lemmas.Result.{MatchResult-weaker}
 use Rattle.iref_component.specs.Components.{view_text}
 use Rattle.iref_grammar.specs.Contexts.{alone}
 use Rattle.iref_grammar.specs.PathValue.{read_path}
@@ -16,9 +16,9 @@ returns-clause-value g c =
     let of = c.of_target-path.ensures.editor in
     let editor : IsEditorOf c.of_target-path.result c.args.bytes.now.items alone 0 (length c.args.bytes.now.items) =
     record { bytes_are = of.bytes_are; context_is = search (rules, of.context_is); from = of.from; to = search (rules, of.to) } in
-    on_ok_weaker c.push.result (λ becomes.
+    MatchResult-weaker c.push.result c.push.ensures.outcome (λ _ becomes.
     let w = whole_edit (λ context. pushed context (view_text c.args.segment)) editor becomes in
-    search (rules, w.1)) c.push.ensures.ok
+    search (rules, w.1)) (λ _ _. tt)
 
 pub returns-clause-in_rule : goal.returns-clause-in_rule
 returns-clause-in_rule g c =
@@ -28,8 +28,8 @@ returns-clause-in_rule g c =
     let editor : IsEditorOf c.of_target-path.result old alone 0 (length old) =
     record { bytes_are = of.bytes_are; context_is = search (rules, of.context_is); from = of.from; to = search (rules, of.to) } in
     let step = pushed-step set alone (read_path old) (view_text c.args.segment) c.args.segment.in_rule in
-    on_ok_weaker c.push.result (λ becomes.
+    MatchResult-weaker c.push.result c.push.ensures.outcome (λ _ becomes.
     let w = whole_edit (λ context. pushed context (view_text c.args.segment)) editor becomes in
     let to = steps_to set g.met.C.CharSet.above_ascii alone old _ _ step (and_from (is_path set old) true c.requires refl) w.0 in
     let path = (and_parts _ true to.path).0 in
-    search (rules, path)) c.push.ensures.ok
+    search (rules, path)) (λ _ _. tt)

@@ -1,9 +1,7 @@
 use Rattle.std.proofs.Common.{rules}
 use Rattle.iref_model.specs.PathSteps.{popped}
-use Rattle.iref_path.proofs.EditLemmas.{whole_edit}
+use Rattle.iref_path.proofs.OwnerLemmas.{owner_edited}
 use Rattle.iref_path.proofs.path_buf.PathBuf.pop.Goals as goal
 
-pub returns-clause-ok : goal.returns-clause-ok
-returns-clause-ok g c =
-    let w = whole_edit popped c.as_path_mut.ensures.editor c.in_ok-pop.ensures.ok in
-    record { text = search (rules, w.0); read = search (rules, w.1) }
+pub returns : goal.returns
+returns g c = owner_edited c.args.self.now _ c.pop.new.self c.as_path_mut.ensures.editor (search rules) popped c.pop.result c.pop.ensures

@@ -1,13 +1,8 @@
-use Rattle.std.proofs.Common.{◌≡◌, rules, map, fold}
-use Rattle.iref_grammar.specs.Grammar.{IsSegment}
-use Rattle.iref_grammar.specs.Rules.{InUtf8}
-use Rattle.iref_model.specs.PathSteps.{appended, followed}
-use Rattle.iref_path.proofs.EditLemmas.{whole_edit}
-use Rattle.iref_path.proofs.TryLemmas.{tries_weaker}
+use Rattle.std.proofs.Common.{rules}
+use Rattle.iref_model.specs.PathSteps.{appended}
+use Rattle.iref_path.specs.Appends.{followed_each}
+use Rattle.iref_path.proofs.OwnerLemmas.{owner_tried}
 use Rattle.iref_path.proofs.path_buf.PathBuf.try_append.Goals as goal
 
 pub returns : goal.returns
-returns g c = tries_weaker g.I.Iterator.next_gives c.args.segments (λ item. InUtf8 (IsSegment g.C.CharSet.tests) item.now) (λ item error. error.0 ≡ item) c.try_append.result
-    (λ items becomes. let w = whole_edit (λ context. appended context (map (λ item. item.now) items)) c.as_path_mut.ensures.editor becomes in record { text = search (rules, w.0); read = search (rules, w.1) })
-    (λ items becomes. let w = whole_edit (λ context path. fold (followed context) path (map (λ item. item.now) items)) c.as_path_mut.ensures.editor becomes in record { text = search (rules, w.0); read = search (rules, w.1) })
-    c.try_append.ensures.tried
+returns g c = owner_tried c.args.self.now _ c.try_append.new.self c.as_path_mut.ensures.editor (search rules) g.C.CharSet.tests g.I.Iterator.next_gives c.args.segments appended followed_each c.try_append.result c.try_append.ensures.edit

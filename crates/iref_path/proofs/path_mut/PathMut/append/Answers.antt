@@ -19,7 +19,7 @@ pub loop-segment-preserved : goal.loop-segment-preserved
 loop-segment-preserved g c =
     let p = c.args.self.now in
     let goes = c.in-Some.ensures.goes.on c.loop-segment.invariant.ends in
-    let follow = next_edit (λ context path. followed context path (view_text c.in-Some.segment)) c.text-path.ensures.start_le_end c.text-path.ensures.in_bounds c.loop-segment.invariant.path c.in_ok-follow.ensures.ok in record {
+    let follow = next_edit (λ context path. followed context path (view_text c.in-Some.segment)) c.text-path.ensures.start_le_end c.text-path.ensures.in_bounds c.loop-segment.invariant.path c.in_ok-follow.ensures.outcome in record {
       can = goes.0;
       ends = goes.1;
       same = search rules;
@@ -27,16 +27,16 @@ loop-segment-preserved g c =
       dots = ap not (c.is_name-ends_in_dots.ensures ∙ ap is_name c.as_str.ensures.text) ∙ sym (dots_next view_text c.loop-segment.yielded c.in-Some.segment);
     }
 
-pub returns-in_ok-close-clause-ok : goal.returns-in_ok-close-clause-ok
-returns-in_ok-close-clause-ok g c =
+pub returns-in_ok-close-clause-edit : goal.returns-in_ok-close-clause-edit
+returns-in_ok-close-clause-edit g c =
     let p = c.args.self.now in
     let items = c.loop-segment.yielded in
-    let close = next_edit closed_path c.text-path.ensures.start_le_end c.text-path.ensures.in_bounds c.loop-segment.invariant.path c.in_ok-close.ensures.ok in
+    let close = next_edit closed_path c.text-path.ensures.start_le_end c.text-path.ensures.in_bounds c.loop-segment.invariant.path c.in_ok-close.ensures.outcome in
     let dots = sym c.loop-segment.invariant.dots ∙ c.if-ends_in_dots.true in
     (items, search rules, subst (BecomesPath p c.close.new.self) (sym (appended_closed (path_mut_context p) (map view_text items) (path_mut_value p) dots)) close)
 
-pub returns-else-ends_in_dots-clause-ok : goal.returns-else-ends_in_dots-clause-ok
-returns-else-ends_in_dots-clause-ok g c =
+pub returns-else-ends_in_dots-clause-edit : goal.returns-else-ends_in_dots-clause-edit
+returns-else-ends_in_dots-clause-edit g c =
     let p = c.args.self.now in
     let items = c.loop-segment.yielded in
     let dots = sym c.loop-segment.invariant.dots ∙ c.if-ends_in_dots.false in

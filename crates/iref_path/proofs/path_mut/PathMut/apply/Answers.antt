@@ -6,17 +6,20 @@ use Rattle.iref_path.proofs.EditLemmas.{step_spliced}
 use Rattle.iref_path.specs.PathEdits.{edited_bytes, path_mut_text}
 use Rattle.iref_path.proofs.path_mut.PathMut.apply.Goals as goal
 
-pub returns-clause-ok : goal.returns-clause-ok
-returns-clause-ok g c = λ value steps.
+pub returns-clause-edit : goal.returns-clause-edit
+returns-clause-edit g c = λ value steps.
     let old = edited_bytes c.args.self.now in
     let start = c.args.self.now.place.start in
     let e = c.in_ok-self.ensures in
     let put = step_spliced (path_mut_text c.args.self.now) c.args.step _ (ap length c.text.ensures.value) ∙ steps.spelled in
     let bytes = e.text ∙ ap (splice old start c.args.self.now.place.end) put in
     let to = e.end ∙ ap (λ t. start + length t) put in record {
-      bytes = bytes;
-      context = refl;
-      from = refl;
-      to = to;
-      read = ap read_path ((part_stands old _ _ start c.args.self.now.place.end _ c.text.ensures.start_le_end c.text.ensures.in_bounds bytes to).holds ∙ sym steps.spelled) ∙ steps.read;
+      same = refl;
+      outcome = record {
+        bytes = bytes;
+        context = refl;
+        from = refl;
+        to = to;
+        read = ap read_path ((part_stands old _ _ start c.args.self.now.place.end _ c.text.ensures.start_le_end c.text.ensures.in_bounds bytes to).holds ∙ sym steps.spelled) ∙ steps.read;
+      };
     }

@@ -1,5 +1,4 @@
 use Rattle.std.proofs.Common.{rules, map, sym, ap, ◌∙◌, subst}
-use Rattle.std.proofs.lemmas.Result.{on_ok_weaker}
 use Rattle.iref_component.specs.Components.{view_text}
 use Rattle.iref_grammar.specs.Contexts.{is_readable_path}
 use Rattle.iref_grammar.specs.PathValue.{read_path}
@@ -7,22 +6,22 @@ use Rattle.iref_grammar.proofs.PathTestLemmas.{is_path-segments}
 use Rattle.iref_model.specs.PathSteps.{appended}
 use Rattle.iref_model.proofs.ReadableStepLemmas.{appended-readable}
 use Rattle.iref_path.specs.Paths.{path_text, path_value, segments_left}
-use Rattle.iref_path.specs.PathEdits.{path_mut_context, path_mut_value, BecomesPath}
+use Rattle.iref_path.specs.PathEdits.{EditsTo, path_mut_context, path_mut_value}
 use Rattle.iref_path.proofs.ManyLemmas.{copy_edit, items_drained, joined_absolute, joined_relative}
 use Rattle.iref_path.proofs.path_mut.PathMut.join.Goals as goal
 
-pub returns-then-is_absolute-clause-ok : goal.returns-then-is_absolute-clause-ok
-returns-then-is_absolute-clause-ok g c =
+pub returns-then-is_absolute : goal.returns-then-is_absolute
+returns-then-is_absolute g c =
     let p = c.args.self.now in
     let absolute = sym c.is_absolute.ensures ∙ c.if-is_absolute.true in
-    on_ok_weaker c.replace.result (subst (BecomesPath p c.replace.new.self) (sym (joined_absolute (path_mut_context p) (path_value c.args.path) (path_mut_value p) absolute))) c.replace.ensures.ok
+    subst (λ value. EditsTo value p c.replace.new.self c.replace.result) (sym (joined_absolute (path_mut_context p) (path_value c.args.path) (path_mut_value p) absolute)) c.replace.ensures
 
 pub put-requires-clause-reads : goal.put-requires-clause-reads
 put-requires-clause-reads g c = λ old_reads.
     let p = c.args.self.now in
     let set = g.C.CharSet.tests in
     let above = g.met.C.CharSet.above_ascii in
-    let taken = c.in_ok-append.ensures.ok in
+    let taken = c.in_ok-append.ensures.edit in
     let bytes = ap (λ v. v.items) c.into_bytes-bytes.ensures.value ∙ c.in_ok-from_str.ensures.ok ∙ c.text.ensures.value in
     let items = items_drained view_text segments_left _ taken.0 taken.1 ∙ c.segments.ensures.left in
     let value = copy_edit (λ context. appended context (map view_text taken.0)) c.of_target-copy.ensures.editor (search rules) taken.2 in
@@ -30,13 +29,13 @@ put-requires-clause-reads g c = λ old_reads.
     let segments = sym (is_path-segments set above (path_text c.args.path)) ∙ c.args.path.text.in_rule in
     ap (is_readable_path set (path_mut_context p)) read ∙ appended-readable set (path_mut_context p) (path_value c.args.path).segments (path_mut_value p) segments old_reads
 
-pub returns-clause-ok : goal.returns-clause-ok
-returns-clause-ok g c =
+pub returns : goal.returns
+returns g c =
     let p = c.args.self.now in
-    let taken = c.in_ok-append.ensures.ok in
+    let taken = c.in_ok-append.ensures.edit in
     let bytes = ap (λ v. v.items) c.into_bytes-bytes.ensures.value ∙ c.in_ok-from_str.ensures.ok ∙ c.text.ensures.value in
     let items = items_drained view_text segments_left _ taken.0 taken.1 ∙ c.segments.ensures.left in
     let value = copy_edit (λ context. appended context (map view_text taken.0)) c.of_target-copy.ensures.editor (search rules) taken.2 in
     let read = ap read_path c.text-2.ensures.value ∙ value ∙ (λ i. appended (path_mut_context p) (items i) (read_path (bytes i))) in
     let relative = sym c.is_absolute.ensures ∙ c.if-is_absolute.false in
-    c.put.ensures.ok _ (read ∙ sym (joined_relative (path_mut_context p) (path_value c.args.path) (path_mut_value p) relative))
+    subst (λ value. EditsTo value p c.put.new.self c.put.result) (read ∙ sym (joined_relative (path_mut_context p) (path_value c.args.path) (path_mut_value p) relative)) c.put.ensures

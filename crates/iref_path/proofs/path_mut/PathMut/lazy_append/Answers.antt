@@ -18,7 +18,7 @@ pub loop-segment-preserved : goal.loop-segment-preserved
 loop-segment-preserved g c =
     let p = c.args.self.now in
     let goes = c.in-Some.ensures.goes.on c.loop-segment.invariant.ends in
-    let push = next_edit (λ context. lazy_pushed context (view_text c.in-Some.segment)) c.text-path.ensures.start_le_end c.text-path.ensures.in_bounds c.loop-segment.invariant.path c.in_ok-lazy_push.ensures.ok in record {
+    let push = next_edit (λ context. lazy_pushed context (view_text c.in-Some.segment)) c.text-path.ensures.start_le_end c.text-path.ensures.in_bounds c.loop-segment.invariant.path c.in_ok-lazy_push.ensures.outcome in record {
       can = goes.0;
       ends = goes.1;
       same = search rules;

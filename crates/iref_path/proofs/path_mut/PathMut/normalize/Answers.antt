@@ -1,6 +1,6 @@
-use Rattle.std.proofs.Common.{◌≡◌, ◌+◌, length, refl, ap, ◌∙◌}
+use Rattle.std.proofs.Common.{◌+◌, length, refl, ap, ◌∙◌}
 use Rattle.std.specs.List.{splice}
-use Rattle.std.proofs.lemmas.Result.{on_ok_weaker}
+use Rattle.std.proofs.lemmas.Result.{MatchResult-weaker}
 use Rattle.iref_edit.proofs.PartLemmas.{part_stands}
 use Rattle.iref_grammar.specs.PathValue.{read_path}
 use Rattle.iref_path.specs.PathEdits.{edited_bytes, path_mut_context, path_mut_text}
@@ -10,7 +10,7 @@ use Rattle.iref_path.proofs.path_mut.PathMut.normalize.Goals as goal
 
 pub returns-then-len-path-clause-dots : goal.returns-then-len-path-clause-dots
 returns-then-len-path-clause-dots g c = λ authority is_absolute.
-    on_ok_weaker c.put_normal.result (λ e. normal_dots (path_mut_context c.args.self.now) (path_mut_text c.args.self.now) _ authority is_absolute e.read) c.put_normal.ensures.ok
+    MatchResult-weaker c.put_normal.result c.put_normal.ensures.outcome (λ _ e. normal_dots (path_mut_context c.args.self.now) (path_mut_text c.args.self.now) _ authority is_absolute e.read) (λ _ _. tt)
 
 pub rewrite-self-requires-clause-test : goal.rewrite-self-requires-clause-test
 rewrite-self-requires-clause-test g c =
@@ -22,8 +22,8 @@ rewrite-self-requires-clause-reads g c = λ _.
     (normal_fits g.C.CharSet.tests g.met.C.CharSet.above_ascii (path_mut_context c.args.self.now) c.text-path.result.now (path_mut_text c.args.self.now) c.normal_lead-len.result.0.now
     c.text-path.ensures.value c.normal_lead-len.ensures.text c.text-path.ensures.test).1
 
-pub returns-clause-ok : goal.returns-clause-ok
-returns-clause-ok g c =
+pub returns-clause-edit : goal.returns-clause-edit
+returns-clause-edit g c =
     let old = edited_bytes c.args.self.now in
     let path = path_mut_text c.args.self.now in
     let context = path_mut_context c.args.self.now in
@@ -34,11 +34,14 @@ returns-clause-ok g c =
     c.text-path.ensures.value c.normal_lead-len.ensures.text c.text-path.ensures.test).0 in
     let bytes = e.text ∙ ap (splice old start end) spelled in
     let to = e.end ∙ ap (λ t. start + length t) spelled in record {
-      bytes = bytes;
-      context = refl;
-      from = refl;
-      to = to;
-      read = ap read_path (part_stands old _ _ start end _ c.text-path.ensures.start_le_end c.text-path.ensures.in_bounds bytes to).holds ∙ normalized-read context (read_path path).absolute path;
+      same = refl;
+      outcome = record {
+        bytes = bytes;
+        context = refl;
+        from = refl;
+        to = to;
+        read = ap read_path (part_stands old _ _ start end _ c.text-path.ensures.start_le_end c.text-path.ensures.in_bounds bytes to).holds ∙ normalized-read context (read_path path).absolute path;
+      };
     }
 
 pub returns-clause-dots : goal.returns-clause-dots

@@ -1,11 +1,11 @@
-use Rattle.std.proofs.Common.{ap, ◌∙◌}
+use Rattle.std.proofs.Common.{ap, subst, ◌∙◌}
 use Rattle.iref_grammar.specs.PathValue.{read_path}
-use Rattle.iref_path.specs.PathEdits.{path_mut_context, path_mut_text}
+use Rattle.iref_path.specs.PathEdits.{EditsTo, path_mut_context, path_mut_text}
 use Rattle.iref_path.proofs.EditLemmas.{normal_value}
 use Rattle.iref_path.proofs.path_mut.PathMut.put_normal.Goals as goal
 
-pub returns-clause-ok : goal.returns-clause-ok
-returns-clause-ok g c =
+pub returns : goal.returns
+returns g c =
     let absolute = c.is_absolute-absolute.ensures ∙ ap (λ text. (read_path text).absolute) c.as_path.ensures in
     let normal = normal_value (path_mut_context c.args.self.now) _ _ (path_mut_text c.args.self.now) absolute c.text.ensures.value in
-    c.put.ensures.ok _ (ap read_path c.as_str.ensures.value ∙ c.in_ok-text.ensures.value ∙ normal)
+    subst (λ value. EditsTo value c.args.self.now c.put.new.self c.put.result) (ap read_path c.as_str.ensures.value ∙ c.in_ok-text.ensures.value ∙ normal) c.put.ensures

@@ -1,6 +1,6 @@
 use Rattle.std.proofs.Common.{◌≡◌, rules, Err, refl, sym, ap, subst, map, not, ◌∙◌}
 use Rattle.std.proofs.lemmas.List.Elements.{All-nil, All-push}
-use Rattle.std.proofs.lemmas.Result.{on_ok_weaker, on_err_weaker}
+use Rattle.std.proofs.lemmas.Result.{MatchResult-weaker}
 use Rattle.iref_grammar.specs.Grammar.{IsSegment}
 use Rattle.iref_grammar.specs.Rules.{InUtf8}
 use Rattle.iref_model.specs.PathSteps.{followed, closed_path}
@@ -23,33 +23,34 @@ pub loop-segment-preserved : goal.loop-segment-preserved
 loop-segment-preserved g c =
     let p = c.args.self.now in
     let goes = c.in-Some.ensures.goes.on c.loop-segment.invariant.ends in
-    let follow = next_edit (λ context path. followed context path c.in-Some.segment.now) c.text-path.ensures.start_le_end c.text-path.ensures.in_bounds c.loop-segment.invariant.path c.in_ok-try_follow.ensures.ok in record {
+    let follow = next_edit (λ context path. followed context path c.in-Some.segment.now) c.text-path.ensures.start_le_end c.text-path.ensures.in_bounds c.loop-segment.invariant.path c.in_ok-try_follow.ensures.edit.outcome in record {
       can = goes.0;
       ends = goes.1;
       same = search rules;
-      segments = All-push (λ item. InUtf8 (IsSegment g.C.CharSet.tests) item.now) c.loop-segment.yielded c.in-Some.segment c.loop-segment.invariant.segments c.in_ok-try_follow.ensures.invalid;
+      segments = All-push (λ item. InUtf8 (IsSegment g.C.CharSet.tests) item.now) c.loop-segment.yielded c.in-Some.segment c.loop-segment.invariant.segments c.in_ok-try_follow.ensures.text;
       path = subst (BecomesPath p c.try_follow.new.self) (sym (followed_next (λ item. item.now) (path_mut_context p) (path_mut_value p) c.loop-segment.yielded c.in-Some.segment)) follow;
       dots = ap not c.is_name-ends_in_dots.ensures ∙ sym (dots_next (λ item. item.now) c.loop-segment.yielded c.in-Some.segment);
     }
 
-pub returns-in_err-try_follow-clause-tried : goal.returns-in_err-try_follow-clause-tried
-returns-in_err-try_follow-clause-tried g c =
+pub returns-in_err-try_follow-clause-edit : goal.returns-in_err-try_follow-clause-edit
+returns-in_err-try_follow-clause-edit g c =
     let e = c.in_err-try_follow in
     let same : c.from_residual.result ≡ Err e.field-0.0 = search rules in
-    rw same (stops_after g.I.Iterator.next_gives c.args.segments c.loop-segment.segment-iterator c.next.new.self c.loop-segment.yielded c.in-Some.segment (λ item. InUtf8 (IsSegment g.C.CharSet.tests) item.now) _ _ e.field-0.0 (search rules) c.in-Some.ensures.steps c.loop-segment.invariant.segments e.ensures.invalid (refused_then c.loop-segment.invariant.path e.ensures.err))
+    rw same (stops_after g.I.Iterator.next_gives c.args.segments c.loop-segment.segment-iterator c.next.new.self c.loop-segment.yielded c.in-Some.segment (λ item. InUtf8 (IsSegment g.C.CharSet.tests) item.now) _ _ e.field-0.0 (search rules) c.in-Some.ensures.steps c.loop-segment.invariant.segments e.ensures.text (refused_then c.loop-segment.invariant.path e.ensures.edit.outcome))
 
-pub returns-then-ends_in_dots-clause-tried : goal.returns-then-ends_in_dots-clause-tried
-returns-then-ends_in_dots-clause-tried g c =
+pub returns-then-ends_in_dots-clause-edit : goal.returns-then-ends_in_dots-clause-edit
+returns-then-ends_in_dots-clause-edit g c =
     let p = c.args.self.now in
     let items = c.loop-segment.yielded in
     let dots = sym c.loop-segment.invariant.dots ∙ c.if-ends_in_dots.true in
     let path = c.loop-segment.invariant.path in
-    let closed = on_ok_weaker c.close.result (λ step. subst (BecomesPath p c.close.new.self) (sym (appended_closed (path_mut_context p) (map (λ item. item.now) items) (path_mut_value p) dots)) (next_edit closed_path c.text-path.ensures.start_le_end c.text-path.ensures.in_bounds path step)) c.close.ensures.ok in
-    let kept = on_err_weaker c.close.result (λ same. refused_then path same) c.close.ensures.err in
-    rw c.or.ensures (tries_then g.I.Iterator.next_gives c.args.segments items (λ item. InUtf8 (IsSegment g.C.CharSet.tests) item.now) _ _ _ c.close.result (search rules) c.loop-segment.invariant.segments closed kept)
+    let held = MatchResult-weaker c.close.result c.close.ensures.outcome
+    (λ _ step. subst (BecomesPath p c.close.new.self) (sym (appended_closed (path_mut_context p) (map (λ item. item.now) items) (path_mut_value p) dots)) (next_edit closed_path c.text-path.ensures.start_le_end c.text-path.ensures.in_bounds path step))
+    (λ _ same. refused_then path same) in
+    rw c.or.ensures (tries_then g.I.Iterator.next_gives c.args.segments items (λ item. InUtf8 (IsSegment g.C.CharSet.tests) item.now) _ _ _ c.close.result (search rules) c.loop-segment.invariant.segments held)
 
-pub returns-else-ends_in_dots-clause-tried : goal.returns-else-ends_in_dots-clause-tried
-returns-else-ends_in_dots-clause-tried g c =
+pub returns-else-ends_in_dots-clause-edit : goal.returns-else-ends_in_dots-clause-edit
+returns-else-ends_in_dots-clause-edit g c =
     let p = c.args.self.now in
     let items = c.loop-segment.yielded in
     let dots = sym c.loop-segment.invariant.dots ∙ c.if-ends_in_dots.false in

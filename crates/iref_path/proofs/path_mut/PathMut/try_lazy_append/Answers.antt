@@ -22,19 +22,19 @@ pub loop-segment-preserved : goal.loop-segment-preserved
 loop-segment-preserved g c =
     let p = c.args.self.now in
     let goes = c.in-Some.ensures.goes.on c.loop-segment.invariant.ends in
-    let push = next_edit (λ context. lazy_pushed context c.in-Some.segment.now) c.text-path.ensures.start_le_end c.text-path.ensures.in_bounds c.loop-segment.invariant.path c.in_ok-try_lazy_push.ensures.ok in record {
+    let push = next_edit (λ context. lazy_pushed context c.in-Some.segment.now) c.text-path.ensures.start_le_end c.text-path.ensures.in_bounds c.loop-segment.invariant.path c.in_ok-try_lazy_push.ensures.edit.outcome in record {
       can = goes.0;
       ends = goes.1;
       same = search rules;
-      segments = All-push (λ item. InUtf8 (IsSegment g.C.CharSet.tests) item.now) c.loop-segment.yielded c.in-Some.segment c.loop-segment.invariant.segments c.in_ok-try_lazy_push.ensures.invalid;
+      segments = All-push (λ item. InUtf8 (IsSegment g.C.CharSet.tests) item.now) c.loop-segment.yielded c.in-Some.segment c.loop-segment.invariant.segments c.in_ok-try_lazy_push.ensures.text;
       path = subst (BecomesPath p c.try_lazy_push.new.self) (sym (lazy_appended_next (λ item. item.now) (path_mut_context p) (path_mut_value p) c.loop-segment.yielded c.in-Some.segment)) push;
     }
 
-pub returns-in_err-try_lazy_push-clause-tried : goal.returns-in_err-try_lazy_push-clause-tried
-returns-in_err-try_lazy_push-clause-tried g c =
+pub returns-in_err-try_lazy_push-clause-edit : goal.returns-in_err-try_lazy_push-clause-edit
+returns-in_err-try_lazy_push-clause-edit g c =
     let e = c.in_err-try_lazy_push in
     let same : c.from_residual.result ≡ Err e.field-0.0 = search rules in
-    rw same (stops_after g.I.Iterator.next_gives c.args.segments c.loop-segment.segment-iterator c.next.new.self c.loop-segment.yielded c.in-Some.segment (λ item. InUtf8 (IsSegment g.C.CharSet.tests) item.now) _ _ e.field-0.0 (search rules) c.in-Some.ensures.steps c.loop-segment.invariant.segments e.ensures.invalid (refused_then c.loop-segment.invariant.path e.ensures.err))
+    rw same (stops_after g.I.Iterator.next_gives c.args.segments c.loop-segment.segment-iterator c.next.new.self c.loop-segment.yielded c.in-Some.segment (λ item. InUtf8 (IsSegment g.C.CharSet.tests) item.now) _ _ e.field-0.0 (search rules) c.in-Some.ensures.steps c.loop-segment.invariant.segments e.ensures.text (refused_then c.loop-segment.invariant.path e.ensures.edit.outcome))
 
-pub returns-clause-tried : goal.returns-clause-tried
-returns-clause-tried g c = (c.loop-segment.yielded, search rules, (c.loop-segment.invariant.segments, c.loop-segment.invariant.path))
+pub returns-clause-edit : goal.returns-clause-edit
+returns-clause-edit g c = (c.loop-segment.yielded, search rules, (c.loop-segment.invariant.segments, c.loop-segment.invariant.path))
