@@ -10,7 +10,7 @@ ghost use Rattle.iref_model.proofs.KeyOrderLemmas.{authority_keys_tell};
 
 use crate::parts::parts_of;
 use iref_component::key::Key;
-use iref_component::rule::{AllowsEmpty, Keyed, Refuses, Rule};
+use iref_component::rule::{AllowsEmpty, Refuses, Rule};
 use iref_error::InvalidAuthority;
 use iref_grammar::chars::CharSet;
 use iref_parse::authority;
@@ -21,6 +21,8 @@ use std::hash::{Hash, Hasher};
 pub struct AuthorityRule;
 
 impl Rule for AuthorityRule {
+    type Key = PartsKey;
+
     ghost rule = { IsAuthority };
 
     ghost decided = { Decides-is_authority };
@@ -30,6 +32,8 @@ impl Rule for AuthorityRule {
     fn accepts<C: CharSet>(text: &str) -> bool {
         authority::is_authority::<C>(text)
     }
+
+    ghost keyed = { λ _ _ in_rule. in_rule };
 }
 
 impl<T> Refuses<T> for AuthorityRule {
@@ -44,12 +48,6 @@ impl<T> Refuses<T> for AuthorityRule {
 
 impl AllowsEmpty for AuthorityRule {
     ghost allows_empty = { is_authority_empty };
-}
-
-impl Keyed for AuthorityRule {
-    type Key = PartsKey;
-
-    ghost keyed = { λ _ _ in_rule. in_rule };
 }
 
 /// The parts: user info and host as decoded bytes, the port as text.

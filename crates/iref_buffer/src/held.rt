@@ -22,7 +22,7 @@ mod resolution;
 
 use crate::base::base_slice;
 use crate::lengths::Lengths;
-use iref_component::rule::Keyed;
+use iref_component::rule::Rule;
 use iref_grammar::chars::CharSet;
 use iref_grammar::places::Offsets;
 use iref_parse::places::places_of;
@@ -34,7 +34,7 @@ use std::ops::Range;
 
 /// A rule of references: of all of them, or of those with a scheme, which `s:a` is in and `a` is
 /// not (RFC 3986 sections 3 and 4.1).
-pub trait HeldRule: Keyed {
+pub trait HeldRule: Rule {
     /// The schemes that the rule allows.
     ghost allows_scheme: { Option Text → Bool };
 

@@ -3,13 +3,13 @@ ghost use Rattle.iref_grammar.specs.Keys.{ComparesBy};
 ghost use Rattle.iref_component.specs.Components.{view_text, owned_text};
 
 use crate::owned::TextBuf;
-use crate::rule::Keyed;
+use crate::rule::Rule;
 use crate::view::View;
 use iref_grammar::chars::CharSet;
 use std::hash::Hash;
 
 /// The texts of a rule compare by its key: in `==`, in order and in what a hasher is fed.
-pub fn texts_compare_by_key<R: Keyed, C: CharSet>()
+pub fn texts_compare_by_key<R: Rule, C: CharSet>()
     ensures view { ComparesBy (λ v. R.Key.key (view_text v)) R.Key.order R.Key.fed
         ⟦<View<'static, R, C> as PartialEq>⟧.eq
         ⟦<View<'static, R, C> as Ord>⟧.cmp

@@ -9,7 +9,7 @@ ghost use Rattle.iref_component.specs.{Makers.{Parses}, Components.{view_text, o
 
 mod edits;
 
-use crate::rule::{AllowsEmpty, Keyed, Refuses, Rule};
+use crate::rule::{AllowsEmpty, Refuses, Rule};
 pub use crate::text::TextBuf;
 use crate::text::View;
 use iref_grammar::chars::CharSet;
@@ -150,7 +150,7 @@ impl<R: Refuses<Vec<u8>>, C: CharSet> TryFrom<Vec<u8>> for TextBuf<R, C> {
     }
 }
 
-impl<R: Keyed, C: CharSet> Ord for TextBuf<R, C> {
+impl<R: Rule, C: CharSet> Ord for TextBuf<R, C> {
     ghost cmp = { on (λ v. R.Key.key (owned_text v)) R.Key.order };
 
     ghost total = { on_total (λ v. R.Key.key (owned_text v)) R.Key.total };
@@ -164,7 +164,7 @@ impl<R: Keyed, C: CharSet> Ord for TextBuf<R, C> {
     }
 }
 
-impl<R: Keyed, C: CharSet> PartialOrd for TextBuf<R, C> {
+impl<R: Rule, C: CharSet> PartialOrd for TextBuf<R, C> {
     ghost partial_cmp = { as_partial_cmp (on (λ v. R.Key.key (owned_text v)) R.Key.order) };
 
     ghost laws = { po (on_total (λ v. R.Key.key (owned_text v)) R.Key.total) (λ _ _. refl) };
@@ -174,7 +174,7 @@ impl<R: Keyed, C: CharSet> PartialOrd for TextBuf<R, C> {
     }
 }
 
-impl<R: Keyed, C: CharSet> PartialEq for TextBuf<R, C> {
+impl<R: Rule, C: CharSet> PartialEq for TextBuf<R, C> {
     ghost eq = { on (λ v. R.Key.key (owned_text v)) (eq_by_cmp R.Key.order) };
 
     ghost laws = { partial_equiv_from_equiv
@@ -185,11 +185,11 @@ impl<R: Keyed, C: CharSet> PartialEq for TextBuf<R, C> {
     }
 }
 
-impl<R: Keyed, C: CharSet> Eq for TextBuf<R, C> {
+impl<R: Rule, C: CharSet> Eq for TextBuf<R, C> {
     ghost laws = { on_equiv (λ v. R.Key.key (owned_text v)) (eq_by_cmp_equiv R.Key.total) };
 }
 
-impl<R: Keyed, C: CharSet> Hash for TextBuf<R, C> {
+impl<R: Rule, C: CharSet> Hash for TextBuf<R, C> {
     ghost hash_input = { λ v. R.Key.fed (R.Key.key (owned_text v)) };
 
     ghost respects_eq = { λ _ _ same. ap R.Key.fed (R.Key.tells _ _ same) };

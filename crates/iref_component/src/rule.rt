@@ -8,6 +8,9 @@ use iref_grammar::chars::CharSet;
 /// A rule of the grammar, over any set of characters: that of ports has `80` and the empty text
 /// (RFC 3986 appendix A).
 pub trait Rule {
+    /// What the texts of the rule are compared by.
+    type Key: Key;
+
     /// The rule, of texts.
     ghost rule: { CharTests → Text → Type 0 };
 
@@ -21,6 +24,10 @@ pub trait Rule {
     /// Whether the text is in the rule.
     fn accepts<C: CharSet>(text: &str) -> bool
         ensures { result ≡ test C.tests text.now };
+
+    /// The texts of the rule have a key.
+    ghost keyed: { (tests : CharTests) (text : Text) → Self.test tests text ≡ true
+        → Self.Key.has_key tests text };
 }
 
 /// A rule whose refused inputs are handed back in an error of its own.
@@ -34,16 +41,6 @@ pub trait Refuses<T>: Rule {
     /// The error that holds this input.
     fn refuse(input: T) -> Self::Error
         ensures { refused result ≡ input };
-}
-
-/// A rule whose texts are compared by a key.
-pub trait Keyed: Rule {
-    /// The key.
-    type Key: Key;
-
-    /// The texts of the rule have a key.
-    ghost keyed: { (tests : CharTests) (text : Text) → Self.test tests text ≡ true
-        → Self.Key.has_key tests text };
 }
 
 /// A rule that the empty text is in.

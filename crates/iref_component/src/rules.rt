@@ -17,7 +17,7 @@ ghost use Rattle.iref_grammar.proofs.PctLemmas.{host_is_pct_str, query_is_pct_st
 ghost use Rattle.iref_grammar.proofs.PctLemmas.{segment_is_pct_str, user_info_is_pct_str};
 
 use crate::key::{DecodedBytes, Key, LowerCase, SameText};
-use crate::rule::{AllowsEmpty, Escaped, Keyed, Refuses, Rule};
+use crate::rule::{AllowsEmpty, Escaped, Refuses, Rule};
 use iref_error::{
     InvalidFragment, InvalidHost, InvalidPctStr, InvalidPort, InvalidQuery, InvalidScheme,
     InvalidSegment, InvalidUserInfo,
@@ -29,6 +29,8 @@ use iref_parse::{host, scan};
 pub struct SchemeRule;
 
 impl Rule for SchemeRule {
+    type Key = LowerCase;
+
     ghost rule = { λ _. IsScheme };
 
     ghost decided = { λ _ _. Decides-is_scheme_bytes };
@@ -38,6 +40,8 @@ impl Rule for SchemeRule {
     fn accepts<C: CharSet>(text: &str) -> bool {
         scan::is_scheme(text)
     }
+
+    ghost keyed = { λ _ _ _. record {} };
 }
 
 impl<T> Refuses<T> for SchemeRule {
@@ -50,16 +54,12 @@ impl<T> Refuses<T> for SchemeRule {
     }
 }
 
-impl Keyed for SchemeRule {
-    type Key = LowerCase;
-
-    ghost keyed = { λ _ _ _. record {} };
-}
-
 /// The rule of user infos (RFC 3986 section 3.2.1).
 pub struct UserInfoRule;
 
 impl Rule for UserInfoRule {
+    type Key = DecodedBytes;
+
     ghost rule = { IsUserInfo };
 
     ghost decided = { Decides-is_user_info };
@@ -69,6 +69,8 @@ impl Rule for UserInfoRule {
     fn accepts<C: CharSet>(text: &str) -> bool {
         scan::is_user_info::<C>(text)
     }
+
+    ghost keyed = { λ _ _ _. record {} };
 }
 
 impl<T> Refuses<T> for UserInfoRule {
@@ -79,12 +81,6 @@ impl<T> Refuses<T> for UserInfoRule {
     fn refuse(input: T) -> InvalidUserInfo<T> {
         InvalidUserInfo(input)
     }
-}
-
-impl Keyed for UserInfoRule {
-    type Key = DecodedBytes;
-
-    ghost keyed = { λ _ _ _. record {} };
 }
 
 impl AllowsEmpty for UserInfoRule {
@@ -99,6 +95,8 @@ impl Escaped for UserInfoRule {
 pub struct HostRule;
 
 impl Rule for HostRule {
+    type Key = DecodedBytes;
+
     ghost rule = { IsHost };
 
     ghost decided = { Decides-is_host };
@@ -108,6 +106,8 @@ impl Rule for HostRule {
     fn accepts<C: CharSet>(text: &str) -> bool {
         host::is_host::<C>(text)
     }
+
+    ghost keyed = { λ _ _ _. record {} };
 }
 
 impl<T> Refuses<T> for HostRule {
@@ -118,12 +118,6 @@ impl<T> Refuses<T> for HostRule {
     fn refuse(input: T) -> InvalidHost<T> {
         InvalidHost(input)
     }
-}
-
-impl Keyed for HostRule {
-    type Key = DecodedBytes;
-
-    ghost keyed = { λ _ _ _. record {} };
 }
 
 impl AllowsEmpty for HostRule {
@@ -138,6 +132,8 @@ impl Escaped for HostRule {
 pub struct PortRule;
 
 impl Rule for PortRule {
+    type Key = SameText;
+
     ghost rule = { λ _. IsPort };
 
     ghost decided = { λ _ _. Decides-is_port_bytes };
@@ -147,6 +143,8 @@ impl Rule for PortRule {
     fn accepts<C: CharSet>(text: &str) -> bool {
         scan::is_port(text)
     }
+
+    ghost keyed = { λ _ _ _. record {} };
 }
 
 impl<T> Refuses<T> for PortRule {
@@ -159,12 +157,6 @@ impl<T> Refuses<T> for PortRule {
     }
 }
 
-impl Keyed for PortRule {
-    type Key = SameText;
-
-    ghost keyed = { λ _ _ _. record {} };
-}
-
 impl AllowsEmpty for PortRule {
     ghost allows_empty = { λ _. is_port_empty };
 }
@@ -173,6 +165,8 @@ impl AllowsEmpty for PortRule {
 pub struct SegmentRule;
 
 impl Rule for SegmentRule {
+    type Key = DecodedBytes;
+
     ghost rule = { IsSegment };
 
     ghost decided = { Decides-is_segment };
@@ -182,6 +176,8 @@ impl Rule for SegmentRule {
     fn accepts<C: CharSet>(text: &str) -> bool {
         scan::is_segment::<C>(text)
     }
+
+    ghost keyed = { λ _ _ _. record {} };
 }
 
 impl<T> Refuses<T> for SegmentRule {
@@ -192,12 +188,6 @@ impl<T> Refuses<T> for SegmentRule {
     fn refuse(input: T) -> InvalidSegment<T> {
         InvalidSegment(input)
     }
-}
-
-impl Keyed for SegmentRule {
-    type Key = DecodedBytes;
-
-    ghost keyed = { λ _ _ _. record {} };
 }
 
 impl AllowsEmpty for SegmentRule {
@@ -212,6 +202,8 @@ impl Escaped for SegmentRule {
 pub struct QueryRule;
 
 impl Rule for QueryRule {
+    type Key = DecodedBytes;
+
     ghost rule = { IsQuery };
 
     ghost decided = { Decides-is_query };
@@ -221,6 +213,8 @@ impl Rule for QueryRule {
     fn accepts<C: CharSet>(text: &str) -> bool {
         scan::is_query::<C>(text)
     }
+
+    ghost keyed = { λ _ _ _. record {} };
 }
 
 impl<T> Refuses<T> for QueryRule {
@@ -231,12 +225,6 @@ impl<T> Refuses<T> for QueryRule {
     fn refuse(input: T) -> InvalidQuery<T> {
         InvalidQuery(input)
     }
-}
-
-impl Keyed for QueryRule {
-    type Key = DecodedBytes;
-
-    ghost keyed = { λ _ _ _. record {} };
 }
 
 impl AllowsEmpty for QueryRule {
@@ -251,6 +239,8 @@ impl Escaped for QueryRule {
 pub struct FragmentRule;
 
 impl Rule for FragmentRule {
+    type Key = DecodedBytes;
+
     ghost rule = { IsFragment };
 
     ghost decided = { Decides-is_fragment };
@@ -260,6 +250,8 @@ impl Rule for FragmentRule {
     fn accepts<C: CharSet>(text: &str) -> bool {
         scan::is_fragment::<C>(text)
     }
+
+    ghost keyed = { λ _ _ _. record {} };
 }
 
 impl<T> Refuses<T> for FragmentRule {
@@ -270,12 +262,6 @@ impl<T> Refuses<T> for FragmentRule {
     fn refuse(input: T) -> InvalidFragment<T> {
         InvalidFragment(input)
     }
-}
-
-impl Keyed for FragmentRule {
-    type Key = DecodedBytes;
-
-    ghost keyed = { λ _ _ _. record {} };
 }
 
 impl AllowsEmpty for FragmentRule {
@@ -290,6 +276,8 @@ impl Escaped for FragmentRule {
 pub struct PctStrRule;
 
 impl Rule for PctStrRule {
+    type Key = DecodedBytes;
+
     ghost rule = { λ _. IsPctStr };
 
     ghost decided = { λ _ _. Decides-is_pct_str };
@@ -299,6 +287,8 @@ impl Rule for PctStrRule {
     fn accepts<C: CharSet>(text: &str) -> bool {
         scan::is_pct_str(text)
     }
+
+    ghost keyed = { λ _ _ _. record {} };
 }
 
 impl<T> Refuses<T> for PctStrRule {
@@ -309,12 +299,6 @@ impl<T> Refuses<T> for PctStrRule {
     fn refuse(input: T) -> InvalidPctStr<T> {
         InvalidPctStr(input)
     }
-}
-
-impl Keyed for PctStrRule {
-    type Key = DecodedBytes;
-
-    ghost keyed = { λ _ _ _. record {} };
 }
 
 impl AllowsEmpty for PctStrRule {
@@ -329,12 +313,12 @@ impl Escaped for PctStrRule {
 /// schemes by their text in lower case (section 6.2.2.1), and ports by their text: `80` is not
 /// `080`.
 pub fn rules_have_their_keys()
-    ensures scheme { ⟦<<SchemeRule as Keyed>::Key as Key>⟧.key ≡ str_to_ascii_lowercase }
-    ensures user_info { ⟦<<UserInfoRule as Keyed>::Key as Key>⟧.key ≡ percent_decode }
-    ensures host { ⟦<<HostRule as Keyed>::Key as Key>⟧.key ≡ percent_decode }
-    ensures port { ⟦<<PortRule as Keyed>::Key as Key>⟧.key ≡ (λ text. text) }
-    ensures segment { ⟦<<SegmentRule as Keyed>::Key as Key>⟧.key ≡ percent_decode }
-    ensures query { ⟦<<QueryRule as Keyed>::Key as Key>⟧.key ≡ percent_decode }
-    ensures fragment { ⟦<<FragmentRule as Keyed>::Key as Key>⟧.key ≡ percent_decode }
-    ensures pct_str { ⟦<<PctStrRule as Keyed>::Key as Key>⟧.key ≡ percent_decode }
+    ensures scheme { ⟦<<SchemeRule as Rule>::Key as Key>⟧.key ≡ str_to_ascii_lowercase }
+    ensures user_info { ⟦<<UserInfoRule as Rule>::Key as Key>⟧.key ≡ percent_decode }
+    ensures host { ⟦<<HostRule as Rule>::Key as Key>⟧.key ≡ percent_decode }
+    ensures port { ⟦<<PortRule as Rule>::Key as Key>⟧.key ≡ (λ text. text) }
+    ensures segment { ⟦<<SegmentRule as Rule>::Key as Key>⟧.key ≡ percent_decode }
+    ensures query { ⟦<<QueryRule as Rule>::Key as Key>⟧.key ≡ percent_decode }
+    ensures fragment { ⟦<<FragmentRule as Rule>::Key as Key>⟧.key ≡ percent_decode }
+    ensures pct_str { ⟦<<PctStrRule as Rule>::Key as Key>⟧.key ≡ percent_decode }
 {}

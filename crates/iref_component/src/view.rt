@@ -8,7 +8,7 @@ ghost use Rattle.iref_grammar.specs.{InUtf8, none_or, is_empty};
 ghost use Rattle.iref_component.specs.{Makers.{Parses}, Components.{view_text, owned_text}};
 
 use crate::key::Key;
-use crate::rule::{AllowsEmpty, Keyed, Refuses, Rule};
+use crate::rule::{AllowsEmpty, Refuses, Rule};
 use crate::text::TextBuf;
 pub use crate::text::View;
 use iref_error::Memory;
@@ -163,7 +163,7 @@ impl<'a, R: Refuses<&'a [u8]>, C: CharSet> TryFrom<&'a [u8]> for View<'a, R, C> 
     }
 }
 
-impl<R: Keyed, C: CharSet> Ord for View<'_, R, C> {
+impl<R: Rule, C: CharSet> Ord for View<'_, R, C> {
     ghost cmp = { on (λ v. R.Key.key (view_text v)) R.Key.order };
 
     ghost total = { on_total (λ v. R.Key.key (view_text v)) R.Key.total };
@@ -177,7 +177,7 @@ impl<R: Keyed, C: CharSet> Ord for View<'_, R, C> {
     }
 }
 
-impl<R: Keyed, C: CharSet> PartialOrd for View<'_, R, C> {
+impl<R: Rule, C: CharSet> PartialOrd for View<'_, R, C> {
     ghost partial_cmp = { as_partial_cmp (on (λ v. R.Key.key (view_text v)) R.Key.order) };
 
     ghost laws = { po (on_total (λ v. R.Key.key (view_text v)) R.Key.total) (λ _ _. refl) };
@@ -187,7 +187,7 @@ impl<R: Keyed, C: CharSet> PartialOrd for View<'_, R, C> {
     }
 }
 
-impl<R: Keyed, C: CharSet> PartialEq for View<'_, R, C> {
+impl<R: Rule, C: CharSet> PartialEq for View<'_, R, C> {
     ghost eq = { on (λ v. R.Key.key (view_text v)) (eq_by_cmp R.Key.order) };
 
     ghost laws = { partial_equiv_from_equiv
@@ -198,11 +198,11 @@ impl<R: Keyed, C: CharSet> PartialEq for View<'_, R, C> {
     }
 }
 
-impl<R: Keyed, C: CharSet> Eq for View<'_, R, C> {
+impl<R: Rule, C: CharSet> Eq for View<'_, R, C> {
     ghost laws = { on_equiv (λ v. R.Key.key (view_text v)) (eq_by_cmp_equiv R.Key.total) };
 }
 
-impl<R: Keyed, C: CharSet> Hash for View<'_, R, C> {
+impl<R: Rule, C: CharSet> Hash for View<'_, R, C> {
     ghost hash_input = { λ v. R.Key.fed (R.Key.key (view_text v)) };
 
     ghost respects_eq = { λ _ _ same. ap R.Key.fed (R.Key.tells _ _ same) };

@@ -6,7 +6,7 @@ ghost use Rattle.iref_model.proofs.PathGrammarLemmas.{is_path-empty};
 ghost use Rattle.iref_model.proofs.KeyOrderLemmas.{path_keys_tell};
 
 use iref_component::key::Key;
-use iref_component::rule::{AllowsEmpty, Keyed, Refuses, Rule};
+use iref_component::rule::{AllowsEmpty, Refuses, Rule};
 use iref_error::InvalidPath;
 use iref_grammar::chars::CharSet;
 use iref_parse::scan;
@@ -19,6 +19,8 @@ use std::hash::Hasher;
 pub struct PathRule;
 
 impl Rule for PathRule {
+    type Key = PathKey;
+
     ghost rule = { IsPath };
 
     ghost test = { is_path };
@@ -28,6 +30,8 @@ impl Rule for PathRule {
     fn accepts<C: CharSet>(text: &str) -> bool {
         scan::is_path::<C>(text)
     }
+
+    ghost keyed = { λ _ _ _. record {} };
 }
 
 impl<T> Refuses<T> for PathRule {
@@ -42,12 +46,6 @@ impl<T> Refuses<T> for PathRule {
 
 impl AllowsEmpty for PathRule {
     ghost allows_empty = { is_path-empty };
-}
-
-impl Keyed for PathRule {
-    type Key = PathKey;
-
-    ghost keyed = { λ _ _ _. record {} };
 }
 
 /// Whether the path is absolute, and its normal segments as decoded bytes.

@@ -14,7 +14,7 @@ ghost use Rattle.iref_buffer.proofs.BaseLemmas.{base_of-in_rule, base_of-in_full
 use crate::parts::{SchemePart, UriRefParts};
 use iref_buffer::held::HeldRule;
 use iref_component::key::Key;
-use iref_component::rule::{AllowsEmpty, Keyed, Refuses, Rule};
+use iref_component::rule::{AllowsEmpty, Refuses, Rule};
 use iref_component::texts::Scheme;
 use iref_error::{InvalidUri, InvalidUriRef};
 use iref_grammar::chars::CharSet;
@@ -37,6 +37,8 @@ pub trait HasScheme<'a>: HeldRule {
 pub struct ReferenceRule;
 
 impl Rule for ReferenceRule {
+    type Key = ReferenceKey;
+
     ghost rule = { IsUriReference };
 
     ghost test = { is_reference };
@@ -46,6 +48,8 @@ impl Rule for ReferenceRule {
     fn accepts<C: CharSet>(text: &str) -> bool {
         split::is_reference::<C>(text)
     }
+
+    ghost keyed = { λ _ _ in_rule. in_rule };
 }
 
 impl<T> Refuses<T> for ReferenceRule {
@@ -60,12 +64,6 @@ impl<T> Refuses<T> for ReferenceRule {
 
 impl AllowsEmpty for ReferenceRule {
     ghost allows_empty = { is_reference_empty };
-}
-
-impl Keyed for ReferenceRule {
-    type Key = ReferenceKey;
-
-    ghost keyed = { λ _ _ in_rule. in_rule };
 }
 
 impl HeldRule for ReferenceRule {
@@ -94,6 +92,8 @@ impl<'a> HasScheme<'a> for ReferenceRule {
 pub struct FullReferenceRule;
 
 impl Rule for FullReferenceRule {
+    type Key = ReferenceKey;
+
     ghost rule = { IsUri };
 
     ghost test = { is_full_reference };
@@ -103,6 +103,8 @@ impl Rule for FullReferenceRule {
     fn accepts<C: CharSet>(text: &str) -> bool {
         split::is_full_reference::<C>(text)
     }
+
+    ghost keyed = { reference_if_full };
 }
 
 impl<T> Refuses<T> for FullReferenceRule {
@@ -113,12 +115,6 @@ impl<T> Refuses<T> for FullReferenceRule {
     fn refuse(input: T) -> InvalidUri<T> {
         InvalidUri(input)
     }
-}
-
-impl Keyed for FullReferenceRule {
-    type Key = ReferenceKey;
-
-    ghost keyed = { reference_if_full };
 }
 
 impl HeldRule for FullReferenceRule {
