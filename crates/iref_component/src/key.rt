@@ -27,8 +27,8 @@ pub trait Key {
     /// What a hasher is fed of a key.
     ghost fed: { Self.Kept → HashWrites };
 
-    /// The texts that have a key.
-    ghost has_key: { CharTests → Text → Type 0 };
+    /// The texts that have a key: all, where an impl does not say.
+    ghost has_key: { CharTests → Text → Type 0 } = { λ _ _. Unit {0} };
 
     /// The order is total.
     ghost total: { IsTotalOrder order };
@@ -70,8 +70,6 @@ impl Key for DecodedBytes {
 
     ghost fed = { fed_bytes };
 
-    ghost has_key = { λ _ _. Unit {0} };
-
     ghost total = { nat_list_cmp_total };
 
     ghost tells = { texts_tell };
@@ -100,8 +98,6 @@ impl Key for LowerCase {
     ghost order = { text_order };
 
     ghost fed = { fed_bytes };
-
-    ghost has_key = { λ _ _. Unit {0} };
 
     ghost total = { nat_list_cmp_total };
 
@@ -133,8 +129,6 @@ impl Key for SameText {
     ghost order = { text_order };
 
     ghost fed = { fed_bytes };
-
-    ghost has_key = { λ _ _. Unit {0} };
 
     ghost total = { nat_list_cmp_total };
 

@@ -54,8 +54,6 @@ pub struct PathKey;
 impl Key for PathKey {
     ghost Kept = { PathValue };
 
-    ghost has_key = { λ _ _. Unit {0} };
-
     ghost key = { λ text. path_key (read_path text) };
 
     ghost tells = { path_keys_tell };
