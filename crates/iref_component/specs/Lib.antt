@@ -25,7 +25,7 @@ pub use Rattle.iref_model.specs.PathKey.{path_key, path_key_cmp, path_keys_total
 pub use Rattle.iref_model.specs.PortNumbers.{port_text}
 pub use Rattle.iref_model.specs.ReferenceParts.{base_of, host_of, port_of, user_info_of}
 pub use Rattle.iref_component.specs.Components.{owned_text, view_text}
-pub use Rattle.iref_component.specs.Makers.{Parses}
+pub use Rattle.iref_component.specs.Makers.{Parses, ParsesUtf8}
 pub use Rattle.iref_component.specs.Ports.{port_number, signed_port_number}
 pub use Rattle.iref_component.specs.Tries.{Tests, TestsIfSome}
 pub mod Components

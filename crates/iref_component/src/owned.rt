@@ -4,8 +4,8 @@ ghost use Rattle.std.specs.Ordering.{on, as_partial_cmp, eq_by_cmp};
 ghost use Rattle.std.specs.Cmp.{on_total, on_equiv, po, partial_equiv_from_equiv, eq_by_cmp_equiv};
 ghost use Rattle.std.specs.Cmp.Rules.{comparing};
 ghost use Rattle.std.proofs.Common.{rules, ap, refl};
-ghost use Rattle.iref_grammar.specs.{InUtf8, is_empty};
-ghost use Rattle.iref_component.specs.{Makers.{Parses}, Components.{view_text, owned_text}};
+ghost use Rattle.iref_grammar.specs.{is_empty};
+ghost use Rattle.iref_component.specs.{Makers.{ParsesUtf8}, Components.{view_text, owned_text}};
 
 mod edits;
 
@@ -23,8 +23,7 @@ use std::marker::PhantomData;
 impl<R: Refuses<String>, C: CharSet> TextBuf<R, C> {
     /// The owner of a text that is in the rule, with no copy, or the text in the rule's error.
     pub fn new(text: String) -> Result<Self, R::Error>
-        ensures { Parses (InUtf8 (R.rule C.tests)) (string_bytes text) owned_text
-            (λ error. R.refused error ≡ text) result }
+        ensures { ParsesUtf8 (R.rule C.tests) owned_text R.refused (string_bytes text) text result }
     {
         TextBuf::read(text).map_err(|text| R::refuse(text))
     }
@@ -34,8 +33,7 @@ impl<R: Refuses<Vec<u8>>, C: CharSet> TextBuf<R, C> {
     /// The owner of the UTF-8 of a text that is in the rule, with no copy, or the bytes in the
     /// rule's error.
     pub fn from_bytes(bytes: Vec<u8>) -> Result<Self, R::Error>
-        ensures { Parses (InUtf8 (R.rule C.tests)) bytes.items owned_text
-            (λ error. R.refused error ≡ bytes) result }
+        ensures { ParsesUtf8 (R.rule C.tests) owned_text R.refused bytes.items bytes result }
     {
         match String::from_utf8(bytes) {
             Ok(text) => TextBuf::read(text).map_err(|text| R::refuse(text.into_bytes())),
@@ -47,8 +45,7 @@ impl<R: Refuses<Vec<u8>>, C: CharSet> TextBuf<R, C> {
 impl<R: Rule, C: CharSet> TextBuf<R, C> {
     // The owner of a text that is in the rule, or the text.
     fn read(text: String) -> Result<Self, String>
-        ensures { Parses (InUtf8 (R.rule C.tests)) (string_bytes text) owned_text
-            (λ input. input ≡ text) result }
+        ensures { ParsesUtf8 (R.rule C.tests) owned_text (λ t. t) (string_bytes text) text result }
     {
         if R::accepts::<C>(text.as_str()) {
             Ok(TextBuf::new_unchecked(text))
@@ -131,8 +128,8 @@ impl<R: AllowsEmpty, C: CharSet> TextBuf<R, C> {
 impl<R: Refuses<String>, C: CharSet> TryFrom<String> for TextBuf<R, C> {
     type Error = R::Error;
 
-    ghost try_from_gives = { λ text result. Parses (InUtf8 (R.rule C.tests)) (string_bytes text)
-        owned_text (λ error. R.refused error ≡ text) result };
+    ghost try_from_gives = { λ text result. ParsesUtf8 (R.rule C.tests) owned_text
+        R.refused (string_bytes text) text result };
 
     fn try_from(text: String) -> Result<Self, R::Error> {
         TextBuf::new(text)
@@ -142,8 +139,8 @@ impl<R: Refuses<String>, C: CharSet> TryFrom<String> for TextBuf<R, C> {
 impl<R: Refuses<Vec<u8>>, C: CharSet> TryFrom<Vec<u8>> for TextBuf<R, C> {
     type Error = R::Error;
 
-    ghost try_from_gives = { λ bytes result. Parses (InUtf8 (R.rule C.tests)) bytes.items owned_text
-        (λ error. R.refused error ≡ bytes) result };
+    ghost try_from_gives = { λ bytes result. ParsesUtf8 (R.rule C.tests) owned_text
+        R.refused bytes.items bytes result };
 
     fn try_from(bytes: Vec<u8>) -> Result<Self, R::Error> {
         TextBuf::from_bytes(bytes)

@@ -21,10 +21,7 @@ pub fn read<'t, R: Refuses<&'t str>, C: CharSet>(
     ensures ok { IfOk result (λ view. view_text view ≡ text.now) }
     ensures text { Tests (R.rule C.tests) text.entry R.refused result }
 {
-    match View::new(text) {
-        Ok(view) => Ok(view),
-        Err(error) => Err(TryError::Invalid(error)),
-    }
+    View::new(text).map_err(TryError::Invalid)
 }
 
 /// Whether the text, if there is one, is in a rule: `Invalid` hands back one that is not, in the

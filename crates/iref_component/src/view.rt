@@ -4,8 +4,8 @@ ghost use Rattle.std.specs.{Option.{option_copied}, Ordering.{on, as_partial_cmp
 ghost use Rattle.std.specs.Cmp.{on_total, on_equiv, po, partial_equiv_from_equiv, eq_by_cmp_equiv};
 ghost use Rattle.std.specs.Cmp.Rules.{comparing};
 ghost use Rattle.std.proofs.Common.{rules, ap, refl};
-ghost use Rattle.iref_grammar.specs.{InUtf8, none_or, is_empty};
-ghost use Rattle.iref_component.specs.{Makers.{Parses}, Components.{view_text, owned_text}};
+ghost use Rattle.iref_grammar.specs.{none_or, is_empty};
+ghost use Rattle.iref_component.specs.{Makers.{ParsesUtf8}, Components.{view_text, owned_text}};
 
 use crate::key::Key;
 use crate::rule::{AllowsEmpty, Refuses, Rule};
@@ -23,8 +23,7 @@ use std::{fmt, str};
 impl<'a, R: Refuses<&'a str>, C: CharSet> View<'a, R, C> {
     /// The view of a text that is in the rule, or the text in the rule's error.
     pub fn new(text: &'a str) -> Result<Self, R::Error>
-        ensures { Parses (InUtf8 (R.rule C.tests)) text.now view_text
-            (λ error. R.refused error ≡ text.entry) result }
+        ensures { ParsesUtf8 (R.rule C.tests) view_text R.refused text.now text.entry result }
     {
         match View::read(text) {
             Ok(view) => Ok(view),
@@ -36,8 +35,7 @@ impl<'a, R: Refuses<&'a str>, C: CharSet> View<'a, R, C> {
 impl<'a, R: Refuses<&'a [u8]>, C: CharSet> View<'a, R, C> {
     /// The view of the UTF-8 of a text that is in the rule, or the bytes in the rule's error.
     pub fn from_bytes(bytes: &'a [u8]) -> Result<Self, R::Error>
-        ensures { Parses (InUtf8 (R.rule C.tests)) bytes.now view_text
-            (λ error. R.refused error ≡ bytes.entry) result }
+        ensures { ParsesUtf8 (R.rule C.tests) view_text R.refused bytes.now bytes.entry result }
     {
         let Ok(text) = str::from_utf8(bytes) else {
             return Err(R::refuse(bytes));
@@ -52,8 +50,7 @@ impl<'a, R: Refuses<&'a [u8]>, C: CharSet> View<'a, R, C> {
 impl<'a, R: Rule, C: CharSet> View<'a, R, C> {
     // The view of a text that is in the rule, or the text.
     fn read(text: &'a str) -> Result<Self, &'a str>
-        ensures { Parses (InUtf8 (R.rule C.tests)) text.now view_text (λ input. input ≡ text.entry)
-            result }
+        ensures { ParsesUtf8 (R.rule C.tests) view_text (λ t. t) text.now text.entry result }
     {
         if R::accepts::<C>(text) {
             Ok(View::new_unchecked(text))
@@ -144,8 +141,8 @@ impl<R: AllowsEmpty, C: CharSet> Default for View<'_, R, C> {
 impl<'a, R: Refuses<&'a str>, C: CharSet> TryFrom<&'a str> for View<'a, R, C> {
     type Error = R::Error;
 
-    ghost try_from_gives = { λ text result. Parses (InUtf8 (R.rule C.tests)) text.now view_text
-        (λ error. R.refused error ≡ text) result };
+    ghost try_from_gives = { λ text result. ParsesUtf8 (R.rule C.tests) view_text
+        R.refused text.now text result };
 
     fn try_from(text: &'a str) -> Result<Self, R::Error> {
         View::new(text)
@@ -155,8 +152,8 @@ impl<'a, R: Refuses<&'a str>, C: CharSet> TryFrom<&'a str> for View<'a, R, C> {
 impl<'a, R: Refuses<&'a [u8]>, C: CharSet> TryFrom<&'a [u8]> for View<'a, R, C> {
     type Error = R::Error;
 
-    ghost try_from_gives = { λ bytes result. Parses (InUtf8 (R.rule C.tests)) bytes.now view_text
-        (λ error. R.refused error ≡ bytes) result };
+    ghost try_from_gives = { λ bytes result. ParsesUtf8 (R.rule C.tests) view_text
+        R.refused bytes.now bytes result };
 
     fn try_from(bytes: &'a [u8]) -> Result<Self, R::Error> {
         View::from_bytes(bytes)
