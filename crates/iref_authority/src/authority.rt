@@ -1,10 +1,9 @@
 //! Borrowed authorities (RFC 3986 section 3.2).
 ghost use Rattle.std.specs.Prelude.{◌≡◌, true, [], Some, IfOk, option_map};
 ghost use Rattle.std.specs.Option.{option_copied};
-ghost use Rattle.iref_component.specs.{InUtf8, IsAuthority, is_authority, read_authority};
-ghost use Rattle.iref_component.specs.{ComparesBy, authority_key_cmp, fed_authority, Parses};
-ghost use Rattle.iref_component.specs.{view_text};
-ghost use Rattle.iref_authority.specs.Authorities.{authority_text, authority_buf_text};
+ghost use Rattle.iref_component.specs.{is_authority, read_authority, ComparesBy, view_text};
+ghost use Rattle.iref_component.specs.{authority_key_cmp, fed_authority};
+ghost use Rattle.iref_authority.specs.{authority_text, authority_buf_text, ParsesAuthority};
 ghost use Rattle.iref_authority.specs.Authorities.{key_of_authority, key_of_authority_buf};
 ghost use Rattle.iref_authority.specs.AuthorityParts.{parts_value};
 
@@ -23,7 +22,7 @@ use std::hash::Hash;
 
 /// An authority (RFC 3986 section 3.2): that of `//u@h:80/x` is `u@h:80`. `InvalidAuthority` holds
 /// a text that is none, as `h:8a`.
-#[derive_where(Clone, Copy, PartialEq, Eq, PartialOrd, Ord, Hash)]
+#[derive_where(Clone, Copy, Default, PartialEq, Eq, PartialOrd, Ord, Hash)]
 pub struct Authority<'a, C: CharSet> {
     pub(crate) text: View<'a, AuthorityRule, C>,
 }
@@ -31,8 +30,7 @@ pub struct Authority<'a, C: CharSet> {
 impl<'a, C: CharSet> Authority<'a, C> {
     /// The authority of this text, or the text.
     pub fn new(text: &'a str) -> Result<Self, InvalidAuthority<&'a str>>
-        ensures { Parses (InUtf8 (IsAuthority C.tests)) text.now authority_text
-            (λ error. error.0 ≡ text.entry) result }
+        ensures { ParsesAuthority C.tests text.now text.entry result }
     {
         let text = View::new(text)?;
         Ok(Authority { text })
@@ -40,8 +38,7 @@ impl<'a, C: CharSet> Authority<'a, C> {
 
     /// The authority of these bytes of UTF-8, or the bytes.
     pub fn from_bytes(bytes: &'a [u8]) -> Result<Self, InvalidAuthority<&'a [u8]>>
-        ensures { Parses (InUtf8 (IsAuthority C.tests)) bytes.now authority_text
-            (λ error. error.0 ≡ bytes.entry) result }
+        ensures { ParsesAuthority C.tests bytes.now bytes.entry result }
     {
         let text = View::from_bytes(bytes)?;
         Ok(Authority { text })
@@ -117,19 +114,10 @@ impl<'a, C: CharSet> Authority<'a, C> {
     }
 }
 
-impl<C: CharSet> Default for Authority<'_, C> {
-    ghost is_default = { λ authority. authority_text authority ≡ [] };
-
-    fn default() -> Self {
-        Authority::empty()
-    }
-}
-
 impl<'a, C: CharSet> TryFrom<&'a str> for Authority<'a, C> {
     type Error = InvalidAuthority<&'a str>;
 
-    ghost try_from_gives = { λ text result. Parses (InUtf8 (IsAuthority C.tests)) text.now
-        authority_text (λ error. error.0 ≡ text) result };
+    ghost try_from_gives = { λ text. ParsesAuthority C.tests text.now text };
 
     fn try_from(text: &'a str) -> Result<Self, InvalidAuthority<&'a str>> {
         Authority::new(text)
@@ -139,8 +127,7 @@ impl<'a, C: CharSet> TryFrom<&'a str> for Authority<'a, C> {
 impl<'a, C: CharSet> TryFrom<&'a [u8]> for Authority<'a, C> {
     type Error = InvalidAuthority<&'a [u8]>;
 
-    ghost try_from_gives = { λ bytes result. Parses (InUtf8 (IsAuthority C.tests)) bytes.now
-        authority_text (λ error. error.0 ≡ bytes) result };
+    ghost try_from_gives = { λ bytes. ParsesAuthority C.tests bytes.now bytes };
 
     fn try_from(bytes: &'a [u8]) -> Result<Self, InvalidAuthority<&'a [u8]>> {
         Authority::from_bytes(bytes)

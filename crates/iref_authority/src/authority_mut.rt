@@ -3,12 +3,12 @@ ghost use Rattle.std.specs.Prelude.{◌≡◌, ◌≤◌, ◌+◌, ◌-◌, ◌+
 ghost use Rattle.std.specs.Prelude.{Some, OnOk, OnErr, IfOk, IsOk, IsNone, option_map};
 ghost use Rattle.std.specs.{Borrow.{sem, RestsIfErr}, Option.{option_copied}};
 ghost use Rattle.iref_edit.specs.Changes.{IsWithin, replaced};
-ghost use Rattle.iref_grammar.specs.{Rules.{InUtf8}, Grammar.{IsAuthority}};
+ghost use Rattle.iref_grammar.specs.Grammar.{IsAuthority};
 ghost use Rattle.iref_grammar.specs.Tests.{is_user_info, is_port, none_or};
 ghost use Rattle.iref_grammar.specs.Authority.{AuthorityValue, is_authority, read_authority};
 ghost use Rattle.iref_model.specs.AuthoritySteps.{with_user_info, with_host, with_port};
 ghost use Rattle.iref_model.specs.PortNumbers.{port_text};
-ghost use Rattle.iref_component.specs.{Components.{view_text}, Makers.{Parses}};
+ghost use Rattle.iref_component.specs.{Components.{view_text}, Makers.{ParsesUtf8}};
 ghost use Rattle.iref_authority.specs.Authorities.{authority_text};
 ghost use Rattle.iref_authority.specs.AuthorityTexts.{SpellsAuthority};
 
@@ -37,8 +37,7 @@ pub struct AuthorityMut<'a, C: CharSet, T: Target<AuthorityPart, C> = Vec<u8>> {
     target: &'a mut T,
     place: Place,
     chars: PhantomData<C>,
-    ghost placed: { T.stands (T.text target.now) tt place.start place.end }
-        by { T.one_place (T.text target.now) tt place.start place.end },
+    ghost placed: { T.stands (T.text target.now) tt place.start place.end } by { T.one_place (T.text target.now) tt place.start place.end },
 }
 
 impl<'a, C: CharSet> AuthorityMut<'a, C, Vec<u8>> {
@@ -55,9 +54,8 @@ impl<'a, C: CharSet> AuthorityMut<'a, C, Vec<u8>> {
         requires in_bounds { range.end ≤ vec_len bytes.old }
         ensures* unchanged_if_refused { sem 𝓛 (RestsIfErr bytes_row bytes.entry borrowed_name
             result (λ last. last.items ≡ bytes.old.items)) }
-        ensures parses { Parses (InUtf8 (IsAuthority C.tests))
-            (slice_range bytes.old.items range.start range.end) authority_mut_text
-            (λ error. error.0.now ≡ slice_range bytes.old.items range.start range.end) result }
+        ensures parses { let part = slice_range bytes.old.items range.start range.end in
+            ParsesUtf8 (IsAuthority C.tests) authority_mut_text (λ e. e.0.now) part part result }
         ensures same_reference { IfOk result (λ editor. Borrows editor bytes.entry.ghost_name) }
         ensures bytes { IfOk result (λ editor. edited_bytes editor ≡ bytes.old.items) }
         ensures start { IfOk result (λ editor. authority_mut_start editor ≡ range.start) }
@@ -99,13 +97,13 @@ impl<'a, C: CharSet, T: Target<AuthorityPart, C>> AuthorityMut<'a, C, T> {
         ensures start { authority_mut_start result ≡ range.start }
         ensures end { authority_mut_end result ≡ range.end }
     {
+        let Range { start, end } = range;
+        let place = Place { start, end };
+        let chars = PhantomData;
         AuthorityMut {
             target,
-            place: Place {
-                start: range.start,
-                end: range.end,
-            },
-            chars: PhantomData,
+            place,
+            chars,
         }
     }
 

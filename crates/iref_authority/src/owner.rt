@@ -1,8 +1,7 @@
 //! Authorities that own their text (RFC 3986 section 3.2).
 ghost use Rattle.std.specs.{String.{string_bytes}, Prelude.{◌≡◌, true, [], Some, option_map}};
-ghost use Rattle.iref_component.specs.{view_text, is_authority, read_authority, IsAuthority};
-ghost use Rattle.iref_component.specs.{InUtf8, Parses};
-ghost use Rattle.iref_authority.specs.Authorities.{authority_text, authority_buf_text};
+ghost use Rattle.iref_component.specs.{view_text, is_authority, read_authority};
+ghost use Rattle.iref_authority.specs.{authority_text, authority_buf_text, ParsesAuthorityBuf};
 ghost use Rattle.iref_authority.specs.AuthorityParts.{parts_value};
 
 use crate::authority::Authority;
@@ -27,8 +26,7 @@ pub struct AuthorityBuf<C: CharSet> {
 impl<C: CharSet> AuthorityBuf<C> {
     /// The authority of this text, with no copy, or the text.
     pub fn new(text: String) -> Result<Self, InvalidAuthority<String>>
-        ensures { Parses (InUtf8 (IsAuthority C.tests)) (string_bytes text) authority_buf_text
-            (λ error. error.0 ≡ text) result }
+        ensures { ParsesAuthorityBuf C.tests (string_bytes text) text result }
     {
         let text = TextBuf::new(text)?;
         Ok(AuthorityBuf { text })
@@ -36,8 +34,7 @@ impl<C: CharSet> AuthorityBuf<C> {
 
     /// The authority of these bytes of UTF-8, with no copy, or the bytes.
     pub fn from_bytes(bytes: Vec<u8>) -> Result<Self, InvalidAuthority<Vec<u8>>>
-        ensures { Parses (InUtf8 (IsAuthority C.tests)) bytes.items authority_buf_text
-            (λ error. error.0 ≡ bytes) result }
+        ensures { ParsesAuthorityBuf C.tests bytes.items bytes result }
     {
         let text = TextBuf::from_bytes(bytes)?;
         Ok(AuthorityBuf { text })
@@ -123,8 +120,7 @@ impl<C: CharSet> AuthorityBuf<C> {
 impl<C: CharSet> TryFrom<String> for AuthorityBuf<C> {
     type Error = InvalidAuthority<String>;
 
-    ghost try_from_gives = { λ text result. Parses (InUtf8 (IsAuthority C.tests))
-        (string_bytes text) authority_buf_text (λ error. error.0 ≡ text) result };
+    ghost try_from_gives = { λ text. ParsesAuthorityBuf C.tests (string_bytes text) text };
 
     fn try_from(text: String) -> Result<Self, InvalidAuthority<String>> {
         AuthorityBuf::new(text)
@@ -134,8 +130,7 @@ impl<C: CharSet> TryFrom<String> for AuthorityBuf<C> {
 impl<C: CharSet> TryFrom<Vec<u8>> for AuthorityBuf<C> {
     type Error = InvalidAuthority<Vec<u8>>;
 
-    ghost try_from_gives = { λ bytes result. Parses (InUtf8 (IsAuthority C.tests)) bytes.items
-        authority_buf_text (λ error. error.0 ≡ bytes) result };
+    ghost try_from_gives = { λ bytes. ParsesAuthorityBuf C.tests bytes.items bytes };
 
     fn try_from(bytes: Vec<u8>) -> Result<Self, InvalidAuthority<Vec<u8>>> {
         AuthorityBuf::from_bytes(bytes)
