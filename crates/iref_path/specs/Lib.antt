@@ -13,12 +13,12 @@ pub use Rattle.iref_model.specs.PathHash.{fed_path}
 pub use Rattle.iref_model.specs.PathKey.{path_key, path_key_cmp, path_keys_total}
 pub use Rattle.iref_model.specs.PathSuffix.{path_suffix}
 pub use Rattle.iref_component.specs.Components.{view_text}
-pub use Rattle.iref_component.specs.Makers.{Parses}
+pub use Rattle.iref_component.specs.Makers.{ParsesUtf8}
 pub use Rattle.iref_path_text.specs.Pieces.{pieces_if_some}
 pub use Rattle.iref_path_text.specs.Remaining.{IsSound, normal_left}
 pub use Rattle.iref_path_text.specs.Unread.{HasRoomFor, steps_count, steps_taken}
 pub use Rattle.iref_path.specs.NormalPaths.{normal_segments_left}
-pub use Rattle.iref_path.specs.Paths.{path_buf_text, path_buf_value, path_text, path_value, segments_left}
+pub use Rattle.iref_path.specs.Paths.{ParsesPath, ParsesPathBuf, path_buf_text, path_buf_value, path_text, path_value, segments_left}
 pub use Rattle.iref_path.specs.Suffixes.{SpellsSuffix}
 pub mod Paths
 pub mod NormalPaths

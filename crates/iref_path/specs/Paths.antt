@@ -1,8 +1,12 @@
 -- What callers see of the types of paths.
-use Rattle.std.specs.Prelude.{List}
+use Rattle.std.specs.Prelude.{List, Result}
+use Rattle.iref_grammar.specs.Characters.{CharTests}
+use Rattle.iref_grammar.specs.Grammar.{IsPath}
 use Rattle.iref_grammar.specs.Rules.{Text}
 use Rattle.iref_grammar.specs.PathValue.{PathValue, read_path}
+use Rattle.iref_error.specs.declared.invalid.InvalidPath.{InvalidPath}
 use Rattle.iref_component.specs.Components.{view_text, owned_text}
+use Rattle.iref_component.specs.Makers.{ParsesUtf8}
 use Rattle.iref_path_text.specs.Pieces.{pieces_if_some}
 use Rattle.iref_path.specs.declared.path.Path.{Path}
 use Rattle.iref_path.specs.declared.path_buf.PathBuf.{PathBuf}
@@ -22,6 +26,14 @@ path_buf_text p = owned_text p.text
 
 abbrev pub path_buf_value : {C : _} {c : _} → PathBuf C c → PathValue
 path_buf_value p = read_path (path_buf_text p)
+
+-- Ok with the path of the text exactly if it is one, else the error holds the input
+abbrev pub ParsesPath : {C : _} {c : _} {I : Type 0} → CharTests → Text → I → Result (Path C c) (InvalidPath I) → Type 0
+ParsesPath set = ParsesUtf8 (IsPath set) path_text (λ error. error.0)
+
+-- the same of an owner
+abbrev pub ParsesPathBuf : {C : _} {c : _} {I : Type 0} → CharTests → Text → I → Result (PathBuf C c) (InvalidPath I) → Type 0
+ParsesPathBuf set = ParsesUtf8 (IsPath set) path_buf_text (λ error. error.0)
 
 -- the texts of the segments that are left
 abbrev pub segments_left : {C : _} {c : _} → Segments C c → List Text

@@ -5,11 +5,10 @@ ghost use Rattle.std.specs.Prelude.{codes, option_map};
 ghost use Rattle.iref_model.specs.PathFunctions as function;
 ghost use Rattle.iref_model.specs.PathSteps as step;
 ghost use Rattle.iref_model.specs.PathSuffix.{path_suffix};
-ghost use Rattle.iref_component.specs.{IsPath, is_path, InUtf8, alone, path_key, Parses};
+ghost use Rattle.iref_component.specs.{is_path, alone, path_key};
 ghost use Rattle.iref_component.specs.{spell_path, is_empty, view_text, normal_segments};
 ghost use Rattle.iref_path.specs.Paths.{path_text, path_value, path_buf_text, path_buf_value};
-ghost use Rattle.iref_path.specs.{Paths.{segments_left}, NormalPaths.{normal_segments_left}};
-ghost use Rattle.iref_path.specs.Suffixes.{SpellsSuffix};
+ghost use Rattle.iref_path.specs.{segments_left, normal_segments_left, SpellsSuffix, ParsesPath};
 
 use crate::normal::NormalizedSegments;
 use crate::path_buf::PathBuf;
@@ -32,7 +31,7 @@ use std::fmt;
 
 /// A path (RFC 3986 section 3.3): `/a//b` has the segments `a`, the empty one and `b`.
 /// `InvalidPath` holds a text that is none, as `a?b`.
-#[derive_where(Clone, Copy, PartialEq, Eq, PartialOrd, Ord, Hash)]
+#[derive_where(Clone, Copy, Default, PartialEq, Eq, PartialOrd, Ord, Hash)]
 pub struct Path<'a, C: CharSet> {
     pub(crate) text: View<'a, PathRule, C>,
 }
@@ -40,8 +39,7 @@ pub struct Path<'a, C: CharSet> {
 impl<'a, C: CharSet> Path<'a, C> {
     /// The path of a text, or the text.
     pub fn new(text: &'a str) -> Result<Self, InvalidPath<&'a str>>
-        ensures { Parses (InUtf8 (IsPath C.tests)) text.now path_text
-            (λ error. error.0 ≡ text.entry) result }
+        ensures { ParsesPath C.tests text.now text.entry result }
     {
         let text = View::new(text)?;
         Ok(Path { text })
@@ -49,8 +47,7 @@ impl<'a, C: CharSet> Path<'a, C> {
 
     /// The path of the UTF-8 of a text, or the bytes.
     pub fn from_bytes(bytes: &'a [u8]) -> Result<Self, InvalidPath<&'a [u8]>>
-        ensures { Parses (InUtf8 (IsPath C.tests)) bytes.now path_text
-            (λ error. error.0 ≡ bytes.entry) result }
+        ensures { ParsesPath C.tests bytes.now bytes.entry result }
     {
         let text = View::from_bytes(bytes)?;
         Ok(Path { text })
@@ -257,19 +254,10 @@ impl<'a, C: CharSet> Path<'a, C> {
     }
 }
 
-impl<C: CharSet> Default for Path<'_, C> {
-    ghost is_default = { λ path. path_text path ≡ [] };
-
-    fn default() -> Self {
-        Path::empty_relative()
-    }
-}
-
 impl<'a, C: CharSet> TryFrom<&'a str> for Path<'a, C> {
     type Error = InvalidPath<&'a str>;
 
-    ghost try_from_gives = { λ text result. Parses (InUtf8 (IsPath C.tests)) text.now path_text
-        (λ error. error.0 ≡ text) result };
+    ghost try_from_gives = { λ text. ParsesPath C.tests text.now text };
 
     fn try_from(text: &'a str) -> Result<Self, InvalidPath<&'a str>> {
         Path::new(text)
@@ -279,8 +267,7 @@ impl<'a, C: CharSet> TryFrom<&'a str> for Path<'a, C> {
 impl<'a, C: CharSet> TryFrom<&'a [u8]> for Path<'a, C> {
     type Error = InvalidPath<&'a [u8]>;
 
-    ghost try_from_gives = { λ bytes result. Parses (InUtf8 (IsPath C.tests)) bytes.now path_text
-        (λ error. error.0 ≡ bytes) result };
+    ghost try_from_gives = { λ bytes. ParsesPath C.tests bytes.now bytes };
 
     fn try_from(bytes: &'a [u8]) -> Result<Self, InvalidPath<&'a [u8]>> {
         Path::from_bytes(bytes)

@@ -6,12 +6,11 @@ ghost use Rattle.std.specs.Prelude.{option_map};
 ghost use Rattle.iref_model.specs.PathFunctions as function;
 ghost use Rattle.iref_model.specs.PathSteps as step;
 ghost use Rattle.iref_model.specs.PathSuffix.{path_suffix};
-ghost use Rattle.iref_component.specs.{ComparesBy, path_key, path_key_cmp, spell_path, InUtf8};
-ghost use Rattle.iref_component.specs.{Parses, view_text, is_path, alone, normal_segments};
-ghost use Rattle.iref_component.specs.{fed_path, is_empty, IsPath};
-ghost use Rattle.iref_path.specs.NormalPaths.{normal_segments_left};
-ghost use Rattle.iref_path.specs.Paths.{path_text, path_value, path_buf_text, path_buf_value};
-ghost use Rattle.iref_path.specs.{Paths.{segments_left}, Suffixes.{SpellsSuffix}};
+ghost use Rattle.iref_component.specs.{ComparesBy, path_key, path_key_cmp, fed_path, spell_path};
+ghost use Rattle.iref_component.specs.{view_text, is_path, alone, normal_segments, is_empty};
+ghost use Rattle.iref_path.specs.{path_text, path_value, path_buf_text, path_buf_value};
+ghost use Rattle.iref_path.specs.{segments_left, normal_segments_left, SpellsSuffix};
+ghost use Rattle.iref_path.specs.{ParsesPathBuf};
 
 mod edits;
 mod lists;
@@ -40,8 +39,7 @@ pub struct PathBuf<C: CharSet> {
 impl<C: CharSet> PathBuf<C> {
     /// The path of this text, with no copy, or the text.
     pub fn new(text: String) -> Result<Self, InvalidPath<String>>
-        ensures { Parses (InUtf8 (IsPath C.tests)) (string_bytes text) path_buf_text
-            (λ error. error.0 ≡ text) result }
+        ensures { ParsesPathBuf C.tests (string_bytes text) text result }
     {
         let text = TextBuf::new(text)?;
         Ok(PathBuf { text })
@@ -49,8 +47,7 @@ impl<C: CharSet> PathBuf<C> {
 
     /// The path of these bytes of UTF-8, with no copy, or the bytes.
     pub fn from_bytes(bytes: Vec<u8>) -> Result<Self, InvalidPath<Vec<u8>>>
-        ensures { Parses (InUtf8 (IsPath C.tests)) bytes.items path_buf_text
-            (λ error. error.0 ≡ bytes) result }
+        ensures { ParsesPathBuf C.tests bytes.items bytes result }
     {
         let text = TextBuf::from_bytes(bytes)?;
         Ok(PathBuf { text })
@@ -239,8 +236,7 @@ impl<C: CharSet> PathBuf<C> {
 impl<C: CharSet> TryFrom<String> for PathBuf<C> {
     type Error = InvalidPath<String>;
 
-    ghost try_from_gives = { λ text result. Parses (InUtf8 (IsPath C.tests)) (string_bytes text)
-        path_buf_text (λ error. error.0 ≡ text) result };
+    ghost try_from_gives = { λ text. ParsesPathBuf C.tests (string_bytes text) text };
 
     fn try_from(text: String) -> Result<Self, InvalidPath<String>> {
         PathBuf::new(text)
@@ -250,8 +246,7 @@ impl<C: CharSet> TryFrom<String> for PathBuf<C> {
 impl<C: CharSet> TryFrom<Vec<u8>> for PathBuf<C> {
     type Error = InvalidPath<Vec<u8>>;
 
-    ghost try_from_gives = { λ bytes result. Parses (InUtf8 (IsPath C.tests)) bytes.items
-        path_buf_text (λ error. error.0 ≡ bytes) result };
+    ghost try_from_gives = { λ bytes. ParsesPathBuf C.tests bytes.items bytes };
 
     fn try_from(bytes: Vec<u8>) -> Result<Self, InvalidPath<Vec<u8>>> {
         PathBuf::from_bytes(bytes)
