@@ -1,5 +1,5 @@
 -- What a list of edits leaves, and where it stops.
-use Rattle.std.specs.Prelude.{◌≡◌, ℕ, Bool, true, false, List, take, slice_get, Option, None, is_some, Result, MatchResult, Ok, Err, IsSomeAnd, if◌then◌else◌}
+use Rattle.std.specs.Prelude.{◌≡◌, ℕ, Bool, true, false, List, take, slice_get, Option, None, is_some, Result, MatchResult, Ok, Err, OnOk, OnErr, IsSomeAnd, if◌then◌else◌}
 use Rattle.iref_grammar.specs.Rules.{Text}
 use Rattle.iref_grammar.specs.Reference.{ReferenceValue, read_reference}
 use Rattle.iref_model.specs.Edits as model
@@ -29,6 +29,11 @@ Refuses edited edit r Memory = may_take_memory edit ≡ true
 abbrev pub AppliesEdit : Edited → EditStep → Text → Text → Result (Unit {0}) EditError → Type 0
 AppliesEdit edited edit old new (Ok done) = edited edit (read_reference old) ≡ Ok (read_reference new)
 AppliesEdit edited edit old new (Err error) = (new ≡ old) × Refuses edited edit (read_reference old) error
+
+-- the edit is done, or wants memory that it may take, with nothing changed
+abbrev pub DoesEdit : {E : Type 0} → EditStep → Text → Text → Result (Unit {0}) E → Type 0
+DoesEdit edit old new result =
+    OnOk result (edited edit (read_reference old) ≡ Ok (read_reference new)) × OnErr result ((new ≡ old) × (may_take_memory edit ≡ true))
 
 -- what edits do under a rule that allows these schemes: where it needs one, none takes it away
 abbrev pub edited_in : (Option Text → Bool) → Edited

@@ -1,11 +1,10 @@
 //! Edits of the path and of the parts of the authority, by the editors of these.
-ghost use Rattle.std.specs.Prelude.{◌≡◌, true, Ok, OnOk, OnErr, is_some};
+ghost use Rattle.std.specs.Prelude.{◌≡◌, true, is_some};
 ghost use Rattle.iref_authority.specs.AuthorityEdits as authority;
 ghost use Rattle.iref_grammar.specs.Places.{places_of};
 ghost use Rattle.iref_grammar.specs.Reference.{context_of, is_reference, read_reference};
-ghost use Rattle.iref_model.specs.Edits.{edited};
 ghost use Rattle.iref_path.specs.PathEdits.{Borrows, IsEditorOf};
-ghost use Rattle.iref.specs.EditAnswers.{is_authority_edit, is_path_edit, may_take_memory};
+ghost use Rattle.iref.specs.EditAnswers.{DoesEdit, is_authority_edit, is_path_edit};
 ghost use Rattle.iref.specs.EditSteps.{edit_step};
 
 use crate::edits::Edit;
@@ -43,10 +42,7 @@ pub fn edit_path<C: CharSet, T: PathOwner<C>>(
     edit: Edit<'_, C>,
 ) -> Result<(), Memory>
     requires { is_path_edit (edit_step edit) ≡ true }
-    ensures ok { OnOk result (edited (edit_step edit.entry) (read_reference (T.text owner.old))
-        ≡ Ok (read_reference (T.text owner.new))) }
-    ensures err { OnErr result (T.text owner.new ≡ T.text owner.old) }
-    ensures memory { OnErr result (may_take_memory (edit_step edit.entry) ≡ true) }
+    ensures { DoesEdit (edit_step edit.entry) (T.text owner.old) (T.text owner.new) result }
 {
     let mut path = owner.path_editor();
     match edit {
@@ -90,10 +86,7 @@ pub fn edit_authority<C: CharSet, T: AuthorityOwner<C>>(
 ) -> Result<(), Memory>
     requires part { is_authority_edit (edit_step edit) ≡ true }
     requires there { is_some (read_reference (T.text owner.old)).authority ≡ true }
-    ensures ok { OnOk result (edited (edit_step edit.entry) (read_reference (T.text owner.old))
-        ≡ Ok (read_reference (T.text owner.new))) }
-    ensures err { OnErr result (T.text owner.new ≡ T.text owner.old) }
-    ensures memory { OnErr result (may_take_memory (edit_step edit.entry) ≡ true) }
+    ensures { DoesEdit (edit_step edit.entry) (T.text owner.old) (T.text owner.new) result }
 {
     let mut authority = owner.authority_editor();
     match edit {

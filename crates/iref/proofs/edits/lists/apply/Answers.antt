@@ -47,7 +47,7 @@ returns-in_ok-set_fragment-in-SetFragment g c =
 pub returns-in_ok-edit_path-in-LazyPush : goal.returns-in_ok-edit_path-in-LazyPush
 returns-in_ok-edit_path-in-LazyPush g c =
     let path : is_path_edit (edit_step c.args.edit) ≡ true = search rules in
-    kept_in g.R.HeldRule.allows_scheme (edit_step c.args.edit) _ (search rules) c.in_ok-edit_path-in-LazyPush.ensures.ok
+    kept_in g.R.HeldRule.allows_scheme (edit_step c.args.edit) _ (search rules) c.in_ok-edit_path-in-LazyPush.ensures.0
 
 pub returns-then-is_none : goal.returns-then-is_none
 returns-then-is_none g c =
@@ -62,4 +62,4 @@ edit_authority-requires-clause-there g c =
 pub returns-in_ok-edit_authority-in-ReplaceAuthority : goal.returns-in_ok-edit_authority-in-ReplaceAuthority
 returns-in_ok-edit_authority-in-ReplaceAuthority g c =
     let part : is_authority_edit (edit_step c.args.edit) ≡ true = search rules in
-    kept_in g.R.HeldRule.allows_scheme (edit_step c.args.edit) _ (keeps_scheme (edit_step c.args.edit) part) c.in_ok-edit_authority-in-ReplaceAuthority.ensures.ok
+    kept_in g.R.HeldRule.allows_scheme (edit_step c.args.edit) _ (keeps_scheme (edit_step c.args.edit) part) c.in_ok-edit_authority-in-ReplaceAuthority.ensures.0

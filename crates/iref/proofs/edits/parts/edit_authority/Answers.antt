@@ -13,47 +13,57 @@ use Rattle.iref.proofs.AuthorityEditLemmas.{authority_edited_on_ok, authority_in
 use Rattle.iref.proofs.PortTextLemmas.{numbers_are_ports}
 use Rattle.iref.proofs.edits.parts.edit_authority.Goals as goal
 
-pub returns-in-ReplaceAuthority-clause-ok : goal.returns-in-ReplaceAuthority-clause-ok
+pub returns-in-ReplaceAuthority : goal.returns-in-ReplaceAuthority
 unfolding edited
-returns-in-ReplaceAuthority-clause-ok g c =
+returns-in-ReplaceAuthority g c =
     let editor = c.authority_editor-authority.ensures in
     let r = read_reference (g.T.Target.text c.args.owner.now) in
-    let new = read_authority (authority_text c.in-ReplaceAuthority.other) in
-    authority_edited_on_ok c.authority_editor-authority.result c.replace.new.self g.C.CharSet.tests g.met.C.CharSet.above_ascii (edit_step c.args.edit) (λ a. new) (ap (λ edit. edited (edit_step edit) r) c.in-ReplaceAuthority.is) c.requires.there editor.reference
-    (with_whole_authority-readable g.C.CharSet.tests new r (authority_in_rule g.C.CharSet.tests (authority_text c.in-ReplaceAuthority.other) c.in-ReplaceAuthority.other.text.in_rule)) editor.editor (search rules) c.replace.result c.replace.ensures.ok
+    let new = read_authority (authority_text c.in-ReplaceAuthority.other) in (
+      authority_edited_on_ok c.authority_editor-authority.result c.replace.new.self g.C.CharSet.tests g.met.C.CharSet.above_ascii (edit_step c.args.edit) (λ a. new) (ap (λ edit. edited (edit_step edit) r) c.in-ReplaceAuthority.is) c.requires.there editor.reference
+          (with_whole_authority-readable g.C.CharSet.tests new r (authority_in_rule g.C.CharSet.tests (authority_text c.in-ReplaceAuthority.other) c.in-ReplaceAuthority.other.text.in_rule)) editor.editor (search rules) c.replace.result c.replace.ensures.ok,
+      search rules,
+    )
 
-pub returns-in-SetUserInfo-clause-ok : goal.returns-in-SetUserInfo-clause-ok
+pub returns-in-SetUserInfo : goal.returns-in-SetUserInfo
 unfolding edited
-returns-in-SetUserInfo-clause-ok g c =
+returns-in-SetUserInfo g c =
     let editor = c.authority_editor-authority.ensures in
     let r = read_reference (g.T.Target.text c.args.owner.now) in
-    let new = option_map view_text c.in-SetUserInfo.user_info in
-    authority_edited_on_ok c.authority_editor-authority.result c.set_user_info.new.self g.C.CharSet.tests g.met.C.CharSet.above_ascii (edit_step c.args.edit) (with_user_info new) (ap (λ edit. edited (edit_step edit) r) c.in-SetUserInfo.is) c.requires.there editor.reference
-    (with_user_info-readable g.C.CharSet.tests new r (view_in_rule c.in-SetUserInfo.user_info)) editor.editor (search rules) c.set_user_info.result c.set_user_info.ensures.ok
+    let new = option_map view_text c.in-SetUserInfo.user_info in (
+      authority_edited_on_ok c.authority_editor-authority.result c.set_user_info.new.self g.C.CharSet.tests g.met.C.CharSet.above_ascii (edit_step c.args.edit) (with_user_info new) (ap (λ edit. edited (edit_step edit) r) c.in-SetUserInfo.is) c.requires.there editor.reference
+          (with_user_info-readable g.C.CharSet.tests new r (view_in_rule c.in-SetUserInfo.user_info)) editor.editor (search rules) c.set_user_info.result c.set_user_info.ensures.ok,
+      search rules,
+    )
 
-pub returns-in-SetHost-clause-ok : goal.returns-in-SetHost-clause-ok
+pub returns-in-SetHost : goal.returns-in-SetHost
 unfolding edited
-returns-in-SetHost-clause-ok g c =
+returns-in-SetHost g c =
     let editor = c.authority_editor-authority.ensures in
     let r = read_reference (g.T.Target.text c.args.owner.now) in
-    let new = view_text c.in-SetHost.host in
-    authority_edited_on_ok c.authority_editor-authority.result c.set_host.new.self g.C.CharSet.tests g.met.C.CharSet.above_ascii (edit_step c.args.edit) (with_host new) (ap (λ edit. edited (edit_step edit) r) c.in-SetHost.is) c.requires.there editor.reference
-    (with_host-readable g.C.CharSet.tests new r c.in-SetHost.host.in_rule) editor.editor (search rules) c.set_host.result c.set_host.ensures.ok
+    let new = view_text c.in-SetHost.host in (
+      authority_edited_on_ok c.authority_editor-authority.result c.set_host.new.self g.C.CharSet.tests g.met.C.CharSet.above_ascii (edit_step c.args.edit) (with_host new) (ap (λ edit. edited (edit_step edit) r) c.in-SetHost.is) c.requires.there editor.reference
+          (with_host-readable g.C.CharSet.tests new r c.in-SetHost.host.in_rule) editor.editor (search rules) c.set_host.result c.set_host.ensures.ok,
+      search rules,
+    )
 
-pub returns-in-SetPort-clause-ok : goal.returns-in-SetPort-clause-ok
+pub returns-in-SetPort : goal.returns-in-SetPort
 unfolding edited
-returns-in-SetPort-clause-ok g c =
+returns-in-SetPort g c =
     let editor = c.authority_editor-authority.ensures in
     let r = read_reference (g.T.Target.text c.args.owner.now) in
-    let new = option_map view_text c.in-SetPort.port in
-    authority_edited_on_ok c.authority_editor-authority.result c.set_port.new.self g.C.CharSet.tests g.met.C.CharSet.above_ascii (edit_step c.args.edit) (with_port new) (ap (λ edit. edited (edit_step edit) r) c.in-SetPort.is) c.requires.there editor.reference
-    (with_port-readable g.C.CharSet.tests new r (view_in_rule c.in-SetPort.port)) editor.editor (search rules) c.set_port.result c.set_port.ensures.ok
+    let new = option_map view_text c.in-SetPort.port in (
+      authority_edited_on_ok c.authority_editor-authority.result c.set_port.new.self g.C.CharSet.tests g.met.C.CharSet.above_ascii (edit_step c.args.edit) (with_port new) (ap (λ edit. edited (edit_step edit) r) c.in-SetPort.is) c.requires.there editor.reference
+          (with_port-readable g.C.CharSet.tests new r (view_in_rule c.in-SetPort.port)) editor.editor (search rules) c.set_port.result c.set_port.ensures.ok,
+      search rules,
+    )
 
-pub returns-in-SetPortU32-clause-ok : goal.returns-in-SetPortU32-clause-ok
+pub returns-in-SetPortU32 : goal.returns-in-SetPortU32
 unfolding edited
-returns-in-SetPortU32-clause-ok g c =
+returns-in-SetPortU32 g c =
     let editor = c.authority_editor-authority.ensures in
     let r = read_reference (g.T.Target.text c.args.owner.now) in
-    let new = option_map port_text c.in-SetPortU32.number in
-    authority_edited_on_ok c.authority_editor-authority.result c.set_port_u32.new.self g.C.CharSet.tests g.met.C.CharSet.above_ascii (edit_step c.args.edit) (with_port new) (ap (λ edit. edited (edit_step edit) r) c.in-SetPortU32.is) c.requires.there editor.reference
-    (with_port-readable g.C.CharSet.tests new r (numbers_are_ports c.in-SetPortU32.number)) editor.editor (search rules) c.set_port_u32.result c.set_port_u32.ensures.ok
+    let new = option_map port_text c.in-SetPortU32.number in (
+      authority_edited_on_ok c.authority_editor-authority.result c.set_port_u32.new.self g.C.CharSet.tests g.met.C.CharSet.above_ascii (edit_step c.args.edit) (with_port new) (ap (λ edit. edited (edit_step edit) r) c.in-SetPortU32.is) c.requires.there editor.reference
+          (with_port-readable g.C.CharSet.tests new r (numbers_are_ports c.in-SetPortU32.number)) editor.editor (search rules) c.set_port_u32.result c.set_port_u32.ensures.ok,
+      search rules,
+    )

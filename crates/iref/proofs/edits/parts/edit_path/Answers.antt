@@ -10,53 +10,65 @@ use Rattle.iref.specs.EditSteps.{edit_step}
 use Rattle.iref.proofs.EditLemmas.{path_edited, path_edited_on_ok}
 use Rattle.iref.proofs.edits.parts.edit_path.Goals as goal
 
-pub returns-in-LazyPush-clause-ok : goal.returns-in-LazyPush-clause-ok
+pub returns-in-LazyPush : goal.returns-in-LazyPush
 unfolding edited
-returns-in-LazyPush-clause-ok g c =
+returns-in-LazyPush g c =
     let editor = c.path_editor-path.ensures in
     let r = read_reference (g.T.Target.text c.args.owner.now) in
-    let segment = view_text c.in-LazyPush.segment in
-    path_edited_on_ok c.lazy_push.new.self g.C.CharSet.tests g.met.C.CharSet.above_ascii (edit_step c.args.edit) (λ context. lazy_pushed context segment) (ap (λ edit. edited (edit_step edit) r) c.in-LazyPush.is) editor.reference
-    (lazy_pushed-readable g.C.CharSet.tests segment r c.in-LazyPush.segment.in_rule) editor.editor (search rules) c.lazy_push.result c.lazy_push.ensures
+    let segment = view_text c.in-LazyPush.segment in (
+      path_edited_on_ok c.lazy_push.new.self g.C.CharSet.tests g.met.C.CharSet.above_ascii (edit_step c.args.edit) (λ context. lazy_pushed context segment) (ap (λ edit. edited (edit_step edit) r) c.in-LazyPush.is) editor.reference
+          (lazy_pushed-readable g.C.CharSet.tests segment r c.in-LazyPush.segment.in_rule) editor.editor (search rules) c.lazy_push.result c.lazy_push.ensures.ok,
+      search rules,
+    )
 
-pub returns-in-Push-clause-ok : goal.returns-in-Push-clause-ok
+pub returns-in-Push : goal.returns-in-Push
 unfolding edited
-returns-in-Push-clause-ok g c =
+returns-in-Push g c =
     let editor = c.path_editor-path.ensures in
     let r = read_reference (g.T.Target.text c.args.owner.now) in
-    let segment = view_text c.in-Push.segment in
-    path_edited_on_ok c.push.new.self g.C.CharSet.tests g.met.C.CharSet.above_ascii (edit_step c.args.edit) (λ context. pushed context segment) (ap (λ edit. edited (edit_step edit) r) c.in-Push.is) editor.reference
-    (pushed-readable g.C.CharSet.tests segment r c.in-Push.segment.in_rule) editor.editor (search rules) c.push.result c.push.ensures
+    let segment = view_text c.in-Push.segment in (
+      path_edited_on_ok c.push.new.self g.C.CharSet.tests g.met.C.CharSet.above_ascii (edit_step c.args.edit) (λ context. pushed context segment) (ap (λ edit. edited (edit_step edit) r) c.in-Push.is) editor.reference
+          (pushed-readable g.C.CharSet.tests segment r c.in-Push.segment.in_rule) editor.editor (search rules) c.push.result c.push.ensures.ok,
+      search rules,
+    )
 
-pub returns-in-JoinPath-clause-ok : goal.returns-in-JoinPath-clause-ok
+pub returns-in-JoinPath : goal.returns-in-JoinPath
 unfolding edited
-returns-in-JoinPath-clause-ok g c =
+returns-in-JoinPath g c =
     let editor = c.path_editor-path.ensures in
     let r = read_reference (g.T.Target.text c.args.owner.now) in
-    let new = path_value c.in-JoinPath.other in
-    path_edited_on_ok c.join.new.self g.C.CharSet.tests g.met.C.CharSet.above_ascii (edit_step c.args.edit) (λ context. joined context new) (ap (λ edit. edited (edit_step edit) r) c.in-JoinPath.is) editor.reference
-    (joined-readable g.C.CharSet.tests new r (sym (is_path-segments g.C.CharSet.tests g.met.C.CharSet.above_ascii (path_text c.in-JoinPath.other)) ∙ c.in-JoinPath.other.text.in_rule)) editor.editor (search rules) c.join.result c.join.ensures
+    let new = path_value c.in-JoinPath.other in (
+      path_edited_on_ok c.join.new.self g.C.CharSet.tests g.met.C.CharSet.above_ascii (edit_step c.args.edit) (λ context. joined context new) (ap (λ edit. edited (edit_step edit) r) c.in-JoinPath.is) editor.reference
+          (joined-readable g.C.CharSet.tests new r (sym (is_path-segments g.C.CharSet.tests g.met.C.CharSet.above_ascii (path_text c.in-JoinPath.other)) ∙ c.in-JoinPath.other.text.in_rule)) editor.editor (search rules) c.join.result c.join.ensures.ok,
+      search rules,
+    )
 
-pub returns-in-Pop-clause-ok : goal.returns-in-Pop-clause-ok
+pub returns-in-Pop : goal.returns-in-Pop
 unfolding edited
-returns-in-Pop-clause-ok g c =
+returns-in-Pop g c =
     let editor = c.path_editor-path.ensures in
-    let r = read_reference (g.T.Target.text c.args.owner.now) in
-    path_edited_on_ok c.pop.new.self g.C.CharSet.tests g.met.C.CharSet.above_ascii (edit_step c.args.edit) popped (ap (λ edit. edited (edit_step edit) r) c.in-Pop.is) editor.reference
-    (popped-readable g.C.CharSet.tests r) editor.editor (search rules) c.pop.result c.pop.ensures
+    let r = read_reference (g.T.Target.text c.args.owner.now) in (
+      path_edited_on_ok c.pop.new.self g.C.CharSet.tests g.met.C.CharSet.above_ascii (edit_step c.args.edit) popped (ap (λ edit. edited (edit_step edit) r) c.in-Pop.is) editor.reference
+          (popped-readable g.C.CharSet.tests r) editor.editor (search rules) c.pop.result c.pop.ensures.ok,
+      search rules,
+    )
 
-pub returns-in-Normalize-clause-ok : goal.returns-in-Normalize-clause-ok
+pub returns-in-Normalize : goal.returns-in-Normalize
 unfolding edited
-returns-in-Normalize-clause-ok g c =
+returns-in-Normalize g c =
     let editor = c.path_editor-path.ensures in
-    let r = read_reference (g.T.Target.text c.args.owner.now) in
-    path_edited_on_ok c.normalize.new.self g.C.CharSet.tests g.met.C.CharSet.above_ascii (edit_step c.args.edit) normalized (ap (λ edit. edited (edit_step edit) r) c.in-Normalize.is) editor.reference
-    (normalized-readable g.C.CharSet.tests r) editor.editor (search rules) c.normalize.result c.normalize.ensures.edit
+    let r = read_reference (g.T.Target.text c.args.owner.now) in (
+      path_edited_on_ok c.normalize.new.self g.C.CharSet.tests g.met.C.CharSet.above_ascii (edit_step c.args.edit) normalized (ap (λ edit. edited (edit_step edit) r) c.in-Normalize.is) editor.reference
+          (normalized-readable g.C.CharSet.tests r) editor.editor (search rules) c.normalize.result c.normalize.ensures.ok,
+      search rules,
+    )
 
-pub returns-in-Clear-clause-ok : goal.returns-in-Clear-clause-ok
+pub returns-in-Clear : goal.returns-in-Clear
 unfolding edited
-returns-in-Clear-clause-ok g c =
+returns-in-Clear g c =
     let editor = c.path_editor-path.ensures in
-    let r = read_reference (g.T.Target.text c.args.owner.now) in
-    path_edited g.C.CharSet.tests g.met.C.CharSet.above_ascii (edit_step c.args.edit) (λ context. cleared) (ap (λ edit. edited (edit_step edit) r) c.in-Clear.is) editor.reference
-    (cleared-readable g.C.CharSet.tests r) editor.editor (search rules) c.clear.ensures.value
+    let r = read_reference (g.T.Target.text c.args.owner.now) in (
+      path_edited g.C.CharSet.tests g.met.C.CharSet.above_ascii (edit_step c.args.edit) (λ context. cleared) (ap (λ edit. edited (edit_step edit) r) c.in-Clear.is) editor.reference
+          (cleared-readable g.C.CharSet.tests r) editor.editor (search rules) c.clear.ensures.value,
+      search rules,
+    )
