@@ -1,5 +1,5 @@
 -- Answers to lines.
-use Rattle.std.proofs.Common.{◌≡◌, Bool, true, false, refl, sym, subst, ◌∙◌, [], ◌∷◌, ◌++◌, Option, Some, None, ap, append_assoc, codes}
+use Rattle.std.proofs.Common.{◌≡◌, Bool, true, false, refl, sym, subst, ◌∙◌, [], ◌∷◌, ◌++◌, Option, Some, None, Err, ap, option_map, append_assoc, codes}
 use Rattle.std.proofs.lemmas.Bool.{and_right}
 use Rattle.std.specs.List.{join_with_byte}
 use Rattle.iref_grammar.specs.Rules.{Text, InUtf8}
@@ -21,7 +21,10 @@ use Rattle.iref_model.specs.Resolution.{resolved}
 use Rattle.iref_buffer.proofs.HeldLemmas.{read_components-spelled}
 use Rattle.iref_mapping.specs.Mapping.{mapped}
 use Rattle.iref_lines.specs.Lines.{Request, answer_if_valid, read_line, answer, BadCommand, InvalidText, Answered, Parts, Resolve, Relative, Normal, Equal, ToUri, answer_to, is_valid, answer_text, part_fields, yes_or_no, tab, all_verbs}
+use Rattle.iref_batch.specs.EditFields.{IsRead, IsRefusal}
 use Rattle.iref_batch.specs.Runs.{line_reply, reply_to}
+use Rattle.iref_batch.specs.declared.edit_fields.FieldError.{FieldError}
+use Rattle.iref_batch.specs.declared.edit_fields.FieldError.TheVariants as field_error
 
 -- what is written for a line is what is written for its request
 pub reply_of : (line : Text) (asked : Option Request) → read_line all_verbs line ≡ asked → line_reply line ≡ reply_to asked
@@ -35,6 +38,12 @@ valid request h = ap (λ (b : Bool). elim b [ true ↦ answer_to request | false
 
 pub invalid : (request : Request) → is_valid iri_chars request ≡ false → answer_if_valid iri_chars request ≡ InvalidText
 invalid request h = ap (λ (b : Bool). elim b [ true ↦ answer_to request | false ↦ InvalidText ]) h
+
+-- what is written where fields were not read
+pub refusal : {A : Type 0} (is_fit : A → Bool) (request : A → Request) (read : Option A) (error : FieldError) → ((a : A) → is_fit a ≡ false → is_valid iri_chars (request a) ≡ false) → IsRead (λ (a : A). a) is_fit read (Err error) → IsRefusal error (reply_to (option_map request read))
+refusal is_fit request read field_error.Command unfit h = ap (λ (o : Option _). reply_to (option_map request o)) h
+refusal is_fit request read field_error.Invalid unfit h = ap (λ (o : Option _). reply_to (option_map request o)) h.1 ∙ ap answer_text (invalid (request h.0) (unfit h.0 h.2))
+refusal is_fit request read field_error.Memory unfit h = tt
 
 regroup : (out k a b c d e : Text) → (((((out ++ k) ++ a) ++ b) ++ c) ++ d) ++ e ≡ out ++ (k ++ (a ++ (b ++ (c ++ (d ++ e)))))
 regroup out k a b c d e = simp append_assoc

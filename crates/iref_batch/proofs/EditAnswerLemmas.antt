@@ -13,12 +13,9 @@ use Rattle.iref_batch.specs.EditFields.{edits_read}
 use Rattle.iref_batch.specs.Runs.{reply_to}
 use Rattle.iref_batch.proofs.AnswerLemmas.{invalid, no_reference, reference, valid}
 
-replied : (text : Text) (fields : List Text) (read : Option (List EditStep)) → edits_read fields ≡ read → reply_to (text_and_edits (text ∷ fields)) ≡ reply_to (option_map (Edit text) read)
-replied text fields read e = ap (λ (o : Option (List EditStep)). reply_to (option_map (Edit text) o)) e
-
-pub invalid_reply : (text : Text) (fields : List Text) → ((steps : List EditStep) × (edits_read fields ≡ Some steps) × (list_all (is_valid_edit iri_chars) steps ≡ false)) → reply_to (text_and_edits (text ∷ fields)) ≡ answer_text InvalidText
+pub unfit_edits : (text : Text) (steps : List EditStep) → list_all (is_valid_edit iri_chars) steps ≡ false → is_valid iri_chars (Edit text steps) ≡ false
 unfolding is_valid
-invalid_reply text fields bad = replied text fields (Some bad.0) bad.1 ∙ ap answer_text (invalid (Edit text bad.0) (and_right (is_reference iri_chars text) _ bad.2))
+unfit_edits text steps h = and_right (is_reference iri_chars text) _ h
 
 pub no_edited_answer : (text : Text) (steps : List EditStep) → ¬ (InUtf8 (IsUriReference iri_chars) text) → answer_if_valid iri_chars (Edit text steps) ≡ InvalidText
 unfolding is_valid

@@ -10,20 +10,16 @@ use Rattle.iref_grammar.proofs.ReferenceRuleLemmas.{Decides-is_uri}
 use Rattle.iref_mapping.specs.PrefixTable.{PrefixEntry, CompactValue, compacted, compact_text, ExpandRefusal, expanded}
 use Rattle.iref_lines.specs.Lines.{Request, Compact, Expand, Answered, InvalidText, answer_if_valid, answer_text, answer_to, are_valid_entries, expanded_answer, is_valid, part_field, text_and_entries}
 use Rattle.iref_batch.specs.PrefixFields.{entries_read}
-use Rattle.iref_batch.specs.Runs.{reply_to}
+use Rattle.iref_batch.specs.Requests.{asked_of}
+use Rattle.iref_batch.specs.declared.request.TableVerb.{TableVerb}
+use Rattle.iref_batch.specs.declared.request.TableVerb.TheVariants as table_verb
 use Rattle.iref_batch.proofs.AnswerLemmas.{invalid, valid}
 use Rattle.iref_batch.proofs.PrefixFieldLemmas.{valid_table}
 
-pub entries_reply : (request : Text → List PrefixEntry → Request) (text : Text) (fields : List Text) (read : Option (List PrefixEntry)) → entries_read fields ≡ read → reply_to (text_and_entries request (text ∷ fields)) ≡ reply_to (option_map (request text) read)
-entries_reply request text fields read e = ap (λ (o : Option (List PrefixEntry)). reply_to (option_map (request text) o)) e
-
-pub invalid_compact : (text : Text) (fields : List Text) → ((es : List PrefixEntry) × (entries_read fields ≡ Some es) × (are_valid_entries iri_chars es ≡ false)) → reply_to (text_and_entries Compact (text ∷ fields)) ≡ answer_text InvalidText
+pub unfit_entries : (verb : TableVerb) (text : Text) (es : List PrefixEntry) → are_valid_entries iri_chars es ≡ false → is_valid iri_chars (asked_of verb text es) ≡ false
 unfolding is_valid
-invalid_compact text fields bad = entries_reply Compact text fields (Some bad.0) bad.1 ∙ ap answer_text (invalid (Compact text bad.0) (and_right (is_full_reference iri_chars text) _ bad.2))
-
-pub invalid_expand : (text : Text) (fields : List Text) → ((es : List PrefixEntry) × (entries_read fields ≡ Some es) × (are_valid_entries iri_chars es ≡ false)) → reply_to (text_and_entries Expand (text ∷ fields)) ≡ answer_text InvalidText
-unfolding is_valid
-invalid_expand text fields bad = entries_reply Expand text fields (Some bad.0) bad.1 ∙ ap answer_text (invalid (Expand text bad.0) (and_right (is_utf8 text) _ bad.2))
+unfit_entries table_verb.Compact text es h = and_right (is_full_reference iri_chars text) _ h
+unfit_entries table_verb.Expand text es h = and_right (is_utf8 text) _ h
 
 module _ (es : List PrefixEntry) (v : are_valid_entries iri_chars es ≡ true) where
   pub compact_answer : (text same : Text) (found : Option CompactValue) → InUtf8 (IsUri iri_chars) text → same ≡ text → found ≡ compacted same es → answer_if_valid iri_chars (Compact text es) ≡ Answered (part_field (option_map compact_text found))

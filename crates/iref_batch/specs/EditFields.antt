@@ -4,7 +4,7 @@ use Rattle.std.specs.List.{find}
 use Rattle.iref_grammar.specs.Rules.{Text}
 use Rattle.iref_grammar.specs.IpAddresses.{all_some}
 use Rattle.iref_model.specs.Edits.{EditStep}
-use Rattle.iref_lines.specs.Lines.{edit_names, read_edit}
+use Rattle.iref_lines.specs.Lines.{BadCommand, InvalidText, answer_text, edit_names, read_edit}
 use Rattle.iref_batch.specs.declared.edit_fields.FieldError.{FieldError}
 use Rattle.iref_batch.specs.declared.edit_fields.FieldError.TheVariants.{Command, Invalid, Memory}
 
@@ -15,6 +15,12 @@ IsRead shown is_valid read (Ok v) = (read ≡ Some (shown v)) × (is_valid (show
 IsRead shown is_valid read (Err Command) = read ≡ None
 IsRead {A = A} shown is_valid read (Err Invalid) = (a : A) × (read ≡ Some a) × (is_valid a ≡ false)
 IsRead shown is_valid read (Err Memory) = Unit {0}
+
+-- what is written where fields were not read, unless memory was refused
+abbrev pub IsRefusal : FieldError → Text → Type 0
+IsRefusal Command text = text ≡ answer_text BadCommand
+IsRefusal Invalid text = text ≡ answer_text InvalidText
+IsRefusal Memory text = Unit {0}
 
 abbrev pub EditNames : Type 0
 EditNames = List (Text × (Option Text → Option EditStep))

@@ -1,5 +1,5 @@
 -- How far a run has come: what was read, the line begun, and the replies gathered or written.
-use Rattle.std.specs.Prelude.{◌≡◌, ◌==◌, ℕ, true, false, List, [], ◌++◌, Option, Some}
+use Rattle.std.specs.Prelude.{◌≡◌, ◌==◌, ℕ, true, false, List, [], ◌++◌, Option, Some, Result, OnOk, OnErr}
 use Rattle.std.specs.List.{All, AllZip}
 use Rattle.iref_grammar.specs.Rules.{Text}
 use Rattle.iref_grammar.specs.Texts.{is_empty}
@@ -19,6 +19,10 @@ IsLine text = Lacks newline text
 -- the text has grown at its end
 abbrev pub Extends : Text → Text → Type 0
 Extends old new = (more : Text) × (new ≡ old ++ more)
+
+-- the text was put at the end; where memory was refused, what was there before still stands first
+abbrev pub Puts : {E : Type 0} → Text → Text → Text → Result (Unit {0}) E → Type 0
+Puts text old new result = OnOk result (new ≡ old ++ text) × OnErr result (Extends old new)
 
 -- where the writer tells its bytes, they have grown by the text
 abbrev pub Writes : Text → Option Text → Option Text → Type 0

@@ -1,53 +1,49 @@
 //! The answer to a line.
 ghost use Rattle.std.specs.Prelude.{◌≡◌, ◌++◌, ◌∷◌, option_map, OnOk, OnErr};
 ghost use Rattle.std.specs.Option.{option_copied};
+ghost use Rattle.iref_grammar.specs.Rules.{Text};
 ghost use Rattle.iref_lines.specs.Lines.{Answered, answer_text, part_field, part_fields, tab};
-ghost use Rattle.iref_lines.specs.Lines.{yes_or_no, Parts, Normal, Equal};
+ghost use Rattle.iref_lines.specs.Lines.{yes_or_no, Parts, Normal, Equal, ToUri};
 ghost use Rattle.iref_component.specs.Components.{view_text};
 ghost use Rattle.iref_authority.specs.Authorities.{authority_text};
 ghost use Rattle.iref_reference.specs.Parts.{uri_ref_part_texts};
-ghost use Rattle.iref_batch.specs.{Gathering.{Extends}, Requests.{request_of}};
+ghost use Rattle.iref_batch.specs.{EditFields.{IsRefusal}, Gathering.{Puts}};
+ghost use Rattle.iref_batch.specs.{Requests.{request_of}};
 ghost use Rattle.iref_batch.specs.Runs.{request_reply, reply_to, line_reply, with_newline};
 
 mod edit;
 mod prefixes;
-mod relative;
 mod resolve;
-mod to_uri;
 
+use super::edit_fields::FieldError;
 use super::request::{Request, read_request};
 use edit::put_answer_to_edit;
-use iref::iri::{Authority, IriRefParts, Path};
+use iref::iri::{Authority, IriRef, IriRefParts, Path};
 use iref_component::rule::Rule;
 use iref_component::view::View;
+use iref_error::Memory;
 use iref_grammar::chars::CharSet;
-use prefixes::{put_answer_to_compact, put_answer_to_expand};
-use relative::put_answer_to_relative;
-use resolve::put_answer_to_resolve;
-use std::alloc::AllocError;
-use to_uri::put_answer_to_to_uri;
+use prefixes::put_answer_by_table;
+use resolve::{put_answer_to_relative, put_answer_to_resolve};
 
 /// Puts the text.
-fn put_text(text: &[u8], out: &mut Vec<u8>) -> Result<(), AllocError>
-    ensures ok { OnOk result (out.new.items ≡ out.old.items ++ text.now) }
-    ensures err { OnErr result (Extends out.old.items out.new.items) }
+fn put_text(text: &[u8], out: &mut Vec<u8>) -> Result<(), Memory>
+    ensures { Puts text.now out.old.items out.new.items result }
 {
-    out.extend_from_slice(text)
+    Ok(out.extend_from_slice(text)?)
 }
 
 /// Puts a TAB and the field of a part: `-` where it is absent, else `=` and its text.
 #[inline(always)]
-fn put_part(part: Option<&[u8]>, out: &mut Vec<u8>) -> Result<(), AllocError>
-    ensures ok { OnOk result
-        (out.new.items ≡ out.old.items ++ tab ∷ part_field (option_copied part.entry)) }
-    ensures err { OnErr result (Extends out.old.items out.new.items) }
+fn put_part(part: Option<&[u8]>, out: &mut Vec<u8>) -> Result<(), Memory>
+    ensures { Puts (tab ∷ part_field (option_copied part.entry))
+        out.old.items out.new.items result }
 {
     let Some(text) = part else {
-        return out.extend_from_slice(b"\t-");
+        return put_text(b"\t-", out);
     };
-    out.extend_from_slice(b"\t=")?;
-    out.extend_from_slice(text)?;
-    Ok(())
+    put_text(b"\t=", out)?;
+    put_text(text, out)
 }
 
 // The bytes of a component, if it is there.
@@ -64,10 +60,9 @@ fn authority_bytes(authority: Option<Authority<'_>>) -> Option<&[u8]>
 }
 
 /// Puts the answer whose fields are the parts of a reference.
-fn put_parts(parts: &IriRefParts<'_>, out: &mut Vec<u8>) -> Result<(), AllocError>
-    ensures ok { OnOk result (out.new.items ≡
-        out.old.items ++ answer_text (Answered (part_fields (uri_ref_part_texts parts.now)))) }
-    ensures err { OnErr result (Extends out.old.items out.new.items) }
+fn put_parts(parts: &IriRefParts<'_>, out: &mut Vec<u8>) -> Result<(), Memory>
+    ensures { Puts (answer_text (Answered (part_fields (uri_ref_part_texts parts.now))))
+        out.old.items out.new.items result }
 {
     put_text(b"ok", out)?;
     put_part(bytes_of(parts.scheme), out)?;
@@ -79,9 +74,8 @@ fn put_parts(parts: &IriRefParts<'_>, out: &mut Vec<u8>) -> Result<(), AllocErro
 }
 
 /// Puts the answer to `parts`.
-fn put_answer_to_parts(text: &[u8], out: &mut Vec<u8>) -> Result<(), AllocError>
-    ensures ok { OnOk result (out.new.items ≡ out.old.items ++ request_reply (Parts text.now)) }
-    ensures err { OnErr result (Extends out.old.items out.new.items) }
+fn put_answer_to_parts(text: &[u8], out: &mut Vec<u8>) -> Result<(), Memory>
+    ensures { Puts (request_reply (Parts text.now)) out.old.items out.new.items result }
 {
     let Ok(parts) = IriRefParts::from_bytes(text) else {
         return put_text(b"error invalid", out);
@@ -90,25 +84,33 @@ fn put_answer_to_parts(text: &[u8], out: &mut Vec<u8>) -> Result<(), AllocError>
 }
 
 /// Puts an answer of this text.
-fn put_answered(text: &[u8], out: &mut Vec<u8>) -> Result<(), AllocError>
-    ensures ok { OnOk result (out.new.items ≡ out.old.items ++ answer_text (Answered text.now)) }
-    ensures err { OnErr result (Extends out.old.items out.new.items) }
+fn put_answered(text: &[u8], out: &mut Vec<u8>) -> Result<(), Memory>
+    ensures { Puts (answer_text (Answered text.now)) out.old.items out.new.items result }
 {
-    out.extend_from_slice(b"ok\t")?;
-    out.extend_from_slice(text)
+    put_text(b"ok\t", out)?;
+    put_text(text, out)
+}
+
+/// Puts what is said of fields that were not read.
+fn put_refused(error: FieldError, out: &mut Vec<u8>) -> Result<(), Memory>
+    ensures { (text : Text) → IsRefusal error text →
+        Puts text out.old.items out.new.items result }
+{
+    match error {
+        FieldError::Command => put_text(b"error command", out),
+        FieldError::Invalid => put_text(b"error invalid", out),
+        FieldError::Memory => Err(Memory),
+    }
 }
 
 /// Puts the answer to `normal`.
-fn put_answer_to_normal(text: &[u8], out: &mut Vec<u8>) -> Result<(), AllocError>
-    ensures ok { OnOk result (out.new.items ≡ out.old.items ++ request_reply (Normal text.now)) }
-    ensures err { OnErr result (Extends out.old.items out.new.items) }
+fn put_answer_to_normal(text: &[u8], out: &mut Vec<u8>) -> Result<(), Memory>
+    ensures { Puts (request_reply (Normal text.now)) out.old.items out.new.items result }
 {
     let Ok(path) = Path::from_bytes(text) else {
         return put_text(b"error invalid", out);
     };
-    let Ok(normal) = path.normalized(*out.allocator()) else {
-        return Err(AllocError);
-    };
+    let normal = path.normalized(*out.allocator())?;
     put_answered(normal.as_bytes(), out)
 }
 
@@ -119,10 +121,8 @@ fn yes_or_no(alike: bool) -> &'static [u8]
 }
 
 /// Puts the answer to `equal`. A text is read once where it stands twice.
-fn put_answer_to_equal(left: &[u8], right: &[u8], out: &mut Vec<u8>) -> Result<(), AllocError>
-    ensures ok { OnOk result
-        (out.new.items ≡ out.old.items ++ request_reply (Equal left.now right.now)) }
-    ensures err { OnErr result (Extends out.old.items out.new.items) }
+fn put_answer_to_equal(left: &[u8], right: &[u8], out: &mut Vec<u8>) -> Result<(), Memory>
+    ensures { Puts (request_reply (Equal left.now right.now)) out.old.items out.new.items result }
 {
     let Ok(left_parts) = IriRefParts::from_bytes(left) else {
         return put_text(b"error invalid", out);
@@ -136,11 +136,22 @@ fn put_answer_to_equal(left: &[u8], right: &[u8], out: &mut Vec<u8>) -> Result<(
     put_answered(yes_or_no(left_parts == right_parts), out)
 }
 
+/// Puts the answer to `to-uri`.
+fn put_answer_to_to_uri(text: &[u8], out: &mut Vec<u8>) -> Result<(), Memory>
+    ensures { Puts (request_reply (ToUri text.now)) out.old.items out.new.items result }
+{
+    let Ok(reference) = IriRef::from_bytes(text) else {
+        return put_text(b"error invalid", out);
+    };
+    let Ok(mapping) = reference.to_uri_ref(*out.allocator()) else {
+        return Err(Memory);
+    };
+    put_answered(mapping.as_bytes(), out)
+}
+
 /// Puts the answer to a request.
-fn put_answer_to(request: Request<'_>, out: &mut Vec<u8>) -> Result<(), AllocError>
-    ensures ok { OnOk result
-        (out.new.items ≡ out.old.items ++ reply_to (request_of request.entry)) }
-    ensures err { OnErr result (Extends out.old.items out.new.items) }
+fn put_answer_to(request: Request<'_>, out: &mut Vec<u8>) -> Result<(), Memory>
+    ensures { Puts (reply_to (request_of request.entry)) out.old.items out.new.items result }
 {
     match request {
         Request::Parts(text) => put_answer_to_parts(text, out),
@@ -150,15 +161,13 @@ fn put_answer_to(request: Request<'_>, out: &mut Vec<u8>) -> Result<(), AllocErr
         Request::Equal(left, right) => put_answer_to_equal(left, right, out),
         Request::Edit(text, fields) => put_answer_to_edit(text, fields, out),
         Request::ToUri(text) => put_answer_to_to_uri(text, out),
-        Request::Compact(text, fields) => put_answer_to_compact(text, fields, out),
-        Request::Expand(text, fields) => put_answer_to_expand(text, fields, out),
+        Request::ByTable(verb, text, fields) => put_answer_by_table(verb, text, fields, out),
     }
 }
 
 /// Puts the answer to the line.
-fn put_answer(line: &[u8], out: &mut Vec<u8>) -> Result<(), AllocError>
-    ensures ok { OnOk result (out.new.items ≡ out.old.items ++ line_reply line.now) }
-    ensures err { OnErr result (Extends out.old.items out.new.items) }
+fn put_answer(line: &[u8], out: &mut Vec<u8>) -> Result<(), Memory>
+    ensures { Puts (line_reply line.now) out.old.items out.new.items result }
 {
     let Some(request) = read_request(line) else {
         return put_text(b"error command", out);
@@ -167,9 +176,8 @@ fn put_answer(line: &[u8], out: &mut Vec<u8>) -> Result<(), AllocError>
 }
 
 /// Puts the answer to the line, and a newline.
-fn put_answer_line(line: &[u8], out: &mut Vec<u8>) -> Result<(), AllocError>
-    ensures ok { OnOk result (out.new.items ≡ out.old.items ++ with_newline (line_reply line.now)) }
-    ensures err { OnErr result (Extends out.old.items out.new.items) }
+fn put_answer_line(line: &[u8], out: &mut Vec<u8>) -> Result<(), Memory>
+    ensures { Puts (with_newline (line_reply line.now)) out.old.items out.new.items result }
 {
     put_answer(line, out)?;
     out.push(b'\n')?;
@@ -178,14 +186,14 @@ fn put_answer_line(line: &[u8], out: &mut Vec<u8>) -> Result<(), AllocError>
 
 /// Puts the answer to the line, and a newline, after what `out` holds; or leaves it where memory is
 /// refused.
-pub fn answer_line(line: &[u8], out: &mut Vec<u8>) -> Result<(), AllocError>
+pub fn answer_line(line: &[u8], out: &mut Vec<u8>) -> Result<(), Memory>
     ensures ok { OnOk result (out.new.items ≡ out.old.items ++ with_newline (line_reply line.now)) }
     ensures err { OnErr result (out.new.items ≡ out.old.items) }
 {
     let start = out.len();
     let Ok(()) = put_answer_line(line, out) else {
         out.truncate(start);
-        return Err(AllocError);
+        return Err(Memory);
     };
     Ok(())
 }

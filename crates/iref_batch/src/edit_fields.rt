@@ -146,24 +146,20 @@ fn path_edit<'a>(name: &[u8], value: Option<&'a [u8]>) -> Result<Edit<'a>, Field
         (edit_named path_edit_names name.now (option_copied value.entry)) result }
 {
     if is_name(b"lazy-push", name) {
-        return needed(value).map(|segment| Edit::LazyPush(segment));
+        needed(value).map(|segment| Edit::LazyPush(segment))
+    } else if is_name(b"push", name) {
+        needed(value).map(|segment| Edit::Push(segment))
+    } else if is_name(b"join", name) {
+        needed(value).map(|path| Edit::JoinPath(path))
+    } else if is_name(b"pop", name) {
+        bare(Edit::Pop, value)
+    } else if is_name(b"clear", name) {
+        bare(Edit::Clear, value)
+    } else if is_name(b"normalize", name) {
+        bare(Edit::Normalize, value)
+    } else {
+        Err(FieldError::Command)
     }
-    if is_name(b"push", name) {
-        return needed(value).map(|segment| Edit::Push(segment));
-    }
-    if is_name(b"join", name) {
-        return needed(value).map(|path| Edit::JoinPath(path));
-    }
-    if is_name(b"pop", name) {
-        return bare(Edit::Pop, value);
-    }
-    if is_name(b"clear", name) {
-        return bare(Edit::Clear, value);
-    }
-    if is_name(b"normalize", name) {
-        return bare(Edit::Normalize, value);
-    }
-    Err(FieldError::Command)
 }
 
 // The edit of this name with this value.
@@ -172,36 +168,28 @@ fn edit_of<'a>(name: &[u8], value: Option<&'a [u8]>) -> Result<Edit<'a>, FieldEr
         (edit_named edit_names name.now (option_copied value.entry)) result }
 {
     if is_name(b"scheme", name) {
-        return optional(value).map(|scheme| Edit::SetScheme(scheme));
+        optional(value).map(|scheme| Edit::SetScheme(scheme))
+    } else if is_name(b"authority", name) {
+        optional(value).map(|authority| Edit::SetAuthority(authority))
+    } else if is_name(b"replace-authority", name) {
+        needed(value).map(|authority| Edit::ReplaceAuthority(authority))
+    } else if is_name(b"user", name) {
+        optional(value).map(|user_info| Edit::SetUserInfo(user_info))
+    } else if is_name(b"host", name) {
+        needed(value).map(|host| Edit::SetHost(host))
+    } else if is_name(b"port", name) {
+        optional(value).map(|port| Edit::SetPort(port))
+    } else if is_name(b"path", name) {
+        needed(value).map(|path| Edit::SetPath(path))
+    } else if is_name(b"normal-path", name) {
+        needed(value).map(|path| Edit::SetAndNormalizePath(path))
+    } else if is_name(b"query", name) {
+        optional(value).map(|query| Edit::SetQuery(query))
+    } else if is_name(b"fragment", name) {
+        optional(value).map(|fragment| Edit::SetFragment(fragment))
+    } else {
+        path_edit(name, value)
     }
-    if is_name(b"authority", name) {
-        return optional(value).map(|authority| Edit::SetAuthority(authority));
-    }
-    if is_name(b"replace-authority", name) {
-        return needed(value).map(|authority| Edit::ReplaceAuthority(authority));
-    }
-    if is_name(b"user", name) {
-        return optional(value).map(|user_info| Edit::SetUserInfo(user_info));
-    }
-    if is_name(b"host", name) {
-        return needed(value).map(|host| Edit::SetHost(host));
-    }
-    if is_name(b"port", name) {
-        return optional(value).map(|port| Edit::SetPort(port));
-    }
-    if is_name(b"path", name) {
-        return needed(value).map(|path| Edit::SetPath(path));
-    }
-    if is_name(b"normal-path", name) {
-        return needed(value).map(|path| Edit::SetAndNormalizePath(path));
-    }
-    if is_name(b"query", name) {
-        return optional(value).map(|query| Edit::SetQuery(query));
-    }
-    if is_name(b"fragment", name) {
-        return optional(value).map(|fragment| Edit::SetFragment(fragment));
-    }
-    path_edit(name, value)
 }
 
 /// The edit that a field names.

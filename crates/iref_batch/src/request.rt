@@ -10,6 +10,15 @@ ghost use Rattle.iref_batch.specs.{Fields.{fields_of}, Requests.{request_of}};
 
 use super::cut::{cut_at, cut_near};
 
+/// What a line asks of a prefix table.
+#[derive(Clone, Copy)]
+pub enum TableVerb {
+    /// An IRI made short.
+    Compact,
+    /// The IRI that a text stands for.
+    Expand,
+}
+
 /// What a line asks for.
 #[derive(Clone, Copy)]
 pub enum Request<'a> {
@@ -27,11 +36,9 @@ pub enum Request<'a> {
     Edit(&'a [u8], Option<&'a [u8]>),
     /// The reference of URIs that a reference maps to.
     ToUri(&'a [u8]),
-    /// An IRI made short by a prefix table: the text of the fields of its entries, if there are
+    /// What a prefix table makes of a text: the text of the fields of its entries, if there are
     /// any.
-    Compact(&'a [u8], Option<&'a [u8]>),
-    /// The IRI that a text stands for in a prefix table, likewise.
-    Expand(&'a [u8], Option<&'a [u8]>),
+    ByTable(TableVerb, &'a [u8], Option<&'a [u8]>),
 }
 
 /// The first field, and the text of the others, if there are any.
@@ -104,31 +111,24 @@ pub fn read_request(line: &[u8]) -> Option<Request<'_>>
 {
     let (verb, fields) = verb_and_fields(line);
     if is_name(b"parts", verb) {
-        return one_field(fields).map(Request::Parts);
+        one_field(fields).map(Request::Parts)
+    } else if is_name(b"resolve", verb) {
+        two_fields(fields).map(|texts| Request::Resolve(texts.0, texts.1))
+    } else if is_name(b"relative", verb) {
+        two_fields(fields).map(|texts| Request::Relative(texts.0, texts.1))
+    } else if is_name(b"normal", verb) {
+        one_field(fields).map(Request::Normal)
+    } else if is_name(b"equal", verb) {
+        two_fields(fields).map(|texts| Request::Equal(texts.0, texts.1))
+    } else if is_name(b"edit", verb) {
+        some_fields(fields).map(|texts| Request::Edit(texts.0, texts.1))
+    } else if is_name(b"to-uri", verb) {
+        one_field(fields).map(Request::ToUri)
+    } else if is_name(b"compact", verb) {
+        some_fields(fields).map(|texts| Request::ByTable(TableVerb::Compact, texts.0, texts.1))
+    } else if is_name(b"expand", verb) {
+        some_fields(fields).map(|texts| Request::ByTable(TableVerb::Expand, texts.0, texts.1))
+    } else {
+        None
     }
-    if is_name(b"resolve", verb) {
-        return two_fields(fields).map(|texts| Request::Resolve(texts.0, texts.1));
-    }
-    if is_name(b"relative", verb) {
-        return two_fields(fields).map(|texts| Request::Relative(texts.0, texts.1));
-    }
-    if is_name(b"normal", verb) {
-        return one_field(fields).map(Request::Normal);
-    }
-    if is_name(b"equal", verb) {
-        return two_fields(fields).map(|texts| Request::Equal(texts.0, texts.1));
-    }
-    if is_name(b"edit", verb) {
-        return some_fields(fields).map(|texts| Request::Edit(texts.0, texts.1));
-    }
-    if is_name(b"to-uri", verb) {
-        return one_field(fields).map(Request::ToUri);
-    }
-    if is_name(b"compact", verb) {
-        return some_fields(fields).map(|texts| Request::Compact(texts.0, texts.1));
-    }
-    if is_name(b"expand", verb) {
-        return some_fields(fields).map(|texts| Request::Expand(texts.0, texts.1));
-    }
-    None
 }

@@ -5,14 +5,15 @@ ghost use Rattle.iref_grammar.specs.{iri_chars};
 ghost use Rattle.iref_lines.specs.Lines.{is_valid_edit, text_and_edits};
 ghost use Rattle.iref_lines.specs.Lines as spec;
 ghost use Rattle.iref_batch.specs.{EditFields.{IsRead, edits_read}, Fields.{fields_of}};
-ghost use Rattle.iref_batch.specs.{Gathering.{Extends}, Runs.{reply_to, request_reply}};
+ghost use Rattle.iref_batch.specs.{Gathering.{Puts}, Runs.{reply_to, request_reply}};
 ghost use Rattle.iref.specs.EditSteps.{edit_step};
 
-use super::{put_answered, put_text};
+use super::{put_answered, put_refused, put_text};
 use crate::edit_fields::{FieldError, read_edit};
 use crate::request::first_field;
 use iref::iri::{Edit, EditError, IriRefBuf, apply_all};
-use std::alloc::{AllocError, Global};
+use iref_error::Memory;
+use std::alloc::Global;
 
 // The edits that the fields name. All fields are read, since one that is no edit at all goes
 // before values outside their grammar.
@@ -40,7 +41,7 @@ fn read_edits<'a>(alloc: Global, fields: Option<&'a [u8]>) -> Result<Vec<Edit<'a
 }
 
 // A copy of the text, with room for more bytes.
-fn copied(alloc: Global, text: &[u8], more: usize) -> Result<Vec<u8>, AllocError>
+fn copied(alloc: Global, text: &[u8], more: usize) -> Result<Vec<u8>, Memory>
     ensures { IfOk result (λ bytes. bytes.items ≡ text.now) }
 {
     let mut bytes = Vec::with_capacity(alloc, text.len().saturating_add(more))?;
@@ -49,11 +50,10 @@ fn copied(alloc: Global, text: &[u8], more: usize) -> Result<Vec<u8>, AllocError
 }
 
 // Puts the answer to a reference, which is held in these bytes, and edits.
-fn put_edited(bytes: Vec<u8>, edits: &[Edit<'_>], out: &mut Vec<u8>) -> Result<(), AllocError>
+fn put_edited(bytes: Vec<u8>, edits: &[Edit<'_>], out: &mut Vec<u8>) -> Result<(), Memory>
     requires { list_all (is_valid_edit iri_chars) (map edit_step edits.now) ≡ true }
-    ensures ok { OnOk result (out.new.items
-        ≡ out.old.items ++ request_reply (spec.Edit bytes.items (map edit_step edits.now))) }
-    ensures err { OnErr result (Extends out.old.items out.new.items) }
+    ensures { Puts (request_reply (spec.Edit bytes.items (map edit_step edits.now)))
+        out.old.items out.new.items result }
 {
     let Ok(mut reference) = IriRefBuf::from_bytes(bytes) else {
         return put_text(b"error invalid", out);
@@ -62,7 +62,7 @@ fn put_edited(bytes: Vec<u8>, edits: &[Edit<'_>], out: &mut Vec<u8>) -> Result<(
         Ok(()) => put_answered(reference.as_bytes(), out),
         Err((_, EditError::NoAuthority)) => put_text(b"error edit", out),
         Err((_, EditError::SchemeNeeded)) => put_text(b"error edit", out),
-        Err((_, EditError::Memory)) => Err(AllocError),
+        Err((_, EditError::Memory)) => Err(Memory),
     }
 }
 
@@ -71,17 +71,14 @@ pub fn put_answer_to_edit(
     text: &[u8],
     fields: Option<&[u8]>,
     out: &mut Vec<u8>,
-) -> Result<(), AllocError>
-    ensures ok { OnOk result (out.new.items ≡ out.old.items
-        ++ reply_to (text_and_edits (text.now ∷ fields_of (option_copied fields.entry)))) }
-    ensures err { OnErr result (Extends out.old.items out.new.items) }
+) -> Result<(), Memory>
+    ensures { Puts (reply_to (text_and_edits (text.now ∷ fields_of (option_copied fields.entry))))
+        out.old.items out.new.items result }
 {
     let alloc = *out.allocator();
     let edits = match read_edits(alloc, fields) {
         Ok(edits) => edits,
-        Err(FieldError::Command) => return put_text(b"error command", out),
-        Err(FieldError::Invalid) => return put_text(b"error invalid", out),
-        Err(FieldError::Memory) => return Err(AllocError),
+        Err(error) => return put_refused(error, out),
     };
     let more = fields.map_or(0, |fields| fields.len());
     put_edited(copied(alloc, text, more)?, edits.as_slice(), out)

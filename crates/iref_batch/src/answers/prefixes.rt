@@ -7,16 +7,17 @@ ghost use Rattle.iref_lines.specs.Lines.{Answered, answer_text, are_valid_entrie
 ghost use Rattle.iref_lines.specs.Lines.{read_entry, text_and_entries};
 ghost use Rattle.iref_mapping.specs.PrefixTable.{compact_text};
 ghost use Rattle.iref.specs.Prefixes.{compact_value};
-ghost use Rattle.iref_batch.specs.{EditFields.{IsRead}, Fields.{fields_of}, Gathering.{Extends}};
+ghost use Rattle.iref_batch.specs.{EditFields.{IsRead}, Fields.{fields_of}, Gathering.{Puts}};
 ghost use Rattle.iref_batch.specs.PrefixFields.{entries_read, HasTaken, TakesNot};
-ghost use Rattle.iref_batch.specs.Runs.{reply_to, request_reply};
+ghost use Rattle.iref_batch.specs.{Requests.{asked_of}, Runs.{reply_to, request_reply}};
 
-use super::{put_answered, put_text};
+use super::{put_answered, put_refused, put_text};
 use crate::edit_fields::{FieldError, name_and_value};
-use crate::request::first_field;
+use crate::request::{TableVerb, first_field};
 use iref::compact::{Compact, ExpandError, PrefixError, Prefixes};
 use iref::iri::Iri;
-use std::alloc::{AllocError, Global};
+use iref_error::Memory;
+use std::alloc::Global;
 use std::str;
 
 // Adds the entry of a field, `label=IRI`, to the table.
@@ -69,23 +70,22 @@ fn read_table(alloc: Global, fields: Option<&[u8]>) -> Result<Prefixes, FieldErr
 }
 
 // Puts the answer of an IRI made short: `=`, the label, `:`, and the rest.
-fn put_short(short: Compact<'_>, out: &mut Vec<u8>) -> Result<(), AllocError>
-    ensures ok { OnOk result (out.new.items ≡ out.old.items
-        ++ answer_text (Answered (part_field (Some (compact_text (compact_value short.entry)))))) }
-    ensures err { OnErr result (Extends out.old.items out.new.items) }
+fn put_short(short: Compact<'_>, out: &mut Vec<u8>) -> Result<(), Memory>
+    ensures { Puts (answer_text (Answered
+        (part_field (Some (compact_text (compact_value short.entry))))))
+        out.old.items out.new.items result }
 {
-    out.extend_from_slice(b"ok\t=")?;
-    out.extend_from_slice(short.label.as_bytes())?;
-    out.extend_from_slice(b":")?;
-    out.extend_from_slice(short.rest.as_bytes())
+    put_text(b"ok\t=", out)?;
+    put_text(short.label.as_bytes(), out)?;
+    put_text(b":", out)?;
+    put_text(short.rest.as_bytes(), out)
 }
 
 // Puts the answer of what a table makes of an IRI.
-fn put_compact(table: &Prefixes, text: &[u8], out: &mut Vec<u8>) -> Result<(), AllocError>
+fn put_compact(table: &Prefixes, text: &[u8], out: &mut Vec<u8>) -> Result<(), Memory>
     requires { are_valid_entries iri_chars table.now ≡ true }
-    ensures ok { OnOk result
-        (out.new.items ≡ out.old.items ++ request_reply (spec.Compact text.now table.now)) }
-    ensures err { OnErr result (Extends out.old.items out.new.items) }
+    ensures { Puts (request_reply (spec.Compact text.now table.now))
+        out.old.items out.new.items result }
 {
     let Ok(iri) = Iri::from_bytes(text) else {
         return put_text(b"error invalid", out);
@@ -97,56 +97,39 @@ fn put_compact(table: &Prefixes, text: &[u8], out: &mut Vec<u8>) -> Result<(), A
 }
 
 // Puts the answer of the IRI that a text stands for in a table.
-fn put_expanded(table: &Prefixes, text: &[u8], out: &mut Vec<u8>) -> Result<(), AllocError>
+fn put_expanded(table: &Prefixes, text: &[u8], out: &mut Vec<u8>) -> Result<(), Memory>
     requires { are_valid_entries iri_chars table.now ≡ true }
-    ensures ok { OnOk result
-        (out.new.items ≡ out.old.items ++ request_reply (spec.Expand text.now table.now)) }
-    ensures err { OnErr result (Extends out.old.items out.new.items) }
+    ensures { Puts (request_reply (spec.Expand text.now table.now))
+        out.old.items out.new.items result }
 {
     let Ok(text) = str::from_utf8(text) else {
         return put_text(b"error invalid", out);
     };
     match table.expand(*out.allocator(), text) {
         Ok(iri) => put_answered(iri.as_bytes(), out),
-        Err(ExpandError::Memory) => Err(AllocError),
+        Err(ExpandError::Memory) => Err(Memory),
         Err(ExpandError::NoColon) => put_text(b"error invalid", out),
         Err(ExpandError::UnknownLabel) => put_text(b"error invalid", out),
         Err(ExpandError::NotAnIri) => put_text(b"error invalid", out),
     }
 }
 
-/// Puts the answer to `compact`.
-pub fn put_answer_to_compact(
+/// Puts the answer to `compact` or `expand`.
+pub fn put_answer_by_table(
+    verb: TableVerb,
     text: &[u8],
     fields: Option<&[u8]>,
     out: &mut Vec<u8>,
-) -> Result<(), AllocError>
-    ensures ok { OnOk result (out.new.items ≡ out.old.items ++ reply_to (text_and_entries
-        spec.Compact (text.now ∷ fields_of (option_copied fields.entry)))) }
-    ensures err { OnErr result (Extends out.old.items out.new.items) }
+) -> Result<(), Memory>
+    ensures { Puts (reply_to (text_and_entries (asked_of verb)
+        (text.now ∷ fields_of (option_copied fields.entry)))) out.old.items out.new.items result }
 {
-    match read_table(*out.allocator(), fields) {
-        Ok(table) => put_compact(&table, text, out),
-        Err(FieldError::Command) => put_text(b"error command", out),
-        Err(FieldError::Invalid) => put_text(b"error invalid", out),
-        Err(FieldError::Memory) => Err(AllocError),
-    }
-}
-
-/// Puts the answer to `expand`.
-pub fn put_answer_to_expand(
-    text: &[u8],
-    fields: Option<&[u8]>,
-    out: &mut Vec<u8>,
-) -> Result<(), AllocError>
-    ensures ok { OnOk result (out.new.items ≡ out.old.items ++ reply_to (text_and_entries
-        spec.Expand (text.now ∷ fields_of (option_copied fields.entry)))) }
-    ensures err { OnErr result (Extends out.old.items out.new.items) }
-{
-    match read_table(*out.allocator(), fields) {
-        Ok(table) => put_expanded(&table, text, out),
-        Err(FieldError::Command) => put_text(b"error command", out),
-        Err(FieldError::Invalid) => put_text(b"error invalid", out),
-        Err(FieldError::Memory) => Err(AllocError),
+    let table = match read_table(*out.allocator(), fields) {
+        Ok(table) => table,
+        Err(error) => return put_refused(error, out),
+    };
+    match verb {
+        TableVerb::Compact => put_compact(&table, text, out),
+        TableVerb::Expand => put_expanded(&table, text, out),
     }
 }

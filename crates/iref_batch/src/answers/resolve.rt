@@ -1,20 +1,22 @@
-//! The answer to `resolve`.
+//! The answers to `resolve` and `relative`.
 ghost use Rattle.std.specs.Prelude.{◌≡◌, ◌++◌, true, false, IfNone, IfSome, OnOk, OnErr};
 ghost use Rattle.iref_grammar.specs.{read_reference, iri_chars};
-ghost use Rattle.iref_lines.specs.Lines.{Resolve};
+ghost use Rattle.iref_lines.specs.Lines.{Relative, Resolve};
 ghost use Rattle.iref_parse.specs.ReferenceSlices.{value_of};
-ghost use Rattle.iref_batch.specs.{Gathering.{Extends}, Runs.{request_reply}};
+ghost use Rattle.iref_batch.specs.{Gathering.{Puts}, Runs.{request_reply}};
 
 use super::{put_answered, put_text};
 use iref_buffer::held::{Held, HeldRule};
+use iref_error::Memory;
 use iref_grammar::chars::IriChars;
 use iref_parse::split::ReferenceSlices;
+use iref_reference::relative::held_relative;
 use iref_reference::rule::{FullReferenceRule, ReferenceRule};
-use std::alloc::AllocError;
+use std::alloc::Global;
 use std::str;
 
-/// The components of a text that is in the rule.
-pub fn components_of<R: HeldRule>(text: &[u8]) -> Option<ReferenceSlices<'_>>
+// The components of a text that is in the rule.
+fn components_of<R: HeldRule>(text: &[u8]) -> Option<ReferenceSlices<'_>>
     ensures none { IfNone result (R.test iri_chars text.now ≡ false) }
     ensures some { IfSome result (λ _. R.test iri_chars text.now ≡ true) }
     ensures value { IfSome result (λ slices. value_of slices ≡ read_reference text.now) }
@@ -24,14 +26,9 @@ pub fn components_of<R: HeldRule>(text: &[u8]) -> Option<ReferenceSlices<'_>>
 }
 
 /// Puts the answer to `resolve`.
-pub fn put_answer_to_resolve(
-    reference: &[u8],
-    base: &[u8],
-    out: &mut Vec<u8>,
-) -> Result<(), AllocError>
-    ensures ok { OnOk result
-        (out.new.items ≡ out.old.items ++ request_reply (Resolve reference.now base.now)) }
-    ensures err { OnErr result (Extends out.old.items out.new.items) }
+pub fn put_answer_to_resolve(reference: &[u8], base: &[u8], out: &mut Vec<u8>) -> Result<(), Memory>
+    ensures { Puts (request_reply (Resolve reference.now base.now))
+        out.old.items out.new.items result }
 {
     let Some(reference) = components_of::<ReferenceRule>(reference) else {
         return put_text(b"error invalid", out);
@@ -40,8 +37,22 @@ pub fn put_answer_to_resolve(
         return put_text(b"error invalid", out);
     };
     let alloc = *out.allocator();
-    let Ok(iri) = Held::<FullReferenceRule, IriChars>::resolved(alloc, base, reference) else {
-        return Err(AllocError);
-    };
+    let iri = Held::<FullReferenceRule, IriChars>::resolved(alloc, base, reference)?;
     put_answered(iri.as_str().as_bytes(), out)
+}
+
+/// Puts the answer to `relative`.
+pub fn put_answer_to_relative(target: &[u8], base: &[u8], out: &mut Vec<u8>) -> Result<(), Memory>
+    ensures { Puts (request_reply (Relative target.now base.now))
+        out.old.items out.new.items result }
+{
+    let Some(target) = components_of::<ReferenceRule>(target) else {
+        return put_text(b"error invalid", out);
+    };
+    let Some(base) = components_of::<ReferenceRule>(base) else {
+        return put_text(b"error invalid", out);
+    };
+    let alloc = *out.allocator();
+    let reference = held_relative::<IriChars, Global>(alloc, target, base)?;
+    put_answered(reference.as_str().as_bytes(), out)
 }

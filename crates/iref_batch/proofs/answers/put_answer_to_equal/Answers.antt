@@ -9,23 +9,23 @@ use Rattle.iref_reference.specs.Parts.{uri_ref_part_texts}
 use Rattle.iref_batch.proofs.AnswerLemmas.{no_left_answer, no_right_answer, same_answer, equal_answer}
 use Rattle.iref_batch.proofs.answers.put_answer_to_equal.Goals as goal
 
-pub returns-in_default-clause-ok : goal.returns-in_default-clause-ok
-returns-in_default-clause-ok c =
+pub returns-in_default : goal.returns-in_default
+returns-in_default c =
     let left = c.args.left.now in
-    rw (no_left_answer left c.args.right.now c.in_default.ensures.0) c.put_text.ensures.ok
+    rw (no_left_answer left c.args.right.now c.in_default.ensures.0) c.put_text.ensures
 
-pub returns-then-eq-clause-ok : goal.returns-then-eq-clause-ok
-returns-then-eq-clause-ok c =
+pub returns-then-eq : goal.returns-then-eq
+returns-then-eq c =
     let same : c.args.left.now ≡ c.args.right.now = search rules in
-    rw (same_answer c.args.left.now c.args.right.now same c.in-Ok.ensures.0) c.put_answered.ensures.ok
+    rw (same_answer c.args.left.now c.args.right.now same c.in-Ok.ensures.0) c.put_answered.ensures
 
-pub returns-in_default-from_bytes-clause-ok : goal.returns-in_default-from_bytes-clause-ok
-returns-in_default-from_bytes-clause-ok c =
+pub returns-in_default-from_bytes : goal.returns-in_default-from_bytes
+returns-in_default-from_bytes c =
     let right = c.args.right.now in
-    rw (no_right_answer c.args.left.now right c.in_default-from_bytes.ensures.0) c.put_text-in_default-from_bytes.ensures.ok
+    rw (no_right_answer c.args.left.now right c.in_default-from_bytes.ensures.0) c.put_text-in_default-from_bytes.ensures
 
-pub returns-clause-ok : goal.returns-clause-ok
-returns-clause-ok c =
+pub returns : goal.returns
+returns c =
     let left = c.args.left.now in
     let right = c.args.right.now in
     let a = c.in-Ok.left_parts in
@@ -37,4 +37,4 @@ returns-clause-ok c =
           c.in-Ok.ensures.0 c.in-Ok-from_bytes.ensures.0
           c.in-Ok.ensures.1 c.in-Ok-from_bytes.ensures.1 alike,
       ← c.yes_or_no.ensures,
-    ) c.put_answered-2.ensures.ok
+    ) c.put_answered-2.ensures

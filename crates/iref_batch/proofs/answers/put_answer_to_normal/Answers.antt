@@ -1,17 +1,17 @@
 use Rattle.iref_batch.proofs.AnswerLemmas.{normal_answer, no_normal_answer}
-use Rattle.iref_path.specs.Paths.{path_text, path_buf_text}
+use Rattle.iref_path.specs.Paths.{path_text}
 use Rattle.iref_batch.proofs.answers.put_answer_to_normal.Goals as goal
 
-pub returns-in_default-clause-ok : goal.returns-in_default-clause-ok
-returns-in_default-clause-ok c =
+pub returns-in_default : goal.returns-in_default
+returns-in_default c =
     let text = c.args.text.now in
-    rw (no_normal_answer text c.in_default.ensures.0) c.put_text.ensures.ok
+    rw (no_normal_answer text c.in_default.ensures.0) c.put_text.ensures
 
-pub returns-clause-ok : goal.returns-clause-ok
-returns-clause-ok c =
+pub returns : goal.returns
+returns c =
     let text = c.args.text.now in
     rw (
-      normal_answer text (path_text c.in-Ok.path) (path_buf_text c.in-Ok-normalized.normal) c.in-Ok.ensures.0
-          c.in-Ok.ensures.1 c.in-Ok-normalized.ensures.text,
+      normal_answer text (path_text c.in-Ok.path) _ c.in-Ok.ensures.0
+          c.in-Ok.ensures.1 c.in_ok-normal.ensures.text,
       ← c.as_bytes.ensures,
-    ) c.put_answered.ensures.ok
+    ) c.put_answered.ensures

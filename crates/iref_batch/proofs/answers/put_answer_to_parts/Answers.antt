@@ -2,12 +2,12 @@ use Rattle.iref_batch.proofs.AnswerLemmas.{parts_answer, no_parts_answer}
 use Rattle.iref_reference.specs.Parts.{uri_ref_part_texts}
 use Rattle.iref_batch.proofs.answers.put_answer_to_parts.Goals as goal
 
-pub returns-clause-ok : goal.returns-clause-ok
-returns-clause-ok c =
+pub returns : goal.returns
+returns c =
     let text = c.args.text.now in
-    rw (parts_answer text (uri_ref_part_texts c.in-Ok.parts) c.in-Ok.ensures.0 c.in-Ok.ensures.1) c.put_parts.ensures.ok
+    rw (parts_answer text (uri_ref_part_texts c.in-Ok.parts) c.in-Ok.ensures.0 c.in-Ok.ensures.1) c.put_parts.ensures
 
-pub returns-in_default-clause-ok : goal.returns-in_default-clause-ok
-returns-in_default-clause-ok c =
+pub returns-in_default : goal.returns-in_default
+returns-in_default c =
     let text = c.args.text.now in
-    rw (no_parts_answer text c.in_default.ensures.0) c.put_text.ensures.ok
+    rw (no_parts_answer text c.in_default.ensures.0) c.put_text.ensures

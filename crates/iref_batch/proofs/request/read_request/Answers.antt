@@ -51,6 +51,6 @@ returns-then-is_name-9 c =
     let asked : option_and_then (λ texts. text_and_entries Expand (texts.0.now ∷ fields_of (option_copied texts.1))) c.some_fields-then-is_name-9.result ≡ option_and_then request_of c.map-then-is_name-9.result = search rules in
     verb_read c.args.line.now (codes "expand") _ (option_copied c.verb_and_fields.result.1) (text_and_entries Expand) c.verb_and_fields.ensures c.if-is_name-9.ensures refl ∙ c.some_fields-then-is_name-9.ensures.entries Expand ∙ asked
 
-pub returns : goal.returns
-returns c =
+pub returns-else-is_name-9 : goal.returns-else-is_name-9
+returns-else-is_name-9 c =
     nothing_read c.args.line.now _ (option_copied c.verb_and_fields.result.1) c.verb_and_fields.ensures c.if-is_name.ensures c.if-is_name-2.ensures c.if-is_name-3.ensures c.if-is_name-4.ensures c.if-is_name-5.ensures c.if-is_name-6.ensures c.if-is_name-7.ensures c.if-is_name-8.ensures c.if-is_name-9.ensures

@@ -4,19 +4,19 @@ use Rattle.iref_reference.specs.References.{reference_text}
 use Rattle.iref_batch.proofs.PrefixAnswerLemmas.{compact_answer, no_compact_answer}
 use Rattle.iref_batch.proofs.answers.prefixes.put_compact.Goals as goal
 
-pub returns-in_default-clause-ok : goal.returns-in_default-clause-ok
-returns-in_default-clause-ok c = rw (no_compact_answer c.args.table.now c.args.text.now c.in_default.ensures.0) c.put_text.ensures.ok
+pub returns-in_default : goal.returns-in_default
+returns-in_default c = rw (no_compact_answer c.args.table.now c.args.text.now c.in_default.ensures.0) c.put_text.ensures
 
-pub returns-in-Some-clause-ok : goal.returns-in-Some-clause-ok
-returns-in-Some-clause-ok c =
+pub returns-in-Some : goal.returns-in-Some
+returns-in-Some c =
     rw (
     compact_answer c.args.table.now c.requires c.args.text.now (reference_text c.in-Ok.iri) (Some (compact_value c.in-Some.short)) c.in-Ok.ensures.0
     c.in-Ok.ensures.1 c.in-Some.ensures.compacted
-    ) c.put_short.ensures.ok
+    ) c.put_short.ensures
 
-pub returns-in-None-clause-ok : goal.returns-in-None-clause-ok
-returns-in-None-clause-ok c =
+pub returns-in-None : goal.returns-in-None
+returns-in-None c =
     rw (
     compact_answer c.args.table.now c.requires c.args.text.now (reference_text c.in-Ok.iri) None c.in-Ok.ensures.0
     c.in-Ok.ensures.1 c.in-None.ensures.compacted
-    ) c.put_answered.ensures.ok
+    ) c.put_answered.ensures

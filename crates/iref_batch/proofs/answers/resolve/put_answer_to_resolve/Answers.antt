@@ -6,13 +6,13 @@ use Rattle.iref_reference.proofs.ResolutionLemmas.{readable_slices, resolved-sch
 use Rattle.iref_batch.proofs.AnswerLemmas.{resolve_answer, no_reference_answer, no_base_answer}
 use Rattle.iref_batch.proofs.answers.resolve.put_answer_to_resolve.Goals as goal
 
-pub returns-in_default-clause-ok : goal.returns-in_default-clause-ok
-returns-in_default-clause-ok c =
-    rw (no_reference_answer c.args.reference.now c.args.base.now c.in_default.ensures.none) c.put_text.ensures.ok
+pub returns-in_default : goal.returns-in_default
+returns-in_default c =
+    rw (no_reference_answer c.args.reference.now c.args.base.now c.in_default.ensures.none) c.put_text.ensures
 
-pub returns-in_default-components_of-clause-ok : goal.returns-in_default-components_of-clause-ok
-returns-in_default-components_of-clause-ok c =
-    rw (no_base_answer c.args.reference.now c.args.base.now c.in_default-components_of.ensures.none) c.put_text-in_default-components_of.ensures.ok
+pub returns-in_default-components_of : goal.returns-in_default-components_of
+returns-in_default-components_of c =
+    rw (no_base_answer c.args.reference.now c.args.base.now c.in_default-components_of.ensures.none) c.put_text-in_default-components_of.ensures
 
 pub resolved-requires-clause-base : goal.resolved-requires-clause-base
 resolved-requires-clause-base c =
@@ -29,10 +29,10 @@ resolved-requires-clause-allowed c =
     resolved-scheme iri_chars c.args.base.now (value_of c.in-Some-components_of.base) (value_of c.in-Some.reference)
     c.in-Some-components_of.ensures.value c.in-Some-components_of.ensures.some
 
-pub returns-clause-ok : goal.returns-clause-ok
-returns-clause-ok c =
+pub returns : goal.returns
+returns c =
     rw (
     resolve_answer c.args.reference.now c.args.base.now c.as_bytes.result.now (value_of c.in-Some.reference) (value_of c.in-Some-components_of.base)
     c.in-Some.ensures.some c.in-Some-components_of.ensures.some c.in-Some.ensures.value c.in-Some-components_of.ensures.value
-    (c.as_bytes.ensures.value ∙ c.as_str.ensures.text ∙ c.in-Ok.ensures.0)
-    ) c.put_answered.ensures.ok
+    (c.as_bytes.ensures.value ∙ c.as_str.ensures.text ∙ c.in_ok-iri.ensures.0)
+    ) c.put_answered.ensures

@@ -4,15 +4,15 @@ use Rattle.iref_grammar.proofs.ComponentLemmas.{Decides-AreComponents}
 use Rattle.iref_parse.specs.ReferenceSlices.{texts_of, value_of}
 use Rattle.iref_reference.proofs.ResolutionLemmas.{readable_slices}
 use Rattle.iref_batch.proofs.AnswerLemmas.{no_relative_base_answer, no_target_answer, relative_answer}
-use Rattle.iref_batch.proofs.answers.relative.put_answer_to_relative.Goals as goal
+use Rattle.iref_batch.proofs.answers.resolve.put_answer_to_relative.Goals as goal
 
-pub returns-in_default-clause-ok : goal.returns-in_default-clause-ok
-returns-in_default-clause-ok c =
-    rw (no_target_answer c.args.target.now c.args.base.now c.in_default.ensures.none) c.put_text.ensures.ok
+pub returns-in_default : goal.returns-in_default
+returns-in_default c =
+    rw (no_target_answer c.args.target.now c.args.base.now c.in_default.ensures.none) c.put_text.ensures
 
-pub returns-in_default-components_of-clause-ok : goal.returns-in_default-components_of-clause-ok
-returns-in_default-components_of-clause-ok c =
-    rw (no_relative_base_answer c.args.target.now c.args.base.now c.in_default-components_of.ensures.none) c.put_text-in_default-components_of.ensures.ok
+pub returns-in_default-components_of : goal.returns-in_default-components_of
+returns-in_default-components_of c =
+    rw (no_relative_base_answer c.args.target.now c.args.base.now c.in_default-components_of.ensures.none) c.put_text-in_default-components_of.ensures
 
 pub held_relative-requires-clause-target : goal.held_relative-requires-clause-target
 held_relative-requires-clause-target c =
@@ -26,10 +26,10 @@ pub held_relative-requires-clause-readable : goal.held_relative-requires-clause-
 held_relative-requires-clause-readable c =
     readable_slices iri_chars c.args.target.now (value_of c.in-Some.target) c.in-Some.ensures.value c.in-Some.ensures.some
 
-pub returns-clause-ok : goal.returns-clause-ok
-returns-clause-ok c =
+pub returns : goal.returns
+returns c =
     rw (
     relative_answer c.args.target.now c.args.base.now c.as_bytes.result.now (value_of c.in-Some.target) (value_of c.in-Some-components_of.base)
     c.in-Some.ensures.some c.in-Some-components_of.ensures.some c.in-Some.ensures.value c.in-Some-components_of.ensures.value
-    (c.as_bytes.ensures.value ∙ c.as_str.ensures.text ∙ c.in-Ok.ensures.0)
-    ) c.put_answered.ensures.ok
+    (c.as_bytes.ensures.value ∙ c.as_str.ensures.text ∙ c.in_ok-reference.ensures.0)
+    ) c.put_answered.ensures
