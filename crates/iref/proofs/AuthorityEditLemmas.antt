@@ -17,7 +17,7 @@ use Rattle.iref_buffer.proofs.EditLemmas.{readable_of}
 use Rattle.iref_reference.proofs.AuthorityStepLemmas.{authority_step}
 
 -- an optional text that is given by a view is in the rule
-pub view_in_rule : {R C r c : _} (o : Option (View R C r c)) → none_or (r.test c.tests) (option_map view_text o) ≡ true
+pub view_in_rule : {R C K r k c : _} (o : Option (View R C K r k c)) → none_or (r.test c.tests) (option_map view_text o) ≡ true
 view_in_rule None = refl
 view_in_rule (Some view) = view.in_rule
 

@@ -48,7 +48,7 @@ module _ (prefix r p q : ReferenceValue) (p_is : p ≡ prefix) (q_is : q ≡ r) 
         by (Some x) h = h
 
     -- what is left of the path, with the query and the fragment
-    pub left-of_path : {C c Q U a u F V b v : _} (found : Option (PathBuf C c)) (query : Option (View Q U a u)) (fragment : Option (View F V b v)) → SpellsSuffix p.path q.path found
+    pub left-of_path : {C c Q U J a j u F V K b k v : _} (found : Option (PathBuf C c)) (query : Option (View Q U J a j u)) (fragment : Option (View F V K b k v)) → SpellsSuffix p.path q.path found
         → option_map view_text query ≡ q.query → option_map view_text fragment ≡ q.fragment → SpellsReferenceSuffix prefix r (option_map (λ path. (path, query, fragment)) found)
     left-of_path found query fragment spells query_is fragment_is = record {
       text = first_mapped path_buf_text (λ path. (path, query, fragment)) (λ left. path_buf_text left.0) (λ path. refl) found ∙ spells.text

@@ -15,11 +15,11 @@ pub use Rattle.iref_model.specs.Key.{fed_reference, key, key_cmp}
 pub use Rattle.iref_model.specs.ReferenceParts.{base_of, host_of, port_of, user_info_of}
 pub use Rattle.iref_parse.specs.ReferenceSlices.{texts_of}
 pub use Rattle.iref_component.specs.Components.{view_text}
-pub use Rattle.iref_component.specs.Makers.{Parses}
+pub use Rattle.iref_component.specs.Makers.{ParsesUtf8}
 pub use Rattle.iref_path.specs.Paths.{path_value}
 pub use Rattle.iref_buffer.specs.Steps.{IsStep}
 pub use Rattle.iref_reference.specs.Parts.{key_of_parts, part_texts, parts_value, scheme_key, uri_parts_key, uri_ref_part_texts, uri_ref_parts_key, uri_ref_parts_value}
-pub use Rattle.iref_reference.specs.References.{BecomesFull, HasSchemeOrRefused, OwnerBecomesFull, key_of_reference, key_of_reference_buf, reference_buf_text, reference_buf_value, reference_text, reference_value}
+pub use Rattle.iref_reference.specs.References.{BecomesFull, HasSchemeOrRefused, OwnerBecomesFull, ParsesReference, ParsesReferenceBuf, key_of_reference, key_of_reference_buf, reference_buf_text, reference_buf_value, reference_text, reference_value}
 pub mod Conversions
 pub mod HandedBack
 pub mod Mappings

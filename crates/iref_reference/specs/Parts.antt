@@ -21,27 +21,27 @@ part_texts scheme p = record {
   fragment = option_map view_text p.fragment;
 }
 
-abbrev pub uri_ref_part_texts : {R U r u C c : _} → Parts (Option (View R U r u)) C c → ComponentTexts
+abbrev pub uri_ref_part_texts : {R U K r k u C c : _} → Parts (Option (View R U K r k u)) C c → ComponentTexts
 uri_ref_part_texts = part_texts (option_map view_text)
 
 -- the reference that the parts are those of
 abbrev pub parts_value : {S : Type 0} {C : _} {c : _} → (S → Option Text) → Parts S C c → ReferenceValue
 parts_value scheme p = read_components (part_texts scheme p)
 
-abbrev pub uri_ref_parts_value : {R U r u C c : _} → Parts (Option (View R U r u)) C c → ReferenceValue
+abbrev pub uri_ref_parts_value : {R U K r k u C c : _} → Parts (Option (View R U K r k u)) C c → ReferenceValue
 uri_ref_parts_value = parts_value (option_map view_text)
 
-abbrev pub uri_parts_value : {R U r u C c : _} → Parts (View R U r u) C c → ReferenceValue
+abbrev pub uri_parts_value : {R U K r k u C c : _} → Parts (View R U K r k u) C c → ReferenceValue
 uri_parts_value = parts_value (λ scheme. Some (view_text scheme))
 
 -- what the parts are compared by
 abbrev pub key_of_parts : {S : Type 0} {C : _} {c : _} → (S → Option Text) → Parts S C c → ReferenceValue
 key_of_parts scheme p = key (parts_value scheme p)
 
-abbrev pub uri_ref_parts_key : {R U r u C c : _} → Parts (Option (View R U r u)) C c → ReferenceValue
+abbrev pub uri_ref_parts_key : {R U K r k u C c : _} → Parts (Option (View R U K r k u)) C c → ReferenceValue
 uri_ref_parts_key p = key (uri_ref_parts_value p)
 
-abbrev pub uri_parts_key : {R U r u C c : _} → Parts (View R U r u) C c → ReferenceValue
+abbrev pub uri_parts_key : {R U K r k u C c : _} → Parts (View R U K r k u) C c → ReferenceValue
 uri_parts_key p = key (uri_parts_value p)
 
 -- and a scheme that may be absent

@@ -4,14 +4,15 @@ use Rattle.iref_grammar.specs.Rules.{Text}
 use Rattle.iref_grammar.specs.Reference.{ReferenceValue, read_reference}
 use Rattle.iref_model.specs.Key.{key}
 use Rattle.iref_component.specs.Components.{view_text}
+use Rattle.iref_component.specs.Makers.{ParsesUtf8}
 use Rattle.iref_buffer.specs.Steps.{IsStep, StepsOrStays}
 use Rattle.iref_reference.specs.declared.view.Reference.{Reference}
 use Rattle.iref_reference.specs.declared.owner.ReferenceBuf.{ReferenceBuf}
 
-abbrev pub reference_text : {R C r k c : _} → Reference R C r k c → Text
+abbrev pub reference_text : {R C K r k c : _} → Reference R C K r k c → Text
 reference_text r = view_text r.text
 
-abbrev pub reference_value : {R C r k c : _} → Reference R C r k c → ReferenceValue
+abbrev pub reference_value : {R C K r k c : _} → Reference R C K r k c → ReferenceValue
 reference_value r = read_reference (reference_text r)
 
 abbrev pub reference_buf_text : {R C K : _} → ReferenceBuf R C K → Text
@@ -20,11 +21,19 @@ reference_buf_text r = r.held
 abbrev pub reference_buf_value : {R C K : _} → ReferenceBuf R C K → ReferenceValue
 reference_buf_value r = read_reference (reference_buf_text r)
 
-abbrev pub key_of_reference : {R C r k c : _} → Reference R C r k c → ReferenceValue
+abbrev pub key_of_reference : {R C K r k c : _} → Reference R C K r k c → ReferenceValue
 key_of_reference r = key (reference_value r)
 
 abbrev pub key_of_reference_buf : {R C K : _} → ReferenceBuf R C K → ReferenceValue
 key_of_reference_buf r = key (reference_buf_value r)
+
+-- Ok with the reference of the text exactly if that is in the rule, else the error holds the input
+abbrev pub ParsesReference : {R C K r k c : _} {E I : Type 0} → (Text → Type 0) → (E → I) → Text → I → Result (Reference R C K r k c) E → Type 0
+ParsesReference rule = ParsesUtf8 rule reference_text
+
+-- the same of an owner
+abbrev pub ParsesReferenceBuf : {R C K : _} {E I : Type 0} → (Text → Type 0) → (E → I) → Text → I → Result (ReferenceBuf R C K) E → Type 0
+ParsesReferenceBuf rule = ParsesUtf8 rule reference_buf_text
 
 -- Ok with the same text, or the reference itself, exactly if it has no scheme
 abbrev pub HasSchemeOrRefused : {V W E : Type 0} → (V → Text) → (W → Text) → V → (E → V) → Result W E → Type 0
@@ -33,7 +42,7 @@ HasSchemeOrRefused reference_text uri_text reference input result =
     (λ error. (input error ≡ reference) × ((read_reference (reference_text reference)).scheme ≡ None))
 
 -- the same of views
-abbrev pub BecomesFull : {R C r k c S D s l d : _} {E : Type 0} → (E → Reference R C r k c) → Reference R C r k c → Result (Reference S D s l d) E → Type 0
+abbrev pub BecomesFull : {R C K r k c S D L s l d : _} {E : Type 0} → (E → Reference R C K r k c) → Reference R C K r k c → Result (Reference S D L s l d) E → Type 0
 BecomesFull input reference result = HasSchemeOrRefused reference_text reference_text reference input result
 
 -- and of owners
@@ -45,5 +54,5 @@ abbrev pub Edits : {R C K : _} {V E : Type 0} → (ReferenceValue → ReferenceV
 Edits step old new result = StepsOrStays step (reference_buf_text old) (reference_buf_text new) result
 
 -- an owner that takes memory: this step of the text of a view
-abbrev pub StepsFrom : {R C r k c S D K : _} {E : Type 0} → (ReferenceValue → ReferenceValue) → Reference R C r k c → Result (ReferenceBuf S D K) E → Type 0
+abbrev pub StepsFrom : {R C L r k c S D K : _} {E : Type 0} → (ReferenceValue → ReferenceValue) → Reference R C L r k c → Result (ReferenceBuf S D K) E → Type 0
 StepsFrom step old result = MatchResult result (λ new. IsStep step (reference_text old) (reference_buf_text new)) (λ _. ⊤)

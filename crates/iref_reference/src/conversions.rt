@@ -3,11 +3,10 @@
 ghost use Rattle.std.specs.Prelude.{◌≡◌, IfSome, is_some};
 ghost use Rattle.iref_grammar.specs.{Characters.{uri_chars}, Grammar.{IsUri, IsUriReference}};
 ghost use Rattle.iref_grammar.specs.Rules.{InUtf8};
-ghost use Rattle.iref_component.specs.Makers.{Parses};
 ghost use Rattle.iref_reference.specs.Conversions.{BecomesUri, OwnerBecomesUri, SomeIfIn};
 ghost use Rattle.iref_reference.specs.References.{reference_text, reference_value};
 ghost use Rattle.iref_reference.specs.References.{reference_buf_text, BecomesFull};
-ghost use Rattle.iref_reference.specs.References.{OwnerBecomesFull};
+ghost use Rattle.iref_reference.specs.References.{OwnerBecomesFull, ParsesReferenceBuf};
 
 use crate::owner::{ReferenceBuf, UriBuf, UriRefBuf};
 use crate::view::{Reference, Uri, UriRef};
@@ -149,8 +148,8 @@ impl UriRefBuf<UriChars> {
 impl<R: HeldRule, C: CharSet> ReferenceBuf<R, C> {
     // The same text in another rule, or over other characters, if it is in it, or the owner.
     fn converted<S: HeldRule, D: CharSet>(self) -> Result<ReferenceBuf<S, D>, Self>
-        ensures { Parses (InUtf8 (S.rule D.tests)) (reference_buf_text self) reference_buf_text
-            (λ owner. owner ≡ self) result }
+        ensures { ParsesReferenceBuf (S.rule D.tests) (λ owner. owner)
+            (reference_buf_text self) self result }
     {
         if S::accepts::<D>(self.as_str()) {
             Ok(ReferenceBuf::from_held(self.held.into_rule()))
@@ -163,16 +162,14 @@ impl<R: HeldRule, C: CharSet> ReferenceBuf<R, C> {
 impl<R: HeldRule> ReferenceBuf<R, IriChars> {
     /// The URI of the same text, with no copy, or the owner if its text is no URI.
     pub fn try_into_uri(self) -> Result<UriBuf<UriChars>, InvalidUri<Self>>
-        ensures { Parses (InUtf8 (IsUri uri_chars)) (reference_buf_text self) reference_buf_text
-            (λ error. error.0 ≡ self) result }
+        ensures { OwnerBecomesUri IsUri (λ error. error.0) self result }
     {
         self.converted().map_err(InvalidUri)
     }
 
     /// The reference of URIs of the same text, with no copy, or the owner if its text is none.
     pub fn try_into_uri_ref(self) -> Result<UriRefBuf<UriChars>, InvalidUriRef<Self>>
-        ensures { Parses (InUtf8 (IsUriReference uri_chars)) (reference_buf_text self)
-            reference_buf_text (λ error. error.0 ≡ self) result }
+        ensures { OwnerBecomesUri IsUriReference (λ error. error.0) self result }
     {
         self.converted().map_err(InvalidUriRef)
     }

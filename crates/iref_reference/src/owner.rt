@@ -2,15 +2,14 @@
 ghost use Rattle.std.specs.Prelude.{◌≡◌, ◌++◌, true, [], ◌∷◌, Some, None, IfOk, option_map};
 ghost use Rattle.std.specs.String.{string_bytes};
 ghost use Rattle.iref_component.specs.{colon, hash_sign, spell_authority, before, spell_path};
-ghost use Rattle.iref_component.specs.{places_of};
-ghost use Rattle.iref_component.specs.{spell_components, hierarchy, spell, InUtf8, with_query};
+ghost use Rattle.iref_component.specs.{spell_components, hierarchy, spell, with_query, places_of};
 ghost use Rattle.iref_component.specs.{with_fragment, user_info_of, host_of, port_of, base_of};
-ghost use Rattle.iref_component.specs.{Parses, view_text, owned_text};
+ghost use Rattle.iref_component.specs.{view_text, owned_text};
 ghost use Rattle.iref_authority.specs.{authority_text};
 ghost use Rattle.iref_path.specs.{path_text};
 ghost use Rattle.iref_reference.specs.References.{reference_text, reference_value};
 ghost use Rattle.iref_reference.specs.References.{reference_buf_text, reference_buf_value};
-ghost use Rattle.iref_reference.specs.References.{OwnerBecomesFull};
+ghost use Rattle.iref_reference.specs.References.{OwnerBecomesFull, ParsesReferenceBuf};
 ghost use Rattle.iref_reference.specs.Parts.{uri_ref_part_texts, uri_ref_parts_value, part_texts};
 ghost use Rattle.iref_reference.specs.Parts.{parts_value};
 
@@ -46,8 +45,7 @@ pub type UriBuf<C> = ReferenceBuf<FullReferenceRule, C>;
 impl<R: HeldRule + Refuses<String>, C: CharSet> ReferenceBuf<R, C> {
     /// The reference of this text, with no copy, or the text in the rule's error.
     pub fn new(text: String) -> Result<Self, R::Error>
-        ensures { Parses (InUtf8 (R.rule C.tests)) (string_bytes text) reference_buf_text
-            (λ error. R.refused error ≡ text) result }
+        ensures { ParsesReferenceBuf (R.rule C.tests) R.refused (string_bytes text) text result }
     {
         match Held::new(text) {
             Ok(held) => Ok(ReferenceBuf { held }),
@@ -59,8 +57,7 @@ impl<R: HeldRule + Refuses<String>, C: CharSet> ReferenceBuf<R, C> {
 impl<R: HeldRule + Refuses<Vec<u8>>, C: CharSet> ReferenceBuf<R, C> {
     /// The reference of these bytes of UTF-8, with no copy, or the bytes in the rule's error.
     pub fn from_bytes(bytes: Vec<u8>) -> Result<Self, R::Error>
-        ensures { Parses (InUtf8 (R.rule C.tests)) bytes.items reference_buf_text
-            (λ error. R.refused error ≡ bytes) result }
+        ensures { ParsesReferenceBuf (R.rule C.tests) R.refused bytes.items bytes result }
     {
         match Held::from_bytes(bytes) {
             Ok(held) => Ok(ReferenceBuf { held }),
@@ -289,8 +286,8 @@ impl<C: CharSet> TryFrom<UriRefBuf<C>> for UriBuf<C> {
 impl<R: HeldRule + Refuses<String>, C: CharSet> TryFrom<String> for ReferenceBuf<R, C> {
     type Error = R::Error;
 
-    ghost try_from_gives = { λ text result. Parses (InUtf8 (R.rule C.tests)) (string_bytes text)
-        reference_buf_text (λ error. R.refused error ≡ text) result };
+    ghost try_from_gives = { λ text result. ParsesReferenceBuf (R.rule C.tests) R.refused
+        (string_bytes text) text result };
 
     fn try_from(text: String) -> Result<Self, R::Error> {
         ReferenceBuf::new(text)
@@ -300,8 +297,8 @@ impl<R: HeldRule + Refuses<String>, C: CharSet> TryFrom<String> for ReferenceBuf
 impl<R: HeldRule + Refuses<Vec<u8>>, C: CharSet> TryFrom<Vec<u8>> for ReferenceBuf<R, C> {
     type Error = R::Error;
 
-    ghost try_from_gives = { λ bytes result. Parses (InUtf8 (R.rule C.tests)) bytes.items
-        reference_buf_text (λ error. R.refused error ≡ bytes) result };
+    ghost try_from_gives = { λ bytes result. ParsesReferenceBuf (R.rule C.tests) R.refused
+        bytes.items bytes result };
 
     fn try_from(bytes: Vec<u8>) -> Result<Self, R::Error> {
         ReferenceBuf::from_bytes(bytes)

@@ -1,16 +1,15 @@
 //! Borrowed references (RFC 3986 sections 3 and 4.1).
 ghost use Rattle.std.specs.Prelude.{IfOk, IfSome, is_some, ◌≡◌, true, [], ◌∷◌, Some, None};
 ghost use Rattle.std.specs.Prelude.{option_map};
-ghost use Rattle.iref_component.specs.{Parses, view_text, spell_components, hierarchy, spell};
-ghost use Rattle.iref_component.specs.{spell_authority, with_query, with_fragment, InUtf8};
+ghost use Rattle.iref_component.specs.{view_text, spell_components, hierarchy, spell, hash_sign};
+ghost use Rattle.iref_component.specs.{spell_authority, with_query, with_fragment};
 ghost use Rattle.iref_component.specs.{user_info_of, host_of, port_of, base_of, spell_path, before};
-ghost use Rattle.iref_component.specs.{hash_sign};
 ghost use Rattle.iref_authority.specs.{authority_text};
 ghost use Rattle.iref_path.specs.{path_text};
 ghost use Rattle.iref_reference.specs.Parts.{part_texts, parts_value, uri_ref_part_texts};
 ghost use Rattle.iref_reference.specs.Parts.{uri_ref_parts_value};
 ghost use Rattle.iref_reference.specs.References.{reference_text, reference_value};
-ghost use Rattle.iref_reference.specs.References.{reference_buf_text, BecomesFull};
+ghost use Rattle.iref_reference.specs.References.{reference_buf_text, BecomesFull, ParsesReference};
 
 use crate::owner::ReferenceBuf;
 use crate::parts::{Parts, UriRefParts};
@@ -46,8 +45,7 @@ pub type Uri<'a, C> = Reference<'a, FullReferenceRule, C>;
 impl<'a, R: HeldRule + Refuses<&'a str>, C: CharSet> Reference<'a, R, C> {
     /// The reference of this text, or the text in the rule's error.
     pub fn new(text: &'a str) -> Result<Self, R::Error>
-        ensures { Parses (InUtf8 (R.rule C.tests)) text.now reference_text
-            (λ error. R.refused error ≡ text.entry) result }
+        ensures { ParsesReference (R.rule C.tests) R.refused text.now text.entry result }
     {
         match View::new(text) {
             Ok(text) => Ok(Reference { text }),
@@ -59,8 +57,7 @@ impl<'a, R: HeldRule + Refuses<&'a str>, C: CharSet> Reference<'a, R, C> {
 impl<'a, R: HeldRule + Refuses<&'a [u8]>, C: CharSet> Reference<'a, R, C> {
     /// The reference of these bytes of UTF-8, or the bytes in the rule's error.
     pub fn from_bytes(bytes: &'a [u8]) -> Result<Self, R::Error>
-        ensures { Parses (InUtf8 (R.rule C.tests)) bytes.now reference_text
-            (λ error. R.refused error ≡ bytes.entry) result }
+        ensures { ParsesReference (R.rule C.tests) R.refused bytes.now bytes.entry result }
     {
         match View::from_bytes(bytes) {
             Ok(text) => Ok(Reference { text }),
@@ -271,8 +268,7 @@ impl<'a, C: CharSet> TryFrom<UriRef<'a, C>> for Uri<'a, C> {
 impl<'a, R: HeldRule + Refuses<&'a str>, C: CharSet> TryFrom<&'a str> for Reference<'a, R, C> {
     type Error = R::Error;
 
-    ghost try_from_gives = { λ text result. Parses (InUtf8 (R.rule C.tests)) text.now
-        reference_text (λ error. R.refused error ≡ text) result };
+    ghost try_from_gives = { λ text. ParsesReference (R.rule C.tests) R.refused text.now text };
 
     fn try_from(text: &'a str) -> Result<Self, R::Error> {
         Reference::new(text)
@@ -282,8 +278,7 @@ impl<'a, R: HeldRule + Refuses<&'a str>, C: CharSet> TryFrom<&'a str> for Refere
 impl<'a, R: HeldRule + Refuses<&'a [u8]>, C: CharSet> TryFrom<&'a [u8]> for Reference<'a, R, C> {
     type Error = R::Error;
 
-    ghost try_from_gives = { λ bytes result. Parses (InUtf8 (R.rule C.tests)) bytes.now
-        reference_text (λ error. R.refused error ≡ bytes) result };
+    ghost try_from_gives = { λ bytes. ParsesReference (R.rule C.tests) R.refused bytes.now bytes };
 
     fn try_from(bytes: &'a [u8]) -> Result<Self, R::Error> {
         Reference::from_bytes(bytes)
