@@ -98,12 +98,10 @@ impl<'a, C: CharSet, T: Target<AuthorityPart, C>> AuthorityMut<'a, C, T> {
         ensures end { authority_mut_end result ≡ range.end }
     {
         let Range { start, end } = range;
-        let place = Place { start, end };
-        let chars = PhantomData;
         AuthorityMut {
             target,
-            place,
-            chars,
+            place: Place { start, end },
+            chars: PhantomData,
         }
     }
 
