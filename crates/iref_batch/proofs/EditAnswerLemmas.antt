@@ -1,5 +1,5 @@
 -- Answers to lines of edits.
-use Rattle.std.proofs.Common.{◌≡◌, ℕ, true, false, List, ◌∷◌, Option, Some, Ok, Err, refl, ap, sym, ◌∙◌, option_map}
+use Rattle.std.proofs.Common.{◌≡◌, ℕ, true, false, List, Ok, Err, refl, ap, sym, ◌∙◌}
 use Rattle.std.specs.List.{list_all}
 use Rattle.std.proofs.lemmas.Bool.{and_right}
 use Rattle.iref_grammar.specs.Characters.{iri_chars}
@@ -7,10 +7,8 @@ use Rattle.iref_grammar.specs.Grammar.{IsUriReference}
 use Rattle.iref_grammar.specs.Reference.{ReferenceValue, is_reference, read_reference, spell}
 use Rattle.iref_grammar.specs.Rules.{InUtf8, Text}
 use Rattle.iref_model.specs.Edits.{EditStep, EditRefusal, EditsOutcome, edited, edited_all}
-use Rattle.iref_lines.specs.Lines.{Edit, Answered, InvalidText, RefusedEdit, answer_if_valid, answer_text, answer_to, edits_answer, is_valid, is_valid_edit, text_and_edits}
+use Rattle.iref_lines.specs.Lines.{Edit, Answered, InvalidText, RefusedEdit, answer_if_valid, answer_to, edits_answer, is_valid, is_valid_edit}
 use Rattle.iref.specs.EditAnswers.{AreDone}
-use Rattle.iref_batch.specs.EditFields.{edits_read}
-use Rattle.iref_batch.specs.Runs.{reply_to}
 use Rattle.iref_batch.proofs.AnswerLemmas.{invalid, no_reference, reference, valid}
 
 pub unfit_edits : (text : Text) (steps : List EditStep) → list_all (is_valid_edit iri_chars) steps ≡ false → is_valid iri_chars (Edit text steps) ≡ false

@@ -1,5 +1,5 @@
 -- Answers to lines of prefix tables.
-use Rattle.std.proofs.Common.{◌≡◌, true, false, List, ◌∷◌, Option, Some, Result, refl, ap, sym, ◌∙◌, option_map}
+use Rattle.std.proofs.Common.{◌≡◌, true, false, List, Option, Result, refl, ap, sym, ◌∙◌, option_map}
 use Rattle.std.specs.Str.{is_utf8}
 use Rattle.std.proofs.lemmas.Bool.{and_left, and_right, false_from_ne_true}
 use Rattle.iref_grammar.specs.Characters.{iri_chars, iri_above_ascii}
@@ -8,8 +8,7 @@ use Rattle.iref_grammar.specs.Reference.{is_full_reference}
 use Rattle.iref_grammar.specs.Rules.{InUtf8, Text}
 use Rattle.iref_grammar.proofs.ReferenceRuleLemmas.{Decides-is_uri}
 use Rattle.iref_mapping.specs.PrefixTable.{PrefixEntry, CompactValue, compacted, compact_text, ExpandRefusal, expanded}
-use Rattle.iref_lines.specs.Lines.{Request, Compact, Expand, Answered, InvalidText, answer_if_valid, answer_text, answer_to, are_valid_entries, expanded_answer, is_valid, part_field, text_and_entries}
-use Rattle.iref_batch.specs.PrefixFields.{entries_read}
+use Rattle.iref_lines.specs.Lines.{Compact, Expand, Answered, InvalidText, answer_if_valid, answer_to, are_valid_entries, expanded_answer, is_valid, part_field}
 use Rattle.iref_batch.specs.Requests.{asked_of}
 use Rattle.iref_batch.specs.declared.request.TableVerb.{TableVerb}
 use Rattle.iref_batch.specs.declared.request.TableVerb.TheVariants as table_verb

@@ -8,7 +8,7 @@ ghost use Rattle.iref_component.specs.Components.{view_text};
 ghost use Rattle.iref_authority.specs.Authorities.{authority_text};
 ghost use Rattle.iref_reference.specs.Parts.{uri_ref_part_texts};
 ghost use Rattle.iref_batch.specs.{EditFields.{IsRefusal}, Gathering.{Puts}};
-ghost use Rattle.iref_batch.specs.{Requests.{request_of}};
+ghost use Rattle.iref_batch.specs.Requests.{request_of};
 ghost use Rattle.iref_batch.specs.Runs.{request_reply, reply_to, line_reply, with_newline};
 
 mod edit;

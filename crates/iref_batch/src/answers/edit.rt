@@ -1,5 +1,5 @@
 //! The answer to `edit`.
-ghost use Rattle.std.specs.Prelude.{◌≡◌, ◌++◌, ◌∷◌, true, map, IfOk, OnOk, OnErr};
+ghost use Rattle.std.specs.Prelude.{◌≡◌, ◌∷◌, true, map, IfOk};
 ghost use Rattle.std.specs.{List.{list_all}, Option.{option_copied}};
 ghost use Rattle.iref_grammar.specs.{iri_chars};
 ghost use Rattle.iref_lines.specs.Lines.{is_valid_edit, text_and_edits};

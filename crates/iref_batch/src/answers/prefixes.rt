@@ -1,5 +1,5 @@
 //! The answers to `compact` and `expand`, by a table of the entries that the fields name.
-ghost use Rattle.std.specs.Prelude.{◌≡◌, ◌++◌, ◌∷◌, Some, true, OnOk, OnErr, IfErr};
+ghost use Rattle.std.specs.Prelude.{◌≡◌, ◌∷◌, Some, true, OnOk, OnErr, IfErr};
 ghost use Rattle.std.specs.Option.{option_copied};
 ghost use Rattle.iref_grammar.specs.{iri_chars};
 ghost use Rattle.iref_lines.specs.Lines as spec;

@@ -1,5 +1,5 @@
 //! The answers to `resolve` and `relative`.
-ghost use Rattle.std.specs.Prelude.{◌≡◌, ◌++◌, true, false, IfNone, IfSome, OnOk, OnErr};
+ghost use Rattle.std.specs.Prelude.{◌≡◌, true, false, IfNone, IfSome};
 ghost use Rattle.iref_grammar.specs.{read_reference, iri_chars};
 ghost use Rattle.iref_lines.specs.Lines.{Relative, Resolve};
 ghost use Rattle.iref_parse.specs.ReferenceSlices.{value_of};
