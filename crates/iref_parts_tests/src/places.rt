@@ -1,4 +1,4 @@
-//! The bases of references, the texts before the query and the fragment, and where components stand.
+//! The bases of references, the texts before the query and the fragment, and where components are.
 use iref::uri::Offsets;
 use iref::{Iri, IriBuf, IriRef, UriBuf, UriRefBuf};
 use iref_checks::same::{same, same_text};
