@@ -52,8 +52,7 @@ impl CharSet for IriChars {
             c,
             '\u{A0}'..='\u{D7FF}' | '\u{F900}'..='\u{FDCF}' | '\u{FDF0}'..='\u{FFEF}'
                 | '\u{E1000}'..='\u{EFFFD}'
-        )
-            || (matches!(c, '\u{10000}'..='\u{DFFFD}') && (c as u32) % 0x1_0000 <= 0xFFFD)
+        ) || (matches!(c, '\u{10000}'..='\u{DFFFD}') && (c as u32) % 0x1_0000 <= 0xFFFD)
     }
 
     fn is_private(c: char) -> bool {

@@ -35,8 +35,7 @@ pub struct PathMut<'a, C: CharSet, T: Target<PathPart, C> = Vec<u8>> {
     context: PathContext,
     place: Place,
     chars: PhantomData<C>,
-    ghost placed: { T.stands (T.text target.now) context place.start place.end }
-        by { T.one_place (T.text target.now) context place.start place.end },
+    ghost placed: { T.stands (T.text target.now) context place.start place.end } by { T.one_place (T.text target.now) context place.start place.end },
 }
 
 impl<'a, C: CharSet, T: Target<PathPart, C>> PathMut<'a, C, T> {
