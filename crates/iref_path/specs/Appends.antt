@@ -42,7 +42,7 @@ abbrev pub followed_each : ListStep
 followed_each context items path = fold (followed context) path items
 
 -- an edit by segments: at Ok all were taken, and the path becomes what the first makes of their texts; at an Err some were, and it becomes what the second makes of theirs
-abbrev pub Appends : {R : _} {C : _} {r : _} {c : _} {S V E : Type 0} → (S → Option (View R C r c) → S → Type 0) → S → (PathStep → Type 0) → ListStep → ListStep → Result V E → Type 0
+abbrev pub Appends : {R C K r k c : _} {S V E : Type 0} → (S → Option (View R C K r k c) → S → Type 0) → S → (PathStep → Type 0) → ListStep → ListStep → Result V E → Type 0
 Appends steps s Becomes whole before result =
     MatchResult result (λ _. TakesAll steps s (λ items. Becomes (λ context. whole context (map view_text items)))) (λ _. TakesFirst steps s (λ items. Becomes (λ context. before context (map view_text items))))
 
