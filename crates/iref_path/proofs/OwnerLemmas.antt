@@ -27,7 +27,7 @@ module _ {C : _} {T : _} {A : _} {c : _} {t : _} {a : _} {D : _} {d : _} (before
   pub owner_edited : {V E : Type 0} (step : PathStep) (result : Result V E) → Edits step old new result → EditsOwner (step alone) before after result
   owner_edited step result e = MatchResult-weaker result e.outcome (λ _ becomes. owner_becomes step becomes) (λ _ unchanged. same ∙ unchanged.bytes ∙ of.bytes_are)
 
-  pub owner_appended : {R : _} {K : _} {r : _} {k : _} {S V E : Type 0} (steps : S → Option (View R K r k) → S → Type 0) (s : S) (whole first : ListStep) (result : Result V E)
+  pub owner_appended : {R U K r k u : _} {S V E : Type 0} (steps : S → Option (View R U K r k u) → S → Type 0) (s : S) (whole first : ListStep) (result : Result V E)
       → Appends steps s (Becomes old new) whole first result → Appends steps s (OwnerBecomes before after) whole first result
   owner_appended steps s whole first result e =
       MatchResult-weaker result e
