@@ -17,7 +17,7 @@ returns-in-LazyPush g c =
     let r = read_reference (g.T.Target.text c.args.owner.now) in
     let segment = view_text c.in-LazyPush.segment in (
       path_edited_on_ok c.lazy_push.new.self g.C.CharSet.tests g.met.C.CharSet.above_ascii (edit_step c.args.edit) (λ context. lazy_pushed context segment) (ap (λ edit. edited (edit_step edit) r) c.in-LazyPush.is) editor.reference
-          (lazy_pushed-readable g.C.CharSet.tests segment r c.in-LazyPush.segment.in_rule) editor.editor (search rules) c.lazy_push.result c.lazy_push.ensures.ok,
+          (lazy_pushed-readable g.C.CharSet.tests segment r c.in-LazyPush.segment.in_rule) editor.editor (search rules) c.lazy_push.result c.lazy_push.ensures,
       search rules,
     )
 
@@ -28,7 +28,7 @@ returns-in-Push g c =
     let r = read_reference (g.T.Target.text c.args.owner.now) in
     let segment = view_text c.in-Push.segment in (
       path_edited_on_ok c.push.new.self g.C.CharSet.tests g.met.C.CharSet.above_ascii (edit_step c.args.edit) (λ context. pushed context segment) (ap (λ edit. edited (edit_step edit) r) c.in-Push.is) editor.reference
-          (pushed-readable g.C.CharSet.tests segment r c.in-Push.segment.in_rule) editor.editor (search rules) c.push.result c.push.ensures.ok,
+          (pushed-readable g.C.CharSet.tests segment r c.in-Push.segment.in_rule) editor.editor (search rules) c.push.result c.push.ensures,
       search rules,
     )
 
@@ -39,7 +39,7 @@ returns-in-JoinPath g c =
     let r = read_reference (g.T.Target.text c.args.owner.now) in
     let new = path_value c.in-JoinPath.other in (
       path_edited_on_ok c.join.new.self g.C.CharSet.tests g.met.C.CharSet.above_ascii (edit_step c.args.edit) (λ context. joined context new) (ap (λ edit. edited (edit_step edit) r) c.in-JoinPath.is) editor.reference
-          (joined-readable g.C.CharSet.tests new r (sym (is_path-segments g.C.CharSet.tests g.met.C.CharSet.above_ascii (path_text c.in-JoinPath.other)) ∙ c.in-JoinPath.other.text.in_rule)) editor.editor (search rules) c.join.result c.join.ensures.ok,
+          (joined-readable g.C.CharSet.tests new r (sym (is_path-segments g.C.CharSet.tests g.met.C.CharSet.above_ascii (path_text c.in-JoinPath.other)) ∙ c.in-JoinPath.other.text.in_rule)) editor.editor (search rules) c.join.result c.join.ensures,
       search rules,
     )
 
@@ -49,7 +49,7 @@ returns-in-Pop g c =
     let editor = c.path_editor-path.ensures in
     let r = read_reference (g.T.Target.text c.args.owner.now) in (
       path_edited_on_ok c.pop.new.self g.C.CharSet.tests g.met.C.CharSet.above_ascii (edit_step c.args.edit) popped (ap (λ edit. edited (edit_step edit) r) c.in-Pop.is) editor.reference
-          (popped-readable g.C.CharSet.tests r) editor.editor (search rules) c.pop.result c.pop.ensures.ok,
+          (popped-readable g.C.CharSet.tests r) editor.editor (search rules) c.pop.result c.pop.ensures,
       search rules,
     )
 
@@ -59,7 +59,7 @@ returns-in-Normalize g c =
     let editor = c.path_editor-path.ensures in
     let r = read_reference (g.T.Target.text c.args.owner.now) in (
       path_edited_on_ok c.normalize.new.self g.C.CharSet.tests g.met.C.CharSet.above_ascii (edit_step c.args.edit) normalized (ap (λ edit. edited (edit_step edit) r) c.in-Normalize.is) editor.reference
-          (normalized-readable g.C.CharSet.tests r) editor.editor (search rules) c.normalize.result c.normalize.ensures.ok,
+          (normalized-readable g.C.CharSet.tests r) editor.editor (search rules) c.normalize.result c.normalize.ensures.edit,
       search rules,
     )
 
