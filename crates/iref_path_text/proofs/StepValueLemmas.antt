@@ -3,6 +3,7 @@ use Rattle.std.proofs.Common.{◌≡◌, Bool, true, false, not, cond, ◌&&◌,
 use Rattle.std.proofs.lemmas.Bool.{and_from, and_parts}
 use Rattle.std.specs.Prelude.{codes}
 use Rattle.std.specs.List.{list_all}
+use Rattle.std.specs.Str.{IsCharBoundary}
 use Rattle.iref_grammar.specs.declared.places.PathContext.{PathContext}
 use Rattle.iref_grammar.specs.Characters.{CharTests, AreAboveAscii}
 use Rattle.iref_grammar.specs.Rules.{Text}
@@ -23,7 +24,8 @@ use Rattle.iref_model.proofs.FitsLemmas.{is_empty-snoc, lazy_pushed-fits, popped
 use Rattle.iref_model.proofs.PathGrammarLemmas.{segments_of_path}
 use Rattle.iref_model.proofs.ReadableStepLemmas.{is_segment-dots}
 use Rattle.iref_model.proofs.StepSegmentLemmas.{guarded-in, lazy_pushed-in, popped-in, closed_path-in, followed-in, pushed-in}
-use Rattle.iref_path_text.specs.PathParts.{is_path_after, StepsTo}
+use Rattle.iref_path_text.specs.declared.steps.Step.{Step}
+use Rattle.iref_path_text.specs.PathParts.{is_path_after, step_text, StepsBy, StepsTo}
 
 -- what a step keeps
 pub record IsStep (set : CharTests) (context : PathContext) (p value : PathValue) : Type 0 where
@@ -65,6 +67,11 @@ module _ (set : CharTests) (above : AreAboveAscii set) (context : PathContext) w
             (ap (follows_authority context) read ∙ follows-step context.has_scheme context.has_authority p value step.fit shown parts.1);
         reads = λ k. ap (is_readable_path set context) read ∙ and_from _ _ segments (step.fit (and_parts (are_segments p) (fits context p) k).1);
       }
+
+  -- the same with where it cuts the text
+  pub steps_by : (change : PathValue → PathValue) (path : Text) (result : Step) → IsStep set context (read_path path) (change (read_path path)) → is_path_after set context path ≡ true → IsCharBoundary path result.keep
+      → step_text path result ≡ spell_path (change (read_path path)) → StepsBy change set context path result
+  steps_by change path result step h keep e = record { keep = keep; step = steps_to path (step_text path result) (change (read_path path)) step h e }
 
 -- ---- each step
 

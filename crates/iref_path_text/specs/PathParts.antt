@@ -1,6 +1,6 @@
 -- The text of a path that is edited in place, and what a step leaves of it.
 use Rattle.std.specs.Prelude.{◌≡◌, Bool, true, ◌&&◌, ◌++◌, take}
-use Rattle.std.specs.Str.{IsUtf8}
+use Rattle.std.specs.Str.{IsCharBoundary, IsUtf8}
 use Rattle.std.proofs.lemmas.Bool.{and_parts}
 use Rattle.std.proofs.lemmas.Str.{IsUtf8-from_is_utf8}
 use Rattle.iref_grammar.specs.declared.places.PathContext.{PathContext}
@@ -26,6 +26,11 @@ pub record StepsTo (set : CharTests) (context : PathContext) (old new : Text) (v
   pub read : read_path new ≡ value
   pub path : is_path_after set context new ≡ true
   pub reads : is_path_in set context old ≡ true → is_path_in set context new ≡ true
+
+-- a step that cuts the text between characters, and leaves what this makes of its path
+pub record StepsBy (change : PathValue → PathValue) (set : CharTests) (context : PathContext) (path : Text) (result : Step) : Type 0 where
+  pub keep : IsCharBoundary path result.keep
+  pub step : StepsTo set context path (step_text path result) (change (read_path path))
 
 -- such a path is text
 pub path_is_text : (set : CharTests) → AreAboveAscii set → (context : PathContext) (text : Text) → is_path_after set context text ≡ true → IsUtf8 text

@@ -4,7 +4,7 @@ ghost use Rattle.iref_grammar.specs.Tests.{is_segment, is_path};
 ghost use Rattle.iref_grammar.specs.{PathValue.{read_path, spell_path}, Texts.{is_empty}};
 ghost use Rattle.iref_model.specs.PathSteps.{lazy_pushed, pushed, followed, popped, closed_path};
 ghost use Rattle.iref_model.specs.PathSteps.{cleared, replaced};
-ghost use Rattle.iref_path_text.specs.PathParts.{is_path_after, step_text, StepsTo};
+ghost use Rattle.iref_path_text.specs.PathParts.{is_path_after, step_text, StepsBy};
 ghost use Rattle.iref_path_text.specs.StepTexts as texts;
 
 use crate::guard::guard_of;
@@ -31,9 +31,7 @@ pub struct Step<'a> {
 pub fn lazy_pushed<'a, C: CharSet>(context: PathContext, path: &str, segment: &'a str) -> Step<'a>
     requires path { is_path_after C.tests context path.now ≡ true }
     requires segment { is_segment C.tests segment.now ≡ true }
-    ensures keep { IsCharBoundary path.now result.keep }
-    ensures step { StepsTo C.tests context path.now (step_text path.now result)
-        (lazy_pushed context segment.now (read_path path.now)) }
+    ensures { StepsBy (lazy_pushed context segment.now) C.tests context path.now result }
 {
     push_text(context, path, segment)
 }
@@ -43,9 +41,7 @@ pub fn lazy_pushed<'a, C: CharSet>(context: PathContext, path: &str, segment: &'
 pub fn pushed<'a, C: CharSet>(context: PathContext, path: &str, segment: &'a str) -> Step<'a>
     requires path { is_path_after C.tests context path.now ≡ true }
     requires segment { is_segment C.tests segment.now ≡ true }
-    ensures keep { IsCharBoundary path.now result.keep }
-    ensures step { StepsTo C.tests context path.now (step_text path.now result)
-        (pushed context segment.now (read_path path.now)) }
+    ensures { StepsBy (pushed context segment.now) C.tests context path.now result }
 {
     if segment == "." {
         close_text(context, path)
@@ -60,9 +56,7 @@ pub fn pushed<'a, C: CharSet>(context: PathContext, path: &str, segment: &'a str
 pub fn followed<'a, C: CharSet>(context: PathContext, path: &str, segment: &'a str) -> Step<'a>
     requires path { is_path_after C.tests context path.now ≡ true }
     requires segment { is_segment C.tests segment.now ≡ true }
-    ensures keep { IsCharBoundary path.now result.keep }
-    ensures step { StepsTo C.tests context path.now (step_text path.now result)
-        (followed context (read_path path.now) segment.now) }
+    ensures { StepsBy (λ p. followed context p segment.now) C.tests context path.now result }
 {
     if segment == "." {
         beginning(path.len(), "")
@@ -77,9 +71,7 @@ pub fn followed<'a, C: CharSet>(context: PathContext, path: &str, segment: &'a s
 /// end then. `//a` gives `/./`.
 pub fn popped<C: CharSet>(context: PathContext, path: &str) -> Step<'static>
     requires path { is_path_after C.tests context path.now ≡ true }
-    ensures keep { IsCharBoundary path.now result.keep }
-    ensures step { StepsTo C.tests context path.now (step_text path.now result)
-        (popped context (read_path path.now)) }
+    ensures { StepsBy (popped context) C.tests context path.now result }
 {
     pop_text(context, path).0
 }
@@ -87,9 +79,7 @@ pub fn popped<C: CharSet>(context: PathContext, path: &str) -> Step<'static>
 /// An empty segment at the end, which is a `/` there, where there are segments.
 pub fn closed<C: CharSet>(context: PathContext, path: &str) -> Step<'static>
     requires path { is_path_after C.tests context path.now ≡ true }
-    ensures keep { IsCharBoundary path.now result.keep }
-    ensures step { StepsTo C.tests context path.now (step_text path.now result)
-        (closed_path context (read_path path.now)) }
+    ensures { StepsBy (closed_path context) C.tests context path.now result }
 {
     close_text(context, path)
 }
@@ -97,9 +87,7 @@ pub fn closed<C: CharSet>(context: PathContext, path: &str) -> Step<'static>
 /// No segments, so that the path is `/` or empty.
 pub fn cleared<C: CharSet>(context: PathContext, path: &str) -> Step<'static>
     requires path { is_path_after C.tests context path.now ≡ true }
-    ensures keep { IsCharBoundary path.now result.keep }
-    ensures step { StepsTo C.tests context path.now (step_text path.now result)
-        (cleared (read_path path.now)) }
+    ensures step { StepsBy cleared C.tests context path.now result }
     ensures shorter { length result.lead.now + length result.middle.now + length result.close.now
         ≤ length path.now - result.keep }
 {
@@ -110,9 +98,7 @@ pub fn cleared<C: CharSet>(context: PathContext, path: &str) -> Step<'static>
 pub fn replaced<'a, C: CharSet>(context: PathContext, path: &str, new: &'a str) -> Step<'a>
     requires path { is_path_after C.tests context path.now ≡ true }
     requires new { is_path C.tests new.now ≡ true }
-    ensures keep { IsCharBoundary path.now result.keep }
-    ensures step { StepsTo C.tests context path.now (step_text path.now result)
-        (replaced context (read_path new.now) (read_path path.now)) }
+    ensures { StepsBy (replaced context (read_path new.now)) C.tests context path.now result }
 {
     Step {
         keep: 0,
