@@ -135,11 +135,8 @@ impl<'a> Remaining<'a> {
         if let Some(name) = self.next_back_name() {
             return Some(name);
         }
-        if self.parents > 0 {
-            self.parents -= 1;
-            return Some("..");
-        }
-        None
+        self.parents = self.parents.checked_sub(1)?;
+        Some("..")
     }
 
     // The first name that stays. What takes a name is read once, and then passed over.

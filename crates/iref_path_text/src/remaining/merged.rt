@@ -117,11 +117,8 @@ impl<'a> Merged<'a> {
         if let Some(name) = self.next_back_name() {
             return Some(name);
         }
-        if self.back.parents > 0 {
-            self.back.parents -= 1;
-            return Some("..");
-        }
-        None
+        self.back.parents = self.back.parents.checked_sub(1)?;
+        Some("..")
     }
 
     // The last name that stays. The `..` that are open before the segments behind take names of

@@ -106,11 +106,8 @@ impl<'a> Way<'a> {
         if let Some(item) = self.next_item() {
             return Some(item);
         }
-        if self.up > 0 {
-            self.up -= 1;
-            return Some("..");
-        }
-        None
+        self.up = self.up.checked_sub(1)?;
+        Some("..")
     }
 
     // The last of the items.
