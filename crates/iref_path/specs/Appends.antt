@@ -1,7 +1,7 @@
 -- What an edit by many segments takes of an iterator, and what it makes of a path.
 use Rattle.std.specs.Prelude.{List, Option, Result, [], ◌∷◌, ◌++◌, ◌≡◌, fold, map, MatchResult}
 use Rattle.std.specs.Borrow.{Bor}
-use Rattle.std.specs.Iterator.{Yields, Drains}
+use Rattle.std.specs.Iterator.{Count, IsFinite, Yields, Drains}
 use Rattle.std.specs.List.{All}
 use Rattle.iref_grammar.specs.declared.places.PathContext.{PathContext}
 use Rattle.iref_grammar.specs.Characters.{CharTests}
@@ -15,6 +15,10 @@ use Rattle.iref_error.specs.declared.edit.TryError.{TryError}
 use Rattle.iref_error.specs.declared.edit.TryError.TheVariants.{Invalid, Memory}
 use Rattle.iref_error.specs.declared.invalid.InvalidSegment.{InvalidSegment}
 use Rattle.iref_path.specs.PathEdits.{PathStep}
+
+-- it may be asked for its items, and they end
+abbrev pub CanTakeAll : {S : Type 0} → (S → Type 0) → (S → Count) → S → Type 0
+CanTakeAll can_next remaining s = can_next s × IsFinite (remaining s)
 
 -- it takes all items, up to the first None, and this is true of them
 abbrev pub TakesAll : {S X : Type 0} → (S → Option X → S → Type 0) → S → (List X → Type 0) → Type 0

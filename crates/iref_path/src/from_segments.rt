@@ -1,9 +1,9 @@
 //! The text of a path that is made of segments (RFC 3986 section 5.2.4).
-ghost use Rattle.std.specs.{Prelude.{◌≡◌, true, OnOk, IfOk, map}, Iterator.{IsFinite}};
+ghost use Rattle.std.specs.Prelude.{◌≡◌, true, OnOk, IfOk, map};
 ghost use Rattle.std.specs.String.{string_bytes};
 ghost use Rattle.iref_component.specs.{alone, is_path, read_path, view_text};
 ghost use Rattle.iref_model.specs.PathSteps as step;
-ghost use Rattle.iref_path.specs.Appends.{TakesAll};
+ghost use Rattle.iref_path.specs.Appends.{CanTakeAll, TakesAll};
 
 use crate::path::Path;
 use crate::path_mut::PathMut;
@@ -21,8 +21,7 @@ pub fn text_of_segments<
     A: Allocator + Copy,
     I: Iterator<Item = Segment<'s, C>> + Drop,
 >(alloc: A, absolute: bool, segments: I) -> Result<String<A>, Memory>
-    requires can { I.can_next segments }
-    requires ends { IsFinite (I.remaining segments) }
+    requires { CanTakeAll I.can_next I.remaining segments }
     ensures value { IfOk result (λ text. TakesAll I.next_gives segments (λ items.
         read_path (string_bytes text) ≡ step.from_segments absolute (map view_text items))) }
     ensures in_rule { IfOk result (λ text. is_path C.tests (string_bytes text) ≡ true) }

@@ -1,8 +1,8 @@
 //! Edits of a path that owns its text by many segments (RFC 3986 section 5.2.4).
-ghost use Rattle.std.specs.{Prelude.{IfOk, map}, Iterator.{IsFinite}};
+ghost use Rattle.std.specs.Prelude.{IfOk, map};
 ghost use Rattle.iref_component.specs.{alone, view_text};
 ghost use Rattle.iref_model.specs.PathSteps as step;
-ghost use Rattle.iref_path.specs.Appends.{Appends, TakesAll, followed_each};
+ghost use Rattle.iref_path.specs.Appends.{Appends, CanTakeAll, TakesAll, followed_each};
 ghost use Rattle.iref_path.specs.PathEdits.{EditsOwner, OwnerBecomes, SpellsPath};
 ghost use Rattle.iref_path.specs.Paths.{path_value};
 
@@ -21,8 +21,7 @@ impl<C: CharSet> PathBuf<C> {
         &mut self,
         segments: I,
     ) -> Result<(), Memory>
-        requires can { I.can_next segments }
-        requires ends { IsFinite (I.remaining segments) }
+        requires { CanTakeAll I.can_next I.remaining segments }
         ensures { Appends I.next_gives segments (OwnerBecomes self.old self.new)
             step.lazy_appended step.lazy_appended result }
     {
@@ -36,8 +35,7 @@ impl<C: CharSet> PathBuf<C> {
         &mut self,
         segments: I,
     ) -> Result<(), Memory>
-        requires can { I.can_next segments }
-        requires ends { IsFinite (I.remaining segments) }
+        requires { CanTakeAll I.can_next I.remaining segments }
         ensures { Appends I.next_gives segments (OwnerBecomes self.old self.new)
             step.appended followed_each result }
     {
@@ -59,8 +57,7 @@ impl<C: CharSet> PathBuf<C> {
         absolute: bool,
         segments: I,
     ) -> Result<PathBuf<C>, Memory>
-        requires can { I.can_next segments }
-        requires ends { IsFinite (I.remaining segments) }
+        requires { CanTakeAll I.can_next I.remaining segments }
         ensures { IfOk result (λ path. TakesAll I.next_gives segments (λ items.
             SpellsPath path (step.from_segments absolute (map view_text items)))) }
     {

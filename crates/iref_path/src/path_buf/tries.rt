@@ -1,8 +1,7 @@
 //! Edits of a path that owns its text by a text that is tested first.
-ghost use Rattle.std.specs.Iterator.{IsFinite};
 ghost use Rattle.iref_component.specs.{alone, read_path, IsPath, IsSegment, Tests};
 ghost use Rattle.iref_model.specs.PathSteps as step;
-ghost use Rattle.iref_path.specs.Appends.{TriesAppends, followed_each};
+ghost use Rattle.iref_path.specs.Appends.{CanTakeAll, TriesAppends, followed_each};
 ghost use Rattle.iref_path.specs.PathEdits.{EditsOwner, OwnerBecomes};
 
 use crate::path_buf::PathBuf;
@@ -33,8 +32,7 @@ impl<C: CharSet> PathBuf<C> {
         &mut self,
         segments: I,
     ) -> Tried<InvalidSegment<&'t str>>
-        requires can { I.can_next segments }
-        requires ends { IsFinite (I.remaining segments) }
+        requires { CanTakeAll I.can_next I.remaining segments }
         ensures { TriesAppends C.tests I.next_gives segments (OwnerBecomes self.old self.new)
             step.lazy_appended step.lazy_appended result }
     {
@@ -49,8 +47,7 @@ impl<C: CharSet> PathBuf<C> {
         &mut self,
         segments: I,
     ) -> Tried<InvalidSegment<&'t str>>
-        requires can { I.can_next segments }
-        requires ends { IsFinite (I.remaining segments) }
+        requires { CanTakeAll I.can_next I.remaining segments }
         ensures { TriesAppends C.tests I.next_gives segments (OwnerBecomes self.old self.new)
             step.appended followed_each result }
     {

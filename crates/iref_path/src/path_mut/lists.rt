@@ -1,9 +1,8 @@
 //! Edits of a path in place by many segments (RFC 3986 section 5.2.4).
-ghost use Rattle.std.specs.Iterator.{IsFinite};
 ghost use Rattle.iref_component.specs.{view_text};
 ghost use Rattle.iref_model.specs.PathSteps as step;
-ghost use Rattle.iref_path.specs.{Appends.{Appends, followed_each}, Paths.{path_value}};
-ghost use Rattle.iref_path.specs.PathEdits.{Becomes, Edits, IsSameEditor};
+ghost use Rattle.iref_path.specs.Appends.{Appends, CanTakeAll, followed_each};
+ghost use Rattle.iref_path.specs.{PathEdits.{Becomes, Edits, IsSameEditor}, Paths.{path_value}};
 
 use crate::path::Path;
 use crate::path_mut::PathMut;
@@ -39,8 +38,7 @@ impl<C: CharSet, T: Target<PathPart, C>> PathMut<'_, C, T> {
         &mut self,
         segments: I,
     ) -> Result<(), Memory>
-        requires can { I.can_next segments }
-        requires ends { IsFinite (I.remaining segments) }
+        requires { CanTakeAll I.can_next I.remaining segments }
         ensures same { IsSameEditor self.old self.new }
         ensures edit { Appends I.next_gives segments (Becomes self.old self.new)
             step.lazy_appended step.lazy_appended result }
@@ -59,8 +57,7 @@ impl<C: CharSet, T: Target<PathPart, C>> PathMut<'_, C, T> {
         &mut self,
         segments: I,
     ) -> Result<(), Memory>
-        requires can { I.can_next segments }
-        requires ends { IsFinite (I.remaining segments) }
+        requires { CanTakeAll I.can_next I.remaining segments }
         ensures same { IsSameEditor self.old self.new }
         ensures edit { Appends I.next_gives segments (Becomes self.old self.new)
             step.appended followed_each result }

@@ -1,8 +1,7 @@
 //! Edits of a path in place by a text that is tested first.
-ghost use Rattle.std.specs.Iterator.{IsFinite};
 ghost use Rattle.iref_component.specs.{read_path, IsPath, IsSegment, Tests};
 ghost use Rattle.iref_model.specs.PathSteps as step;
-ghost use Rattle.iref_path.specs.Appends.{TriesAppends, followed_each};
+ghost use Rattle.iref_path.specs.Appends.{CanTakeAll, TriesAppends, followed_each};
 ghost use Rattle.iref_path.specs.PathEdits.{Becomes, Edits, IsSameEditor};
 
 use crate::path::Path;
@@ -43,8 +42,7 @@ impl<C: CharSet, T: Target<PathPart, C>> PathMut<'_, C, T> {
         &mut self,
         segments: I,
     ) -> Tried<InvalidSegment<&'t str>>
-        requires can { I.can_next segments }
-        requires ends { IsFinite (I.remaining segments) }
+        requires { CanTakeAll I.can_next I.remaining segments }
         ensures same { IsSameEditor self.old self.new }
         ensures edit { TriesAppends C.tests I.next_gives segments (Becomes self.old self.new)
             step.lazy_appended step.lazy_appended result }
@@ -74,8 +72,7 @@ impl<C: CharSet, T: Target<PathPart, C>> PathMut<'_, C, T> {
         &mut self,
         segments: I,
     ) -> Tried<InvalidSegment<&'t str>>
-        requires can { I.can_next segments }
-        requires ends { IsFinite (I.remaining segments) }
+        requires { CanTakeAll I.can_next I.remaining segments }
         ensures same { IsSameEditor self.old self.new }
         ensures edit { TriesAppends C.tests I.next_gives segments (Becomes self.old self.new)
             step.appended followed_each result }
