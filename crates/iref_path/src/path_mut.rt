@@ -117,13 +117,13 @@ impl<'a, C: CharSet, T: Target<PathPart, C>> PathMut<'a, C, T> {
     }
 
     // Replaces the whole path by a text that may stand there.
-    pub(crate) fn put(&mut self, text: &str) -> Result<(), Memory>
+    fn put(&mut self, text: &str) -> Result<(), Memory>
+        requires keep { IsCharBoundary (path_mut_text self.old) 0 }
         requires path { is_path_after C.tests (path_mut_context self.old) text.now ≡ true }
         requires reads { is_path_in C.tests (path_mut_context self.old) (path_mut_text self.old)
             ≡ true → is_path_in C.tests (path_mut_context self.old) text.now ≡ true }
         ensures { EditsTo (read_path text.now) self.old self.new result }
     {
-        let _path = self.text();
         self.apply(Step {
             keep: 0,
             lead: "",
