@@ -12,7 +12,7 @@ use Rattle.iref_component.specs.Components.{view_text}
 use Rattle.iref_model.specs.ComponentSteps.{with_authority_step}
 use Rattle.iref_model.specs.Edits.{EditStep, NoAuthority, edited, with_authority_part}
 use Rattle.iref_authority.specs.declared.authority_mut.AuthorityMut.{AuthorityMut}
-use Rattle.iref_authority.specs.AuthorityEdits.{authority_mut_value, edited_bytes, BecomesAuthority, IsEditorAt}
+use Rattle.iref_authority.specs.AuthorityEdits.{authority_mut_value, edited_bytes, BecomesAuthority, Edits, IsEditorAt}
 use Rattle.iref_buffer.proofs.EditLemmas.{readable_of}
 use Rattle.iref_reference.proofs.AuthorityStepLemmas.{authority_step}
 
@@ -39,6 +39,6 @@ pub authority_edited_on_ok : {C T A c H t : _} {text after : Text} {U E : Type 0
     → edited edit (read_reference text) ≡ with_authority_part step (read_reference text) → is_some (read_reference text).authority ≡ true → is_reference set text ≡ true
     → (is_readable set (read_reference text) ≡ true → is_readable set (with_authority_step step (read_reference text)) ≡ true)
     → IsEditorAt old text (places_of text).authority → after ≡ edited_bytes new
-    → (result : Result U E) → OnOk result (BecomesAuthority old new (step (authority_mut_value old))) → OnOk result (edited edit (read_reference text) ≡ Ok (read_reference after))
-authority_edited_on_ok old new set above edit step e has h readable of same (Ok u) becomes = authority_edited set above edit step e has h readable of same becomes
-authority_edited_on_ok old new set above edit step e has h readable of same (Err error) becomes = tt
+    → (result : Result U E) → Edits step old new result → OnOk result (edited edit (read_reference text) ≡ Ok (read_reference after))
+authority_edited_on_ok old new set above edit step e has h readable of same (Ok u) edits = authority_edited set above edit step e has h readable of same edits.outcome
+authority_edited_on_ok old new set above edit step e has h readable of same (Err error) edits = tt

@@ -7,7 +7,7 @@ use Rattle.std.specs.declared.ops.Range.{Range}
 use Rattle.std.proofs.lemmas.Bool.{and_from}
 use Rattle.std.proofs.lemmas.List.{places, same_lists, append-nil}
 use Rattle.std.proofs.lemmas.Str.{IsCharBoundary-start, IsCharBoundary-end, IsCharBoundary-at_seam}
-use Rattle.std.proofs.lemmas.Result.{on_ok_weaker, MatchResult-weaker}
+use Rattle.std.proofs.lemmas.Result.{MatchResult-weaker}
 use Rattle.iref_edit.specs.Changes.{IsWithin}
 use Rattle.iref_edit.proofs.PartLemmas.{part_stands}
 use Rattle.iref_grammar.specs.Characters.{CharTests, AreAboveAscii}
@@ -22,7 +22,7 @@ use Rattle.iref_grammar.proofs.SliceLemmas.{mark_boundary}
 use Rattle.iref_model.specs.AuthoritySteps.{with_user_info, with_host, with_port}
 use Rattle.iref_authority.specs.AuthorityTexts.{SpellsAuthority, IsStep, marked_length, authority_is_text}
 use Rattle.iref_authority.specs.declared.authority_mut.AuthorityMut.{AuthorityMut}
-use Rattle.iref_authority.specs.AuthorityEdits.{edited_bytes, authority_mut_start, authority_mut_end, authority_mut_value, BecomesAuthority, Edits}
+use Rattle.iref_authority.specs.AuthorityEdits.{edited_bytes, authority_mut_start, authority_mut_end, Edits}
 use Rattle.iref_authority.proofs.PartLemmas.{user_info_in_rule, host_in_rule, port_in_rule}
 
 -- ---- lists
@@ -165,22 +165,15 @@ step_of_whole step old new start end new_start new_end a b e f g r =
 
 -- an edit of an editor of all of a text
 module _ {C T A c H a : _} {R E : Type 0} (result : Result R E) (text : Text) (old new : AuthorityMut C T A c H a) (bytes : edited_bytes old ≡ text) (start : authority_mut_start old ≡ 0) (end : authority_mut_end old ≡ length text) where
-  pub whole_step : (step : AuthorityValue → AuthorityValue) → OnOk result (BecomesAuthority old new (step (authority_mut_value old))) → OnOk result (IsStep step text (edited_bytes new))
-  whole_step step becomes =
-      on_ok_weaker result
-      (λ b. subst (λ t. IsStep step t (edited_bytes new)) bytes
-      (step_of_whole step (edited_bytes old) (edited_bytes new) old.place.start old.place.end new.place.start new.place.end start (end ∙ ap length (sym bytes)) b.bytes b.from b.to b.reads))
-      becomes
-
-  pub whole_text : (authority : Text) → OnOk result (BecomesAuthority old new (read_authority authority)) → OnOk result (edited_bytes new ≡ authority)
-  whole_text authority becomes =
-      on_ok_weaker result
-      (λ b. b.bytes ∙ (λ i. splice (bytes i) (start i) (end i) (read_authority-spelled authority i)) ∙ whole_replaced text authority)
-      becomes
+  pub whole_text : (authority : Text) → Edits (λ _. read_authority authority) old new result → OnOk result (edited_bytes new ≡ authority)
+  whole_text authority edits =
+      MatchResult-weaker result edits.outcome
+      (λ _ b. b.bytes ∙ (λ i. splice (bytes i) (start i) (end i) (read_authority-spelled authority i)) ∙ whole_replaced text authority)
+      (λ _ _. tt)
 
   pub whole_edits : (step : AuthorityValue → AuthorityValue) → Edits step old new result → MatchResult result (λ _. IsStep step text (edited_bytes new)) (λ _. edited_bytes new ≡ text)
   whole_edits step edits =
-      MatchResult-weaker result edits
+      MatchResult-weaker result edits.outcome
       (λ _ b. subst (λ t. IsStep step t (edited_bytes new)) bytes
       (step_of_whole step (edited_bytes old) (edited_bytes new) old.place.start old.place.end new.place.start new.place.end start (end ∙ ap length (sym bytes)) b.bytes b.from b.to b.reads))
       (λ _ same. same.bytes ∙ bytes)

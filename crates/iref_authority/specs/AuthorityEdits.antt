@@ -61,6 +61,11 @@ pub record IsUnchanged {C T A c H a : _} (old new : AuthorityMut C T A c H a) : 
   pub from : new.place.start ≡ old.place.start
   pub to : new.place.end ≡ old.place.end
 
--- an edit: at Ok the authority becomes what the step makes of it, and at an Err nothing changes
+-- an edit: it borrows the same target still, at Ok the authority becomes this one, and at an Err nothing changes
+pub record EditsTo {C T A c H a : _} {V E : Type 0} (value : AuthorityValue) (old new : AuthorityMut C T A c H a) (result : Result V E) : Type 0 where
+  pub same : IsSameEditor old new
+  pub outcome : MatchResult result (λ _. BecomesAuthority old new value) (λ _. IsUnchanged old new)
+
+-- an edit whose authority is what this step makes of the old one
 abbrev pub Edits : {C T A c H a : _} {V E : Type 0} → (AuthorityValue → AuthorityValue) → AuthorityMut C T A c H a → AuthorityMut C T A c H a → Result V E → Type 0
-Edits step old new result = MatchResult result (λ _. BecomesAuthority old new (step (authority_mut_value old))) (λ _. IsUnchanged old new)
+Edits step old new result = EditsTo (step (authority_mut_value old)) old new result

@@ -1,6 +1,6 @@
 //! Edits of an authority in place (RFC 3986 section 3.2).
 ghost use Rattle.std.specs.Prelude.{◌≡◌, ◌≤◌, ◌+◌, ◌-◌, ◌++◌, true, length, slice_range, vec_len};
-ghost use Rattle.std.specs.Prelude.{Some, OnOk, OnErr, IfOk, IsOk, IsNone, option_map};
+ghost use Rattle.std.specs.Prelude.{Some, IfOk, IsOk, IsNone, option_map};
 ghost use Rattle.std.specs.{Borrow.{sem, RestsIfErr}, Option.{option_copied}};
 ghost use Rattle.iref_edit.specs.Changes.{IsWithin, replaced};
 ghost use Rattle.iref_grammar.specs.Grammar.{IsAuthority};
@@ -85,9 +85,7 @@ impl<'a, C: CharSet> AuthorityMut<'a, C, Vec<u8>> {
 impl<'a, C: CharSet, T: Target<AuthorityPart, C>> AuthorityMut<'a, C, T> {
     ghost use Rattle.iref_authority.specs.AuthorityEdits.{Borrows, edited_bytes, LiesInBytes};
     ghost use Rattle.iref_authority.specs.AuthorityEdits.{authority_mut_start, authority_mut_end};
-    ghost use Rattle.iref_authority.specs.AuthorityEdits.{authority_mut_text, authority_mut_value};
-    ghost use Rattle.iref_authority.specs.AuthorityEdits.{IsSameEditor, BecomesAuthority};
-    ghost use Rattle.iref_authority.specs.AuthorityEdits.{IsUnchanged};
+    ghost use Rattle.iref_authority.specs.AuthorityEdits.{authority_mut_text, Edits, EditsTo};
 
     /// The editor of the authority in a range of what holds it.
     pub fn of_target(target: &'a mut T, range: Range<usize>) -> Self
@@ -143,12 +141,10 @@ impl<'a, C: CharSet, T: Target<AuthorityPart, C>> AuthorityMut<'a, C, T> {
         requires within { IsWithin (authority_mut_text self.old) within }
         requires in_rule { is_authority C.tests (replaced (authority_mut_text self.old) within
             (pieces.0.now ++ pieces.1.now)) ≡ true }
-        ensures same { IsSameEditor self.old self.new }
-        ensures ok { (value : AuthorityValue) → SpellsAuthority C.tests
+        ensures edit { (value : AuthorityValue) → SpellsAuthority C.tests
             (replaced (authority_mut_text self.old) within
             (pieces.entry.0.now ++ pieces.entry.1.now)) value
-            → OnOk result (BecomesAuthority self.old self.new value) }
-        ensures err { OnErr result (IsUnchanged self.old self.new) }
+            → EditsTo value self.old self.new result }
         ensures shorter { length pieces.entry.0.now + length pieces.entry.1.now
             ≤ within.end - within.start → IsOk result }
     {
@@ -166,10 +162,8 @@ impl<'a, C: CharSet, T: Target<AuthorityPart, C>> AuthorityMut<'a, C, T> {
     // Replaces the user info, or takes it away.
     fn put_user_info(&mut self, user_info: Option<&str>) -> Result<(), Memory>
         requires { none_or (is_user_info C.tests) (option_copied user_info) ≡ true }
-        ensures same { IsSameEditor self.old self.new }
-        ensures ok { OnOk result (BecomesAuthority self.old self.new
-            (with_user_info (option_copied user_info.entry) (authority_mut_value self.old))) }
-        ensures err { OnErr result (IsUnchanged self.old self.new) }
+        ensures edit { Edits (with_user_info (option_copied user_info.entry))
+            self.old self.new result }
         ensures none { IsNone user_info.entry → IsOk result }
     {
         let within = user_info_range::<C>(self.text());
@@ -179,10 +173,7 @@ impl<'a, C: CharSet, T: Target<AuthorityPart, C>> AuthorityMut<'a, C, T> {
     // Replaces the port, or takes it away.
     fn put_port(&mut self, port: Option<&str>) -> Result<(), Memory>
         requires { none_or is_port (option_copied port) ≡ true }
-        ensures same { IsSameEditor self.old self.new }
-        ensures ok { OnOk result (BecomesAuthority self.old self.new
-            (with_port (option_copied port.entry) (authority_mut_value self.old))) }
-        ensures err { OnErr result (IsUnchanged self.old self.new) }
+        ensures edit { Edits (with_port (option_copied port.entry)) self.old self.new result }
         ensures none { IsNone port.entry → IsOk result }
     {
         let within = port_range::<C>(self.text());
@@ -191,10 +182,8 @@ impl<'a, C: CharSet, T: Target<AuthorityPart, C>> AuthorityMut<'a, C, T> {
 
     /// Replaces the authority, and nothing that stands before or after it.
     pub fn replace(&mut self, authority: Authority<'_, C>) -> Result<(), Memory>
-        ensures same { IsSameEditor self.old self.new }
-        ensures ok { OnOk result (BecomesAuthority self.old self.new
-            (read_authority (authority_text authority.entry))) }
-        ensures err { OnErr result (IsUnchanged self.old self.new) }
+        ensures { Edits (λ _. read_authority (authority_text authority.entry))
+            self.old self.new result }
     {
         let within = whole_range::<C>(self.text());
         self.put(within, (authority.as_str(), ""))
@@ -203,10 +192,8 @@ impl<'a, C: CharSet, T: Target<AuthorityPart, C>> AuthorityMut<'a, C, T> {
     /// Replaces the user info and its `@`, or takes them away, which takes no memory: `u@h` without
     /// a user info is `h`, and with an empty one `@h`.
     pub fn set_user_info(&mut self, user_info: Option<UserInfo<'_, C>>) -> Result<(), Memory>
-        ensures same { IsSameEditor self.old self.new }
-        ensures ok { OnOk result (BecomesAuthority self.old self.new (with_user_info
-            (option_map view_text user_info.entry) (authority_mut_value self.old))) }
-        ensures err { OnErr result (IsUnchanged self.old self.new) }
+        ensures edit { Edits (with_user_info (option_map view_text user_info.entry))
+            self.old self.new result }
         ensures none { IsNone user_info.entry → IsOk result }
     {
         self.put_user_info(text_of(user_info))
@@ -214,10 +201,7 @@ impl<'a, C: CharSet, T: Target<AuthorityPart, C>> AuthorityMut<'a, C, T> {
 
     /// Replaces the host: of `u@h:80` what stands before the `:80` and after the `u@`.
     pub fn set_host(&mut self, host: Host<'_, C>) -> Result<(), Memory>
-        ensures same { IsSameEditor self.old self.new }
-        ensures ok { OnOk result (BecomesAuthority self.old self.new
-            (with_host (view_text host.entry) (authority_mut_value self.old))) }
-        ensures err { OnErr result (IsUnchanged self.old self.new) }
+        ensures { Edits (with_host (view_text host.entry)) self.old self.new result }
     {
         let within = host_range::<C>(self.text());
         self.put(within, (host.as_str(), ""))
@@ -226,10 +210,8 @@ impl<'a, C: CharSet, T: Target<AuthorityPart, C>> AuthorityMut<'a, C, T> {
     /// Replaces the port and its `:`, or takes them away, which takes no memory: `h:80` without a
     /// port is `h`, and with an empty one `h:`.
     pub fn set_port(&mut self, port: Option<Port<'_>>) -> Result<(), Memory>
-        ensures same { IsSameEditor self.old self.new }
-        ensures ok { OnOk result (BecomesAuthority self.old self.new (with_port
-            (option_map view_text port.entry) (authority_mut_value self.old))) }
-        ensures err { OnErr result (IsUnchanged self.old self.new) }
+        ensures edit { Edits (with_port (option_map view_text port.entry))
+            self.old self.new result }
         ensures none { IsNone port.entry → IsOk result }
     {
         self.put_port(text_of(port))
@@ -239,10 +221,7 @@ impl<'a, C: CharSet, T: Target<AuthorityPart, C>> AuthorityMut<'a, C, T> {
     /// which takes no memory.
     #[tactic(auto, using(iref_model::proofs::PortNumberLemmas::written))]
     pub fn set_port_u32(&mut self, port: Option<u32>) -> Result<(), Memory>
-        ensures same { IsSameEditor self.old self.new }
-        ensures ok { OnOk result (BecomesAuthority self.old self.new
-            (with_port (option_map port_text port) (authority_mut_value self.old))) }
-        ensures err { OnErr result (IsUnchanged self.old self.new) }
+        ensures edit { Edits (with_port (option_map port_text port)) self.old self.new result }
         ensures none { IsNone port → IsOk result }
     {
         match port {

@@ -7,7 +7,7 @@ ghost use Rattle.iref_model.specs.AuthoritySteps.{with_user_info, with_host, wit
 ghost use Rattle.iref_model.specs.PortNumbers.{port_text};
 ghost use Rattle.iref_component.specs.{Components.{view_text}, Tries.{Tests, TestsIfSome}};
 ghost use Rattle.iref_authority.specs.Authorities.{authority_text, authority_buf_text, EditsOwner};
-ghost use Rattle.iref_authority.specs.AuthorityTexts.{IsWhole, one_whole, IsStep};
+ghost use Rattle.iref_authority.specs.AuthorityTexts.{IsWhole, one_whole};
 
 use crate::authority::Authority;
 use crate::authority_mut::AuthorityMut;
@@ -70,9 +70,8 @@ impl<C: CharSet> AuthorityBuf<C> {
     /// Replaces the user info and its `@`, or takes them away, which takes no memory: `u@h` without
     /// a user info is `h`.
     pub fn set_user_info(&mut self, user_info: Option<UserInfo<'_, C>>) -> Result<(), Memory>
-        ensures ok { OnOk result (IsStep (with_user_info (option_map view_text user_info.entry))
-            (authority_buf_text self.old) (authority_buf_text self.new)) }
-        ensures err { OnErr result (authority_buf_text self.new ≡ authority_buf_text self.old) }
+        ensures edit { EditsOwner (with_user_info (option_map view_text user_info.entry))
+            self.old self.new result }
         ensures none { IsNone user_info.entry → IsOk result }
     {
         self.as_authority_mut().set_user_info(user_info)
@@ -80,9 +79,7 @@ impl<C: CharSet> AuthorityBuf<C> {
 
     /// Replaces the host.
     pub fn set_host(&mut self, host: Host<'_, C>) -> Result<(), Memory>
-        ensures ok { OnOk result (IsStep (with_host (view_text host.entry))
-            (authority_buf_text self.old) (authority_buf_text self.new)) }
-        ensures err { OnErr result (authority_buf_text self.new ≡ authority_buf_text self.old) }
+        ensures { EditsOwner (with_host (view_text host.entry)) self.old self.new result }
     {
         self.as_authority_mut().set_host(host)
     }
@@ -90,9 +87,8 @@ impl<C: CharSet> AuthorityBuf<C> {
     /// Replaces the port and its `:`, or takes them away, which takes no memory: `h:80` without a
     /// port is `h`.
     pub fn set_port(&mut self, port: Option<Port<'_>>) -> Result<(), Memory>
-        ensures ok { OnOk result (IsStep (with_port (option_map view_text port.entry))
-            (authority_buf_text self.old) (authority_buf_text self.new)) }
-        ensures err { OnErr result (authority_buf_text self.new ≡ authority_buf_text self.old) }
+        ensures edit { EditsOwner (with_port (option_map view_text port.entry))
+            self.old self.new result }
         ensures none { IsNone port.entry → IsOk result }
     {
         self.as_authority_mut().set_port(port)
@@ -101,9 +97,8 @@ impl<C: CharSet> AuthorityBuf<C> {
     /// Replaces the port by a number in decimal digits without leading zeros, or takes it away,
     /// which takes no memory.
     pub fn set_port_u32(&mut self, port: Option<u32>) -> Result<(), Memory>
-        ensures ok { OnOk result (IsStep (with_port (option_map port_text port))
-            (authority_buf_text self.old) (authority_buf_text self.new)) }
-        ensures err { OnErr result (authority_buf_text self.new ≡ authority_buf_text self.old) }
+        ensures edit { EditsOwner (with_port (option_map port_text port))
+            self.old self.new result }
         ensures none { IsNone port → IsOk result }
     {
         self.as_authority_mut().set_port_u32(port)

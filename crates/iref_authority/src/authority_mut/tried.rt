@@ -17,11 +17,10 @@ use iref_error::{InvalidAuthority, InvalidHost, InvalidPort, InvalidUserInfo, Tr
 use iref_grammar::chars::CharSet;
 
 impl<C: CharSet, T: Target<AuthorityPart, C>> AuthorityMut<'_, C, T> {
-    ghost use Rattle.iref_authority.specs.AuthorityEdits.{IsSameEditor, Edits};
+    ghost use Rattle.iref_authority.specs.AuthorityEdits.{Edits};
 
     /// As `replace`, by a text: `Invalid` hands one back that is not an authority.
     pub fn try_replace<'t>(&mut self, authority: &'t str) -> Tried<InvalidAuthority<&'t str>>
-        ensures same { IsSameEditor self.old self.new }
         ensures edit { Edits (λ _. read_authority authority.now) self.old self.new result }
         ensures text { Tests (IsAuthority C.tests) authority.entry (λ error. error.0) result }
     {
@@ -35,7 +34,6 @@ impl<C: CharSet, T: Target<AuthorityPart, C>> AuthorityMut<'_, C, T> {
         &mut self,
         user_info: Option<&'t str>,
     ) -> Tried<InvalidUserInfo<&'t str>>
-        ensures same { IsSameEditor self.old self.new }
         ensures edit { Edits (with_user_info (option_copied user_info.entry))
             self.old self.new result }
         ensures text { TestsIfSome (IsUserInfo C.tests) user_info.entry (λ error. error.0) result }
@@ -46,7 +44,6 @@ impl<C: CharSet, T: Target<AuthorityPart, C>> AuthorityMut<'_, C, T> {
 
     /// As `set_host`, by a text: `Invalid` hands one back that is not a host.
     pub fn try_set_host<'t>(&mut self, host: &'t str) -> Tried<InvalidHost<&'t str>>
-        ensures same { IsSameEditor self.old self.new }
         ensures edit { Edits (with_host host.now) self.old self.new result }
         ensures text { Tests (IsHost C.tests) host.entry (λ error. error.0) result }
     {
@@ -57,7 +54,6 @@ impl<C: CharSet, T: Target<AuthorityPart, C>> AuthorityMut<'_, C, T> {
 
     /// As `set_port`, by a text: `Invalid` hands one back that is not a port.
     pub fn try_set_port<'t>(&mut self, port: Option<&'t str>) -> Tried<InvalidPort<&'t str>>
-        ensures same { IsSameEditor self.old self.new }
         ensures edit { Edits (with_port (option_copied port.entry)) self.old self.new result }
         ensures text { TestsIfSome IsPort port.entry (λ error. error.0) result }
     {

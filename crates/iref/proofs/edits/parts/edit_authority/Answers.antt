@@ -20,7 +20,7 @@ returns-in-ReplaceAuthority g c =
     let r = read_reference (g.T.Target.text c.args.owner.now) in
     let new = read_authority (authority_text c.in-ReplaceAuthority.other) in (
       authority_edited_on_ok c.authority_editor-authority.result c.replace.new.self g.C.CharSet.tests g.met.C.CharSet.above_ascii (edit_step c.args.edit) (λ a. new) (ap (λ edit. edited (edit_step edit) r) c.in-ReplaceAuthority.is) c.requires.there editor.reference
-          (with_whole_authority-readable g.C.CharSet.tests new r (authority_in_rule g.C.CharSet.tests (authority_text c.in-ReplaceAuthority.other) c.in-ReplaceAuthority.other.text.in_rule)) editor.editor (search rules) c.replace.result c.replace.ensures.ok,
+          (with_whole_authority-readable g.C.CharSet.tests new r (authority_in_rule g.C.CharSet.tests (authority_text c.in-ReplaceAuthority.other) c.in-ReplaceAuthority.other.text.in_rule)) editor.editor (search rules) c.replace.result c.replace.ensures,
       search rules,
     )
 
@@ -31,7 +31,7 @@ returns-in-SetUserInfo g c =
     let r = read_reference (g.T.Target.text c.args.owner.now) in
     let new = option_map view_text c.in-SetUserInfo.user_info in (
       authority_edited_on_ok c.authority_editor-authority.result c.set_user_info.new.self g.C.CharSet.tests g.met.C.CharSet.above_ascii (edit_step c.args.edit) (with_user_info new) (ap (λ edit. edited (edit_step edit) r) c.in-SetUserInfo.is) c.requires.there editor.reference
-          (with_user_info-readable g.C.CharSet.tests new r (view_in_rule c.in-SetUserInfo.user_info)) editor.editor (search rules) c.set_user_info.result c.set_user_info.ensures.ok,
+          (with_user_info-readable g.C.CharSet.tests new r (view_in_rule c.in-SetUserInfo.user_info)) editor.editor (search rules) c.set_user_info.result c.set_user_info.ensures.edit,
       search rules,
     )
 
@@ -42,7 +42,7 @@ returns-in-SetHost g c =
     let r = read_reference (g.T.Target.text c.args.owner.now) in
     let new = view_text c.in-SetHost.host in (
       authority_edited_on_ok c.authority_editor-authority.result c.set_host.new.self g.C.CharSet.tests g.met.C.CharSet.above_ascii (edit_step c.args.edit) (with_host new) (ap (λ edit. edited (edit_step edit) r) c.in-SetHost.is) c.requires.there editor.reference
-          (with_host-readable g.C.CharSet.tests new r c.in-SetHost.host.in_rule) editor.editor (search rules) c.set_host.result c.set_host.ensures.ok,
+          (with_host-readable g.C.CharSet.tests new r c.in-SetHost.host.in_rule) editor.editor (search rules) c.set_host.result c.set_host.ensures,
       search rules,
     )
 
@@ -53,7 +53,7 @@ returns-in-SetPort g c =
     let r = read_reference (g.T.Target.text c.args.owner.now) in
     let new = option_map view_text c.in-SetPort.port in (
       authority_edited_on_ok c.authority_editor-authority.result c.set_port.new.self g.C.CharSet.tests g.met.C.CharSet.above_ascii (edit_step c.args.edit) (with_port new) (ap (λ edit. edited (edit_step edit) r) c.in-SetPort.is) c.requires.there editor.reference
-          (with_port-readable g.C.CharSet.tests new r (view_in_rule c.in-SetPort.port)) editor.editor (search rules) c.set_port.result c.set_port.ensures.ok,
+          (with_port-readable g.C.CharSet.tests new r (view_in_rule c.in-SetPort.port)) editor.editor (search rules) c.set_port.result c.set_port.ensures.edit,
       search rules,
     )
 
@@ -64,6 +64,6 @@ returns-in-SetPortU32 g c =
     let r = read_reference (g.T.Target.text c.args.owner.now) in
     let new = option_map port_text c.in-SetPortU32.number in (
       authority_edited_on_ok c.authority_editor-authority.result c.set_port_u32.new.self g.C.CharSet.tests g.met.C.CharSet.above_ascii (edit_step c.args.edit) (with_port new) (ap (λ edit. edited (edit_step edit) r) c.in-SetPortU32.is) c.requires.there editor.reference
-          (with_port-readable g.C.CharSet.tests new r (numbers_are_ports c.in-SetPortU32.number)) editor.editor (search rules) c.set_port_u32.result c.set_port_u32.ensures.ok,
+          (with_port-readable g.C.CharSet.tests new r (numbers_are_ports c.in-SetPortU32.number)) editor.editor (search rules) c.set_port_u32.result c.set_port_u32.ensures.edit,
       search rules,
     )
