@@ -1,11 +1,11 @@
 //! Borrowed authorities (RFC 3986 section 3.2).
 ghost use Rattle.std.specs.Prelude.{◌≡◌, true, [], Some, IfOk, option_map};
 ghost use Rattle.std.specs.Option.{option_copied};
-ghost use Rattle.iref_component.specs.{is_authority, read_authority, ComparesBy, view_text};
+ghost use Rattle.iref_component.specs.{is_authority, read_authority, view_text};
 ghost use Rattle.iref_component.specs.{authority_key_cmp, fed_authority};
 ghost use Rattle.iref_authority.specs.{authority_text, authority_buf_text, ParsesAuthority};
 ghost use Rattle.iref_authority.specs.Authorities.{key_of_authority, key_of_authority_buf};
-ghost use Rattle.iref_authority.specs.AuthorityParts.{parts_value};
+ghost use Rattle.iref_authority.specs.{AuthorityParts.{parts_value}, Comparisons.{TypeComparesBy}};
 
 use crate::owner::AuthorityBuf;
 use crate::parts::{AuthorityParts, parts_of};
@@ -157,12 +157,8 @@ impl<C: CharSet> fmt::Display for Authority<'_, C> {
 
 /// Authorities are equal, in order and hashed by the keys of their parts (RFC 3986 section 6.2.2).
 pub fn authorities_compare_by_key<C: CharSet>()
-    ensures view { ComparesBy key_of_authority authority_key_cmp fed_authority
-        ⟦<Authority<'static, C> as PartialEq>⟧.eq
-        ⟦<Authority<'static, C> as Ord>⟧.cmp
-        ⟦<Authority<'static, C> as Hash>⟧.hash_input }
-    ensures owner { ComparesBy key_of_authority_buf authority_key_cmp fed_authority
-        ⟦<AuthorityBuf<C> as PartialEq>⟧.eq
-        ⟦<AuthorityBuf<C> as Ord>⟧.cmp
-        ⟦<AuthorityBuf<C> as Hash>⟧.hash_input }
+    ensures view { TypeComparesBy key_of_authority authority_key_cmp fed_authority
+        ⟦<Authority<'static, C> as Ord>⟧ ⟦<Authority<'static, C> as Hash>⟧ }
+    ensures owner { TypeComparesBy key_of_authority_buf authority_key_cmp fed_authority
+        ⟦<AuthorityBuf<C> as Ord>⟧ ⟦<AuthorityBuf<C> as Hash>⟧ }
 {}

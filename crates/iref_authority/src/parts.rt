@@ -1,8 +1,9 @@
 //! The parts of an authority (RFC 3986 section 3.2).
 ghost use Rattle.std.specs.Prelude.{◌≡◌, true};
-ghost use Rattle.iref_component.specs.{is_authority, read_authority, ComparesBy, authority_key_cmp};
-ghost use Rattle.iref_component.specs.{fed_authority};
+ghost use Rattle.iref_component.specs.{is_authority, read_authority};
+ghost use Rattle.iref_component.specs.{authority_key_cmp, fed_authority};
 ghost use Rattle.iref_authority.specs.AuthorityParts.{parts_value, parts_key};
+ghost use Rattle.iref_authority.specs.Comparisons.{TypeComparesBy};
 
 use iref_component::texts::{Host, Port, UserInfo};
 use iref_component::view::view_of;
@@ -38,8 +39,6 @@ pub fn parts_of<C: CharSet>(text: &str) -> AuthorityParts<'_, C>
 
 /// The parts of authorities are equal, in order and hashed by their keys (RFC 3986 section 6.2.2).
 pub fn authority_parts_compare_by_key<C: CharSet>()
-    ensures { ComparesBy parts_key authority_key_cmp fed_authority
-        ⟦<AuthorityParts<'static, C> as PartialEq>⟧.eq
-        ⟦<AuthorityParts<'static, C> as Ord>⟧.cmp
-        ⟦<AuthorityParts<'static, C> as Hash>⟧.hash_input }
+    ensures { TypeComparesBy parts_key authority_key_cmp fed_authority
+        ⟦<AuthorityParts<'static, C> as Ord>⟧ ⟦<AuthorityParts<'static, C> as Hash>⟧ }
 {}

@@ -3,7 +3,6 @@ pub use Rattle.iref_grammar.specs.Authority.{is_authority, read_authority, spell
 pub use Rattle.iref_grammar.specs.Characters.{CharTests}
 pub use Rattle.iref_grammar.specs.ComponentTexts.{AreComponents, spell_components}
 pub use Rattle.iref_grammar.specs.Grammar.{hash_sign, IsUri, IsUriReference}
-pub use Rattle.iref_grammar.specs.Keys.{ComparesBy}
 pub use Rattle.iref_grammar.specs.PathValue.{spell_path}
 pub use Rattle.iref_grammar.specs.Places.{places_of}
 pub use Rattle.iref_grammar.specs.Reference.{hierarchy, is_full_reference, is_reference, read_reference, ReferenceValue, spell}
@@ -16,6 +15,7 @@ pub use Rattle.iref_model.specs.ReferenceParts.{base_of, host_of, port_of, user_
 pub use Rattle.iref_parse.specs.ReferenceSlices.{texts_of}
 pub use Rattle.iref_component.specs.Components.{view_text}
 pub use Rattle.iref_component.specs.Makers.{ParsesUtf8}
+pub use Rattle.iref_authority.specs.Comparisons.{TypeComparesBy}
 pub use Rattle.iref_path.specs.Paths.{path_value}
 pub use Rattle.iref_buffer.specs.Steps.{IsStep}
 pub use Rattle.iref_reference.specs.Parts.{key_of_parts, part_texts, parts_value, scheme_key, uri_parts_key, uri_ref_part_texts, uri_ref_parts_key, uri_ref_parts_value}
