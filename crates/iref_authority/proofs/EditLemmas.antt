@@ -1,15 +1,13 @@
 -- A part of an authority replaced in its text.
-use Rattle.std.proofs.Common.{◌≡◌, ℕ, ◌+◌, ◌≤◌, true, [], ◌∷◌, ◌++◌, length, refl, sym, ap, ◌∙◌, ◌&&◌, length-append, append_assoc, arith, rules, subst, lit<}
+use Rattle.std.proofs.Common.{◌≡◌, ℕ, ◌+◌, true, [], ◌∷◌, ◌++◌, length, refl, sym, ap, ◌∙◌, ◌&&◌, length-append, append_assoc, arith, rules, subst, lit<}
 use Rattle.std.specs.Prelude.{Option, Some, None, Result, OnOk, MatchResult}
 use Rattle.std.specs.List.{splice, slice_range}
 use Rattle.std.specs.Str.{IsCharBoundary, IsUtf8}
-use Rattle.std.specs.declared.ops.Range.{Range}
 use Rattle.std.proofs.lemmas.Bool.{and_from}
-use Rattle.std.proofs.lemmas.List.{places, same_lists, append-nil}
+use Rattle.std.proofs.lemmas.List.{places, same_lists}
 use Rattle.std.proofs.lemmas.Str.{IsCharBoundary-start, IsCharBoundary-end, IsCharBoundary-at_seam}
 use Rattle.std.proofs.lemmas.Result.{MatchResult-weaker}
 use Rattle.iref_edit.specs.Changes.{IsWithin}
-use Rattle.iref_edit.proofs.PartLemmas.{part_stands}
 use Rattle.iref_grammar.specs.Characters.{CharTests, AreAboveAscii}
 use Rattle.iref_grammar.specs.Rules.{Text}
 use Rattle.iref_grammar.specs.Grammar.{at_sign, colon}
@@ -142,15 +140,6 @@ pub whole_put : (set : CharTests) (text authority : Text) → is_authority set a
 whole_put set text authority h =
     let e = whole_replaced text authority in
     record { spelled = e ∙ sym (read_authority-spelled authority); in_rule = ap (is_authority set) e ∙ h; read = ap read_authority e }
-
--- what is put spells the step where it is written in three pieces
-pub of_two : (set : CharTests) (text lead middle pieces : Text) (range : Range ℕ) (value : AuthorityValue) → lead ++ middle ≡ pieces → SpellsAuthority set (splice text range.start range.end pieces) value → SpellsAuthority set (splice text range.start range.end (lead ++ middle ++ [])) value
-of_two set text lead middle pieces range value e s =
-    subst (λ t. SpellsAuthority set (splice text range.start range.end t) value) (sym (append-nil (lead ++ middle) ∙ e)) s
-
--- what stands in the range then is read as the authority
-pub value_there : (bytes new part : Text) (start end new_end : ℕ) (value : AuthorityValue) → start ≤ end → end ≤ length bytes → new ≡ splice bytes start end part → new_end ≡ start + length part → read_authority part ≡ value → read_authority (slice_range new start new_end) ≡ value
-value_there bytes new part start end new_end value a b e f g = ap read_authority (part_stands bytes new part start end new_end a b e f).holds ∙ g
 
 -- all of the text replaced by a step
 step_of_whole : (step : AuthorityValue → AuthorityValue) (old new : Text) (start end new_start new_end : ℕ) → start ≡ 0 → end ≡ length old

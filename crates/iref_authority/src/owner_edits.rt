@@ -97,8 +97,7 @@ impl<C: CharSet> AuthorityBuf<C> {
     /// Replaces the port by a number in decimal digits without leading zeros, or takes it away,
     /// which takes no memory.
     pub fn set_port_u32(&mut self, port: Option<u32>) -> Result<(), Memory>
-        ensures edit { EditsOwner (with_port (option_map port_text port))
-            self.old self.new result }
+        ensures edit { EditsOwner (with_port (option_map port_text port)) self.old self.new result }
         ensures none { IsNone port → IsOk result }
     {
         self.as_authority_mut().set_port_u32(port)
