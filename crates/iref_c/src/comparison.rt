@@ -1,11 +1,12 @@
 //! Equality, order and hash of references, which agree (RFC 3986 section 6.2.2).
 ghost use Rattle.iref_grammar.specs.{Characters.{iri_chars}, Grammar.{IsUriReference}};
-ghost use Rattle.iref_grammar.specs.{Reference.{read_reference, ReferenceValue}, Rules.{InUtf8}};
-ghost use Rattle.iref_c.specs.Answers.{Tells};
+ghost use Rattle.iref_grammar.specs.Reference.{ReferenceValue};
+ghost use Rattle.iref_c.specs.Answers.{TellsOf, TellsOfTwo};
 ghost use Rattle.iref_c.specs.Comparison.{equal_number, hash_number, number_of_order, order_number};
-ghost use Rattle.std.specs.Prelude.{◌≡◌, ◌↔◌, pos, ⊤};
+ghost use Rattle.std.specs.Prelude.{◌≡◌, ◌↔◌, pos};
 
-use crate::status::{INVALID, OK, SECOND_INVALID};
+use crate::status::INVALID;
+use crate::tell::{tell, two_references};
 use iref::iri::IriRef;
 use std::cmp::Ordering;
 use std::hash::{DefaultHasher, Hash, Hasher};
@@ -13,19 +14,12 @@ use std::hash::{DefaultHasher, Hash, Hasher};
 /// Whether two references are equal: 1 where they are, else 0.
 #[unsafe(no_mangle)]
 pub extern "C" fn iref_equal(first: &[u8], second: &[u8], equal: &mut u32) -> u32
-    ensures { Tells (InUtf8 (IsUriReference iri_chars) first.now)
-        (InUtf8 (IsUriReference iri_chars) second.now)
-        (equal_number (read_reference first.now) (read_reference second.now))
-        equal.old equal.new result }
+    ensures { TellsOfTwo equal_number first.now second.now equal.old equal.new result }
 {
-    let Ok(first) = IriRef::from_bytes(first) else {
-        return INVALID;
-    };
-    let Ok(second) = IriRef::from_bytes(second) else {
-        return SECOND_INVALID;
-    };
-    *equal = if first == second { 1 } else { 0 };
-    OK
+    match two_references(first, second) {
+        Ok((first, second)) => tell(if first == second { 1 } else { 0 }, equal),
+        Err(status) => status,
+    }
 }
 
 // The order as a number.
@@ -42,34 +36,25 @@ fn number_of(order: Ordering) -> i32
 /// The order of two references: -1, 0 where they are equal, or 1.
 #[unsafe(no_mangle)]
 pub extern "C" fn iref_compare(first: &[u8], second: &[u8], order: &mut i32) -> u32
-    ensures { Tells (InUtf8 (IsUriReference iri_chars) first.now)
-        (InUtf8 (IsUriReference iri_chars) second.now)
-        (order_number (read_reference first.now) (read_reference second.now))
-        order.old order.new result }
+    ensures { TellsOfTwo order_number first.now second.now order.old order.new result }
 {
-    let Ok(first) = IriRef::from_bytes(first) else {
-        return INVALID;
-    };
-    let Ok(second) = IriRef::from_bytes(second) else {
-        return SECOND_INVALID;
-    };
-    *order = number_of(first.cmp(&second));
-    OK
+    match two_references(first, second) {
+        Ok((first, second)) => tell(number_of(first.cmp(&second)), order),
+        Err(status) => status,
+    }
 }
 
 /// The hash of a reference, the same for equal ones.
 #[unsafe(no_mangle)]
 pub extern "C" fn iref_hash(text: &[u8], hash: &mut u64) -> u32
-    ensures { Tells (InUtf8 (IsUriReference iri_chars) text.now) ⊤
-        (hash_number (read_reference text.now)) hash.old hash.new result }
+    ensures { TellsOf (IsUriReference iri_chars) hash_number text.now hash.old hash.new result }
 {
     let Ok(reference) = IriRef::from_bytes(text) else {
         return INVALID;
     };
     let mut hasher = DefaultHasher::new();
     reference.hash(&mut hasher);
-    *hash = hasher.finish();
-    OK
+    tell(hasher.finish(), hash)
 }
 
 /// The three agree: references are equal exactly where their order is 0, and equal ones have one

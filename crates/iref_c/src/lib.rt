@@ -6,5 +6,6 @@ pub mod comparison;
 pub mod parse;
 pub mod places;
 pub mod status;
+pub mod tell;
 pub mod texts;
 pub mod write;

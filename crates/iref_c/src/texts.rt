@@ -4,13 +4,14 @@ ghost use Rattle.iref.specs.Mapping.{mapped};
 ghost use Rattle.iref.specs.PathSteps as step;
 ghost use Rattle.iref.specs.{Relative.{relative_to}, Resolution.{resolved}};
 ghost use Rattle.iref_grammar.specs.{Characters.{iri_chars}, Contexts.{alone}};
-ghost use Rattle.iref_grammar.specs.Grammar.{IsPath, IsUri, IsUriReference};
+ghost use Rattle.iref_grammar.specs.Grammar.{IsPath, IsUri};
 ghost use Rattle.iref_grammar.specs.PathValue.{read_path, spell_path};
 ghost use Rattle.iref_grammar.specs.{Reference.{read_reference, spell}, Rules.{InUtf8}};
-ghost use Rattle.iref_c.specs.Answers.{Writes};
+ghost use Rattle.iref_c.specs.Answers.{IsReference, Writes};
 ghost use Rattle.std.specs.Prelude.{⊤};
 
 use crate::status::{INVALID, MEMORY, SECOND_INVALID};
+use crate::tell::two_references;
 use crate::write::write_text;
 use iref::iri::{Iri, IriRef, Path};
 use std::alloc::Global;
@@ -45,8 +46,7 @@ pub extern "C" fn iref_resolve(
     out: &mut [u8],
     needed: &mut usize,
 ) -> u32
-    ensures { Writes (InUtf8 (IsUriReference iri_chars) reference.now)
-        (InUtf8 (IsUri iri_chars) base.now)
+    ensures { Writes (IsReference reference.now) (InUtf8 (IsUri iri_chars) base.now)
         (spell (resolved (read_reference base.now) (read_reference reference.now)))
         out.old out.new needed.old needed.new result }
 {
@@ -71,16 +71,13 @@ pub extern "C" fn iref_relative(
     out: &mut [u8],
     needed: &mut usize,
 ) -> u32
-    ensures { Writes (InUtf8 (IsUriReference iri_chars) target.now)
-        (InUtf8 (IsUriReference iri_chars) base.now)
+    ensures { Writes (IsReference target.now) (IsReference base.now)
         (spell (relative_to (read_reference target.now) (read_reference base.now)))
         out.old out.new needed.old needed.new result }
 {
-    let Ok(target) = IriRef::from_bytes(target) else {
-        return INVALID;
-    };
-    let Ok(base) = IriRef::from_bytes(base) else {
-        return SECOND_INVALID;
+    let (target, base) = match two_references(target, base) {
+        Ok(both) => both,
+        Err(status) => return status,
     };
     match target.relative_to(alloc, base) {
         Ok(reference) => write_text(reference.as_bytes(), out, needed),
@@ -96,8 +93,8 @@ pub extern "C" fn iref_to_uri(
     out: &mut [u8],
     needed: &mut usize,
 ) -> u32
-    ensures { Writes (InUtf8 (IsUriReference iri_chars) reference.now) ⊤
-        (mapped reference.now) out.old out.new needed.old needed.new result }
+    ensures { Writes (IsReference reference.now) ⊤ (mapped reference.now)
+        out.old out.new needed.old needed.new result }
 {
     let Ok(reference) = IriRef::from_bytes(reference) else {
         return INVALID;
