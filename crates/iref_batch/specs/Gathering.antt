@@ -1,16 +1,22 @@
 -- How far a run has come: what was read, the line begun, and the replies gathered or written.
-use Rattle.std.specs.Prelude.{◌≡◌, ◌==◌, ℕ, true, false, List, [], ◌++◌, Option, Some, Result, OnOk, OnErr}
+use Rattle.std.specs.Prelude.{◌≡◌, ◌==◌, ℕ, true, false, List, [], ◌++◌, ◌∷◌, Option, Some, None, Result, OnOk, OnErr}
+use Rattle.std.specs.Borrow.{Bor}
 use Rattle.std.specs.List.{All, AllZip}
 use Rattle.iref_grammar.specs.Rules.{Text}
 use Rattle.iref_grammar.specs.Texts.{is_empty}
-use Rattle.iref_lines.specs.Lines.{newline, lines_of}
+use Rattle.iref_lines.specs.Lines.{Request, newline, lines_of}
 use Rattle.iref_batch.specs.declared.lines.Begun.{Begun}
 use Rattle.iref_batch.specs.declared.lines.Lines.{Lines}
-use Rattle.iref_batch.specs.Runs.{IsReply, with_newline, with_newlines, AnswersBegun}
+use Rattle.iref_batch.specs.Runs.{IsReply, request_reply, with_newline, with_newlines, AnswersBegun}
 
 -- a text without the mark
 abbrev pub Lacks : ℕ → Text → Type 0
 Lacks mark text = All (λ b. (b == mark) ≡ false) text
+
+-- what stands before the first mark in the text, and what stands after it, if the mark is there
+abbrev pub Cuts : ℕ → Text → Option (Bor Text × Bor Text) → Type 0
+Cuts mark text None = Lacks mark text
+Cuts mark text (Some cut) = Lacks mark cut.0.now × (text ≡ cut.0.now ++ mark ∷ cut.1.now)
 
 -- a text without a newline
 abbrev pub IsLine : Text → Type 0
@@ -23,6 +29,10 @@ Extends old new = (more : Text) × (new ≡ old ++ more)
 -- the text was put at the end; where memory was refused, what was there before still stands first
 abbrev pub Puts : {E : Type 0} → Text → Text → Text → Result (Unit {0}) E → Type 0
 Puts text old new result = OnOk result (new ≡ old ++ text) × OnErr result (Extends old new)
+
+-- the same of the reply to a request
+abbrev pub PutsReply : {E : Type 0} → Request → Text → Text → Result (Unit {0}) E → Type 0
+PutsReply request = Puts (request_reply request)
 
 -- where the writer tells its bytes, they have grown by the text
 abbrev pub Writes : Text → Option Text → Option Text → Type 0

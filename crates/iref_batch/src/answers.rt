@@ -7,9 +7,9 @@ ghost use Rattle.iref_lines.specs.Lines.{yes_or_no, Parts, Normal, Equal, ToUri}
 ghost use Rattle.iref_component.specs.Components.{view_text};
 ghost use Rattle.iref_authority.specs.Authorities.{authority_text};
 ghost use Rattle.iref_reference.specs.Parts.{uri_ref_part_texts};
-ghost use Rattle.iref_batch.specs.{EditFields.{IsRefusal}, Gathering.{Puts}};
+ghost use Rattle.iref_batch.specs.{EditFields.{IsRefusal}, Gathering.{Puts, PutsReply}};
 ghost use Rattle.iref_batch.specs.Requests.{request_of};
-ghost use Rattle.iref_batch.specs.Runs.{request_reply, reply_to, line_reply, with_newline};
+ghost use Rattle.iref_batch.specs.Runs.{reply_to, line_reply, with_newline};
 
 mod edit;
 mod prefixes;
@@ -75,7 +75,7 @@ fn put_parts(parts: &IriRefParts<'_>, out: &mut Vec<u8>) -> Result<(), Memory>
 
 /// Puts the answer to `parts`.
 fn put_answer_to_parts(text: &[u8], out: &mut Vec<u8>) -> Result<(), Memory>
-    ensures { Puts (request_reply (Parts text.now)) out.old.items out.new.items result }
+    ensures { PutsReply (Parts text.now) out.old.items out.new.items result }
 {
     let Ok(parts) = IriRefParts::from_bytes(text) else {
         return put_text(b"error invalid", out);
@@ -105,7 +105,7 @@ fn put_refused(error: FieldError, out: &mut Vec<u8>) -> Result<(), Memory>
 
 /// Puts the answer to `normal`.
 fn put_answer_to_normal(text: &[u8], out: &mut Vec<u8>) -> Result<(), Memory>
-    ensures { Puts (request_reply (Normal text.now)) out.old.items out.new.items result }
+    ensures { PutsReply (Normal text.now) out.old.items out.new.items result }
 {
     let Ok(path) = Path::from_bytes(text) else {
         return put_text(b"error invalid", out);
@@ -122,7 +122,7 @@ fn yes_or_no(alike: bool) -> &'static [u8]
 
 /// Puts the answer to `equal`. A text is read once where it stands twice.
 fn put_answer_to_equal(left: &[u8], right: &[u8], out: &mut Vec<u8>) -> Result<(), Memory>
-    ensures { Puts (request_reply (Equal left.now right.now)) out.old.items out.new.items result }
+    ensures { PutsReply (Equal left.now right.now) out.old.items out.new.items result }
 {
     let Ok(left_parts) = IriRefParts::from_bytes(left) else {
         return put_text(b"error invalid", out);
@@ -138,7 +138,7 @@ fn put_answer_to_equal(left: &[u8], right: &[u8], out: &mut Vec<u8>) -> Result<(
 
 /// Puts the answer to `to-uri`.
 fn put_answer_to_to_uri(text: &[u8], out: &mut Vec<u8>) -> Result<(), Memory>
-    ensures { Puts (request_reply (ToUri text.now)) out.old.items out.new.items result }
+    ensures { PutsReply (ToUri text.now) out.old.items out.new.items result }
 {
     let Ok(reference) = IriRef::from_bytes(text) else {
         return put_text(b"error invalid", out);

@@ -1,16 +1,13 @@
 //! A text cut at a mark.
-ghost use Rattle.std.specs.Prelude.{◌≡◌, ◌++◌, ◌∷◌, IfNone, IfSome};
 ghost use Rattle.memchr.specs.Find.{IsFirstByte, is_byte};
-ghost use Rattle.iref_batch.specs.Gathering.{Lacks};
+ghost use Rattle.iref_batch.specs.Gathering.{Cuts};
 
 use memchr::memchr;
 
 /// What stands before the first mark in the text, and what stands after it.
 #[inline(always)]
 pub fn cut_at(mark: u8, text: &[u8]) -> Option<(&[u8], &[u8])>
-    ensures none { IfNone result (Lacks mark text.now) }
-    ensures first { IfSome result (λ cut. Lacks mark cut.0.now) }
-    ensures cut { IfSome result (λ cut. text.now ≡ cut.0.now ++ mark ∷ cut.1.now) }
+    ensures { Cuts mark text.now result }
 {
     let at = memchr(mark, text)?;
     Some((&text[..at], &text[at + 1..]))
@@ -31,9 +28,7 @@ fn place_near(mark: u8, text: &[u8]) -> Option<usize>
 /// As `cut_at`, byte by byte, which costs less where the mark is near.
 #[inline(always)]
 pub fn cut_near(mark: u8, text: &[u8]) -> Option<(&[u8], &[u8])>
-    ensures none { IfNone result (Lacks mark text.now) }
-    ensures first { IfSome result (λ cut. Lacks mark cut.0.now) }
-    ensures cut { IfSome result (λ cut. text.now ≡ cut.0.now ++ mark ∷ cut.1.now) }
+    ensures { Cuts mark text.now result }
 {
     let at = place_near(mark, text)?;
     Some((&text[..at], &text[at + 1..]))

@@ -5,7 +5,7 @@ ghost use Rattle.iref_grammar.specs.{iri_chars};
 ghost use Rattle.iref_lines.specs.Lines.{is_valid_edit, text_and_edits};
 ghost use Rattle.iref_lines.specs.Lines as spec;
 ghost use Rattle.iref_batch.specs.{EditFields.{IsRead, edits_read}, Fields.{fields_of}};
-ghost use Rattle.iref_batch.specs.{Gathering.{Puts}, Runs.{reply_to, request_reply}};
+ghost use Rattle.iref_batch.specs.{Gathering.{Puts, PutsReply}, Runs.{reply_to}};
 ghost use Rattle.iref.specs.EditSteps.{edit_step};
 
 use super::{put_answered, put_refused, put_text};
@@ -52,7 +52,7 @@ fn copied(alloc: Global, text: &[u8], more: usize) -> Result<Vec<u8>, Memory>
 // Puts the answer to a reference, which is held in these bytes, and edits.
 fn put_edited(bytes: Vec<u8>, edits: &[Edit<'_>], out: &mut Vec<u8>) -> Result<(), Memory>
     requires { list_all (is_valid_edit iri_chars) (map edit_step edits.now) ≡ true }
-    ensures { Puts (request_reply (spec.Edit bytes.items (map edit_step edits.now)))
+    ensures { PutsReply (spec.Edit bytes.items (map edit_step edits.now))
         out.old.items out.new.items result }
 {
     let Ok(mut reference) = IriRefBuf::from_bytes(bytes) else {

@@ -7,9 +7,10 @@ ghost use Rattle.iref_lines.specs.Lines.{Answered, answer_text, are_valid_entrie
 ghost use Rattle.iref_lines.specs.Lines.{read_entry, text_and_entries};
 ghost use Rattle.iref_mapping.specs.PrefixTable.{compact_text};
 ghost use Rattle.iref.specs.Prefixes.{compact_value};
-ghost use Rattle.iref_batch.specs.{EditFields.{IsRead}, Fields.{fields_of}, Gathering.{Puts}};
+ghost use Rattle.iref_batch.specs.{EditFields.{IsRead}, Fields.{fields_of}};
+ghost use Rattle.iref_batch.specs.Gathering.{Puts, PutsReply};
 ghost use Rattle.iref_batch.specs.PrefixFields.{entries_read, HasTaken, TakesNot};
-ghost use Rattle.iref_batch.specs.{Requests.{asked_of}, Runs.{reply_to, request_reply}};
+ghost use Rattle.iref_batch.specs.{Requests.{asked_of}, Runs.{reply_to}};
 
 use super::{put_answered, put_refused, put_text};
 use crate::edit_fields::{FieldError, name_and_value};
@@ -84,8 +85,7 @@ fn put_short(short: Compact<'_>, out: &mut Vec<u8>) -> Result<(), Memory>
 // Puts the answer of what a table makes of an IRI.
 fn put_compact(table: &Prefixes, text: &[u8], out: &mut Vec<u8>) -> Result<(), Memory>
     requires { are_valid_entries iri_chars table.now ≡ true }
-    ensures { Puts (request_reply (spec.Compact text.now table.now))
-        out.old.items out.new.items result }
+    ensures { PutsReply (spec.Compact text.now table.now) out.old.items out.new.items result }
 {
     let Ok(iri) = Iri::from_bytes(text) else {
         return put_text(b"error invalid", out);
@@ -99,8 +99,7 @@ fn put_compact(table: &Prefixes, text: &[u8], out: &mut Vec<u8>) -> Result<(), M
 // Puts the answer of the IRI that a text stands for in a table.
 fn put_expanded(table: &Prefixes, text: &[u8], out: &mut Vec<u8>) -> Result<(), Memory>
     requires { are_valid_entries iri_chars table.now ≡ true }
-    ensures { Puts (request_reply (spec.Expand text.now table.now))
-        out.old.items out.new.items result }
+    ensures { PutsReply (spec.Expand text.now table.now) out.old.items out.new.items result }
 {
     let Ok(text) = str::from_utf8(text) else {
         return put_text(b"error invalid", out);

@@ -3,7 +3,7 @@ ghost use Rattle.std.specs.Prelude.{◌≡◌, true, false, IfNone, IfSome};
 ghost use Rattle.iref_grammar.specs.{read_reference, iri_chars};
 ghost use Rattle.iref_lines.specs.Lines.{Relative, Resolve};
 ghost use Rattle.iref_parse.specs.ReferenceSlices.{value_of};
-ghost use Rattle.iref_batch.specs.{Gathering.{Puts}, Runs.{request_reply}};
+ghost use Rattle.iref_batch.specs.Gathering.{PutsReply};
 
 use super::{put_answered, put_text};
 use iref_buffer::held::{Held, HeldRule};
@@ -27,8 +27,7 @@ fn components_of<R: HeldRule>(text: &[u8]) -> Option<ReferenceSlices<'_>>
 
 /// Puts the answer to `resolve`.
 pub fn put_answer_to_resolve(reference: &[u8], base: &[u8], out: &mut Vec<u8>) -> Result<(), Memory>
-    ensures { Puts (request_reply (Resolve reference.now base.now))
-        out.old.items out.new.items result }
+    ensures { PutsReply (Resolve reference.now base.now) out.old.items out.new.items result }
 {
     let Some(reference) = components_of::<ReferenceRule>(reference) else {
         return put_text(b"error invalid", out);
@@ -43,8 +42,7 @@ pub fn put_answer_to_resolve(reference: &[u8], base: &[u8], out: &mut Vec<u8>) -
 
 /// Puts the answer to `relative`.
 pub fn put_answer_to_relative(target: &[u8], base: &[u8], out: &mut Vec<u8>) -> Result<(), Memory>
-    ensures { Puts (request_reply (Relative target.now base.now))
-        out.old.items out.new.items result }
+    ensures { PutsReply (Relative target.now base.now) out.old.items out.new.items result }
 {
     let Some(target) = components_of::<ReferenceRule>(target) else {
         return put_text(b"error invalid", out);

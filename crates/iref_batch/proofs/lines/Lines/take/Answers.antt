@@ -15,17 +15,17 @@ loop-tail-preserved g c =
     let tail = c.in-Some.tail.now in record {
       taken = (
         w.0 ++ with_newline tail,
-        line_taken c.args.block.now w.0 c.loop-tail.rest.now tail c.in-Some.more.now w.1 c.in-Some.ensures.cut,
+        line_taken c.args.block.now w.0 c.loop-tail.rest.now tail c.in-Some.more.now w.1 c.in-Some.ensures.1,
         in_run_next w.0 (with_newline tail) _ _ _ _ _ _ _ refl w.2 c.in_ok-end_line.ensures.ok,
       );
       works = c.in_ok-end_line.ensures.failed;
     }
 
 pub loop-tail-smaller : goal.loop-tail-smaller
-loop-tail-smaller g c = line_is_less c.loop-tail.rest.now c.in-Some.tail.now c.in-Some.more.now c.in-Some.ensures.cut
+loop-tail-smaller g c = line_is_less c.loop-tail.rest.now c.in-Some.tail.now c.in-Some.more.now c.in-Some.ensures.1
 
 pub end_line-requires-clause-line : goal.end_line-requires-clause-line
-end_line-requires-clause-line g c = c.in-Some.ensures.first
+end_line-requires-clause-line g c = c.in-Some.ensures.0
 
 pub returns-in_err-end_line-clause-cut : goal.returns-in_err-end_line-clause-cut
 returns-in_err-end_line-clause-cut g c =
@@ -33,7 +33,7 @@ returns-in_err-end_line-clause-cut g c =
     let w = c.loop-tail.invariant.taken in
     let more = c.in-Some.more.now in
     rw p.1 (λ others seen before s.
-    begun_is _ _ before _ (line_seen seen c.args.block.now w.0 c.loop-tail.rest.now c.in-Some.tail.now more others w.1 c.in-Some.ensures.cut)
+    begun_is _ _ before _ (line_seen seen c.args.block.now w.0 c.loop-tail.rest.now c.in-Some.tail.now more others w.1 c.in-Some.ensures.1)
     (c.in_err-end_line.ensures.cut (more ++ others) (seen ++ w.0) before (w.2 seen before s)))
 
 pub returns-clause-ok : goal.returns-clause-ok
@@ -42,7 +42,7 @@ returns-clause-ok g c =
     λ seen before s.
     in_run_written _ before _ _ _ _ refl c.in_ok-flush.ensures.empty c.in_ok-flush.ensures.ok
     (in_run_next w.0 c.loop-tail.rest.now _ _ _ _ _ _ _ w.1 w.2
-    (in_run_more c.loop-tail.rest.now _ _ _ c.in_default.ensures.none c.keep.ensures.works c.keep.ensures.kept c.keep.ensures.some refl) seen before s)
+    (in_run_more c.loop-tail.rest.now _ _ _ c.in_default.ensures c.keep.ensures.works c.keep.ensures.kept c.keep.ensures.some refl) seen before s)
 
 pub returns-in_err-flush-clause-cut : goal.returns-in_err-flush-clause-cut
 returns-in_err-flush-clause-cut g c =
@@ -53,4 +53,4 @@ returns-in_err-flush-clause-cut g c =
     begun_is _ _ before _ (append_assoc seen c.args.block.now others)
     (breaks_at_flush others _ _ kept c.in_err-flush.ensures.cut (seen ++ c.args.block.now) before
     (in_run_next w.0 c.loop-tail.rest.now _ _ _ _ _ _ _ w.1 w.2
-    (in_run_more c.loop-tail.rest.now _ _ _ c.in_default.ensures.none c.keep.ensures.works c.keep.ensures.kept c.keep.ensures.some refl) seen before s)))
+    (in_run_more c.loop-tail.rest.now _ _ _ c.in_default.ensures c.keep.ensures.works c.keep.ensures.kept c.keep.ensures.some refl) seen before s)))
