@@ -18,7 +18,7 @@ pub fn are_owners_mapped_alike(a: IriRefBuf, b: IriRefBuf) -> Result<bool, Memor
     ensures { IfOk result (λ alike. alike
         ≡ are_alike (reference_buf_value a) (reference_buf_value b)) }
 {
-    let a = a.into_uri_ref().map_err(|(_, error)| error)?;
-    let b = b.into_uri_ref().map_err(|(_, error)| error)?;
+    let a = a.into_uri_ref().or(Err(Memory))?;
+    let b = b.into_uri_ref().or(Err(Memory))?;
     Ok(a == b)
 }

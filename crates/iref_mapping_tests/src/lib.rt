@@ -2,7 +2,8 @@
 //! 3987, pairs that are equal before and after, want of memory, and texts of 1,000,000 characters.
 #![tactic(auto)]
 
-pub mod callers;
+#[cfg(test)]
+mod callers;
 #[cfg(test)]
 mod calls;
 #[cfg(test)]

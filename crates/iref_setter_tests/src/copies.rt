@@ -1,7 +1,7 @@
 //! Copies with one component set, by the rows of the setters, in both families.
 use crate::setters::{AUTHORITIES, PATHS, WITHOUT_AUTHORITY};
 use iref::iri::{Authority, Iri, IriRef, Path, Query as IriQuery};
-use iref::uri::{self, Fragment, Query, Scheme, TryError, Uri, UriRef};
+use iref::uri::{self, Fragment, Query, Scheme, TryError, Uri, UriBuf, UriRef};
 use iref_checks::same::same_text;
 use std::alloc::Global;
 use std::test::Fail;
@@ -72,52 +72,80 @@ fn copies_have_another_scheme(rt: HostRuntime) -> Result<(), Fail> {
     Ok(())
 }
 
+// Fails unless the copy of `a?q#f` with this query has this text.
+fn query_copied(alloc: Global, query: Option<Query<'_>>, want: &str) -> Result<(), Fail> {
+    let copy = UriRef::new("a?q#f")?.with_query(alloc, query)?;
+    same_text(copy.as_str(), want)
+}
+
+// The same of a fragment.
+fn fragment_copied(alloc: Global, fragment: Option<Fragment<'_>>, want: &str) -> Result<(), Fail> {
+    let copy = UriRef::new("a?q#f")?.with_fragment(alloc, fragment)?;
+    same_text(copy.as_str(), want)
+}
+
 #[test]
 fn queries_and_fragments_of_copies_come_and_go(rt: HostRuntime) -> Result<(), Fail> {
-    let reference = UriRef::new("a?q#f")?;
-    let copy = reference.with_query(rt.alloc(), Some(Query::new("x=y")?))?;
-    same_text(copy.as_str(), "a?x=y#f")?;
-    let copy = reference.with_fragment(rt.alloc(), Some(Fragment::new("")?))?;
-    same_text(copy.as_str(), "a?q#")?;
-    let copy = reference.with_query(rt.alloc(), None)?;
-    same_text(copy.as_str(), "a#f")?;
-    let copy = reference.with_fragment(rt.alloc(), None)?;
-    same_text(copy.as_str(), "a?q")?;
-    let reference = IriRef::new("ö#f")?;
-    let copy = reference.with_query(rt.alloc(), Some(IriQuery::new("ß")?))?;
-    same_text(copy.as_str(), "ö?ß#f")
+    query_copied(rt.alloc(), Some(Query::new("x=y")?), "a?x=y#f")?;
+    fragment_copied(rt.alloc(), Some(Fragment::new("")?), "a?q#")?;
+    query_copied(rt.alloc(), None, "a#f")?;
+    fragment_copied(rt.alloc(), None, "a?q")
+}
+
+#[test]
+fn copies_have_queries_beyond_ascii(rt: HostRuntime) -> Result<(), Fail> {
+    let copy = IriRef::new("ö#f")?.with_query(rt.alloc(), Some(IriQuery::new("ß")?))?;
+    same_text(copy.as_str(), "ö?ß#f")?;
+    let copy = Iri::new("s:é#ü")?.with_query(rt.alloc(), Some(IriQuery::new("ß")?))?;
+    same_text(copy.scheme().as_str(), "s")?;
+    same_text(copy.as_str(), "s:é?ß#ü")
+}
+
+// Fails unless the URI has this scheme and this text.
+fn is_uri(uri: &UriBuf, scheme: &str, text: &str) -> Result<(), Fail> {
+    same_text(uri.scheme().as_str(), scheme)?;
+    same_text(uri.as_str(), text)
 }
 
 #[test]
 fn copies_of_uris_are_uris(rt: HostRuntime) -> Result<(), Fail> {
     let uri = Uri::new("scheme://authority//path")?;
     let copy = uri.with_authority(rt.alloc(), None)?;
-    same_text(copy.scheme().as_str(), "scheme")?;
-    same_text(copy.as_str(), "scheme:/.//path")?;
+    is_uri(&copy, "scheme", "scheme:/.//path")?;
     let copy = uri.with_scheme(rt.alloc(), Scheme::new("s")?)?;
-    same_text(copy.as_str(), "s://authority//path")?;
+    is_uri(&copy, "s", "s://authority//path")
+}
+
+#[test]
+fn copies_of_uris_have_another_path(rt: HostRuntime) -> Result<(), Fail> {
     let copy = Uri::new("http:old/path")?.with_path(rt.alloc(), uri::Path::new("//foo/bar")?)?;
-    same_text(copy.scheme().as_str(), "http")?;
-    same_text(copy.as_str(), "http:/.//foo/bar")?;
-    let copy = Iri::new("s:é#ü")?.with_query(rt.alloc(), Some(IriQuery::new("ß")?))?;
-    same_text(copy.scheme().as_str(), "s")?;
-    same_text(copy.as_str(), "s:é?ß#ü")
+    is_uri(&copy, "http", "http:/.//foo/bar")
+}
+
+// Fails unless the reference of URIs becomes a URI of this text.
+fn becomes_uri(alloc: Global, text: &str, scheme: &str, want: &str) -> Result<(), Fail> {
+    let owner = UriRef::new(text)?.to_owned(alloc)?;
+    match owner.into_with_scheme(Scheme::new(scheme)?) {
+        Ok(uri) => same_text(uri.as_str(), want),
+        Err(_) => Err("out of memory")?,
+    }
+}
+
+// The same of IRIs, by a scheme that is tested first.
+fn becomes_iri(alloc: Global, text: &str, scheme: &str, want: &str) -> Result<(), Fail> {
+    let owner = IriRef::new(text)?.to_owned(alloc)?;
+    match owner.try_into_with_scheme(scheme) {
+        Ok(iri) => same_text(iri.as_str(), want),
+        Err(_) => Err("refused")?,
+    }
 }
 
 #[test]
 fn references_become_uris(rt: HostRuntime) -> Result<(), Fail> {
     for row in SCHEMES {
         let (text, scheme, want) = *row;
-        let owner = UriRef::new(text)?.to_owned(rt.alloc())?;
-        let Ok(uri) = owner.into_with_scheme(Scheme::new(scheme)?) else {
-            return Err("out of memory")?;
-        };
-        same_text(uri.as_str(), want)?;
-        let owner = IriRef::new(text)?.to_owned(rt.alloc())?;
-        let Ok(iri) = owner.try_into_with_scheme(scheme) else {
-            return Err("refused")?;
-        };
-        same_text(iri.as_str(), want)?;
+        becomes_uri(rt.alloc(), text, scheme, want)?;
+        becomes_iri(rt.alloc(), text, scheme, want)?;
     }
     Ok(())
 }

@@ -43,13 +43,29 @@ fn the_last_segment_is_taken_away_in_place(rt: HostRuntime) -> Result<(), Fail> 
     same_text(uri.as_str(), "http://h/./")
 }
 
-// The port set in place, then the last segment taken away, then the scheme.
-fn edit_each_part(mut reference: IriRefBuf) -> Result<(), Fail> {
+// Sets the port of the reference in place.
+fn set_port(reference: &mut IriRefBuf, port: &str) -> Result<(), Fail> {
     let Some(mut authority) = reference.authority_mut() else {
         return Err("no authority")?;
     };
-    authority.set_port(Some(Port::new("40")?))?;
-    same_text(reference.as_str(), "http://h:40/a?q#f")?;
+    Ok(authority.set_port(Some(Port::new(port)?))?)
+}
+
+// Takes the last segment away in place.
+fn pop(reference: &mut IriRefBuf) -> Result<(), Fail> {
+    Ok(reference.path_mut().pop()?)
+}
+
+// Fails unless the reference has this text, and its components are there.
+fn is_at(reference: &IriRefBuf, text: &str, places: &Offsets) -> Result<(), Fail> {
+    same_text(reference.as_str(), text)?;
+    same(&reference.offsets(), places)
+}
+
+#[test]
+fn places_move_with_each_part(rt: HostRuntime) -> Result<(), Fail> {
+    let mut reference = IriRefBuf::new(String::from_str(rt.alloc(), "http://h/a?q#f")?)?;
+    set_port(&mut reference, "40")?;
     let places = Offsets {
         scheme: Some(0..4),
         authority: Some(7..11),
@@ -57,18 +73,16 @@ fn edit_each_part(mut reference: IriRefBuf) -> Result<(), Fail> {
         query: Some(14..15),
         fragment: Some(16..17),
     };
-    same(&reference.offsets(), &places)?;
-    reference.path_mut().pop()?;
-    same_text(reference.as_str(), "http://h:40/?q#f")?;
+    is_at(&reference, "http://h:40/a?q#f", &places)?;
+    pop(&mut reference)?;
     let places = Offsets {
         path: 11..12,
         query: Some(13..14),
         fragment: Some(15..16),
         ..places
     };
-    same(&reference.offsets(), &places)?;
+    is_at(&reference, "http://h:40/?q#f", &places)?;
     reference.set_scheme(None)?;
-    same_text(reference.as_str(), "//h:40/?q#f")?;
     let places = Offsets {
         scheme: None,
         authority: Some(2..6),
@@ -76,11 +90,5 @@ fn edit_each_part(mut reference: IriRefBuf) -> Result<(), Fail> {
         query: Some(8..9),
         fragment: Some(10..11),
     };
-    same(&reference.offsets(), &places)
-}
-
-#[test]
-fn places_move_with_each_part(rt: HostRuntime) -> Result<(), Fail> {
-    let text = "http://h/a?q#f";
-    edit_each_part(IriRefBuf::new(String::from_str(rt.alloc(), text)?)?)
+    is_at(&reference, "//h:40/?q#f", &places)
 }

@@ -1,127 +1,90 @@
 //! The errors of one family in one type: the printed texts, and the forms over texts and bytes.
 use iref::{InvalidPort, InvalidScheme, IriError, UriError, iri, uri};
 use iref_checks::same::{holds, shows};
+use std::alloc::Global;
 use std::borrow::{CowSlice, CowStr};
 use std::test::Fail;
+
+// Fails unless the error of a component is printed so, as one of URIs.
+fn uri_error_shows<E>(error: E, want: &str, alloc: Global) -> Result<(), Fail>
+where
+    E: Into<UriError<&'static str>>,
+{
+    let error: UriError<&'static str> = error.into();
+    shows(&error, want, alloc)
+}
+
+// The same, as one of IRIs.
+fn iri_error_shows<E>(error: E, want: &str, alloc: Global) -> Result<(), Fail>
+where
+    E: Into<IriError<&'static str>>,
+{
+    let error: IriError<&'static str> = error.into();
+    shows(&error, want, alloc)
+}
 
 #[test]
 fn errors_of_uris_are_printed_with_their_component(rt: HostRuntime) -> Result<(), Fail> {
     let alloc = rt.alloc();
-    shows(
-        &UriError::<&str>::from(uri::InvalidUri("x")),
-        "invalid URI: x",
-        alloc,
-    )?;
-    shows(
-        &UriError::<&str>::from(uri::InvalidUriRef("x")),
-        "invalid URI reference: x",
-        alloc,
-    )?;
-    shows(
-        &UriError::<&str>::from(InvalidScheme("x")),
-        "invalid URI scheme: x",
-        alloc,
-    )?;
-    shows(
-        &UriError::<&str>::from(uri::InvalidAuthority("x")),
+    uri_error_shows(uri::InvalidUri("x"), "invalid URI: x", alloc)?;
+    uri_error_shows(uri::InvalidUriRef("x"), "invalid URI reference: x", alloc)?;
+    uri_error_shows(InvalidScheme("x"), "invalid URI scheme: x", alloc)?;
+    uri_error_shows(
+        uri::InvalidAuthority("x"),
         "invalid URI authority: x",
         alloc,
     )?;
-    shows(
-        &UriError::<&str>::from(uri::InvalidUserInfo("x")),
+    uri_error_shows(
+        uri::InvalidUserInfo("x"),
         "invalid URI authority user info: x",
         alloc,
     )?;
-    shows(
-        &UriError::<&str>::from(uri::InvalidHost("x")),
+    uri_error_shows(
+        uri::InvalidHost("x"),
         "invalid URI authority host: x",
         alloc,
     )?;
-    shows(
-        &UriError::<&str>::from(InvalidPort("x")),
-        "invalid URI authority port: x",
-        alloc,
-    )?;
-    shows(
-        &UriError::<&str>::from(uri::InvalidPath("x")),
-        "invalid URI path: x",
-        alloc,
-    )?;
-    shows(
-        &UriError::<&str>::from(uri::InvalidSegment("x")),
+    uri_error_shows(InvalidPort("x"), "invalid URI authority port: x", alloc)?;
+    uri_error_shows(uri::InvalidPath("x"), "invalid URI path: x", alloc)?;
+    uri_error_shows(
+        uri::InvalidSegment("x"),
         "invalid URI path segment: x",
         alloc,
     )?;
-    shows(
-        &UriError::<&str>::from(uri::InvalidQuery("x")),
-        "invalid URI query: x",
-        alloc,
-    )?;
-    shows(
-        &UriError::<&str>::from(uri::InvalidFragment("x")),
-        "invalid URI fragment: x",
-        alloc,
-    )
+    uri_error_shows(uri::InvalidQuery("x"), "invalid URI query: x", alloc)?;
+    uri_error_shows(uri::InvalidFragment("x"), "invalid URI fragment: x", alloc)
 }
 
 #[test]
 fn errors_of_iris_are_printed_with_their_component(rt: HostRuntime) -> Result<(), Fail> {
     let alloc = rt.alloc();
-    shows(
-        &IriError::<&str>::from(iri::InvalidIri("x")),
-        "invalid IRI: x",
-        alloc,
-    )?;
-    shows(
-        &IriError::<&str>::from(iri::InvalidIriRef("x")),
-        "invalid IRI reference: x",
-        alloc,
-    )?;
-    shows(
-        &IriError::<&str>::from(InvalidScheme("x")),
-        "invalid IRI scheme: x",
-        alloc,
-    )?;
-    shows(
-        &IriError::<&str>::from(iri::InvalidAuthority("x")),
+    iri_error_shows(iri::InvalidIri("x"), "invalid IRI: x", alloc)?;
+    iri_error_shows(iri::InvalidIriRef("x"), "invalid IRI reference: x", alloc)?;
+    iri_error_shows(InvalidScheme("x"), "invalid IRI scheme: x", alloc)?;
+    iri_error_shows(
+        iri::InvalidAuthority("x"),
         "invalid IRI authority: x",
         alloc,
     )?;
-    shows(
-        &IriError::<&str>::from(iri::InvalidUserInfo("x")),
+    iri_error_shows(
+        iri::InvalidUserInfo("x"),
         "invalid IRI authority user info: x",
         alloc,
     )?;
-    shows(
-        &IriError::<&str>::from(iri::InvalidHost("x")),
+    iri_error_shows(
+        iri::InvalidHost("x"),
         "invalid IRI authority host: x",
         alloc,
     )?;
-    shows(
-        &IriError::<&str>::from(InvalidPort("x")),
-        "invalid IRI authority port: x",
-        alloc,
-    )?;
-    shows(
-        &IriError::<&str>::from(iri::InvalidPath("x")),
-        "invalid IRI path: x",
-        alloc,
-    )?;
-    shows(
-        &IriError::<&str>::from(iri::InvalidSegment("x")),
+    iri_error_shows(InvalidPort("x"), "invalid IRI authority port: x", alloc)?;
+    iri_error_shows(iri::InvalidPath("x"), "invalid IRI path: x", alloc)?;
+    iri_error_shows(
+        iri::InvalidSegment("x"),
         "invalid IRI path segment: x",
         alloc,
     )?;
-    shows(
-        &IriError::<&str>::from(iri::InvalidQuery("x")),
-        "invalid IRI query: x",
-        alloc,
-    )?;
-    shows(
-        &IriError::<&str>::from(iri::InvalidFragment("x")),
-        "invalid IRI fragment: x",
-        alloc,
-    )
+    iri_error_shows(iri::InvalidQuery("x"), "invalid IRI query: x", alloc)?;
+    iri_error_shows(iri::InvalidFragment("x"), "invalid IRI fragment: x", alloc)
 }
 
 #[test]

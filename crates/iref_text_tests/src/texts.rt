@@ -36,14 +36,18 @@ fn printed_reasons(rt: HostRuntime) -> Result<(), Fail> {
 }
 
 #[test]
-fn known_texts() -> Result<(), Fail> {
+fn known_schemes() -> Result<(), Fail> {
     same_text(Scheme::http().as_str(), "http")?;
     same_text(Scheme::https().as_str(), "https")?;
     same_text(Scheme::file().as_str(), "file")?;
     same_text(Scheme::ftp().as_str(), "ftp")?;
     same_text(Scheme::urn().as_str(), "urn")?;
     same_text(Scheme::data_scheme().as_str(), "data")?;
-    same_text(Scheme::mailto().as_str(), "mailto")?;
+    same_text(Scheme::mailto().as_str(), "mailto")
+}
+
+#[test]
+fn known_ports_and_paths() -> Result<(), Fail> {
     same_text(Port::http().as_str(), "80")?;
     same_text(Port::https().as_str(), "443")?;
     same_text(Segment::current().as_str(), ".")?;
@@ -57,7 +61,11 @@ fn empty_views() -> Result<(), Fail> {
     same_text(Port::default().as_str(), "")?;
     same_text(UserInfo::default().as_str(), "")?;
     same_text(Host::default().as_str(), "")?;
-    same_text(Authority::default().as_str(), "")?;
+    same_text(Authority::default().as_str(), "")
+}
+
+#[test]
+fn empty_views_of_paths_and_references() -> Result<(), Fail> {
     same_text(Segment::default().as_str(), "")?;
     same_text(Path::default().as_str(), "")?;
     same_text(Query::default().as_str(), "")?;
