@@ -15,3 +15,4 @@ pub mod AuthoritySlices
 pub mod ReferenceSlices
 pub mod IpGroups
 pub mod Ipv6Scan
+pub mod Splits

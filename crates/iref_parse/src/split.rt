@@ -3,10 +3,10 @@
 ghost use Rattle.std.specs.{Prelude.{◌≡◌, ◌<◌, [], ◌∷◌, IfSome, is_some}, Bool.{Decides}};
 ghost use Rattle.std.specs.Option.{option_copied};
 ghost use Rattle.iref_grammar.specs.Reference as spec;
-ghost use Rattle.iref_grammar.specs.{hash_sign, question_mark, before, from_first, after};
+ghost use Rattle.iref_grammar.specs.{hash_sign, question_mark, before, after};
 ghost use Rattle.iref_grammar.specs.{hierarchy, read_reference, is_reference, spell_components};
 ghost use Rattle.iref_grammar.specs.{AreComponents};
-ghost use Rattle.iref_parse.specs.ReferenceSlices.{texts_of, value_of};
+ghost use Rattle.iref_parse.specs.{ReferenceSlices.{texts_of, value_of}, Splits.{SplitsBefore}};
 
 use crate::authority::is_authority;
 use crate::cut::{cut, split_before};
@@ -35,8 +35,7 @@ pub struct ReferenceSlices<'a> {
 fn split_before_either(text: &str, first: u8, second: u8) -> (&str, &str)
     requires first_is_ascii { first < 128 }
     requires second_is_ascii { second < 128 }
-    ensures front { result.0.now ≡ before (first ∷ second ∷ []) text.now }
-    ensures back { result.1.now ≡ from_first (first ∷ second ∷ []) text.now }
+    ensures { SplitsBefore first second text.now result.0.now result.1.now }
 {
     let place = memchr2(first, second, text.as_bytes());
     text.split_at(place.unwrap_or(text.len()))
@@ -47,8 +46,7 @@ fn split_before_either(text: &str, first: u8, second: u8) -> (&str, &str)
 fn split_before_near(text: &str, first: u8, second: u8) -> (&str, &str)
     requires first_is_ascii { first < 128 }
     requires second_is_ascii { second < 128 }
-    ensures front { result.0.now ≡ before (first ∷ second ∷ []) text.now }
-    ensures back { result.1.now ≡ from_first (first ∷ second ∷ []) text.now }
+    ensures { SplitsBefore first second text.now result.0.now result.1.now }
 {
     let place = text
         .bytes()
