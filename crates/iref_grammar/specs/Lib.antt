@@ -25,3 +25,4 @@ pub mod Places
 pub mod Reference
 pub mod ComponentTexts
 pub mod Keys
+pub mod Readings

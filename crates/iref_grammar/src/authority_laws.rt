@@ -6,6 +6,7 @@ ghost use Rattle.iref_grammar.specs.{Rules.{Text, AcceptsExactly, InUtf8}, Gramm
 ghost use Rattle.iref_grammar.specs.Authority.{AuthorityValue, HasAuthorityParts};
 ghost use Rattle.iref_grammar.specs.Authority.{has_authority_parts, spell_authority};
 ghost use Rattle.iref_grammar.specs.Authority.{read_authority, is_authority};
+ghost use Rattle.iref_grammar.specs.Readings.{HasOneReading};
 
 use crate::chars::CharSet;
 
@@ -19,11 +20,7 @@ pub fn authority_grammar<S: CharSet>()
 /// A text has one reading as an authority: the parts that are read from it spell it, a text is an
 /// authority exactly if some parts in their rules spell it, and no others do.
 pub fn authority_reading<S: CharSet>()
-    ensures spelled_back { (text : Text) → spell_authority (read_authority text) ≡ text }
-    ensures read_back { (a : AuthorityValue) → HasAuthorityParts S.tests a
-        → read_authority (spell_authority a) ≡ a }
+    ensures reading { HasOneReading spell_authority read_authority (HasAuthorityParts S.tests) }
     ensures spelled { (bytes : Text) → InUtf8 (IsAuthority S.tests) bytes
         ↔ ((a : AuthorityValue) × HasAuthorityParts S.tests a × (spell_authority a ≡ bytes)) }
-    ensures one { (a b : AuthorityValue) → HasAuthorityParts S.tests a
-        → HasAuthorityParts S.tests b → spell_authority a ≡ spell_authority b → a ≡ b }
 {}

@@ -7,7 +7,7 @@ ghost use Rattle.iref_grammar.specs.{Grammar.{IsUri, IsUriReference}, Authority.
 ghost use Rattle.iref_grammar.specs.{PathValue.{spell_path}, Places.{places_of, text_at}};
 ghost use Rattle.iref_grammar.specs.Reference.{ReferenceValue, IsReadable, IsReadAsReference};
 ghost use Rattle.iref_grammar.specs.Reference.{is_readable, spell, read_reference, is_reference};
-ghost use Rattle.iref_grammar.specs.Reference.{is_full_reference};
+ghost use Rattle.iref_grammar.specs.{Reference.{is_full_reference}, Readings.{HasOneReading}};
 ghost use Rattle.iref_grammar.specs.ComponentTexts.{ComponentTexts, AreComponents, read_components};
 
 use crate::chars::CharSet;
@@ -23,11 +23,7 @@ pub fn reference_grammar<S: CharSet>()
 /// A text has one reading: the components that are read from it spell it, no other readable
 /// reference does, and this one is readable where the text is in the grammar.
 pub fn reference_reading<S: CharSet>()
-    ensures spelled_back { (text : Text) → spell (read_reference text) ≡ text }
-    ensures read_back { (r : ReferenceValue) → IsReadable S.tests r
-        → read_reference (spell r) ≡ r }
-    ensures one { (q r : ReferenceValue) → IsReadable S.tests q → IsReadable S.tests r
-        → spell q ≡ spell r → q ≡ r }
+    ensures reading { HasOneReading spell read_reference (IsReadable S.tests) }
     ensures computed { (text : Text) (r : ReferenceValue) → IsReadAsReference S.tests text r
         ↔ ((is_reference S.tests text ≡ true) × (read_reference text ≡ r)) }
 {}

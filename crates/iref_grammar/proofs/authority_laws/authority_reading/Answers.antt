@@ -7,8 +7,6 @@ returns g c =
     let set = g.S.CharSet.tests in
     let above = g.met.S.CharSet.above_ascii in
     record {
-      spelled_back = read_authority-spelled;
-      read_back = authority_read set above;
+      reading = record { spelled_back = read_authority-spelled; read_back = authority_read set above; one = one_authority set above };
       spelled = in_utf8-authority set above;
-      one = one_authority set above;
     }

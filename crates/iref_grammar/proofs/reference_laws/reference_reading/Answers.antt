@@ -7,8 +7,6 @@ returns g c =
     let set = g.S.CharSet.tests in
     let above = g.met.S.CharSet.above_ascii in
     record {
-      spelled_back = read_reference-spelled;
-      read_back = reference_read set above;
-      one = one_spelling set above;
+      reading = record { spelled_back = read_reference-spelled; read_back = reference_read set above; one = one_spelling set above };
       computed = reading set above;
     }
