@@ -7,8 +7,8 @@ use Rattle.iref_grammar.specs.Tests.{none_or}
 use Rattle.iref_grammar.specs.Authority.{AuthorityValue, read_authority, is_authority, has_authority_parts}
 use Rattle.iref_grammar.specs.Places.{places_of}
 use Rattle.iref_grammar.specs.Reference.{is_readable, is_reference, read_reference}
-use Rattle.iref_component.specs.declared.text.View.{View}
-use Rattle.iref_component.specs.Components.{view_text}
+use Rattle.iref_component.specs.declared.text.RuleText.{RuleText}
+use Rattle.iref_component.specs.Components.{text_of}
 use Rattle.iref_model.specs.ComponentSteps.{with_authority_step}
 use Rattle.iref_model.specs.Edits.{EditStep, NoAuthority, edited, with_authority_part}
 use Rattle.iref_authority.specs.declared.authority_mut.AuthorityMut.{AuthorityMut}
@@ -17,7 +17,7 @@ use Rattle.iref_buffer.proofs.EditLemmas.{readable_of}
 use Rattle.iref_reference.proofs.AuthorityStepLemmas.{authority_step}
 
 -- an optional text that is given by a view is in the rule
-pub view_in_rule : {R C K r k c : _} (o : Option (View R C K r k c)) → none_or (r.test c.tests) (option_map view_text o) ≡ true
+pub view_in_rule : {S R C K s r k c : _} (o : Option (RuleText S R C K s r k c)) → none_or (r.test c.tests) (option_map text_of o) ≡ true
 view_in_rule None = refl
 view_in_rule (Some view) = view.in_rule
 

@@ -45,7 +45,7 @@ pub use Rattle.iref_authority.specs.Authorities
 pub use Rattle.iref_authority.specs.AuthorityParts
 pub use Rattle.iref_authority.specs.AuthorityTexts
 pub use Rattle.iref_authority.specs.AuthorityEdits
-pub use Rattle.iref_authority.specs.Comparisons
+pub use Rattle.iref_component.specs.Comparisons
 pub use Rattle.iref_error.specs.Tried
 pub use Rattle.iref_path.specs.Paths
 pub use Rattle.iref_path.specs.NormalPaths

@@ -6,17 +6,17 @@ use Rattle.iref_grammar.specs.Rules.{Text}
 use Rattle.iref_grammar.specs.Authority.{AuthorityValue, read_authority}
 use Rattle.iref_model.specs.AuthorityKey.{authority_key}
 use Rattle.iref_error.specs.declared.invalid.InvalidAuthority.{InvalidAuthority}
-use Rattle.iref_component.specs.Components.{view_text, owned_text}
+use Rattle.iref_component.specs.Components.{text_of}
 use Rattle.iref_component.specs.Makers.{ParsesUtf8}
 use Rattle.iref_authority.specs.declared.authority.Authority.{Authority}
 use Rattle.iref_authority.specs.declared.owner.AuthorityBuf.{AuthorityBuf}
 use Rattle.iref_authority.specs.AuthorityTexts.{IsStep}
 
 abbrev pub authority_text : {C : _} {c : _} → Authority C c → Text
-authority_text a = view_text a.text
+authority_text a = text_of a.text
 
 abbrev pub authority_buf_text : {C : _} {c : _} → AuthorityBuf C c → Text
-authority_buf_text a = owned_text a.text
+authority_buf_text a = text_of a.text
 
 -- Ok with the authority of the text exactly if it is one, else the error holds the input
 abbrev pub ParsesAuthority : {C : _} {c : _} {I : Type 0} → CharTests → Text → I → Result (Authority C c) (InvalidAuthority I) → Type 0

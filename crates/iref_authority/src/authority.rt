@@ -1,11 +1,11 @@
 //! Borrowed authorities (RFC 3986 section 3.2).
 ghost use Rattle.std.specs.Prelude.{◌≡◌, true, [], Some, IfOk, option_map};
 ghost use Rattle.std.specs.Option.{option_copied};
-ghost use Rattle.iref_component.specs.{is_authority, read_authority, view_text};
-ghost use Rattle.iref_component.specs.{authority_key_cmp, fed_authority};
+ghost use Rattle.iref_component.specs.{is_authority, read_authority, text_of};
+ghost use Rattle.iref_component.specs.{ComparesBy, authority_key_cmp, fed_authority};
 ghost use Rattle.iref_authority.specs.{authority_text, authority_buf_text, ParsesAuthority};
 ghost use Rattle.iref_authority.specs.Authorities.{key_of_authority, key_of_authority_buf};
-ghost use Rattle.iref_authority.specs.{AuthorityParts.{parts_value}, Comparisons.{TypeComparesBy}};
+ghost use Rattle.iref_authority.specs.AuthorityParts.{parts_value};
 
 use crate::owner::AuthorityBuf;
 use crate::parts::{AuthorityParts, parts_of};
@@ -85,7 +85,7 @@ impl<'a, C: CharSet> Authority<'a, C> {
 
     /// The user info, if there is one: what stands before the first `@`.
     pub fn user_info(&self) -> Option<UserInfo<'a, C>>
-        ensures { option_map view_text result ≡
+        ensures { option_map text_of result ≡
             (read_authority (authority_text self.now)).user_info }
     {
         self.parts().user_info
@@ -93,14 +93,14 @@ impl<'a, C: CharSet> Authority<'a, C> {
 
     /// The host.
     pub fn host(&self) -> Host<'a, C>
-        ensures { view_text result ≡ (read_authority (authority_text self.now)).host }
+        ensures { text_of result ≡ (read_authority (authority_text self.now)).host }
     {
         self.parts().host
     }
 
     /// The port, if there is one: what follows the `:` after the host.
     pub fn port(&self) -> Option<Port<'a>>
-        ensures { option_map view_text result ≡ (read_authority (authority_text self.now)).port }
+        ensures { option_map text_of result ≡ (read_authority (authority_text self.now)).port }
     {
         self.parts().port
     }
@@ -157,8 +157,8 @@ impl<C: CharSet> fmt::Display for Authority<'_, C> {
 
 /// Authorities are equal, in order and hashed by the keys of their parts (RFC 3986 section 6.2.2).
 pub fn authorities_compare_by_key<C: CharSet>()
-    ensures view { TypeComparesBy key_of_authority authority_key_cmp fed_authority
+    ensures view { ComparesBy key_of_authority authority_key_cmp fed_authority
         ⟦<Authority<'static, C> as Ord>⟧ ⟦<Authority<'static, C> as Hash>⟧ }
-    ensures owner { TypeComparesBy key_of_authority_buf authority_key_cmp fed_authority
+    ensures owner { ComparesBy key_of_authority_buf authority_key_cmp fed_authority
         ⟦<AuthorityBuf<C> as Ord>⟧ ⟦<AuthorityBuf<C> as Hash>⟧ }
 {}

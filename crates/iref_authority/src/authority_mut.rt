@@ -8,7 +8,7 @@ ghost use Rattle.iref_grammar.specs.Tests.{is_user_info, is_port, none_or};
 ghost use Rattle.iref_grammar.specs.Authority.{AuthorityValue, is_authority, read_authority};
 ghost use Rattle.iref_model.specs.AuthoritySteps.{with_user_info, with_host, with_port};
 ghost use Rattle.iref_model.specs.PortNumbers.{port_text};
-ghost use Rattle.iref_component.specs.{Components.{view_text}, Makers.{ParsesUtf8}};
+ghost use Rattle.iref_component.specs.{Components.{text_of}, Makers.{ParsesUtf8}};
 ghost use Rattle.iref_authority.specs.Authorities.{authority_text};
 ghost use Rattle.iref_authority.specs.AuthorityTexts.{SpellsAuthority};
 
@@ -192,7 +192,7 @@ impl<'a, C: CharSet, T: Target<AuthorityPart, C>> AuthorityMut<'a, C, T> {
     /// Replaces the user info and its `@`, or takes them away, which takes no memory: `u@h` without
     /// a user info is `h`, and with an empty one `@h`.
     pub fn set_user_info(&mut self, user_info: Option<UserInfo<'_, C>>) -> Result<(), Memory>
-        ensures edit { Edits (with_user_info (option_map view_text user_info.entry))
+        ensures edit { Edits (with_user_info (option_map text_of user_info.entry))
             self.old self.new result }
         ensures none { IsNone user_info.entry → IsOk result }
     {
@@ -201,7 +201,7 @@ impl<'a, C: CharSet, T: Target<AuthorityPart, C>> AuthorityMut<'a, C, T> {
 
     /// Replaces the host: of `u@h:80` what stands before the `:80` and after the `u@`.
     pub fn set_host(&mut self, host: Host<'_, C>) -> Result<(), Memory>
-        ensures { Edits (with_host (view_text host.entry)) self.old self.new result }
+        ensures { Edits (with_host (text_of host.entry)) self.old self.new result }
     {
         let within = host_range::<C>(self.text());
         self.put(within, (host.as_str(), ""))
@@ -210,7 +210,7 @@ impl<'a, C: CharSet, T: Target<AuthorityPart, C>> AuthorityMut<'a, C, T> {
     /// Replaces the port and its `:`, or takes them away, which takes no memory: `h:80` without a
     /// port is `h`, and with an empty one `h:`.
     pub fn set_port(&mut self, port: Option<Port<'_>>) -> Result<(), Memory>
-        ensures edit { Edits (with_port (option_map view_text port.entry))
+        ensures edit { Edits (with_port (option_map text_of port.entry))
             self.old self.new result }
         ensures none { IsNone port.entry → IsOk result }
     {

@@ -1,6 +1,6 @@
 //! Authorities that own their text (RFC 3986 section 3.2).
 ghost use Rattle.std.specs.{String.{string_bytes}, Prelude.{◌≡◌, true, [], Some, option_map}};
-ghost use Rattle.iref_component.specs.{view_text, is_authority, read_authority};
+ghost use Rattle.iref_component.specs.{text_of, is_authority, read_authority};
 ghost use Rattle.iref_authority.specs.{authority_text, authority_buf_text, ParsesAuthorityBuf};
 ghost use Rattle.iref_authority.specs.AuthorityParts.{parts_value};
 
@@ -80,7 +80,7 @@ impl<C: CharSet> AuthorityBuf<C> {
 
     /// The user info, if there is one: what stands before the first `@`.
     pub fn user_info(&self) -> Option<UserInfo<'_, C>>
-        ensures { option_map view_text result ≡
+        ensures { option_map text_of result ≡
             (read_authority (authority_buf_text self.now)).user_info }
     {
         self.as_authority().user_info()
@@ -88,14 +88,14 @@ impl<C: CharSet> AuthorityBuf<C> {
 
     /// The host.
     pub fn host(&self) -> Host<'_, C>
-        ensures { view_text result ≡ (read_authority (authority_buf_text self.now)).host }
+        ensures { text_of result ≡ (read_authority (authority_buf_text self.now)).host }
     {
         self.as_authority().host()
     }
 
     /// The port, if there is one: what follows the `:` after the host.
     pub fn port(&self) -> Option<Port<'_>>
-        ensures { option_map view_text result ≡
+        ensures { option_map text_of result ≡
             (read_authority (authority_buf_text self.now)).port }
     {
         self.as_authority().port()

@@ -5,7 +5,7 @@ ghost use Rattle.iref_grammar.specs.Grammar.{IsAuthority, IsHost, IsPort, IsUser
 ghost use Rattle.iref_grammar.specs.Authority.{read_authority};
 ghost use Rattle.iref_model.specs.AuthoritySteps.{with_user_info, with_host, with_port};
 ghost use Rattle.iref_model.specs.PortNumbers.{port_text};
-ghost use Rattle.iref_component.specs.{Components.{view_text}, Tries.{Tests, TestsIfSome}};
+ghost use Rattle.iref_component.specs.{Components.{text_of}, Tries.{Tests, TestsIfSome}};
 ghost use Rattle.iref_authority.specs.Authorities.{authority_text, authority_buf_text, EditsOwner};
 ghost use Rattle.iref_authority.specs.AuthorityTexts.{IsWhole, one_whole};
 
@@ -70,7 +70,7 @@ impl<C: CharSet> AuthorityBuf<C> {
     /// Replaces the user info and its `@`, or takes them away, which takes no memory: `u@h` without
     /// a user info is `h`.
     pub fn set_user_info(&mut self, user_info: Option<UserInfo<'_, C>>) -> Result<(), Memory>
-        ensures edit { EditsOwner (with_user_info (option_map view_text user_info.entry))
+        ensures edit { EditsOwner (with_user_info (option_map text_of user_info.entry))
             self.old self.new result }
         ensures none { IsNone user_info.entry → IsOk result }
     {
@@ -79,7 +79,7 @@ impl<C: CharSet> AuthorityBuf<C> {
 
     /// Replaces the host.
     pub fn set_host(&mut self, host: Host<'_, C>) -> Result<(), Memory>
-        ensures { EditsOwner (with_host (view_text host.entry)) self.old self.new result }
+        ensures { EditsOwner (with_host (text_of host.entry)) self.old self.new result }
     {
         self.as_authority_mut().set_host(host)
     }
@@ -87,7 +87,7 @@ impl<C: CharSet> AuthorityBuf<C> {
     /// Replaces the port and its `:`, or takes them away, which takes no memory: `h:80` without a
     /// port is `h`.
     pub fn set_port(&mut self, port: Option<Port<'_>>) -> Result<(), Memory>
-        ensures edit { EditsOwner (with_port (option_map view_text port.entry))
+        ensures edit { EditsOwner (with_port (option_map text_of port.entry))
             self.old self.new result }
         ensures none { IsNone port.entry → IsOk result }
     {

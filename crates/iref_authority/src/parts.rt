@@ -3,7 +3,7 @@ ghost use Rattle.std.specs.Prelude.{◌≡◌, true};
 ghost use Rattle.iref_component.specs.{is_authority, read_authority};
 ghost use Rattle.iref_component.specs.{authority_key_cmp, fed_authority};
 ghost use Rattle.iref_authority.specs.AuthorityParts.{parts_value, parts_key};
-ghost use Rattle.iref_authority.specs.Comparisons.{TypeComparesBy};
+ghost use Rattle.iref_component.specs.Comparisons.{ComparesBy};
 
 use iref_component::texts::{Host, Port, UserInfo};
 use iref_component::view::view_of;
@@ -39,6 +39,6 @@ pub fn parts_of<C: CharSet>(text: &str) -> AuthorityParts<'_, C>
 
 /// The parts of authorities are equal, in order and hashed by their keys (RFC 3986 section 6.2.2).
 pub fn authority_parts_compare_by_key<C: CharSet>()
-    ensures { TypeComparesBy parts_key authority_key_cmp fed_authority
+    ensures { ComparesBy parts_key authority_key_cmp fed_authority
         ⟦<AuthorityParts<'static, C> as Ord>⟧ ⟦<AuthorityParts<'static, C> as Hash>⟧ }
 {}

@@ -4,7 +4,7 @@ ghost use Rattle.std.specs.Option.{option_copied};
 ghost use Rattle.iref_grammar.specs.Rules.{Text};
 ghost use Rattle.iref_lines.specs.Lines.{Answered, answer_text, part_field, part_fields, tab};
 ghost use Rattle.iref_lines.specs.Lines.{yes_or_no, Parts, Normal, Equal, ToUri};
-ghost use Rattle.iref_component.specs.Components.{view_text};
+ghost use Rattle.iref_component.specs.Components.{text_of};
 ghost use Rattle.iref_authority.specs.Authorities.{authority_text};
 ghost use Rattle.iref_reference.specs.Parts.{uri_ref_part_texts};
 ghost use Rattle.iref_batch.specs.{EditFields.{IsRefusal}, Gathering.{Puts, PutsReply}};
@@ -48,7 +48,7 @@ fn put_part(part: Option<&[u8]>, out: &mut Vec<u8>) -> Result<(), Memory>
 
 // The bytes of a component, if it is there.
 fn bytes_of<R: Rule, C: CharSet>(part: Option<View<'_, R, C>>) -> Option<&[u8]>
-    ensures { option_copied result ≡ option_map view_text part.entry }
+    ensures { option_copied result ≡ option_map text_of part.entry }
 {
     part.map(|part| part.as_bytes())
 }

@@ -5,7 +5,7 @@ ghost use Rattle.iref_grammar.specs.{Text, after, before, is_authority, is_path,
 ghost use Rattle.iref_grammar.specs.Tests.{none_or};
 ghost use Rattle.iref_lines.specs.Lines as spec;
 ghost use Rattle.iref_lines.specs.Lines.{edit_names, equals_sign, is_valid_edit};
-ghost use Rattle.iref_component.specs.Components.{view_text};
+ghost use Rattle.iref_component.specs.Components.{text_of};
 ghost use Rattle.iref_authority.specs.Authorities.{authority_text};
 ghost use Rattle.iref_path.specs.Paths.{path_text};
 ghost use Rattle.iref.specs.EditSteps.{edit_step};
@@ -67,7 +67,7 @@ fn text_in<R: Rule, C: CharSet>(value: &[u8]) -> Result<&str, FieldError>
 }
 
 impl<'a, R: Rule, C: CharSet> Value<'a> for View<'a, R, C> {
-    ghost text = { view_text };
+    ghost text = { text_of };
 
     ghost test = { R.test C.tests };
 

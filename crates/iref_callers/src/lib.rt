@@ -4,7 +4,7 @@
 
 ghost use Rattle.std.specs.Prelude.{◌≡◌, IfOk, count_by, fold, length, map, max, reverse};
 ghost use Rattle.iref.specs.{Texts.{is_empty}, NormalList.{normal_segments}};
-ghost use Rattle.iref.specs.{Components.{view_text}, Paths.{path_value}};
+ghost use Rattle.iref.specs.{Components.{text_of}, Paths.{path_value}};
 
 use iref::uri::{Path, Segment};
 use std::alloc::{AllocError, Global};
@@ -27,7 +27,7 @@ pub fn empty_segment_count(path: Path<'_>) -> usize
 
 /// The segments of the path, in a vector.
 pub fn segment_list<'a>(path: Path<'a>, alloc: Global) -> Result<Vec<Segment<'a>>, AllocError>
-    ensures { IfOk result (λ list. map view_text list.items ≡ (path_value path.entry).segments) }
+    ensures { IfOk result (λ list. map text_of list.items ≡ (path_value path.entry).segments) }
 {
     path.segments().collect(alloc)
 }
@@ -38,7 +38,7 @@ pub fn reversed_segment_list<'a>(
     alloc: Global,
 ) -> Result<Vec<Segment<'a>>, AllocError>
     ensures { IfOk result
-        (λ list. map view_text list.items ≡ reverse (path_value path.entry).segments) }
+        (λ list. map text_of list.items ≡ reverse (path_value path.entry).segments) }
 {
     path.segments().rev().collect(alloc)
 }
@@ -49,7 +49,7 @@ pub fn normal_segment_list<'a>(
     alloc: Global,
 ) -> Result<Vec<Segment<'a>>, AllocError>
     ensures { IfOk result
-        (λ list. map view_text list.items ≡ normal_segments (path_value path.entry)) }
+        (λ list. map text_of list.items ≡ normal_segments (path_value path.entry)) }
 {
     path.normalized_segments().collect(alloc)
 }

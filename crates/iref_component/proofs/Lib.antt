@@ -1,2 +1,3 @@
 pub mod PortLemmas
 pub mod SchemeLookLemmas
+pub mod TextLemmas

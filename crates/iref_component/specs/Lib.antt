@@ -5,7 +5,7 @@ pub use Rattle.iref_grammar.specs.ComponentTexts.{AreComponents, spell_component
 pub use Rattle.iref_grammar.specs.Contexts.{alone, is_path_in}
 pub use Rattle.iref_grammar.specs.Grammar.{colon, hash_sign, IsAuthority, IsFragment, IsHost, IsPath, IsPctStr, IsPort, IsQuery, IsScheme, IsSegment, IsUri, IsUriReference, IsUserInfo, question_mark}
 pub use Rattle.iref_grammar.specs.IpAddresses.{ipv4_value}
-pub use Rattle.iref_grammar.specs.Keys.{ComparesBy, fed_bytes, text_order}
+pub use Rattle.iref_grammar.specs.Keys.{fed_bytes, text_order}
 pub use Rattle.iref_grammar.specs.PathValue.{PathValue, read_path, spell_path}
 pub use Rattle.iref_grammar.specs.Places.{places_of}
 pub use Rattle.iref_grammar.specs.Reference.{context_of, hierarchy, is_full_reference, is_readable, is_reference, read_reference, ReferenceValue, spell}
@@ -24,10 +24,12 @@ pub use Rattle.iref_model.specs.PathHash.{fed_path}
 pub use Rattle.iref_model.specs.PathKey.{path_key, path_key_cmp, path_keys_total}
 pub use Rattle.iref_model.specs.PortNumbers.{port_text}
 pub use Rattle.iref_model.specs.ReferenceParts.{base_of, host_of, port_of, user_info_of}
-pub use Rattle.iref_component.specs.Components.{owned_text, view_text}
+pub use Rattle.iref_component.specs.Comparisons.{ComparesBy}
+pub use Rattle.iref_component.specs.Components.{text_of}
 pub use Rattle.iref_component.specs.Makers.{Parses, ParsesUtf8}
 pub use Rattle.iref_component.specs.Ports.{port_number, signed_port_number}
 pub use Rattle.iref_component.specs.Tries.{Tests, TestsIfSome}
+pub mod Comparisons
 pub mod Components
 pub mod Makers
 pub mod Ports

@@ -1,6 +1,6 @@
 //! Schemes, ports and segments that have names.
 ghost use Rattle.std.specs.Prelude.{◌≡◌, codes};
-ghost use Rattle.iref_component.specs.Components.{view_text};
+ghost use Rattle.iref_component.specs.Components.{text_of};
 
 use crate::texts::{Port, Scheme, Segment};
 use iref_grammar::chars::CharSet;
@@ -9,49 +9,49 @@ use iref_grammar::chars::CharSet;
 impl Scheme<'static> {
     /// The scheme `http`.
     pub fn http() -> Self
-        ensures { view_text result ≡ codes "http" }
+        ensures { text_of result ≡ codes "http" }
     {
         Scheme::new_unchecked("http")
     }
 
     /// The scheme `https`.
     pub fn https() -> Self
-        ensures { view_text result ≡ codes "https" }
+        ensures { text_of result ≡ codes "https" }
     {
         Scheme::new_unchecked("https")
     }
 
     /// The scheme `file`.
     pub fn file() -> Self
-        ensures { view_text result ≡ codes "file" }
+        ensures { text_of result ≡ codes "file" }
     {
         Scheme::new_unchecked("file")
     }
 
     /// The scheme `ftp`.
     pub fn ftp() -> Self
-        ensures { view_text result ≡ codes "ftp" }
+        ensures { text_of result ≡ codes "ftp" }
     {
         Scheme::new_unchecked("ftp")
     }
 
     /// The scheme `urn`.
     pub fn urn() -> Self
-        ensures { view_text result ≡ codes "urn" }
+        ensures { text_of result ≡ codes "urn" }
     {
         Scheme::new_unchecked("urn")
     }
 
     /// The scheme `data`.
     pub fn data_scheme() -> Self
-        ensures { view_text result ≡ codes "data" }
+        ensures { text_of result ≡ codes "data" }
     {
         Scheme::new_unchecked("data")
     }
 
     /// The scheme `mailto`.
     pub fn mailto() -> Self
-        ensures { view_text result ≡ codes "mailto" }
+        ensures { text_of result ≡ codes "mailto" }
     {
         Scheme::new_unchecked("mailto")
     }
@@ -61,14 +61,14 @@ impl Scheme<'static> {
 impl Port<'static> {
     /// The port of the scheme `http`.
     pub fn http() -> Self
-        ensures { view_text result ≡ codes "80" }
+        ensures { text_of result ≡ codes "80" }
     {
         Port::new_unchecked("80")
     }
 
     /// The port of the scheme `https`.
     pub fn https() -> Self
-        ensures { view_text result ≡ codes "443" }
+        ensures { text_of result ≡ codes "443" }
     {
         Port::new_unchecked("443")
     }
@@ -78,14 +78,14 @@ impl Port<'static> {
 impl<C: CharSet> Segment<'_, C> {
     /// The segment `.`.
     pub fn current() -> Self
-        ensures { view_text result ≡ codes "." }
+        ensures { text_of result ≡ codes "." }
     {
         Segment::new_unchecked(".")
     }
 
     /// The segment `..`.
     pub fn parent() -> Self
-        ensures { view_text result ≡ codes ".." }
+        ensures { text_of result ≡ codes ".." }
     {
         Segment::new_unchecked("..")
     }

@@ -1,8 +1,10 @@
 //! The components that are one text: schemes, user infos, hosts, ports, segments, queries and
 //! fragments.
-//! Each is a rule of the grammar; its view and its owner are aliases of one view and one owner.
+//! Each is a rule of the grammar; its view and its owner are aliases of one type over what holds
+//! the text.
 #![tactic(auto)]
 
+pub mod both;
 pub mod comparison;
 mod constants;
 pub mod host;
@@ -14,7 +16,7 @@ pub mod port;
 pub mod rule;
 pub mod rules;
 pub mod segment;
-mod text;
+pub mod text;
 pub mod texts;
 pub mod tried;
 pub mod view;

@@ -1,7 +1,7 @@
 //! Percent-encoded texts (RFC 3986 section 2.1).
 ghost use Rattle.std.specs.Prelude.{◌≡◌};
 ghost use Rattle.percent_encoding.specs.{Iter.{decoded_bytes}, Percent.{percent_decode}};
-ghost use Rattle.iref_component.specs.Components.{view_text, owned_text};
+ghost use Rattle.iref_component.specs.Components.{text_of};
 
 use crate::owned::TextBuf;
 use crate::rule::{Escaped, Rule};
@@ -22,7 +22,7 @@ pub type PctString = TextBuf<PctStrRule, UriChars>;
 impl<'a> PctStr<'a> {
     /// The bytes that the text decodes to, each escape one byte. They take no memory.
     pub fn bytes(&self) -> PercentDecode<'a>
-        ensures { decoded_bytes result ≡ percent_decode (view_text self.now) }
+        ensures { decoded_bytes result ≡ percent_decode (text_of self.now) }
     {
         percent_decode_str(self.as_str())
     }
@@ -31,7 +31,7 @@ impl<'a> PctStr<'a> {
 impl PctString {
     /// The bytes that the text decodes to, each escape one byte. They take no memory.
     pub fn bytes(&self) -> PercentDecode<'_>
-        ensures { decoded_bytes result ≡ percent_decode (owned_text self.now) }
+        ensures { decoded_bytes result ≡ percent_decode (text_of self.now) }
     {
         percent_decode_str(self.as_str())
     }
@@ -40,7 +40,7 @@ impl PctString {
 impl<'a, R: Escaped, C: CharSet> View<'a, R, C> {
     /// The text as a percent-encoded text.
     pub fn as_pct_str(&self) -> PctStr<'a>
-        ensures { view_text result ≡ view_text self.now }
+        ensures { text_of result ≡ text_of self.now }
     {
         PctStr::new_unchecked(self.as_str())
     }
@@ -49,14 +49,14 @@ impl<'a, R: Escaped, C: CharSet> View<'a, R, C> {
 impl<R: Escaped, C: CharSet> TextBuf<R, C> {
     /// The text as a percent-encoded text.
     pub fn as_pct_str(&self) -> PctStr<'_>
-        ensures { view_text result ≡ owned_text self.now }
+        ensures { text_of result ≡ text_of self.now }
     {
         self.as_view().as_pct_str()
     }
 
     /// The text as a percent-encoded text, with no copy.
     pub fn into_pct_string(self) -> PctString
-        ensures { owned_text result ≡ owned_text self }
+        ensures { text_of result ≡ text_of self }
     {
         PctString::new_unchecked(self.into_string())
     }

@@ -1,18 +1,21 @@
 //! The numbers of ports (RFC 3986 section 3.2.3).
 ghost use Rattle.std.specs.{Prelude.{◌≡◌, ◌^◌, IfOk}, Result.{result_ok}};
 ghost use Rattle.iref_model.specs.PortNumbers.{port_text};
-ghost use Rattle.iref_component.specs.Components.{view_text, owned_text};
+ghost use Rattle.iref_component.specs.Components.{text_of};
 ghost use Rattle.iref_component.specs.Ports.{port_number, signed_port_number};
 
+use crate::rules::PortRule;
+use crate::text::{RuleText, Storage};
 use crate::texts::{Port, PortBuf};
 use iref_error::{Memory, PortError};
+use iref_grammar::chars::UriChars;
 use std::alloc::Global;
 use std::convert::TryFrom;
 
 impl Port<'_> {
     // The number, which the widest type has.
     fn number(&self) -> Result<u128, PortError>
-        ensures { result ≡ port_number (2 ^ 128) (view_text self.now) }
+        ensures { result ≡ port_number (2 ^ 128) (text_of self.now) }
     {
         let digits = self.as_str();
         if digits.is_empty() {
@@ -20,82 +23,84 @@ impl Port<'_> {
         }
         digits.parse::<u128>().map_err(|_| PortError::OutOfRange)
     }
+}
 
+impl<S: Storage> RuleText<S, PortRule, UriChars> {
     /// The number, if it fits a `u8`.
     pub fn as_u8(&self) -> Option<u8>
-        ensures { result ≡ result_ok (port_number (2 ^ 8) (view_text self.now)) }
+        ensures { result ≡ result_ok (port_number (2 ^ 8) (text_of self.now)) }
     {
-        u8::try_from(*self).ok()
+        u8::try_from(self.as_view()).ok()
     }
 
     /// The number, if it fits a `u16`.
     pub fn as_u16(&self) -> Option<u16>
-        ensures { result ≡ result_ok (port_number (2 ^ 16) (view_text self.now)) }
+        ensures { result ≡ result_ok (port_number (2 ^ 16) (text_of self.now)) }
     {
-        u16::try_from(*self).ok()
+        u16::try_from(self.as_view()).ok()
     }
 
     /// The number, if it fits a `u32`.
     pub fn as_u32(&self) -> Option<u32>
-        ensures { result ≡ result_ok (port_number (2 ^ 32) (view_text self.now)) }
+        ensures { result ≡ result_ok (port_number (2 ^ 32) (text_of self.now)) }
     {
-        u32::try_from(*self).ok()
+        u32::try_from(self.as_view()).ok()
     }
 
     /// The number, if it fits a `u64`.
     pub fn as_u64(&self) -> Option<u64>
-        ensures { result ≡ result_ok (port_number (2 ^ 64) (view_text self.now)) }
+        ensures { result ≡ result_ok (port_number (2 ^ 64) (text_of self.now)) }
     {
-        u64::try_from(*self).ok()
+        u64::try_from(self.as_view()).ok()
     }
 
     /// The number, if it fits a `u128`.
     pub fn as_u128(&self) -> Option<u128>
-        ensures { result ≡ result_ok (port_number (2 ^ 128) (view_text self.now)) }
+        ensures { result ≡ result_ok (port_number (2 ^ 128) (text_of self.now)) }
     {
-        u128::try_from(*self).ok()
+        u128::try_from(self.as_view()).ok()
     }
 
     /// The number, if it fits an `i8`.
     pub fn as_i8(&self) -> Option<i8>
-        ensures { result ≡ result_ok (signed_port_number (2 ^ 7) (view_text self.now)) }
+        ensures { result ≡ result_ok (signed_port_number (2 ^ 7) (text_of self.now)) }
     {
-        i8::try_from(*self).ok()
+        i8::try_from(self.as_view()).ok()
     }
 
     /// The number, if it fits an `i16`.
     pub fn as_i16(&self) -> Option<i16>
-        ensures { result ≡ result_ok (signed_port_number (2 ^ 15) (view_text self.now)) }
+        ensures { result ≡ result_ok (signed_port_number (2 ^ 15) (text_of self.now)) }
     {
-        i16::try_from(*self).ok()
+        i16::try_from(self.as_view()).ok()
     }
 
     /// The number, if it fits an `i32`.
     pub fn as_i32(&self) -> Option<i32>
-        ensures { result ≡ result_ok (signed_port_number (2 ^ 31) (view_text self.now)) }
+        ensures { result ≡ result_ok (signed_port_number (2 ^ 31) (text_of self.now)) }
     {
-        i32::try_from(*self).ok()
+        i32::try_from(self.as_view()).ok()
     }
 
     /// The number, if it fits an `i64`.
     pub fn as_i64(&self) -> Option<i64>
-        ensures { result ≡ result_ok (signed_port_number (2 ^ 63) (view_text self.now)) }
+        ensures { result ≡ result_ok (signed_port_number (2 ^ 63) (text_of self.now)) }
     {
-        i64::try_from(*self).ok()
+        i64::try_from(self.as_view()).ok()
     }
 
     /// The number, if it fits an `i128`.
     pub fn as_i128(&self) -> Option<i128>
-        ensures { result ≡ result_ok (signed_port_number (2 ^ 127) (view_text self.now)) }
+        ensures { result ≡ result_ok (signed_port_number (2 ^ 127) (text_of self.now)) }
     {
-        i128::try_from(*self).ok()
+        i128::try_from(self.as_view()).ok()
     }
 }
 
 impl TryFrom<Port<'_>> for u8 {
     type Error = PortError;
 
-    ghost try_from_gives = { λ port n. n ≡ port_number (2 ^ 8) (view_text port) };
+    ghost try_from_gives = { λ port n. n ≡ port_number (2 ^ 8) (text_of port) };
 
     fn try_from(port: Port<'_>) -> Result<u8, PortError> {
         u8::try_from(port.number()?).or(Err(PortError::OutOfRange))
@@ -105,7 +110,7 @@ impl TryFrom<Port<'_>> for u8 {
 impl TryFrom<Port<'_>> for u16 {
     type Error = PortError;
 
-    ghost try_from_gives = { λ port n. n ≡ port_number (2 ^ 16) (view_text port) };
+    ghost try_from_gives = { λ port n. n ≡ port_number (2 ^ 16) (text_of port) };
 
     fn try_from(port: Port<'_>) -> Result<u16, PortError> {
         u16::try_from(port.number()?).or(Err(PortError::OutOfRange))
@@ -115,7 +120,7 @@ impl TryFrom<Port<'_>> for u16 {
 impl TryFrom<Port<'_>> for u32 {
     type Error = PortError;
 
-    ghost try_from_gives = { λ port n. n ≡ port_number (2 ^ 32) (view_text port) };
+    ghost try_from_gives = { λ port n. n ≡ port_number (2 ^ 32) (text_of port) };
 
     fn try_from(port: Port<'_>) -> Result<u32, PortError> {
         u32::try_from(port.number()?).or(Err(PortError::OutOfRange))
@@ -125,7 +130,7 @@ impl TryFrom<Port<'_>> for u32 {
 impl TryFrom<Port<'_>> for u64 {
     type Error = PortError;
 
-    ghost try_from_gives = { λ port n. n ≡ port_number (2 ^ 64) (view_text port) };
+    ghost try_from_gives = { λ port n. n ≡ port_number (2 ^ 64) (text_of port) };
 
     fn try_from(port: Port<'_>) -> Result<u64, PortError> {
         u64::try_from(port.number()?).or(Err(PortError::OutOfRange))
@@ -135,7 +140,7 @@ impl TryFrom<Port<'_>> for u64 {
 impl TryFrom<Port<'_>> for u128 {
     type Error = PortError;
 
-    ghost try_from_gives = { λ port n. n ≡ port_number (2 ^ 128) (view_text port) };
+    ghost try_from_gives = { λ port n. n ≡ port_number (2 ^ 128) (text_of port) };
 
     fn try_from(port: Port<'_>) -> Result<u128, PortError> {
         port.number()
@@ -145,7 +150,7 @@ impl TryFrom<Port<'_>> for u128 {
 impl TryFrom<Port<'_>> for i8 {
     type Error = PortError;
 
-    ghost try_from_gives = { λ port n. n ≡ signed_port_number (2 ^ 7) (view_text port) };
+    ghost try_from_gives = { λ port n. n ≡ signed_port_number (2 ^ 7) (text_of port) };
 
     fn try_from(port: Port<'_>) -> Result<i8, PortError> {
         i8::try_from(port.number()?).or(Err(PortError::OutOfRange))
@@ -155,7 +160,7 @@ impl TryFrom<Port<'_>> for i8 {
 impl TryFrom<Port<'_>> for i16 {
     type Error = PortError;
 
-    ghost try_from_gives = { λ port n. n ≡ signed_port_number (2 ^ 15) (view_text port) };
+    ghost try_from_gives = { λ port n. n ≡ signed_port_number (2 ^ 15) (text_of port) };
 
     fn try_from(port: Port<'_>) -> Result<i16, PortError> {
         i16::try_from(port.number()?).or(Err(PortError::OutOfRange))
@@ -165,7 +170,7 @@ impl TryFrom<Port<'_>> for i16 {
 impl TryFrom<Port<'_>> for i32 {
     type Error = PortError;
 
-    ghost try_from_gives = { λ port n. n ≡ signed_port_number (2 ^ 31) (view_text port) };
+    ghost try_from_gives = { λ port n. n ≡ signed_port_number (2 ^ 31) (text_of port) };
 
     fn try_from(port: Port<'_>) -> Result<i32, PortError> {
         i32::try_from(port.number()?).or(Err(PortError::OutOfRange))
@@ -175,7 +180,7 @@ impl TryFrom<Port<'_>> for i32 {
 impl TryFrom<Port<'_>> for i64 {
     type Error = PortError;
 
-    ghost try_from_gives = { λ port n. n ≡ signed_port_number (2 ^ 63) (view_text port) };
+    ghost try_from_gives = { λ port n. n ≡ signed_port_number (2 ^ 63) (text_of port) };
 
     fn try_from(port: Port<'_>) -> Result<i64, PortError> {
         i64::try_from(port.number()?).or(Err(PortError::OutOfRange))
@@ -185,7 +190,7 @@ impl TryFrom<Port<'_>> for i64 {
 impl TryFrom<Port<'_>> for i128 {
     type Error = PortError;
 
-    ghost try_from_gives = { λ port n. n ≡ signed_port_number (2 ^ 127) (view_text port) };
+    ghost try_from_gives = { λ port n. n ≡ signed_port_number (2 ^ 127) (text_of port) };
 
     fn try_from(port: Port<'_>) -> Result<i128, PortError> {
         i128::try_from(port.number()?).or(Err(PortError::OutOfRange))
@@ -195,28 +200,28 @@ impl TryFrom<Port<'_>> for i128 {
 impl PortBuf {
     /// The port of this number, in decimal digits without leading zeros.
     pub fn from_u8(alloc: Global, number: u8) -> Result<Self, Memory>
-        ensures { IfOk result (λ port. owned_text port ≡ port_text number) }
+        ensures { IfOk result (λ port. text_of port ≡ port_text number) }
     {
         PortBuf::from_u128(alloc, number as u128)
     }
 
     /// The port of this number, in decimal digits without leading zeros.
     pub fn from_u16(alloc: Global, number: u16) -> Result<Self, Memory>
-        ensures { IfOk result (λ port. owned_text port ≡ port_text number) }
+        ensures { IfOk result (λ port. text_of port ≡ port_text number) }
     {
         PortBuf::from_u128(alloc, number as u128)
     }
 
     /// The port of this number, in decimal digits without leading zeros.
     pub fn from_u32(alloc: Global, number: u32) -> Result<Self, Memory>
-        ensures { IfOk result (λ port. owned_text port ≡ port_text number) }
+        ensures { IfOk result (λ port. text_of port ≡ port_text number) }
     {
         PortBuf::from_u128(alloc, number as u128)
     }
 
     /// The port of this number, in decimal digits without leading zeros.
     pub fn from_u64(alloc: Global, number: u64) -> Result<Self, Memory>
-        ensures { IfOk result (λ port. owned_text port ≡ port_text number) }
+        ensures { IfOk result (λ port. text_of port ≡ port_text number) }
     {
         PortBuf::from_u128(alloc, number as u128)
     }
@@ -224,79 +229,9 @@ impl PortBuf {
     /// The port of this number, in decimal digits without leading zeros.
     #[tactic(auto, using(iref_model::proofs::PortNumberLemmas::written))]
     pub fn from_u128(alloc: Global, number: u128) -> Result<Self, Memory>
-        ensures { IfOk result (λ port. owned_text port ≡ port_text number) }
+        ensures { IfOk result (λ port. text_of port ≡ port_text number) }
     {
         let text = number.to_string(alloc)?;
         Ok(PortBuf::new_unchecked(text))
-    }
-
-    /// The number, if it fits a `u8`.
-    pub fn as_u8(&self) -> Option<u8>
-        ensures { result ≡ result_ok (port_number (2 ^ 8) (owned_text self.now)) }
-    {
-        self.as_port().as_u8()
-    }
-
-    /// The number, if it fits a `u16`.
-    pub fn as_u16(&self) -> Option<u16>
-        ensures { result ≡ result_ok (port_number (2 ^ 16) (owned_text self.now)) }
-    {
-        self.as_port().as_u16()
-    }
-
-    /// The number, if it fits a `u32`.
-    pub fn as_u32(&self) -> Option<u32>
-        ensures { result ≡ result_ok (port_number (2 ^ 32) (owned_text self.now)) }
-    {
-        self.as_port().as_u32()
-    }
-
-    /// The number, if it fits a `u64`.
-    pub fn as_u64(&self) -> Option<u64>
-        ensures { result ≡ result_ok (port_number (2 ^ 64) (owned_text self.now)) }
-    {
-        self.as_port().as_u64()
-    }
-
-    /// The number, if it fits a `u128`.
-    pub fn as_u128(&self) -> Option<u128>
-        ensures { result ≡ result_ok (port_number (2 ^ 128) (owned_text self.now)) }
-    {
-        self.as_port().as_u128()
-    }
-
-    /// The number, if it fits an `i8`.
-    pub fn as_i8(&self) -> Option<i8>
-        ensures { result ≡ result_ok (signed_port_number (2 ^ 7) (owned_text self.now)) }
-    {
-        self.as_port().as_i8()
-    }
-
-    /// The number, if it fits an `i16`.
-    pub fn as_i16(&self) -> Option<i16>
-        ensures { result ≡ result_ok (signed_port_number (2 ^ 15) (owned_text self.now)) }
-    {
-        self.as_port().as_i16()
-    }
-
-    /// The number, if it fits an `i32`.
-    pub fn as_i32(&self) -> Option<i32>
-        ensures { result ≡ result_ok (signed_port_number (2 ^ 31) (owned_text self.now)) }
-    {
-        self.as_port().as_i32()
-    }
-
-    /// The number, if it fits an `i64`.
-    pub fn as_i64(&self) -> Option<i64>
-        ensures { result ≡ result_ok (signed_port_number (2 ^ 63) (owned_text self.now)) }
-    {
-        self.as_port().as_i64()
-    }
-
-    /// The number, if it fits an `i128`.
-    pub fn as_i128(&self) -> Option<i128>
-        ensures { result ≡ result_ok (signed_port_number (2 ^ 127) (owned_text self.now)) }
-    {
-        self.as_port().as_i128()
     }
 }

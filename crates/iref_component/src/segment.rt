@@ -1,28 +1,20 @@
 //! Segments (RFC 3986 section 3.3).
 ghost use Rattle.std.specs.Prelude.{◌≡◌};
 ghost use Rattle.iref_model.specs.PathFunctions as function;
-ghost use Rattle.iref_component.specs.Components.{view_text, owned_text};
+ghost use Rattle.iref_component.specs.Components.{text_of};
 
-use crate::texts::{Segment, SegmentBuf};
+use crate::rules::SegmentRule;
+use crate::text::{RuleText, Storage};
 use iref_grammar::chars::CharSet;
 use iref_parse::cut::cut;
 use iref_parse::scan;
 
-impl<C: CharSet> Segment<'_, C> {
+impl<S: Storage, C: CharSet> RuleText<S, SegmentRule, C> {
     /// Whether what stands before the first `:` is a scheme (RFC 3986 section 4.2).
     pub fn looks_like_scheme(&self) -> bool
-        ensures { result ≡ function.looks_like_scheme (view_text self.now) }
+        ensures { result ≡ function.looks_like_scheme (text_of self.now) }
     {
-        looks_like_scheme(self.as_str())
-    }
-}
-
-impl<C: CharSet> SegmentBuf<C> {
-    /// Whether what stands before the first `:` is a scheme (RFC 3986 section 4.2).
-    pub fn looks_like_scheme(&self) -> bool
-        ensures { result ≡ function.looks_like_scheme (owned_text self.now) }
-    {
-        looks_like_scheme(self.as_str())
+        looks_like_scheme(self.as_view().as_str())
     }
 }
 

@@ -1,6 +1,6 @@
 //! The texts that have no parts, by name: each is the view, or the owner, of its rule.
 ghost use Rattle.std.specs.Prelude.{◌≡◌};
-ghost use Rattle.iref_component.specs.Components.{view_text, owned_text};
+ghost use Rattle.iref_component.specs.Components.{text_of};
 
 use crate::owned::TextBuf;
 use crate::rules::{
@@ -55,7 +55,7 @@ pub type FragmentBuf<C> = TextBuf<FragmentRule, C>;
 impl SchemeBuf {
     /// The view.
     pub fn as_scheme(&self) -> Scheme<'_>
-        ensures { view_text result ≡ owned_text self.now }
+        ensures { text_of result ≡ text_of self.now }
     {
         self.as_view()
     }
@@ -64,7 +64,7 @@ impl SchemeBuf {
 impl<C: CharSet> UserInfoBuf<C> {
     /// The view.
     pub fn as_user_info(&self) -> UserInfo<'_, C>
-        ensures { view_text result ≡ owned_text self.now }
+        ensures { text_of result ≡ text_of self.now }
     {
         self.as_view()
     }
@@ -73,7 +73,7 @@ impl<C: CharSet> UserInfoBuf<C> {
 impl<C: CharSet> HostBuf<C> {
     /// The view.
     pub fn as_host(&self) -> Host<'_, C>
-        ensures { view_text result ≡ owned_text self.now }
+        ensures { text_of result ≡ text_of self.now }
     {
         self.as_view()
     }
@@ -82,7 +82,7 @@ impl<C: CharSet> HostBuf<C> {
 impl PortBuf {
     /// The view.
     pub fn as_port(&self) -> Port<'_>
-        ensures { view_text result ≡ owned_text self.now }
+        ensures { text_of result ≡ text_of self.now }
     {
         self.as_view()
     }
@@ -91,7 +91,7 @@ impl PortBuf {
 impl<C: CharSet> SegmentBuf<C> {
     /// The view.
     pub fn as_segment(&self) -> Segment<'_, C>
-        ensures { view_text result ≡ owned_text self.now }
+        ensures { text_of result ≡ text_of self.now }
     {
         self.as_view()
     }
@@ -100,7 +100,7 @@ impl<C: CharSet> SegmentBuf<C> {
 impl<C: CharSet> QueryBuf<C> {
     /// The view.
     pub fn as_query(&self) -> Query<'_, C>
-        ensures { view_text result ≡ owned_text self.now }
+        ensures { text_of result ≡ text_of self.now }
     {
         self.as_view()
     }
@@ -109,7 +109,7 @@ impl<C: CharSet> QueryBuf<C> {
 impl<C: CharSet> FragmentBuf<C> {
     /// The view.
     pub fn as_fragment(&self) -> Fragment<'_, C>
-        ensures { view_text result ≡ owned_text self.now }
+        ensures { text_of result ≡ text_of self.now }
     {
         self.as_view()
     }

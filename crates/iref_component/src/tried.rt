@@ -3,7 +3,7 @@ ghost use Rattle.std.specs.Prelude.{◌≡◌, true, Some, IfOk, IfSome, OnOk, I
 ghost use Rattle.std.specs.Option.{option_copied};
 ghost use Rattle.iref_grammar.specs.{InUtf8, none_or};
 ghost use Rattle.iref_error.specs.Tried.{TellsInvalid};
-ghost use Rattle.iref_component.specs.{Components.{view_text}, Tries.{Tests}};
+ghost use Rattle.iref_component.specs.{Components.{text_of}, Tries.{Tests}};
 
 use crate::rule::Refuses;
 use crate::view::View;
@@ -18,7 +18,7 @@ pub type Tried<E> = Result<(), TryError<E>>;
 pub fn read<'t, R: Refuses<&'t str>, C: CharSet>(
     text: &'t str,
 ) -> Result<View<'t, R, C>, TryError<R::Error>>
-    ensures ok { IfOk result (λ view. view_text view ≡ text.now) }
+    ensures ok { IfOk result (λ view. text_of view ≡ text.now) }
     ensures text { Tests (R.rule C.tests) text.entry R.refused result }
 {
     View::new(text).map_err(TryError::Invalid)

@@ -1,5 +1,5 @@
 -- What texts are compared by: bytes. Equal keys are equal texts, the order is that of bytes, and a hasher is fed each byte.
-use Rattle.std.specs.Prelude.{◌≡◌, ◌↔◌, ◌++◌, Bool, true, ◌==◌}
+use Rattle.std.specs.Prelude.{◌++◌, Bool, ◌==◌}
 use Rattle.std.specs.List.{flat_map}
 use Rattle.std.specs.Hash.{HashWrites, u8}
 use Rattle.std.specs.Ordering.{nat_cmp}
@@ -18,10 +18,3 @@ text_order = slice_cmp nat_cmp
 -- what a hasher is fed: each byte, and then one that no UTF-8 has
 unfoldable pub fed_bytes : Text → HashWrites
 fed_bytes bytes = flat_map u8 bytes ++ u8 255
-
--- values are equal exactly where their keys are the same, in the order of the keys, and a hasher is fed the key
-abbrev pub ComparesBy : {V K : Type 0} → (V → K) → (K → K → Ordering) → (K → HashWrites) → (V → V → Bool) → (V → V → Ordering) → (V → HashWrites) → Type 0
-ComparesBy {V} key order fed eq cmp hash_input =
-    ((a b : V) → (eq a b ≡ true) ↔ (key a ≡ key b))
-    × ((a b : V) → cmp a b ≡ order (key a) (key b))
-    × ((v : V) → hash_input v ≡ fed (key v))

@@ -7,8 +7,8 @@ use Rattle.iref_grammar.specs.Contexts.{alone}
 use Rattle.iref_grammar.specs.Grammar.{IsSegment}
 use Rattle.iref_grammar.specs.PathValue.{read_path}
 use Rattle.iref_grammar.specs.Rules.{InUtf8, Text}
-use Rattle.iref_component.specs.declared.text.View.{View}
-use Rattle.iref_component.specs.Components.{view_text}
+use Rattle.iref_component.specs.declared.text.RuleText.{RuleText}
+use Rattle.iref_component.specs.Components.{text_of}
 use Rattle.iref_error.specs.declared.edit.TryError.{TryError}
 use Rattle.iref_error.specs.declared.invalid.InvalidSegment.{InvalidSegment}
 use Rattle.iref_path.specs.declared.path_buf.PathBuf.{PathBuf}
@@ -27,12 +27,12 @@ module _ {C : _} {T : _} {A : _} {c : _} {t : _} {a : _} {D : _} {d : _} (before
   pub owner_edited : {V E : Type 0} (step : PathStep) (result : Result V E) → Edits step old new result → EditsOwner (step alone) before after result
   owner_edited step result e = MatchResult-weaker result e.outcome (λ _ becomes. owner_becomes step becomes) (λ _ unchanged. same ∙ unchanged.bytes ∙ of.bytes_are)
 
-  pub owner_appended : {R U K r k u : _} {S V E : Type 0} (steps : S → Option (View R U K r k u) → S → Type 0) (s : S) (whole first : ListStep) (result : Result V E)
+  pub owner_appended : {W R U K w r k u : _} {S V E : Type 0} (steps : S → Option (RuleText W R U K w r k u) → S → Type 0) (s : S) (whole first : ListStep) (result : Result V E)
       → Appends steps s (Becomes old new) whole first result → Appends steps s (OwnerBecomes before after) whole first result
   owner_appended steps s whole first result e =
       MatchResult-weaker result e
-      (λ _ taken. (taken.0, taken.1, owner_becomes (λ context. whole context (map view_text taken.0)) taken.2))
-      (λ _ taken. (taken.0, taken.1, taken.2, owner_becomes (λ context. first context (map view_text taken.0)) taken.3))
+      (λ _ taken. (taken.0, taken.1, owner_becomes (λ context. whole context (map text_of taken.0)) taken.2))
+      (λ _ taken. (taken.0, taken.1, taken.2, owner_becomes (λ context. first context (map text_of taken.0)) taken.3))
 
   pub owner_tried : {S V : Type 0} (set : CharTests) (steps : S → Option (Bor Text) → S → Type 0) (s : S) (whole first : ListStep) (result : Result V (TryError (InvalidSegment (Bor Text))))
       → TriesAppends set steps s (Becomes old new) whole first result → TriesAppends set steps s (OwnerBecomes before after) whole first result

@@ -9,8 +9,8 @@ use Rattle.iref_grammar.specs.Grammar.{IsSegment}
 use Rattle.iref_grammar.specs.PathValue.{PathValue}
 use Rattle.iref_grammar.specs.Rules.{Text, InUtf8}
 use Rattle.iref_model.specs.PathSteps.{followed}
-use Rattle.iref_component.specs.declared.text.View.{View}
-use Rattle.iref_component.specs.Components.{view_text}
+use Rattle.iref_component.specs.declared.text.RuleText.{RuleText}
+use Rattle.iref_component.specs.Components.{text_of}
 use Rattle.iref_error.specs.declared.edit.TryError.{TryError}
 use Rattle.iref_error.specs.declared.edit.TryError.TheVariants.{Invalid, Memory}
 use Rattle.iref_error.specs.declared.invalid.InvalidSegment.{InvalidSegment}
@@ -46,9 +46,9 @@ abbrev pub followed_each : ListStep
 followed_each context items path = fold (followed context) path items
 
 -- an edit by segments: at Ok all were taken, and the path becomes what the first makes of their texts; at an Err some were, and it becomes what the second makes of theirs
-abbrev pub Appends : {R C K r k c : _} {S V E : Type 0} → (S → Option (View R C K r k c) → S → Type 0) → S → (PathStep → Type 0) → ListStep → ListStep → Result V E → Type 0
+abbrev pub Appends : {T R C K t r k c : _} {S V E : Type 0} → (S → Option (RuleText T R C K t r k c) → S → Type 0) → S → (PathStep → Type 0) → ListStep → ListStep → Result V E → Type 0
 Appends steps s Becomes whole before result =
-    MatchResult result (λ _. TakesAll steps s (λ items. Becomes (λ context. whole context (map view_text items)))) (λ _. TakesFirst steps s (λ items. Becomes (λ context. before context (map view_text items))))
+    MatchResult result (λ _. TakesAll steps s (λ items. Becomes (λ context. whole context (map text_of items)))) (λ _. TakesFirst steps s (λ items. Becomes (λ context. before context (map text_of items))))
 
 -- the same by texts that are tested first: an error hands back the first that is not a segment, and is of want of memory otherwise
 abbrev pub TriesAppends : {S V : Type 0} → CharTests → (S → Option (Bor Text) → S → Type 0) → S → (PathStep → Type 0) → ListStep → ListStep → Result V (TryError (InvalidSegment (Bor Text))) → Type 0

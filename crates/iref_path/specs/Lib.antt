@@ -1,7 +1,6 @@
 -- what clauses cite, for the crates above
 pub use Rattle.iref_grammar.specs.Contexts.{alone}
 pub use Rattle.iref_grammar.specs.Grammar.{IsPath}
-pub use Rattle.iref_grammar.specs.Keys.{ComparesBy}
 pub use Rattle.iref_grammar.specs.PathValue.{PathValue, read_path, spell_path}
 pub use Rattle.iref_grammar.specs.Rules.{InUtf8}
 pub use Rattle.iref_grammar.specs.Tests.{is_path, is_segment}
@@ -12,7 +11,8 @@ pub use Rattle.iref_model.specs.PathFunctions.{segment_count}
 pub use Rattle.iref_model.specs.PathHash.{fed_path}
 pub use Rattle.iref_model.specs.PathKey.{path_key, path_key_cmp, path_keys_total}
 pub use Rattle.iref_model.specs.PathSuffix.{path_suffix}
-pub use Rattle.iref_component.specs.Components.{view_text}
+pub use Rattle.iref_component.specs.Comparisons.{ComparesBy}
+pub use Rattle.iref_component.specs.Components.{text_of}
 pub use Rattle.iref_component.specs.Makers.{ParsesUtf8}
 pub use Rattle.iref_path_text.specs.Pieces.{pieces_if_some}
 pub use Rattle.iref_path_text.specs.Remaining.{IsSound, normal_left}

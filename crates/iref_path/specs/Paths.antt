@@ -5,7 +5,7 @@ use Rattle.iref_grammar.specs.Grammar.{IsPath}
 use Rattle.iref_grammar.specs.Rules.{Text}
 use Rattle.iref_grammar.specs.PathValue.{PathValue, read_path}
 use Rattle.iref_error.specs.declared.invalid.InvalidPath.{InvalidPath}
-use Rattle.iref_component.specs.Components.{view_text, owned_text}
+use Rattle.iref_component.specs.Components.{text_of}
 use Rattle.iref_component.specs.Makers.{ParsesUtf8}
 use Rattle.iref_path_text.specs.Pieces.{pieces_if_some}
 use Rattle.iref_path.specs.declared.path.Path.{Path}
@@ -14,7 +14,7 @@ use Rattle.iref_path.specs.declared.segments.Segments.{Segments}
 
 -- the text of a path
 abbrev pub path_text : {C : _} {c : _} → Path C c → Text
-path_text p = view_text p.text
+path_text p = text_of p.text
 
 -- the flag and the list that the text of a path is read as
 abbrev pub path_value : {C : _} {c : _} → Path C c → PathValue
@@ -22,7 +22,7 @@ path_value p = read_path (path_text p)
 
 -- the same of an owner
 abbrev pub path_buf_text : {C : _} {c : _} → PathBuf C c → Text
-path_buf_text p = owned_text p.text
+path_buf_text p = text_of p.text
 
 abbrev pub path_buf_value : {C : _} {c : _} → PathBuf C c → PathValue
 path_buf_value p = read_path (path_buf_text p)

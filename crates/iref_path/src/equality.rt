@@ -13,7 +13,10 @@ use iref_path_text::equality::path_texts_eq_counted;
 #[tactic(auto, using(iref_path_text::proofs::SlashLemmas::segment_counts))]
 pub fn new_steps_have_room<C: CharSet>(a: Path<'_, C>, b: Path<'_, C>)
     ensures { segment_count (path_value a.entry) + segment_count (path_value b.entry) < 2 ^ 128 }
-{}
+{
+    let _text_of_a = a.as_str();
+    let _text_of_b = b.as_str();
+}
 
 /// Whether two paths are equal, as `==` has it. The count grows by the segments that are read, each
 /// of them once and from the back, and by none where one path is absolute and the other is not.

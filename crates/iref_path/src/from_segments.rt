@@ -1,7 +1,7 @@
 //! The text of a path that is made of segments (RFC 3986 section 5.2.4).
 ghost use Rattle.std.specs.Prelude.{◌≡◌, true, OnOk, IfOk, map};
 ghost use Rattle.std.specs.String.{string_bytes};
-ghost use Rattle.iref_component.specs.{alone, is_path, read_path, view_text};
+ghost use Rattle.iref_component.specs.{alone, is_path, read_path, text_of};
 ghost use Rattle.iref_model.specs.PathSteps as step;
 ghost use Rattle.iref_path.specs.Appends.{CanTakeAll, TakesAll};
 
@@ -23,7 +23,7 @@ pub fn text_of_segments<
 >(alloc: A, absolute: bool, segments: I) -> Result<String<A>, Memory>
     requires { CanTakeAll I.can_next I.remaining segments }
     ensures value { IfOk result (λ text. TakesAll I.next_gives segments (λ items.
-        read_path (string_bytes text) ≡ step.from_segments absolute (map view_text items))) }
+        read_path (string_bytes text) ≡ step.from_segments absolute (map text_of items))) }
     ensures in_rule { IfOk result (λ text. is_path C.tests (string_bytes text) ≡ true) }
 {
     let start = Path::<C>::without_segments(absolute);
@@ -43,7 +43,7 @@ fn push<C: CharSet, A: Allocator + Copy>(
 ) -> Result<(), Memory>
     requires { is_path C.tests bytes.old.items ≡ true }
     ensures value { OnOk result (read_path bytes.new.items
-        ≡ step.pushed alone (view_text segment.entry) (read_path bytes.old.items)) }
+        ≡ step.pushed alone (text_of segment.entry) (read_path bytes.old.items)) }
     ensures in_rule { OnOk result (is_path C.tests bytes.new.items ≡ true) }
 {
     let len = bytes.len();

@@ -2,7 +2,7 @@
 
 ghost use Rattle.std.specs.{Prelude.{◌≡◌, true, length}, List.{list_all}};
 ghost use Rattle.std.specs.Iterator.{YieldsFirstBy, YieldsLastBy, item_count};
-ghost use Rattle.iref_component.specs.{read_path, is_path, is_segment, normal_segments, view_text};
+ghost use Rattle.iref_component.specs.{read_path, is_path, is_segment, normal_segments, text_of};
 ghost use Rattle.iref_path_text.specs.Listed.{IsListSound, listed_left};
 
 use iref_component::texts::Segment;
@@ -41,7 +41,7 @@ impl<'a, C: CharSet> Iterator for NormalizedSegments<'a, C> {
 
     type Item = Segment<'a, C>;
 
-    ghost next_gives = { YieldsFirstBy view_text normal_segments_left };
+    ghost next_gives = { YieldsFirstBy text_of normal_segments_left };
 
     ghost remaining = { item_count normal_segments_left };
 
@@ -59,7 +59,7 @@ impl<'a, C: CharSet> Iterator for NormalizedSegments<'a, C> {
 impl<'a, C: CharSet> DoubleEndedIterator for NormalizedSegments<'a, C> {
     ghost use Rattle.iref_path.specs.NormalPaths.{normal_segments_left};
 
-    ghost next_back_gives = { YieldsLastBy view_text normal_segments_left };
+    ghost next_back_gives = { YieldsLastBy text_of normal_segments_left };
 
     fn next_back(&mut self) -> Option<Segment<'a, C>> {
         let text = self.left.next_back()?;

@@ -6,7 +6,7 @@ ghost use Rattle.iref_model.specs.PathFunctions as function;
 ghost use Rattle.iref_model.specs.PathSteps as step;
 ghost use Rattle.iref_model.specs.PathSuffix.{path_suffix};
 ghost use Rattle.iref_component.specs.{is_path, alone, path_key};
-ghost use Rattle.iref_component.specs.{spell_path, is_empty, view_text, normal_segments};
+ghost use Rattle.iref_component.specs.{spell_path, is_empty, text_of, normal_segments};
 ghost use Rattle.iref_path.specs.Paths.{path_text, path_value, path_buf_text, path_buf_value};
 ghost use Rattle.iref_path.specs.{segments_left, normal_segments_left, SpellsSuffix, ParsesPath};
 
@@ -139,14 +139,14 @@ impl<'a, C: CharSet> Path<'a, C> {
 
     /// The first segment.
     pub fn first(&self) -> Option<Segment<'a, C>>
-        ensures { option_map view_text result ≡ function.first (path_value self.now) }
+        ensures { option_map text_of result ≡ function.first (path_value self.now) }
     {
         self.segments().next()
     }
 
     /// The last segment.
     pub fn last(&self) -> Option<Segment<'a, C>>
-        ensures { option_map view_text result ≡ function.last (path_value self.now) }
+        ensures { option_map text_of result ≡ function.last (path_value self.now) }
     {
         self.segments().next_back()
     }
@@ -154,7 +154,7 @@ impl<'a, C: CharSet> Path<'a, C> {
     /// The last segment unless it is empty.
     #[tactic(auto, unfolding(iref_model::specs::PathFunctions::file_name))]
     pub fn file_name(&self) -> Option<Segment<'a, C>>
-        ensures { option_map view_text result ≡ function.file_name (path_value self.now) }
+        ensures { option_map text_of result ≡ function.file_name (path_value self.now) }
     {
         let last = self.last()?;
         if last.is_empty() { None } else { Some(last) }

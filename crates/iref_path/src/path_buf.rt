@@ -7,7 +7,7 @@ ghost use Rattle.iref_model.specs.PathFunctions as function;
 ghost use Rattle.iref_model.specs.PathSteps as step;
 ghost use Rattle.iref_model.specs.PathSuffix.{path_suffix};
 ghost use Rattle.iref_component.specs.{ComparesBy, path_key, path_key_cmp, fed_path, spell_path};
-ghost use Rattle.iref_component.specs.{view_text, is_path, alone, normal_segments, is_empty};
+ghost use Rattle.iref_component.specs.{text_of, is_path, alone, normal_segments, is_empty};
 ghost use Rattle.iref_path.specs.{path_text, path_value, path_buf_text, path_buf_value};
 ghost use Rattle.iref_path.specs.{segments_left, normal_segments_left, SpellsSuffix};
 ghost use Rattle.iref_path.specs.{ParsesPathBuf};
@@ -168,21 +168,21 @@ impl<C: CharSet> PathBuf<C> {
 
     /// The first segment.
     pub fn first(&self) -> Option<Segment<'_, C>>
-        ensures { option_map view_text result ≡ function.first (path_buf_value self.now) }
+        ensures { option_map text_of result ≡ function.first (path_buf_value self.now) }
     {
         self.as_path().first()
     }
 
     /// The last segment.
     pub fn last(&self) -> Option<Segment<'_, C>>
-        ensures { option_map view_text result ≡ function.last (path_buf_value self.now) }
+        ensures { option_map text_of result ≡ function.last (path_buf_value self.now) }
     {
         self.as_path().last()
     }
 
     /// The last segment unless it is empty.
     pub fn file_name(&self) -> Option<Segment<'_, C>>
-        ensures { option_map view_text result ≡ function.file_name (path_buf_value self.now) }
+        ensures { option_map text_of result ≡ function.file_name (path_buf_value self.now) }
     {
         self.as_path().file_name()
     }
@@ -272,11 +272,7 @@ impl<C: CharSet> fmt::Display for PathBuf<C> {
 #[tactic(auto, using(iref_model::proofs::TieLemmas::paths_tie))]
 pub fn paths_compare_by_key<C: CharSet>()
     ensures view { ComparesBy (λ p. path_key (path_value p)) path_key_cmp fed_path
-        ⟦<Path<'static, C> as PartialEq>⟧.eq
-        ⟦<Path<'static, C> as Ord>⟧.cmp
-        ⟦<Path<'static, C> as Hash>⟧.hash_input }
+        ⟦<Path<'static, C> as Ord>⟧ ⟦<Path<'static, C> as Hash>⟧ }
     ensures owner { ComparesBy (λ p. path_key (path_buf_value p)) path_key_cmp fed_path
-        ⟦<PathBuf<C> as PartialEq>⟧.eq
-        ⟦<PathBuf<C> as Ord>⟧.cmp
-        ⟦<PathBuf<C> as Hash>⟧.hash_input }
+        ⟦<PathBuf<C> as Ord>⟧ ⟦<PathBuf<C> as Hash>⟧ }
 {}

@@ -3,7 +3,7 @@ ghost use Rattle.std.specs.Prelude.{◌≡◌, ◌≤◌, ◌+◌, ◌-◌, ◌&
 ghost use Rattle.std.specs.Str.{IsCharBoundary};
 ghost use Rattle.iref_grammar.specs.Contexts.{alone, follows_authority, is_path_in};
 ghost use Rattle.iref_grammar.specs.{PathValue.{PathValue, read_path}, Texts.{is_empty}};
-ghost use Rattle.iref_component.specs.Components.{view_text};
+ghost use Rattle.iref_component.specs.Components.{text_of};
 ghost use Rattle.iref_model.specs.PathSteps as step;
 ghost use Rattle.iref_path_text.specs.PathParts.{is_path_after, step_text, StepsTo};
 ghost use Rattle.iref_path.specs.Paths.{path_text, path_value, path_buf_text, path_buf_value};
@@ -134,7 +134,7 @@ impl<'a, C: CharSet, T: Target<PathPart, C>> PathMut<'a, C, T> {
 
     /// Puts a segment at the end, as it is: `.` and `..` too.
     pub fn lazy_push(&mut self, segment: Segment<'_, C>) -> Result<(), Memory>
-        ensures { Edits (λ context. step.lazy_pushed context (view_text segment.entry))
+        ensures { Edits (λ context. step.lazy_pushed context (text_of segment.entry))
             self.old self.new result }
     {
         let step = steps::lazy_pushed::<C>(self.context, self.text(), segment.as_str());
@@ -144,7 +144,7 @@ impl<'a, C: CharSet, T: Target<PathPart, C>> PathMut<'a, C, T> {
     /// Follows a segment: `.` closes the path, `..` takes the last segment away and closes it, and
     /// any other is put at the end (RFC 3986 section 5.2.4). `foo/bar` and `..` give `foo/`.
     pub fn push(&mut self, segment: Segment<'_, C>) -> Result<(), Memory>
-        ensures { Edits (λ context. step.pushed context (view_text segment.entry))
+        ensures { Edits (λ context. step.pushed context (text_of segment.entry))
             self.old self.new result }
     {
         let step = steps::pushed::<C>(self.context, self.text(), segment.as_str());

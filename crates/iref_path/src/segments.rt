@@ -2,7 +2,7 @@
 
 ghost use Rattle.std.specs.{Prelude.{◌≡◌, true}, List.{list_all}};
 ghost use Rattle.std.specs.Iterator.{YieldsFirstBy, YieldsLastBy, item_count};
-ghost use Rattle.iref_component.specs.{is_segment, view_text};
+ghost use Rattle.iref_component.specs.{is_segment, text_of};
 ghost use Rattle.iref_path_text.specs.{pieces_if_some};
 
 use iref_component::texts::Segment;
@@ -38,7 +38,7 @@ impl<'a, C: CharSet> Iterator for Segments<'a, C> {
 
     type Item = Segment<'a, C>;
 
-    ghost next_gives = { YieldsFirstBy view_text segments_left };
+    ghost next_gives = { YieldsFirstBy text_of segments_left };
 
     ghost remaining = { item_count segments_left };
 
@@ -58,7 +58,7 @@ impl<'a, C: CharSet> Iterator for Segments<'a, C> {
 impl<'a, C: CharSet> DoubleEndedIterator for Segments<'a, C> {
     ghost use Rattle.iref_path.specs.Paths.{segments_left};
 
-    ghost next_back_gives = { YieldsLastBy view_text segments_left };
+    ghost next_back_gives = { YieldsLastBy text_of segments_left };
 
     fn next_back(&mut self) -> Option<Segment<'a, C>> {
         let text = self.rest?;

@@ -4,8 +4,8 @@ use Rattle.std.specs.Prelude.{Option, Some, None, IsNone, is_some, option_map}
 use Rattle.iref_grammar.specs.PathValue.{PathValue, spell_path}
 use Rattle.iref_grammar.specs.Reference.{ReferenceValue}
 use Rattle.iref_grammar.specs.Rules.{Text}
-use Rattle.iref_component.specs.Components.{view_text}
-use Rattle.iref_component.specs.declared.text.View.{View}
+use Rattle.iref_component.specs.Components.{text_of}
+use Rattle.iref_component.specs.declared.text.RuleText.{RuleText}
 use Rattle.iref_model.specs.PathSuffix.{path_suffix}
 use Rattle.iref_model.specs.ReferenceSuffix.{reference_suffix}
 use Rattle.iref_model.specs.Relative.{have_same_authority, have_same_scheme}
@@ -48,8 +48,8 @@ module _ (prefix r p q : ReferenceValue) (p_is : p ≡ prefix) (q_is : q ≡ r) 
         by (Some x) h = h
 
     -- what is left of the path, with the query and the fragment
-    pub left-of_path : {C c Q U J a j u F V K b k v : _} (found : Option (PathBuf C c)) (query : Option (View Q U J a j u)) (fragment : Option (View F V K b k v)) → SpellsSuffix p.path q.path found
-        → option_map view_text query ≡ q.query → option_map view_text fragment ≡ q.fragment → SpellsReferenceSuffix prefix r (option_map (λ path. (path, query, fragment)) found)
+    pub left-of_path : {C c T Q U J t a j u S F V K s b k v : _} (found : Option (PathBuf C c)) (query : Option (RuleText T Q U J t a j u)) (fragment : Option (RuleText S F V K s b k v)) → SpellsSuffix p.path q.path found
+        → option_map text_of query ≡ q.query → option_map text_of fragment ≡ q.fragment → SpellsReferenceSuffix prefix r (option_map (λ path. (path, query, fragment)) found)
     left-of_path found query fragment spells query_is fragment_is = record {
       text = first_mapped path_buf_text (λ path. (path, query, fragment)) (λ left. path_buf_text left.0) (λ path. refl) found ∙ spells.text
           ∙ sym (first_mapped spell_path (with_rest q) (λ left. spell_path left.0) (λ path. refl) (path_suffix p.path q.path))

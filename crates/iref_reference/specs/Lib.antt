@@ -13,9 +13,9 @@ pub use Rattle.iref_model.specs.ComponentSteps.{with_authority, with_fragment, w
 pub use Rattle.iref_model.specs.Key.{fed_reference, key, key_cmp}
 pub use Rattle.iref_model.specs.ReferenceParts.{base_of, host_of, port_of, user_info_of}
 pub use Rattle.iref_parse.specs.ReferenceSlices.{texts_of}
-pub use Rattle.iref_component.specs.Components.{view_text}
+pub use Rattle.iref_component.specs.Components.{text_of}
 pub use Rattle.iref_component.specs.Makers.{ParsesUtf8}
-pub use Rattle.iref_authority.specs.Comparisons.{TypeComparesBy}
+pub use Rattle.iref_component.specs.Comparisons.{ComparesBy}
 pub use Rattle.iref_path.specs.Paths.{path_value}
 pub use Rattle.iref_buffer.specs.Steps.{IsStep}
 pub use Rattle.iref_reference.specs.Parts.{key_of_parts, part_texts, parts_value, scheme_key, uri_parts_key, uri_ref_part_texts, uri_ref_parts_key, uri_ref_parts_value}

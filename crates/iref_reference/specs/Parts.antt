@@ -4,8 +4,8 @@ use Rattle.std.specs.Str.{str_to_ascii_lowercase}
 use Rattle.iref_grammar.specs.Rules.{Text}
 use Rattle.iref_grammar.specs.ComponentTexts.{ComponentTexts, read_components}
 use Rattle.iref_grammar.specs.Reference.{ReferenceValue}
-use Rattle.iref_component.specs.Components.{view_text}
-use Rattle.iref_component.specs.declared.text.View.{View}
+use Rattle.iref_component.specs.Components.{text_of}
+use Rattle.iref_component.specs.declared.text.RuleText.{RuleText}
 use Rattle.iref_authority.specs.Authorities.{authority_text}
 use Rattle.iref_path.specs.Paths.{path_text}
 use Rattle.iref_model.specs.Key.{key}
@@ -17,31 +17,31 @@ part_texts scheme p = record {
   scheme = scheme p.scheme;
   authority = option_map authority_text p.authority;
   path = path_text p.path;
-  query = option_map view_text p.query;
-  fragment = option_map view_text p.fragment;
+  query = option_map text_of p.query;
+  fragment = option_map text_of p.fragment;
 }
 
-abbrev pub uri_ref_part_texts : {R U K r k u C c : _} → Parts (Option (View R U K r k u)) C c → ComponentTexts
-uri_ref_part_texts = part_texts (option_map view_text)
+abbrev pub uri_ref_part_texts : {T R U K t r k u C c : _} → Parts (Option (RuleText T R U K t r k u)) C c → ComponentTexts
+uri_ref_part_texts = part_texts (option_map text_of)
 
 -- the reference that the parts are those of
 abbrev pub parts_value : {S : Type 0} {C : _} {c : _} → (S → Option Text) → Parts S C c → ReferenceValue
 parts_value scheme p = read_components (part_texts scheme p)
 
-abbrev pub uri_ref_parts_value : {R U K r k u C c : _} → Parts (Option (View R U K r k u)) C c → ReferenceValue
-uri_ref_parts_value = parts_value (option_map view_text)
+abbrev pub uri_ref_parts_value : {T R U K t r k u C c : _} → Parts (Option (RuleText T R U K t r k u)) C c → ReferenceValue
+uri_ref_parts_value = parts_value (option_map text_of)
 
-abbrev pub uri_parts_value : {R U K r k u C c : _} → Parts (View R U K r k u) C c → ReferenceValue
-uri_parts_value = parts_value (λ scheme. Some (view_text scheme))
+abbrev pub uri_parts_value : {T R U K t r k u C c : _} → Parts (RuleText T R U K t r k u) C c → ReferenceValue
+uri_parts_value = parts_value (λ scheme. Some (text_of scheme))
 
 -- what the parts are compared by
 abbrev pub key_of_parts : {S : Type 0} {C : _} {c : _} → (S → Option Text) → Parts S C c → ReferenceValue
 key_of_parts scheme p = key (parts_value scheme p)
 
-abbrev pub uri_ref_parts_key : {R U K r k u C c : _} → Parts (Option (View R U K r k u)) C c → ReferenceValue
+abbrev pub uri_ref_parts_key : {T R U K t r k u C c : _} → Parts (Option (RuleText T R U K t r k u)) C c → ReferenceValue
 uri_ref_parts_key p = key (uri_ref_parts_value p)
 
-abbrev pub uri_parts_key : {R U K r k u C c : _} → Parts (View R U K r k u) C c → ReferenceValue
+abbrev pub uri_parts_key : {T R U K t r k u C c : _} → Parts (RuleText T R U K t r k u) C c → ReferenceValue
 uri_parts_key p = key (uri_parts_value p)
 
 -- and a scheme that may be absent

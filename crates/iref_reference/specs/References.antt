@@ -3,14 +3,14 @@ use Rattle.std.specs.Prelude.{◌≡◌, ⊤, None, Result, MatchResult}
 use Rattle.iref_grammar.specs.Rules.{Text}
 use Rattle.iref_grammar.specs.Reference.{ReferenceValue, read_reference}
 use Rattle.iref_model.specs.Key.{key}
-use Rattle.iref_component.specs.Components.{view_text}
+use Rattle.iref_component.specs.Components.{text_of}
 use Rattle.iref_component.specs.Makers.{ParsesUtf8}
 use Rattle.iref_buffer.specs.Steps.{IsStep, StepsOrStays}
 use Rattle.iref_reference.specs.declared.view.Reference.{Reference}
 use Rattle.iref_reference.specs.declared.owner.ReferenceBuf.{ReferenceBuf}
 
 abbrev pub reference_text : {R C K r k c : _} → Reference R C K r k c → Text
-reference_text r = view_text r.text
+reference_text r = text_of r.text
 
 abbrev pub reference_value : {R C K r k c : _} → Reference R C K r k c → ReferenceValue
 reference_value r = read_reference (reference_text r)

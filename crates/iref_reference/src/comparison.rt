@@ -3,7 +3,7 @@ ghost use Rattle.std.proofs.Common.{rules, refl};
 ghost use Rattle.std.specs.Cmp.{on_total, on_equiv, po, partial_equiv_from_equiv, eq_by_cmp_equiv};
 ghost use Rattle.std.specs.Ordering.{on, as_partial_cmp, eq_by_cmp};
 ghost use Rattle.std.specs.Cmp.Rules.{comparing};
-ghost use Rattle.iref_authority.specs.Comparisons.{TypeComparesBy};
+ghost use Rattle.iref_component.specs.Comparisons.{ComparesBy};
 ghost use Rattle.iref_component.specs.{key_cmp, fed_reference};
 ghost use Rattle.iref_reference.specs.Parts.{uri_ref_parts_key, uri_parts_key};
 ghost use Rattle.iref_reference.specs.References.{key_of_reference, key_of_reference_buf};
@@ -69,24 +69,24 @@ impl<R: HeldRule, C: CharSet> Hash for ReferenceBuf<R, C> {
 /// References and URIs are equal, in order and hashed by the key of the reference, so a URI as its
 /// reference (RFC 3986 section 6.2.2).
 pub fn references_compare_by_key<C: CharSet>()
-    ensures references { TypeComparesBy key_of_reference key_cmp fed_reference
+    ensures references { ComparesBy key_of_reference key_cmp fed_reference
         ⟦<UriRef<'static, C> as Ord>⟧ ⟦<UriRef<'static, C> as Hash>⟧ }
-    ensures uris { TypeComparesBy key_of_reference key_cmp fed_reference
+    ensures uris { ComparesBy key_of_reference key_cmp fed_reference
         ⟦<Uri<'static, C> as Ord>⟧ ⟦<Uri<'static, C> as Hash>⟧ }
 {}
 
 /// Owners under any rule are equal, in order and hashed by the key of the reference, as their
 /// views.
 pub fn owners_compare_by_key<R: HeldRule, C: CharSet>()
-    ensures { TypeComparesBy key_of_reference_buf key_cmp fed_reference
+    ensures { ComparesBy key_of_reference_buf key_cmp fed_reference
         ⟦<ReferenceBuf<R, C> as Ord>⟧ ⟦<ReferenceBuf<R, C> as Hash>⟧ }
 {}
 
 /// The components of references and of URIs are equal, in order and hashed by the key of the
 /// reference (RFC 3986 section 6.2.2).
 pub fn parts_compare_by_key<C: CharSet>()
-    ensures references { TypeComparesBy uri_ref_parts_key key_cmp fed_reference
+    ensures references { ComparesBy uri_ref_parts_key key_cmp fed_reference
         ⟦<UriRefParts<'static, C> as Ord>⟧ ⟦<UriRefParts<'static, C> as Hash>⟧ }
-    ensures uris { TypeComparesBy uri_parts_key key_cmp fed_reference
+    ensures uris { ComparesBy uri_parts_key key_cmp fed_reference
         ⟦<UriParts<'static, C> as Ord>⟧ ⟦<UriParts<'static, C> as Hash>⟧ }
 {}

@@ -4,7 +4,7 @@ ghost use Rattle.std.specs.String.{string_bytes};
 ghost use Rattle.iref_component.specs.{colon, hash_sign, spell_authority, before, spell_path};
 ghost use Rattle.iref_component.specs.{spell_components, hierarchy, spell, with_query, places_of};
 ghost use Rattle.iref_component.specs.{with_fragment, user_info_of, host_of, port_of, base_of};
-ghost use Rattle.iref_component.specs.{view_text, owned_text};
+ghost use Rattle.iref_component.specs.{text_of};
 ghost use Rattle.iref_authority.specs.{authority_text};
 ghost use Rattle.iref_path.specs.{path_text};
 ghost use Rattle.iref_reference.specs.References.{reference_text, reference_value};
@@ -122,21 +122,21 @@ impl<R: HeldRule, C: CharSet> ReferenceBuf<R, C> {
 
     /// The user info, if the reference has an authority with one (RFC 3986 section 3.2.1).
     pub fn user_info(&self) -> Option<UserInfo<'_, C>>
-        ensures { option_map view_text result ≡ user_info_of (reference_buf_value self.now) }
+        ensures { option_map text_of result ≡ user_info_of (reference_buf_value self.now) }
     {
         self.reference_parts().authority_parts()?.user_info
     }
 
     /// The host, if the reference has an authority (RFC 3986 section 3.2.2).
     pub fn host(&self) -> Option<Host<'_, C>>
-        ensures { option_map view_text result ≡ host_of (reference_buf_value self.now) }
+        ensures { option_map text_of result ≡ host_of (reference_buf_value self.now) }
     {
         Some(self.reference_parts().authority_parts()?.host)
     }
 
     /// The port, if the reference has an authority with one (RFC 3986 section 3.2.3).
     pub fn port(&self) -> Option<Port<'_>>
-        ensures { option_map view_text result ≡ port_of (reference_buf_value self.now) }
+        ensures { option_map text_of result ≡ port_of (reference_buf_value self.now) }
     {
         self.reference_parts().authority_parts()?.port
     }
@@ -150,14 +150,14 @@ impl<R: HeldRule, C: CharSet> ReferenceBuf<R, C> {
 
     /// The query, if the reference has one.
     pub fn query(&self) -> Option<Query<'_, C>>
-        ensures { option_map view_text result ≡ (reference_buf_value self.now).query }
+        ensures { option_map text_of result ≡ (reference_buf_value self.now).query }
     {
         self.reference_parts().query
     }
 
     /// The fragment, if the reference has one.
     pub fn fragment(&self) -> Option<Fragment<'_, C>>
-        ensures { option_map view_text result ≡ (reference_buf_value self.now).fragment }
+        ensures { option_map text_of result ≡ (reference_buf_value self.now).fragment }
     {
         self.reference_parts().fragment
     }
@@ -251,7 +251,7 @@ impl<C: CharSet> UriBuf<C> {
     /// grows only where it has no room for the `:`.
     pub fn from_scheme(scheme: SchemeBuf) -> Result<Self, Memory>
         ensures { IfOk result (λ uri.
-            reference_buf_text uri ≡ owned_text scheme ++ colon ∷ []) }
+            reference_buf_text uri ≡ text_of scheme ++ colon ∷ []) }
     {
         Ok(UriBuf::from_held(Held::from_scheme(scheme.into_string())?))
     }

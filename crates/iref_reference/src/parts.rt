@@ -7,7 +7,7 @@ ghost use Rattle.std.proofs.lemmas.Option.{same_Some};
 ghost use Rattle.iref_parse.specs.{texts_of};
 ghost use Rattle.iref_component.specs.{AreComponents, spell_components, is_scheme, none_or};
 ghost use Rattle.iref_component.specs.{is_reference, read_reference, is_authority, IsUriReference};
-ghost use Rattle.iref_component.specs.{Text, InUtf8, key_cmp, fed_reference, view_text};
+ghost use Rattle.iref_component.specs.{Text, InUtf8, key_cmp, fed_reference, text_of};
 ghost use Rattle.iref_authority.specs.{parts_value as authority_parts_value, authority_text};
 ghost use Rattle.iref_path.specs.{path_text};
 ghost use Rattle.iref_reference.specs.Parts.{part_texts, parts_value, uri_ref_part_texts};
@@ -46,7 +46,7 @@ pub trait SchemePart<'a>: Copy + Ord {
 
     /// The scheme, if it is there.
     fn to_option(self) -> Option<Scheme<'a>>
-        ensures { option_map view_text result ≡ text self };
+        ensures { option_map text_of result ≡ text self };
 
     /// Two are equal exactly where their keys are the same.
     ghost tie: { (a b : Self) → (Self.eq a b ≡ true)
@@ -54,12 +54,12 @@ pub trait SchemePart<'a>: Copy + Ord {
 }
 
 impl<'a> SchemePart<'a> for Scheme<'a> {
-    ghost text = { λ scheme. Some (view_text scheme) };
+    ghost text = { λ scheme. Some (text_of scheme) };
 
     ghost allows = { λ scheme. is_some scheme ≡ true };
 
-    ghost tie = { λ a b. let texts = texts_tie (str_to_ascii_lowercase (view_text a))
-        (str_to_ascii_lowercase (view_text b)) in
+    ghost tie = { λ a b. let texts = texts_tie (str_to_ascii_lowercase (text_of a))
+        (str_to_ascii_lowercase (text_of b)) in
         (λ e. ap Some (texts.0 e), λ e. texts.1 (same_Some _ _ e)) };
 
     fn new(slice: Option<&'a str>) -> Self {
@@ -75,11 +75,11 @@ impl<'a> SchemePart<'a> for Scheme<'a> {
 }
 
 impl<'a> SchemePart<'a> for Option<Scheme<'a>> {
-    ghost text = { option_map view_text };
+    ghost text = { option_map text_of };
 
     ghost allows = { λ _. Unit {0} };
 
-    ghost tie = { lower_case_tie view_text };
+    ghost tie = { lower_case_tie text_of };
 
     fn new(slice: Option<&'a str>) -> Self {
         view_of(slice)
@@ -215,7 +215,7 @@ impl<'a, S: SchemePart<'a>, C: CharSet> Hash for Parts<'a, S, C> {
     ghost hash_input = { λ parts. fed_reference (key_of_parts S.text parts) };
 
     ghost respects_eq = { λ a b same. ap fed_reference
-        ((parts_tie authority_text view_text view_text _ (S.text a.scheme) (S.text b.scheme)
+        ((parts_tie authority_text text_of text_of _ (S.text a.scheme) (S.text b.scheme)
         (S.tie a.scheme b.scheme) a.authority b.authority (path_text a.path) (path_text b.path)
         a.query b.query a.fragment b.fragment).0 same) };
 

@@ -1,7 +1,7 @@
 //! Owners edited in place, a component at a time (RFC 3986 sections 3 and 4.2).
 ghost use Rattle.std.specs.Prelude.{Some, OnOk, IsNone, IsOk, option_map};
 ghost use Rattle.iref_component.specs.{read_authority, with_authority, with_fragment, with_path};
-ghost use Rattle.iref_component.specs.{with_query, with_scheme, view_text};
+ghost use Rattle.iref_component.specs.{with_query, with_scheme, text_of};
 ghost use Rattle.iref_authority.specs.{authority_text};
 ghost use Rattle.iref_path.specs.{path_value};
 ghost use Rattle.iref_model.specs.ComponentSteps.{with_new_normal_path};
@@ -52,7 +52,7 @@ impl<R: HeldRule, C: CharSet> ReferenceBuf<R, C> {
 
     /// Replaces the query, or takes it away, which takes no memory.
     pub fn set_query(&mut self, query: Option<Query<'_, C>>) -> Result<(), Memory>
-        ensures set { Edits (with_query (option_map view_text query.entry)) self.old self.new
+        ensures set { Edits (with_query (option_map text_of query.entry)) self.old self.new
             result }
         ensures none { IsNone query.entry → IsOk result }
     {
@@ -61,7 +61,7 @@ impl<R: HeldRule, C: CharSet> ReferenceBuf<R, C> {
 
     /// Replaces the fragment, or takes it away, which takes no memory.
     pub fn set_fragment(&mut self, fragment: Option<Fragment<'_, C>>) -> Result<(), Memory>
-        ensures set { Edits (with_fragment (option_map view_text fragment.entry)) self.old self.new
+        ensures set { Edits (with_fragment (option_map text_of fragment.entry)) self.old self.new
             result }
         ensures none { IsNone fragment.entry → IsOk result }
     {
@@ -73,7 +73,7 @@ impl<C: CharSet> UriRefBuf<C> {
     /// Replaces the scheme, or takes it away, which takes no memory. Where it goes, a path whose
     /// first segment holds a `:` is guarded.
     pub fn set_scheme(&mut self, scheme: Option<Scheme<'_>>) -> Result<(), Memory>
-        ensures set { Edits (with_scheme (option_map view_text scheme.entry)) self.old self.new
+        ensures set { Edits (with_scheme (option_map text_of scheme.entry)) self.old self.new
             result }
         ensures none { IsNone scheme.entry → IsOk result }
     {
@@ -84,7 +84,7 @@ impl<C: CharSet> UriRefBuf<C> {
 impl<C: CharSet> UriBuf<C> {
     /// Replaces the scheme.
     pub fn set_scheme(&mut self, scheme: Scheme<'_>) -> Result<(), Memory>
-        ensures { Edits (with_scheme (Some (view_text scheme.entry))) self.old self.new result }
+        ensures { Edits (with_scheme (Some (text_of scheme.entry))) self.old self.new result }
     {
         self.held.set_scheme(Some(scheme.as_str()))
     }

@@ -1,7 +1,7 @@
 //! Borrowed references (RFC 3986 sections 3 and 4.1).
 ghost use Rattle.std.specs.Prelude.{IfOk, IfSome, is_some, ◌≡◌, true, [], ◌∷◌, Some, None};
 ghost use Rattle.std.specs.Prelude.{option_map};
-ghost use Rattle.iref_component.specs.{view_text, spell_components, hierarchy, spell, hash_sign};
+ghost use Rattle.iref_component.specs.{text_of, spell_components, hierarchy, spell, hash_sign};
 ghost use Rattle.iref_component.specs.{spell_authority, with_query, with_fragment};
 ghost use Rattle.iref_component.specs.{user_info_of, host_of, port_of, base_of, spell_path, before};
 ghost use Rattle.iref_authority.specs.{authority_text};
@@ -109,21 +109,21 @@ impl<'a, R: HeldRule, C: CharSet> Reference<'a, R, C> {
 
     /// The user info, if the reference has an authority with one (RFC 3986 section 3.2.1).
     pub fn user_info(&self) -> Option<UserInfo<'a, C>>
-        ensures { option_map view_text result ≡ user_info_of (reference_value self.now) }
+        ensures { option_map text_of result ≡ user_info_of (reference_value self.now) }
     {
         self.reference_parts().authority_parts()?.user_info
     }
 
     /// The host, if the reference has an authority (RFC 3986 section 3.2.2).
     pub fn host(&self) -> Option<Host<'a, C>>
-        ensures { option_map view_text result ≡ host_of (reference_value self.now) }
+        ensures { option_map text_of result ≡ host_of (reference_value self.now) }
     {
         Some(self.reference_parts().authority_parts()?.host)
     }
 
     /// The port, if the reference has an authority with one (RFC 3986 section 3.2.3).
     pub fn port(&self) -> Option<Port<'a>>
-        ensures { option_map view_text result ≡ port_of (reference_value self.now) }
+        ensures { option_map text_of result ≡ port_of (reference_value self.now) }
     {
         self.reference_parts().authority_parts()?.port
     }
@@ -137,14 +137,14 @@ impl<'a, R: HeldRule, C: CharSet> Reference<'a, R, C> {
 
     /// The query, if the reference has one.
     pub fn query(&self) -> Option<Query<'a, C>>
-        ensures { option_map view_text result ≡ (reference_value self.now).query }
+        ensures { option_map text_of result ≡ (reference_value self.now).query }
     {
         self.reference_parts().query
     }
 
     /// The fragment, if the reference has one.
     pub fn fragment(&self) -> Option<Fragment<'a, C>>
-        ensures { option_map view_text result ≡ (reference_value self.now).fragment }
+        ensures { option_map text_of result ≡ (reference_value self.now).fragment }
     {
         self.reference_parts().fragment
     }

@@ -1,6 +1,6 @@
 //! The scheme set by an edit, which a URI keeps.
 ghost use Rattle.std.specs.Prelude.{option_map};
-ghost use Rattle.iref_component.specs.Components.{view_text};
+ghost use Rattle.iref_component.specs.Components.{text_of};
 ghost use Rattle.iref_model.specs.Edits.{SetScheme};
 ghost use Rattle.iref_reference.specs.References.{reference_buf_text};
 ghost use Rattle.iref.specs.EditAnswers.{AppliesEdit, edited_in};
@@ -20,7 +20,7 @@ pub trait SetsScheme: HeldRule {
         scheme: Option<Scheme<'_>>,
     ) -> Result<(), EditError>
         ensures { AppliesEdit (edited_in Self.allows_scheme)
-            (SetScheme (option_map view_text scheme.entry))
+            (SetScheme (option_map text_of scheme.entry))
             (reference_buf_text reference.old) (reference_buf_text reference.new) result };
 }
 

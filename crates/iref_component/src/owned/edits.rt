@@ -11,7 +11,7 @@ use iref_grammar::chars::CharSet;
 use std::alloc::Global;
 
 impl<R: Rule, C: CharSet> TextBuf<R, C> {
-    ghost use Rattle.iref_component.specs.Components.{owned_text};
+    ghost use Rattle.iref_component.specs.Components.{text_of};
 
     /// The allocator of the text.
     pub fn alloc(&self) -> Global {
@@ -21,11 +21,11 @@ impl<R: Rule, C: CharSet> TextBuf<R, C> {
     /// Makes the change, where what this leaves is in the rule. All room is taken first: an `Err`
     /// changes nothing, and what makes the text no longer takes no memory.
     pub fn replace(&mut self, change: Change<'_>) -> Result<(), Memory>
-        requires within { IsWithin (owned_text self.old) change.within }
-        requires in_rule { R.test C.tests (changed (owned_text self.old) change) ≡ true }
-        ensures ok { OnOk result (owned_text self.new
-            ≡ changed (owned_text self.old) change.entry) }
-        ensures err { OnErr result (owned_text self.new ≡ owned_text self.old) }
+        requires within { IsWithin (text_of self.old) change.within }
+        requires in_rule { R.test C.tests (changed (text_of self.old) change) ≡ true }
+        ensures ok { OnOk result (text_of self.new
+            ≡ changed (text_of self.old) change.entry) }
+        ensures err { OnErr result (text_of self.new ≡ text_of self.old) }
         ensures shorter { IsNoLonger change.entry → IsOk result }
     {
         replace(&mut self.text, change)?;

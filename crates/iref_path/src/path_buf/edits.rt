@@ -1,6 +1,6 @@
 //! Edits of a path that owns its text (RFC 3986 sections 3.3 and 5.2.4).
 ghost use Rattle.std.specs.Prelude.{◌≡◌, ◌&&◌, ◌≤◌, not, length, IfOk, IsOk};
-ghost use Rattle.iref_component.specs.{alone, is_empty, spell_path, view_text};
+ghost use Rattle.iref_component.specs.{alone, is_empty, spell_path, text_of};
 ghost use Rattle.iref_model.specs.PathSteps as step;
 ghost use Rattle.iref_path.specs.PathEdits.{Borrows, EditsOwner, IsEditorOf, SpellsPath};
 ghost use Rattle.iref_path.specs.Paths.{path_value, path_buf_text, path_buf_value};
@@ -66,7 +66,7 @@ impl<C: CharSet> PathBuf<C> {
 
     /// Puts a segment at the end, as it is: `.` and `..` too.
     pub fn lazy_push(&mut self, segment: Segment<'_, C>) -> Result<(), Memory>
-        ensures { EditsOwner (step.lazy_pushed alone (view_text segment.entry))
+        ensures { EditsOwner (step.lazy_pushed alone (text_of segment.entry))
             self.old self.new result }
     {
         self.as_path_mut().lazy_push(segment)
@@ -75,7 +75,7 @@ impl<C: CharSet> PathBuf<C> {
     /// Follows a segment: `.` closes the path, `..` takes the last segment away and closes it, and
     /// any other is put at the end (RFC 3986 section 5.2.4). `foo/bar` and `..` give `foo/`.
     pub fn push(&mut self, segment: Segment<'_, C>) -> Result<(), Memory>
-        ensures { EditsOwner (step.pushed alone (view_text segment.entry))
+        ensures { EditsOwner (step.pushed alone (text_of segment.entry))
             self.old self.new result }
     {
         self.as_path_mut().push(segment)

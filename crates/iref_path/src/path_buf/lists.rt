@@ -1,6 +1,6 @@
 //! Edits of a path that owns its text by many segments (RFC 3986 section 5.2.4).
 ghost use Rattle.std.specs.Prelude.{IfOk, map};
-ghost use Rattle.iref_component.specs.{alone, view_text};
+ghost use Rattle.iref_component.specs.{alone, text_of};
 ghost use Rattle.iref_model.specs.PathSteps as step;
 ghost use Rattle.iref_path.specs.Appends.{Appends, CanTakeAll, TakesAll, followed_each};
 ghost use Rattle.iref_path.specs.PathEdits.{EditsOwner, OwnerBecomes, SpellsPath};
@@ -59,7 +59,7 @@ impl<C: CharSet> PathBuf<C> {
     ) -> Result<PathBuf<C>, Memory>
         requires { CanTakeAll I.can_next I.remaining segments }
         ensures { IfOk result (λ path. TakesAll I.next_gives segments (λ items.
-            SpellsPath path (step.from_segments absolute (map view_text items)))) }
+            SpellsPath path (step.from_segments absolute (map text_of items)))) }
     {
         let text = text_of_segments::<C, Global, I>(alloc, absolute, segments)?;
         Ok(PathBuf::new_unchecked(text))

@@ -1,5 +1,5 @@
 //! Edits of a path in place by many segments (RFC 3986 section 5.2.4).
-ghost use Rattle.iref_component.specs.{view_text};
+ghost use Rattle.iref_component.specs.{text_of};
 ghost use Rattle.iref_model.specs.PathSteps as step;
 ghost use Rattle.iref_path.specs.Appends.{Appends, CanTakeAll, followed_each};
 ghost use Rattle.iref_path.specs.{PathEdits.{Becomes, Edits, IsSameEditor}, Paths.{path_value}};
@@ -17,7 +17,7 @@ use iref_path_text::steps;
 impl<C: CharSet, T: Target<PathPart, C>> PathMut<'_, C, T> {
     // Follows a segment, without closing the path.
     pub(super) fn follow(&mut self, segment: Segment<'_, C>) -> Result<(), Memory>
-        ensures { Edits (λ context path. step.followed context path (view_text segment.entry))
+        ensures { Edits (λ context path. step.followed context path (text_of segment.entry))
             self.old self.new result }
     {
         let step = steps::followed::<C>(self.context, self.text(), segment.as_str());

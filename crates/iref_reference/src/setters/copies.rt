@@ -2,7 +2,7 @@
 ghost use Rattle.std.specs.Prelude.{◌≡◌, Some, IfErr, IfOk, option_map};
 ghost use Rattle.iref_grammar.specs.{Grammar.{IsScheme}, Rules.{InUtf8}};
 ghost use Rattle.iref_component.specs.{read_authority, with_authority, with_fragment, with_path};
-ghost use Rattle.iref_component.specs.{with_query, with_scheme, view_text};
+ghost use Rattle.iref_component.specs.{with_query, with_scheme, text_of};
 ghost use Rattle.iref_authority.specs.{authority_text};
 ghost use Rattle.iref_path.specs.{path_value};
 ghost use Rattle.iref_reference.specs.HandedBack.{TellsInvalidBeside};
@@ -35,7 +35,7 @@ impl<R: HeldRule, C: CharSet> Reference<'_, R, C> {
 
     /// A copy under a scheme: of `x`, under `s`, `s:x`.
     pub fn with_scheme(&self, alloc: Global, scheme: Scheme<'_>) -> Result<UriBuf<C>, Memory>
-        ensures { StepsFrom (with_scheme (Some (view_text scheme.entry))) self.now result }
+        ensures { StepsFrom (with_scheme (Some (text_of scheme.entry))) self.now result }
     {
         let reference = UriRef::<C>::new_unchecked(self.as_str());
         let copy = reference.copy_for(alloc, Some(scheme.as_str()))?;
@@ -64,7 +64,7 @@ impl<R: HeldRule, C: CharSet> Reference<'_, R, C> {
 
     /// A copy with another query or none.
     pub fn with_query(&self, alloc: Global, query: Option<Query<'_, C>>) -> Copied<R, C>
-        ensures { StepsFrom (with_query (option_map view_text query.entry)) self.now result }
+        ensures { StepsFrom (with_query (option_map text_of query.entry)) self.now result }
     {
         let mut copy = self.copy_for(alloc, text_of(query))?;
         copy.set_query(query)?;
@@ -73,7 +73,7 @@ impl<R: HeldRule, C: CharSet> Reference<'_, R, C> {
 
     /// A copy with another fragment or none.
     pub fn with_fragment(&self, alloc: Global, fragment: Option<Fragment<'_, C>>) -> Copied<R, C>
-        ensures { StepsFrom (with_fragment (option_map view_text fragment.entry))
+        ensures { StepsFrom (with_fragment (option_map text_of fragment.entry))
             self.now result }
     {
         let mut copy = self.copy_for(alloc, text_of(fragment))?;
@@ -86,7 +86,7 @@ impl<C: CharSet> UriRefBuf<C> {
     /// The same reference under a scheme, with no copy where the buffer has room: `x` under `s` is
     /// `s:x`. Where memory is wanted, the reference comes back as it was.
     pub fn into_with_scheme(self, scheme: Scheme<'_>) -> Result<UriBuf<C>, (Self, Memory)>
-        ensures ok { IfOk result (λ uri. IsStep (with_scheme (Some (view_text scheme.entry)))
+        ensures ok { IfOk result (λ uri. IsStep (with_scheme (Some (text_of scheme.entry)))
             (reference_buf_text self) (reference_buf_text uri)) }
         ensures err { IfErr result (λ error. error.0 ≡ self) }
     {

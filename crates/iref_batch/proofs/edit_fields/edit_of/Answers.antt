@@ -5,7 +5,7 @@ use Rattle.iref_grammar.specs.Tests.{none_or, is_fragment, is_host, is_path, is_
 use Rattle.iref_grammar.specs.Authority.{is_authority}
 use Rattle.iref_model.specs.Edits.{EditStep, SetScheme, SetAuthority, ReplaceAuthority, SetUserInfo, SetHost, SetPort, SetPath, SetAndNormalizePath, SetQuery, SetFragment}
 use Rattle.iref_lines.specs.Lines.{edit_names, is_valid_edit}
-use Rattle.iref_component.specs.Components.{view_text}
+use Rattle.iref_component.specs.Components.{text_of}
 use Rattle.iref_authority.specs.Authorities.{authority_text}
 use Rattle.iref_path.specs.Paths.{path_text}
 use Rattle.iref.specs.declared.edits.Edit.TheVariants as edit
@@ -19,7 +19,7 @@ returns-then-is_name c =
     let m : MatchResult c.optional.result (λ v. IsOkAnd c.map.result (λ w. w ≡ edit.SetScheme v)) (λ e. c.map.result ≡ Err e) = search rules in
     subst (λ (o : Option EditStep). IsRead edit_step (is_valid_edit iri_chars) o c.map.result)
     (named edit_names (codes "scheme") c.args.name.now (option_copied c.args.value) (λ v. Some (SetScheme v)) c.if-is_name.ensures refl)
-    (made (λ v. edit.SetScheme v) (option_map view_text) (none_or is_scheme) edit_step (is_valid_edit iri_chars) SetScheme (Some (option_copied c.args.value)) c.optional.result c.map.result (λ v. refl) (λ a. refl) m c.optional.ensures)
+    (made (λ v. edit.SetScheme v) (option_map text_of) (none_or is_scheme) edit_step (is_valid_edit iri_chars) SetScheme (Some (option_copied c.args.value)) c.optional.result c.map.result (λ v. refl) (λ a. refl) m c.optional.ensures)
 
 pub returns-then-is_name-2 : goal.returns-then-is_name-2
 returns-then-is_name-2 c =
@@ -40,21 +40,21 @@ returns-then-is_name-4 c =
     let m : MatchResult c.optional-then-is_name-4.result (λ v. IsOkAnd c.map-then-is_name-4.result (λ w. w ≡ edit.SetUserInfo v)) (λ e. c.map-then-is_name-4.result ≡ Err e) = search rules in
     subst (λ (o : Option EditStep). IsRead edit_step (is_valid_edit iri_chars) o c.map-then-is_name-4.result)
     (named edit_names (codes "user") c.args.name.now (option_copied c.args.value) (λ v. Some (SetUserInfo v)) c.if-is_name-4.ensures refl)
-    (made (λ v. edit.SetUserInfo v) (option_map view_text) (none_or (is_user_info iri_chars)) edit_step (is_valid_edit iri_chars) SetUserInfo (Some (option_copied c.args.value)) c.optional-then-is_name-4.result c.map-then-is_name-4.result (λ v. refl) (λ a. refl) m c.optional-then-is_name-4.ensures)
+    (made (λ v. edit.SetUserInfo v) (option_map text_of) (none_or (is_user_info iri_chars)) edit_step (is_valid_edit iri_chars) SetUserInfo (Some (option_copied c.args.value)) c.optional-then-is_name-4.result c.map-then-is_name-4.result (λ v. refl) (λ a. refl) m c.optional-then-is_name-4.ensures)
 
 pub returns-then-is_name-5 : goal.returns-then-is_name-5
 returns-then-is_name-5 c =
     let m : MatchResult c.needed-then-is_name-5.result (λ v. IsOkAnd c.map-then-is_name-5.result (λ w. w ≡ edit.SetHost v)) (λ e. c.map-then-is_name-5.result ≡ Err e) = search rules in
     subst (λ (o : Option EditStep). IsRead edit_step (is_valid_edit iri_chars) o c.map-then-is_name-5.result)
     (named edit_names (codes "host") c.args.name.now (option_copied c.args.value) (option_map SetHost) c.if-is_name-5.ensures refl)
-    (made (λ v. edit.SetHost v) view_text (is_host iri_chars) edit_step (is_valid_edit iri_chars) SetHost (option_copied c.args.value) c.needed-then-is_name-5.result c.map-then-is_name-5.result (λ v. refl) (λ a. refl) m c.needed-then-is_name-5.ensures)
+    (made (λ v. edit.SetHost v) text_of (is_host iri_chars) edit_step (is_valid_edit iri_chars) SetHost (option_copied c.args.value) c.needed-then-is_name-5.result c.map-then-is_name-5.result (λ v. refl) (λ a. refl) m c.needed-then-is_name-5.ensures)
 
 pub returns-then-is_name-6 : goal.returns-then-is_name-6
 returns-then-is_name-6 c =
     let m : MatchResult c.optional-then-is_name-6.result (λ v. IsOkAnd c.map-then-is_name-6.result (λ w. w ≡ edit.SetPort v)) (λ e. c.map-then-is_name-6.result ≡ Err e) = search rules in
     subst (λ (o : Option EditStep). IsRead edit_step (is_valid_edit iri_chars) o c.map-then-is_name-6.result)
     (named edit_names (codes "port") c.args.name.now (option_copied c.args.value) (λ v. Some (SetPort v)) c.if-is_name-6.ensures refl)
-    (made (λ v. edit.SetPort v) (option_map view_text) (none_or is_port) edit_step (is_valid_edit iri_chars) SetPort (Some (option_copied c.args.value)) c.optional-then-is_name-6.result c.map-then-is_name-6.result (λ v. refl) (λ a. refl) m c.optional-then-is_name-6.ensures)
+    (made (λ v. edit.SetPort v) (option_map text_of) (none_or is_port) edit_step (is_valid_edit iri_chars) SetPort (Some (option_copied c.args.value)) c.optional-then-is_name-6.result c.map-then-is_name-6.result (λ v. refl) (λ a. refl) m c.optional-then-is_name-6.ensures)
 
 pub returns-then-is_name-7 : goal.returns-then-is_name-7
 returns-then-is_name-7 c =
@@ -75,11 +75,11 @@ returns-then-is_name-9 c =
     let m : MatchResult c.optional-then-is_name-9.result (λ v. IsOkAnd c.map-then-is_name-9.result (λ w. w ≡ edit.SetQuery v)) (λ e. c.map-then-is_name-9.result ≡ Err e) = search rules in
     subst (λ (o : Option EditStep). IsRead edit_step (is_valid_edit iri_chars) o c.map-then-is_name-9.result)
     (named edit_names (codes "query") c.args.name.now (option_copied c.args.value) (λ v. Some (SetQuery v)) c.if-is_name-9.ensures refl)
-    (made (λ v. edit.SetQuery v) (option_map view_text) (none_or (is_query iri_chars)) edit_step (is_valid_edit iri_chars) SetQuery (Some (option_copied c.args.value)) c.optional-then-is_name-9.result c.map-then-is_name-9.result (λ v. refl) (λ a. refl) m c.optional-then-is_name-9.ensures)
+    (made (λ v. edit.SetQuery v) (option_map text_of) (none_or (is_query iri_chars)) edit_step (is_valid_edit iri_chars) SetQuery (Some (option_copied c.args.value)) c.optional-then-is_name-9.result c.map-then-is_name-9.result (λ v. refl) (λ a. refl) m c.optional-then-is_name-9.ensures)
 
 pub returns-then-is_name-10 : goal.returns-then-is_name-10
 returns-then-is_name-10 c =
     let m : MatchResult c.optional-then-is_name-10.result (λ v. IsOkAnd c.map-then-is_name-10.result (λ w. w ≡ edit.SetFragment v)) (λ e. c.map-then-is_name-10.result ≡ Err e) = search rules in
     subst (λ (o : Option EditStep). IsRead edit_step (is_valid_edit iri_chars) o c.map-then-is_name-10.result)
     (named edit_names (codes "fragment") c.args.name.now (option_copied c.args.value) (λ v. Some (SetFragment v)) c.if-is_name-10.ensures refl)
-    (made (λ v. edit.SetFragment v) (option_map view_text) (none_or (is_fragment iri_chars)) edit_step (is_valid_edit iri_chars) SetFragment (Some (option_copied c.args.value)) c.optional-then-is_name-10.result c.map-then-is_name-10.result (λ v. refl) (λ a. refl) m c.optional-then-is_name-10.ensures)
+    (made (λ v. edit.SetFragment v) (option_map text_of) (none_or (is_fragment iri_chars)) edit_step (is_valid_edit iri_chars) SetFragment (Some (option_copied c.args.value)) c.optional-then-is_name-10.result c.map-then-is_name-10.result (λ v. refl) (λ a. refl) m c.optional-then-is_name-10.ensures)

@@ -4,7 +4,7 @@ use Rattle.iref_grammar.specs.Characters.{iri_chars}
 use Rattle.iref_grammar.specs.Tests.{is_path, is_segment}
 use Rattle.iref_model.specs.Edits.{EditStep, LazyPush, Push, JoinPath}
 use Rattle.iref_lines.specs.Lines.{is_valid_edit}
-use Rattle.iref_component.specs.Components.{view_text}
+use Rattle.iref_component.specs.Components.{text_of}
 use Rattle.iref_path.specs.Paths.{path_text}
 use Rattle.iref.specs.declared.edits.Edit.TheVariants as edit
 use Rattle.iref_batch.specs.EditFields.{IsRead, path_edit_names}
@@ -17,14 +17,14 @@ returns-then-is_name c =
     let m : MatchResult c.needed.result (λ v. IsOkAnd c.map.result (λ w. w ≡ edit.LazyPush v)) (λ e. c.map.result ≡ Err e) = search rules in
     subst (λ (o : Option EditStep). IsRead edit_step (is_valid_edit iri_chars) o c.map.result)
     (named path_edit_names (codes "lazy-push") c.args.name.now (option_copied c.args.value) (option_map LazyPush) c.if-is_name.ensures refl)
-    (made (λ v. edit.LazyPush v) view_text (is_segment iri_chars) edit_step (is_valid_edit iri_chars) LazyPush (option_copied c.args.value) c.needed.result c.map.result (λ v. refl) (λ a. refl) m c.needed.ensures)
+    (made (λ v. edit.LazyPush v) text_of (is_segment iri_chars) edit_step (is_valid_edit iri_chars) LazyPush (option_copied c.args.value) c.needed.result c.map.result (λ v. refl) (λ a. refl) m c.needed.ensures)
 
 pub returns-then-is_name-2 : goal.returns-then-is_name-2
 returns-then-is_name-2 c =
     let m : MatchResult c.needed-then-is_name-2.result (λ v. IsOkAnd c.map-then-is_name-2.result (λ w. w ≡ edit.Push v)) (λ e. c.map-then-is_name-2.result ≡ Err e) = search rules in
     subst (λ (o : Option EditStep). IsRead edit_step (is_valid_edit iri_chars) o c.map-then-is_name-2.result)
     (named path_edit_names (codes "push") c.args.name.now (option_copied c.args.value) (option_map Push) c.if-is_name-2.ensures refl)
-    (made (λ v. edit.Push v) view_text (is_segment iri_chars) edit_step (is_valid_edit iri_chars) Push (option_copied c.args.value) c.needed-then-is_name-2.result c.map-then-is_name-2.result (λ v. refl) (λ a. refl) m c.needed-then-is_name-2.ensures)
+    (made (λ v. edit.Push v) text_of (is_segment iri_chars) edit_step (is_valid_edit iri_chars) Push (option_copied c.args.value) c.needed-then-is_name-2.result c.map-then-is_name-2.result (λ v. refl) (λ a. refl) m c.needed-then-is_name-2.ensures)
 
 pub returns-then-is_name-3 : goal.returns-then-is_name-3
 returns-then-is_name-3 c =

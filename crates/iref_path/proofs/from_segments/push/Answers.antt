@@ -1,7 +1,7 @@
 use Rattle.std.proofs.Common.{rules, refl, true, length}
 use Rattle.std.proofs.lemmas.Bool.{and_from, and_parts}
 use Rattle.std.proofs.lemmas.Result.{MatchResult-weaker}
-use Rattle.iref_component.specs.Components.{view_text}
+use Rattle.iref_component.specs.Components.{text_of}
 use Rattle.iref_grammar.specs.Contexts.{alone}
 use Rattle.iref_grammar.specs.PathValue.{read_path}
 use Rattle.iref_grammar.specs.Tests.{is_path}
@@ -17,7 +17,7 @@ returns-clause-value g c =
     let editor : IsEditorOf c.of_target-path.result c.args.bytes.now.items alone 0 (length c.args.bytes.now.items) =
     record { bytes_are = of.bytes_are; context_is = search (rules, of.context_is); from = of.from; to = search (rules, of.to) } in
     MatchResult-weaker c.push.result c.push.ensures.outcome (λ _ becomes.
-    let w = whole_edit (λ context. pushed context (view_text c.args.segment)) editor becomes in
+    let w = whole_edit (λ context. pushed context (text_of c.args.segment)) editor becomes in
     search (rules, w.1)) (λ _ _. tt)
 
 pub returns-clause-in_rule : goal.returns-clause-in_rule
@@ -27,9 +27,9 @@ returns-clause-in_rule g c =
     let of = c.of_target-path.ensures.editor in
     let editor : IsEditorOf c.of_target-path.result old alone 0 (length old) =
     record { bytes_are = of.bytes_are; context_is = search (rules, of.context_is); from = of.from; to = search (rules, of.to) } in
-    let step = pushed-step set alone (read_path old) (view_text c.args.segment) c.args.segment.in_rule in
+    let step = pushed-step set alone (read_path old) (text_of c.args.segment) c.args.segment.in_rule in
     MatchResult-weaker c.push.result c.push.ensures.outcome (λ _ becomes.
-    let w = whole_edit (λ context. pushed context (view_text c.args.segment)) editor becomes in
+    let w = whole_edit (λ context. pushed context (text_of c.args.segment)) editor becomes in
     let to = steps_to set g.met.C.CharSet.above_ascii alone old _ _ step (and_from (is_path set old) true c.requires refl) w.0 in
     let path = (and_parts _ true to.path).0 in
     search (rules, path)) (λ _ _. tt)

@@ -1,5 +1,5 @@
 use Rattle.std.proofs.Common.{rules, sym, ap, ◌∙◌}
-use Rattle.iref_component.specs.Components.{view_text}
+use Rattle.iref_component.specs.Components.{text_of}
 use Rattle.iref_grammar.specs.Contexts.{alone}
 use Rattle.iref_grammar.specs.PathValue.{read_path}
 use Rattle.iref_grammar.specs.Tests.{is_path}
@@ -22,7 +22,7 @@ loop-segment-preserved g c =
     let goes = c.in-Some.ensures.goes.on c.loop-segment.invariant.ends in record {
       can = goes.0;
       ends = goes.1;
-      value = c.in_ok-push.ensures.value ∙ ap (pushed alone (view_text c.in-Some.segment)) c.loop-segment.invariant.value ∙ sym (from_segments_next view_text c.args.absolute c.loop-segment.yielded c.in-Some.segment);
+      value = c.in_ok-push.ensures.value ∙ ap (pushed alone (text_of c.in-Some.segment)) c.loop-segment.invariant.value ∙ sym (from_segments_next text_of c.args.absolute c.loop-segment.yielded c.in-Some.segment);
       in_rule = c.in_ok-push.ensures.in_rule;
     }
 

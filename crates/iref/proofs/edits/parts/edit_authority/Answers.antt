@@ -1,6 +1,6 @@
 use Rattle.std.proofs.Common.{rules, ap}
 use Rattle.std.specs.Prelude.{option_map}
-use Rattle.iref_component.specs.Components.{view_text}
+use Rattle.iref_component.specs.Components.{text_of}
 use Rattle.iref_grammar.specs.Authority.{read_authority}
 use Rattle.iref_grammar.specs.Reference.{read_reference}
 use Rattle.iref_authority.specs.Authorities.{authority_text}
@@ -29,7 +29,7 @@ unfolding edited
 returns-in-SetUserInfo g c =
     let editor = c.authority_editor-authority.ensures in
     let r = read_reference (g.T.Target.text c.args.owner.now) in
-    let new = option_map view_text c.in-SetUserInfo.user_info in (
+    let new = option_map text_of c.in-SetUserInfo.user_info in (
       authority_edited_on_ok c.authority_editor-authority.result c.set_user_info.new.self g.C.CharSet.tests g.met.C.CharSet.above_ascii (edit_step c.args.edit) (with_user_info new) (ap (λ edit. edited (edit_step edit) r) c.in-SetUserInfo.is) c.requires.there editor.reference
           (with_user_info-readable g.C.CharSet.tests new r (view_in_rule c.in-SetUserInfo.user_info)) editor.editor (search rules) c.set_user_info.result c.set_user_info.ensures.edit,
       search rules,
@@ -40,7 +40,7 @@ unfolding edited
 returns-in-SetHost g c =
     let editor = c.authority_editor-authority.ensures in
     let r = read_reference (g.T.Target.text c.args.owner.now) in
-    let new = view_text c.in-SetHost.host in (
+    let new = text_of c.in-SetHost.host in (
       authority_edited_on_ok c.authority_editor-authority.result c.set_host.new.self g.C.CharSet.tests g.met.C.CharSet.above_ascii (edit_step c.args.edit) (with_host new) (ap (λ edit. edited (edit_step edit) r) c.in-SetHost.is) c.requires.there editor.reference
           (with_host-readable g.C.CharSet.tests new r c.in-SetHost.host.in_rule) editor.editor (search rules) c.set_host.result c.set_host.ensures,
       search rules,
@@ -51,7 +51,7 @@ unfolding edited
 returns-in-SetPort g c =
     let editor = c.authority_editor-authority.ensures in
     let r = read_reference (g.T.Target.text c.args.owner.now) in
-    let new = option_map view_text c.in-SetPort.port in (
+    let new = option_map text_of c.in-SetPort.port in (
       authority_edited_on_ok c.authority_editor-authority.result c.set_port.new.self g.C.CharSet.tests g.met.C.CharSet.above_ascii (edit_step c.args.edit) (with_port new) (ap (λ edit. edited (edit_step edit) r) c.in-SetPort.is) c.requires.there editor.reference
           (with_port-readable g.C.CharSet.tests new r (view_in_rule c.in-SetPort.port)) editor.editor (search rules) c.set_port.result c.set_port.ensures.edit,
       search rules,

@@ -1,5 +1,5 @@
 use Rattle.std.proofs.Common.{rules, ap, sym, ◌∙◌}
-use Rattle.iref_component.specs.Components.{view_text}
+use Rattle.iref_component.specs.Components.{text_of}
 use Rattle.iref_grammar.specs.Reference.{read_reference}
 use Rattle.iref_grammar.proofs.PathTestLemmas.{is_path-segments}
 use Rattle.iref_path.specs.Paths.{path_text, path_value}
@@ -15,7 +15,7 @@ unfolding edited
 returns-in-LazyPush g c =
     let editor = c.path_editor-path.ensures in
     let r = read_reference (g.T.Target.text c.args.owner.now) in
-    let segment = view_text c.in-LazyPush.segment in (
+    let segment = text_of c.in-LazyPush.segment in (
       path_edited_on_ok c.lazy_push.new.self g.C.CharSet.tests g.met.C.CharSet.above_ascii (edit_step c.args.edit) (λ context. lazy_pushed context segment) (ap (λ edit. edited (edit_step edit) r) c.in-LazyPush.is) editor.reference
           (lazy_pushed-readable g.C.CharSet.tests segment r c.in-LazyPush.segment.in_rule) editor.editor (search rules) c.lazy_push.result c.lazy_push.ensures,
       search rules,
@@ -26,7 +26,7 @@ unfolding edited
 returns-in-Push g c =
     let editor = c.path_editor-path.ensures in
     let r = read_reference (g.T.Target.text c.args.owner.now) in
-    let segment = view_text c.in-Push.segment in (
+    let segment = text_of c.in-Push.segment in (
       path_edited_on_ok c.push.new.self g.C.CharSet.tests g.met.C.CharSet.above_ascii (edit_step c.args.edit) (λ context. pushed context segment) (ap (λ edit. edited (edit_step edit) r) c.in-Push.is) editor.reference
           (pushed-readable g.C.CharSet.tests segment r c.in-Push.segment.in_rule) editor.editor (search rules) c.push.result c.push.ensures,
       search rules,

@@ -1,6 +1,6 @@
 use Rattle.std.proofs.Common.{rules}
 use Rattle.iref_model.specs.AuthoritySteps.{with_host}
-use Rattle.iref_component.specs.Components.{view_text}
+use Rattle.iref_component.specs.Components.{text_of}
 use Rattle.iref_authority.specs.Authorities.{authority_buf_text}
 use Rattle.iref_authority.proofs.EditLemmas.{whole_edits}
 use Rattle.iref_authority.proofs.owner.AuthorityBuf.set_host.Goals as goal
@@ -8,4 +8,4 @@ use Rattle.iref_authority.proofs.owner.AuthorityBuf.set_host.Goals as goal
 pub returns : goal.returns
 returns g c =
     let whole = c.as_authority_mut.ensures in
-    search (rules, whole_edits c.set_host.result (authority_buf_text c.args.self.now) c.as_authority_mut.result c.set_host.new.self whole.bytes whole.start whole.end (with_host (view_text c.args.host)) c.set_host.ensures)
+    search (rules, whole_edits c.set_host.result (authority_buf_text c.args.self.now) c.as_authority_mut.result c.set_host.new.self whole.bytes whole.start whole.end (with_host (text_of c.args.host)) c.set_host.ensures)

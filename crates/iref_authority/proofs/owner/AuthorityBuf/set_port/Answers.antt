@@ -1,7 +1,7 @@
 use Rattle.std.proofs.Common.{rules}
 use Rattle.std.specs.Prelude.{option_map}
 use Rattle.iref_model.specs.AuthoritySteps.{with_port}
-use Rattle.iref_component.specs.Components.{view_text}
+use Rattle.iref_component.specs.Components.{text_of}
 use Rattle.iref_authority.specs.Authorities.{authority_buf_text}
 use Rattle.iref_authority.proofs.EditLemmas.{whole_edits}
 use Rattle.iref_authority.proofs.owner.AuthorityBuf.set_port.Goals as goal
@@ -9,4 +9,4 @@ use Rattle.iref_authority.proofs.owner.AuthorityBuf.set_port.Goals as goal
 pub returns-clause-edit : goal.returns-clause-edit
 returns-clause-edit g c =
     let whole = c.as_authority_mut.ensures in
-    search (rules, whole_edits c.set_port.result (authority_buf_text c.args.self.now) c.as_authority_mut.result c.set_port.new.self whole.bytes whole.start whole.end (with_port (option_map view_text c.args.port)) c.set_port.ensures.edit)
+    search (rules, whole_edits c.set_port.result (authority_buf_text c.args.self.now) c.as_authority_mut.result c.set_port.new.self whole.bytes whole.start whole.end (with_port (option_map text_of c.args.port)) c.set_port.ensures.edit)

@@ -1,5 +1,5 @@
 use Rattle.std.proofs.Common.{◌≡◌, map, fold}
-use Rattle.iref_component.specs.Components.{view_text}
+use Rattle.iref_component.specs.Components.{text_of}
 use Rattle.iref_model.specs.NormalList.{ends_in_dots}
 use Rattle.iref_model.specs.PathSteps.{followed}
 use Rattle.iref_path.specs.PathEdits.{path_mut_context, path_mut_value, IsSameEditor, BecomesPath}
@@ -10,6 +10,6 @@ invariant-loop-segment g l = record {
   can : (goal.iterator-loop-segment g).can_next l.segment-iterator;
   ends : (goal.iterator-loop-segment g).is_finite l.segment-iterator;
   same : IsSameEditor l.initial.self l.self;
-  path : BecomesPath l.initial.self l.self (fold (followed (path_mut_context l.initial.self)) (path_mut_value l.initial.self) (map view_text l.yielded));
-  dots : l.ends_in_dots ≡ ends_in_dots (map view_text l.yielded);
+  path : BecomesPath l.initial.self l.self (fold (followed (path_mut_context l.initial.self)) (path_mut_value l.initial.self) (map text_of l.yielded));
+  dots : l.ends_in_dots ≡ ends_in_dots (map text_of l.yielded);
 }

@@ -1,5 +1,5 @@
 use Rattle.std.proofs.Common.{rules, refl, sym, subst}
-use Rattle.iref_component.specs.Components.{view_text}
+use Rattle.iref_component.specs.Components.{text_of}
 use Rattle.iref_model.specs.PathSteps.{lazy_pushed}
 use Rattle.iref_path.specs.PathEdits.{path_mut_context, path_mut_value, BecomesPath}
 use Rattle.iref_path.proofs.ManyLemmas.{no_edit, next_edit, lazy_appended_none, lazy_appended_next}
@@ -18,9 +18,9 @@ pub loop-segment-preserved : goal.loop-segment-preserved
 loop-segment-preserved g c =
     let p = c.args.self.now in
     let goes = c.in-Some.ensures.goes.on c.loop-segment.invariant.ends in
-    let push = next_edit (λ context. lazy_pushed context (view_text c.in-Some.segment)) c.text-path.ensures.start_le_end c.text-path.ensures.in_bounds c.loop-segment.invariant.path c.in_ok-lazy_push.ensures.outcome in record {
+    let push = next_edit (λ context. lazy_pushed context (text_of c.in-Some.segment)) c.text-path.ensures.start_le_end c.text-path.ensures.in_bounds c.loop-segment.invariant.path c.in_ok-lazy_push.ensures.outcome in record {
       can = goes.0;
       ends = goes.1;
       same = search rules;
-      path = subst (BecomesPath p c.lazy_push.new.self) (sym (lazy_appended_next view_text (path_mut_context p) (path_mut_value p) c.loop-segment.yielded c.in-Some.segment)) push;
+      path = subst (BecomesPath p c.lazy_push.new.self) (sym (lazy_appended_next text_of (path_mut_context p) (path_mut_value p) c.loop-segment.yielded c.in-Some.segment)) push;
     }

@@ -1,0 +1,116 @@
+//! Texts of a rule, borrowed or owned: what views and owners share.
+ghost use Rattle.std.specs.Prelude.{◌≡◌, true, length, Some};
+ghost use Rattle.std.specs.Ordering.{on, as_partial_cmp, eq_by_cmp};
+ghost use Rattle.std.specs.Cmp.{on_total, on_equiv, po, partial_equiv_from_equiv, eq_by_cmp_equiv};
+ghost use Rattle.std.specs.Cmp.Rules.{comparing};
+ghost use Rattle.std.proofs.Common.{rules, ap, refl};
+ghost use Rattle.iref_grammar.specs.{is_empty};
+ghost use Rattle.iref_component.specs.{Makers.{ParsesUtf8}, Components.{text_of}};
+
+use crate::key::Key;
+use crate::rule::Rule;
+use crate::text::{RuleText, Storage, View};
+use iref_grammar::chars::CharSet;
+use std::cmp::Ordering;
+use std::fmt;
+use std::hash::{Hash, Hasher};
+use std::marker::PhantomData;
+
+impl<S: Storage, R: Rule, C: CharSet> RuleText<S, R, C> {
+    // The text of the rule, or what holds a text that is in none.
+    pub(crate) fn read(text: S) -> Result<Self, S>
+        ensures { ParsesUtf8 (R.rule C.tests) text_of (λ t. t) (S.bytes text) text result }
+    {
+        if R::accepts::<C>(text.text()) {
+            let rule = PhantomData;
+            Ok(RuleText { text, rule })
+        } else {
+            Err(text)
+        }
+    }
+
+    /// The view.
+    pub fn as_view(&self) -> View<'_, R, C>
+        ensures { text_of result ≡ text_of self.now }
+    {
+        View::new_unchecked(self.text.text())
+    }
+
+    /// How many bytes the text has.
+    pub fn len(&self) -> usize
+        ensures { result ≡ length (text_of self.now) }
+    {
+        self.text.text().len()
+    }
+
+    /// Whether the text is empty.
+    pub fn is_empty(&self) -> bool
+        ensures { result ≡ is_empty (text_of self.now) }
+    {
+        self.text.text().is_empty()
+    }
+}
+
+impl<S: Storage, R: Rule, C: CharSet> Ord for RuleText<S, R, C> {
+    ghost cmp = { on (λ v. R.Key.key (text_of v)) R.Key.order };
+
+    ghost total = { on_total (λ v. R.Key.key (text_of v)) R.Key.total };
+
+    ghost matches_partial_cmp = { Prim.search (comparing, rules) };
+
+    ghost matches_eq = { λ _ _. refl };
+
+    fn cmp(&self, other: &Self) -> Ordering {
+        R::Key::compare::<C>(self.text.text(), other.text.text())
+    }
+}
+
+impl<S: Storage, R: Rule, C: CharSet> PartialOrd for RuleText<S, R, C> {
+    ghost partial_cmp = { as_partial_cmp (on (λ v. R.Key.key (text_of v)) R.Key.order) };
+
+    ghost laws = { po (on_total (λ v. R.Key.key (text_of v)) R.Key.total) (λ _ _. refl) };
+
+    fn partial_cmp(&self, other: &Self) -> Option<Ordering> {
+        Some(self.cmp(other))
+    }
+}
+
+impl<S: Storage, R: Rule, C: CharSet> PartialEq for RuleText<S, R, C> {
+    ghost eq = { on (λ v. R.Key.key (text_of v)) (eq_by_cmp R.Key.order) };
+
+    ghost laws = { partial_equiv_from_equiv
+        (on_equiv (λ v. R.Key.key (text_of v)) (eq_by_cmp_equiv R.Key.total)) };
+
+    fn eq(&self, other: &Self) -> bool {
+        let (a, b) = (self.text.text(), other.text.text());
+        a == b || R::Key::is_equal::<C>(a, b)
+    }
+}
+
+impl<S: Storage, R: Rule, C: CharSet> Eq for RuleText<S, R, C> {
+    ghost laws = { on_equiv (λ v. R.Key.key (text_of v)) (eq_by_cmp_equiv R.Key.total) };
+}
+
+impl<S: Storage, R: Rule, C: CharSet> Hash for RuleText<S, R, C> {
+    ghost hash_input = { λ v. R.Key.fed (R.Key.key (text_of v)) };
+
+    ghost respects_eq = { λ _ _ same. ap R.Key.fed (R.Key.tells _ _ same) };
+
+    fn hash<H: Hasher>(&self, state: &mut H) {
+        R::Key::feed::<C, H>(self.text.text(), state);
+    }
+}
+
+impl<S: Storage, R: Rule, C: CharSet> fmt::Display for RuleText<S, R, C> {
+    ghost output = { λ view. Some (text_of view) };
+
+    fn fmt<W: fmt::Write>(&self, f: &mut fmt::Formatter<W>) -> fmt::Result {
+        f.write_str(self.text.text())
+    }
+}
+
+impl<S: Storage, R: Rule, C: CharSet> fmt::Debug for RuleText<S, R, C> {
+    fn fmt<W: fmt::Write>(&self, f: &mut fmt::Formatter<W>) -> fmt::Result {
+        fmt::Debug::fmt(&self.text.text(), f)
+    }
+}
