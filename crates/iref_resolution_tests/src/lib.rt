@@ -1,12 +1,12 @@
-//! Tests of strict resolution: rows of RFC 3986 section 5.4 and of relative, empty and guarded
-//! paths, texts that are refused, and texts of 1,000,000 segments.
+//! Tests of resolution, and of what undoes it: the references that lead from a base to a target, and
+//! what is left after a prefix.
 #![tactic(auto)]
 
 #[cfg(test)]
-mod calls;
+mod relative;
 #[cfg(test)]
-mod long_runs;
+mod resolution;
 #[cfg(test)]
-mod rows;
+mod runs;
 #[cfg(test)]
-mod tried;
+mod suffix;

@@ -1,5 +1,5 @@
 //! Tests of all types of texts: which texts they are, how they compare, what is printed of them and
-//! of errors, and that the names of each family are of it.
+//! of errors, that the names of each family are of it, and the parts that they are made of.
 #![tactic(auto)]
 
 #[cfg(test)]
@@ -12,6 +12,8 @@ mod components;
 mod errors;
 #[cfg(test)]
 mod families;
+#[cfg(test)]
+mod parts;
 #[cfg(test)]
 mod paths;
 #[cfg(test)]
