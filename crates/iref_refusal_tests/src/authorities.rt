@@ -1,5 +1,5 @@
 //! Authorities.
-use crate::edited::{Edited, Refused, are_done};
+use crate::edited::{Edited, Refused, are_done, done};
 use iref::uri::{Authority, AuthorityBuf, Host, Offsets, Port, UserInfo};
 use std::test::Fail;
 
@@ -24,17 +24,16 @@ impl Edited<Edit> for AuthorityBuf {
 
     fn edit(&mut self, edit: Edit) -> Result<(), Refused> {
         match edit {
-            Edit::Replace(text) => self.replace(Authority::new(text)?)?,
-            Edit::TryReplace(text) => self.try_replace(text)?,
-            Edit::SetUserInfo(text) => self.set_user_info(Some(UserInfo::new(text)?))?,
-            Edit::TrySetUserInfo(text) => self.try_set_user_info(Some(text))?,
-            Edit::SetHost(text) => self.set_host(Host::new(text)?)?,
-            Edit::TrySetHost(text) => self.try_set_host(text)?,
-            Edit::SetPort(text) => self.set_port(Some(Port::new(text)?))?,
-            Edit::TrySetPort(text) => self.try_set_port(Some(text))?,
-            Edit::SetPortU32(number) => self.set_port_u32(Some(number))?,
+            Edit::Replace(text) => done(self.replace(Authority::new(text)?)),
+            Edit::TryReplace(text) => done(self.try_replace(text)),
+            Edit::SetUserInfo(text) => done(self.set_user_info(Some(UserInfo::new(text)?))),
+            Edit::TrySetUserInfo(text) => done(self.try_set_user_info(Some(text))),
+            Edit::SetHost(text) => done(self.set_host(Host::new(text)?)),
+            Edit::TrySetHost(text) => done(self.try_set_host(text)),
+            Edit::SetPort(text) => done(self.set_port(Some(Port::new(text)?))),
+            Edit::TrySetPort(text) => done(self.try_set_port(Some(text))),
+            Edit::SetPortU32(number) => done(self.set_port_u32(Some(number))),
         }
-        Ok(())
     }
 
     fn text(&self) -> &str {

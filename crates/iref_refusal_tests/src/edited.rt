@@ -23,6 +23,14 @@ pub fn text_of(text: &str, alloc: Global) -> Result<String, AllocError> {
     }
 }
 
+/// The outcome of an edit, without what it answers or why it was refused.
+pub fn done<T: Drop, E: Drop>(outcome: Result<T, E>) -> Result<(), Refused> {
+    match outcome {
+        Ok(_) => Ok(()),
+        Err(_) => Err(Refused),
+    }
+}
+
 /// An owner with edits.
 pub trait Edited<E: Copy>: Sized {
     /// The owner of this text.

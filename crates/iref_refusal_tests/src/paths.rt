@@ -1,5 +1,5 @@
 //! Paths.
-use crate::edited::{Edited, Refused, are_done, text_of};
+use crate::edited::{Edited, Refused, are_done, done, text_of};
 use iref::uri::{Offsets, Path, PathBuf, Segment};
 use iref_checks::same::{holds, same_text};
 use std::test::Fail;
@@ -27,21 +27,18 @@ impl Edited<Edit> for PathBuf {
 
     fn edit(&mut self, edit: Edit) -> Result<(), Refused> {
         match edit {
-            Edit::LazyPush(text) => self.lazy_push(Segment::new(text)?)?,
-            Edit::TryLazyPush(text) => self.try_lazy_push(text)?,
-            Edit::Push(text) => self.push(Segment::new(text)?)?,
-            Edit::TryPush(text) => self.try_push(text)?,
-            Edit::Pop => self.pop()?,
-            Edit::TryPop => {
-                self.try_pop()?;
-            }
-            Edit::Replace(text) => self.replace(Path::new(text)?)?,
-            Edit::TryReplace(text) => self.try_replace(text)?,
-            Edit::Join(text) => self.join(Path::new(text)?)?,
-            Edit::TryJoin(text) => self.try_join(text)?,
-            Edit::Normalize => self.normalize()?,
+            Edit::LazyPush(text) => done(self.lazy_push(Segment::new(text)?)),
+            Edit::TryLazyPush(text) => done(self.try_lazy_push(text)),
+            Edit::Push(text) => done(self.push(Segment::new(text)?)),
+            Edit::TryPush(text) => done(self.try_push(text)),
+            Edit::Pop => done(self.pop()),
+            Edit::TryPop => done(self.try_pop()),
+            Edit::Replace(text) => done(self.replace(Path::new(text)?)),
+            Edit::TryReplace(text) => done(self.try_replace(text)),
+            Edit::Join(text) => done(self.join(Path::new(text)?)),
+            Edit::TryJoin(text) => done(self.try_join(text)),
+            Edit::Normalize => done(self.normalize()),
         }
-        Ok(())
     }
 
     fn text(&self) -> &str {

@@ -1,7 +1,8 @@
 //! References and URIs.
-use crate::edited::{Edited, Refused, are_done, text_of};
+use crate::edited::{Edited, Refused, are_done, done, text_of};
 use iref::uri::{Offsets, Scheme, Uri, UriBuf, UriRef, UriRefBuf};
 use iref_checks::same::{same, same_text};
+use std::alloc::Global;
 use std::test::Fail;
 
 /// An edit of a reference that no list of edits has.
@@ -23,15 +24,14 @@ impl Edited<Edit> for UriRefBuf {
 
     fn edit(&mut self, edit: Edit) -> Result<(), Refused> {
         match edit {
-            Edit::TrySetScheme(text) => self.try_set_scheme(Some(text))?,
-            Edit::TrySetAuthority(text) => self.try_set_authority(Some(text))?,
-            Edit::TrySetPath(text) => self.try_set_path(text)?,
-            Edit::TrySetQuery(text) => self.try_set_query(Some(text))?,
-            Edit::TrySetFragment(text) => self.try_set_fragment(Some(text))?,
-            Edit::Resolve(base) => self.resolve(Uri::new(base)?)?,
-            Edit::TryResolve(base) => self.try_resolve(base)?,
+            Edit::TrySetScheme(text) => done(self.try_set_scheme(Some(text))),
+            Edit::TrySetAuthority(text) => done(self.try_set_authority(Some(text))),
+            Edit::TrySetPath(text) => done(self.try_set_path(text)),
+            Edit::TrySetQuery(text) => done(self.try_set_query(Some(text))),
+            Edit::TrySetFragment(text) => done(self.try_set_fragment(Some(text))),
+            Edit::Resolve(base) => done(self.resolve(Uri::new(base)?)),
+            Edit::TryResolve(base) => done(self.try_resolve(base)),
         }
-        Ok(())
     }
 
     fn text(&self) -> &str {
@@ -80,10 +80,9 @@ impl Edited<Join> for UriBuf {
 
     fn edit(&mut self, edit: Join) -> Result<(), Refused> {
         match edit {
-            Join::View(text) => self.join(UriRef::new(text)?)?,
-            Join::Text(text) => self.try_join(text)?,
+            Join::View(text) => done(self.join(UriRef::new(text)?)),
+            Join::Text(text) => done(self.try_join(text)),
         }
-        Ok(())
     }
 
     fn text(&self) -> &str {
@@ -162,24 +161,32 @@ const INTO: &[(&str, Into, &str)] = &[
     ("./a:b", Into::TryWithScheme("scheme"), "scheme:./a:b"),
 ];
 
+// Fails unless the reference that was handed back has this text, and its components are there.
+fn is_as_it_was(reference: &UriRefBuf, text: &str, places: &Offsets) -> Result<(), Fail> {
+    same_text(reference.as_str(), text)?;
+    same(&reference.offsets(), places)
+}
+
+// The URI, at once or when the call is made again on what was handed back.
+fn uri_of(text: &str, into: Into, alloc: Global) -> Result<UriBuf, Fail> {
+    let reference = UriRefBuf::of_text(text_of(text, alloc)?)?;
+    let places = reference.offsets();
+    let reference = match into.uri(reference)? {
+        Ok(uri) => return Ok(uri),
+        Err(reference) => reference,
+    };
+    is_as_it_was(&reference, text, &places)?;
+    match into.uri(reference)? {
+        Ok(uri) => Ok(uri),
+        Err(_) => Err("refused twice")?,
+    }
+}
+
 #[test]
 fn a_reference_becomes_a_uri_or_comes_back(rt: HostRuntime) -> Result<(), Fail> {
     for row in INTO {
         let (text, into, want) = *row;
-        let reference = UriRefBuf::of_text(text_of(text, rt.alloc())?)?;
-        let places = reference.offsets();
-        let made = match into.uri(reference)? {
-            Ok(uri) => Ok(uri),
-            Err(reference) => {
-                same_text(reference.as_str(), text)?;
-                same(&reference.offsets(), &places)?;
-                into.uri(reference)?
-            }
-        };
-        let Ok(uri) = made else {
-            return Err("refused twice")?;
-        };
-        same_text(uri.as_str(), want)?;
+        same_text(uri_of(text, into, rt.alloc())?.as_str(), want)?;
     }
     Ok(())
 }
