@@ -3,6 +3,7 @@
 
 pub mod compact;
 pub mod edits;
+mod errors;
 mod shared;
 
 pub use iref_component::pct;
@@ -19,12 +20,13 @@ pub use uri::{InvalidUri, InvalidUriRef, Uri, UriBuf, UriError, UriRef, UriRefBu
 /// URIs and references of URIs, with their components (RFC 3986 sections 3 and 4.1).
 pub mod uri {
     pub use crate::edits::{EditError, apply_all, apply_all_uri};
+    pub use crate::errors::UriError;
     pub use crate::shared::{
         InvalidAuthority, InvalidFragment, InvalidHost, InvalidPath, InvalidPort, InvalidQuery,
         InvalidScheme, InvalidSegment, InvalidUserInfo, Memory, Offsets, PathContext, Port,
         PortBuf, PortError, Scheme, SchemeBuf, Steps, TryError, path_eq_counted,
     };
-    pub use iref_error::{InvalidUri, InvalidUriRef, UriError};
+    pub use iref_error::{InvalidUri, InvalidUriRef};
     use iref_grammar::chars::UriChars;
 
     /// A URI (RFC 3986 section 3): `http://a/b?q#f` and `urn:isbn:1`, but not `//a/b`, which has no
@@ -110,12 +112,13 @@ pub mod uri {
 /// IRIs and references of IRIs, with their components (RFC 3987 section 2.2).
 pub mod iri {
     pub use crate::edits::{EditError, apply_all, apply_all_uri};
+    pub use crate::errors::IriError;
     pub use crate::shared::{
         InvalidAuthority, InvalidFragment, InvalidHost, InvalidPath, InvalidPort, InvalidQuery,
         InvalidScheme, InvalidSegment, InvalidUserInfo, Memory, Offsets, PathContext, Port,
         PortBuf, PortError, Scheme, SchemeBuf, Steps, TryError, path_eq_counted,
     };
-    pub use iref_error::{InvalidIri, InvalidIriRef, IriError};
+    pub use iref_error::{InvalidIri, InvalidIriRef};
     use iref_grammar::chars::IriChars;
 
     /// An IRI (RFC 3987 section 2.2): `http://é/b` and each URI, but not `//é/b`, which has no

@@ -1,12 +1,9 @@
 //! The errors of every call: an input outside its rule, and want of memory.
 #![tactic(auto)]
 
-mod conversions;
 pub mod edit;
 pub mod invalid;
-pub mod iri;
 pub mod port;
-pub mod uri;
 
 pub use edit::{Memory, TryError};
 pub use invalid::{
@@ -14,6 +11,4 @@ pub use invalid::{
     InvalidQuery, InvalidScheme, InvalidSegment, InvalidUri, InvalidUri as InvalidIri,
     InvalidUriRef, InvalidUriRef as InvalidIriRef, InvalidUserInfo,
 };
-pub use iri::IriError;
 pub use port::PortError;
-pub use uri::UriError;

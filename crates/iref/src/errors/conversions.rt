@@ -1,14 +1,14 @@
 //! The error of each component becomes the error of its family, and its input is converted.
-ghost use Rattle.iref_error.specs.declared.iri.IriError.TheVariants as iri;
-ghost use Rattle.iref_error.specs.declared.uri.UriError.TheVariants as uri;
-ghost use Rattle.iref_error.specs.Held.{Becomes};
+ghost use Rattle.iref.specs.declared.errors.iri.IriError.TheVariants as iri;
+ghost use Rattle.iref.specs.declared.errors.uri.UriError.TheVariants as uri;
+ghost use Rattle.iref.specs.Errors.{Becomes};
 
-use crate::invalid::{
+use crate::errors::iri::IriError;
+use crate::errors::uri::UriError;
+use iref_error::{
     InvalidAuthority, InvalidFragment, InvalidHost, InvalidPath, InvalidPort, InvalidQuery,
     InvalidScheme, InvalidSegment, InvalidUri, InvalidUriRef, InvalidUserInfo,
 };
-use crate::iri::IriError;
-use crate::uri::UriError;
 
 impl<T, U: From<T>> From<InvalidUri<T>> for UriError<U> {
     ghost from_gives = { λ e. Becomes uri.Uri (λ x. record { 0 = x }) (U.from_gives e.0) };

@@ -1,6 +1,6 @@
 //! Which component of a URI was refused (RFC 3986 section 3).
 
-use crate::invalid::{
+use iref_error::{
     InvalidAuthority, InvalidFragment, InvalidHost, InvalidPath, InvalidPort, InvalidQuery,
     InvalidScheme, InvalidSegment, InvalidUri, InvalidUriRef, InvalidUserInfo,
 };

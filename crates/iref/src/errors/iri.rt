@@ -1,6 +1,6 @@
 //! Which component of an IRI was refused (RFC 3987 section 2.2).
 
-use crate::invalid::{
+use iref_error::{
     InvalidAuthority, InvalidFragment, InvalidHost, InvalidPath, InvalidPort, InvalidQuery,
     InvalidScheme, InvalidSegment, InvalidUri, InvalidUriRef, InvalidUserInfo,
 };

@@ -1,0 +1,8 @@
+//! The errors of all components in one type for each family.
+
+mod conversions;
+pub mod iri;
+pub mod uri;
+
+pub use iri::IriError;
+pub use uri::UriError;
