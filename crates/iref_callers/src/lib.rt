@@ -9,9 +9,6 @@ ghost use Rattle.iref.specs.{Components.{text_of}, Paths.{path_value}};
 use iref::uri::{Path, Segment};
 use std::alloc::{AllocError, Global};
 
-#[cfg(test)]
-mod tests;
-
 /// How many segments of the path are empty.
 pub fn empty_segment_count(path: Path<'_>) -> usize
     ensures { result ≡ count_by is_empty (path_value path.entry).segments }

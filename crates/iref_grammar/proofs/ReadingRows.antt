@@ -21,7 +21,10 @@ references =
     ∷ ("http://www.ics.uci.edu/pub/ietf/uri/#Related", Some "http", Some "www.ics.uci.edu", "/pub/ietf/uri/", None, Some "Related")
     ∷ ("//user:1@host.org:80/a//b?#", None, Some "user:1@host.org:80", "/a//b", Some "", Some "")
     ∷ ("scheme:////", Some "scheme", Some "", "//", None, None)
+    ∷ ("http://h/a?q#f", Some "http", Some "h", "/a", Some "q", Some "f")
     ∷ ("a/:", None, None, "a/:", None, None)
+    ∷ ("1/2:3", None, None, "1/2:3", None, None)
+    ∷ ("/é?ü#ö", None, None, "/é", Some "ü", Some "ö")
     ∷ ("a?b?c:d/#e", None, None, "a", Some "b?c:d/", Some "e")
     ∷ ("", None, None, "", None, None)
     ∷ []
@@ -70,6 +73,14 @@ authorities =
     ∷ ("[V1.x]", None, "[V1.x]", None)
     ∷ ("@h:", Some "", "h", Some "")
     ∷ ("a:b@c", Some "a:b", "c", None)
+    ∷ ("%75@h:1", Some "%75", "h", Some "1")
+    ∷ ("é@[::1]:8", Some "é", "[::1]", Some "8")
+    ∷ (":a:@[v1.:]:", Some ":a:", "[v1.:]", Some "")
+    ∷ ("[::1]", None, "[::1]", None)
+    ∷ ("h:080", None, "h", Some "080")
+    ∷ ("@", Some "", "", None)
+    ∷ (":", None, "", Some "")
+    ∷ ("@:", Some "", "", Some "")
     ∷ ("", None, "", None)
     ∷ []
 
@@ -91,7 +102,11 @@ paths =
     ∷ ("/", true, [])
     ∷ ("//", true, "" ∷ "" ∷ [])
     ∷ ("a", false, "a" ∷ [])
+    ∷ ("/a", true, "a" ∷ [])
     ∷ ("a/", false, "a" ∷ "" ∷ [])
+    ∷ ("/./", true, "." ∷ "" ∷ [])
+    ∷ ("é//..", false, "é" ∷ "" ∷ ".." ∷ [])
+    ∷ ("/a/../é", true, "a" ∷ ".." ∷ "é" ∷ [])
     ∷ ("/a//b", true, "a" ∷ "" ∷ "b" ∷ [])
     ∷ ("//a/b/foo//bar/", true, "" ∷ "a" ∷ "b" ∷ "foo" ∷ "" ∷ "bar" ∷ "" ∷ [])
     ∷ []

@@ -47,6 +47,12 @@ beginnings_of =
     ("http://example.org/a", "http://example.org/", "http://example.org/a", "http://example.org/a")
     ∷ ("http://example.org", "http://example.org", "http://example.org", "http://example.org")
     ∷ ("s:a/b?q#f", "s:a/", "s:a/b?q", "s:a/b")
+    ∷ ("s:a/b#f", "s:a/", "s:a/b", "s:a/b")
+    ∷ ("s:a?q#f", "s:", "s:a?q", "s:a")
+    ∷ ("http://h/a?q#f", "http://h/", "http://h/a?q", "http://h/a")
+    ∷ ("//h/a/b/?q/#f/", "//h/a/b/", "//h/a/b/?q/", "//h/a/b/")
+    ∷ ("//user:1@host.org:80/a//b?#", "//user:1@host.org:80/a//", "//user:1@host.org:80/a//b?", "//user:1@host.org:80/a//b")
+    ∷ ("a?q", "", "a?q", "a")
     ∷ ("a#", "", "a", "a")
     ∷ []
 

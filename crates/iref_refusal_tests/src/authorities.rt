@@ -9,12 +9,12 @@ enum Edit {
     Replace(&'static str),
     TryReplace(&'static str),
     SetUserInfo(&'static str),
-    TrySetUserInfo(&'static str),
+    TrySetUserInfo(Option<&'static str>),
     SetHost(&'static str),
     TrySetHost(&'static str),
     SetPort(&'static str),
-    TrySetPort(&'static str),
-    SetPortU32(u32),
+    TrySetPort(Option<&'static str>),
+    SetPortU32(Option<u32>),
 }
 
 impl Edited<Edit> for AuthorityBuf {
@@ -27,12 +27,12 @@ impl Edited<Edit> for AuthorityBuf {
             Edit::Replace(text) => done(self.replace(Authority::new(text)?)),
             Edit::TryReplace(text) => done(self.try_replace(text)),
             Edit::SetUserInfo(text) => done(self.set_user_info(Some(UserInfo::new(text)?))),
-            Edit::TrySetUserInfo(text) => done(self.try_set_user_info(Some(text))),
+            Edit::TrySetUserInfo(text) => done(self.try_set_user_info(text)),
             Edit::SetHost(text) => done(self.set_host(Host::new(text)?)),
             Edit::TrySetHost(text) => done(self.try_set_host(text)),
             Edit::SetPort(text) => done(self.set_port(Some(Port::new(text)?))),
-            Edit::TrySetPort(text) => done(self.try_set_port(Some(text))),
-            Edit::SetPortU32(number) => done(self.set_port_u32(Some(number))),
+            Edit::TrySetPort(text) => done(self.try_set_port(text)),
+            Edit::SetPortU32(number) => done(self.set_port_u32(number)),
         }
     }
 
@@ -46,15 +46,27 @@ impl Edited<Edit> for AuthorityBuf {
 }
 
 const EDITS: &[(&str, Edit, &str)] = &[
-    ("h", Edit::Replace("u@host:80"), "u@host:80"),
-    ("h", Edit::TryReplace("u@host:80"), "u@host:80"),
+    ("u@h:1", Edit::Replace(""), ""),
+    ("h", Edit::TryReplace("u@[::1]:80"), "u@[::1]:80"),
     ("h:1", Edit::SetUserInfo("user"), "user@h:1"),
-    ("u@h", Edit::TrySetUserInfo("user:1"), "user:1@h"),
+    ("", Edit::SetUserInfo("u"), "u@"),
+    ("u@h", Edit::TrySetUserInfo(Some("user:1")), "user:1@h"),
+    ("h", Edit::TrySetUserInfo(Some("")), "@h"),
+    ("h", Edit::TrySetUserInfo(None), "h"),
+    ("@h", Edit::TrySetUserInfo(None), "h"),
     ("u@h:1", Edit::SetHost("example"), "u@example:1"),
+    ("u@[::1]:80", Edit::SetHost(""), "u@:80"),
+    ("", Edit::SetHost("h"), "h"),
     ("u@h:1", Edit::TrySetHost("[::1]"), "u@[::1]:1"),
     ("u@h", Edit::SetPort("8080"), "u@h:8080"),
-    ("u@h:1", Edit::TrySetPort("8080"), "u@h:8080"),
-    ("h:1", Edit::SetPortU32(4_294_967_295), "h:4294967295"),
+    ("u@[::1]", Edit::SetPort(""), "u@[::1]:"),
+    ("u@h:1", Edit::TrySetPort(Some("8080")), "u@h:8080"),
+    ("[::1]:1", Edit::TrySetPort(Some("02")), "[::1]:02"),
+    ("h:", Edit::TrySetPort(None), "h"),
+    ("h", Edit::TrySetPort(None), "h"),
+    ("h:1", Edit::SetPortU32(Some(4_294_967_295)), "h:4294967295"),
+    ("u:p@h:1", Edit::SetPortU32(Some(0)), "u:p@h:0"),
+    ("h:80", Edit::SetPortU32(None), "h"),
 ];
 
 #[test]

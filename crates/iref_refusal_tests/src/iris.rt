@@ -49,3 +49,10 @@ fn iris_are_mapped_or_come_back(rt: HostRuntime) -> Result<(), Fail> {
     };
     same_text(uri.as_str(), "http://a/%C3%A9")
 }
+
+#[test]
+fn ascii_is_mapped_without_memory(rt: HostRuntime) -> Result<(), Fail> {
+    let iri = IriBuf::new(text_of("http://u@h:80/a/%c3%a9?q#f", rt.alloc())?)?;
+    let uri = iri.into_uri().or(Err("refused"))?;
+    same_text(uri.as_str(), "http://u@h:80/a/%c3%a9?q#f")
+}

@@ -6,6 +6,8 @@
 #[cfg(test)]
 mod authorities;
 #[cfg(test)]
+mod conversions;
+#[cfg(test)]
 mod edited;
 #[cfg(test)]
 mod editors;

@@ -123,11 +123,16 @@ enum Part {
     Normalized,
     Left,
     OfSegments,
+    Absolute,
     Authority,
     Query,
     Ipv4,
     Ipv6,
     Port,
+    PortOfU64,
+    PortOfU32,
+    PortOfU16,
+    PortOfU8,
     SchemeAlone,
 }
 
@@ -145,11 +150,18 @@ impl Made for Part {
             Part::OfSegments => {
                 PathBuf::from_segments(alloc, false, relative.segments())?.into_string()
             }
+            Part::Absolute => {
+                PathBuf::from_segments(alloc, true, Path::new("a/b/..")?.segments())?.into_string()
+            }
             Part::Authority => Authority::new("u@h:1")?.to_owned(alloc)?.into_string(),
             Part::Query => Query::new("q")?.to_owned(alloc)?.into_string(),
             Part::Ipv4 => HostBuf::from_ipv4(alloc, 0xC000_0201)?.into_string(),
             Part::Ipv6 => HostBuf::from_ipv6(alloc, 1 << 112)?.into_string(),
             Part::Port => PortBuf::from_u128(alloc, u128::MAX)?.into_string(),
+            Part::PortOfU64 => PortBuf::from_u64(alloc, u64::MAX)?.into_string(),
+            Part::PortOfU32 => PortBuf::from_u32(alloc, 1_000_000)?.into_string(),
+            Part::PortOfU16 => PortBuf::from_u16(alloc, 8080)?.into_string(),
+            Part::PortOfU8 => PortBuf::from_u8(alloc, 0)?.into_string(),
             Part::SchemeAlone => {
                 let scheme = SchemeBuf::new(text_of("scheme", alloc)?)?;
                 UriBuf::from_scheme(scheme)?.into_string()
@@ -165,11 +177,16 @@ fn parts_are_made(rt: HostRuntime) -> Result<(), Fail> {
         (Part::Normalized, "/b:c/d"),
         (Part::Left, "./b:c/d"),
         (Part::OfSegments, "./b:c/d/e"),
+        (Part::Absolute, "/a/"),
         (Part::Authority, "u@h:1"),
         (Part::Query, "q"),
         (Part::Ipv4, "192.0.2.1"),
         (Part::Ipv6, "[1::]"),
         (Part::Port, "340282366920938463463374607431768211455"),
+        (Part::PortOfU64, "18446744073709551615"),
+        (Part::PortOfU32, "1000000"),
+        (Part::PortOfU16, "8080"),
+        (Part::PortOfU8, "0"),
         (Part::SchemeAlone, "scheme:"),
     ];
     are_made(&rows, rt.alloc())

@@ -52,23 +52,74 @@ impl Edited<Edit> for PathBuf {
 
 const EDITS: &[(&str, Edit, &str)] = &[
     ("/a", Edit::LazyPush(".."), "/a/.."),
+    ("", Edit::LazyPush(""), "./"),
+    ("/", Edit::LazyPush(""), "/./"),
+    ("foo/", Edit::LazyPush(""), "foo//"),
+    ("a/b/c/", Edit::LazyPush("d"), "a/b/c//d"),
+    ("/", Edit::LazyPush("a:b"), "/a:b"),
     ("", Edit::TryLazyPush("a:b"), "./a:b"),
     ("/a", Edit::Push("segment"), "/a/segment"),
+    ("foo/bar", Edit::Push(".."), "foo/"),
+    ("foo/bar", Edit::Push("."), "foo/bar/"),
+    ("", Edit::Push(".."), "../"),
     ("/a/..", Edit::TryPush("b:c"), "/a/../b:c"),
     ("..", Edit::Pop, "../.."),
+    ("", Edit::Pop, ".."),
+    ("/", Edit::Pop, "/"),
+    ("/..", Edit::Pop, "/../.."),
+    ("foo", Edit::Pop, ""),
+    ("foo/bar/", Edit::Pop, "foo/bar"),
+    ("//", Edit::Pop, "/./"),
     ("../..", Edit::TryPop, "../../.."),
     ("a", Edit::Replace("//b"), "/.//b"),
+    ("a/b/c", Edit::Replace("foo:bar"), "./foo:bar"),
+    ("../", Edit::Replace("/foo:bar"), "/foo:bar"),
     ("a", Edit::TryReplace("1:2"), "./1:2"),
     ("/a/b", Edit::Join("../c/d/e/f"), "/a/c/d/e/f"),
+    ("/foo/bar", Edit::Join("../baz"), "/foo/baz"),
+    ("/a/b/.", Edit::Join("../"), "/a/b/"),
+    ("/a/.", Edit::Join(""), "/a/."),
     ("", Edit::TryJoin("a/b/../c"), "a/c"),
     ("a/../b:c/d", Edit::Normalize, "./b:c/d"),
-    ("../a/../b", Edit::Normalize, "../b"),
+    ("1:2", Edit::Normalize, "./1:2"),
+    ("1:2/.", Edit::Normalize, "./1:2/"),
+    ("..", Edit::Normalize, "../"),
     ("//b", Edit::Normalize, "/.//b"),
 ];
 
 #[test]
 fn edits_are_done_or_change_nothing(rt: HostRuntime) -> Result<(), Fail> {
     are_done::<Edit, PathBuf>(EDITS, rt.alloc())
+}
+
+/// A path, and its normal form, which is no longer; the first has more segments than there are
+/// places in the value.
+const SHORTENED: &[(&str, &str)] = &[
+    (
+        "a/b/b/b/b/b/b/b/b/b/b/b/b/b/b/b/b/b/b/b/b/b/b/b/b/b/b/b/b/b/b/b/b/b/b/b/b/b/b/b/b/..",
+        "a/b/b/b/b/b/b/b/b/b/b/b/b/b/b/b/b/b/b/b/b/b/b/b/b/b/b/b/b/b/b/b/b/b/b/b/b/b/b/b/",
+    ),
+    ("a/..//b", ".//b"),
+    ("/a/../", "/"),
+    ("/a/../..//b/.", "/.//b/"),
+    ("a/../..", "../"),
+    ("a/b/c/.", "a/b/c/"),
+    ("a/..", ""),
+    ("x/../1:2", "./1:2"),
+    ("../a/./../b", "../b"),
+];
+
+#[test]
+fn what_becomes_shorter_takes_no_memory(rt: HostRuntime) -> Result<(), Fail> {
+    for row in SHORTENED {
+        let (text, want) = *row;
+        let mut path = PathBuf::of_text(text_of(text, rt.alloc())?)?;
+        path.normalize()?;
+        same_text(path.as_str(), want)?;
+        path.clear();
+        same_text(path.as_str(), if want.starts_with('/') { "/" } else { "" })?;
+    }
+    Ok(())
 }
 
 /// A call that takes the segments of a path one by one.

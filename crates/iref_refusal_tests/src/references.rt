@@ -1,18 +1,26 @@
 //! References and URIs.
 use crate::edited::{Edited, Refused, are_done, done, text_of};
-use iref::uri::{Offsets, Scheme, Uri, UriBuf, UriRef, UriRefBuf};
+use iref::uri::{
+    Authority, Fragment, Offsets, Path, Query, Scheme, Uri, UriBuf, UriRef, UriRefBuf,
+};
 use iref_checks::same::{same, same_text};
 use std::alloc::Global;
 use std::test::Fail;
 
-/// An edit of a reference that no list of edits has.
+/// An edit of a reference, by a view or by its text; None takes the component away.
 #[derive(Clone, Copy)]
 enum Edit {
-    TrySetScheme(&'static str),
-    TrySetAuthority(&'static str),
+    SetScheme(&'static str),
+    SetAuthority(&'static str),
+    SetPath(&'static str),
+    SetNormalPath(&'static str),
+    SetQuery(&'static str),
+    SetFragment(&'static str),
+    TrySetScheme(Option<&'static str>),
+    TrySetAuthority(Option<&'static str>),
     TrySetPath(&'static str),
-    TrySetQuery(&'static str),
-    TrySetFragment(&'static str),
+    TrySetQuery(Option<&'static str>),
+    TrySetFragment(Option<&'static str>),
     Resolve(&'static str),
     TryResolve(&'static str),
 }
@@ -24,11 +32,17 @@ impl Edited<Edit> for UriRefBuf {
 
     fn edit(&mut self, edit: Edit) -> Result<(), Refused> {
         match edit {
-            Edit::TrySetScheme(text) => done(self.try_set_scheme(Some(text))),
-            Edit::TrySetAuthority(text) => done(self.try_set_authority(Some(text))),
+            Edit::SetScheme(text) => done(self.set_scheme(Some(Scheme::new(text)?))),
+            Edit::SetAuthority(text) => done(self.set_authority(Some(Authority::new(text)?))),
+            Edit::SetPath(text) => done(self.set_path(Path::new(text)?)),
+            Edit::SetNormalPath(text) => done(self.set_and_normalize_path(Path::new(text)?)),
+            Edit::SetQuery(text) => done(self.set_query(Some(Query::new(text)?))),
+            Edit::SetFragment(text) => done(self.set_fragment(Some(Fragment::new(text)?))),
+            Edit::TrySetScheme(text) => done(self.try_set_scheme(text)),
+            Edit::TrySetAuthority(text) => done(self.try_set_authority(text)),
             Edit::TrySetPath(text) => done(self.try_set_path(text)),
-            Edit::TrySetQuery(text) => done(self.try_set_query(Some(text))),
-            Edit::TrySetFragment(text) => done(self.try_set_fragment(Some(text))),
+            Edit::TrySetQuery(text) => done(self.try_set_query(text)),
+            Edit::TrySetFragment(text) => done(self.try_set_fragment(text)),
             Edit::Resolve(base) => done(self.resolve(Uri::new(base)?)),
             Edit::TryResolve(base) => done(self.try_resolve(base)),
         }
@@ -44,11 +58,62 @@ impl Edited<Edit> for UriRefBuf {
 }
 
 const EDITS: &[(&str, Edit, &str)] = &[
-    ("//h/a?q#f", Edit::TrySetScheme("http"), "http://h/a?q#f"),
-    ("s:?q#f", Edit::TrySetAuthority("h"), "s://h/?q#f"),
+    ("//h/a?q#f", Edit::SetScheme("http"), "http://h/a?q#f"),
+    (
+        "scheme:",
+        Edit::SetAuthority("%61uthority"),
+        "scheme://%61uthority/",
+    ),
+    (
+        "http:/.//foo/bar",
+        Edit::SetAuthority("h"),
+        "http://h/.//foo/bar",
+    ),
+    ("http://h:80/a?q", Edit::SetAuthority("i"), "http://i/a?q"),
+    (
+        "http:old/path",
+        Edit::SetPath("//foo/bar"),
+        "http:/.//foo/bar",
+    ),
+    ("x", Edit::SetPath("1:2"), "./1:2"),
+    ("http://h/a?q#f", Edit::SetPath("b/c"), "http://h/b/c?q#f"),
+    ("http://h/a", Edit::SetPath(""), "http://h"),
+    (
+        "http://h/x",
+        Edit::SetNormalPath("/a/../..//b/."),
+        "http://h//b/",
+    ),
+    ("x#f", Edit::SetNormalPath("a/../1:2"), "./1:2#f"),
+    ("s:x", Edit::SetNormalPath("a/..//b"), "s:.//b"),
+    ("a#f", Edit::SetQuery("x=y"), "a?x=y#f"),
+    ("a?x=y", Edit::SetFragment(""), "a?x=y#"),
+    (
+        "//h/a?q#f",
+        Edit::TrySetScheme(Some("http")),
+        "http://h/a?q#f",
+    ),
+    ("scheme:foo:bar", Edit::TrySetScheme(None), "./foo:bar"),
+    (
+        "s:?q#f",
+        Edit::TrySetAuthority(Some("u@h:8")),
+        "s://u@h:8/?q#f",
+    ),
+    (
+        "scheme://authority//path",
+        Edit::TrySetAuthority(None),
+        "scheme:/.//path",
+    ),
+    ("//h/a", Edit::TrySetAuthority(None), "/a"),
+    ("a", Edit::TrySetAuthority(None), "a"),
     ("a?q#f", Edit::TrySetPath("1:2"), "./1:2?q#f"),
-    ("s:a#f", Edit::TrySetQuery("q=?"), "s:a?q=?#f"),
-    ("s:a?q", Edit::TrySetFragment("fragment"), "s:a?q#fragment"),
+    ("s:a#f", Edit::TrySetQuery(Some("q=?")), "s:a?q=?#f"),
+    ("s:a?q#f", Edit::TrySetQuery(None), "s:a#f"),
+    (
+        "s:a?q",
+        Edit::TrySetFragment(Some("fragment")),
+        "s:a?q#fragment",
+    ),
+    ("s:a?q#f", Edit::TrySetFragment(None), "s:a?q"),
     (
         "../g#f",
         Edit::Resolve("http://a/b/c/d?q"),

@@ -1,6 +1,0 @@
-//! Tests of authorities edited in place: outside rows, and texts that are refused.
-
-mod edits;
-mod owners;
-mod parts;
-mod refusals;

@@ -1,4 +1,0 @@
-//! Tests of lists of edits, of references and of URIs, in both families.
-
-mod lists;
-mod single;
