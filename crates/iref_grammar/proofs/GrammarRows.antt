@@ -30,12 +30,21 @@ references =
     ∷ ("scheme:////", true, true, true, true)
     ∷ ("a+.-1:", true, true, true, true)
     ∷ ("http://", true, true, true, true)
+    ∷ ("s:", true, true, true, true)
+    ∷ ("urn:x", true, true, true, true)
+    ∷ ("http://a/b?c#d", true, true, true, true)
     ∷ ("", false, true, false, true)
+    ∷ ("/p", false, true, false, true)
+    ∷ ("?s:", false, true, false, true)
+    ∷ ("//h/?#", false, true, false, true)
     ∷ ("//user:1@host.org:80/a//b?#", false, true, false, true)
     ∷ ("//[V1.x]", false, true, false, true)
     ∷ ("a/:", false, true, false, true)
     ∷ ("a?b?c", false, true, false, true)
     ∷ ("http://a/é", false, false, true, true)
+    ∷ ("urn:é", false, false, true, true)
+    ∷ ("é", false, false, false, true)
+    ∷ ("//é/?#", false, false, false, true)
     ∷ ("1:2", false, false, false, false)
     ∷ ("+:", false, false, false, false)
     ∷ (":", false, false, false, false)
@@ -48,6 +57,7 @@ references =
     ∷ ("é:", false, false, false, false)
     ∷ ("a b", false, false, false, false)
     ∷ ("a#b#c", false, false, false, false)
+    ∷ ("#a#", false, false, false, false)
     ∷ ("a%", false, false, false, false)
     ∷ ("a%4", false, false, false, false)
     ∷ ("a%4g", false, false, false, false)
@@ -79,7 +89,7 @@ bytes_hold = refl
 
 -- ---- characters (RFC 3987 section 2.2)
 
--- the character; whether it may stand in an IRI's path, and in its query
+-- the character; whether it may stand in an IRI's path, its user info, host, segments and fragment; and in its query
 abbrev edges : List (ℕ × Bool × Bool)
 edges =
     (0x7F, false, false)
@@ -122,3 +132,11 @@ in_path_and_query bytes = (is_path iri_chars bytes, is_query iri_chars bytes)
 edges_hold : map (λ row. in_path_and_query (encode_utf8_all (row.0 ∷ []))) edges ≡ map (λ row. (row.1, row.2)) edges
 unfolding is_path is_query encode_utf8 is_utf8 chars owed_after is_reg_name_char is_user_info_char is_path_char is_fragment_char is_query_char
 edges_hold = refl
+
+abbrev in_others : Text → Bool × Bool × Bool × Bool
+in_others bytes = (is_user_info iri_chars bytes, is_host iri_chars bytes, is_segment iri_chars bytes, is_fragment iri_chars bytes)
+
+other_edges_hold : map (λ row. in_others (encode_utf8_all (row.0 ∷ []))) edges ≡ map (λ row. (row.1, row.1, row.1, row.1)) edges
+unfolding is_user_info is_host is_ip_literal is_ipvfuture ipv4_value ipv6_value is_reg_name is_segment is_fragment
+    encode_utf8 is_utf8 chars owed_after is_reg_name_char is_user_info_char is_path_char is_fragment_char is_query_char
+other_edges_hold = refl

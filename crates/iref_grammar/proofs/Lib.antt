@@ -32,6 +32,7 @@ pub mod WiderLemmas
 mod Rows
 mod GrammarRows
 mod HostRows
+mod TextRows
 mod ReadingRows
 pub mod GrammarSamples
 pub mod SplitLemmas

@@ -40,3 +40,4 @@ mod RelativeRows
 mod ReferenceRows
 mod NumberRows
 mod EditRows
+mod OrderRows
