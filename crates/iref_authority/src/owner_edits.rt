@@ -3,6 +3,7 @@ ghost use Rattle.std.specs.Prelude.{◌≡◌, OnOk, OnErr, IsOk, IsNone, length
 ghost use Rattle.std.specs.Option.{option_copied};
 ghost use Rattle.iref_grammar.specs.Grammar.{IsAuthority, IsHost, IsPort, IsUserInfo};
 ghost use Rattle.iref_grammar.specs.Authority.{read_authority};
+ghost use Rattle.iref_edit.proofs.PartLemmas.{whole_is_within};
 ghost use Rattle.iref_model.specs.AuthoritySteps.{with_user_info, with_host, with_port};
 ghost use Rattle.iref_model.specs.PortNumbers.{port_text};
 ghost use Rattle.iref_component.specs.{Components.{text_of}, Tries.{Tests, TestsIfSome}};
@@ -29,6 +30,8 @@ impl<C: CharSet> Target<AuthorityPart, C> for AuthorityBuf<C> {
     ghost stands = { λ text _. IsWhole text };
 
     ghost one_place = { λ text _. one_whole text };
+
+    ghost is_within = { λ _ _ _ _ stands. whole_is_within stands.0 stands.1 };
 
     fn alloc(&self) -> Global {
         self.text.alloc()

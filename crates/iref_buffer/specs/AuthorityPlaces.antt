@@ -1,11 +1,13 @@
 -- Where the authority of a reference stands, and the text with another one.
-use Rattle.std.specs.Prelude.{ℕ, ◌≡◌, ◌+◌, true, Some}
+use Rattle.std.specs.Prelude.{ℕ, ◌≡◌, ◌≤◌, ◌+◌, true, Some, IfSome, length}
+use Rattle.std.proofs.Common.{subst}
 use Rattle.std.specs.declared.ops.Range.{Range}
 use Rattle.std.proofs.Props.{props}
 use Rattle.iref_grammar.specs.Characters.{CharTests}
 use Rattle.iref_grammar.specs.Rules.{Text}
 use Rattle.iref_grammar.specs.Reference.{is_reference, read_reference}
 use Rattle.iref_grammar.specs.Places.{authority_mark, places_of, text_at}
+use Rattle.iref_grammar.proofs.PlaceLemmas.{IsInside, authority_inside}
 
 -- the authority of the reference that the text spells stands there
 abbrev pub IsAuthorityOf : CharTests → Text → ℕ → ℕ → Type 0
@@ -13,6 +15,9 @@ IsAuthorityOf set text start end = (is_reference set text ≡ true) × ((places_
 
 pub one_authority : (set : CharTests) (text : Text) (start end : ℕ) → IsProp (IsAuthorityOf set text start end)
 one_authority set text start end = hlevel props
+
+pub authority_is_within : (set : CharTests) (text : Text) (start end : ℕ) → IsAuthorityOf set text start end → (start ≤ end) × (end ≤ length text)
+authority_is_within set text start end stands = subst (λ place. IfSome place (IsInside text)) stands.1 (authority_inside text)
 
 -- what stands between the `//` and the path
 abbrev pub place_of_authority : Text → Range ℕ

@@ -1,5 +1,5 @@
 -- Where the path of a reference stands, and what is left of it without dot segments.
-use Rattle.std.specs.Prelude.{ℕ, ◌≡◌, true, [], is_some}
+use Rattle.std.specs.Prelude.{ℕ, ◌≡◌, ◌≤◌, true, [], is_some, length}
 use Rattle.std.proofs.Props.{props}
 use Rattle.iref_grammar.specs.declared.places.PathContext.{PathContext}
 use Rattle.iref_grammar.specs.Characters.{CharTests}
@@ -7,6 +7,7 @@ use Rattle.iref_grammar.specs.Rules.{Text}
 use Rattle.iref_grammar.specs.PathValue.{spell_path}
 use Rattle.iref_grammar.specs.Reference.{ReferenceValue, read_reference, is_reference}
 use Rattle.iref_grammar.specs.Places.{places_of}
+use Rattle.iref_grammar.proofs.PlaceLemmas.{path_inside}
 use Rattle.iref_model.specs.DotSegments.{RemovesDotSegments}
 
 -- the path of the reference that the text spells, in its context
@@ -17,6 +18,9 @@ IsPathOf set text context start end =
 
 pub one_path : (set : CharTests) (text : Text) (context : PathContext) (start end : ℕ) → IsProp (IsPathOf set text context start end)
 one_path set text context start end = hlevel props
+
+pub path_is_within : (set : CharTests) (text : Text) (context : PathContext) (start end : ℕ) → IsPathOf set text context start end → (start ≤ end) × (end ≤ length text)
+path_is_within set text context start end stands = (rw (stands.1, stands.2) (path_inside text).0, rw stands.2 (path_inside text).1)
 
 -- after an authority, an absolute path keeps what `remove_dot_segments` leaves of it (RFC 3986 section 5.2.4)
 abbrev pub RemovesDots : ReferenceValue → ReferenceValue → Type 0

@@ -27,6 +27,10 @@ slice-spliced text part start end a b = same_lists _ _ (search (rules, places)) 
 length-spliced : (bs text : List ℕ) (start end : ℕ) → start ≤ end → end ≤ length bs → length (splice bs start end text) + end ≡ length bs + start + length text
 length-spliced bs text start end h1 h2 = simp (length-append, length-take, length-drop) (omega arith)
 
+-- a part that is all of a text is within it
+pub whole_is_within : {start end n : ℕ} → start ≡ 0 → end ≡ n → (start ≤ end) × (end ≤ n)
+whole_is_within from to = (omega (arith, from), omega (arith, to))
+
 -- where the part stands then
 pub record StandsThere (new part : List ℕ) (start new_end : ℕ) : Type 0 where
   pub start_le_end : start ≤ new_end

@@ -101,6 +101,8 @@ impl<P: Part, C: CharSet, A: Allocator + Copy> Target<P, C> for Vec<u8, A> {
 
     ghost one_place = { one_place (P.test C.tests) };
 
+    ghost is_within = { λ _ _ _ _ stands. (stands.0, stands.1) };
+
     fn alloc(&self) -> A {
         *self.allocator()
     }

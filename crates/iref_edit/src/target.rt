@@ -40,6 +40,10 @@ pub trait Target<P: Part, C: CharSet> {
     ghost one_place: { (text : Text) (context : P.Context) (start end : ℕ)
         → IsProp (stands text context start end) };
 
+    /// It is within the bytes.
+    ghost is_within: { (text : Text) (context : P.Context) (start end : ℕ)
+        → stands text context start end → (start ≤ end) × (end ≤ length text) };
+
     /// The allocator of the text.
     fn alloc(&self) -> Self::Alloc;
 
@@ -47,9 +51,7 @@ pub trait Target<P: Part, C: CharSet> {
     fn part(&self, after: P::Context, at: Place) -> &str
         requires { stands (text self.now) after at.start at.end }
         ensures value { result.now ≡ part_at (text self.now) at }
-        ensures test { P.test C.tests after result.now ≡ true }
-        ensures start_le_end { at.start ≤ at.end }
-        ensures in_bounds { at.end ≤ length (text self.now) };
+        ensures test { P.test C.tests after result.now ≡ true };
 
     /// Changes the part, and answers where it ends then. All room is taken first: an `Err` changes
     /// nothing, and what makes the part no longer takes no memory.

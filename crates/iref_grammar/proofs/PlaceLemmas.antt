@@ -1,7 +1,8 @@
 -- Each component of a reference stands at its place in the spelling.
-use Rattle.std.proofs.Common.{◌≡◌, ℕ, ◌+◌, ◌-◌, [], ◌∷◌, ◌++◌, length, take, refl, sym, ◌∙◌, ap, arith, append_assoc}
-use Rattle.std.specs.Prelude.{codes, Option, Some, None, option_map}
+use Rattle.std.proofs.Common.{◌≡◌, ℕ, ◌+◌, ◌-◌, ◌≤◌, [], ◌∷◌, ◌++◌, length, take, refl, sym, ◌∙◌, ap, subst, arith, append_assoc}
+use Rattle.std.specs.Prelude.{codes, Option, Some, None, IfSome, option_map}
 use Rattle.std.specs.List.{slice_range}
+use Rattle.std.specs.declared.ops.Range.{Range}
 use Rattle.std.proofs.lemmas.List.{append-nil, length-append}
 use Rattle.std.proofs.Math.Seq.{take-append_seam, drop-append_seam}
 use Rattle.iref_grammar.specs.Rules.{Text}
@@ -36,6 +37,14 @@ part_after before mark None behind = refl
 part_after before mark (Some part) behind = ap (λ t. Some t)
     (text_between (before ++ ((mark ++ part) ++ behind)) (before ++ mark) part behind (length before + length mark)
     (append_assoc before mark (part ++ behind) ∙ ap (λ t. before ++ t) (sym (append_assoc mark part behind))) (sym (length-append before mark)))
+
+-- a place is within a text
+abbrev pub IsInside : Text → Range ℕ → Type 0
+IsInside text place = (place.start ≤ place.end) × (place.end ≤ length text)
+
+inside_after : (before mark : Text) (o : Option Text) (behind : Text) → IfSome (option_map (place_from (length before + length mark)) o) (IsInside (before ++ (then_part mark o ++ behind)))
+inside_after before mark None behind = tt
+inside_after before mark (Some part) behind = (omega arith, simp length-append (omega arith))
 
 -- the five parts of a spelling, grouped round the one that is looked at
 module _ (s a p q f : Text) where
@@ -96,6 +105,17 @@ module _ (r : ReferenceValue) where
       (sym (around_path scheme_part authority_part (spell_path r.path) query_part fragment_part))
       (path_begins scheme_part authority_part (spell_path r.path) query_part fragment_part)
 
+  path_inside_spelling : IsInside (spell r) (places_in r).path
+  unfolding spell places_in
+  path_inside_spelling = (omega arith, simp length-append (omega arith))
+
+  authority_inside_spelling : IfSome (places_in r).authority (IsInside (spell r))
+  unfolding spell places_in
+  authority_inside_spelling =
+      subst (λ t. IfSome (option_map (place_from (authority_mark r + 2)) (option_map spell_authority r.authority)) (IsInside t))
+      (sym (around_authority scheme_part authority_part (spell_path r.path) query_part fragment_part))
+      (inside_after scheme_part (codes "//") (option_map spell_authority r.authority) (spell_path r.path ++ query_part ++ fragment_part))
+
   query_stands : option_map (text_at (spell r)) (places_in r).query ≡ r.query
   unfolding spell places_in
   query_stands =
@@ -131,3 +151,11 @@ module _ (text : Text) where
   pub fragment_place : option_map (text_at text) (places_of text).fragment ≡ (read_reference text).fragment
   unfolding places_of
   fragment_place = ap (λ t. option_map (text_at t) (places_of text).fragment) (sym (read_reference-spelled text)) ∙ fragment_stands (read_reference text)
+
+  pub path_inside : IsInside text (places_of text).path
+  unfolding places_of
+  path_inside = subst (λ t. IsInside t (places_of text).path) (read_reference-spelled text) (path_inside_spelling (read_reference text))
+
+  pub authority_inside : IfSome (places_of text).authority (IsInside text)
+  unfolding places_of
+  authority_inside = subst (λ t. IfSome (places_of text).authority (IsInside t)) (read_reference-spelled text) (authority_inside_spelling (read_reference text))

@@ -35,7 +35,7 @@ pub struct PathMut<'a, C: CharSet, T: Target<PathPart, C> = Vec<u8>> {
     context: PathContext,
     place: Place,
     chars: PhantomData<C>,
-    ghost placed: { T.stands (T.text target.now) context place.start place.end } by { T.one_place (T.text target.now) context place.start place.end },
+    ghost placed: { T.stands (T.text target.now) context place.start place.end } by { T.one_place _ _ _ _ },
 }
 
 impl<'a, C: CharSet, T: Target<PathPart, C>> PathMut<'a, C, T> {
@@ -65,8 +65,6 @@ impl<'a, C: CharSet, T: Target<PathPart, C>> PathMut<'a, C, T> {
     fn text(&self) -> &str
         ensures value { result.now ≡ path_mut_text self.now }
         ensures test { is_path_after C.tests (path_mut_context self.now) result.now ≡ true }
-        ensures start_le_end { path_mut_start self.now ≤ path_mut_end self.now }
-        ensures in_bounds { path_mut_end self.now ≤ length (edited_bytes self.now) }
     {
         self.target.part(self.context, self.place)
     }

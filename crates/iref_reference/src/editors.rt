@@ -2,8 +2,9 @@
 ghost use Rattle.std.specs.{Prelude.{◌≡◌, true, is_some, IfSome}, Borrow.{sem, RestsIfNone}};
 ghost use Rattle.iref_grammar.specs.{Places.{places_of}, Reference.{context_of, is_reference}};
 ghost use Rattle.iref_path.specs.PathEdits.{Borrows, IsEditorOf};
-ghost use Rattle.iref_buffer.specs.PathPlaces.{IsPathOf, one_path};
+ghost use Rattle.iref_buffer.specs.PathPlaces.{IsPathOf, one_path, path_is_within};
 ghost use Rattle.iref_buffer.specs.AuthorityPlaces.{IsAuthorityOf, one_authority};
+ghost use Rattle.iref_buffer.specs.AuthorityPlaces.{authority_is_within};
 ghost use Rattle.iref_reference.specs.contracts.owner.ReferenceBuf.{the_row};
 ghost use Rattle.iref_reference.specs.References.{reference_buf_text, reference_buf_value};
 
@@ -29,6 +30,8 @@ impl<R: HeldRule, C: CharSet> Target<PathPart, C> for ReferenceBuf<R, C> {
     ghost stands = { IsPathOf C.tests };
 
     ghost one_place = { one_path C.tests };
+
+    ghost is_within = { path_is_within C.tests };
 
     fn alloc(&self) -> Global {
         Target::<PathPart, C>::alloc(&self.held)
@@ -57,6 +60,8 @@ impl<R: HeldRule, C: CharSet> Target<AuthorityPart, C> for ReferenceBuf<R, C> {
     ghost stands = { λ text _. IsAuthorityOf C.tests text };
 
     ghost one_place = { λ text _. one_authority C.tests text };
+
+    ghost is_within = { λ text _. authority_is_within C.tests text };
 
     fn alloc(&self) -> Global {
         Target::<AuthorityPart, C>::alloc(&self.held)

@@ -5,7 +5,7 @@ ghost use Rattle.iref_grammar.specs.Reference.{read_reference};
 ghost use Rattle.iref_model.specs.ComponentSteps.{with_authority_step};
 ghost use Rattle.iref_edit.specs.Changes.{IsNoLonger, IsWithin, changed, replaced};
 ghost use Rattle.iref_buffer.specs.AuthorityPlaces.{IsAuthorityOf, one_authority, authority_part};
-ghost use Rattle.iref_buffer.specs.AuthorityPlaces.{place_of_authority};
+ghost use Rattle.iref_buffer.specs.AuthorityPlaces.{authority_is_within, place_of_authority};
 
 use super::{Held, HeldRule, slice_at};
 use crate::lengths::Lengths;
@@ -25,6 +25,8 @@ impl<R: HeldRule, C: CharSet, A: Allocator + Copy> Target<AuthorityPart, C> for 
     ghost stands = { λ text _. IsAuthorityOf C.tests text };
 
     ghost one_place = { λ text _. one_authority C.tests text };
+
+    ghost is_within = { λ text _. authority_is_within C.tests text };
 
     fn alloc(&self) -> A {
         *self.text.allocator()

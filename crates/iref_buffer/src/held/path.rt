@@ -8,7 +8,7 @@ ghost use Rattle.iref_grammar.specs.{Tests.{is_path}, Texts.{is_empty}};
 ghost use Rattle.iref_model.specs.ComponentSteps.{with_path, with_new_normal_path};
 ghost use Rattle.iref_path_text.specs.Rewriting.{rewritten};
 ghost use Rattle.iref_buffer.specs.PathTexts.{path_text, with_path_read, with_path_text};
-ghost use Rattle.iref_buffer.specs.PathPlaces.{IsPathOf, one_path, RemovesDots};
+ghost use Rattle.iref_buffer.specs.PathPlaces.{IsPathOf, one_path, path_is_within, RemovesDots};
 
 use super::{Held, HeldRule};
 use crate::lengths::Lengths;
@@ -32,6 +32,8 @@ impl<R: HeldRule, C: CharSet, A: Allocator + Copy> Target<PathPart, C> for Held<
     ghost stands = { IsPathOf C.tests };
 
     ghost one_place = { one_path C.tests };
+
+    ghost is_within = { path_is_within C.tests };
 
     fn alloc(&self) -> A {
         *self.text.allocator()

@@ -1,6 +1,7 @@
 //! Edits of a path that owns its text (RFC 3986 sections 3.3 and 5.2.4).
 ghost use Rattle.std.specs.Prelude.{◌≡◌, ◌&&◌, ◌≤◌, not, length, IfOk, IsOk};
 ghost use Rattle.iref_component.specs.{alone, is_empty, spell_path, text_of};
+ghost use Rattle.iref_edit.proofs.PartLemmas.{whole_is_within};
 ghost use Rattle.iref_model.specs.PathSteps as step;
 ghost use Rattle.iref_path.specs.PathEdits.{Borrows, EditsOwner, IsEditorOf, SpellsPath};
 ghost use Rattle.iref_path.specs.Paths.{path_value, path_buf_text, path_buf_value};
@@ -29,6 +30,8 @@ impl<C: CharSet> Target<PathPart, C> for PathBuf<C> {
     ghost stands = { IsWholePath C.tests };
 
     ghost one_place = { one_whole_path C.tests };
+
+    ghost is_within = { λ _ _ _ _ stands. whole_is_within stands.0 stands.1 };
 
     fn alloc(&self) -> Global {
         self.text.alloc()

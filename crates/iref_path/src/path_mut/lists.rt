@@ -43,7 +43,6 @@ impl<C: CharSet, T: Target<PathPart, C>> PathMut<'_, C, T> {
         ensures edit { Appends I.next_gives segments (Becomes self.old self.new)
             step.lazy_appended step.lazy_appended result }
     {
-        let _path = self.text();
         for segment in segments {
             self.lazy_push(segment)?;
         }
@@ -62,7 +61,6 @@ impl<C: CharSet, T: Target<PathPart, C>> PathMut<'_, C, T> {
         ensures edit { Appends I.next_gives segments (Becomes self.old self.new)
             step.appended followed_each result }
     {
-        let _path = self.text();
         let mut ends_in_dots = false;
         for segment in segments {
             self.follow(segment)?;

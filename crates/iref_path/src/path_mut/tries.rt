@@ -47,7 +47,6 @@ impl<C: CharSet, T: Target<PathPart, C>> PathMut<'_, C, T> {
         ensures edit { TriesAppends C.tests I.next_gives segments (Becomes self.old self.new)
             step.lazy_appended step.lazy_appended result }
     {
-        let _path = self.text();
         for segment in segments {
             self.try_lazy_push(segment)?;
         }
@@ -77,7 +76,6 @@ impl<C: CharSet, T: Target<PathPart, C>> PathMut<'_, C, T> {
         ensures edit { TriesAppends C.tests I.next_gives segments (Becomes self.old self.new)
             step.appended followed_each result }
     {
-        let _path = self.text();
         let mut ends_in_dots = false;
         for segment in segments {
             self.try_follow(segment)?;

@@ -7,19 +7,21 @@ use Rattle.iref_path.proofs.ManyLemmas.{no_edit, next_edit, followed_next, dots_
 use Rattle.iref_path.proofs.path_mut.PathMut.append.Goals as goal
 
 pub loop-segment-init : goal.loop-segment-init
-loop-segment-init g c = record {
-  can = search rules;
-  ends = search rules;
-  same = refl;
-  path = no_edit c.args.self.now c.text-path.ensures.start_le_end c.text-path.ensures.in_bounds;
-  dots = refl;
-}
+loop-segment-init g c =
+    let inside = g.T.Target.is_within _ _ _ _ c.args.self.now.placed in record {
+      can = search rules;
+      ends = search rules;
+      same = refl;
+      path = no_edit c.args.self.now inside.0 inside.1;
+      dots = refl;
+    }
 
 pub loop-segment-preserved : goal.loop-segment-preserved
 loop-segment-preserved g c =
+    let inside = g.T.Target.is_within _ _ _ _ c.args.self.now.placed in
     let p = c.args.self.now in
     let goes = c.in-Some.ensures.goes.on c.loop-segment.invariant.ends in
-    let follow = next_edit (λ context path. followed context path (text_of c.in-Some.segment)) c.text-path.ensures.start_le_end c.text-path.ensures.in_bounds c.loop-segment.invariant.path c.in_ok-follow.ensures.outcome in record {
+    let follow = next_edit (λ context path. followed context path (text_of c.in-Some.segment)) inside.0 inside.1 c.loop-segment.invariant.path c.in_ok-follow.ensures.outcome in record {
       can = goes.0;
       ends = goes.1;
       same = search rules;
@@ -29,9 +31,10 @@ loop-segment-preserved g c =
 
 pub returns-in_ok-close-clause-edit : goal.returns-in_ok-close-clause-edit
 returns-in_ok-close-clause-edit g c =
+    let inside = g.T.Target.is_within _ _ _ _ c.args.self.now.placed in
     let p = c.args.self.now in
     let items = c.loop-segment.yielded in
-    let close = next_edit closed_path c.text-path.ensures.start_le_end c.text-path.ensures.in_bounds c.loop-segment.invariant.path c.in_ok-close.ensures.outcome in
+    let close = next_edit closed_path inside.0 inside.1 c.loop-segment.invariant.path c.in_ok-close.ensures.outcome in
     let dots = sym c.loop-segment.invariant.dots ∙ c.if-ends_in_dots.true in
     (items, search rules, subst (BecomesPath p c.close.new.self) (sym (appended_closed (path_mut_context p) (map text_of items) (path_mut_value p) dots)) close)
 

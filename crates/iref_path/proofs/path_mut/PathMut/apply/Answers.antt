@@ -8,6 +8,7 @@ use Rattle.iref_path.proofs.path_mut.PathMut.apply.Goals as goal
 
 pub returns-clause-edit : goal.returns-clause-edit
 returns-clause-edit g c = λ value steps.
+    let inside = g.T.Target.is_within _ _ _ _ c.args.self.now.placed in
     let old = edited_bytes c.args.self.now in
     let start = c.args.self.now.place.start in
     let e = c.in_ok-self.ensures in
@@ -20,6 +21,6 @@ returns-clause-edit g c = λ value steps.
         context = refl;
         from = refl;
         to = to;
-        read = ap read_path ((part_stands old _ _ start c.args.self.now.place.end _ c.text.ensures.start_le_end c.text.ensures.in_bounds bytes to).holds ∙ sym steps.spelled) ∙ steps.read;
+        read = ap read_path ((part_stands old _ _ start c.args.self.now.place.end _ inside.0 inside.1 bytes to).holds ∙ sym steps.spelled) ∙ steps.read;
       };
     }

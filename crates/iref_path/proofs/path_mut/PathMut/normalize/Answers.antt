@@ -24,6 +24,7 @@ rewrite-self-requires-clause-reads g c = λ _.
 
 pub returns-clause-edit : goal.returns-clause-edit
 returns-clause-edit g c =
+    let inside = g.T.Target.is_within _ _ _ _ c.args.self.now.placed in
     let old = edited_bytes c.args.self.now in
     let path = path_mut_text c.args.self.now in
     let context = path_mut_context c.args.self.now in
@@ -40,12 +41,13 @@ returns-clause-edit g c =
         context = refl;
         from = refl;
         to = to;
-        read = ap read_path (part_stands old _ _ start end _ c.text-path.ensures.start_le_end c.text-path.ensures.in_bounds bytes to).holds ∙ normalized-read context (read_path path).absolute path;
+        read = ap read_path (part_stands old _ _ start end _ inside.0 inside.1 bytes to).holds ∙ normalized-read context (read_path path).absolute path;
       };
     }
 
 pub returns-clause-dots : goal.returns-clause-dots
 returns-clause-dots g c = λ authority is_absolute.
+    let inside = g.T.Target.is_within _ _ _ _ c.args.self.now.placed in
     let old = edited_bytes c.args.self.now in
     let path = path_mut_text c.args.self.now in
     let context = path_mut_context c.args.self.now in
@@ -57,4 +59,4 @@ returns-clause-dots g c = λ authority is_absolute.
     let bytes = e.text ∙ ap (splice old start end) spelled in
     let to = e.end ∙ ap (λ t. start + length t) spelled in
     normal_dots context path _ authority is_absolute
-    (ap read_path (part_stands old _ _ start end _ c.text-path.ensures.start_le_end c.text-path.ensures.in_bounds bytes to).holds ∙ normalized-read context (read_path path).absolute path)
+    (ap read_path (part_stands old _ _ start end _ inside.0 inside.1 bytes to).holds ∙ normalized-read context (read_path path).absolute path)

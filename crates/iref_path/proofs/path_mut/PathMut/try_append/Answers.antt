@@ -10,20 +10,22 @@ use Rattle.iref_path.proofs.TryLemmas.{stops_after, tries_then}
 use Rattle.iref_path.proofs.path_mut.PathMut.try_append.Goals as goal
 
 pub loop-segment-init : goal.loop-segment-init
-loop-segment-init g c = record {
-  can = search rules;
-  ends = search rules;
-  same = refl;
-  segments = All-nil _;
-  path = no_edit c.args.self.now c.text-path.ensures.start_le_end c.text-path.ensures.in_bounds;
-  dots = refl;
-}
+loop-segment-init g c =
+    let inside = g.T.Target.is_within _ _ _ _ c.args.self.now.placed in record {
+      can = search rules;
+      ends = search rules;
+      same = refl;
+      segments = All-nil _;
+      path = no_edit c.args.self.now inside.0 inside.1;
+      dots = refl;
+    }
 
 pub loop-segment-preserved : goal.loop-segment-preserved
 loop-segment-preserved g c =
+    let inside = g.T.Target.is_within _ _ _ _ c.args.self.now.placed in
     let p = c.args.self.now in
     let goes = c.in-Some.ensures.goes.on c.loop-segment.invariant.ends in
-    let follow = next_edit (λ context path. followed context path c.in-Some.segment.now) c.text-path.ensures.start_le_end c.text-path.ensures.in_bounds c.loop-segment.invariant.path c.in_ok-try_follow.ensures.edit.outcome in record {
+    let follow = next_edit (λ context path. followed context path c.in-Some.segment.now) inside.0 inside.1 c.loop-segment.invariant.path c.in_ok-try_follow.ensures.edit.outcome in record {
       can = goes.0;
       ends = goes.1;
       same = search rules;
@@ -40,12 +42,13 @@ returns-in_err-try_follow-clause-edit g c =
 
 pub returns-then-ends_in_dots-clause-edit : goal.returns-then-ends_in_dots-clause-edit
 returns-then-ends_in_dots-clause-edit g c =
+    let inside = g.T.Target.is_within _ _ _ _ c.args.self.now.placed in
     let p = c.args.self.now in
     let items = c.loop-segment.yielded in
     let dots = sym c.loop-segment.invariant.dots ∙ c.if-ends_in_dots.true in
     let path = c.loop-segment.invariant.path in
     let held = MatchResult-weaker c.close.result c.close.ensures.outcome
-    (λ _ step. subst (BecomesPath p c.close.new.self) (sym (appended_closed (path_mut_context p) (map (λ item. item.now) items) (path_mut_value p) dots)) (next_edit closed_path c.text-path.ensures.start_le_end c.text-path.ensures.in_bounds path step))
+    (λ _ step. subst (BecomesPath p c.close.new.self) (sym (appended_closed (path_mut_context p) (map (λ item. item.now) items) (path_mut_value p) dots)) (next_edit closed_path inside.0 inside.1 path step))
     (λ _ same. refused_then path same) in
     rw c.or.ensures (tries_then g.I.Iterator.next_gives c.args.segments items (λ item. InUtf8 (IsSegment g.C.CharSet.tests) item.now) _ _ _ c.close.result (search rules) c.loop-segment.invariant.segments held)
 

@@ -10,19 +10,21 @@ use Rattle.iref_path.proofs.path_mut.PathMut.try_lazy_append.Goals as goal
 
 pub loop-segment-init : goal.loop-segment-init
 loop-segment-init g c =
+    let inside = g.T.Target.is_within _ _ _ _ c.args.self.now.placed in
     let p = c.args.self.now in record {
       can = search rules;
       ends = search rules;
       same = refl;
       segments = All-nil _;
-      path = subst (BecomesPath p p) (sym (lazy_appended_none (path_mut_context p) (path_mut_value p))) (no_edit p c.text-path.ensures.start_le_end c.text-path.ensures.in_bounds);
+      path = subst (BecomesPath p p) (sym (lazy_appended_none (path_mut_context p) (path_mut_value p))) (no_edit p inside.0 inside.1);
     }
 
 pub loop-segment-preserved : goal.loop-segment-preserved
 loop-segment-preserved g c =
+    let inside = g.T.Target.is_within _ _ _ _ c.args.self.now.placed in
     let p = c.args.self.now in
     let goes = c.in-Some.ensures.goes.on c.loop-segment.invariant.ends in
-    let push = next_edit (λ context. lazy_pushed context c.in-Some.segment.now) c.text-path.ensures.start_le_end c.text-path.ensures.in_bounds c.loop-segment.invariant.path c.in_ok-try_lazy_push.ensures.edit.outcome in record {
+    let push = next_edit (λ context. lazy_pushed context c.in-Some.segment.now) inside.0 inside.1 c.loop-segment.invariant.path c.in_ok-try_lazy_push.ensures.edit.outcome in record {
       can = goes.0;
       ends = goes.1;
       same = search rules;

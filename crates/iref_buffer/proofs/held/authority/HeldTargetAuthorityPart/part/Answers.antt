@@ -21,11 +21,3 @@ returns-clause-test g c =
     let text = c.args.self.now in
     let there = c.slice_at.ensures ∙ ap (λ t. slice_range t c.args.at.start c.args.at.end) c.as_str.ensures.text in
     ap (is_authority set) (there ∙ ap (text_at text) (place_is text _ c.requires.1)) ∙ authority_in_rule set g.met.C.CharSet.above_ascii text c.requires.0 (some_if_placed text _ c.requires.1)
-
-pub returns-clause-start_le_end : goal.returns-clause-start_le_end
-returns-clause-start_le_end g c =
-    (subst (λ o. IfSome o (IsWithin c.args.self.now)) c.requires.1 (places_within g.C.CharSet.tests g.met.C.CharSet.above_ascii c.args.self.now c.requires.0).authority).start_le_end
-
-pub returns-clause-in_bounds : goal.returns-clause-in_bounds
-returns-clause-in_bounds g c =
-    (subst (λ o. IfSome o (IsWithin c.args.self.now)) c.requires.1 (places_within g.C.CharSet.tests g.met.C.CharSet.above_ascii c.args.self.now c.requires.0).authority).end.0

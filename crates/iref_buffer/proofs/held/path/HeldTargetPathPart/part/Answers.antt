@@ -4,7 +4,6 @@ use Rattle.iref_grammar.specs.Reference.{read_reference, context_of}
 use Rattle.iref_grammar.specs.ComponentTexts.{ComponentTexts}
 use Rattle.iref_grammar.proofs.PlaceLemmas.{path_place}
 use Rattle.iref_path_text.specs.PathParts.{is_path_after}
-use Rattle.iref_buffer.proofs.HeldLemmas.{places_within}
 use Rattle.iref_buffer.proofs.PathPlaceLemmas.{path_stands}
 use Rattle.iref_buffer.proofs.held.path.HeldTargetPathPart.part.Goals as goal
 
@@ -18,11 +17,3 @@ returns-clause-test g c =
     let s = c.requires in
     let context : c.args.after ≡ context_of (read_reference c.args.self.now) = λ i. record { has_scheme = s.3 i; has_authority = s.4 i } in
     (λ i. is_path_after g.C.CharSet.tests (context i) (c.slices.ensures.texts i).path) ∙ (path_stands g.C.CharSet.tests g.met.C.CharSet.above_ascii c.args.self.now s.0).path_after
-
-pub returns-clause-start_le_end : goal.returns-clause-start_le_end
-returns-clause-start_le_end g c =
-    rw (c.requires.1, c.requires.2) (places_within g.C.CharSet.tests g.met.C.CharSet.above_ascii c.args.self.now c.requires.0).path.start_le_end
-
-pub returns-clause-in_bounds : goal.returns-clause-in_bounds
-returns-clause-in_bounds g c =
-    rw c.requires.2 (places_within g.C.CharSet.tests g.met.C.CharSet.above_ascii c.args.self.now c.requires.0).path.end.0
