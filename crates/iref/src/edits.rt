@@ -1,5 +1,5 @@
 //! Lists of edits, each one step on the components of an owner (RFC 3986 section 3).
-ghost use Rattle.std.specs.Prelude.{◌≡◌};
+ghost use Rattle.std.specs.Prelude.{◌≡◌, ⊤};
 
 mod lists;
 mod parts;
@@ -11,12 +11,13 @@ use iref_error::Memory;
 use iref_grammar::chars::CharSet;
 use iref_path::path::Path;
 pub use lists::{apply_all, apply_all_uri};
+use std::alloc::AllocError;
 use std::fmt;
 use thiserror::Error;
 
 /// An edit of a reference or of a URI: what is set in it, or what is done to its path. `Pop` leaves
 /// `//h/?q` of `//h/a?q` (RFC 3986 sections 3 and 5.2.4).
-#[derive_where(Clone, Copy, Debug)]
+#[derive_where(Copy, Debug)]
 pub enum Edit<'a, C: CharSet> {
     /// Replaces the scheme, or takes it away, which a URI refuses.
     SetScheme(Option<Scheme<'a>>),
@@ -52,6 +53,16 @@ pub enum Edit<'a, C: CharSet> {
     Clear,
     /// Puts the normal form of the path in its place.
     Normalize,
+}
+
+impl<C: CharSet> Clone for Edit<'_, C> {
+    ghost is_clone = { λ edit copy. copy ≡ edit };
+
+    ghost is_infallible = { λ _. ⊤ };
+
+    fn clone(&self) -> Result<Self, AllocError> {
+        Ok(*self)
+    }
 }
 
 /// Why an edit of a list cannot be done, as `SetHost` of `s:a` (RFC 3986 section 3.2).
