@@ -3,17 +3,11 @@
 #![tactic(auto)]
 
 #[cfg(test)]
-mod callers;
-#[cfg(test)]
 mod conversions;
 #[cfg(test)]
 mod editors;
 #[cfg(test)]
 mod long_runs;
-#[cfg(test)]
-mod mapped_pairs;
-#[cfg(test)]
-mod pairs;
 #[cfg(test)]
 mod path_callers;
 #[cfg(test)]

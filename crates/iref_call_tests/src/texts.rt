@@ -1,14 +1,8 @@
-//! Tests of all types of texts: which texts they are, how they compare, what is printed of them and
-//! of errors, and that the names of each family are of it.
+//! Tests of all types of texts: how many short texts each takes, that the names of each family are
+//! of it, what comes back of bytes that are no text, and what is printed.
 
-mod authorities;
 mod bytes;
-mod components;
 mod errors;
 mod families;
-mod paths;
 mod printed;
-mod references;
 mod short_texts;
-mod tried;
-mod wrong_rows;

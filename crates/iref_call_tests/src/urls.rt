@@ -1,5 +1,8 @@
 //! Conversions with URLs.
-use crate::callers::uri_of;
+ghost use Rattle.iref.specs.{Characters.{uri_chars}, Conversions.{SomeIfIn}, Grammar.{IsUri}};
+ghost use Rattle.iref.specs.{References.{reference_buf_text}, Rules.{InUtf8}};
+ghost use Rattle.iref_url.specs.Parts.{serialize};
+
 use iref::{Iri, IriRefBuf, Uri, UriBuf};
 use iref_checks::same::{holds, same, same_text, shows};
 use iref_url::{FromUrlError, ToUrl, TryFromUrl, Url};
@@ -36,6 +39,16 @@ fn keeps<T: TryFromUrl + Display + Drop>(
             same_text(url.as_str(), row.1)
         }
         Err(FromUrlError::Memory(_)) => holds(false, row.0),
+    }
+}
+
+// The URI of a URL, if its text is one.
+fn uri_of(url: Url) -> Option<UriBuf>
+    ensures { SomeIfIn (InUtf8 (IsUri uri_chars)) (serialize url) reference_buf_text result }
+{
+    match UriBuf::try_from_url(url) {
+        Ok(uri) => Some(uri),
+        Err(_) => None,
     }
 }
 

@@ -1,10 +1,11 @@
-//! Functions as a caller writes them, each proved from the public clauses of paths and segments
-//! alone.
+//! Functions as a caller writes them, each proved from the public clauses of `iref` alone.
 #![tactic(auto)]
 
 ghost use Rattle.std.specs.Prelude.{◌≡◌, IfOk, count_by, fold, length, map, max, reverse};
 ghost use Rattle.iref.specs.{Texts.{is_empty}, NormalList.{normal_segments}};
 ghost use Rattle.iref.specs.{Components.{text_of}, Paths.{path_value}};
+
+pub mod mapping;
 
 use iref::uri::{Path, Segment};
 use std::alloc::{AllocError, Global};

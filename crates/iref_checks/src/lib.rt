@@ -1,5 +1,4 @@
-//! What the crates of tests share: what a test asks of its values, and a hasher that records.
+//! What the crates of tests share: what a test asks of its values.
 #![tactic(auto)]
 
-pub mod recording;
 pub mod same;

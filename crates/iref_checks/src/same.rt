@@ -62,34 +62,3 @@ pub fn is_part<P: Display + Drop>(part: Option<P>, want: &str, alloc: Global) ->
         None => same_text("-", want),
     }
 }
-
-/// Fails unless the call is refused, and what it hands back is printed as the text.
-pub fn comes_back<T: Drop, E: Display + Drop>(
-    given: Result<T, E>,
-    text: &str,
-    alloc: Global,
-) -> Result<(), Fail> {
-    match given {
-        Ok(_) => holds(false, text),
-        Err(error) => shows(&error, text, alloc),
-    }
-}
-
-/// Fails unless there is a value or an error, as wanted, and it is printed as the text.
-pub fn gives<T: Display + Drop, E: Display + Drop>(
-    given: Result<T, E>,
-    text: &str,
-    want: bool,
-    alloc: Global,
-) -> Result<(), Fail> {
-    match given {
-        Ok(value) => {
-            holds(want, text)?;
-            shows(&value, text, alloc)
-        }
-        Err(error) => {
-            holds(!want, text)?;
-            shows(&error, text, alloc)
-        }
-    }
-}

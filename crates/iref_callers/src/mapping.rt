@@ -1,0 +1,25 @@
+//! References of IRIs, compared by their mappings.
+ghost use Rattle.iref.specs.Key.{are_alike};
+ghost use Rattle.iref.specs.References.{reference_buf_value, reference_value};
+ghost use Rattle.std.specs.Prelude.{◌≡◌, IfOk};
+
+use iref::{IriRef, IriRefBuf, Memory};
+use std::alloc::Global;
+
+/// Whether the mappings of two references are equal: exactly if the references are.
+pub fn are_mapped_alike(a: IriRef<'_>, b: IriRef<'_>, alloc: Global) -> Result<bool, Memory>
+    ensures { IfOk result (λ alike. alike
+        ≡ are_alike (reference_value a.entry) (reference_value b.entry)) }
+{
+    Ok(a.to_uri_ref(alloc)? == b.to_uri_ref(alloc)?)
+}
+
+/// The same of owners, which are taken.
+pub fn are_owners_mapped_alike(a: IriRefBuf, b: IriRefBuf) -> Result<bool, Memory>
+    ensures { IfOk result (λ alike. alike
+        ≡ are_alike (reference_buf_value a) (reference_buf_value b)) }
+{
+    let a = a.into_uri_ref().or(Err(Memory))?;
+    let b = b.into_uri_ref().or(Err(Memory))?;
+    Ok(a == b)
+}
