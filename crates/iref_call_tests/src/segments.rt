@@ -5,7 +5,7 @@ use iref_checks::same::{holds, is_part, same};
 use std::test::Fail;
 
 /// How many names stand before the last segment, that segment, and how many names are left.
-const RUNS: &[(u32, &str, usize)] = &[(16, "..", 15), (16, ".", 16), (17, ".", 17)];
+const RUNS: &[(u32, &str, usize)] = &[(16, "..", 15), (16, ".", 16), (17, "..", 16), (17, ".", 17)];
 
 #[test]
 fn runs_of_names(rt: HostRuntime) -> Result<(), Fail> {
