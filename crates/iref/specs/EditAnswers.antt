@@ -1,9 +1,11 @@
 -- What a list of edits leaves, and where it stops.
 use Rattle.std.specs.Prelude.{◌≡◌, ℕ, Bool, true, false, List, take, slice_get, Option, None, is_some, Result, MatchResult, Ok, Err, OnOk, OnErr, IsSomeAnd, if◌then◌else◌}
 use Rattle.iref_grammar.specs.Rules.{Text}
-use Rattle.iref_grammar.specs.Reference.{ReferenceValue, read_reference}
+use Rattle.iref_grammar.specs.Reference.{ReferenceValue, read_reference, spell}
 use Rattle.iref_model.specs.Edits as model
 use Rattle.iref_model.specs.Edits.{EditStep, SetScheme, SetAuthority, ReplaceAuthority, SetUserInfo, SetHost, SetPort, SetPortU32, SetQuery, SetFragment, LazyPush, Push, JoinPath, Pop, Clear, Normalize, Edited, edited, edited_uri, edited_from}
+use Rattle.iref_reference.specs.declared.owner.ReferenceBuf.{ReferenceBuf}
+use Rattle.iref_reference.specs.References.{reference_buf_text, reference_buf_value}
 use Rattle.iref.specs.declared.edits.EditError.{EditError}
 use Rattle.iref.specs.declared.edits.EditError.TheVariants.{NoAuthority, SchemeNeeded, Memory}
 
@@ -53,6 +55,11 @@ StopsAt edited edits old new i Memory =
 -- all edits are done, or those before the one that stops
 abbrev pub AppliesEdits : Edited → List EditStep → ReferenceValue → ReferenceValue → Result (Unit {0}) (ℕ × EditError) → Type 0
 AppliesEdits edited edits old new result = MatchResult result (λ _. AreDone edited edits old new) (λ stop. StopsAt edited edits old new stop.0 stop.1)
+
+-- the same of an owner, whose text is the spelling of what it holds then
+abbrev pub AppliesTo : {R C K : _} → Edited → List EditStep → ReferenceBuf R C K → ReferenceBuf R C K → Result (Unit {0}) (ℕ × EditError) → Type 0
+AppliesTo edited edits old new result =
+    AppliesEdits edited edits (reference_buf_value old) (reference_buf_value new) result × (reference_buf_text new ≡ spell (reference_buf_value new))
 
 -- an edit of the path alone
 abbrev pub is_path_edit : EditStep → Bool

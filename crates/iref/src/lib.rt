@@ -19,7 +19,7 @@ pub use uri::{InvalidUri, InvalidUriRef, Uri, UriBuf, UriError, UriRef, UriRefBu
 
 /// URIs and references of URIs, with their components (RFC 3986 sections 3 and 4.1).
 pub mod uri {
-    pub use crate::edits::{EditError, apply_all, apply_all_uri};
+    pub use crate::edits::{Applied, EditError, apply_all, apply_all_uri};
     pub use crate::errors::UriError;
     pub use crate::shared::{
         InvalidAuthority, InvalidFragment, InvalidHost, InvalidPath, InvalidPort, InvalidQuery,
@@ -111,7 +111,7 @@ pub mod uri {
 
 /// IRIs and references of IRIs, with their components (RFC 3987 section 2.2).
 pub mod iri {
-    pub use crate::edits::{EditError, apply_all, apply_all_uri};
+    pub use crate::edits::{Applied, EditError, apply_all, apply_all_uri};
     pub use crate::errors::IriError;
     pub use crate::shared::{
         InvalidAuthority, InvalidFragment, InvalidHost, InvalidPath, InvalidPort, InvalidQuery,

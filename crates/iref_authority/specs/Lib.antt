@@ -12,4 +12,5 @@ pub mod Authorities
 pub mod AuthorityParts
 pub mod AuthorityTexts
 pub mod AuthorityEdits
+pub mod Comparisons
 pub mod Rows

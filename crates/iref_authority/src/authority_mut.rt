@@ -37,7 +37,8 @@ pub struct AuthorityMut<'a, C: CharSet, T: Target<AuthorityPart, C> = Vec<u8>> {
     target: &'a mut T,
     place: Place,
     chars: PhantomData<C>,
-    ghost placed: { T.stands (T.text target.now) tt place.start place.end } by { T.one_place _ _ _ _ },
+    ghost placed: { T.stands (T.text target.now) tt
+        place.start place.end } by { T.one_place _ _ _ _ },
 }
 
 impl<'a, C: CharSet> AuthorityMut<'a, C, Vec<u8>> {

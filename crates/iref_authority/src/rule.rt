@@ -1,12 +1,10 @@
 //! The rule of authorities, and what they are compared by (RFC 3986 sections 3.2 and 6.2.2).
 ghost use Rattle.std.specs.Prelude.{◌≡◌, true};
 ghost use Rattle.iref_grammar.specs.Grammar.{IsAuthority};
-ghost use Rattle.iref_grammar.specs.Authority.{AuthorityValue, is_authority, read_authority};
+ghost use Rattle.iref_grammar.specs.Authority.{is_authority};
 ghost use Rattle.iref_grammar.proofs.AuthorityRuleLemmas.{Decides-is_authority};
 ghost use Rattle.iref_grammar.proofs.EmptyLemmas.{is_authority_empty};
-ghost use Rattle.iref_model.specs.AuthorityKey.{authority_key, authority_key_cmp, fed_authority};
-ghost use Rattle.iref_model.specs.AuthorityKey.{authority_keys_total};
-ghost use Rattle.iref_model.proofs.KeyOrderLemmas.{authority_keys_tell};
+ghost use Rattle.iref_authority.specs.Comparisons.{by_parts};
 
 use crate::parts::parts_of;
 use iref_component::key::Key;
@@ -54,19 +52,9 @@ impl AllowsEmpty for AuthorityRule {
 pub struct PartsKey;
 
 impl Key for PartsKey {
-    ghost Kept = { AuthorityValue };
-
-    ghost key = { λ text. authority_key (read_authority text) };
-
-    ghost order = { authority_key_cmp };
-
-    ghost fed = { fed_authority };
+    ghost comparison = { by_parts };
 
     ghost has_key = { λ tests text. is_authority tests text ≡ true };
-
-    ghost total = { authority_keys_total };
-
-    ghost tells = { authority_keys_tell };
 
     fn compare<C: CharSet>(a: &str, b: &str) -> Ordering {
         parts_of::<C>(a).cmp(&parts_of::<C>(b))

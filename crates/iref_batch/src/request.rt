@@ -121,7 +121,7 @@ pub fn read_request(line: &[u8]) -> Option<Request<'_>>
     } else if is_name(b"equal", verb) {
         two_fields(fields).map(|texts| Request::Equal(texts.0, texts.1))
     } else if is_name(b"edit", verb) {
-        some_fields(fields).map(|texts| Request::Edit(texts.0, texts.1))
+        some_fields(fields).map(|(text, edits)| Request::Edit(text, edits))
     } else if is_name(b"to-uri", verb) {
         one_field(fields).map(Request::ToUri)
     } else if is_name(b"compact", verb) {

@@ -71,9 +71,9 @@ pub base_of-read : (set : CharTests) → AreAboveAscii set → (text : Text) →
 unfolding is_reference
 base_of-read set above text h = readable_read set above (base_of (read_reference text)) (base_of-readable set (read_reference text) h)
 
-pub base_of-in_rule : (set : CharTests) → AreAboveAscii set → (text : Text) → is_reference set text ≡ true → is_reference set (spell (base_of (read_reference text))) ≡ true
+pub base_of_in_rule : (set : CharTests) → AreAboveAscii set → (text : Text) → is_reference set text ≡ true → is_reference set (spell (base_of (read_reference text))) ≡ true
 unfolding is_reference
-base_of-in_rule set above text h = ap (is_readable set) (base_of-read set above text h) ∙ base_of-readable set (read_reference text) h
+base_of_in_rule set above text h = ap (is_readable set) (base_of-read set above text h) ∙ base_of-readable set (read_reference text) h
 
 -- and has a scheme where the whole has one
 pub base_of-full : (set : CharTests) (text base : Text) → is_full_reference set text ≡ true → is_reference set base ≡ true → read_reference base ≡ base_of (read_reference text) → is_full_reference set base ≡ true
@@ -139,7 +139,7 @@ tail_utf8 set t components =
     (part_utf8 question_mark t.query question_utf8 (λ part e. IsUtf8-from_is_utf8 part (first_of_both _ _ (ap (none_or (is_query set)) (sym e) ∙ components.query))))
     (part_utf8 hash_sign t.fragment hash_utf8 (λ part e. IsUtf8-from_is_utf8 part (first_of_both _ _ (ap (none_or (is_fragment set)) (sym e) ∙ components.fragment))))
 
-pub base_of-in_full_rule : (set : CharTests) → AreAboveAscii set → (text : Text) → is_full_reference set text ≡ true → is_full_reference set (spell (base_of (read_reference text))) ≡ true
-base_of-in_full_rule set above text h =
+pub base_of_in_full_rule : (set : CharTests) → AreAboveAscii set → (text : Text) → is_full_reference set text ≡ true → is_full_reference set (spell (base_of (read_reference text))) ≡ true
+base_of_in_full_rule set above text h =
     let reference = reference_if_full set text h in
-    base_of-full set text (spell (base_of (read_reference text))) h (base_of-in_rule set above text reference) (base_of-read set above text reference)
+    base_of-full set text (spell (base_of (read_reference text))) h (base_of_in_rule set above text reference) (base_of-read set above text reference)

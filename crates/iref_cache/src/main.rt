@@ -17,6 +17,7 @@ enum Reply<'a> {
     Missing,
     NoUri,
     NoCommand,
+    NoMemory,
 }
 
 impl fmt::Display for Reply<'_> {
@@ -27,6 +28,7 @@ impl fmt::Display for Reply<'_> {
             Reply::Missing => f.write_str("-"),
             Reply::NoUri => f.write_str("error invalid"),
             Reply::NoCommand => f.write_str("error command"),
+            Reply::NoMemory => f.write_str("error memory"),
         }
     }
 }
@@ -68,10 +70,8 @@ fn answer<'a>(alloc: Global, cache: &'a mut Cache, line: &str) -> Result<Reply<'
 fn main(rt: HostRuntime) -> io::Result<()> {
     let mut cache = HashMap::new(rt.alloc());
     for line in rt.lines(rt.alloc()) {
-        match answer(rt.alloc(), &mut cache, line?.as_str()) {
-            Ok(answer) => println!(rt; "{answer}")?,
-            Err(Memory) => println!(rt; "error memory")?,
-        }
+        let reply = answer(rt.alloc(), &mut cache, line?.as_str()).unwrap_or(Reply::NoMemory);
+        println!(rt; "{reply}")?;
     }
     Ok(())
 }

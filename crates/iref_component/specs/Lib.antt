@@ -24,7 +24,7 @@ pub use Rattle.iref_model.specs.PathHash.{fed_path}
 pub use Rattle.iref_model.specs.PathKey.{path_key, path_key_cmp, path_keys_total}
 pub use Rattle.iref_model.specs.PortNumbers.{port_text}
 pub use Rattle.iref_model.specs.ReferenceParts.{base_of, host_of, port_of, user_info_of}
-pub use Rattle.iref_component.specs.Comparisons.{ComparesBy}
+pub use Rattle.iref_component.specs.Comparisons.{by_text, ComparesBy, Comparison}
 pub use Rattle.iref_component.specs.Components.{text_of}
 pub use Rattle.iref_component.specs.Makers.{Parses, ParsesUtf8}
 pub use Rattle.iref_component.specs.Ports.{port_number, signed_port_number}

@@ -52,9 +52,9 @@ impl<S: Storage, R: Rule, C: CharSet> RuleText<S, R, C> {
 }
 
 impl<S: Storage, R: Rule, C: CharSet> Ord for RuleText<S, R, C> {
-    ghost cmp = { on (λ v. R.Key.key (text_of v)) R.Key.order };
+    ghost cmp = { on (λ v. R.Key.comparison.key (text_of v)) R.Key.comparison.order };
 
-    ghost total = { on_total (λ v. R.Key.key (text_of v)) R.Key.total };
+    ghost total = { on_total (λ v. R.Key.comparison.key (text_of v)) R.Key.comparison.total };
 
     ghost matches_partial_cmp = { Prim.search (comparing, rules) };
 
@@ -66,9 +66,11 @@ impl<S: Storage, R: Rule, C: CharSet> Ord for RuleText<S, R, C> {
 }
 
 impl<S: Storage, R: Rule, C: CharSet> PartialOrd for RuleText<S, R, C> {
-    ghost partial_cmp = { as_partial_cmp (on (λ v. R.Key.key (text_of v)) R.Key.order) };
+    ghost partial_cmp = { as_partial_cmp (on (λ v. R.Key.comparison.key (text_of v))
+        R.Key.comparison.order) };
 
-    ghost laws = { po (on_total (λ v. R.Key.key (text_of v)) R.Key.total) (λ _ _. refl) };
+    ghost laws = { po (on_total (λ v. R.Key.comparison.key (text_of v)) R.Key.comparison.total)
+        (λ _ _. refl) };
 
     fn partial_cmp(&self, other: &Self) -> Option<Ordering> {
         Some(self.cmp(other))
@@ -76,10 +78,10 @@ impl<S: Storage, R: Rule, C: CharSet> PartialOrd for RuleText<S, R, C> {
 }
 
 impl<S: Storage, R: Rule, C: CharSet> PartialEq for RuleText<S, R, C> {
-    ghost eq = { on (λ v. R.Key.key (text_of v)) (eq_by_cmp R.Key.order) };
+    ghost eq = { on (λ v. R.Key.comparison.key (text_of v)) (eq_by_cmp R.Key.comparison.order) };
 
-    ghost laws = { partial_equiv_from_equiv
-        (on_equiv (λ v. R.Key.key (text_of v)) (eq_by_cmp_equiv R.Key.total)) };
+    ghost laws = { partial_equiv_from_equiv (on_equiv (λ v. R.Key.comparison.key (text_of v))
+        (eq_by_cmp_equiv R.Key.comparison.total)) };
 
     fn eq(&self, other: &Self) -> bool {
         let (a, b) = (self.text.text(), other.text.text());
@@ -88,13 +90,14 @@ impl<S: Storage, R: Rule, C: CharSet> PartialEq for RuleText<S, R, C> {
 }
 
 impl<S: Storage, R: Rule, C: CharSet> Eq for RuleText<S, R, C> {
-    ghost laws = { on_equiv (λ v. R.Key.key (text_of v)) (eq_by_cmp_equiv R.Key.total) };
+    ghost laws = { on_equiv (λ v. R.Key.comparison.key (text_of v))
+        (eq_by_cmp_equiv R.Key.comparison.total) };
 }
 
 impl<S: Storage, R: Rule, C: CharSet> Hash for RuleText<S, R, C> {
-    ghost hash_input = { λ v. R.Key.fed (R.Key.key (text_of v)) };
+    ghost hash_input = { λ v. R.Key.comparison.fed (R.Key.comparison.key (text_of v)) };
 
-    ghost respects_eq = { λ _ _ same. ap R.Key.fed (R.Key.tells _ _ same) };
+    ghost respects_eq = { λ _ _ same. ap R.Key.comparison.fed (R.Key.comparison.tells _ _ same) };
 
     fn hash<H: Hasher>(&self, state: &mut H) {
         R::Key::feed::<C, H>(self.text.text(), state);

@@ -9,6 +9,6 @@ use std::hash::Hash;
 /// The texts of a rule, borrowed or owned, compare by its key: in `==`, in order and in what a
 /// hasher is fed.
 pub fn texts_compare_by_key<S: Storage, R: Rule, C: CharSet>()
-    ensures { ComparesBy (λ v. R.Key.key (text_of v)) R.Key.order R.Key.fed
-        ⟦<RuleText<S, R, C> as Ord>⟧ ⟦<RuleText<S, R, C> as Hash>⟧ }
+    ensures { ComparesBy (λ v. R.Key.comparison.key (text_of v)) R.Key.comparison.order
+        R.Key.comparison.fed ⟦<RuleText<S, R, C> as Ord>⟧ ⟦<RuleText<S, R, C> as Hash>⟧ }
 {}

@@ -1,52 +1,36 @@
 //! What texts are compared by, in their order, and fed to hashers (RFC 3986 section 6.2.2).
-ghost use Rattle.std.specs.{Prelude.{◌≡◌, fold, true}, Str.{str_to_ascii_lowercase}};
-ghost use Rattle.std.specs.{Hash.{HashWrites}, Ordering.{is_eq, eq_by_cmp}, Cmp.{IsTotalOrder}};
-ghost use Rattle.std.specs.Cmp.Lexicographic.{nat_list_cmp_total};
-ghost use Rattle.std.specs.declared.cmp.Ordering.{Ordering};
+ghost use Rattle.std.specs.{Prelude.{◌≡◌, fold}, Ordering.{eq_by_cmp}};
+ghost use Rattle.std.specs.Str.{str_to_ascii_lowercase};
 ghost use Rattle.percent_encoding.specs.Percent.{percent_decode};
-ghost use Rattle.iref_grammar.specs.{CharTests, Text, text_order, fed_bytes};
-ghost use Rattle.iref_model.proofs.KeyOrderLemmas.{texts_tell};
+ghost use Rattle.iref_grammar.specs.{CharTests, Text, fed_bytes, text_order};
+ghost use Rattle.iref_component.specs.Comparisons.{Comparison, by_text};
 
 use iref_grammar::chars::CharSet;
-use iref_parse::decoded::{decoded_cmp, decoded_eq, hash_decoded};
+use iref_parse::decoded::{decoded_cmp, hash_decoded};
 use std::cmp::Ordering;
 use std::hash::Hasher;
 
 /// What texts are compared by (RFC 3986 section 6.2.2): of schemes their lower case, so that `HTTP`
 /// and `http` have one key.
 pub trait Key {
-    /// What keys are.
-    ghost Kept: { Type 0 };
-
-    /// The key of a text.
-    ghost key: { Text → Self.Kept };
-
-    /// The order of the keys.
-    ghost order: { Self.Kept → Self.Kept → Ordering };
-
-    /// What a hasher is fed of a key.
-    ghost fed: { Self.Kept → HashWrites };
+    /// The key of a text, the order of keys, and what a hasher is fed of one.
+    ghost comparison: { Comparison };
 
     /// The texts that have a key: all, where an impl does not say.
     ghost has_key: { CharTests → Text → Type 0 } = { λ _ _. Unit {0} };
-
-    /// The order is total.
-    ghost total: { IsTotalOrder order };
-
-    /// Keys that the order does not tell apart are the same.
-    ghost tells: { (k l : Self.Kept) → is_eq (Self.order k l) ≡ true → k ≡ l };
 
     /// The order of the keys.
     fn compare<C: CharSet>(a: &str, b: &str) -> Ordering
         requires a { has_key C.tests a.now }
         requires b { has_key C.tests b.now }
-        ensures { result ≡ order (key a.now) (key b.now) };
+        ensures { result ≡ comparison.order (comparison.key a.now) (comparison.key b.now) };
 
     /// Whether the keys are the same.
     fn is_equal<C: CharSet>(a: &str, b: &str) -> bool
         requires a { has_key C.tests a.now }
         requires b { has_key C.tests b.now }
-        ensures { result ≡ eq_by_cmp order (key a.now) (key b.now) }
+        ensures { result
+            ≡ eq_by_cmp comparison.order (comparison.key a.now) (comparison.key b.now) }
     {
         Self::compare::<C>(a, b).is_eq()
     }
@@ -54,7 +38,7 @@ pub trait Key {
     /// Feeds the key to the hasher.
     fn feed<C: CharSet, H: Hasher>(text: &str, state: &mut H)
         requires { has_key C.tests text.now }
-        ensures { state.new ≡ fold H.write state.old (fed (key text.now)) };
+        ensures { state.new ≡ fold H.write state.old (comparison.fed (comparison.key text.now)) };
 }
 
 /// The bytes that a text decodes to (RFC 3986 section 2.1): each escape is one byte, so `%41` and
@@ -62,24 +46,10 @@ pub trait Key {
 pub struct DecodedBytes;
 
 impl Key for DecodedBytes {
-    ghost Kept = { Text };
-
-    ghost key = { percent_decode };
-
-    ghost order = { text_order };
-
-    ghost fed = { fed_bytes };
-
-    ghost total = { nat_list_cmp_total };
-
-    ghost tells = { texts_tell };
+    ghost comparison = { by_text percent_decode };
 
     fn compare<C: CharSet>(a: &str, b: &str) -> Ordering {
         decoded_cmp(a, b)
-    }
-
-    fn is_equal<C: CharSet>(a: &str, b: &str) -> bool {
-        decoded_eq(a, b)
     }
 
     fn feed<C: CharSet, H: Hasher>(text: &str, state: &mut H) {
@@ -91,17 +61,7 @@ impl Key for DecodedBytes {
 pub struct LowerCase;
 
 impl Key for LowerCase {
-    ghost Kept = { Text };
-
-    ghost key = { str_to_ascii_lowercase };
-
-    ghost order = { text_order };
-
-    ghost fed = { fed_bytes };
-
-    ghost total = { nat_list_cmp_total };
-
-    ghost tells = { texts_tell };
+    ghost comparison = { by_text str_to_ascii_lowercase };
 
     fn compare<C: CharSet>(a: &str, b: &str) -> Ordering {
         let a = a.bytes().map(|byte| byte.to_ascii_lowercase());
@@ -122,17 +82,7 @@ impl Key for LowerCase {
 pub struct SameText;
 
 impl Key for SameText {
-    ghost Kept = { Text };
-
-    ghost key = { λ text. text };
-
-    ghost order = { text_order };
-
-    ghost fed = { fed_bytes };
-
-    ghost total = { nat_list_cmp_total };
-
-    ghost tells = { texts_tell };
+    ghost comparison = { by_text (λ text. text) };
 
     fn compare<C: CharSet>(a: &str, b: &str) -> Ordering {
         a.cmp(b)
@@ -149,7 +99,7 @@ impl Key for SameText {
 
 /// What decoded bytes are as a key.
 pub fn decoded_bytes_are_a_key()
-    ensures key { ⟦<DecodedBytes as Key>⟧.key ≡ percent_decode }
-    ensures order { ⟦<DecodedBytes as Key>⟧.order ≡ text_order }
-    ensures fed { ⟦<DecodedBytes as Key>⟧.fed ≡ fed_bytes }
+    ensures key { ⟦<DecodedBytes as Key>⟧.comparison.key ≡ percent_decode }
+    ensures order { ⟦<DecodedBytes as Key>⟧.comparison.order ≡ text_order }
+    ensures fed { ⟦<DecodedBytes as Key>⟧.comparison.fed ≡ fed_bytes }
 {}

@@ -313,12 +313,12 @@ impl Escaped for PctStrRule {
 /// schemes by their text in lower case (section 6.2.2.1), and ports by their text: `80` is not
 /// `080`.
 pub fn rules_have_their_keys()
-    ensures scheme { ⟦<<SchemeRule as Rule>::Key as Key>⟧.key ≡ str_to_ascii_lowercase }
-    ensures user_info { ⟦<<UserInfoRule as Rule>::Key as Key>⟧.key ≡ percent_decode }
-    ensures host { ⟦<<HostRule as Rule>::Key as Key>⟧.key ≡ percent_decode }
-    ensures port { ⟦<<PortRule as Rule>::Key as Key>⟧.key ≡ (λ text. text) }
-    ensures segment { ⟦<<SegmentRule as Rule>::Key as Key>⟧.key ≡ percent_decode }
-    ensures query { ⟦<<QueryRule as Rule>::Key as Key>⟧.key ≡ percent_decode }
-    ensures fragment { ⟦<<FragmentRule as Rule>::Key as Key>⟧.key ≡ percent_decode }
-    ensures pct_str { ⟦<<PctStrRule as Rule>::Key as Key>⟧.key ≡ percent_decode }
+    ensures scheme { ⟦<<SchemeRule as Rule>::Key as Key>⟧.comparison.key ≡ str_to_ascii_lowercase }
+    ensures user_info { ⟦<<UserInfoRule as Rule>::Key as Key>⟧.comparison.key ≡ percent_decode }
+    ensures host { ⟦<<HostRule as Rule>::Key as Key>⟧.comparison.key ≡ percent_decode }
+    ensures port { ⟦<<PortRule as Rule>::Key as Key>⟧.comparison.key ≡ (λ text. text) }
+    ensures segment { ⟦<<SegmentRule as Rule>::Key as Key>⟧.comparison.key ≡ percent_decode }
+    ensures query { ⟦<<QueryRule as Rule>::Key as Key>⟧.comparison.key ≡ percent_decode }
+    ensures fragment { ⟦<<FragmentRule as Rule>::Key as Key>⟧.comparison.key ≡ percent_decode }
+    ensures pct_str { ⟦<<PctStrRule as Rule>::Key as Key>⟧.comparison.key ≡ percent_decode }
 {}

@@ -28,9 +28,9 @@ pub is_segment-dot_dot : (set : CharTests) → is_segment set (codes "..") ≡ t
 unfolding is_segment is_utf8 chars encode_utf8 owed_after is_path_char is_user_info_char is_reg_name_char
 is_segment-dot_dot set = refl
 
-pub is_path-empty : (set : CharTests) → is_path set [] ≡ true
+pub is_path_empty : (set : CharTests) → is_path set [] ≡ true
 unfolding is_path is_utf8 chars
-is_path-empty set = refl
+is_path_empty set = refl
 
 pub is_path-root : (set : CharTests) → is_path set (codes "/") ≡ true
 unfolding is_path is_utf8 chars encode_utf8 owed_after is_path_char is_user_info_char is_reg_name_char
@@ -79,7 +79,7 @@ path_joined set above front back h k =
 
 pub ruleset short_segments = (is_segment-empty, is_segment-dot, is_segment-dot_dot)
 
-pub ruleset empty_paths = (is_path-empty, is_path-root)
+pub ruleset empty_paths = (is_path_empty, is_path-root)
 
 pub is_path-guard : (set : CharTests) → AreAboveAscii set → is_path set (codes "/./") ≡ true
 is_path-guard set above =

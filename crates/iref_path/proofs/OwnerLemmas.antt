@@ -28,14 +28,14 @@ module _ {C : _} {T : _} {A : _} {c : _} {t : _} {a : _} {D : _} {d : _} (before
   owner_edited step result e = MatchResult-weaker result e.outcome (λ _ becomes. owner_becomes step becomes) (λ _ unchanged. same ∙ unchanged.bytes ∙ of.bytes_are)
 
   pub owner_appended : {W R U K w r k u : _} {S V E : Type 0} (steps : S → Option (RuleText W R U K w r k u) → S → Type 0) (s : S) (whole first : ListStep) (result : Result V E)
-      → Appends steps s (Becomes old new) whole first result → Appends steps s (OwnerBecomes before after) whole first result
+      → Appends whole first steps s (Becomes old new) result → Appends whole first steps s (OwnerBecomes before after) result
   owner_appended steps s whole first result e =
       MatchResult-weaker result e
       (λ _ taken. (taken.0, taken.1, owner_becomes (λ context. whole context (map text_of taken.0)) taken.2))
       (λ _ taken. (taken.0, taken.1, taken.2, owner_becomes (λ context. first context (map text_of taken.0)) taken.3))
 
   pub owner_tried : {S V : Type 0} (set : CharTests) (steps : S → Option (Bor Text) → S → Type 0) (s : S) (whole first : ListStep) (result : Result V (TryError (InvalidSegment (Bor Text))))
-      → TriesAppends set steps s (Becomes old new) whole first result → TriesAppends set steps s (OwnerBecomes before after) whole first result
+      → TriesAppends whole first set steps s (Becomes old new) result → TriesAppends whole first set steps s (OwnerBecomes before after) result
   owner_tried set steps s whole first result e =
       tries_weaker steps s (λ item. InUtf8 (IsSegment set) item.now) (λ item error. error.0 ≡ item) result
       (λ items. owner_becomes (λ context. whole context (map (λ item. item.now) items)))

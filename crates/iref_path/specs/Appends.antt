@@ -46,12 +46,12 @@ abbrev pub followed_each : ListStep
 followed_each context items path = fold (followed context) path items
 
 -- an edit by segments: at Ok all were taken, and the path becomes what the first makes of their texts; at an Err some were, and it becomes what the second makes of theirs
-abbrev pub Appends : {T R C K t r k c : _} {S V E : Type 0} → (S → Option (RuleText T R C K t r k c) → S → Type 0) → S → (PathStep → Type 0) → ListStep → ListStep → Result V E → Type 0
-Appends steps s Becomes whole before result =
+abbrev pub Appends : {T R C K t r k c : _} {S V E : Type 0} → ListStep → ListStep → (S → Option (RuleText T R C K t r k c) → S → Type 0) → S → (PathStep → Type 0) → Result V E → Type 0
+Appends whole before steps s Becomes result =
     MatchResult result (λ _. TakesAll steps s (λ items. Becomes (λ context. whole context (map text_of items)))) (λ _. TakesFirst steps s (λ items. Becomes (λ context. before context (map text_of items))))
 
 -- the same by texts that are tested first: an error hands back the first that is not a segment, and is of want of memory otherwise
-abbrev pub TriesAppends : {S V : Type 0} → CharTests → (S → Option (Bor Text) → S → Type 0) → S → (PathStep → Type 0) → ListStep → ListStep → Result V (TryError (InvalidSegment (Bor Text))) → Type 0
-TriesAppends set steps s Becomes whole before result =
+abbrev pub TriesAppends : {S V : Type 0} → ListStep → ListStep → CharTests → (S → Option (Bor Text) → S → Type 0) → S → (PathStep → Type 0) → Result V (TryError (InvalidSegment (Bor Text))) → Type 0
+TriesAppends whole before set steps s Becomes result =
     TriesItems steps s (λ item. InUtf8 (IsSegment set) item.now) (λ item error. error.0 ≡ item)
     (λ items. Becomes (λ context. whole context (map (λ item. item.now) items))) (λ items. Becomes (λ context. before context (map (λ item. item.now) items))) result

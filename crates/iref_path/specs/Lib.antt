@@ -20,6 +20,7 @@ pub use Rattle.iref_path_text.specs.Unread.{HasRoomFor, steps_count, steps_taken
 pub use Rattle.iref_path.specs.NormalPaths.{normal_segments_left}
 pub use Rattle.iref_path.specs.Paths.{ParsesPath, ParsesPathBuf, path_buf_text, path_buf_value, path_text, path_value, segments_left}
 pub use Rattle.iref_path.specs.Suffixes.{SpellsSuffix}
+pub mod Comparisons
 pub mod Paths
 pub mod NormalPaths
 pub mod Suffixes

@@ -80,6 +80,10 @@ Becomes old new step = BecomesPath old new (step (path_mut_context old) (path_mu
 abbrev pub Edits : {C : _} {T : _} {A : _} {c : _} {t : _} {a : _} {V E : Type 0} → PathStep → PathMut C T A c t a → PathMut C T A c t a → Result V E → Type 0
 Edits step old new result = EditsTo (step (path_mut_context old) (path_mut_value old)) old new result
 
+-- the same by a step that takes something besides the path, as a segment
+abbrev pub EditsBy : {C : _} {T : _} {A : _} {c : _} {t : _} {a : _} {X V E : Type 0} → (PathContext → X → PathValue → PathValue) → X → PathMut C T A c t a → PathMut C T A c t a → Result V E → Type 0
+EditsBy step by = Edits (λ context. step context by)
+
 -- the owner's text spells this path, and is read as it
 pub record SpellsPath {C : _} {c : _} (p : PathBuf C c) (value : PathValue) : Type 0 where
   pub text : path_buf_text p ≡ spell_path value

@@ -35,14 +35,15 @@ pub struct PathMut<'a, C: CharSet, T: Target<PathPart, C> = Vec<u8>> {
     context: PathContext,
     place: Place,
     chars: PhantomData<C>,
-    ghost placed: { T.stands (T.text target.now) context place.start place.end } by { T.one_place _ _ _ _ },
+    ghost placed: { T.stands (T.text target.now) context
+        place.start place.end } by { T.one_place _ _ _ _ },
 }
 
 impl<'a, C: CharSet, T: Target<PathPart, C>> PathMut<'a, C, T> {
     ghost use Rattle.iref_path.specs.PathEdits.{Borrows, edited_bytes, path_mut_context};
     ghost use Rattle.iref_path.specs.PathEdits.{path_mut_start, path_mut_end, path_mut_text};
     ghost use Rattle.iref_path.specs.PathEdits.{path_mut_value, IsEditorOf, IsSameEditor};
-    ghost use Rattle.iref_path.specs.PathEdits.{BecomesPath, Edits, EditsTo};
+    ghost use Rattle.iref_path.specs.PathEdits.{BecomesPath, Edits, EditsBy, EditsTo};
 
     /// The path in a range of what holds it, with what stands before it.
     pub fn of_target(target: &'a mut T, context: PathContext, range: Range<usize>) -> Self
@@ -132,8 +133,7 @@ impl<'a, C: CharSet, T: Target<PathPart, C>> PathMut<'a, C, T> {
 
     /// Puts a segment at the end, as it is: `.` and `..` too.
     pub fn lazy_push(&mut self, segment: Segment<'_, C>) -> Result<(), Memory>
-        ensures { Edits (λ context. step.lazy_pushed context (text_of segment.entry))
-            self.old self.new result }
+        ensures { EditsBy step.lazy_pushed (text_of segment.entry) self.old self.new result }
     {
         let step = steps::lazy_pushed::<C>(self.context, self.text(), segment.as_str());
         self.apply(step)
@@ -142,8 +142,7 @@ impl<'a, C: CharSet, T: Target<PathPart, C>> PathMut<'a, C, T> {
     /// Follows a segment: `.` closes the path, `..` takes the last segment away and closes it, and
     /// any other is put at the end (RFC 3986 section 5.2.4). `foo/bar` and `..` give `foo/`.
     pub fn push(&mut self, segment: Segment<'_, C>) -> Result<(), Memory>
-        ensures { Edits (λ context. step.pushed context (text_of segment.entry))
-            self.old self.new result }
+        ensures { EditsBy step.pushed (text_of segment.entry) self.old self.new result }
     {
         let step = steps::pushed::<C>(self.context, self.text(), segment.as_str());
         self.apply(step)
@@ -172,8 +171,7 @@ impl<'a, C: CharSet, T: Target<PathPart, C>> PathMut<'a, C, T> {
 
     /// Puts another path in its place, after what guards it there.
     pub fn replace(&mut self, path: Path<'_, C>) -> Result<(), Memory>
-        ensures { Edits (λ context. step.replaced context (path_value path.entry))
-            self.old self.new result }
+        ensures { EditsBy step.replaced (path_value path.entry) self.old self.new result }
     {
         let step = steps::replaced::<C>(self.context, self.text(), path.as_str());
         self.apply(step)

@@ -1,9 +1,8 @@
 //! The rule of paths, and what its texts are compared by (RFC 3986 sections 3.3 and 6.2.2).
-ghost use Rattle.iref_component.specs.{IsPath, PathValue, read_path, is_path, fed_path, path_key};
-ghost use Rattle.iref_component.specs.{path_key_cmp, path_keys_total};
+ghost use Rattle.iref_component.specs.{IsPath, is_path};
 ghost use Rattle.iref_grammar.proofs.PathTextLemmas.{Decides-is_path};
-ghost use Rattle.iref_model.proofs.PathGrammarLemmas.{is_path-empty};
-ghost use Rattle.iref_model.proofs.KeyOrderLemmas.{path_keys_tell};
+ghost use Rattle.iref_model.proofs.PathGrammarLemmas.{is_path_empty};
+ghost use Rattle.iref_path.specs.Comparisons.{by_segments};
 
 use iref_component::key::Key;
 use iref_component::rule::{AllowsEmpty, Refuses, Rule};
@@ -23,9 +22,9 @@ impl Rule for PathRule {
 
     ghost rule = { IsPath };
 
-    ghost test = { is_path };
-
     ghost decided = { Decides-is_path };
+
+    ghost test = { is_path };
 
     fn accepts<C: CharSet>(text: &str) -> bool {
         scan::is_path::<C>(text)
@@ -45,24 +44,14 @@ impl<T> Refuses<T> for PathRule {
 }
 
 impl AllowsEmpty for PathRule {
-    ghost allows_empty = { is_path-empty };
+    ghost allows_empty = { is_path_empty };
 }
 
 /// Whether the path is absolute, and its normal segments as decoded bytes.
 pub struct PathKey;
 
 impl Key for PathKey {
-    ghost Kept = { PathValue };
-
-    ghost key = { λ text. path_key (read_path text) };
-
-    ghost tells = { path_keys_tell };
-
-    ghost order = { path_key_cmp };
-
-    ghost total = { path_keys_total };
-
-    ghost fed = { fed_path };
+    ghost comparison = { by_segments };
 
     fn compare<C: CharSet>(a: &str, b: &str) -> Ordering {
         path_texts_cmp(a, b)

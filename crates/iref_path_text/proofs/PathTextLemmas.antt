@@ -17,7 +17,7 @@ use Rattle.iref_model.specs.Guard.{guarded_list, with_dot}
 use Rattle.iref_model.specs.PathFunctions.{directory_text, parent}
 use Rattle.iref_model.proofs.PieceLemmas.{pieces-append, some_piece}
 use Rattle.iref_path_text.proofs.SlashLemmas.{LacksSlash, pieces-whole}
-use Rattle.iref_model.proofs.PathGrammarLemmas.{path_parts, path_joined, is_path-empty}
+use Rattle.iref_model.proofs.PathGrammarLemmas.{path_parts, path_joined, is_path_empty}
 use Rattle.iref_model.proofs.DirectoryLemmas.{all_but_last-snoc}
 use Rattle.iref_model.proofs.FitsLemmas.{is_empty-snoc}
 
@@ -49,7 +49,7 @@ is_path-directory set above text k within here h =
     let whole : text ≡ take k text ++ slash ∷ drop (suc k) text =
     sym (take-append-drop k text) ∙ ap (λ xs. take k text ++ xs) (drop-cons text k 0 within) ∙ (λ i. take k text ++ here i ∷ drop (suc k) text) in
     let parts = path_parts set above (take k text) (drop (suc k) text) (ap (is_path set) (sym whole) ∙ h) in
-    ap (is_path set) upto ∙ path_joined set above (take k text) [] parts.0 (is_path-empty set)
+    ap (is_path set) upto ∙ path_joined set above (take k text) [] parts.0 (is_path_empty set)
 
 -- ---- the parent
 

@@ -46,16 +46,28 @@ impl<'a> UriRef<'a, UriChars> {
     }
 }
 
+impl<'a, R: HeldRule, C: CharSet> Reference<'a, R, C> {
+    // The same text in another rule, or over other characters, if it is in it.
+    fn converted<S: HeldRule, D: CharSet>(&self) -> Option<Reference<'a, S, D>>
+        ensures { SomeIfIn (InUtf8 (S.rule D.tests)) (reference_text self.now)
+            reference_text result }
+    {
+        let text = self.as_str();
+        if S::accepts::<D>(text) {
+            Some(Reference::new_unchecked(text))
+        } else {
+            None
+        }
+    }
+}
+
 impl<'a, R: HeldRule> Reference<'a, R, IriChars> {
     /// The URI of the same text, if it is one: it has a scheme and holds ASCII alone.
     pub fn as_uri(&self) -> Option<Uri<'a, UriChars>>
         ensures { SomeIfIn (InUtf8 (IsUri uri_chars)) (reference_text self.now)
             reference_text result }
     {
-        match Uri::new(self.as_str()) {
-            Ok(uri) => Some(uri),
-            Err(_) => None,
-        }
+        self.converted()
     }
 
     /// The reference of URIs of the same text, if it is one: it holds ASCII alone.
@@ -63,10 +75,7 @@ impl<'a, R: HeldRule> Reference<'a, R, IriChars> {
         ensures { SomeIfIn (InUtf8 (IsUriReference uri_chars)) (reference_text self.now)
             reference_text result }
     {
-        match UriRef::new(self.as_str()) {
-            Ok(reference) => Some(reference),
-            Err(_) => None,
-        }
+        self.converted()
     }
 }
 

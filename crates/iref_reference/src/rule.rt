@@ -1,15 +1,14 @@
 //! The rules of references and of URIs, and what both are compared by (RFC 3986 sections 3, 4.1
 //! and 6.2.2).
 ghost use Rattle.std.specs.Prelude.{◌≡◌, true, refl, is_some};
-ghost use Rattle.iref_component.specs.{key, key_cmp, fed_reference, IsUri, IsUriReference};
-ghost use Rattle.iref_component.specs.{ReferenceValue, read_reference, is_reference};
+ghost use Rattle.iref_component.specs.{IsUri, IsUriReference, read_reference, is_reference};
 ghost use Rattle.iref_component.specs.{is_full_reference, Text, CharTests};
-ghost use Rattle.iref_model.proofs.KeyOrderLemmas.{keys_tell, keys_total};
 ghost use Rattle.iref_grammar.proofs.EmptyLemmas.{is_reference_empty};
 ghost use Rattle.iref_grammar.proofs.ReferenceRuleLemmas.{Decides-is_uri_reference, Decides-is_uri};
 ghost use Rattle.iref_grammar.proofs.ComponentLemmas.{reference_if_full, scheme_if_full};
 ghost use Rattle.iref_grammar.proofs.ComponentLemmas.{full_if_scheme};
-ghost use Rattle.iref_buffer.proofs.BaseLemmas.{base_of-in_rule, base_of-in_full_rule};
+ghost use Rattle.iref_reference.specs.Comparisons.{by_components};
+ghost use Rattle.iref_buffer.proofs.BaseLemmas.{base_of_in_rule, base_of_in_full_rule};
 
 use crate::parts::{SchemePart, UriRefParts};
 use iref_buffer::held::HeldRule;
@@ -41,9 +40,9 @@ impl Rule for ReferenceRule {
 
     ghost rule = { IsUriReference };
 
-    ghost test = { is_reference };
-
     ghost decided = { Decides-is_uri_reference };
+
+    ghost test = { is_reference };
 
     fn accepts<C: CharSet>(text: &str) -> bool {
         split::is_reference::<C>(text)
@@ -75,7 +74,7 @@ impl HeldRule for ReferenceRule {
 
     ghost references = { λ _ _ in_rule. in_rule };
 
-    ghost keeps_bases = { base_of-in_rule };
+    ghost keeps_bases = { base_of_in_rule };
 
     fn parse<C: CharSet>(text: &str) -> Option<ReferenceSlices<'_>> {
         parse_reference::<C>(text)
@@ -96,9 +95,9 @@ impl Rule for FullReferenceRule {
 
     ghost rule = { IsUri };
 
-    ghost test = { is_full_reference };
-
     ghost decided = { Decides-is_uri };
+
+    ghost test = { is_full_reference };
 
     fn accepts<C: CharSet>(text: &str) -> bool {
         split::is_full_reference::<C>(text)
@@ -126,7 +125,7 @@ impl HeldRule for FullReferenceRule {
 
     ghost references = { reference_if_full };
 
-    ghost keeps_bases = { base_of-in_full_rule };
+    ghost keeps_bases = { base_of_in_full_rule };
 
     #[tactic(auto, using(iref_grammar::proofs::ComponentLemmas::full))]
     fn parse<C: CharSet>(text: &str) -> Option<ReferenceSlices<'_>> {
@@ -148,19 +147,9 @@ impl<'a> HasScheme<'a> for FullReferenceRule {
 pub struct ReferenceKey;
 
 impl Key for ReferenceKey {
-    ghost Kept = { ReferenceValue };
-
-    ghost key = { λ text. key (read_reference text) };
-
-    ghost order = { key_cmp };
-
-    ghost fed = { fed_reference };
+    ghost comparison = { by_components };
 
     ghost has_key = { λ tests text. is_reference tests text ≡ true };
-
-    ghost total = { keys_total };
-
-    ghost tells = { keys_tell };
 
     fn compare<C: CharSet>(a: &str, b: &str) -> Ordering {
         UriRefParts::<C>::of_text(a).cmp_by_key(&UriRefParts::of_text(b))

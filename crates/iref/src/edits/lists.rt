@@ -1,9 +1,8 @@
 //! Edits of a list, one after the other, up to the first that cannot be done.
 ghost use Rattle.std.specs.Prelude.{◌≡◌, map};
-ghost use Rattle.iref_grammar.specs.Reference.{spell};
 ghost use Rattle.iref_model.specs.Edits.{edited, edited_uri};
 ghost use Rattle.iref_reference.specs.References.{reference_buf_text, reference_buf_value};
-ghost use Rattle.iref.specs.EditAnswers.{AppliesEdit, AppliesEdits, edited_in};
+ghost use Rattle.iref.specs.EditAnswers.{AppliesEdit, AppliesEdits, AppliesTo, edited_in};
 ghost use Rattle.iref.specs.EditSteps.{edit_step};
 
 use crate::edits::parts::{edit_authority, edit_path};
@@ -11,6 +10,9 @@ use crate::edits::schemes::SetsScheme;
 use crate::edits::{Edit, EditError};
 use iref_grammar::chars::CharSet;
 use iref_reference::owner::{ReferenceBuf, UriBuf, UriRefBuf};
+
+/// What a list of edits answers: the number of the first that cannot be done, from 0, and why.
+pub type Applied = Result<(), (usize, EditError)>;
 
 // Does one edit, or changes nothing.
 #[tactic(auto, unfolding(iref_model::specs::Edits::edited))]
@@ -51,7 +53,7 @@ fn apply<R: SetsScheme, C: CharSet>(
 fn apply_each<R: SetsScheme, C: CharSet>(
     reference: &mut ReferenceBuf<R, C>,
     edits: &[Edit<'_, C>],
-) -> Result<(), (usize, EditError)>
+) -> Applied
     ensures { AppliesEdits (edited_in R.allows_scheme) (map edit_step edits.now)
         (reference_buf_value reference.old) (reference_buf_value reference.new) result }
 {
@@ -70,26 +72,16 @@ fn apply_each<R: SetsScheme, C: CharSet>(
 /// The number of the first edit that cannot be done, from 0, and why: those before it are done.
 /// `NoAuthority` where it is of a part of the authority and there is none, also to take one away.
 #[tactic(auto, using(iref_buffer::proofs::HeldLemmas::spelled))]
-pub fn apply_all<C: CharSet>(
-    reference: &mut UriRefBuf<C>,
-    edits: &[Edit<'_, C>],
-) -> Result<(), (usize, EditError)>
-    ensures list { AppliesEdits edited (map edit_step edits.now)
-        (reference_buf_value reference.old) (reference_buf_value reference.new) result }
-    ensures spelled { reference_buf_text reference.new ≡ spell (reference_buf_value reference.new) }
+pub fn apply_all<C: CharSet>(reference: &mut UriRefBuf<C>, edits: &[Edit<'_, C>]) -> Applied
+    ensures { AppliesTo edited (map edit_step edits.now) reference.old reference.new result }
 {
     apply_each(reference, edits)
 }
 
 /// As `apply_all`, of a URI: `SchemeNeeded` where an edit takes the scheme away.
 #[tactic(auto, using(iref_buffer::proofs::HeldLemmas::spelled))]
-pub fn apply_all_uri<C: CharSet>(
-    uri: &mut UriBuf<C>,
-    edits: &[Edit<'_, C>],
-) -> Result<(), (usize, EditError)>
-    ensures list { AppliesEdits edited_uri (map edit_step edits.now)
-        (reference_buf_value uri.old) (reference_buf_value uri.new) result }
-    ensures spelled { reference_buf_text uri.new ≡ spell (reference_buf_value uri.new) }
+pub fn apply_all_uri<C: CharSet>(uri: &mut UriBuf<C>, edits: &[Edit<'_, C>]) -> Applied
+    ensures { AppliesTo edited_uri (map edit_step edits.now) uri.old uri.new result }
 {
     apply_each(uri, edits)
 }

@@ -17,13 +17,12 @@ use std::alloc::Global;
 impl<C: CharSet> PathBuf<C> {
     /// Puts each segment at the end, as it is. The iterator is asked up to its first `None`. At an
     /// `Err` the segments before the refused one stand.
-    pub fn lazy_append<'s, I: Iterator<Item = Segment<'s, C>> + Drop>(
-        &mut self,
-        segments: I,
-    ) -> Result<(), Memory>
+    pub fn lazy_append<'s, I>(&mut self, segments: I) -> Result<(), Memory>
+    where
+        I: Iterator<Item = Segment<'s, C>> + Drop,
         requires { CanTakeAll I.can_next I.remaining segments }
-        ensures { Appends I.next_gives segments (OwnerBecomes self.old self.new)
-            step.lazy_appended step.lazy_appended result }
+        ensures { Appends step.lazy_appended step.lazy_appended I.next_gives segments
+            (OwnerBecomes self.old self.new) result }
     {
         self.as_path_mut().lazy_append(segments)
     }
@@ -31,13 +30,12 @@ impl<C: CharSet> PathBuf<C> {
     /// Follows each segment, and closes the path after a last `.` or `..`: `..` and `baz` after
     /// `/foo/bar` give `/foo/baz`. The iterator is asked up to its first `None`. At an `Err` the
     /// segments before the refused one stand, and the path is not closed.
-    pub fn append<'s, I: Iterator<Item = Segment<'s, C>> + Drop>(
-        &mut self,
-        segments: I,
-    ) -> Result<(), Memory>
+    pub fn append<'s, I>(&mut self, segments: I) -> Result<(), Memory>
+    where
+        I: Iterator<Item = Segment<'s, C>> + Drop,
         requires { CanTakeAll I.can_next I.remaining segments }
-        ensures { Appends I.next_gives segments (OwnerBecomes self.old self.new)
-            step.appended followed_each result }
+        ensures { Appends step.appended followed_each I.next_gives segments
+            (OwnerBecomes self.old self.new) result }
     {
         self.as_path_mut().append(segments)
     }

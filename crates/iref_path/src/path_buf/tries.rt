@@ -28,13 +28,12 @@ impl<C: CharSet> PathBuf<C> {
 
     /// Puts each text at the end as a segment, as it is. The iterator is asked up to its first
     /// `None`. At an `Err` the segments before the refused text stand.
-    pub fn try_lazy_append<'t, I: Iterator<Item = &'t str> + Drop>(
-        &mut self,
-        segments: I,
-    ) -> Tried<InvalidSegment<&'t str>>
+    pub fn try_lazy_append<'t, I>(&mut self, segments: I) -> Tried<InvalidSegment<&'t str>>
+    where
+        I: Iterator<Item = &'t str> + Drop,
         requires { CanTakeAll I.can_next I.remaining segments }
-        ensures { TriesAppends C.tests I.next_gives segments (OwnerBecomes self.old self.new)
-            step.lazy_appended step.lazy_appended result }
+        ensures { TriesAppends step.lazy_appended step.lazy_appended C.tests I.next_gives segments
+            (OwnerBecomes self.old self.new) result }
     {
         self.as_path_mut().try_lazy_append(segments)
     }
@@ -43,13 +42,12 @@ impl<C: CharSet> PathBuf<C> {
     /// does. The iterator is asked up to its first `None`. At an `Err` the segments before the
     /// refused text stand, and the path is not closed: `b`, `c`, `..` and `c/d` after `/a` are
     /// refused at `c/d`, and leave `/a/b`.
-    pub fn try_append<'t, I: Iterator<Item = &'t str> + Drop>(
-        &mut self,
-        segments: I,
-    ) -> Tried<InvalidSegment<&'t str>>
+    pub fn try_append<'t, I>(&mut self, segments: I) -> Tried<InvalidSegment<&'t str>>
+    where
+        I: Iterator<Item = &'t str> + Drop,
         requires { CanTakeAll I.can_next I.remaining segments }
-        ensures { TriesAppends C.tests I.next_gives segments (OwnerBecomes self.old self.new)
-            step.appended followed_each result }
+        ensures { TriesAppends step.appended followed_each C.tests I.next_gives segments
+            (OwnerBecomes self.old self.new) result }
     {
         self.as_path_mut().try_append(segments)
     }

@@ -2,7 +2,8 @@
 ghost use Rattle.iref_component.specs.{text_of};
 ghost use Rattle.iref_model.specs.PathSteps as step;
 ghost use Rattle.iref_path.specs.Appends.{Appends, CanTakeAll, followed_each};
-ghost use Rattle.iref_path.specs.{PathEdits.{Becomes, Edits, IsSameEditor}, Paths.{path_value}};
+ghost use Rattle.iref_path.specs.PathEdits.{Becomes, Edits, EditsBy, IsSameEditor};
+ghost use Rattle.iref_path.specs.Paths.{path_value};
 
 use crate::path::Path;
 use crate::path_mut::PathMut;
@@ -34,14 +35,13 @@ impl<C: CharSet, T: Target<PathPart, C>> PathMut<'_, C, T> {
 
     /// Puts each segment at the end, as it is. The iterator is asked up to its first `None`. At an
     /// `Err` the segments before the refused one stand.
-    pub fn lazy_append<'s, I: Iterator<Item = Segment<'s, C>> + Drop>(
-        &mut self,
-        segments: I,
-    ) -> Result<(), Memory>
+    pub fn lazy_append<'s, I>(&mut self, segments: I) -> Result<(), Memory>
+    where
+        I: Iterator<Item = Segment<'s, C>> + Drop,
         requires { CanTakeAll I.can_next I.remaining segments }
         ensures same { IsSameEditor self.old self.new }
-        ensures edit { Appends I.next_gives segments (Becomes self.old self.new)
-            step.lazy_appended step.lazy_appended result }
+        ensures edit { Appends step.lazy_appended step.lazy_appended I.next_gives segments
+            (Becomes self.old self.new) result }
     {
         for segment in segments {
             self.lazy_push(segment)?;
@@ -52,14 +52,13 @@ impl<C: CharSet, T: Target<PathPart, C>> PathMut<'_, C, T> {
     /// Follows each segment, and closes the path after a last `.` or `..`: `..` and `baz` after
     /// `/foo/bar` give `/foo/baz`. The iterator is asked up to its first `None`. At an `Err` the
     /// segments before the refused one stand, and the path is not closed.
-    pub fn append<'s, I: Iterator<Item = Segment<'s, C>> + Drop>(
-        &mut self,
-        segments: I,
-    ) -> Result<(), Memory>
+    pub fn append<'s, I>(&mut self, segments: I) -> Result<(), Memory>
+    where
+        I: Iterator<Item = Segment<'s, C>> + Drop,
         requires { CanTakeAll I.can_next I.remaining segments }
         ensures same { IsSameEditor self.old self.new }
-        ensures edit { Appends I.next_gives segments (Becomes self.old self.new)
-            step.appended followed_each result }
+        ensures edit { Appends step.appended followed_each I.next_gives segments
+            (Becomes self.old self.new) result }
     {
         let mut ends_in_dots = false;
         for segment in segments {
@@ -75,8 +74,7 @@ impl<C: CharSet, T: Target<PathPart, C>> PathMut<'_, C, T> {
     /// Puts an absolute path in its place, and appends the segments of a relative one to it: `../b`
     /// after `/x/a` gives `/x/b`. This is one edit, so an `Err` changes nothing.
     pub fn join(&mut self, path: Path<'_, C>) -> Result<(), Memory>
-        ensures { Edits (λ context. step.joined context (path_value path.entry))
-            self.old self.new result }
+        ensures { EditsBy step.joined (path_value path.entry) self.old self.new result }
     {
         if path.is_absolute() {
             return self.replace(path);

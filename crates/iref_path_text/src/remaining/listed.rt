@@ -24,6 +24,7 @@ pub struct Listed<'a> {
     rest: Remaining<'a>,
 }
 
+#[tactic(auto, unfolding(crate::specs::Listed::listed_left))]
 impl<'a> Listed<'a> {
     /// All items of a path, and how many they are. The segments are read once, and not again where
     /// there are at most sixteen items.
@@ -32,8 +33,8 @@ impl<'a> Listed<'a> {
         ensures count { result.1 ≡ length (listed_left result.0) }
         ensures sound { IsListSound result.0 }
     {
-        let (absolute, segments) = split_root(path);
         let mut stack = Stack::new();
+        let (absolute, segments) = split_root(path);
         let (rest, count) = stack.read(absolute, segments);
         let Stack {
             items,
@@ -50,7 +51,6 @@ impl<'a> Listed<'a> {
     }
 
     /// The first item that is left.
-    #[tactic(auto, unfolding(crate::specs::Listed::listed_left))]
     pub fn next(&mut self) -> Option<&'a str>
         requires { IsListSound self.old }
         ensures item { YieldsFirstBy text_at listed_left self.old result self.new }
@@ -64,7 +64,6 @@ impl<'a> Listed<'a> {
     }
 
     /// The last item that is left.
-    #[tactic(auto, unfolding(crate::specs::Listed::listed_left))]
     pub fn next_back(&mut self) -> Option<&'a str>
         requires { IsListSound self.old }
         ensures item { YieldsLastBy text_at listed_left self.old result self.new }

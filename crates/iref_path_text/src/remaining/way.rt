@@ -53,6 +53,7 @@ fn some_items(path: &str) -> (Remaining<'_>, usize)
     }
 }
 
+#[tactic(auto, unfolding(crate::specs::Ways::way_left))]
 impl<'a> Way<'a> {
     /// The way from the directory of a base to a path: up to their common beginning, and down.
     pub fn between(base: &'a str, path: &'a str) -> Self
@@ -70,7 +71,6 @@ impl<'a> Way<'a> {
     }
 
     /// So many `..`, and so many of the last items.
-    #[tactic(auto, unfolding(crate::specs::Ways::way_left))]
     pub fn new(up: usize, down: usize, items: Remaining<'a>) -> Self
         requires { IsSound items }
         ensures items { way_left result ≡ replicate up (codes "..")
@@ -96,7 +96,6 @@ impl<'a> Way<'a> {
     }
 
     /// The last item that is left.
-    #[tactic(auto, unfolding(crate::specs::Ways::way_left))]
     #[inline(always)]
     pub fn next_back(&mut self) -> Option<&'a str>
         requires { IsWaySound self.old }

@@ -2,7 +2,7 @@ use Rattle.std.proofs.Common.{arith, ◌≡◌, ◌+◌, ◌-◌, take, Some, No
 use Rattle.std.proofs.lemmas.Str.Pattern.{rfind_char}
 use Rattle.iref_grammar.specs.Grammar.{slash}
 use Rattle.iref_grammar.specs.Tests.{is_path}
-use Rattle.iref_model.proofs.PathGrammarLemmas.{is_path-empty}
+use Rattle.iref_model.proofs.PathGrammarLemmas.{is_path_empty}
 use Rattle.iref_path_text.proofs.PathTextLemmas.{directory-cut, directory-uncut, is_path-directory}
 use Rattle.iref_path_text.proofs.path_text.directory_text.Goals as goal
 
@@ -22,4 +22,4 @@ pub returns-in-None-clause-text : goal.returns-in-None-clause-text
 returns-in-None-clause-text g c = directory-uncut c.args.path.now (rfind_char slash c.args.path.now None c.in-None.ensures.cases (omega arith))
 
 pub returns-in-None-clause-path : goal.returns-in-None-clause-path
-returns-in-None-clause-path g c = is_path-empty g.C.CharSet.tests
+returns-in-None-clause-path g c = is_path_empty g.C.CharSet.tests

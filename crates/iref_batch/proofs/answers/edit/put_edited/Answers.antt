@@ -14,7 +14,7 @@ returns-in-Ok-apply_all c =
     rw (
     edited_answer c.args.bytes.items (reference_buf_text c.in-Ok.reference) c.as_bytes.result.now (map edit_step c.args.edits.now)
     (reference_buf_value c.apply_all.new.reference) c.in-Ok.ensures.0 c.in-Ok.ensures.1 c.requires
-    c.in-Ok-apply_all.ensures.list (c.as_bytes.ensures ∙ c.in-Ok-apply_all.ensures.spelled)
+    c.in-Ok-apply_all.ensures.0 (c.as_bytes.ensures ∙ c.in-Ok-apply_all.ensures.1)
     ) c.put_answered.ensures
 
 pub returns-in-Err-default-NoAuthority : goal.returns-in-Err-default-NoAuthority
@@ -22,7 +22,7 @@ returns-in-Err-default-NoAuthority c =
     rw (
     refused_answer c.args.bytes.items (reference_buf_text c.in-Ok.reference) (map edit_step c.args.edits.now)
     (reference_buf_value c.apply_all.new.reference) _ model.NoAuthority c.in-Ok.ensures.0 c.in-Ok.ensures.1 c.requires
-    (rw c.in-Err-default-NoAuthority.field-0-1-is at c.in-Err-default-NoAuthority.ensures.list)
+    (rw c.in-Err-default-NoAuthority.field-0-1-is at c.in-Err-default-NoAuthority.ensures.0)
     ) c.put_text-in-Err-default-NoAuthority.ensures
 
 pub returns-in-Err-default-SchemeNeeded : goal.returns-in-Err-default-SchemeNeeded
@@ -30,5 +30,5 @@ returns-in-Err-default-SchemeNeeded c =
     rw (
     refused_answer c.args.bytes.items (reference_buf_text c.in-Ok.reference) (map edit_step c.args.edits.now)
     (reference_buf_value c.apply_all.new.reference) _ model.SchemeNeeded c.in-Ok.ensures.0 c.in-Ok.ensures.1 c.requires
-    (rw c.in-Err-default-SchemeNeeded.field-0-1-is at c.in-Err-default-SchemeNeeded.ensures.list)
+    (rw c.in-Err-default-SchemeNeeded.field-0-1-is at c.in-Err-default-SchemeNeeded.ensures.0)
     ) c.put_text-in-Err-default-SchemeNeeded.ensures
