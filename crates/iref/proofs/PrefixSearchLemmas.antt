@@ -1,6 +1,6 @@
 -- The longest entry that fits an IRI, found by the lengths of texts.
 use Rattle.std.proofs.Common.{◌≡◌, ◌≢◌, ℕ, ◌+◌, ◌<◌, ◌≤◌, Bool, true, false, [], ◌∷◌, ◌++◌, length, take, refl, sym, ◌∙◌, ap, subst, arith}
-use Rattle.std.specs.Prelude.{nat_lt, Option, Some, None, is_some, MatchOption, IsTrue, if◌then◌else◌}
+use Rattle.std.specs.Prelude.{nat_lt, Option, Some, None, is_some, MatchOption, if◌then◌else◌}
 use Rattle.std.specs.Bool.{IsFalse}
 use Rattle.std.specs.List.{AllByRecursion, find, list_any}
 use Rattle.std.specs.Ordering.{nat_cmp}
@@ -26,7 +26,7 @@ use Rattle.iref.specs.PrefixIndex.{has_text, IsLengthBelow}
 
 -- each entry that fits is shorter than this
 abbrev pub FitsBelow : Text → PrefixTable → ℕ → Type 0
-FitsBelow iri table n = AllByRecursion (λ (e : PrefixEntry). IsTrue (fits iri e) → length e.iri < n) table
+FitsBelow iri table n = AllByRecursion (λ (e : PrefixEntry). fits iri e ≡ true → length e.iri < n) table
 
 -- the set has each entry's length
 abbrev pub HasLengths : BTreeSet ℕ → PrefixTable → Type 0
@@ -83,10 +83,10 @@ none_fits iri table set end has gap below = by (longest_fit iri table) (longest_
     by None m = refl
     by (Some e) m =
         let P : PrefixEntry → Type 0 = λ (e : PrefixEntry). contains nat_cmp set (length e.iri) ≡ true in
-        let Q : PrefixEntry → Type 0 = λ (e : PrefixEntry). IsTrue (fits iri e) → length e.iri < end in
+        let Q : PrefixEntry → Type 0 = λ (e : PrefixEntry). fits iri e ≡ true → length e.iri < end in
         absurd (true≢false (sym (fit_at P m.front e m.back (subst (AllByRecursion P) (sym m.stands) has)) ∙ gap (length e.iri) (fit_at Q m.front e m.back (subst (AllByRecursion Q) (sym m.stands) below) m.fit)))
 
-up_to : (iri : Text) (table : PrefixTable) (len n : ℕ) → len ≡ n → FitsBelow iri table (len + 1) → AllByRecursion (λ (d : PrefixEntry). IsTrue (fits iri d) → length d.iri ≤ n) table
+up_to : (iri : Text) (table : PrefixTable) (len n : ℕ) → len ≡ n → FitsBelow iri table (len + 1) → AllByRecursion (λ (d : PrefixEntry). fits iri d ≡ true → length d.iri ≤ n) table
 up_to iri [] len n same below = tt
 up_to iri (e ∷ table) len n same below = (λ h. let short = below.0 h in omega arith, up_to iri table len n same below.1)
 
@@ -107,7 +107,7 @@ first_fit iri (d ∷ table) len e inside found below = by (λ h. first_fit iri t
     by others false is h =
         let rest = others h in
         let m = rest.1 in
-        let first : IsTrue (fits iri d) → length d.iri < length e.iri = λ f.
+        let first : fits iri d ≡ true → length d.iri < length e.iri = λ f.
         let short = below.0 f in
         let other : length d.iri ≢ len = λ same. true≢false (sym ((bytes_decides d.iri (take len iri)).1 (fit_text iri d f ∙ ap (λ n. take n iri) same)) ∙ is) in
         subst (λ n. length d.iri < n) (sym rest.0) (shorter (length d.iri) len short other) in

@@ -15,20 +15,6 @@ use std::alloc::AllocError;
 use std::fmt;
 use thiserror::Error;
 
-/// Why an edit of a list cannot be done, as `SetHost` of `s:a` (RFC 3986 section 3.2).
-#[derive(Clone, Copy, Debug, PartialEq, Eq, Error)]
-pub enum EditError {
-    /// The edit is of a part of the authority, and there is none.
-    #[error("no authority")]
-    NoAuthority,
-    /// The edit takes the scheme of a URI away.
-    #[error("a URI needs a scheme")]
-    SchemeNeeded,
-    /// A growth was refused, or the new length would pass what a buffer can hold.
-    #[error("out of memory")]
-    Memory,
-}
-
 /// An edit of a reference or of a URI: what is set in it, or what is done to its path. `Pop` leaves
 /// `//h/?q` of `//h/a?q` (RFC 3986 sections 3 and 5.2.4).
 #[derive_where(Copy, Debug)]
@@ -77,6 +63,20 @@ impl<C: CharSet> Clone for Edit<'_, C> {
     fn clone(&self) -> Result<Self, AllocError> {
         Ok(*self)
     }
+}
+
+/// Why an edit of a list cannot be done, as `SetHost` of `s:a` (RFC 3986 section 3.2).
+#[derive(Clone, Copy, Debug, PartialEq, Eq, Error)]
+pub enum EditError {
+    /// The edit is of a part of the authority, and there is none.
+    #[error("no authority")]
+    NoAuthority,
+    /// The edit takes the scheme of a URI away.
+    #[error("a URI needs a scheme")]
+    SchemeNeeded,
+    /// A growth was refused, or the new length would pass what a buffer can hold.
+    #[error("out of memory")]
+    Memory,
 }
 
 impl From<Memory> for EditError {

@@ -118,13 +118,13 @@ impl<C: CharSet> AuthorityBuf<C> {
     /// As `set_user_info`, by a text: `Invalid` hands one back that is not a user info.
     pub fn try_set_user_info<'t>(
         &mut self,
-        text: Option<&'t str>,
+        user_info: Option<&'t str>,
     ) -> Tried<InvalidUserInfo<&'t str>>
-        ensures edit { EditsOwner (with_user_info (option_copied text.entry))
+        ensures edit { EditsOwner (with_user_info (option_copied user_info.entry))
             self.old self.new result }
-        ensures text { TestsIfSome (IsUserInfo C.tests) text.entry (λ error. error.0) result }
+        ensures text { TestsIfSome (IsUserInfo C.tests) user_info.entry (λ error. error.0) result }
     {
-        self.as_authority_mut().try_set_user_info(text)
+        self.as_authority_mut().try_set_user_info(user_info)
     }
 
     /// As `set_host`, by a text: `Invalid` hands one back that is not a host.

@@ -1,5 +1,5 @@
 -- Answers to lines.
-use Rattle.std.proofs.Common.{◌≡◌, Bool, true, false, refl, sym, subst, ◌∙◌, [], ◌∷◌, ◌++◌, Option, Some, None, Err, ap, option_map, append_assoc, codes}
+use Rattle.std.proofs.Common.{◌≡◌, ◌&&◌, Bool, true, false, refl, sym, subst, ◌∙◌, [], ◌∷◌, ◌++◌, Option, Some, None, Err, ap, option_map, append_assoc, codes}
 use Rattle.std.proofs.lemmas.Bool.{and_right}
 use Rattle.std.specs.List.{join_with_byte}
 use Rattle.iref_grammar.specs.Rules.{Text, InUtf8}
@@ -83,26 +83,18 @@ unfolding is_valid answer_to
 resolve_answer reference base written r b h k e f w =
     valid (Resolve reference base) (rw (h, k) refl) ∙ ap (λ (v : ReferenceValue). Answered (spell v)) ((λ i. resolved (sym f i) (sym e i))) ∙ ap Answered (sym w)
 
-pub no_reference_answer : (reference base : Text) → is_reference iri_chars reference ≡ false → answer_if_valid iri_chars (Resolve reference base) ≡ InvalidText
+pub no_resolve_answer : (reference base : Text) → (is_reference iri_chars reference && is_full_reference iri_chars base) ≡ false → answer_if_valid iri_chars (Resolve reference base) ≡ InvalidText
 unfolding is_valid
-no_reference_answer reference base h = invalid (Resolve reference base) (rw h refl)
-
-pub no_base_answer : (reference base : Text) → is_full_reference iri_chars base ≡ false → answer_if_valid iri_chars (Resolve reference base) ≡ InvalidText
-unfolding is_valid
-no_base_answer reference base h = invalid (Resolve reference base) (and_right (is_reference iri_chars reference) _ h)
+no_resolve_answer reference base h = invalid (Resolve reference base) h
 
 pub relative_answer : (target base written : Text) (t b : ReferenceValue) → is_reference iri_chars target ≡ true → is_reference iri_chars base ≡ true → t ≡ read_reference target → b ≡ read_reference base → written ≡ spell (relative_to t b) → answer_if_valid iri_chars (Relative target base) ≡ Answered written
 unfolding is_valid answer_to
 relative_answer target base written t b h k e f w =
     valid (Relative target base) (rw (h, k) refl) ∙ ap (λ (v : ReferenceValue). Answered (spell v)) ((λ i. relative_to (sym e i) (sym f i))) ∙ ap Answered (sym w)
 
-pub no_target_answer : (target base : Text) → is_reference iri_chars target ≡ false → answer_if_valid iri_chars (Relative target base) ≡ InvalidText
+pub no_relative_answer : (target base : Text) → (is_reference iri_chars target && is_reference iri_chars base) ≡ false → answer_if_valid iri_chars (Relative target base) ≡ InvalidText
 unfolding is_valid
-no_target_answer target base h = invalid (Relative target base) (rw h refl)
-
-pub no_relative_base_answer : (target base : Text) → is_reference iri_chars base ≡ false → answer_if_valid iri_chars (Relative target base) ≡ InvalidText
-unfolding is_valid
-no_relative_base_answer target base h = invalid (Relative target base) (and_right (is_reference iri_chars target) _ h)
+no_relative_answer target base h = invalid (Relative target base) h
 
 pub normal_answer : (text same written : Text) → InUtf8 (IsPath iri_chars) text → same ≡ text → written ≡ spell_path (guarded alone (normal (read_path same))) → answer_if_valid iri_chars (Normal text) ≡ Answered written
 unfolding is_valid answer_to

@@ -1,5 +1,5 @@
 //! What a line asks for.
-ghost use Rattle.std.specs.Option.{option_copied};
+ghost use Rattle.std.specs.{Iterator.{YieldsFirstBy}, Option.{option_copied}};
 ghost use Rattle.std.specs.Prelude.{◌≡◌, ◌∷◌, bytes_eq, List, option_and_then, option_map};
 ghost use Rattle.iref_lines.specs.Lines as spec;
 ghost use Rattle.iref_grammar.specs.{pieces_at, Text};
@@ -42,13 +42,23 @@ pub enum Request<'a> {
 }
 
 /// The first field, and the text of the others, if there are any.
-pub fn first_field(text: &[u8]) -> (&[u8], Option<&[u8]>)
+fn first_field(text: &[u8]) -> (&[u8], Option<&[u8]>)
     ensures { pieces_at tab text.now ≡ result.0.now ∷ fields_of (option_copied result.1) }
 {
     match cut_at(b'\t', text) {
         Some((field, rest)) => (field, Some(rest)),
         None => (text, None),
     }
+}
+
+/// Takes the first of the fields, if there is one.
+pub fn next_field<'a>(fields: &mut Option<&'a [u8]>) -> Option<&'a [u8]>
+    ensures { YieldsFirstBy (λ field. field.now) (λ left. fields_of (option_copied left))
+        fields.old result fields.new }
+{
+    let (field, others) = first_field((*fields)?);
+    *fields = others;
+    Some(field)
 }
 
 /// The one field, if there is one and no other.

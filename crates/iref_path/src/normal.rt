@@ -3,7 +3,7 @@
 ghost use Rattle.std.specs.{Prelude.{◌≡◌, true, length}, List.{list_all}};
 ghost use Rattle.std.specs.Iterator.{YieldsFirstBy, YieldsLastBy, item_count};
 ghost use Rattle.iref_component.specs.{read_path, is_path, is_segment, normal_segments, text_of};
-ghost use Rattle.iref_path_text.specs.Listed.{IsListSound, listed_left};
+ghost use Rattle.iref_path_text.specs.Listed.{listed_left};
 
 use iref_component::texts::Segment;
 use iref_grammar::chars::CharSet;
@@ -17,7 +17,6 @@ pub struct NormalizedSegments<'a, C: CharSet> {
     left: Listed<'a>,
     count: usize,
     chars: PhantomData<C>,
-    ghost sound: { IsListSound left },
     ghost counted: { count ≡ length (listed_left left) },
     ghost in_grammar: { list_all (is_segment C.tests) (listed_left left) ≡ true },
 }

@@ -1,16 +1,20 @@
 -- A normal list that is put on a stack from its end.
-use Rattle.std.proofs.Common.{◌≡◌, ℕ, ◌+◌, ◌<◌, ◌≤◌, Bool, true, false, cond, List, [], ◌∷◌, ◌++◌, length, map, reverse, take, drop, get_or, refl, sym, ◌∙◌, ap, subst, append_assoc, arith}
+use Rattle.std.proofs.Common.{◌≡◌, ℕ, ◌+◌, ◌<◌, ◌≤◌, Bool, true, false, cond, List, [], ◌∷◌, ◌++◌, length, map, reverse, take, drop, get_or, Option, Some, None, refl, sym, ◌∙◌, ap, subst, append_assoc, arith}
 use Rattle.std.specs.Prelude.{◌==◌, replicate, codes}
 use Rattle.std.proofs.lemmas.Bool.Decides.{nat_tests}
 use Rattle.std.specs.Borrow.{Bor}
+use Rattle.std.specs.Iterator.{YieldsFirst, YieldsFirstBy, YieldsLast, YieldsLastBy}
 use Rattle.std.proofs.lemmas.List.{map-append, replicate-append-replicate, reverse-append, take-append-drop, take_more}
 use Rattle.iref_grammar.specs.Rules.{Text}
 use Rattle.iref_grammar.specs.PathValue.{is_one_empty}
 use Rattle.iref_model.specs.NormalList.{without_lone_empty}
 use Rattle.iref_model.specs.NormalReading.{closing}
 use Rattle.iref_path_text.specs.Spelling.{each_closed}
+use Rattle.iref_path_text.specs.Listed.{left_of}
 use Rattle.iref_path_text.specs.Pieces.{text_at}
+use Rattle.iref_path_text.specs.Remaining.{normal_left}
 use Rattle.iref_path_text.specs.Stacks.{Completes, in_order}
+use Rattle.iref_path_text.specs.declared.remaining.Remaining.{Remaining}
 use Rattle.iref_path_text.specs.declared.remaining.stack.Stack.{Stack}
 use Rattle.iref_path_text.proofs.RemainingLemmas.{parts_left}
 use Rattle.iref_path_text.proofs.SpellLemmas.{size-append, size-cons}
@@ -92,7 +96,23 @@ stacked_room items i d h =
     let both = size-append (in_order (drop (i + 1) items)) (in_order (take (i + 1) items)) in
     omega (arith, next, some, all, both)
 
+-- the last that was put is the first of them, and the first that was put the last
+pub first_in_order : (old new : List (Bor Text)) (item : Option (Bor Text)) → YieldsLast (λ items. items) old item new
+    → YieldsFirstBy text_at in_order old item new
+first_in_order old new None (o, n) = (ap in_order o, ap in_order n)
+first_in_order old new (Some x) h = ap in_order h ∙ in_order-append new (x ∷ [])
+
+pub last_in_order : (old new : List (Bor Text)) (item : Option (Bor Text)) → YieldsFirst (λ items. items) old item new
+    → YieldsLastBy text_at in_order old item new
+last_in_order old new None (o, n) = (ap in_order o, ap in_order n)
+last_in_order old new (Some x) h = ap in_order h ∙ in_order-cons x new
+
 -- a list is left in one of two places
-pub listed_all : (is_whole : Bool) (on_stack left list : List Text) → (is_whole ≡ true → on_stack ≡ list) → left ≡ list → cond is_whole on_stack left ≡ list
-listed_all true on_stack left list h k = h refl
-listed_all false on_stack left list h k = k
+pub left_on_stack : (items : List (Bor Text)) (rest : Option Remaining) (list : List Text) → rest ≡ None → in_order items ≡ list → left_of items rest ≡ list
+unfolding left_of
+left_on_stack items rest list none h = subst (λ r. left_of items r ≡ list) (sym none) h
+
+pub left_in_text : (items : List (Bor Text)) (rest : Option Remaining) (left : Remaining) (list : List Text) → rest ≡ Some left → normal_left left ≡ list
+    → left_of items rest ≡ list
+unfolding left_of
+left_in_text items rest left list some h = subst (λ r. left_of items r ≡ list) (sym some) h

@@ -89,18 +89,18 @@ impl<R: HeldRule, C: CharSet> ReferenceBuf<R, C> {
         self.held.as_str()
     }
 
-    /// Where the components are, in bytes: those of the one reference that spells the text.
-    pub fn offsets(&self) -> Offsets
-        ensures { result ≡ places_of (reference_buf_text self.now) }
-    {
-        self.held.places()
-    }
-
     /// The bytes of the text.
     pub fn as_bytes(&self) -> &[u8]
         ensures { result.now ≡ reference_buf_text self.now }
     {
         self.as_str().as_bytes()
+    }
+
+    /// Where the components are, in bytes: those of the one reference that spells the text.
+    pub fn offsets(&self) -> Offsets
+        ensures { result ≡ places_of (reference_buf_text self.now) }
+    {
+        self.held.places()
     }
 
     // The components, with a scheme if there is one.

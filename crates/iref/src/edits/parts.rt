@@ -48,13 +48,13 @@ pub fn edit_path<C: CharSet, T: PathOwner<C>>(
     match edit {
         Edit::LazyPush(segment) => path.lazy_push(segment),
         Edit::Push(segment) => path.push(segment),
+        Edit::JoinPath(other) => path.join(other),
         Edit::Pop => path.pop(),
+        Edit::Normalize => path.normalize(),
         Edit::Clear => {
             path.clear();
             Ok(())
         }
-        Edit::Normalize => path.normalize(),
-        Edit::JoinPath(other) => path.join(other),
         _ => unreachable!(),
     }
 }

@@ -32,13 +32,14 @@ impl<C: CharSet, T: Target<AuthorityPart, C>> AuthorityMut<'_, C, T> {
     /// As `set_user_info`, by a text: `Invalid` hands one back that is not a user info.
     pub fn try_set_user_info<'t>(
         &mut self,
-        text: Option<&'t str>,
+        user_info: Option<&'t str>,
     ) -> Tried<InvalidUserInfo<&'t str>>
-        ensures edit { Edits (with_user_info (option_copied text.entry)) self.old self.new result }
-        ensures text { TestsIfSome (IsUserInfo C.tests) text.entry (λ error. error.0) result }
+        ensures edit { Edits (with_user_info (option_copied user_info.entry))
+            self.old self.new result }
+        ensures text { TestsIfSome (IsUserInfo C.tests) user_info.entry (λ error. error.0) result }
     {
-        test::<UserInfoRule, C>(text)?;
-        self.put_user_info(text).or(Err(TryError::Memory))
+        test::<UserInfoRule, C>(user_info)?;
+        self.put_user_info(user_info).or(Err(TryError::Memory))
     }
 
     /// As `set_host`, by a text: `Invalid` hands one back that is not a host.

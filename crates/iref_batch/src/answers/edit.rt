@@ -10,7 +10,7 @@ ghost use Rattle.iref.specs.EditSteps.{edit_step};
 
 use super::{put_answered, put_refused, put_text};
 use crate::edit_fields::{FieldError, read_edit};
-use crate::request::first_field;
+use crate::request::next_field;
 use iref::iri::{Edit, EditError, IriRefBuf, apply_all};
 use iref_error::Memory;
 use std::alloc::Global;
@@ -23,21 +23,15 @@ fn read_edits<'a>(alloc: Global, fields: Option<&'a [u8]>) -> Result<Vec<Edit<'a
 {
     let mut edits = Vec::new(alloc);
     let mut are_valid = true;
-    let mut rest = fields;
-    while let Some(text) = rest {
-        let (field, others) = first_field(text);
+    let mut left = fields;
+    while let Some(field) = next_field(&mut left) {
         match read_edit(field) {
             Ok(edit) => edits.push(edit)?,
             Err(FieldError::Invalid) => are_valid = false,
             Err(error) => return Err(error),
         }
-        rest = others;
     }
-    if are_valid {
-        Ok(edits)
-    } else {
-        Err(FieldError::Invalid)
-    }
+    are_valid.then_some(edits).ok_or(FieldError::Invalid)
 }
 
 // A copy of the text, with room for more bytes.

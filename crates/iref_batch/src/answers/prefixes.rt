@@ -14,7 +14,7 @@ ghost use Rattle.iref_batch.specs.{Requests.{asked_of}, Runs.{reply_to}};
 
 use super::{put_answered, put_refused, put_text};
 use crate::edit_fields::{FieldError, name_and_value};
-use crate::request::{TableVerb, first_field};
+use crate::request::{TableVerb, next_field};
 use iref::compact::{Compact, ExpandError, PrefixError, Prefixes};
 use iref::iri::Iri;
 use iref_error::Memory;
@@ -53,21 +53,15 @@ fn read_table(alloc: Global, fields: Option<&[u8]>) -> Result<Prefixes, FieldErr
 {
     let mut table = Prefixes::new(alloc);
     let mut are_valid = true;
-    let mut rest = fields;
-    while let Some(text) = rest {
-        let (field, others) = first_field(text);
+    let mut left = fields;
+    while let Some(field) = next_field(&mut left) {
         match insert_field(&mut table, field) {
             Ok(()) => {}
             Err(FieldError::Invalid) => are_valid = false,
             Err(error) => return Err(error),
         }
-        rest = others;
     }
-    if are_valid {
-        Ok(table)
-    } else {
-        Err(FieldError::Invalid)
-    }
+    are_valid.then_some(table).ok_or(FieldError::Invalid)
 }
 
 // Puts the answer of an IRI made short: `=`, the label, `:`, and the rest.

@@ -8,4 +8,4 @@ use Rattle.iref_authority.proofs.owner.AuthorityBuf.try_set_user_info.Goals as g
 pub returns-clause-edit : goal.returns-clause-edit
 returns-clause-edit g c =
     let whole = c.as_authority_mut.ensures in
-    search (rules, whole_edits c.try_set_user_info.result (authority_buf_text c.args.self.now) c.as_authority_mut.result c.try_set_user_info.new.self whole.bytes whole.start whole.end (with_user_info (option_copied c.args.text)) c.try_set_user_info.ensures.edit)
+    search (rules, whole_edits c.try_set_user_info.result (authority_buf_text c.args.self.now) c.as_authority_mut.result c.try_set_user_info.new.self whole.bytes whole.start whole.end (with_user_info (option_copied c.args.user_info)) c.try_set_user_info.ensures.edit)
