@@ -5,7 +5,7 @@ use Rattle.iref_grammar.specs.Characters.{CharTests, AreAboveAscii}
 use Rattle.iref_grammar.specs.Rules.{Text}
 use Rattle.iref_grammar.specs.Tests.{none_or}
 use Rattle.iref_grammar.specs.Authority.{AuthorityValue, read_authority, is_authority, has_authority_parts}
-use Rattle.iref_grammar.specs.Places.{places_of}
+use Rattle.iref_grammar.specs.ComponentOffsets.{offsets_of}
 use Rattle.iref_grammar.specs.Reference.{is_readable, is_reference, read_reference}
 use Rattle.iref_component.specs.declared.text.RuleText.{RuleText}
 use Rattle.iref_component.specs.Components.{text_of}
@@ -29,7 +29,7 @@ authority_in_rule set text h = h
 pub authority_edited : {C T A c H t : _} {old new : AuthorityMut C T A c H t} {text after : Text} (set : CharTests) → AreAboveAscii set → (edit : EditStep) (step : AuthorityValue → AuthorityValue)
     → edited edit (read_reference text) ≡ with_authority_part step (read_reference text) → is_some (read_reference text).authority ≡ true → is_reference set text ≡ true
     → (is_readable set (read_reference text) ≡ true → is_readable set (with_authority_step step (read_reference text)) ≡ true)
-    → IsEditorAt old text (places_of text).authority → after ≡ edited_bytes new → BecomesAuthority old new (step (authority_mut_value old)) → edited edit (read_reference text) ≡ Ok (read_reference after)
+    → IsEditorAt old text (offsets_of text).authority → after ≡ edited_bytes new → BecomesAuthority old new (step (authority_mut_value old)) → edited edit (read_reference text) ≡ Ok (read_reference after)
 authority_edited {text = text} set above edit step e has h readable of same becomes =
     let read = (authority_step set above step h (readable (readable_of set text h)) of becomes).1 in
     e ∙ (λ i. if has i then Ok (with_authority_step step (read_reference text)) else Err NoAuthority) ∙ ap Ok (sym (ap read_reference same ∙ read))
@@ -38,7 +38,7 @@ authority_edited {text = text} set above edit step e has h readable of same beco
 pub authority_edited_on_ok : {C T A c H t : _} {text after : Text} {U E : Type 0} (old new : AuthorityMut C T A c H t) (set : CharTests) → AreAboveAscii set → (edit : EditStep) (step : AuthorityValue → AuthorityValue)
     → edited edit (read_reference text) ≡ with_authority_part step (read_reference text) → is_some (read_reference text).authority ≡ true → is_reference set text ≡ true
     → (is_readable set (read_reference text) ≡ true → is_readable set (with_authority_step step (read_reference text)) ≡ true)
-    → IsEditorAt old text (places_of text).authority → after ≡ edited_bytes new
+    → IsEditorAt old text (offsets_of text).authority → after ≡ edited_bytes new
     → (result : Result U E) → Edits step old new result → OnOk result (edited edit (read_reference text) ≡ Ok (read_reference after))
 authority_edited_on_ok old new set above edit step e has h readable of same (Ok u) edits = authority_edited set above edit step e has h readable of same edits.outcome
 authority_edited_on_ok old new set above edit step e has h readable of same (Err error) edits = tt

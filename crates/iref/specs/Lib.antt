@@ -13,7 +13,7 @@ pub use Rattle.iref_grammar.specs.Grammar
 pub use Rattle.iref_grammar.specs.IpAddresses
 pub use Rattle.iref_grammar.specs.Keys
 pub use Rattle.iref_grammar.specs.PathValue
-pub use Rattle.iref_grammar.specs.Places
+pub use Rattle.iref_grammar.specs.ComponentOffsets
 pub use Rattle.iref_grammar.specs.Reference
 pub use Rattle.iref_grammar.specs.Rules
 pub use Rattle.iref_grammar.specs.Tests

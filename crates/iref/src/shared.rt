@@ -4,5 +4,6 @@ pub use iref_error::{
     InvalidAuthority, InvalidFragment, InvalidHost, InvalidPath, InvalidPort, InvalidQuery,
     InvalidScheme, InvalidSegment, InvalidUserInfo, Memory, PortError, TryError,
 };
-pub use iref_grammar::places::{Offsets, PathContext};
+pub use iref_grammar::context::PathContext;
+pub use iref_grammar::offsets::Offsets;
 pub use iref_path::equality::{Steps, path_eq_counted};

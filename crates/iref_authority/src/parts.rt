@@ -8,7 +8,7 @@ ghost use Rattle.iref_component.specs.Comparisons.{ComparesBy};
 use iref_component::texts::{Host, Port, UserInfo};
 use iref_component::view::view_of;
 use iref_grammar::chars::CharSet;
-use iref_parse::authority::split_authority;
+use iref_parse::authority::split_parts;
 use std::hash::Hash;
 
 /// The parts of an authority (RFC 3986 section 3.2): `u@h:80` has the user info `u`, the host `h`
@@ -29,7 +29,7 @@ pub fn parts_of<C: CharSet>(text: &str) -> AuthorityParts<'_, C>
     requires { is_authority C.tests text.now ≡ true }
     ensures { parts_value result ≡ read_authority text.now }
 {
-    let slices = split_authority(text);
+    let slices = split_parts(text);
     AuthorityParts {
         user_info: view_of(slices.user_info),
         host: Host::new_unchecked(slices.host),

@@ -10,7 +10,7 @@ ghost use Rattle.iref_authority.specs.AuthorityTexts.{SpellsAuthority, marked_le
 ghost use Rattle.iref_edit.specs.Changes.{IsWithin};
 
 use iref_grammar::chars::CharSet;
-use iref_parse::authority::split_authority;
+use iref_parse::authority::split_parts;
 use std::ops::Range;
 
 /// The user info and its `@`, or where they would stand.
@@ -22,7 +22,7 @@ pub(crate) fn user_info_range<C: CharSet>(text: &str) -> Range<usize>
         (splice text.now result.start result.end (part_then (at_sign ∷ []) user_info))
         (with_user_info user_info (read_authority text.now)) }
 {
-    let slices = split_authority(text);
+    let slices = split_parts(text);
     0..marked_len(slices.user_info)
 }
 
@@ -34,7 +34,7 @@ pub(crate) fn host_range<C: CharSet>(text: &str) -> Range<usize>
         (splice text.now result.start result.end host)
         (with_host host (read_authority text.now)) }
 {
-    let slices = split_authority(text);
+    let slices = split_parts(text);
     let start = marked_len(slices.user_info);
     start..start + slices.host.len()
 }
@@ -48,7 +48,7 @@ pub(crate) fn port_range<C: CharSet>(text: &str) -> Range<usize>
         (splice text.now result.start result.end (then_part (colon ∷ []) port))
         (with_port port (read_authority text.now)) }
 {
-    let slices = split_authority(text);
+    let slices = split_parts(text);
     marked_len(slices.user_info) + slices.host.len()..text.len()
 }
 

@@ -9,7 +9,7 @@ use Rattle.iref_grammar.specs.Rules.{Text}
 use Rattle.iref_grammar.specs.Texts.{then_part}
 use Rattle.iref_grammar.specs.Tests.{none_or}
 use Rattle.iref_grammar.specs.Authority.{AuthorityValue, has_authority_parts, is_authority, read_authority, spell_authority}
-use Rattle.iref_grammar.specs.Places.{authority_mark, place_from, places_in, places_of, text_at}
+use Rattle.iref_grammar.specs.ComponentOffsets.{authority_mark, place_from, offsets_in, offsets_of, text_at}
 use Rattle.iref_grammar.specs.Reference.{is_reference, read_reference, spell}
 use Rattle.iref_grammar.proofs.AuthorityLemmas.{read_authority-spelled}
 use Rattle.iref_grammar.proofs.AuthorityRuleLemmas.{authority_read, Decides-has_authority_parts}
@@ -19,13 +19,13 @@ use Rattle.iref_model.specs.ComponentSteps.{with_authority_step}
 use Rattle.iref_edit.specs.Changes.{IsWithin}
 use Rattle.iref_buffer.specs.AuthorityPlaces.{authority_part, place_of_authority}
 use Rattle.iref_buffer.proofs.EditLemmas.{authority_part_replaced, readable_of}
-use Rattle.iref_buffer.proofs.HeldLemmas.{components_of, places_within}
+use Rattle.iref_buffer.proofs.HeldLemmas.{components_of, offsets_within}
 
 -- ---- where it stands
 
 module _ (text : Text) (has : is_some (read_reference text).authority ≡ true) where
-  pub authority_stands : (places_of text).authority ≡ Some (place_of_authority text)
-  unfolding places_of places_in
+  pub authority_stands : (offsets_of text).authority ≡ Some (place_of_authority text)
+  unfolding offsets_of offsets_in
   authority_stands = by (authority_mark (read_reference text)) (read_reference text).authority has
     where
       ends : (m : ℕ) (part : Text) → m + 2 + length part ≡ m + length (then_part (codes "//") (Some part))
@@ -58,19 +58,19 @@ module _ (set : CharTests) (above : AreAboveAscii set) (text : Text) (h : is_ref
   authority_in_rule = ap (none_or (is_authority set)) (sym (authority_spelled_there text has)) ∙ (components_of set above text h).authority
 
   pub authority_part_within : IsWithin text (place_of_authority text)
-  authority_part_within = subst (λ o. IfSome o (IsWithin text)) (authority_stands text has) (places_within set above text h).authority
+  authority_part_within = subst (λ o. IfSome o (IsWithin text)) (authority_stands text has) (offsets_within set above text h).authority
 
 -- ---- what is known where a place is
 
-pub some_if_placed : (text : Text) (place : Range ℕ) → (places_of text).authority ≡ Some place → is_some (read_reference text).authority ≡ true
-unfolding places_of places_in
+pub some_if_placed : (text : Text) (place : Range ℕ) → (offsets_of text).authority ≡ Some place → is_some (read_reference text).authority ≡ true
+unfolding offsets_of offsets_in
 some_if_placed text place e = by (authority_mark (read_reference text)) (read_reference text).authority e
   where
     by : (m : ℕ) (o : Option AuthorityValue) → option_map (place_from (m + 2)) (option_map spell_authority o) ≡ Some place → is_some o ≡ true
     by m None e = cc
     by m (Some a) e = refl
 
-pub place_is : (text : Text) (place : Range ℕ) → (places_of text).authority ≡ Some place → place ≡ place_of_authority text
+pub place_is : (text : Text) (place : Range ℕ) → (offsets_of text).authority ≡ Some place → place ≡ place_of_authority text
 place_is text place e = let there = authority_stands text (some_if_placed text place e) in cc
 
 -- ---- after an edit
@@ -81,10 +81,10 @@ authority_text_replaced text part has =
     ap (splice text (place_of_authority text).start (place_of_authority text).end) (sym (read_authority-spelled part)) ∙ authority_part_replaced text (read_authority part) has
 
 pub place_of_new_authority : (old new part : Text) → is_some (read_reference old).authority ≡ true → read_reference new ≡ with_authority_step (λ a. read_authority part) (read_reference old)
-    → let start = (place_of_authority old).start in (places_of new).authority ≡ Some (record { start = start; end = start + length part })
-unfolding places_of places_in
+    → let start = (place_of_authority old).start in (offsets_of new).authority ≡ Some (record { start = start; end = start + length part })
+unfolding offsets_of offsets_in
 place_of_new_authority old new part has e =
-    ap (λ r. (places_in r).authority) e ∙ by (authority_mark (read_reference old)) (read_reference old).authority has
+    ap (λ r. (offsets_in r).authority) e ∙ by (authority_mark (read_reference old)) (read_reference old).authority has
   where
     by : (m : ℕ) (o : Option AuthorityValue) → is_some o ≡ true
         → option_map (place_from (m + 2)) (option_map spell_authority (option_map (λ a. read_authority part) o)) ≡ Some (record { start = m + 2; end = m + 2 + length part })
@@ -96,5 +96,5 @@ length_of_new_authority None part h = absurd (true≢false (sym h))
 length_of_new_authority (Some a) part h = ap (λ t. Some (length t)) (sym (read_authority-spelled part))
 
 pub end_of_new_authority : (old new part : Text) → is_some (read_reference old).authority ≡ true → read_reference new ≡ with_authority_step (λ a. read_authority part) (read_reference old)
-    → (places_of new).path.start ≡ (place_of_authority old).start + length part
+    → (offsets_of new).path.start ≡ (place_of_authority old).start + length part
 end_of_new_authority old new part has e = sym (ap (λ (p : Range ℕ). p.end) (place_is new _ (place_of_new_authority old new part has e)))

@@ -7,7 +7,7 @@ use Rattle.std.specs.Char.{encode_utf8}
 use Rattle.std.proofs.lemmas.List.{append-nil, length-append}
 use Rattle.std.proofs.lemmas.Str.{IsUtf8-append, IsUtf8-nil, IsUtf8-from_is_utf8}
 use Rattle.std.proofs.lemmas.Bool.{and_from, and_parts}
-use Rattle.iref_grammar.specs.declared.places.PathContext.{PathContext}
+use Rattle.iref_grammar.specs.declared.context.PathContext.{PathContext}
 use Rattle.iref_grammar.specs.Characters.{CharTests, AreAboveAscii}
 use Rattle.iref_grammar.specs.Rules.{Text}
 use Rattle.iref_grammar.specs.Grammar.{hash_sign, colon, question_mark}
@@ -18,7 +18,7 @@ use Rattle.iref_grammar.specs.PathValue.{spell_path, read_path}
 use Rattle.iref_grammar.specs.Contexts.{fits}
 use Rattle.iref_grammar.specs.ComponentTexts.{ComponentTexts, AreComponents, read_components}
 use Rattle.iref_grammar.specs.Reference.{ReferenceValue, context_of, is_readable, spell, read_reference, is_reference, is_full_reference}
-use Rattle.iref_grammar.specs.Places.{places_in, path_start}
+use Rattle.iref_grammar.specs.ComponentOffsets.{offsets_in, path_start}
 use Rattle.iref_grammar.proofs.TextLemmas.{first_of_both, second_of_both}
 use Rattle.iref_grammar.proofs.PathLemmas.{read_path-reads}
 use Rattle.iref_grammar.proofs.ReadablePartsLemmas.{readable_parts, readable_from}
@@ -112,8 +112,8 @@ module _ (t : ComponentTexts) (file_name : Text) (cut : directory_text t.path ++
       moved scheme_part authority_part (spell_path (directory (read_path t.path))) file_name query fragment
       ∙ ap (λ p. scheme_part ++ authority_part ++ p ++ query ++ fragment) same_path
 
-  pub base-ends : (places_in (read_components t)).path.end ≡ length (spell (base_of (read_components t))) + length file_name
-  unfolding spell base_of places_in
+  pub base-ends : (offsets_in (read_components t)).path.end ≡ length (spell (base_of (read_components t))) + length file_name
+  unfolding spell base_of offsets_in
   base-ends =
       ap (λ p. path_start (read_components t) + length p) (sym same_path)
       ∙ measured scheme_part authority_part (spell_path (directory (read_path t.path))) file_name

@@ -12,7 +12,7 @@ use Rattle.iref_grammar.specs.Texts.{part_then, then_part}
 use Rattle.iref_grammar.specs.Authority.{AuthorityValue, spell_authority, read_authority, is_authority, has_authority_parts}
 use Rattle.iref_grammar.specs.PathValue.{PathValue, spell_path}
 use Rattle.iref_grammar.specs.Reference.{ReferenceValue, spell, read_reference, is_readable, is_reference}
-use Rattle.iref_grammar.specs.Places.{place_from, authority_mark, path_start, query_mark, places_in, places_of}
+use Rattle.iref_grammar.specs.ComponentOffsets.{place_from, authority_mark, path_start, query_mark, offsets_in, offsets_of}
 use Rattle.iref_grammar.specs.Tests.{none_or}
 use Rattle.iref_grammar.proofs.AuthorityLemmas.{read_authority-spelled}
 use Rattle.iref_grammar.proofs.ReadableLemmas.{readable_read}
@@ -26,7 +26,7 @@ use Rattle.iref_buffer.specs.ComponentLengths.{lengths_of, with_mark, HasLengths
 use Rattle.iref_buffer.specs.Steps.{StepsOrStays}
 use Rattle.iref_buffer.specs.PlaceTexts.{front_end, authority_start_at, authority_start}
 use Rattle.iref_edit.specs.Changes.{IsWithin}
-use Rattle.iref_buffer.proofs.HeldLemmas.{fragment_marked, places_within, front_within, authority_mark_within}
+use Rattle.iref_buffer.proofs.HeldLemmas.{fragment_marked, offsets_within, front_within, authority_mark_within}
 use Rattle.iref_buffer.proofs.LengthLemmas.{first_len, marked_len}
 
 pub readable_of : (set : CharTests) (text : Text) → is_reference set text ≡ true → is_readable set (read_reference text) ≡ true
@@ -108,26 +108,26 @@ module _ (text : Text) where
   unfolding spell
   spelled = sym (read_reference-spelled text)
 
-  pub query_replaced : (query : Option Text) → splice text (places_of text).path.end (front_end (places_of text)) (then_part (question_mark ∷ []) query) ≡ spell (with_query query r)
-  unfolding spell places_of places_in
+  pub query_replaced : (query : Option Text) → splice text (offsets_of text).path.end (front_end (offsets_of text)) (then_part (question_mark ∷ []) query) ≡ spell (with_query query r)
+  unfolding spell offsets_of offsets_in
   query_replaced query =
       let new = then_part (question_mark ∷ []) query in
       (λ i. splice (spelled i) (query_mark r) (fragment_marked r i) new) ∙ query_spliced s a p q f new
 
-  pub fragment_replaced : (fragment : Option Text) → splice text (front_end (places_of text)) (length text) (then_part (hash_sign ∷ []) fragment) ≡ spell (with_fragment fragment r)
-  unfolding spell places_of places_in
+  pub fragment_replaced : (fragment : Option Text) → splice text (front_end (offsets_of text)) (length text) (then_part (hash_sign ∷ []) fragment) ≡ spell (with_fragment fragment r)
+  unfolding spell offsets_of offsets_in
   fragment_replaced fragment =
       let new = then_part (hash_sign ∷ []) fragment in
       (λ i. splice (spelled i) (fragment_marked r i) (length (spelled i)) new) ∙ fragment_spliced s a p q f new
 
-  pub path_replaced : (path : PathValue) → splice text (places_of text).path.start (places_of text).path.end (spell_path path) ≡ spell (record r { path = path })
-  unfolding spell places_of places_in
+  pub path_replaced : (path : PathValue) → splice text (offsets_of text).path.start (offsets_of text).path.end (spell_path path) ≡ spell (record r { path = path })
+  unfolding spell offsets_of offsets_in
   path_replaced path =
       let new = spell_path path in
       ap (λ t. splice t (path_start r) (query_mark r) new) spelled ∙ path_spliced s a p q f new
 
-  pub authority_starts : authority_start (places_of text) ≡ authority_mark r
-  unfolding places_of places_in
+  pub authority_starts : authority_start (offsets_of text) ≡ authority_mark r
+  unfolding offsets_of offsets_in
   authority_starts = by (authority_mark r) r.authority
     where
       by : (mark : ℕ) (o : Option AuthorityValue) → authority_start_at (option_map (place_from (mark + 2)) (option_map spell_authority o)) (mark + length (then_part (codes "//") (option_map spell_authority o))) ≡ mark
@@ -136,7 +136,7 @@ module _ (text : Text) where
 
   pub authority_part_replaced : (value : AuthorityValue) → is_some r.authority ≡ true
       → splice text (place_of_authority text).start (place_of_authority text).end (spell_authority value) ≡ spell (with_authority_step (λ a. value) r)
-  unfolding spell places_of places_in
+  unfolding spell offsets_of offsets_in
   authority_part_replaced value has = ap (λ t. splice t (authority_mark r + 2) (path_start r) (spell_authority value)) spelled ∙ by r.authority has
     where
       by : (o : Option AuthorityValue) → is_some o ≡ true
@@ -146,8 +146,8 @@ module _ (text : Text) where
       by (Some old) h = marked_spliced s (spell_authority old) p q f (spell_authority value) (codes "//")
 
   pub authority_replaced : (authority : Option AuthorityValue) (path : PathValue) (lead : Text) → lead ++ p ≡ spell_path path
-      → splice text (authority_start (places_of text)) (places_of text).path.start (then_part (codes "//") (option_map spell_authority authority) ++ lead) ≡ spell (record r { authority = authority; path = path })
-  unfolding spell places_of places_in
+      → splice text (authority_start (offsets_of text)) (offsets_of text).path.start (then_part (codes "//") (option_map spell_authority authority) ++ lead) ≡ spell (record r { authority = authority; path = path })
+  unfolding spell offsets_of offsets_in
   authority_replaced authority path lead e =
       let new = then_part (codes "//") (option_map spell_authority authority) in
       (λ i. splice (spelled i) (authority_starts i) (path_start r) (new ++ lead)) ∙ authority_spliced s a p q f (new ++ lead)
@@ -157,7 +157,7 @@ module _ (text : Text) where
       regroup new lead = simp append_assoc
 
   pub scheme_replaced : (scheme : Option Text) (path : PathValue) (lead : Text) → lead ++ a ++ p ≡ a ++ spell_path path
-      → splice text 0 (authority_start (places_of text)) (part_then (colon ∷ []) scheme ++ lead) ≡ spell (record r { scheme = scheme; path = path })
+      → splice text 0 (authority_start (offsets_of text)) (part_then (colon ∷ []) scheme ++ lead) ≡ spell (record r { scheme = scheme; path = path })
   unfolding spell
   scheme_replaced scheme path lead e =
       let new = part_then (colon ∷ []) scheme in
@@ -172,24 +172,24 @@ module _ (text : Text) where
 
 -- ---- where the parts stand in a text
 
-path_before_front : (text : Text) → (places_of text).path.end ≤ front_end (places_of text)
-unfolding places_of places_in
+path_before_front : (text : Text) → (offsets_of text).path.end ≤ front_end (offsets_of text)
+unfolding offsets_of offsets_in
 path_before_front text = rw (fragment_marked (read_reference text)) (omega arith)
 
-authority_before_path : (text : Text) → authority_start (places_of text) ≤ (places_of text).path.start
-unfolding places_of places_in
+authority_before_path : (text : Text) → authority_start (offsets_of text) ≤ (offsets_of text).path.start
+unfolding offsets_of offsets_in
 authority_before_path text = rw (authority_starts text) (omega arith)
 
-pub authority_after_mark : (text : Text) → IfSome (places_of text).authority (λ authority. 2 ≤ authority.start)
-unfolding places_of places_in
+pub authority_after_mark : (text : Text) → IfSome (offsets_of text).authority (λ authority. 2 ≤ authority.start)
+unfolding offsets_of offsets_in
 authority_after_mark text = by (read_reference text).authority
   where
     by : (o : Option AuthorityValue) → IfSome (option_map (place_from (authority_mark (read_reference text) + 2)) (option_map spell_authority o)) (λ authority. 2 ≤ authority.start)
     by None = tt
     by (Some authority) = omega arith
 
-pub authority_length : (text : Text) → (places_of text).path.start - authority_start (places_of text) ≡ with_mark 2 (lengths_of (read_reference text)).authority
-unfolding places_of places_in
+pub authority_length : (text : Text) → (offsets_of text).path.start - authority_start (offsets_of text) ≡ with_mark 2 (lengths_of (read_reference text)).authority
+unfolding offsets_of offsets_in
 authority_length text =
     let authority : Option Text = option_map spell_authority (read_reference text).authority in
     ap (λ n. path_start (read_reference text) - n) (authority_starts text) ∙ back (authority_mark (read_reference text)) (length (then_part (codes "//") authority))
@@ -198,8 +198,8 @@ authority_length text =
     back : (m n : ℕ) → m + n - m ≡ n
     back m n = omega arith
 
-pub scheme_length : (text : Text) → authority_start (places_of text) - 0 ≡ with_mark 1 (lengths_of (read_reference text)).scheme
-scheme_length text = whole (authority_start (places_of text)) ∙ authority_starts text ∙ sym (first_len (read_reference text).scheme)
+pub scheme_length : (text : Text) → authority_start (offsets_of text) - 0 ≡ with_mark 1 (lengths_of (read_reference text)).scheme
+scheme_length text = whole (authority_start (offsets_of text)) ∙ authority_starts text ∙ sym (first_len (read_reference text).scheme)
   where
     whole : (n : ℕ) → n - 0 ≡ n
     whole n = omega arith
@@ -237,32 +237,32 @@ with_scheme-parts None r = refl
 with_scheme-parts (Some scheme) r = refl
 
 module _ (set : CharTests) (above : AreAboveAscii set) (text : Text) (h : is_reference set text ≡ true) where
-  pub query_within : IsWithin text (record { start = (places_of text).path.end; end = front_end (places_of text) })
+  pub query_within : IsWithin text (record { start = (offsets_of text).path.end; end = front_end (offsets_of text) })
   query_within =
-      let places = places_within set above text h in
-      record { start_le_end = path_before_front text; start = places.path.end; end = front_within text (places_of text) places }
+      let offsets = offsets_within set above text h in
+      record { start_le_end = path_before_front text; start = offsets.path.end; end = front_within text (offsets_of text) offsets }
 
-  pub fragment_within : IsWithin text (record { start = front_end (places_of text); end = length text })
+  pub fragment_within : IsWithin text (record { start = front_end (offsets_of text); end = length text })
   fragment_within =
-      let front = front_within text (places_of text) (places_within set above text h) in
+      let front = front_within text (offsets_of text) (offsets_within set above text h) in
       record { start_le_end = front.0; start = front; end = IsCharBoundary-end text }
 
-  pub authority_within : IsWithin text (record { start = authority_start (places_of text); end = (places_of text).path.start })
+  pub authority_within : IsWithin text (record { start = authority_start (offsets_of text); end = (offsets_of text).path.start })
   authority_within = record {
     start_le_end = authority_before_path text;
     start = subst (IsCharBoundary text) (sym (authority_starts text)) (authority_mark_within set above text h);
-    end = (places_within set above text h).path.start;
+    end = (offsets_within set above text h).path.start;
   }
 
   start_within : IsCharBoundary text 0
-  unfolding places_of places_in
-  start_within = by (read_reference text).scheme (places_within set above text h).scheme (authority_mark_within set above text h)
+  unfolding offsets_of offsets_in
+  start_within = by (read_reference text).scheme (offsets_within set above text h).scheme (authority_mark_within set above text h)
     where
       by : (o : Option Text) → IfSome (option_map (place_from 0) o) (IsWithin text) → IsCharBoundary text (length (part_then (colon ∷ []) o)) → IsCharBoundary text 0
       by None u v = v
       by (Some part) u v = u.start
 
-  pub scheme_within : IsWithin text (record { start = 0; end = authority_start (places_of text) })
+  pub scheme_within : IsWithin text (record { start = 0; end = authority_start (offsets_of text) })
   scheme_within = record {
     start_le_end = omega arith;
     start = start_within;

@@ -15,7 +15,7 @@ use Rattle.iref_grammar.specs.Authority.{spell_authority}
 use Rattle.iref_grammar.specs.PathValue.{spell_path}
 use Rattle.iref_grammar.specs.Reference.{ReferenceValue, hierarchy, split_scheme, split_authority, spell, read_reference, is_reference}
 use Rattle.iref_grammar.specs.ComponentTexts.{ComponentTexts, AreComponents, spell_components, read_components}
-use Rattle.iref_grammar.specs.Places.{place_from, authority_mark, query_mark, fragment_mark, places_in, places_of}
+use Rattle.iref_grammar.specs.ComponentOffsets.{place_from, authority_mark, query_mark, fragment_mark, offsets_in, offsets_of}
 use Rattle.iref_grammar.proofs.LeafLemmas.{Decides-is_query, Decides-is_fragment}
 use Rattle.iref_grammar.proofs.PartRuleLemmas.{Decides-is_scheme_bytes}
 use Rattle.iref_grammar.proofs.AuthorityRuleLemmas.{Decides-is_authority}
@@ -26,11 +26,11 @@ use Rattle.iref_grammar.proofs.ReferenceCutLemmas.{read_reference-spelled}
 use Rattle.iref_buffer.specs.PlaceTexts.{AreWithin, texts_at, front_end, front_end_at}
 use Rattle.iref_edit.specs.Changes.{IsWithin}
 use Rattle.iref_grammar.proofs.FrontLemmas.{read_reference-before_hash, read_reference-hierarchy}
-use Rattle.iref_grammar.specs.declared.places.Offsets.{Offsets}
+use Rattle.iref_grammar.specs.declared.offsets.Offsets.{Offsets}
 
--- what stands at the places of a text are its components
-pub texts_at-places : (text : Text) → texts_at text (places_of text) ≡ spell_components (read_reference text)
-texts_at-places text = λ i. record { scheme = scheme_place text i; authority = authority_place text i; path = path_place text i; query = query_place text i; fragment = fragment_place text i }
+-- what stands at the offsets of a text are its components
+pub texts_at-offsets : (text : Text) → texts_at text (offsets_of text) ≡ spell_components (read_reference text)
+texts_at-offsets text = λ i. record { scheme = scheme_place text i; authority = authority_place text i; path = path_place text i; query = query_place text i; fragment = fragment_place text i }
 
 -- the components of a text, as it is cut
 abbrev cut_texts : Text → ComponentTexts
@@ -158,8 +158,8 @@ module _ (r : ReferenceValue) (u : AreUtf8 (spell_components r)) where
   unfolding spell
   mark_within = IsCharBoundary-at_seam (s ++ a ++ p ++ q ++ f) s (a ++ p ++ q ++ f) (sym (around_scheme s a p q f)) behind_scheme
 
-  spelled_within : AreWithin (spell r) (places_in r)
-  unfolding spell places_in
+  spelled_within : AreWithin (spell r) (offsets_in r)
+  unfolding spell offsets_in
   spelled_within = record {
     scheme = subst (λ t. IfSome (option_map (place_from 0) r.scheme) (IsWithin t)) (around_scheme s a p q f)
         (within_before (colon ∷ []) r.scheme (a ++ p ++ q ++ f) (utf8_mark colon (lit< tt)) u.scheme (behind_scheme));
@@ -195,11 +195,11 @@ module _ (set : CharTests) (above : AreAboveAscii set) where
   pub components_of : (text : Text) → is_reference set text ≡ true → AreComponents set (spell_components (read_reference text))
   components_of text h = (Decides-AreComponents set above text _ (read_components-spelled text)).0 h
 
-  -- the places of a reference lie in it, between characters
-  pub places_within : (text : Text) → is_reference set text ≡ true → AreWithin text (places_of text)
-  unfolding places_of
-  places_within text h =
-      subst (λ t. AreWithin t (places_in (read_reference text))) (read_reference-spelled text)
+  -- the offsets of a reference lie in it, between characters
+  pub offsets_within : (text : Text) → is_reference set text ≡ true → AreWithin text (offsets_of text)
+  unfolding offsets_of
+  offsets_within text h =
+      subst (λ t. AreWithin t (offsets_in (read_reference text))) (read_reference-spelled text)
       (spelled_within (read_reference text) (components_utf8 _ (components_of text h)))
 
   -- and so does the mark of the authority
@@ -217,16 +217,16 @@ module _ (s a p q f : Text) where
   hierarchy_of = same_lists _ _ (search (rules, places)) (λ k d h. grind (arith, places))
 
 -- the query ends, or the path without one, where the mark of the fragment stands
-pub fragment_marked : (r : ReferenceValue) → front_end (places_in r) ≡ fragment_mark r
-unfolding places_in
+pub fragment_marked : (r : ReferenceValue) → front_end (offsets_in r) ≡ fragment_mark r
+unfolding offsets_in
 fragment_marked r = by r.query
   where
     by : (o : Option Text) → front_end_at (option_map (place_from (query_mark r + 1)) o) (query_mark r) ≡ query_mark r + length (then_part (question_mark ∷ []) o)
     by None = omega arith
     by (Some query) = omega arith
 
-pub front-place : (text : Text) → take (front_end (places_of text)) text ≡ before (hash_sign ∷ []) text
-unfolding places_of spell
+pub front-place : (text : Text) → take (front_end (offsets_of text)) text ≡ before (hash_sign ∷ []) text
+unfolding offsets_of spell
 front-place text =
     let r = read_reference text in
     let spelled = sym (read_reference-spelled text) in
@@ -235,8 +235,8 @@ front-place text =
     (then_part (question_mark ∷ []) r.query) (then_part (hash_sign ∷ []) r.fragment))
     ∙ ap spell (sym (read_reference-before_hash text)) ∙ read_reference-spelled (before (hash_sign ∷ []) text)
 
-pub hierarchy-place : (text : Text) → take (places_of text).path.end text ≡ hierarchy text
-unfolding places_of places_in spell
+pub hierarchy-place : (text : Text) → take (offsets_of text).path.end text ≡ hierarchy text
+unfolding offsets_of offsets_in spell
 hierarchy-place text =
     let r = read_reference text in
     ap (take (query_mark r)) (sym (read_reference-spelled text))
@@ -245,10 +245,10 @@ hierarchy-place text =
     ∙ ap spell (sym (read_reference-hierarchy text)) ∙ read_reference-spelled (hierarchy text)
 
 -- the text may be cut there
-pub front_within : (text : Text) (places : Offsets) → AreWithin text places → IsCharBoundary text (front_end places)
-front_within text places w = by places.query w.query
+pub front_within : (text : Text) (offsets : Offsets) → AreWithin text offsets → IsCharBoundary text (front_end offsets)
+front_within text offsets w = by offsets.query w.query
   where
-    by : (o : Option (Range ℕ)) → IfSome o (IsWithin text) → IsCharBoundary text (front_end_at o places.path.end)
+    by : (o : Option (Range ℕ)) → IfSome o (IsWithin text) → IsCharBoundary text (front_end_at o offsets.path.end)
     by None u = w.path.end
     by (Some place) u = u.end
 

@@ -1,15 +1,15 @@
--- The places of a reference follow from the lengths of its components.
+-- The offsets of a reference follow from the lengths of its components.
 use Rattle.std.proofs.Common.{◌≡◌, ℕ, ◌+◌, ◌-◌, [], ◌∷◌, ◌++◌, length, refl, sym, ◌∙◌, ap, arith}
 use Rattle.std.specs.Prelude.{codes, Option, Some, None, is_some, option_map}
 use Rattle.std.proofs.lemmas.List.{length-append}
-use Rattle.iref_grammar.specs.declared.places.Offsets.{Offsets}
+use Rattle.iref_grammar.specs.declared.offsets.Offsets.{Offsets}
 use Rattle.iref_grammar.specs.Rules.{Text}
 use Rattle.iref_grammar.specs.Grammar.{colon, question_mark, hash_sign}
 use Rattle.iref_grammar.specs.Texts.{part_then, then_part}
 use Rattle.iref_grammar.specs.Authority.{AuthorityValue, spell_authority}
 use Rattle.iref_grammar.specs.PathValue.{spell_path}
 use Rattle.iref_grammar.specs.Reference.{ReferenceValue, context_of, spell, read_reference}
-use Rattle.iref_grammar.specs.Places.{place_from, places_in, places_of, authority_mark, path_start, query_mark, fragment_mark}
+use Rattle.iref_grammar.specs.ComponentOffsets.{place_from, offsets_in, offsets_of, authority_mark, path_start, query_mark, fragment_mark}
 use Rattle.iref_grammar.proofs.ReferenceCutLemmas.{read_reference-spelled}
 use Rattle.iref_buffer.specs.ComponentLengths.{place_len, place_with_len, with_mark, lengths_at, lengths_of, context_by, placed, total_length}
 
@@ -18,9 +18,9 @@ place_holds : (start : ℕ) (o : Option Text) → option_map place_len (option_m
 place_holds start None = refl
 place_holds start (Some part) = ap Some (omega arith)
 
-lengths-places_in : (r : ReferenceValue) → lengths_at (places_in r) ≡ lengths_of r
-unfolding places_in
-lengths-places_in r = λ i. record {
+lengths-offsets_in : (r : ReferenceValue) → lengths_at (offsets_in r) ≡ lengths_of r
+unfolding offsets_in
+lengths-offsets_in r = λ i. record {
   scheme = place_holds 0 r.scheme i;
   authority = place_holds (authority_mark r + 2) (option_map spell_authority r.authority) i;
   path = held (path_start r) (length (spell_path r.path)) i;
@@ -31,9 +31,9 @@ lengths-places_in r = λ i. record {
     held : (start n : ℕ) → start + n - start ≡ n
     held start n = omega arith
 
-pub lengths-places_of : (text : Text) → lengths_at (places_of text) ≡ lengths_of (read_reference text)
-unfolding places_of
-lengths-places_of text = lengths-places_in (read_reference text)
+pub lengths-offsets_of : (text : Text) → lengths_at (offsets_of text) ≡ lengths_of (read_reference text)
+unfolding offsets_of
+lengths-offsets_of text = lengths-offsets_in (read_reference text)
 
 -- a part with its mark
 pub first_len : (o : Option Text) → with_mark 1 (option_map length o) ≡ length (part_then (colon ∷ []) o)
@@ -58,8 +58,8 @@ of_parts r s a q = record {
   fragment = option_map (place_from (s + a + length (spell_path r.path) + q + 1)) r.fragment;
 }
 
-placed-lengths : (r : ReferenceValue) → placed (lengths_of r) ≡ places_in r
-unfolding places_in
+placed-lengths : (r : ReferenceValue) → placed (lengths_of r) ≡ offsets_in r
+unfolding offsets_in
 placed-lengths r =
     let authority : Option Text = option_map spell_authority r.authority in
     let s = first_len r.scheme in
@@ -93,8 +93,8 @@ total-lengths r =
 pub total-read : (text : Text) → total_length (lengths_of (read_reference text)) ≡ length text
 total-read text = total-lengths (read_reference text) ∙ ap length (read_reference-spelled text)
 
-pub placed-read : (text : Text) → placed (lengths_of (read_reference text)) ≡ places_of text
-unfolding places_of
+pub placed-read : (text : Text) → placed (lengths_of (read_reference text)) ≡ offsets_of text
+unfolding offsets_of
 placed-read text = placed-lengths (read_reference text)
 
 some_length : (o : Option Text) → is_some (option_map length o) ≡ is_some o

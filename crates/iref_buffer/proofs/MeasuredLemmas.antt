@@ -12,7 +12,7 @@ use Rattle.iref_grammar.specs.Authority.{AuthorityValue, spell_authority, read_a
 use Rattle.iref_grammar.specs.PathValue.{PathValue, read_path, segments_of, spell_path}
 use Rattle.iref_grammar.specs.Contexts.{fits}
 use Rattle.iref_grammar.specs.Characters.{AreAboveAscii, CharTests}
-use Rattle.iref_grammar.specs.Places.{places_of}
+use Rattle.iref_grammar.specs.ComponentOffsets.{offsets_of}
 use Rattle.iref_grammar.specs.Reference.{ReferenceValue, context_of, is_readable, is_reference, read_reference, spell}
 use Rattle.iref_grammar.specs.ComponentTexts.{ComponentTexts, read_components, spell_components}
 use Rattle.iref_grammar.proofs.AuthorityLemmas.{read_authority-spelled}
@@ -169,7 +169,7 @@ spelled_texts t r e = ap spell_texts e
 
 pub record AreHeld (test : Text → Bool) (t : ComponentTexts) (r : ReferenceValue) : Type 0 where
   pub in_rule : test (spell_texts t) ≡ true
-  pub places : placed (lengths_of_texts t) ≡ places_of (spell_texts t)
+  pub offsets : placed (lengths_of_texts t) ≡ offsets_of (spell_texts t)
   pub spelled : spell_texts t ≡ spell r
   pub value : read_reference (spell_texts t) ≡ r
 
@@ -180,7 +180,7 @@ are_held set above test allows allowed t r e h k =
     let step = is_step set above test allows allowed (spell_texts t) r (spelled_texts t r e) h k in
     record {
       in_rule = step.leaves.in_rule;
-      places = ap placed (ap lengths_of_texts e ∙ step.leaves.lengths) ∙ placed-read (spell_texts t);
+      offsets = ap placed (ap lengths_of_texts e ∙ step.leaves.lengths) ∙ placed-read (spell_texts t);
       spelled = spelled_texts t r e;
       value = step.value;
     }

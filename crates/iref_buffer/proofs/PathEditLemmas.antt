@@ -11,7 +11,7 @@ use Rattle.iref_grammar.specs.Tests.{is_path, is_segment}
 use Rattle.iref_grammar.specs.Contexts.{fits, follows_authority, reads_as_path, is_path_in}
 use Rattle.iref_grammar.specs.PathValue.{spell_path, read_path}
 use Rattle.iref_grammar.specs.Reference.{ReferenceValue, context_of, spell, read_reference, is_readable}
-use Rattle.iref_grammar.specs.Places.{places_of, text_at}
+use Rattle.iref_grammar.specs.ComponentOffsets.{offsets_of, text_at}
 use Rattle.iref_grammar.proofs.PathLemmas.{read_path-reads}
 use Rattle.iref_grammar.proofs.PathTestLemmas.{is_path-segments}
 use Rattle.iref_grammar.proofs.PlaceLemmas.{path_place}
@@ -47,7 +47,7 @@ read_path-readable set r path h k =
 
 pub path_text_replaced : (text path : Text) → with_path_text path text ≡ spell (with_path_read path (read_reference text))
 path_text_replaced text path =
-    ap (splice text (places_of text).path.start (places_of text).path.end) (sym (read_path-reads path).spelled) ∙ path_replaced text (read_path path)
+    ap (splice text (offsets_of text).path.start (offsets_of text).path.end) (sym (read_path-reads path).spelled) ∙ path_replaced text (read_path path)
 
 slice-length : (bs : Text) (start end : ℕ) → end ≤ length bs → length (slice_range bs start end) ≡ end - start
 slice-length bs start end h = simp (length-take, length-drop) (omega arith)

@@ -3,14 +3,14 @@ use Rattle.std.proofs.Common.{◌≡◌, ℕ, ◌+◌, Bool, true, false, cond, 
 use Rattle.std.proofs.lemmas.Bool.{and_from}
 use Rattle.std.specs.List.{list_all}
 use Rattle.std.specs.declared.ops.Range.{Range}
-use Rattle.iref_grammar.specs.declared.places.PathContext.{PathContext}
+use Rattle.iref_grammar.specs.declared.context.PathContext.{PathContext}
 use Rattle.iref_grammar.specs.Characters.{CharTests, AreAboveAscii}
 use Rattle.iref_grammar.specs.Rules.{Text}
 use Rattle.iref_grammar.specs.Tests.{is_path, is_segment}
 use Rattle.iref_grammar.specs.Texts.{is_empty}
 use Rattle.iref_grammar.specs.Contexts.{is_path_in, is_readable_path, fits, follows_authority, reads_as_path}
 use Rattle.iref_grammar.specs.PathValue.{PathValue, read_path, spell_path}
-use Rattle.iref_grammar.specs.Places.{places_in, places_of, path_start}
+use Rattle.iref_grammar.specs.ComponentOffsets.{offsets_in, offsets_of, path_start}
 use Rattle.iref_grammar.specs.Reference.{ReferenceValue, read_reference, context_of, is_readable, is_reference}
 use Rattle.iref_grammar.proofs.PathLemmas.{read_path-reads, read-spelled}
 use Rattle.iref_grammar.proofs.PathTestLemmas.{is_path-segments}
@@ -53,13 +53,13 @@ path_stands set above text h =
 
 -- ---- after an edit
 
-pub place_of_new_path : (old new path : Text) → read_reference new ≡ record (read_reference old) { path = read_path path } → let start = (places_of old).path.start in
-    let place : Range ℕ = record { start = start; end = start + length path } in (places_of new).path ≡ place
-unfolding places_of places_in
+pub place_of_new_path : (old new path : Text) → read_reference new ≡ record (read_reference old) { path = read_path path } → let start = (offsets_of old).path.start in
+    let place : Range ℕ = record { start = start; end = start + length path } in (offsets_of new).path ≡ place
+unfolding offsets_of offsets_in
 place_of_new_path old new path e =
     let start = path_start (read_reference old) in
     let of_len : ℕ → Range ℕ = λ n. record { start = start; end = start + n } in
-    ap (λ r. (places_in r).path) e ∙ ap of_len (ap length (read_path-reads path).spelled)
+    ap (λ r. (offsets_in r).path) e ∙ ap of_len (ap length (read_path-reads path).spelled)
 
 -- ---- the normal path
 

@@ -6,12 +6,12 @@ use Rattle.std.proofs.Props.{props}
 use Rattle.iref_grammar.specs.Characters.{CharTests}
 use Rattle.iref_grammar.specs.Rules.{Text}
 use Rattle.iref_grammar.specs.Reference.{is_reference, read_reference}
-use Rattle.iref_grammar.specs.Places.{authority_mark, places_of, text_at}
+use Rattle.iref_grammar.specs.ComponentOffsets.{authority_mark, offsets_of, text_at}
 use Rattle.iref_grammar.proofs.PlaceLemmas.{IsInside, authority_inside}
 
 -- the authority of the reference that the text spells stands there
 abbrev pub IsAuthorityOf : CharTests → Text → ℕ → ℕ → Type 0
-IsAuthorityOf set text start end = (is_reference set text ≡ true) × ((places_of text).authority ≡ Some (record { start = start; end = end }))
+IsAuthorityOf set text start end = (is_reference set text ≡ true) × ((offsets_of text).authority ≡ Some (record { start = start; end = end }))
 
 pub one_authority : (set : CharTests) (text : Text) (start end : ℕ) → IsProp (IsAuthorityOf set text start end)
 one_authority set text start end = hlevel props
@@ -21,7 +21,7 @@ authority_is_within set text start end stands = subst (λ place. IfSome place (I
 
 -- what stands between the `//` and the path
 abbrev pub place_of_authority : Text → Range ℕ
-place_of_authority text = record { start = authority_mark (read_reference text) + 2; end = (places_of text).path.start }
+place_of_authority text = record { start = authority_mark (read_reference text) + 2; end = (offsets_of text).path.start }
 
 -- the authority, where there is one
 abbrev pub authority_part : Text → Text

@@ -2,8 +2,8 @@
 use Rattle.std.specs.Prelude.{◌≡◌, Bool, true, ℕ, ◌+◌, ◌-◌, length}
 use Rattle.std.specs.Prelude.{Option, Some, None, is_some, option_map}
 use Rattle.std.specs.declared.ops.Range.{Range}
-use Rattle.iref_grammar.specs.declared.places.PathContext.{PathContext}
-use Rattle.iref_grammar.specs.declared.places.Offsets.{Offsets}
+use Rattle.iref_grammar.specs.declared.context.PathContext.{PathContext}
+use Rattle.iref_grammar.specs.declared.offsets.Offsets.{Offsets}
 use Rattle.iref_grammar.specs.Rules.{Text}
 use Rattle.iref_grammar.specs.Authority.{spell_authority}
 use Rattle.iref_grammar.specs.ComponentTexts.{ComponentTexts}
@@ -14,14 +14,14 @@ use Rattle.iref_buffer.specs.declared.lengths.Lengths.{Lengths}
 abbrev pub place_len : Range ℕ → ℕ
 place_len place = place.end - place.start
 
--- of what stands at the places
+-- of what stands at the offsets
 abbrev pub lengths_at : Offsets → Lengths
-lengths_at places = record {
-  scheme = option_map place_len places.scheme;
-  authority = option_map place_len places.authority;
-  path = place_len places.path;
-  query = option_map place_len places.query;
-  fragment = option_map place_len places.fragment;
+lengths_at offsets = record {
+  scheme = option_map place_len offsets.scheme;
+  authority = option_map place_len offsets.authority;
+  path = place_len offsets.path;
+  query = option_map place_len offsets.query;
+  fragment = option_map place_len offsets.fragment;
 }
 
 -- of the components of a reference
@@ -66,7 +66,7 @@ query_after l = path_after l + l.path
 abbrev pub fragment_after : Lengths → ℕ
 fragment_after l = query_after l + with_mark 1 l.query
 
--- the places of components of these lengths
+-- the offsets of components of these lengths
 abbrev pub placed : Lengths → Offsets
 placed l = record {
   scheme = option_map (place_with_len 0) l.scheme;

@@ -5,7 +5,7 @@ pub use Rattle.iref_grammar.specs.ComponentTexts.{AreComponents, spell_component
 pub use Rattle.iref_grammar.specs.Contexts.{is_path_in}
 pub use Rattle.iref_grammar.specs.Grammar.{colon, hash_sign, question_mark}
 pub use Rattle.iref_grammar.specs.PathValue.{PathValue, read_path, spell_path}
-pub use Rattle.iref_grammar.specs.Places.{places_of}
+pub use Rattle.iref_grammar.specs.ComponentOffsets.{offsets_of}
 pub use Rattle.iref_grammar.specs.Reference.{context_of, hierarchy, is_readable, is_reference, read_reference, spell}
 pub use Rattle.iref_grammar.specs.Rules.{InUtf8, Text}
 pub use Rattle.iref_grammar.specs.Tests.{is_fragment, is_path, is_query, is_scheme, none_or}

@@ -1,19 +1,19 @@
 -- Where the path of a reference stands, and what is left of it without dot segments.
 use Rattle.std.specs.Prelude.{ℕ, ◌≡◌, ◌≤◌, true, [], is_some, length}
 use Rattle.std.proofs.Props.{props}
-use Rattle.iref_grammar.specs.declared.places.PathContext.{PathContext}
+use Rattle.iref_grammar.specs.declared.context.PathContext.{PathContext}
 use Rattle.iref_grammar.specs.Characters.{CharTests}
 use Rattle.iref_grammar.specs.Rules.{Text}
 use Rattle.iref_grammar.specs.PathValue.{spell_path}
 use Rattle.iref_grammar.specs.Reference.{ReferenceValue, read_reference, is_reference}
-use Rattle.iref_grammar.specs.Places.{places_of}
+use Rattle.iref_grammar.specs.ComponentOffsets.{offsets_of}
 use Rattle.iref_grammar.proofs.PlaceLemmas.{path_inside}
 use Rattle.iref_model.specs.DotSegments.{RemovesDotSegments}
 
 -- the path of the reference that the text spells, in its context
 abbrev pub IsPathOf : CharTests → Text → PathContext → ℕ → ℕ → Type 0
 IsPathOf set text context start end =
-    (is_reference set text ≡ true) × (start ≡ (places_of text).path.start) × (end ≡ (places_of text).path.end)
+    (is_reference set text ≡ true) × (start ≡ (offsets_of text).path.start) × (end ≡ (offsets_of text).path.end)
     × (context.has_scheme ≡ is_some (read_reference text).scheme) × (context.has_authority ≡ is_some (read_reference text).authority)
 
 pub one_path : (set : CharTests) (text : Text) (context : PathContext) (start end : ℕ) → IsProp (IsPathOf set text context start end)

@@ -6,7 +6,7 @@ use Rattle.iref_grammar.specs.Texts.{then_part}
 use Rattle.iref_grammar.specs.Authority.{spell_authority}
 use Rattle.iref_grammar.specs.PathValue.{read_path}
 use Rattle.iref_grammar.specs.Reference.{ReferenceValue, read_reference}
-use Rattle.iref_grammar.specs.Places.{places_of, text_at}
+use Rattle.iref_grammar.specs.ComponentOffsets.{offsets_of, text_at}
 
 -- the authority and its mark
 abbrev pub authority_text : Text → Text
@@ -14,11 +14,11 @@ authority_text text =
     then_part (codes "//") (option_map spell_authority (read_reference text).authority)
 
 abbrev pub path_text : Text → Text
-path_text text = text_at text (places_of text).path
+path_text text = text_at text (offsets_of text).path
 
 -- another text in place of the path's
 abbrev pub with_path_text : Text → Text → Text
-with_path_text path text = splice text (places_of text).path.start (places_of text).path.end path
+with_path_text path text = splice text (offsets_of text).path.start (offsets_of text).path.end path
 
 -- the path that is read from a text
 abbrev pub with_path_read : Text → ReferenceValue → ReferenceValue

@@ -6,7 +6,7 @@ ghost use Rattle.iref_component.specs.{AreComponents, is_reference, read_referen
 ghost use Rattle.iref_component.specs.{directory_text, base_of};
 
 use iref_grammar::chars::CharSet;
-use iref_parse::places::places_of;
+use iref_parse::offsets::offsets_of;
 use iref_parse::split::{ReferenceSlices, split_reference};
 
 // What follows the last `/` of a path, or all of the path.
@@ -26,7 +26,7 @@ pub fn base_slice<'a, C: CharSet>(text: &'a str, slices: ReferenceSlices<'a>) ->
     ensures { result.now ≡ spell (base_of (read_reference text.now)) }
 {
     let file_name = after_directory(slices.path);
-    let end = places_of(slices).path.end - file_name.len();
+    let end = offsets_of(slices).path.end - file_name.len();
     &text[..end]
 }
 

@@ -1,11 +1,11 @@
-//! A text in a rule of references, with the places of its components beside it.
+//! A text in a rule of references, with the offsets of its components beside it.
 ghost use Rattle.std.specs.String.{string_bytes};
 ghost use Rattle.std.specs.Prelude.{◌≡◌, ◌≤◌, Bool, true, [], ◌∷◌, Option, None, IfSome, is_some};
 ghost use Rattle.std.specs.{Prelude.{option_map}, Option.{option_copied}};
-ghost use Rattle.iref_grammar.specs.Places.{text_at};
+ghost use Rattle.iref_grammar.specs.ComponentOffsets.{text_at};
 ghost use Rattle.iref_parse.specs.{texts_of, value_of};
 ghost use Rattle.iref_component.specs.{AreComponents, spell_components, is_readable, is_reference};
-ghost use Rattle.iref_component.specs.{places_of, hash_sign, CharTests, AreAboveAscii, before};
+ghost use Rattle.iref_component.specs.{offsets_of, hash_sign, CharTests, AreAboveAscii, before};
 ghost use Rattle.iref_component.specs.{with_query, with_fragment, hierarchy, read_reference, spell};
 ghost use Rattle.iref_component.specs.{Parses, Text, InUtf8, base_of};
 ghost use Rattle.iref_buffer.specs.ComponentLengths.{lengths_of};
@@ -24,8 +24,8 @@ use crate::base::base_slice;
 use crate::lengths::Lengths;
 use iref_component::rule::Rule;
 use iref_grammar::chars::CharSet;
-use iref_grammar::places::Offsets;
-use iref_parse::places::places_of;
+use iref_grammar::offsets::Offsets;
+use iref_parse::offsets::offsets_of;
 use iref_parse::split::{ReferenceSlices, split_reference};
 use std::alloc::{Allocator, Global};
 use std::fmt;
@@ -61,13 +61,13 @@ pub trait HeldRule: Rule {
         → Self.test tests (spell (base_of (read_reference text))) ≡ true };
 }
 
-/// A text in a rule of references, with the places of its components beside it, in bytes: of
+/// A text in a rule of references, with the offsets of its components beside it, in bytes: of
 /// `s:/a?q` the path is at 2 to 4. `new` hands back a text that is outside the rule (RFC 3986
 /// sections 3 and 4.1).
 #[derive(Drop)]
 pub struct Held<R: HeldRule, C: CharSet, A: Allocator = Global> {
     text: String<A>,
-    places: Offsets,
+    offsets: Offsets,
     rule: PhantomData<(R, C)>,
 }
 
@@ -77,11 +77,11 @@ impl<R: HeldRule, C: CharSet, A: Allocator> Model for Held<R, C, A> {
     ghost view = { λ h. string_bytes h.text };
 
     ghost invariant = { λ h. (R.test C.tests (string_bytes h.text) ≡ true)
-        × (h.places ≡ places_of (string_bytes h.text)) };
+        × (h.offsets ≡ offsets_of (string_bytes h.text)) };
 }
 
 impl<R: HeldRule, C: CharSet, A: Allocator> Held<R, C, A> {
-    /// The text, if it is in the rule, with the places found in one scan, or the text.
+    /// The text, if it is in the rule, with the offsets found in one scan, or the text.
     pub fn new(text: String<A>) -> Result<Self, String<A>>
         ensures { Parses (InUtf8 (R.rule C.tests)) (string_bytes text)
             (λ held. held) (λ input. input ≡ text) result }
@@ -89,19 +89,27 @@ impl<R: HeldRule, C: CharSet, A: Allocator> Held<R, C, A> {
         let Some(slices) = R::parse::<C>(text.as_str()) else {
             return Err(text);
         };
-        let places = places_of(slices);
+        let offsets = offsets_of(slices);
         let rule = PhantomData;
-        Ok(Held { text, places, rule })
+        Ok(Held {
+            text,
+            offsets,
+            rule,
+        })
     }
 
-    /// The text, which is known to be in the rule, with the places found in one scan.
+    /// The text, which is known to be in the rule, with the offsets found in one scan.
     pub fn new_unchecked(text: String<A>) -> Self
         requires { R.test C.tests (string_bytes text) ≡ true }
         ensures { result ≡ string_bytes text }
     {
-        let places = places_of(split_reference(text.as_str()));
+        let offsets = offsets_of(split_reference(text.as_str()));
         let rule = PhantomData;
-        Held { text, places, rule }
+        Held {
+            text,
+            offsets,
+            rule,
+        }
     }
 
     /// The text of these bytes of UTF-8, if it is in the rule, or the bytes.
@@ -129,11 +137,11 @@ impl<R: HeldRule, C: CharSet, A: Allocator> Held<R, C, A> {
     }
 
     /// Where the components stand.
-    pub fn places(&self) -> Offsets
-        ensures places { result ≡ places_of self.now }
+    pub fn offsets(&self) -> Offsets
+        ensures offsets { result ≡ offsets_of self.now }
         ensures in_rule { R.test C.tests self.now ≡ true }
     {
-        self.places.clone().unwrap()
+        self.offsets.clone().unwrap()
     }
 
     // How long the components are, which are those of a readable reference that the rule allows.
@@ -142,17 +150,17 @@ impl<R: HeldRule, C: CharSet, A: Allocator> Held<R, C, A> {
         ensures readable { is_readable C.tests (read_reference self.now) ≡ true }
         ensures allowed { R.allows_scheme (read_reference self.now).scheme ≡ true }
     {
-        Lengths::at(&self.places)
+        Lengths::at(&self.offsets)
     }
 
-    /// The components, read at their places.
+    /// The components, read at their offsets.
     pub fn slices(&self) -> ReferenceSlices<'_>
         ensures texts { texts_of result ≡ spell_components (read_reference self.now) }
         ensures value { value_of result ≡ read_reference self.now }
         ensures components { AreComponents C.tests (texts_of result) }
         ensures in_rule { R.test C.tests self.now ≡ true }
     {
-        slices_at(self.text.as_str(), &self.places)
+        slices_at(self.text.as_str(), &self.offsets)
     }
 
     /// The text up to the fragment.
@@ -161,7 +169,7 @@ impl<R: HeldRule, C: CharSet, A: Allocator> Held<R, C, A> {
         ensures value { read_reference result.now ≡ with_fragment None (read_reference self.now) }
         ensures in_rule { is_reference C.tests result.now ≡ true }
     {
-        let end = front_end(&self.places);
+        let end = front_end(&self.offsets);
         &self.text.as_str()[..end]
     }
 
@@ -172,7 +180,7 @@ impl<R: HeldRule, C: CharSet, A: Allocator> Held<R, C, A> {
             ≡ with_query None (with_fragment None (read_reference self.now)) }
         ensures in_rule { is_reference C.tests result.now ≡ true }
     {
-        &self.text.as_str()[..self.places.path.end]
+        &self.text.as_str()[..self.offsets.path.end]
     }
 
     /// The text up to the end of the path's directory (RFC 3986 section 5.2.3).
@@ -185,14 +193,18 @@ impl<R: HeldRule, C: CharSet, A: Allocator> Held<R, C, A> {
     }
 
     /// The same text under another rule that it is in, of its own characters or of others, with
-    /// its places.
+    /// its offsets.
     pub fn into_rule<S: HeldRule, D: CharSet>(self) -> Held<S, D, A>
         requires { R.test C.tests self ≡ true → S.test D.tests self ≡ true }
         ensures { result ≡ self }
     {
-        let Held { text, places, .. } = self;
+        let Held { text, offsets, .. } = self;
         let rule = PhantomData;
-        Held { text, places, rule }
+        Held {
+            text,
+            offsets,
+            rule,
+        }
     }
 
     /// The text, with no copy.
@@ -212,23 +224,23 @@ impl<R: HeldRule, C: CharSet, A: Allocator> fmt::Debug for Held<R, C, A> {
 }
 
 // Where the query ends, or the path without one.
-fn front_end(places: &Offsets) -> usize
-    ensures { result ≡ front_end places.now }
+fn front_end(offsets: &Offsets) -> usize
+    ensures { result ≡ front_end offsets.now }
 {
-    match &places.query {
+    match &offsets.query {
         Some(query) => query.end,
-        None => places.path.end,
+        None => offsets.path.end,
     }
 }
 
 // Where the mark of the authority stands, or the path without one.
-fn authority_start(places: &Offsets) -> usize
-    requires { IfSome places.now.authority (λ authority. 2 ≤ authority.start) }
-    ensures { result ≡ authority_start places.now }
+fn authority_start(offsets: &Offsets) -> usize
+    requires { IfSome offsets.now.authority (λ authority. 2 ≤ authority.start) }
+    ensures { result ≡ authority_start offsets.now }
 {
-    match &places.authority {
+    match &offsets.authority {
         Some(authority) => authority.start - 2,
-        None => places.path.start,
+        None => offsets.path.start,
     }
 }
 
@@ -251,16 +263,16 @@ fn slice_if<'a>(text: &'a str, place: &Option<Range<usize>>) -> Option<&'a str>
     }
 }
 
-// What stands at the places.
-fn slices_at<'a>(text: &'a str, places: &Offsets) -> ReferenceSlices<'a>
-    requires { AreWithin text.now places.now }
-    ensures { texts_of result ≡ texts_at text.now places.now }
+// What stands at the offsets.
+fn slices_at<'a>(text: &'a str, offsets: &Offsets) -> ReferenceSlices<'a>
+    requires { AreWithin text.now offsets.now }
+    ensures { texts_of result ≡ texts_at text.now offsets.now }
 {
     ReferenceSlices {
-        scheme: slice_if(text, &places.scheme),
-        authority: slice_if(text, &places.authority),
-        path: slice_at(text, &places.path),
-        query: slice_if(text, &places.query),
-        fragment: slice_if(text, &places.fragment),
+        scheme: slice_if(text, &offsets.scheme),
+        authority: slice_if(text, &offsets.authority),
+        path: slice_at(text, &offsets.path),
+        query: slice_if(text, &offsets.query),
+        fragment: slice_if(text, &offsets.fragment),
     }
 }

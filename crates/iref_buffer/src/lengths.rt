@@ -1,10 +1,11 @@
-//! How long the components of a reference are, from which their places follow.
+//! How long the components of a reference are, from which their offsets follow.
 ghost use Rattle.std.specs.Prelude.{◌≡◌, ◌+◌, ◌<◌, ◌^◌, IfOk, length, option_map};
 ghost use Rattle.std.specs.Option.{option_copied};
 ghost use Rattle.iref_buffer.specs.ComponentLengths.{place_len, place_with_len, with_mark};
 ghost use Rattle.iref_buffer.specs.ComponentLengths.{lengths_at, context_by, total_length, placed};
 
-use iref_grammar::places::{Offsets, PathContext};
+use iref_grammar::context::PathContext;
+use iref_grammar::offsets::Offsets;
 use std::alloc::AllocError;
 use std::ops::Range;
 
@@ -25,16 +26,16 @@ pub struct Lengths {
 }
 
 impl Lengths {
-    /// Of what stands at these places.
-    pub fn at(places: &Offsets) -> Lengths
-        ensures { result ≡ lengths_at places.now }
+    /// Of what stands at these offsets.
+    pub fn at(offsets: &Offsets) -> Lengths
+        ensures { result ≡ lengths_at offsets.now }
     {
         Lengths {
-            scheme: place_len(&places.scheme),
-            authority: place_len(&places.authority),
-            path: places.path.len(),
-            query: place_len(&places.query),
-            fragment: place_len(&places.fragment),
+            scheme: place_len(&offsets.scheme),
+            authority: place_len(&offsets.authority),
+            path: offsets.path.len(),
+            query: place_len(&offsets.query),
+            fragment: place_len(&offsets.fragment),
         }
     }
 
@@ -58,7 +59,7 @@ impl Lengths {
     }
 
     /// Where components of these lengths stand in their text.
-    pub fn places_in(self, text: &str) -> Offsets
+    pub fn offsets_in(self, text: &str) -> Offsets
         requires { total_length self ≡ length text.now }
         ensures { result ≡ placed self }
     {

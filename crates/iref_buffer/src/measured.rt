@@ -14,7 +14,7 @@ ghost use Rattle.std.specs.Prelude.{◌≡◌, ◌+◌, ◌<◌, ◌≤◌, ◌^
 use crate::lengths::{Lengths, len_of};
 use iref_edit::text::{marked, marked_after};
 use iref_error::Memory;
-use iref_grammar::places::PathContext;
+use iref_grammar::context::PathContext;
 use iref_parse::split::ReferenceSlices;
 use iref_path_text::measured::MeasuredPath;
 use iref_path_text::spell::write_before;

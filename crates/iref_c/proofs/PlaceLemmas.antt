@@ -5,9 +5,9 @@ use Rattle.iref_grammar.specs.Rules.{Text}
 use Rattle.iref_grammar.specs.Grammar.{at_sign, colon}
 use Rattle.iref_grammar.specs.Texts.{part_then, then_part}
 use Rattle.iref_grammar.specs.Authority.{AuthorityValue, read_authority, spell_authority}
-use Rattle.iref_grammar.specs.declared.places.Offsets.{Offsets}
+use Rattle.iref_grammar.specs.declared.offsets.Offsets.{Offsets}
 use Rattle.iref_grammar.specs.Reference.{ReferenceValue}
-use Rattle.iref_grammar.specs.Places.{authority_mark, place_from, places_in}
+use Rattle.iref_grammar.specs.ComponentOffsets.{authority_mark, place_from, offsets_in}
 use Rattle.iref_grammar.proofs.AuthorityLemmas.{read_authority-spelled}
 use Rattle.iref_c.specs.declared.places.Place.{Place}
 use Rattle.iref_c.specs.PartPlaces.{authority_places, place_for_c, places_from}
@@ -22,9 +22,9 @@ pub length-read : (text : Text) → length (spell_authority (read_authority text
 length-read text = ap length (read_authority-spelled text)
 
 -- an authority is where the places of the components say
-pub authority-placed : (r : ReferenceValue) (places : Offsets) (place : Place) → places ≡ places_in r → place ≡ place_for_c places.authority
+pub authority-placed : (r : ReferenceValue) (places : Offsets) (place : Place) → places ≡ offsets_in r → place ≡ place_for_c places.authority
     → place ≡ place_for_c (option_map (place_from (authority_mark r + 2)) (option_map spell_authority r.authority))
-unfolding places_in
+unfolding offsets_in
 authority-placed r places place e h = h ∙ ap (λ (o : Offsets). place_for_c o.authority) e
 
 -- the place of an authority that is there ends so many bytes after its start

@@ -4,7 +4,7 @@ use Rattle.std.specs.declared.ops.Range.{Range}
 use Rattle.iref_grammar.specs.Grammar.{at_sign}
 use Rattle.iref_grammar.specs.Texts.{part_then}
 use Rattle.iref_grammar.specs.Authority.{AuthorityValue}
-use Rattle.iref_grammar.specs.Places.{authority_mark, place_from, places_in}
+use Rattle.iref_grammar.specs.ComponentOffsets.{authority_mark, place_from, offsets_in}
 use Rattle.iref_grammar.specs.Reference.{ReferenceValue}
 use Rattle.iref_c.specs.declared.places.Place.{Place}
 use Rattle.iref_c.specs.declared.places.Places.{Places}
@@ -37,12 +37,12 @@ unfoldable pub all_places : ReferenceValue → Places
 all_places r =
     let parts = authority_places (authority_mark r + 2) r.authority in
     record {
-      scheme = place_for_c (places_in r).scheme;
-      authority = place_for_c (places_in r).authority;
+      scheme = place_for_c (offsets_in r).scheme;
+      authority = place_for_c (offsets_in r).authority;
       user_info = parts.user_info;
       host = parts.host;
       port = parts.port;
-      path = place_for_c (Some (places_in r).path);
-      query = place_for_c (places_in r).query;
-      fragment = place_for_c (places_in r).fragment;
+      path = place_for_c (Some (offsets_in r).path);
+      query = place_for_c (offsets_in r).query;
+      fragment = place_for_c (offsets_in r).fragment;
     }

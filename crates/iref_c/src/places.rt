@@ -2,14 +2,14 @@
 ghost use Rattle.std.specs.Prelude.{◌≡◌, ◌+◌, ◌<◌, ◌^◌, [], ◌∷◌, length, option_map, IfSome, Some};
 ghost use Rattle.std.specs.Option.{option_copied};
 ghost use Rattle.iref_grammar.specs.Authority.{read_authority, spell_authority};
-ghost use Rattle.iref_grammar.specs.{Grammar.{at_sign, colon}, Places.{place_from}};
+ghost use Rattle.iref_grammar.specs.{Grammar.{at_sign, colon}, ComponentOffsets.{place_from}};
 ghost use Rattle.iref_grammar.specs.Reference.{read_reference, spell};
 ghost use Rattle.iref_grammar.specs.Texts.{part_then, then_part};
 ghost use Rattle.iref_parse.specs.{AuthoritySlices.{authority_of}, ReferenceSlices.{value_of}};
 ghost use Rattle.iref_c.specs.PartPlaces.{all_places, authority_places, place_for_c, places_from};
 
-use iref_parse::authority::{AuthoritySlices, split_authority};
-use iref_parse::places::places_of;
+use iref_parse::authority::{AuthoritySlices, split_parts};
+use iref_parse::offsets::offsets_of;
 use iref_parse::split::{ReferenceSlices, split_reference};
 use std::ops::Range;
 
@@ -141,7 +141,7 @@ fn places_at(place: Place, authority: Option<&str>) -> AuthorityPlaces
         (option_map read_authority (option_copied authority.entry)) }
 {
     match authority {
-        Some(authority) => places_from(place.start, split_authority(authority)),
+        Some(authority) => places_from(place.start, split_parts(authority)),
         None => AuthorityPlaces {
             user_info: ABSENT,
             host: ABSENT,
@@ -156,18 +156,18 @@ impl Places {
         requires { length (spell (value_of slices)) < 2 ^ 64 }
         ensures { result ≡ all_places (value_of slices.entry) }
     {
-        let places = places_of(slices);
-        let authority = place_of(places.authority);
+        let offsets = offsets_of(slices);
+        let authority = place_of(offsets.authority);
         let parts = places_at(authority, slices.authority);
         Places {
-            scheme: place_of(places.scheme),
+            scheme: place_of(offsets.scheme),
             authority,
             user_info: parts.user_info,
             host: parts.host,
             port: parts.port,
-            path: place_of(Some(places.path)),
-            query: place_of(places.query),
-            fragment: place_of(places.fragment),
+            path: place_of(Some(offsets.path)),
+            query: place_of(offsets.query),
+            fragment: place_of(offsets.fragment),
         }
     }
 

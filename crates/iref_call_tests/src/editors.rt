@@ -18,40 +18,40 @@ fn pop(reference: &mut IriRefBuf) -> Result<(), Fail> {
 }
 
 // Fails unless the reference has this text, and its components are there.
-fn is_at(reference: &IriRefBuf, text: &str, places: &Offsets) -> Result<(), Fail> {
+fn is_at(reference: &IriRefBuf, text: &str, offsets: &Offsets) -> Result<(), Fail> {
     same_text(reference.as_str(), text)?;
-    same(&reference.offsets(), places)
+    same(&reference.offsets(), offsets)
 }
 
 #[test]
-fn places_move_with_each_part(rt: HostRuntime) -> Result<(), Fail> {
+fn offsets_move_with_each_part(rt: HostRuntime) -> Result<(), Fail> {
     let mut reference = IriRefBuf::new(String::from_str(rt.alloc(), "http://h/a?q#f")?)?;
     set_port(&mut reference, "40")?;
-    let places = Offsets {
+    let offsets = Offsets {
         scheme: Some(0..4),
         authority: Some(7..11),
         path: 11..13,
         query: Some(14..15),
         fragment: Some(16..17),
     };
-    is_at(&reference, "http://h:40/a?q#f", &places)?;
+    is_at(&reference, "http://h:40/a?q#f", &offsets)?;
     pop(&mut reference)?;
-    let places = Offsets {
+    let offsets = Offsets {
         path: 11..12,
         query: Some(13..14),
         fragment: Some(15..16),
-        ..places
+        ..offsets
     };
-    is_at(&reference, "http://h:40/?q#f", &places)?;
+    is_at(&reference, "http://h:40/?q#f", &offsets)?;
     reference.set_scheme(None)?;
-    let places = Offsets {
+    let offsets = Offsets {
         scheme: None,
         authority: Some(2..6),
         path: 6..7,
         query: Some(8..9),
         fragment: Some(10..11),
     };
-    is_at(&reference, "//h:40/?q#f", &places)
+    is_at(&reference, "//h:40/?q#f", &offsets)
 }
 
 #[test]

@@ -1,5 +1,5 @@
 //! Tests of texts, and of calls that a line of the program does not reach or that are asked for what
-//! a line does not show: places, what is left after a prefix, conversions, and long runs.
+//! a line does not show: offsets, what is left after a prefix, conversions, and long runs.
 #![tactic(auto)]
 
 #[cfg(test)]

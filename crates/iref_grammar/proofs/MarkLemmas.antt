@@ -7,7 +7,7 @@ use mathlib.Core.Bool.{true≢false}
 use Rattle.iref_grammar.specs.Rules.{Text}
 use Rattle.iref_grammar.specs.Grammar.{colon}
 use Rattle.iref_grammar.specs.Texts.{before, from_first, begins_with}
-use Rattle.iref_grammar.specs.declared.places.PathContext.{PathContext}
+use Rattle.iref_grammar.specs.declared.context.PathContext.{PathContext}
 use Rattle.iref_grammar.specs.Contexts.{begins_with_scheme, context_from}
 use Rattle.iref_grammar.proofs.CutLemmas.{before-no, before-yes, from_first-no, from_first-yes}
 

@@ -5,7 +5,7 @@ use Rattle.std.specs.List.{AllByRecursion, concat, join_with_byte}
 use Rattle.std.proofs.lemmas.List.{append-nil}
 use Rattle.std.proofs.lemmas.Bool.{and_from, not-true}
 use mathlib.Core.Bool.{true≢false}
-use Rattle.iref_grammar.specs.declared.places.PathContext.{PathContext}
+use Rattle.iref_grammar.specs.declared.context.PathContext.{PathContext}
 use Rattle.iref_grammar.specs.Characters.{CharTests, AreAboveAscii}
 use Rattle.iref_grammar.specs.Rules.{Text, Rule, Empty, Mark, ◌⨾◌, ◌or◌, Optional, ZeroOrMore, InUtf8}
 use Rattle.iref_grammar.specs.Grammar.{slash, colon, IsPathChar, IsSegment, IsNonEmptySegment, IsNonColonSegment, IsAbEmptyPath, IsRootlessPath, IsAbsolutePath}

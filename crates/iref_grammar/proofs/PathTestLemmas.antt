@@ -6,7 +6,7 @@ use Rattle.std.specs.Bool.{Decides}
 use Rattle.std.specs.List.{AllByRecursion, concat, list_all, join_with_byte, onto_first}
 use Rattle.std.proofs.lemmas.Bool.Decides.{Decides-like, same_from_decides}
 use Rattle.std.proofs.lemmas.Bool.{and_from, and_parts}
-use Rattle.iref_grammar.specs.declared.places.PathContext.{PathContext}
+use Rattle.iref_grammar.specs.declared.context.PathContext.{PathContext}
 use Rattle.iref_grammar.specs.Characters.{CharTests, AreAboveAscii}
 use Rattle.iref_grammar.specs.Rules.{Text, Rule, Empty, Mark, ◌or◌, ZeroOrMore, InUtf8}
 use Rattle.iref_grammar.specs.Grammar.{slash, IsPathChar, IsSegment, IsAbEmptyPath, IsAbsolutePath, IsRootlessPath, IsNoSchemePath, IsPath}

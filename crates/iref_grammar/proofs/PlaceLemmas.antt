@@ -11,7 +11,7 @@ use Rattle.iref_grammar.specs.Texts.{part_then, then_part}
 use Rattle.iref_grammar.specs.Authority.{spell_authority}
 use Rattle.iref_grammar.specs.PathValue.{spell_path}
 use Rattle.iref_grammar.specs.Reference.{ReferenceValue, spell, read_reference}
-use Rattle.iref_grammar.specs.Places.{place_from, authority_mark, path_start, places_in, places_of, text_at}
+use Rattle.iref_grammar.specs.ComponentOffsets.{place_from, authority_mark, path_start, offsets_in, offsets_of, text_at}
 use Rattle.iref_grammar.proofs.ReferenceCutLemmas.{read_reference-spelled}
 
 -- what stands between two parts of a text stands at its place
@@ -85,77 +85,77 @@ module _ (r : ReferenceValue) where
   abbrev fragment_part : Text
   fragment_part = then_part (hash_sign ∷ []) r.fragment
 
-  scheme_stands : option_map (text_at (spell r)) (places_in r).scheme ≡ r.scheme
-  unfolding spell places_in
+  scheme_stands : option_map (text_at (spell r)) (offsets_in r).scheme ≡ r.scheme
+  unfolding spell offsets_in
   scheme_stands =
       ap (λ t. option_map (text_at t) (option_map (place_from 0) r.scheme)) (around_scheme scheme_part authority_part (spell_path r.path) query_part fragment_part)
       ∙ part_before (colon ∷ []) r.scheme (authority_part ++ spell_path r.path ++ query_part ++ fragment_part)
 
-  authority_stands : option_map (text_at (spell r)) (places_in r).authority ≡ option_map spell_authority r.authority
-  unfolding spell places_in
+  authority_stands : option_map (text_at (spell r)) (offsets_in r).authority ≡ option_map spell_authority r.authority
+  unfolding spell offsets_in
   authority_stands =
       ap (λ t. option_map (text_at t) (option_map (place_from (authority_mark r + 2)) (option_map spell_authority r.authority)))
       (around_authority scheme_part authority_part (spell_path r.path) query_part fragment_part)
       ∙ part_after scheme_part (codes "//") (option_map spell_authority r.authority) (spell_path r.path ++ query_part ++ fragment_part)
 
-  path_stands : text_at (spell r) (places_in r).path ≡ spell_path r.path
-  unfolding spell places_in
+  path_stands : text_at (spell r) (offsets_in r).path ≡ spell_path r.path
+  unfolding spell offsets_in
   path_stands =
       text_between (spell r) (scheme_part ++ authority_part) (spell_path r.path) (query_part ++ fragment_part) (path_start r)
       (sym (around_path scheme_part authority_part (spell_path r.path) query_part fragment_part))
       (path_begins scheme_part authority_part (spell_path r.path) query_part fragment_part)
 
-  path_inside_spelling : IsInside (spell r) (places_in r).path
-  unfolding spell places_in
+  path_inside_spelling : IsInside (spell r) (offsets_in r).path
+  unfolding spell offsets_in
   path_inside_spelling = (omega arith, simp length-append (omega arith))
 
-  authority_inside_spelling : IfSome (places_in r).authority (IsInside (spell r))
-  unfolding spell places_in
+  authority_inside_spelling : IfSome (offsets_in r).authority (IsInside (spell r))
+  unfolding spell offsets_in
   authority_inside_spelling =
       subst (λ t. IfSome (option_map (place_from (authority_mark r + 2)) (option_map spell_authority r.authority)) (IsInside t))
       (sym (around_authority scheme_part authority_part (spell_path r.path) query_part fragment_part))
       (inside_after scheme_part (codes "//") (option_map spell_authority r.authority) (spell_path r.path ++ query_part ++ fragment_part))
 
-  query_stands : option_map (text_at (spell r)) (places_in r).query ≡ r.query
-  unfolding spell places_in
+  query_stands : option_map (text_at (spell r)) (offsets_in r).query ≡ r.query
+  unfolding spell offsets_in
   query_stands =
       let begins = query_begins scheme_part authority_part (spell_path r.path) query_part fragment_part in
       (λ i. option_map (text_at (around_query scheme_part authority_part (spell_path r.path) query_part fragment_part i)) (option_map (place_from (begins i + 1)) r.query))
       ∙ part_after (scheme_part ++ authority_part ++ spell_path r.path) (question_mark ∷ []) r.query fragment_part
 
-  fragment_stands : option_map (text_at (spell r)) (places_in r).fragment ≡ r.fragment
-  unfolding spell places_in
+  fragment_stands : option_map (text_at (spell r)) (offsets_in r).fragment ≡ r.fragment
+  unfolding spell offsets_in
   fragment_stands =
       let begins = fragment_begins scheme_part authority_part (spell_path r.path) query_part fragment_part in
       (λ i. option_map (text_at (around_fragment scheme_part authority_part (spell_path r.path) query_part fragment_part i)) (option_map (place_from (begins i + 1)) r.fragment))
       ∙ part_after (scheme_part ++ authority_part ++ spell_path r.path ++ query_part) (hash_sign ∷ []) r.fragment []
 
--- the components that are read from a text stand in it at their places
+-- the components that are read from a text stand in it at their offsets
 module _ (text : Text) where
-  pub scheme_place : option_map (text_at text) (places_of text).scheme ≡ (read_reference text).scheme
-  unfolding places_of
-  scheme_place = ap (λ t. option_map (text_at t) (places_of text).scheme) (sym (read_reference-spelled text)) ∙ scheme_stands (read_reference text)
+  pub scheme_place : option_map (text_at text) (offsets_of text).scheme ≡ (read_reference text).scheme
+  unfolding offsets_of
+  scheme_place = ap (λ t. option_map (text_at t) (offsets_of text).scheme) (sym (read_reference-spelled text)) ∙ scheme_stands (read_reference text)
 
-  pub authority_place : option_map (text_at text) (places_of text).authority ≡ option_map spell_authority (read_reference text).authority
-  unfolding places_of
-  authority_place = ap (λ t. option_map (text_at t) (places_of text).authority) (sym (read_reference-spelled text)) ∙ authority_stands (read_reference text)
+  pub authority_place : option_map (text_at text) (offsets_of text).authority ≡ option_map spell_authority (read_reference text).authority
+  unfolding offsets_of
+  authority_place = ap (λ t. option_map (text_at t) (offsets_of text).authority) (sym (read_reference-spelled text)) ∙ authority_stands (read_reference text)
 
-  pub path_place : text_at text (places_of text).path ≡ spell_path (read_reference text).path
-  unfolding places_of
-  path_place = ap (λ t. text_at t (places_of text).path) (sym (read_reference-spelled text)) ∙ path_stands (read_reference text)
+  pub path_place : text_at text (offsets_of text).path ≡ spell_path (read_reference text).path
+  unfolding offsets_of
+  path_place = ap (λ t. text_at t (offsets_of text).path) (sym (read_reference-spelled text)) ∙ path_stands (read_reference text)
 
-  pub query_place : option_map (text_at text) (places_of text).query ≡ (read_reference text).query
-  unfolding places_of
-  query_place = ap (λ t. option_map (text_at t) (places_of text).query) (sym (read_reference-spelled text)) ∙ query_stands (read_reference text)
+  pub query_place : option_map (text_at text) (offsets_of text).query ≡ (read_reference text).query
+  unfolding offsets_of
+  query_place = ap (λ t. option_map (text_at t) (offsets_of text).query) (sym (read_reference-spelled text)) ∙ query_stands (read_reference text)
 
-  pub fragment_place : option_map (text_at text) (places_of text).fragment ≡ (read_reference text).fragment
-  unfolding places_of
-  fragment_place = ap (λ t. option_map (text_at t) (places_of text).fragment) (sym (read_reference-spelled text)) ∙ fragment_stands (read_reference text)
+  pub fragment_place : option_map (text_at text) (offsets_of text).fragment ≡ (read_reference text).fragment
+  unfolding offsets_of
+  fragment_place = ap (λ t. option_map (text_at t) (offsets_of text).fragment) (sym (read_reference-spelled text)) ∙ fragment_stands (read_reference text)
 
-  pub path_inside : IsInside text (places_of text).path
-  unfolding places_of
-  path_inside = subst (λ t. IsInside t (places_of text).path) (read_reference-spelled text) (path_inside_spelling (read_reference text))
+  pub path_inside : IsInside text (offsets_of text).path
+  unfolding offsets_of
+  path_inside = subst (λ t. IsInside t (offsets_of text).path) (read_reference-spelled text) (path_inside_spelling (read_reference text))
 
-  pub authority_inside : IfSome (places_of text).authority (IsInside text)
-  unfolding places_of
-  authority_inside = subst (λ t. IfSome (places_of text).authority (IsInside t)) (read_reference-spelled text) (authority_inside_spelling (read_reference text))
+  pub authority_inside : IfSome (offsets_of text).authority (IsInside text)
+  unfolding offsets_of
+  authority_inside = subst (λ t. IfSome (offsets_of text).authority (IsInside t)) (read_reference-spelled text) (authority_inside_spelling (read_reference text))

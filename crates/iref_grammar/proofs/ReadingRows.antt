@@ -1,15 +1,15 @@
--- Worked rows of the reading of texts: components, parts, segments, places, contexts; computed.
+-- Worked rows of the reading of texts: components, parts, segments, offsets, contexts; computed.
 use Prim.Native.String.{String}
 use Rattle.std.specs.Prelude.{◌≡◌, ℕ, Bool, true, false, List, [], ◌∷◌, map, codes, Option, Some, None, option_map, refl}
 use Rattle.std.specs.declared.ops.Range.{Range}
-use Rattle.iref_grammar.specs.declared.places.Offsets.{Offsets}
-use Rattle.iref_grammar.specs.declared.places.PathContext.{PathContext}
+use Rattle.iref_grammar.specs.declared.offsets.Offsets.{Offsets}
+use Rattle.iref_grammar.specs.declared.context.PathContext.{PathContext}
 use Rattle.iref_grammar.specs.Rules.{Text}
 use Rattle.iref_grammar.specs.Contexts.{context_from}
 use Rattle.iref_grammar.specs.Authority.{AuthorityValue, spell_authority, read_authority}
 use Rattle.iref_grammar.specs.PathValue.{PathValue, spell_path, read_path}
 use Rattle.iref_grammar.specs.Reference.{ReferenceValue, read_reference}
-use Rattle.iref_grammar.specs.Places.{places_in, places_of}
+use Rattle.iref_grammar.specs.ComponentOffsets.{offsets_in, offsets_of}
 
 -- ---- references (RFC 3986 section 3 and appendix B)
 
@@ -38,11 +38,11 @@ references_hold :
 unfolding read_reference spell_authority read_authority spell_path read_path
 references_hold = refl
 
--- ---- places
+-- ---- offsets
 
 -- text; where scheme, authority, path, query and fragment begin and end
-abbrev places : List (String × Option (ℕ × ℕ) × Option (ℕ × ℕ) × (ℕ × ℕ) × Option (ℕ × ℕ) × Option (ℕ × ℕ))
-places =
+abbrev offsets : List (String × Option (ℕ × ℕ) × Option (ℕ × ℕ) × (ℕ × ℕ) × Option (ℕ × ℕ) × Option (ℕ × ℕ))
+offsets =
     ("http://h/a?q#f", Some (0, 4), Some (7, 8), (8, 10), Some (11, 12), Some (13, 14))
     ∷ ("http://h:40/a?q#f", Some (0, 4), Some (7, 11), (11, 13), Some (14, 15), Some (16, 17))
     ∷ ("http://h:40/?q#f", Some (0, 4), Some (7, 11), (11, 12), Some (13, 14), Some (15, 16))
@@ -58,9 +58,9 @@ ends range = (range.start, range.end)
 abbrev ends_of_each : Offsets → Option (ℕ × ℕ) × Option (ℕ × ℕ) × (ℕ × ℕ) × Option (ℕ × ℕ) × Option (ℕ × ℕ)
 ends_of_each at = (option_map ends at.scheme, option_map ends at.authority, ends at.path, option_map ends at.query, option_map ends at.fragment)
 
-places_hold : map (λ row. ends_of_each (places_of (codes row.0))) places ≡ map (λ row. (row.1, row.2, row.3, row.4, row.5)) places
-unfolding places_of places_in read_reference spell_authority read_authority spell_path read_path
-places_hold = refl
+offsets_hold : map (λ row. ends_of_each (offsets_of (codes row.0))) offsets ≡ map (λ row. (row.1, row.2, row.3, row.4, row.5)) offsets
+unfolding offsets_of offsets_in read_reference spell_authority read_authority spell_path read_path
+offsets_hold = refl
 
 -- ---- authorities (RFC 3986 section 3.2)
 

@@ -2,7 +2,7 @@
 use Rattle.std.specs.Prelude.{Bool, false, not, ◌&&◌, ◌||◌, if◌then◌else◌, codes, List, [], ◌∷◌}
 use Rattle.std.specs.Char.{char_set_contains}
 use Rattle.std.specs.List.{list_all}
-use Rattle.iref_grammar.specs.declared.places.PathContext.{PathContext}
+use Rattle.iref_grammar.specs.declared.context.PathContext.{PathContext}
 use Rattle.iref_grammar.specs.Characters.{CharTests}
 use Rattle.iref_grammar.specs.Rules.{Text}
 use Rattle.iref_grammar.specs.Grammar.{colon}

@@ -2,7 +2,7 @@
 use Rattle.std.specs.Prelude.{◌≡◌, Bool, ◌&&◌, [], ◌∷◌, ◌++◌, drop, codes, Option, Some, None, IfSome, is_some, option_map, if◌then◌else◌, true}
 use Rattle.std.specs.List.{AllByRecursion, list_all}
 use Rattle.std.specs.Char.{char_set_contains}
-use Rattle.iref_grammar.specs.declared.places.PathContext.{PathContext}
+use Rattle.iref_grammar.specs.declared.context.PathContext.{PathContext}
 use Rattle.iref_grammar.specs.Characters.{CharTests}
 use Rattle.iref_grammar.specs.Rules.{Text, InUtf8}
 use Rattle.iref_grammar.specs.Grammar.{hash_sign, slash, colon, question_mark, IsScheme, IsSegment, IsQuery, IsFragment}

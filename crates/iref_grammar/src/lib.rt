@@ -4,7 +4,8 @@
 
 pub mod authority_laws;
 pub mod chars;
+pub mod context;
+pub mod offsets;
 pub mod path_laws;
-pub mod places;
 pub mod reference_laws;
 pub mod text_laws;

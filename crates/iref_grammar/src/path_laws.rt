@@ -2,7 +2,7 @@
 #![tactic(auto)]
 
 ghost use Rattle.std.specs.{Prelude.{◌≡◌, ◌↔◌, Bool, true, false}, List.{list_all}};
-ghost use Rattle.iref_grammar.specs.declared.places.PathContext.{PathContext};
+ghost use Rattle.iref_grammar.specs.declared.context.PathContext.{PathContext};
 ghost use Rattle.iref_grammar.specs.Rules.{Text, ◌or◌, Empty, AcceptsExactly};
 ghost use Rattle.iref_grammar.specs.Grammar.{IsAbEmptyPath, IsAbsolutePath, IsRootlessPath};
 ghost use Rattle.iref_grammar.specs.{Grammar.{IsNoSchemePath}, Tests.{is_segment, is_path}};

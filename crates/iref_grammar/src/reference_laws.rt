@@ -4,7 +4,7 @@
 ghost use Rattle.std.specs.Prelude.{◌≡◌, ◌↔◌, IsSome, option_map, true};
 ghost use Rattle.iref_grammar.specs.{Characters.{uri_chars}, Rules.{Text, AcceptsExactly, InUtf8}};
 ghost use Rattle.iref_grammar.specs.{Grammar.{IsUri, IsUriReference}, Authority.{spell_authority}};
-ghost use Rattle.iref_grammar.specs.{PathValue.{spell_path}, Places.{places_of, text_at}};
+ghost use Rattle.iref_grammar.specs.{PathValue.{spell_path}, ComponentOffsets.{offsets_of, text_at}};
 ghost use Rattle.iref_grammar.specs.Reference.{ReferenceValue, IsReadable, IsReadAsReference};
 ghost use Rattle.iref_grammar.specs.Reference.{is_readable, spell, read_reference, is_reference};
 ghost use Rattle.iref_grammar.specs.{Reference.{is_full_reference}, Readings.{HasOneReading}};
@@ -38,18 +38,18 @@ pub fn references_spelled<S: CharSet>()
 {}
 
 /// Each component that is read from a text stands at its place in it.
-pub fn places_hold_the_components()
+pub fn offsets_hold_the_components()
     ensures scheme { (text : Text)
-        → option_map (text_at text) (places_of text).scheme ≡ (read_reference text).scheme }
+        → option_map (text_at text) (offsets_of text).scheme ≡ (read_reference text).scheme }
     ensures authority { (text : Text)
-        → option_map (text_at text) (places_of text).authority
+        → option_map (text_at text) (offsets_of text).authority
         ≡ option_map spell_authority (read_reference text).authority }
     ensures path { (text : Text)
-        → text_at text (places_of text).path ≡ spell_path (read_reference text).path }
+        → text_at text (offsets_of text).path ≡ spell_path (read_reference text).path }
     ensures query { (text : Text)
-        → option_map (text_at text) (places_of text).query ≡ (read_reference text).query }
+        → option_map (text_at text) (offsets_of text).query ≡ (read_reference text).query }
     ensures fragment { (text : Text)
-        → option_map (text_at text) (places_of text).fragment ≡ (read_reference text).fragment }
+        → option_map (text_at text) (offsets_of text).fragment ≡ (read_reference text).fragment }
 {}
 
 /// What is readable as a URI is so in each grammar, by the same components, and a URI reference is

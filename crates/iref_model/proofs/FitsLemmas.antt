@@ -3,7 +3,7 @@ use Rattle.std.proofs.Common.{◌≡◌, Bool, true, false, not, cond, ◌&&◌,
 use Rattle.std.specs.Prelude.{codes}
 use Rattle.std.specs.Char.{char_set_contains}
 use mathlib.Core.Bool.{true≢false}
-use Rattle.iref_grammar.specs.declared.places.PathContext.{PathContext}
+use Rattle.iref_grammar.specs.declared.context.PathContext.{PathContext}
 use Rattle.iref_grammar.specs.Rules.{Text}
 use Rattle.iref_grammar.specs.Grammar.{colon}
 use Rattle.iref_grammar.specs.Texts.{is_empty, all_but_last}

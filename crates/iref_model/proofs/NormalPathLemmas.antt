@@ -3,7 +3,7 @@ use Rattle.std.proofs.Common.{◌≡◌, Bool, true, false, not, cond, ◌&&◌,
 use Rattle.std.specs.Prelude.{codes, map}
 use mathlib.Core.Bool.{true≢false}
 use Rattle.percent_encoding.specs.Percent.{percent_decode}
-use Rattle.iref_grammar.specs.declared.places.PathContext.{PathContext}
+use Rattle.iref_grammar.specs.declared.context.PathContext.{PathContext}
 use Rattle.iref_grammar.specs.Rules.{Text}
 use Rattle.iref_grammar.specs.Texts.{is_empty}
 use Rattle.iref_grammar.specs.PathValue.{PathValue}

@@ -1,6 +1,6 @@
 -- The edits of a reference, each one step on its components (RFC 3986 section 3).
 use Rattle.std.specs.Prelude.{true, Option, Some, None, is_some, is_none, option_map, if◌then◌else◌}
-use Rattle.iref_grammar.specs.declared.places.PathContext.{PathContext}
+use Rattle.iref_grammar.specs.declared.context.PathContext.{PathContext}
 use Rattle.iref_grammar.specs.Rules.{Text}
 use Rattle.iref_grammar.specs.Authority.{AuthorityValue}
 use Rattle.iref_grammar.specs.PathValue.{PathValue}

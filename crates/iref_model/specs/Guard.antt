@@ -1,6 +1,6 @@
 -- The segment `.` that keeps a path from being read as something else (RFC 3986 sections 3.3 and 4.2).
 use Rattle.std.specs.Prelude.{not, ◌&&◌, ◌||◌, ◌∷◌, codes, if◌then◌else◌}
-use Rattle.iref_grammar.specs.declared.places.PathContext.{PathContext}
+use Rattle.iref_grammar.specs.declared.context.PathContext.{PathContext}
 use Rattle.iref_grammar.specs.Texts.{is_empty}
 use Rattle.iref_grammar.specs.PathValue.{PathValue, shows_its_list}
 use Rattle.iref_grammar.specs.Contexts.{reads_as_path}

@@ -4,7 +4,7 @@ use Rattle.iref_grammar.specs.Characters.{CharTests}
 use Rattle.iref_grammar.specs.Contexts.{is_readable_path}
 use Rattle.iref_grammar.specs.PathValue.{PathValue}
 use Rattle.iref_grammar.specs.Reference.{ReferenceValue, is_readable}
-use Rattle.iref_grammar.specs.declared.places.PathContext.{PathContext}
+use Rattle.iref_grammar.specs.declared.context.PathContext.{PathContext}
 
 -- a readable reference is readable after the step
 abbrev pub KeepsReadable : CharTests → (ReferenceValue → ReferenceValue) → Type 0

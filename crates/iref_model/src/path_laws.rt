@@ -1,7 +1,7 @@
 //! Laws of paths: each is the contract of a function that does nothing.
 
 ghost use Rattle.std.specs.{Prelude.{◌≡◌, Bool, true, ◌==◌, List, [], ◌↔◌}, List.{list_all}};
-ghost use Rattle.iref_grammar.specs.declared.places.PathContext.{PathContext};
+ghost use Rattle.iref_grammar.specs.declared.context.PathContext.{PathContext};
 ghost use Rattle.iref_grammar.specs.{CharTests, alone, follows_authority, fits, is_readable_path};
 ghost use Rattle.iref_grammar.specs.{slash, spell_path, read_path, shows_its_list, Text};
 ghost use Rattle.iref_grammar.specs.{is_segment, lacks};

@@ -56,7 +56,7 @@ fn split_host<'a>(user_info: Option<&'a str>, text: &'a str) -> AuthoritySlices<
 
 /// The parts of the text as an authority.
 #[tactic(auto, unfolding(iref_grammar::specs::Authority::read_authority))]
-pub fn split_authority(text: &str) -> AuthoritySlices<'_>
+pub fn split_parts(text: &str) -> AuthoritySlices<'_>
     ensures { authority_of result ≡ read_authority text.now }
 {
     match cut(text, '@') {
@@ -108,5 +108,5 @@ pub fn is_authority<C: CharSet>(text: &str) -> bool
     if is_plain_address(text) {
         return true;
     }
-    is_host::<C>(text) || are_parts::<C>(split_authority(text))
+    is_host::<C>(text) || are_parts::<C>(split_parts(text))
 }

@@ -8,6 +8,6 @@ pub mod decoded;
 pub mod host;
 pub mod ip;
 pub mod ipv6;
-pub mod places;
+pub mod offsets;
 pub mod scan;
 pub mod split;

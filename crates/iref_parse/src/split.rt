@@ -1,6 +1,6 @@
 //! The one split of a reference into its components (RFC 3986 section 4.1 and appendix B).
 
-ghost use Rattle.std.specs.{Prelude.{◌≡◌, ◌<◌, [], ◌∷◌, IfSome, is_some}, Bool.{Decides}};
+ghost use Rattle.std.specs.Prelude.{◌≡◌, ◌<◌, ◌↔◌, [], ◌∷◌, IfSome, is_some, true};
 ghost use Rattle.std.specs.Option.{option_copied};
 ghost use Rattle.iref_grammar.specs.Reference as spec;
 ghost use Rattle.iref_grammar.specs.{hash_sign, question_mark, before, after};
@@ -120,7 +120,7 @@ pub fn split_reference(text: &str) -> ReferenceSlices<'_>
 // Whether each slice is in the rule of its component.
 #[inline(always)]
 fn are_components<C: CharSet>(slices: ReferenceSlices<'_>) -> bool
-    ensures { Decides result (AreComponents C.tests (texts_of slices.entry)) }
+    ensures { (result ≡ true) ↔ AreComponents C.tests (texts_of slices.entry) }
 {
     slices.scheme.is_none_or(|scheme| is_scheme(scheme))
         && slices

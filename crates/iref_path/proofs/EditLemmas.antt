@@ -2,7 +2,7 @@
 use Rattle.std.proofs.Common.{Bool, true, subst, ◌≡◌, ℕ, ◌+◌, ◌-◌, ◌≤◌, [], ◌++◌, length, take, refl, sym, ap, ◌∙◌, arith}
 use Rattle.std.proofs.lemmas.List.{append-nil, drop_all, take_all}
 use Rattle.std.specs.List.{splice, slice_range}
-use Rattle.iref_grammar.specs.declared.places.PathContext.{PathContext}
+use Rattle.iref_grammar.specs.declared.context.PathContext.{PathContext}
 use Rattle.iref_grammar.specs.Rules.{Text}
 use Rattle.iref_grammar.specs.Characters.{AreAboveAscii, CharTests}
 use Rattle.iref_grammar.specs.Contexts.{follows_authority, is_path_in}

@@ -3,7 +3,7 @@ use Rattle.std.specs.Prelude.{List, Option, Result, [], ◌∷◌, ◌++◌, ◌
 use Rattle.std.specs.Borrow.{Bor}
 use Rattle.std.specs.Iterator.{Count, IsFinite, Yields, Drains}
 use Rattle.std.specs.List.{All}
-use Rattle.iref_grammar.specs.declared.places.PathContext.{PathContext}
+use Rattle.iref_grammar.specs.declared.context.PathContext.{PathContext}
 use Rattle.iref_grammar.specs.Characters.{CharTests}
 use Rattle.iref_grammar.specs.Grammar.{IsSegment}
 use Rattle.iref_grammar.specs.PathValue.{PathValue}

@@ -2,7 +2,7 @@
 use Rattle.std.specs.Borrow.{GName}
 use Rattle.std.specs.Prelude.{ℕ, ◌≡◌, ◌+◌, length, slice_range, Result, MatchResult}
 use Rattle.std.specs.List.{splice}
-use Rattle.iref_grammar.specs.declared.places.PathContext.{PathContext}
+use Rattle.iref_grammar.specs.declared.context.PathContext.{PathContext}
 use Rattle.iref_grammar.specs.Contexts.{alone}
 use Rattle.iref_grammar.specs.Rules.{Text}
 use Rattle.iref_grammar.specs.PathValue.{PathValue, read_path, spell_path}

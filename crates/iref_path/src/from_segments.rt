@@ -10,7 +10,7 @@ use crate::path_mut::PathMut;
 use iref_component::texts::Segment;
 use iref_error::Memory;
 use iref_grammar::chars::CharSet;
-use iref_grammar::places::PathContext;
+use iref_grammar::context::PathContext;
 use std::alloc::Allocator;
 
 /// The text of the path that pushing these segments one by one on the empty or the absolute path

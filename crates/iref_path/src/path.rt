@@ -20,7 +20,7 @@ use iref_component::view::View;
 pub use iref_error::InvalidPath;
 use iref_error::Memory;
 use iref_grammar::chars::CharSet;
-use iref_grammar::places::PathContext;
+use iref_grammar::context::PathContext;
 use iref_path_text::path_text::{directory_text, parent_text};
 use iref_path_text::pieces::split_root;
 use iref_path_text::spell::normalized_text;
@@ -65,7 +65,7 @@ impl<'a, C: CharSet> Path<'a, C> {
     /// The text.
     pub fn as_str(&self) -> &'a str
         ensures text { result.now ≡ path_text self.now }
-        ensures in_grammar { is_path C.tests result.now ≡ true }
+        ensures in_rule { is_path C.tests result.now ≡ true }
     {
         self.text.as_str()
     }

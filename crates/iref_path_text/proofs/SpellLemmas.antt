@@ -15,7 +15,7 @@ use Rattle.iref_grammar.specs.Rules.{Text}
 use Rattle.iref_grammar.specs.Grammar.{slash, colon}
 use Rattle.iref_grammar.specs.Texts.{all_but_last, lacks}
 use Rattle.iref_grammar.specs.Tests.{is_path, is_segment}
-use Rattle.iref_grammar.specs.declared.places.PathContext.{PathContext}
+use Rattle.iref_grammar.specs.declared.context.PathContext.{PathContext}
 use Rattle.iref_grammar.specs.Contexts.{alone, fits, follows_authority, is_no_authority, is_no_scheme, is_path_in, is_readable_path, reads_as_path}
 use Rattle.iref_grammar.specs.PathValue.{PathValue, is_one_empty, read_path, segments_of, shows_its_list, spell_path}
 use Rattle.iref_grammar.proofs.TextLemmas.{first_of_both, second_of_both, join-pieces_at}

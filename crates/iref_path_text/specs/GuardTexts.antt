@@ -1,7 +1,7 @@
 -- What an edit writes before a path, so that it is read as it was meant where it stands.
 use Rattle.std.specs.Prelude.{Bool, [], codes, if◌then◌else◌}
 use Rattle.std.specs.Char.{char_set_contains}
-use Rattle.iref_grammar.specs.declared.places.PathContext.{PathContext}
+use Rattle.iref_grammar.specs.declared.context.PathContext.{PathContext}
 use Rattle.iref_grammar.specs.Rules.{Text}
 use Rattle.iref_grammar.specs.Grammar.{colon}
 use Rattle.iref_grammar.specs.Texts.{is_empty}

@@ -1,6 +1,6 @@
 -- What the steps of a path write.
 use Rattle.std.specs.Prelude.{ℕ, Bool, ◌||◌, [], codes, if◌then◌else◌}
-use Rattle.iref_grammar.specs.declared.places.PathContext.{PathContext}
+use Rattle.iref_grammar.specs.declared.context.PathContext.{PathContext}
 use Rattle.iref_grammar.specs.Rules.{Text}
 use Rattle.iref_grammar.specs.Texts.{is_empty}
 use Rattle.iref_path_text.specs.Spelling.{first_needs_guard, lead}

@@ -6,7 +6,7 @@ ghost use Rattle.iref_path_text.specs.GuardTexts.{guard_text};
 
 use crate::pieces::{first_piece, split_root};
 use crate::spell::has_colon;
-use iref_grammar::places::PathContext;
+use iref_grammar::context::PathContext;
 
 /// What guards a path in this context: `/` after an authority, and before a first segment that is
 /// empty or holds a `:` a segment `.`, where that would be read as something else.

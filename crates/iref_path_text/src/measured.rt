@@ -21,7 +21,7 @@ use crate::remaining::way::Way;
 use crate::spell::{lead_in, measure, write_before, write_items};
 use iref_error::Memory;
 use iref_grammar::chars::CharSet;
-use iref_grammar::places::PathContext;
+use iref_grammar::context::PathContext;
 use std::alloc::Allocator;
 
 // Nothing stands before the path.

@@ -3,7 +3,7 @@ ghost use Rattle.iref_grammar.specs.Contexts.{is_path_in};
 ghost use Rattle.iref_path_text.specs.PathParts.{is_path_after, path_is_text};
 
 use iref_edit::target::Part;
-use iref_grammar::places::PathContext;
+use iref_grammar::context::PathContext;
 
 /// A path, in the context of what stands before it.
 pub struct PathPart;

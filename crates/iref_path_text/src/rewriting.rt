@@ -20,7 +20,7 @@ use crate::remaining::stack::Stack;
 use crate::spell::{lead_in, write_before};
 use iref_edit::bytes::replace;
 use iref_edit::change::{Change, Place};
-use iref_grammar::places::PathContext;
+use iref_grammar::context::PathContext;
 use memchr::memrchr;
 use std::alloc::Allocator;
 use std::mem;

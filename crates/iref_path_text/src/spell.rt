@@ -18,7 +18,7 @@ use crate::remaining::stack::Stack;
 use crate::remaining::way::Way;
 use iref_error::Memory;
 use iref_grammar::chars::CharSet;
-use iref_grammar::places::PathContext;
+use iref_grammar::context::PathContext;
 use std::alloc::Allocator;
 
 /// How many bytes the items have with a `/` after each, and the first of them, or nothing.

@@ -11,7 +11,7 @@ use crate::guard::guard_of;
 use crate::pieces::{last_piece, split_root};
 use crate::spell::{first_needs_guard, lead};
 use iref_grammar::chars::CharSet;
-use iref_grammar::places::PathContext;
+use iref_grammar::context::PathContext;
 
 /// What a step leaves: a beginning of the path's text, in bytes, and three pieces after it.
 #[derive(Clone, Copy)]

@@ -10,7 +10,7 @@ use crate::rewriting::rewrite;
 use iref_edit::change::Place;
 use iref_edit::target::Target;
 use iref_grammar::chars::CharSet;
-use iref_grammar::places::PathContext;
+use iref_grammar::context::PathContext;
 use std::alloc::Allocator;
 
 /// What holds a path, and rewrites it in its own bytes: of `/a/../b` it leaves `/b` there.

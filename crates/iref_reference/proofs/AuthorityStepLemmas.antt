@@ -5,7 +5,7 @@ use Rattle.std.specs.List.{splice, slice_range}
 use Rattle.iref_grammar.specs.Characters.{CharTests, AreAboveAscii}
 use Rattle.iref_grammar.specs.Rules.{Text}
 use Rattle.iref_grammar.specs.Authority.{AuthorityValue, read_authority, spell_authority}
-use Rattle.iref_grammar.specs.Places.{places_of}
+use Rattle.iref_grammar.specs.ComponentOffsets.{offsets_of}
 use Rattle.iref_grammar.specs.Reference.{is_readable, is_reference, read_reference, spell}
 use Rattle.iref_grammar.proofs.ReadableLemmas.{readable_read}
 use Rattle.iref_model.specs.ComponentSteps.{with_authority_step}
@@ -17,7 +17,7 @@ use Rattle.iref_buffer.proofs.EditLemmas.{authority_part_replaced}
 use Rattle.iref_buffer.specs.Steps.{IsStep}
 
 pub authority_step : {C T A c H a : _} {old new : AuthorityMut C T A c H a} {text : Text} (set : CharTests) → AreAboveAscii set → (step : AuthorityValue → AuthorityValue)
-    → is_reference set text ≡ true → is_readable set (with_authority_step step (read_reference text)) ≡ true → IsEditorAt old text (places_of text).authority
+    → is_reference set text ≡ true → is_readable set (with_authority_step step (read_reference text)) ≡ true → IsEditorAt old text (offsets_of text).authority
     → BecomesAuthority old new (step (authority_mut_value old)) → IsStep (with_authority_step step) text (edited_bytes new)
 authority_step {C} {T} {A} {c} {H} {a} {old} {new} {text} set above step h readable of e =
     let r = read_reference text in

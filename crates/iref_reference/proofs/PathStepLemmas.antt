@@ -1,11 +1,11 @@
 -- A reference after a step of its path, by an editor of that path.
 use Rattle.std.proofs.Common.{◌≡◌, true, ap, ◌∙◌}
 use Rattle.std.specs.List.{splice, slice_range}
-use Rattle.iref_grammar.specs.declared.places.PathContext.{PathContext}
+use Rattle.iref_grammar.specs.declared.context.PathContext.{PathContext}
 use Rattle.iref_grammar.specs.Characters.{CharTests, AreAboveAscii}
 use Rattle.iref_grammar.specs.Rules.{Text}
 use Rattle.iref_grammar.specs.PathValue.{PathValue, read_path, spell_path}
-use Rattle.iref_grammar.specs.Places.{places_of}
+use Rattle.iref_grammar.specs.ComponentOffsets.{offsets_of}
 use Rattle.iref_grammar.specs.Reference.{context_of, is_readable, is_reference, read_reference}
 use Rattle.iref_grammar.proofs.PlaceLemmas.{path_place}
 use Rattle.iref_grammar.proofs.ReadableLemmas.{readable_read}
@@ -18,7 +18,7 @@ use Rattle.iref_buffer.specs.Steps.{IsStep}
 
 pub path_step : {C : _} {T : _} {A : _} {c : _} {t : _} {a : _} {old new : PathMut C T A c t a} {text : Text} (set : CharTests) → AreAboveAscii set → (step : PathContext → PathValue → PathValue)
     → is_reference set text ≡ true → is_readable set (with_path_step step (read_reference text)) ≡ true
-    → IsEditorOf old text (context_of (read_reference text)) (places_of text).path.start (places_of text).path.end
+    → IsEditorOf old text (context_of (read_reference text)) (offsets_of text).path.start (offsets_of text).path.end
     → BecomesPath old new (step (path_mut_context old) (path_mut_value old)) → IsStep (with_path_step step) text (edited_bytes new)
 path_step {C} {T} {A} {c} {t} {a} {old} {new} {text} set above step h readable of e =
     let r = read_reference text in

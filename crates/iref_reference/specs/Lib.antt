@@ -4,7 +4,7 @@ pub use Rattle.iref_grammar.specs.Characters.{CharTests}
 pub use Rattle.iref_grammar.specs.ComponentTexts.{AreComponents, spell_components}
 pub use Rattle.iref_grammar.specs.Grammar.{hash_sign, IsUri, IsUriReference}
 pub use Rattle.iref_grammar.specs.PathValue.{spell_path}
-pub use Rattle.iref_grammar.specs.Places.{places_of}
+pub use Rattle.iref_grammar.specs.ComponentOffsets.{offsets_of}
 pub use Rattle.iref_grammar.specs.Reference.{hierarchy, is_full_reference, is_reference, read_reference, ReferenceValue, spell}
 pub use Rattle.iref_grammar.specs.Rules.{InUtf8, Text}
 pub use Rattle.iref_grammar.specs.Tests.{is_scheme, none_or}

@@ -1,6 +1,6 @@
 //! Editors of the parts of owners, in place (RFC 3986 section 3).
 ghost use Rattle.std.specs.{Prelude.{◌≡◌, true, is_some, IfSome}, Borrow.{sem, RestsIfNone}};
-ghost use Rattle.iref_grammar.specs.{Places.{places_of}, Reference.{context_of, is_reference}};
+ghost use Rattle.iref_grammar.specs.{ComponentOffsets.{offsets_of}, Reference.{context_of, is_reference}};
 ghost use Rattle.iref_path.specs.PathEdits.{Borrows, IsEditorOf};
 ghost use Rattle.iref_buffer.specs.PathPlaces.{IsPathOf, one_path, path_is_within};
 ghost use Rattle.iref_buffer.specs.AuthorityPlaces.{IsAuthorityOf, one_authority};
@@ -16,7 +16,7 @@ use iref_edit::change::{Change, Place};
 use iref_edit::target::Target;
 use iref_error::Memory;
 use iref_grammar::chars::CharSet;
-use iref_grammar::places::PathContext;
+use iref_grammar::context::PathContext;
 use iref_path::path_mut::PathMut;
 use iref_path_text::part::PathPart;
 use iref_path_text::target::PathTarget;
@@ -90,10 +90,10 @@ impl<R: HeldRule, C: CharSet> ReferenceBuf<R, C> {
         ensures same_reference { IfSome result (λ editor.
             authority.Borrows editor self.entry.ghost_name) }
         ensures editor { IfSome result (λ editor. authority.IsEditorAt editor
-            (reference_buf_text self.old) (places_of (reference_buf_text self.old)).authority) }
+            (reference_buf_text self.old) (offsets_of (reference_buf_text self.old)).authority) }
         ensures reference { is_reference C.tests (reference_buf_text self.old) ≡ true }
     {
-        let Some(place) = self.held.places().authority else {
+        let Some(place) = self.held.offsets().authority else {
             return None;
         };
         Some(AuthorityMut::of_target(self, place))
@@ -105,12 +105,12 @@ impl<R: HeldRule, C: CharSet> ReferenceBuf<R, C> {
         ensures same_reference { Borrows result self.entry.ghost_name }
         ensures editor { IsEditorOf result (reference_buf_text self.old)
             (context_of (reference_buf_value self.old))
-            (places_of (reference_buf_text self.old)).path.start
-            (places_of (reference_buf_text self.old)).path.end }
+            (offsets_of (reference_buf_text self.old)).path.start
+            (offsets_of (reference_buf_text self.old)).path.end }
         ensures reference { is_reference C.tests (reference_buf_text self.old) ≡ true }
     {
         let context = self.held.context();
-        let path = self.held.places().path;
+        let path = self.held.offsets().path;
         PathMut::of_target(self, context, path)
     }
 }

@@ -2,7 +2,7 @@
 ghost use Rattle.std.specs.Prelude.{◌≡◌, ◌++◌, true, [], ◌∷◌, Some, None, IfOk, option_map};
 ghost use Rattle.std.specs.String.{string_bytes};
 ghost use Rattle.iref_component.specs.{colon, hash_sign, spell_authority, before, spell_path};
-ghost use Rattle.iref_component.specs.{spell_components, hierarchy, spell, with_query, places_of};
+ghost use Rattle.iref_component.specs.{spell_components, hierarchy, spell, with_query, offsets_of};
 ghost use Rattle.iref_component.specs.{with_fragment, user_info_of, host_of, port_of, base_of};
 ghost use Rattle.iref_component.specs.{text_of};
 ghost use Rattle.iref_authority.specs.{authority_text};
@@ -22,7 +22,7 @@ use iref_component::rule::Refuses;
 use iref_component::texts::{Fragment, Host, Port, Query, SchemeBuf, UserInfo};
 use iref_error::{InvalidUri, Memory};
 use iref_grammar::chars::CharSet;
-use iref_grammar::places::Offsets;
+use iref_grammar::offsets::Offsets;
 use iref_path::path::Path;
 use std::alloc::Global;
 use std::convert::TryFrom;
@@ -67,7 +67,7 @@ impl<R: HeldRule + Refuses<Vec<u8>>, C: CharSet> ReferenceBuf<R, C> {
 }
 
 impl<R: HeldRule, C: CharSet> ReferenceBuf<R, C> {
-    // The owner of a text with its places.
+    // The owner of a text with its offsets.
     pub(crate) fn from_held(held: Held<R, C>) -> Self
         ensures { reference_buf_text result ≡ held }
     {
@@ -98,9 +98,9 @@ impl<R: HeldRule, C: CharSet> ReferenceBuf<R, C> {
 
     /// Where the components are, in bytes: those of the one reference that spells the text.
     pub fn offsets(&self) -> Offsets
-        ensures { result ≡ places_of (reference_buf_text self.now) }
+        ensures { result ≡ offsets_of (reference_buf_text self.now) }
     {
-        self.held.places()
+        self.held.offsets()
     }
 
     // The components, with a scheme if there is one.

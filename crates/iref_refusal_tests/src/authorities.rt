@@ -40,7 +40,7 @@ impl Edited<Edit> for AuthorityBuf {
         self.as_str()
     }
 
-    fn places(&self) -> Option<Offsets> {
+    fn offsets(&self) -> Option<Offsets> {
         None
     }
 }

@@ -43,7 +43,7 @@ pub trait Edited<E: Copy>: Sized {
     fn text(&self) -> &str;
 
     /// Where the components are, if the owner knows.
-    fn places(&self) -> Option<Offsets>;
+    fn offsets(&self) -> Option<Offsets>;
 }
 
 /// Fails unless the edits of these texts leave those, or nothing changed and they do it then.
@@ -54,10 +54,10 @@ pub fn are_done<E: Copy, T: Edited<E> + Drop>(
     for row in rows {
         let (text, edit, want) = *row;
         let mut owner = T::of_text(text_of(text, alloc)?)?;
-        let places = owner.places();
+        let offsets = owner.offsets();
         if owner.edit(edit).is_err() {
             same_text(owner.text(), text)?;
-            same(&owner.places(), &places)?;
+            same(&owner.offsets(), &offsets)?;
             holds(owner.edit(edit).is_ok(), text)?;
         }
         same_text(owner.text(), want)?;

@@ -23,12 +23,12 @@ fn copies_are_mapped(rt: HostRuntime) -> Result<(), Fail> {
 #[test]
 fn references_are_mapped_or_come_back(rt: HostRuntime) -> Result<(), Fail> {
     let reference = IriRefBuf::new(text_of("//é@ö/a", rt.alloc())?)?;
-    let places = reference.offsets();
+    let offsets = reference.offsets();
     let uri = match reference.into_uri_ref() {
         Ok(uri) => uri,
         Err((reference, _)) => {
             same_text(reference.as_str(), "//é@ö/a")?;
-            same(&reference.offsets(), &places)?;
+            same(&reference.offsets(), &offsets)?;
             reference.into_uri_ref().or(Err("refused twice"))?
         }
     };
@@ -38,12 +38,12 @@ fn references_are_mapped_or_come_back(rt: HostRuntime) -> Result<(), Fail> {
 #[test]
 fn iris_are_mapped_or_come_back(rt: HostRuntime) -> Result<(), Fail> {
     let iri = IriBuf::new(text_of("http://a/é", rt.alloc())?)?;
-    let places = iri.offsets();
+    let offsets = iri.offsets();
     let uri = match iri.into_uri() {
         Ok(uri) => uri,
         Err((iri, _)) => {
             same_text(iri.as_str(), "http://a/é")?;
-            same(&iri.offsets(), &places)?;
+            same(&iri.offsets(), &offsets)?;
             iri.into_uri().or(Err("refused twice"))?
         }
     };

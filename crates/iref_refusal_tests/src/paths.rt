@@ -45,7 +45,7 @@ impl Edited<Edit> for PathBuf {
         self.as_str()
     }
 
-    fn places(&self) -> Option<Offsets> {
+    fn offsets(&self) -> Option<Offsets> {
         None
     }
 }

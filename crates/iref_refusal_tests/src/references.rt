@@ -52,7 +52,7 @@ impl Edited<Edit> for UriRefBuf {
         self.as_str()
     }
 
-    fn places(&self) -> Option<Offsets> {
+    fn offsets(&self) -> Option<Offsets> {
         Some(self.offsets())
     }
 }
@@ -154,7 +154,7 @@ impl Edited<Join> for UriBuf {
         self.as_str()
     }
 
-    fn places(&self) -> Option<Offsets> {
+    fn offsets(&self) -> Option<Offsets> {
         Some(self.offsets())
     }
 }
@@ -227,20 +227,20 @@ const INTO: &[(&str, Into, &str)] = &[
 ];
 
 // Fails unless the reference that was handed back has this text, and its components are there.
-fn is_as_it_was(reference: &UriRefBuf, text: &str, places: &Offsets) -> Result<(), Fail> {
+fn is_as_it_was(reference: &UriRefBuf, text: &str, offsets: &Offsets) -> Result<(), Fail> {
     same_text(reference.as_str(), text)?;
-    same(&reference.offsets(), places)
+    same(&reference.offsets(), offsets)
 }
 
 // The URI, at once or when the call is made again on what was handed back.
 fn uri_of(text: &str, into: Into, alloc: Global) -> Result<UriBuf, Fail> {
     let reference = UriRefBuf::of_text(text_of(text, alloc)?)?;
-    let places = reference.offsets();
+    let offsets = reference.offsets();
     let reference = match into.uri(reference)? {
         Ok(uri) => return Ok(uri),
         Err(reference) => reference,
     };
-    is_as_it_was(&reference, text, &places)?;
+    is_as_it_was(&reference, text, &offsets)?;
     match into.uri(reference)? {
         Ok(uri) => Ok(uri),
         Err(_) => Err("refused twice")?,

@@ -1,7 +1,7 @@
 //! Edits of the path and of the parts of the authority, by the editors of these.
 ghost use Rattle.std.specs.Prelude.{◌≡◌, true, is_some};
 ghost use Rattle.iref_authority.specs.AuthorityEdits as authority;
-ghost use Rattle.iref_grammar.specs.Places.{places_of};
+ghost use Rattle.iref_grammar.specs.ComponentOffsets.{offsets_of};
 ghost use Rattle.iref_grammar.specs.Reference.{context_of, is_reference, read_reference};
 ghost use Rattle.iref_path.specs.PathEdits.{Borrows, IsEditorOf};
 ghost use Rattle.iref.specs.EditAnswers.{DoesEdit, is_authority_edit, is_path_edit};
@@ -25,8 +25,8 @@ pub trait PathOwner<C: CharSet>: PathTarget<C> {
         ensures same_reference { Borrows result self.entry.ghost_name }
         ensures editor { IsEditorOf result (Self.text self.old)
             (context_of (read_reference (Self.text self.old)))
-            (places_of (Self.text self.old)).path.start
-            (places_of (Self.text self.old)).path.end }
+            (offsets_of (Self.text self.old)).path.start
+            (offsets_of (Self.text self.old)).path.end }
         ensures reference { is_reference C.tests (Self.text self.old) ≡ true };
 }
 
@@ -66,7 +66,7 @@ pub trait AuthorityOwner<C: CharSet>: Target<AuthorityPart, C> {
         requires { is_some (read_reference (Self.text self.old)).authority ≡ true }
         ensures same_reference { authority.Borrows result self.entry.ghost_name }
         ensures editor { authority.IsEditorAt result (Self.text self.old)
-            (places_of (Self.text self.old)).authority }
+            (offsets_of (Self.text self.old)).authority }
         ensures reference { is_reference C.tests (Self.text self.old) ≡ true };
 }
 

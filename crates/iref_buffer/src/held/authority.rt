@@ -38,7 +38,7 @@ impl<R: HeldRule, C: CharSet, A: Allocator + Copy> Target<AuthorityPart, C> for 
 
     fn replace(&mut self, after: (), at: Place, by: Change<'_>) -> Result<usize, Memory> {
         self.replace_in_authority(by)?;
-        Ok(self.places.path.start)
+        Ok(self.offsets.path.start)
     }
 }
 
@@ -71,7 +71,7 @@ impl<R: HeldRule, C: CharSet, A: Allocator> Held<R, C, A> {
         ensures place { result ≡ place_of_authority self.now }
         ensures within { IsWithin self.now result }
     {
-        let Some(place) = &self.places.authority else {
+        let Some(place) = &self.offsets.authority else {
             unreachable!()
         };
         place.start..place.end

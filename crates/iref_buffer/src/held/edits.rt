@@ -1,8 +1,8 @@
-//! Edits of a held text: each is one step of the reference, and moves the places with the text.
+//! Edits of a held text: each is one step of the reference, and moves the offsets with the text.
 ghost use Rattle.std.specs.Prelude.{◌≡◌, ◌≤◌, ◌<◌, ◌+◌, ◌-◌, ◌^◌, ◌++◌, true, false, [], ◌∷◌};
 ghost use Rattle.std.specs.Prelude.{length, Option, is_some, option_map, codes, OnOk, OnErr, IsOk};
 ghost use Rattle.std.specs.{Prelude.{IsNone}, Option.{option_copied}, List.{splice}};
-ghost use Rattle.iref_grammar.specs.Places.{places_of, text_at};
+ghost use Rattle.iref_grammar.specs.ComponentOffsets.{offsets_of, text_at};
 ghost use Rattle.iref_component.specs.{Text, colon, question_mark, hash_sign, AuthorityValue};
 ghost use Rattle.iref_component.specs.{spell_authority, read_authority, is_authority, part_then};
 ghost use Rattle.iref_component.specs.{then_part, none_or, is_scheme, is_path, is_query};
@@ -20,7 +20,7 @@ use iref_edit::change::Change;
 use iref_edit::text::{self, marked, marked_after};
 use iref_error::Memory;
 use iref_grammar::chars::CharSet;
-use iref_grammar::places::PathContext;
+use iref_grammar::context::PathContext;
 use iref_path_text::guard::{guard_of, root_of};
 use std::alloc::Allocator;
 use std::ops::Range;
@@ -161,7 +161,7 @@ impl<R: HeldRule, C: CharSet, A: Allocator> Held<R, C, A> {
             close,
         };
         text::replace(&mut self.text, change)?;
-        self.places = lengths.places_in(self.text.as_str());
+        self.offsets = lengths.offsets_in(self.text.as_str());
         Ok(())
     }
 
@@ -172,7 +172,7 @@ impl<R: HeldRule, C: CharSet, A: Allocator> Held<R, C, A> {
             → splice self.now result.start result.end (then_part (question_mark ∷ []) query)
             ≡ spell (with_query query (read_reference self.now)) }
     {
-        self.places.path.end..front_end(&self.places)
+        self.offsets.path.end..front_end(&self.offsets)
     }
 
     // The fragment and its mark, or where they would stand.
@@ -182,17 +182,17 @@ impl<R: HeldRule, C: CharSet, A: Allocator> Held<R, C, A> {
             → splice self.now result.start result.end (then_part (hash_sign ∷ []) fragment)
             ≡ spell (with_fragment fragment (read_reference self.now)) }
     {
-        front_end(&self.places)..self.text.as_str().len()
+        front_end(&self.offsets)..self.text.as_str().len()
     }
 
     // Where the path stands.
     pub(super) fn path_range(&self) -> Range<usize>
-        ensures place { result ≡ (places_of self.now).path }
+        ensures place { result ≡ (offsets_of self.now).path }
         ensures within { IsWithin self.now result }
         ensures replaced { (path : PathValue) → replaced self.now result (spell_path path)
             ≡ spell (record (read_reference self.now) { path = path }) }
     {
-        self.places.path.start..self.places.path.end
+        self.offsets.path.start..self.offsets.path.end
     }
 
     // Where a range of what stands at a place stands in the text.
@@ -219,7 +219,7 @@ impl<R: HeldRule, C: CharSet, A: Allocator> Held<R, C, A> {
             (then_part (codes "//") (option_map spell_authority authority) ++ lead)
             ≡ spell (record (read_reference self.now) { authority = authority; path = path }) }
     {
-        authority_start(&self.places)..self.places.path.start
+        authority_start(&self.offsets)..self.offsets.path.start
     }
 
     // What is written before the path where an authority is to stand, or none.
@@ -259,7 +259,7 @@ impl<R: HeldRule, C: CharSet, A: Allocator> Held<R, C, A> {
             → splice self.now result.start result.end (part_then (colon ∷ []) scheme ++ lead)
             ≡ spell (record (read_reference self.now) { scheme = scheme; path = path }) }
     {
-        0..authority_start(&self.places)
+        0..authority_start(&self.offsets)
     }
 
     // What is written before the authority and the path where a scheme is to stand, or none.

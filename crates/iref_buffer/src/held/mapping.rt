@@ -32,7 +32,11 @@ impl<R: HeldRule, C: CharSet, A: Allocator> Held<R, C, A> {
         if escaped == 0 {
             return Ok(self.into_rule());
         }
-        let Held { text, places, rule } = self;
+        let Held {
+            text,
+            offsets,
+            rule,
+        } = self;
         let mut bytes = text.into_bytes();
         match map_in_place(&mut bytes, escaped) {
             Ok(()) => {
@@ -42,7 +46,11 @@ impl<R: HeldRule, C: CharSet, A: Allocator> Held<R, C, A> {
             }
             Err(_) => {
                 let text = unsafe { String::from_utf8_unchecked(bytes) };
-                Err(Held { text, places, rule })
+                Err(Held {
+                    text,
+                    offsets,
+                    rule,
+                })
             }
         }
     }

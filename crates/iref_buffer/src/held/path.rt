@@ -1,7 +1,7 @@
 //! The path of a held reference as a part that is edited in place, and as a normal one (RFC 3986
 //! sections 3.3 and 5.2.4).
 ghost use Rattle.std.specs.Prelude.{◌≡◌, ◌-◌, ◌≤◌, ◌||◌, ◌&&◌, length, not, true, OnErr, OnOk};
-ghost use Rattle.iref_grammar.specs.{Contexts.{is_path_in}, Places.{places_of}};
+ghost use Rattle.iref_grammar.specs.{Contexts.{is_path_in}, ComponentOffsets.{offsets_of}};
 ghost use Rattle.iref_grammar.specs.PathValue.{read_path};
 ghost use Rattle.iref_grammar.specs.Reference.{context_of, read_reference, spell};
 ghost use Rattle.iref_grammar.specs.{Tests.{is_path}, Texts.{is_empty}};
@@ -16,7 +16,7 @@ use iref_edit::change::{Change, Place};
 use iref_edit::target::Target;
 use iref_error::Memory;
 use iref_grammar::chars::CharSet;
-use iref_grammar::places::PathContext;
+use iref_grammar::context::PathContext;
 use iref_path_text::part::PathPart;
 use iref_path_text::pieces::split_root;
 use iref_path_text::rewriting::rewrite_text;
@@ -45,14 +45,14 @@ impl<R: HeldRule, C: CharSet, A: Allocator + Copy> Target<PathPart, C> for Held<
 
     fn replace(&mut self, after: PathContext, at: Place, by: Change<'_>) -> Result<usize, Memory> {
         self.replace_in_path(by)?;
-        Ok(self.places.path.end)
+        Ok(self.offsets.path.end)
     }
 }
 
 impl<R: HeldRule, C: CharSet, A: Allocator + Copy> PathTarget<C> for Held<R, C, A> {
     fn rewrite(&mut self, after: PathContext, at: Place, lead: &str) -> usize {
         self.rewrite_path(lead);
-        self.places.path.end
+        self.offsets.path.end
     }
 }
 
@@ -70,7 +70,7 @@ impl<R: HeldRule, C: CharSet, A: Allocator + Copy> Held<R, C, A> {
     // It takes no memory.
     fn rewrite_path(&mut self, lead: &str)
         requires shorter { length (rewritten lead.now (path_text self.old))
-            ≤ (places_of self.old).path.end - (places_of self.old).path.start }
+            ≤ (offsets_of self.old).path.end - (offsets_of self.old).path.start }
         requires may_stand { is_path_in C.tests (context_of (read_reference self.old))
             (rewritten lead.now (path_text self.old)) ≡ true }
         ensures text { self.new
@@ -90,7 +90,7 @@ impl<R: HeldRule, C: CharSet, A: Allocator + Copy> Held<R, C, A> {
             path: end - start,
             ..old
         };
-        self.places = lengths.places_in(self.text.as_str());
+        self.offsets = lengths.offsets_in(self.text.as_str());
     }
 
     /// Replaces the path by its normal form, with a guard where that would be read as something

@@ -1,4 +1,4 @@
-//! The text that leads from a base to a target, with the places of its components.
+//! The text that leads from a base to a target, with the offsets of its components.
 ghost use Rattle.iref_buffer.specs.{Relatives.{agree}, Steps.{Spells}};
 ghost use Rattle.iref_grammar.specs.Reference.{is_readable};
 ghost use Rattle.iref_model.specs.Relative.{relative_to};

@@ -1,9 +1,9 @@
-//! The text that a reference resolves to, with the places of its components (RFC 3986 sections
+//! The text that a reference resolves to, with the offsets of its components (RFC 3986 sections
 //! 5.2.2 and 5.3).
 ghost use Rattle.iref_buffer.specs.ComponentLengths.{lengths_of_texts, placed};
 ghost use Rattle.iref_buffer.specs.MeasuredReferences.{IsReady, spell_texts, measured_components};
 ghost use Rattle.iref_buffer.specs.Steps.{Spells};
-ghost use Rattle.iref_grammar.specs.{Places.{places_of}, Reference.{is_readable}};
+ghost use Rattle.iref_grammar.specs.{ComponentOffsets.{offsets_of}, Reference.{is_readable}};
 ghost use Rattle.iref_model.specs.Resolution.{resolved};
 ghost use Rattle.iref_parse.specs.ReferenceSlices.{value_of};
 ghost use Rattle.std.specs.Prelude.{◌≡◌, ◌+◌, ◌*◌, ◌<◌, ◌^◌, IfOk, length, true};
@@ -49,17 +49,17 @@ impl<R: HeldRule, C: CharSet, A: Allocator> Held<R, C, A> {
     pub(super) fn of_components(alloc: A, components: MeasuredReference<'_>) -> Result<Self, Memory>
         requires ready { IsReady components }
         requires in_rule { R.test C.tests (spell_texts (measured_components components)) ≡ true }
-        requires places { placed (lengths_of_texts (measured_components components))
-            ≡ places_of (spell_texts (measured_components components)) }
+        requires offsets { placed (lengths_of_texts (measured_components components))
+            ≡ offsets_of (spell_texts (measured_components components)) }
         ensures { IfOk result (λ held. held ≡ spell_texts (measured_components components.entry)) }
     {
         let bytes = components.bytes(alloc)?;
         // What spells a reference is text, so no byte is read again.
         let text = unsafe { String::from_utf8_unchecked(bytes) };
-        let places = components.lengths().places_in(text.as_str());
+        let offsets = components.lengths().offsets_in(text.as_str());
         Ok(Held {
             text,
-            places,
+            offsets,
             rule: PhantomData,
         })
     }

@@ -15,7 +15,7 @@ use iref_edit::change::{Change, Place};
 use iref_edit::target::Target;
 use iref_error::Memory;
 use iref_grammar::chars::CharSet;
-use iref_grammar::places::PathContext;
+use iref_grammar::context::PathContext;
 use iref_path_text::part::PathPart;
 use iref_path_text::rewriting::rewrite_text;
 use iref_path_text::target::PathTarget;

@@ -8,7 +8,7 @@ use crate::path::Path;
 use crate::path_mut::PathMut;
 use iref_error::InvalidPath;
 use iref_grammar::chars::CharSet;
-use iref_grammar::places::PathContext;
+use iref_grammar::context::PathContext;
 use std::alloc::Allocator;
 use std::ops::Range;
 

@@ -9,22 +9,22 @@ use Rattle.iref_model.specs.ReferenceParts.{base_of}
 use Rattle.iref_buffer.proofs.BaseLemmas.{base-joins, base-ends, tail, tail_utf8}
 use Rattle.iref_buffer.proofs.base.base_slice.Goals as goal
 
-pub places_of-requires : goal.places_of-requires
-places_of-requires g c =
+pub offsets_of-requires : goal.offsets_of-requires
+offsets_of-requires g c =
     let size : length (spell (value_of c.args.slices)) ≡ length c.args.text.now = ap length (ap spell c.requires.value ∙ read_reference-spelled c.args.text.now) in
     omega arith
 
 pub overflow_sub-end : goal.overflow_sub-end
 overflow_sub-end g c =
-    let end = ap (λ o. o.path.end) c.places_of.ensures ∙ base-ends (texts_of c.args.slices) c.after_directory-file_name.result.now c.after_directory-file_name.ensures in
+    let end = ap (λ o. o.path.end) c.offsets_of.ensures ∙ base-ends (texts_of c.args.slices) c.after_directory-file_name.result.now c.after_directory-file_name.ensures in
     omega (arith, end)
 
 pub range-requires-clause-end_boundary : goal.range-requires-clause-end_boundary
 range-requires-clause-end_boundary g c =
     let name = c.after_directory-file_name.result.now in
     let base = spell (base_of (value_of c.args.slices)) in
-    let end = ap (λ o. o.path.end) c.places_of.ensures ∙ base-ends (texts_of c.args.slices) name c.after_directory-file_name.ensures in
-    let size : length base ≡ c.places_of.result.path.end - length name = omega (arith, end) in
+    let end = ap (λ o. o.path.end) c.offsets_of.ensures ∙ base-ends (texts_of c.args.slices) name c.after_directory-file_name.ensures in
+    let size : length base ≡ c.offsets_of.result.path.end - length name = omega (arith, end) in
     let whole : base ++ (name ++ tail (texts_of c.args.slices)) ≡ c.args.text.now =
     base-joins (texts_of c.args.slices) name c.after_directory-file_name.ensures ∙ ap spell c.requires.value ∙ read_reference-spelled c.args.text.now in
     subst (IsCharBoundary c.args.text.now) size
@@ -35,8 +35,8 @@ pub returns : goal.returns
 returns g c =
     let name = c.after_directory-file_name.result.now in
     let base = spell (base_of (value_of c.args.slices)) in
-    let end = ap (λ o. o.path.end) c.places_of.ensures ∙ base-ends (texts_of c.args.slices) name c.after_directory-file_name.ensures in
-    let size : c.places_of.result.path.end - length name - 0 ≡ length base = omega (arith, end) in
+    let end = ap (λ o. o.path.end) c.offsets_of.ensures ∙ base-ends (texts_of c.args.slices) name c.after_directory-file_name.ensures in
+    let size : c.offsets_of.result.path.end - length name - 0 ≡ length base = omega (arith, end) in
     let whole : base ++ (name ++ tail (texts_of c.args.slices)) ≡ c.args.text.now =
     base-joins (texts_of c.args.slices) name c.after_directory-file_name.ensures ∙ ap spell c.requires.value ∙ read_reference-spelled c.args.text.now in
     c.range.ensures.value ∙ ap (λ n. take n c.args.text.now) size ∙ ap (take (length base)) (sym whole)

@@ -1,29 +1,29 @@
 use Rattle.std.proofs.Common.{◌≡◌, true, sym, ap, subst, ◌∙◌}
 use Rattle.std.specs.Prelude.{IfSome, None, Some}
 use Rattle.std.specs.String.{string_bytes}
-use Rattle.iref_grammar.specs.declared.places.Offsets.{Offsets}
-use Rattle.iref_grammar.specs.Places.{places_of}
+use Rattle.iref_grammar.specs.declared.offsets.Offsets.{Offsets}
+use Rattle.iref_grammar.specs.ComponentOffsets.{offsets_of}
 use Rattle.iref_grammar.specs.Reference.{is_reference}
 use Rattle.iref_edit.specs.Changes.{IsWithin}
 use Rattle.iref_buffer.proofs.AuthorityPlaceLemmas.{authority_stands, place_is}
-use Rattle.iref_buffer.proofs.HeldLemmas.{places_within}
+use Rattle.iref_buffer.proofs.HeldLemmas.{offsets_within}
 use Rattle.iref_buffer.proofs.held.Held.authority_place.Goals as goal
 
 pub unreachable-requires : goal.unreachable-requires
 unreachable-requires g c =
-    let known = ap (λ (p : Offsets). p.authority) c.self.invariant.1 ∙ ap (λ t. (places_of t).authority) c.self.view_is in
-    let none : (places_of c.args.self.now).authority ≡ None = sym known ∙ c.in_default.is in
-    let some : (places_of c.args.self.now).authority ≡ Some _ = authority_stands c.args.self.now c.requires in
+    let known = ap (λ (p : Offsets). p.authority) c.self.invariant.1 ∙ ap (λ t. (offsets_of t).authority) c.self.view_is in
+    let none : (offsets_of c.args.self.now).authority ≡ None = sym known ∙ c.in_default.is in
+    let some : (offsets_of c.args.self.now).authority ≡ Some _ = authority_stands c.args.self.now c.requires in
     cc
 
 pub returns-clause-place : goal.returns-clause-place
 returns-clause-place g c =
-    let known = ap (λ (p : Offsets). p.authority) c.self.invariant.1 ∙ ap (λ t. (places_of t).authority) c.self.view_is in
+    let known = ap (λ (p : Offsets). p.authority) c.self.invariant.1 ∙ ap (λ t. (offsets_of t).authority) c.self.view_is in
     place_is c.args.self.now c.in-Some.place (sym known ∙ c.in-Some.is)
 
 pub returns-clause-within : goal.returns-clause-within
 returns-clause-within g c =
     let set = g.C.CharSet.tests in
-    let known = ap (λ (p : Offsets). p.authority) c.self.invariant.1 ∙ ap (λ t. (places_of t).authority) c.self.view_is in
+    let known = ap (λ (p : Offsets). p.authority) c.self.invariant.1 ∙ ap (λ t. (offsets_of t).authority) c.self.view_is in
     let reference = subst (λ t. is_reference set t ≡ true) c.self.view_is (g.met.R.HeldRule.references set (string_bytes c.self.inside.text) c.self.invariant.0) in
-    subst (λ o. IfSome o (IsWithin c.args.self.now)) (sym known ∙ c.in-Some.is) (places_within set g.met.C.CharSet.above_ascii c.args.self.now reference).authority
+    subst (λ o. IfSome o (IsWithin c.args.self.now)) (sym known ∙ c.in-Some.is) (offsets_within set g.met.C.CharSet.above_ascii c.args.self.now reference).authority

@@ -1,15 +1,15 @@
 use Rattle.std.proofs.Common.{rules, ap, ◌∙◌}
 use Rattle.iref_grammar.specs.Reference.{read_reference}
-use Rattle.iref_grammar.specs.Places.{places_in, places_of}
+use Rattle.iref_grammar.specs.ComponentOffsets.{offsets_in, offsets_of}
 use Rattle.iref_grammar.proofs.ReferenceCutLemmas.{read_reference-spelled}
 use Rattle.iref_buffer.proofs.held.Held.new_unchecked.Goals as goal
 
-pub places_of-places-requires : goal.places_of-places-requires
-places_of-places-requires g c = search (rules, read_reference-spelled)
+pub offsets_of-offsets-requires : goal.offsets_of-offsets-requires
+offsets_of-offsets-requires g c = search (rules, read_reference-spelled)
 
 pub invariant_of-result : goal.invariant_of-result
-unfolding places_of
+unfolding offsets_of
 invariant_of-result g c = (
   c.requires,
-  c.places_of-places.ensures ∙ ap places_in (c.split_reference.ensures.value ∙ ap read_reference c.as_str.ensures.value),
+  c.offsets_of-offsets.ensures ∙ ap offsets_in (c.split_reference.ensures.value ∙ ap read_reference c.as_str.ensures.value),
 )

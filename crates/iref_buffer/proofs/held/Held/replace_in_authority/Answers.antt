@@ -1,7 +1,7 @@
 use Rattle.std.proofs.Common.{◌+◌, ◌-◌, ap, subst, sym, ◌∙◌}
 use Rattle.std.specs.Prelude.{Some}
 use Rattle.iref_grammar.specs.Authority.{read_authority}
-use Rattle.iref_grammar.specs.Places.{text_at}
+use Rattle.iref_grammar.specs.ComponentOffsets.{text_at}
 use Rattle.iref_grammar.specs.Reference.{read_reference}
 use Rattle.iref_model.specs.ComponentSteps.{with_authority_step}
 use Rattle.iref_model.proofs.ReferenceStepLemmas.{with_whole_authority-readable}

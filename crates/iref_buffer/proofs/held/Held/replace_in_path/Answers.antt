@@ -1,6 +1,6 @@
 use Rattle.std.proofs.Common.{◌≡◌, ◌+◌, ◌-◌, length, length-append, ap, subst, sym, ◌∙◌, arith}
 use Rattle.iref_grammar.specs.PathValue.{spell_path}
-use Rattle.iref_grammar.specs.Places.{text_at}
+use Rattle.iref_grammar.specs.ComponentOffsets.{text_at}
 use Rattle.iref_grammar.specs.Reference.{read_reference}
 use Rattle.iref_edit.specs.Changes.{IsWithin, changed, cut_length, pieces, pieces_length, replaced}
 use Rattle.iref_buffer.specs.PathTexts.{path_text, with_path_read}

@@ -21,13 +21,13 @@ of_components-requires-clause-in_rule g c =
     (resolved-readable set (value_of c.args.base) (value_of c.args.reference) c.requires.base c.requires.reference) c.requires.allowed in
     held.in_rule
 
-pub of_components-requires-clause-places : goal.of_components-requires-clause-places
-of_components-requires-clause-places g c =
+pub of_components-requires-clause-offsets : goal.of_components-requires-clause-offsets
+of_components-requires-clause-offsets g c =
     let set = g.C.CharSet.tests in
     let r = resolved (value_of c.args.base) (value_of c.args.reference) in
     let held = are_held set g.met.C.CharSet.above_ascii (g.R.Rule.test set) g.R.HeldRule.allows_scheme (g.met.R.HeldRule.by_scheme set) (measured_components c.resolved.result) r c.resolved.ensures.texts
     (resolved-readable set (value_of c.args.base) (value_of c.args.reference) c.requires.base c.requires.reference) c.requires.allowed in
-    held.places
+    held.offsets
 
 pub returns : goal.returns
 returns g c =

@@ -3,7 +3,7 @@ use Rattle.std.specs.Prelude.{IsUtf8}
 use Rattle.std.specs.declared.ops.Range.{Range}
 use Rattle.iref_edit.specs.Changes.{part_at}
 use Rattle.iref_grammar.specs.PathValue.{read_path, spell_path}
-use Rattle.iref_grammar.specs.Places.{places_of}
+use Rattle.iref_grammar.specs.ComponentOffsets.{offsets_of}
 use Rattle.iref_grammar.specs.Reference.{read_reference}
 use Rattle.iref_grammar.specs.Rules.{Text}
 use Rattle.iref_grammar.proofs.PathLemmas.{read_path-reads}
@@ -17,7 +17,7 @@ use Rattle.iref_buffer.proofs.PathEditLemmas.{path_text_replaced, read_path-read
 use Rattle.iref_buffer.proofs.held.Held.rewrite_path.Goals as goal
 
 -- the text with the path rewritten where it stands, and how long this path is
-module _ (bytes text lead : Text) (range : Range ℕ) (view : bytes ≡ text) (place : range ≡ (places_of text).path) where
+module _ (bytes text lead : Text) (range : Range ℕ) (view : bytes ≡ text) (place : range ≡ (offsets_of text).path) where
   put : rewritten_at lead bytes (record { start = range.start; end = range.end }) ≡ with_path_text (rewritten lead (path_text text)) text
   put = λ i. rewritten_at lead (view i) (record { start = (place i).start; end = (place i).end })
 
@@ -38,8 +38,8 @@ rewrite_text-end-requires-clause-utf8 g c =
     subst IsUtf8 (sym (put _ text c.args.lead.now c.path_range-range.result c.self.view_is c.path_range-range.ensures.place))
     (in_rule_utf8 _ _ ((g.R.Rule.decided set g.met.C.CharSet.above_ascii (with_path_text path text)).0 step.leaves.in_rule))
 
-pub places_in-self-inside-requires : goal.places_in-self-inside-requires
-places_in-self-inside-requires g c =
+pub offsets_in-self-inside-requires : goal.offsets_in-self-inside-requires
+offsets_in-self-inside-requires g c =
     let set = g.C.CharSet.tests in
     let text = c.args.self.now in
     let path = rewritten c.args.lead.now (path_text text) in
@@ -61,7 +61,7 @@ invariant_of-self g c =
     let new = e.bytes ∙ put _ text c.args.lead.now c.path_range-range.result c.self.view_is c.path_range-range.ensures.place in
     let len = path_len _ text c.args.lead.now c.path_range-range.result c.self.view_is c.path_range-range.ensures.place _ e.end in (
       ap (g.R.Rule.test set) new ∙ step.leaves.in_rule,
-      c.places_in-self-inside.ensures ∙ ap placed ((λ i. record (c.lengths-old.ensures.lengths i) { path = len i }) ∙ step.leaves.lengths) ∙ placed-read (with_path_text path text) ∙ ap places_of (sym new),
+      c.offsets_in-self-inside.ensures ∙ ap placed ((λ i. record (c.lengths-old.ensures.lengths i) { path = len i }) ∙ step.leaves.lengths) ∙ placed-read (with_path_text path text) ∙ ap offsets_of (sym new),
     )
 
 pub returns-clause-value : goal.returns-clause-value

@@ -2,15 +2,15 @@ use Rattle.std.proofs.Common.{ap, subst, ◌∙◌}
 use Rattle.std.specs.Prelude.{IfSome}
 use Rattle.std.specs.List.{slice_range}
 use Rattle.iref_grammar.specs.Authority.{is_authority}
-use Rattle.iref_grammar.specs.Places.{text_at}
+use Rattle.iref_grammar.specs.ComponentOffsets.{text_at}
 use Rattle.iref_edit.specs.Changes.{IsWithin}
-use Rattle.iref_buffer.proofs.HeldLemmas.{places_within}
+use Rattle.iref_buffer.proofs.HeldLemmas.{offsets_within}
 use Rattle.iref_buffer.proofs.AuthorityPlaceLemmas.{authority_in_rule, place_is, some_if_placed}
 use Rattle.iref_buffer.proofs.held.authority.HeldTargetAuthorityPart.part.Goals as goal
 
 pub slice_at-requires : goal.slice_at-requires
 slice_at-requires g c =
-    rw c.as_str.ensures.text (subst (λ o. IfSome o (IsWithin c.args.self.now)) c.requires.1 (places_within g.C.CharSet.tests g.met.C.CharSet.above_ascii c.args.self.now c.requires.0).authority)
+    rw c.as_str.ensures.text (subst (λ o. IfSome o (IsWithin c.args.self.now)) c.requires.1 (offsets_within g.C.CharSet.tests g.met.C.CharSet.above_ascii c.args.self.now c.requires.0).authority)
 
 pub returns-clause-value : goal.returns-clause-value
 returns-clause-value g c = c.slice_at.ensures ∙ ap (λ t. slice_range t c.args.at.start c.args.at.end) c.as_str.ensures.text

@@ -2,9 +2,9 @@ use Rattle.std.proofs.Common.{◌≡◌, true, ◌+◌, length, sym, ap, subst, 
 use Rattle.std.specs.Prelude.{is_some, ◌-◌, ◌≤◌}
 use Rattle.std.specs.List.{slice_range}
 use Rattle.std.specs.String.{string_bytes}
-use Rattle.iref_grammar.specs.declared.places.Offsets.{Offsets}
+use Rattle.iref_grammar.specs.declared.offsets.Offsets.{Offsets}
 use Rattle.iref_grammar.specs.Contexts.{is_path_in}
-use Rattle.iref_grammar.specs.Places.{places_of}
+use Rattle.iref_grammar.specs.ComponentOffsets.{offsets_of}
 use Rattle.iref_grammar.specs.Reference.{read_reference, context_of, is_reference}
 use Rattle.iref_grammar.proofs.PlaceLemmas.{path_place}
 use Rattle.iref_path_text.specs.Rewriting.{rewritten}
@@ -16,7 +16,7 @@ pub rewrite_path-requires-clause-shorter : goal.rewrite_path-requires-clause-sho
 rewrite_path-requires-clause-shorter g c =
     let text = c.args.self.now in
     let s = c.requires.stands in
-    subst (λ start. length (rewritten c.args.lead.now (slice_range text start (places_of text).path.end)) ≤ (places_of text).path.end - start) s.1
+    subst (λ start. length (rewritten c.args.lead.now (slice_range text start (offsets_of text).path.end)) ≤ (offsets_of text).path.end - start) s.1
     (subst (λ end. length (rewritten c.args.lead.now (slice_range text c.args.at.start end)) ≤ end - c.args.at.start) s.2 c.requires.shorter)
 
 pub rewrite_path-requires-clause-may_stand : goal.rewrite_path-requires-clause-may_stand
@@ -41,7 +41,7 @@ returns-clause-stands g c =
     let place = place_of_new_path text c.rewrite_path.new.self path value in (
       subst (λ t. is_reference set t ≡ true) c.self.view_is (g.met.R.HeldRule.references set (string_bytes c.self.inside.text) c.self.invariant.0),
       s.1 ∙ sym (ap (λ p. p.start) place),
-      ap (λ (p : Offsets). p.path.end) c.self.invariant.1 ∙ ap (λ t. (places_of t).path.end) c.self.view_is,
+      ap (λ (p : Offsets). p.path.end) c.self.invariant.1 ∙ ap (λ t. (offsets_of t).path.end) c.self.view_is,
       s.3 ∙ sym (ap (λ r. is_some r.scheme) value),
       s.4 ∙ sym (ap (λ r. is_some r.authority) value),
     )
@@ -52,5 +52,5 @@ returns-clause-end g c =
     let s = c.requires.stands in
     let path = rewritten c.args.lead.now (path_text text) in
     let place = place_of_new_path text c.rewrite_path.new.self path c.rewrite_path.ensures.value in
-    ap (λ (p : Offsets). p.path.end) c.self.invariant.1 ∙ ap (λ t. (places_of t).path.end) c.self.view_is ∙ ap (λ p. p.end) place
+    ap (λ (p : Offsets). p.path.end) c.self.invariant.1 ∙ ap (λ t. (offsets_of t).path.end) c.self.view_is ∙ ap (λ p. p.end) place
     ∙ (λ i. sym s.1 i + length (rewritten c.args.lead.now (slice_range text (sym s.1 i) (sym s.2 i))))

@@ -3,9 +3,9 @@ use Rattle.std.specs.Prelude.{is_some}
 use Rattle.std.specs.List.{slice_range}
 use Rattle.iref_edit.specs.Changes.{changed}
 use Rattle.std.specs.String.{string_bytes}
-use Rattle.iref_grammar.specs.declared.places.Offsets.{Offsets}
+use Rattle.iref_grammar.specs.declared.offsets.Offsets.{Offsets}
 use Rattle.iref_grammar.specs.Contexts.{is_path_in}
-use Rattle.iref_grammar.specs.Places.{places_of}
+use Rattle.iref_grammar.specs.ComponentOffsets.{offsets_of}
 use Rattle.iref_grammar.specs.Reference.{read_reference, context_of, is_reference}
 use Rattle.iref_grammar.proofs.PlaceLemmas.{path_place}
 use Rattle.iref_buffer.specs.PathTexts.{path_text}
@@ -34,7 +34,7 @@ returns-clause-stands g c =
     let place = place_of_new_path text c.replace_in_path.new.self path value in (
       subst (λ t. is_reference set t ≡ true) c.self.view_is (g.met.R.HeldRule.references set (string_bytes c.self.inside.text) c.self.invariant.0),
       s.1 ∙ sym (ap (λ p. p.start) place),
-      ap (λ (p : Offsets). p.path.end) c.self.invariant.1 ∙ ap (λ t. (places_of t).path.end) c.self.view_is,
+      ap (λ (p : Offsets). p.path.end) c.self.invariant.1 ∙ ap (λ t. (offsets_of t).path.end) c.self.view_is,
       s.3 ∙ sym (ap (λ r. is_some r.scheme) value),
       s.4 ∙ sym (ap (λ r. is_some r.authority) value),
     )
@@ -45,5 +45,5 @@ returns-clause-end g c =
     let s = c.requires.stands in
     let path = changed (path_text text) c.args.by in
     let place = place_of_new_path text c.replace_in_path.new.self path c.in_ok-replace_in_path.ensures.value in
-    ap (λ (p : Offsets). p.path.end) c.self.invariant.1 ∙ ap (λ t. (places_of t).path.end) c.self.view_is ∙ ap (λ p. p.end) place
+    ap (λ (p : Offsets). p.path.end) c.self.invariant.1 ∙ ap (λ t. (offsets_of t).path.end) c.self.view_is ∙ ap (λ p. p.end) place
     ∙ (λ i. sym s.1 i + length (changed (slice_range text (sym s.1 i) (sym s.2 i)) c.args.by))

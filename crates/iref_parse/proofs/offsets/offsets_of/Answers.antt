@@ -1,6 +1,6 @@
 use Rattle.std.proofs.Common.{ap, arith}
-use Rattle.iref_parse.proofs.SlicePlaceLemmas.{length-spelled, places_in-following}
-use Rattle.iref_parse.proofs.places.places_of.Goals as goal
+use Rattle.iref_parse.proofs.SlicePlaceLemmas.{length-spelled, offsets_in-following}
+use Rattle.iref_parse.proofs.offsets.offsets_of.Goals as goal
 
 pub place_of_scheme-scheme-requires : goal.place_of_scheme-scheme-requires
 place_of_scheme-scheme-requires c = omega (arith, length-spelled c.args.slices)
@@ -19,6 +19,6 @@ place_after-fragment-requires c = let end = ap (λ place. place.end) c.place_fro
 
 pub returns : goal.returns
 returns c =
-    places_in-following c.args.slices _ _ _ _ _ _ _ _ c.place_of_scheme-scheme.ensures.place c.place_of_scheme-scheme.ensures.end
+    offsets_in-following c.args.slices _ _ _ _ _ _ _ _ c.place_of_scheme-scheme.ensures.place c.place_of_scheme-scheme.ensures.end
     c.place_after-authority.ensures.place c.place_after-authority.ensures.end c.place_from-path.ensures
     c.place_after-query.ensures.place c.place_after-query.ensures.end c.place_after-fragment.ensures.place

@@ -1,6 +1,6 @@
 use Rattle.std.proofs.Common.{sym, ◌∙◌}
 use Rattle.iref_grammar.proofs.MarkLemmas.{context_at_colon, context_without_colon}
-use Rattle.iref_grammar.proofs.places.PathContext.from_bytes.Goals as goal
+use Rattle.iref_grammar.proofs.context.PathContext.from_bytes.Goals as goal
 
 pub returns-then-begins_with : goal.returns-then-begins_with
 returns-then-begins_with c =

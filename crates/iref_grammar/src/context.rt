@@ -1,10 +1,8 @@
-//! What stands before a path, and where each component of a reference stands.
+//! What stands before a path (RFC 3986 sections 3.3 and 4.2).
 #![tactic(auto)]
 
 ghost use Rattle.std.specs.Prelude.{◌≡◌, codes};
 ghost use Rattle.iref_grammar.specs.{Contexts.{context_from}, Texts.{begins_with, from_first}};
-
-use std::ops::Range;
 
 /// What stands before a path (RFC 3986 sections 3.3 and 4.2).
 #[derive(Clone, Copy, Debug, Default)]
@@ -52,20 +50,4 @@ fn begins_with(bytes: &[u8], front: &[u8]) -> bool
     ensures { result ≡ begins_with front.now bytes.now }
 {
     bytes.starts_with(front)
-}
-
-/// Where the components of a reference stand in its text, in bytes, without `:`, `//`, `?` and `#`
-/// (RFC 3986 section 5.3).
-#[derive(Clone, Debug, PartialEq, Eq, Drop)]
-pub struct Offsets {
-    /// The scheme, if there is one.
-    pub scheme: Option<Range<usize>>,
-    /// The authority, if there is one.
-    pub authority: Option<Range<usize>>,
-    /// The path, which may be empty.
-    pub path: Range<usize>,
-    /// The query, if there is one.
-    pub query: Option<Range<usize>>,
-    /// The fragment, if there is one.
-    pub fragment: Option<Range<usize>>,
 }

@@ -2,7 +2,7 @@
 use Rattle.std.specs.Prelude.{ℕ, ◌+◌, [], ◌∷◌, length, codes, option_map}
 use Rattle.std.specs.List.{slice_range}
 use Rattle.std.specs.declared.ops.Range.{Range}
-use Rattle.iref_grammar.specs.declared.places.Offsets.{Offsets}
+use Rattle.iref_grammar.specs.declared.offsets.Offsets.{Offsets}
 use Rattle.iref_grammar.specs.Rules.{Text}
 use Rattle.iref_grammar.specs.Grammar.{colon, question_mark}
 use Rattle.iref_grammar.specs.Texts.{part_then, then_part}
@@ -28,8 +28,8 @@ abbrev pub fragment_mark : ReferenceValue → ℕ
 fragment_mark r = query_mark r + length (then_part (question_mark ∷ []) r.query)
 
 -- the components of a reference where it is spelled (RFC 3986 section 5.3)
-unfoldable pub places_in : ReferenceValue → Offsets
-places_in r = record {
+unfoldable pub offsets_in : ReferenceValue → Offsets
+offsets_in r = record {
   scheme = option_map (place_from 0) r.scheme;
   authority = option_map (place_from (authority_mark r + 2)) (option_map spell_authority r.authority);
   path = place_from (path_start r) (spell_path r.path);
@@ -38,8 +38,8 @@ places_in r = record {
 }
 
 -- the components that are read from a text
-unfoldable pub places_of : Text → Offsets
-places_of text = places_in (read_reference text)
+unfoldable pub offsets_of : Text → Offsets
+offsets_of text = offsets_in (read_reference text)
 
 -- what stands there in a text
 abbrev pub text_at : Text → Range ℕ → Text

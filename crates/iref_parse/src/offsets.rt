@@ -2,12 +2,12 @@
 
 ghost use Rattle.std.specs.Option.{option_copied};
 ghost use Rattle.std.specs.Prelude.{◌≡◌, ◌+◌, ◌<◌, ◌^◌, length, option_map, [], ◌∷◌};
-ghost use Rattle.iref_grammar.specs.{place_from, places_in, colon, part_then, then_part, Text};
+ghost use Rattle.iref_grammar.specs.{place_from, offsets_in, colon, part_then, then_part, Text};
 ghost use Rattle.iref_grammar.specs.{spell};
 ghost use Rattle.iref_parse.specs.ReferenceSlices.{value_of};
 
 use crate::split::ReferenceSlices;
-use iref_grammar::places::Offsets;
+use iref_grammar::offsets::Offsets;
 use std::ops::Range;
 
 // Where a part that begins at `start` stands.
@@ -48,9 +48,9 @@ fn place_of_scheme(scheme: Option<&str>) -> (Option<Range<usize>>, usize)
 }
 
 /// Where the components stand in the text that they spell.
-pub fn places_of(slices: ReferenceSlices<'_>) -> Offsets
+pub fn offsets_of(slices: ReferenceSlices<'_>) -> Offsets
     requires { length (spell (value_of slices)) < 2 ^ 64 }
-    ensures { result ≡ places_in (value_of slices.entry) }
+    ensures { result ≡ offsets_in (value_of slices.entry) }
 {
     let (scheme, authority_mark) = place_of_scheme(slices.scheme);
     let (authority, path_start) = place_after(authority_mark, "//", slices.authority);

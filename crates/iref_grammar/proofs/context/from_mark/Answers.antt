@@ -5,7 +5,7 @@ use Rattle.std.proofs.lemmas.Iterator.Search.{position_from_yields_List}
 use Rattle.std.proofs.lemmas.Iterator.{YieldsList-from_slice}
 use borrow.Author.Tests.{tests}
 use Rattle.iref_grammar.proofs.SplitLemmas.{place_or_len}
-use Rattle.iref_grammar.proofs.places.from_mark.Goals as goal
+use Rattle.iref_grammar.proofs.context.from_mark.Goals as goal
 
 pub returns : goal.returns
 returns c =
