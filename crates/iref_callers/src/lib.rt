@@ -4,11 +4,19 @@
 ghost use Rattle.std.specs.Prelude.{◌≡◌, IfOk, count_by, fold, length, map, max, reverse};
 ghost use Rattle.iref.specs.{Texts.{is_empty}, NormalList.{normal_segments}};
 ghost use Rattle.iref.specs.{Components.{text_of}, Paths.{path_value}};
+ghost use Rattle.iref.specs.{Key.{are_alike}, References.{reference_value}};
 
 pub mod mapping;
 
-use iref::uri::{Path, Segment};
+use iref::uri::{Path, Segment, Uri};
 use std::alloc::{AllocError, Global};
+
+/// Whether two URIs mean the same.
+pub fn mean_the_same(a: Uri<'_>, b: Uri<'_>) -> bool
+    ensures { result ≡ are_alike (reference_value a.entry) (reference_value b.entry) }
+{
+    a == b
+}
 
 /// How many segments of the path are empty.
 pub fn empty_segment_count(path: Path<'_>) -> usize
