@@ -1,11 +1,11 @@
 //! Texts of a rule, borrowed or owned: what views and owners share.
-ghost use Rattle.std.specs.Prelude.{◌≡◌, true, length, Some};
-ghost use Rattle.std.specs.Ordering.{on, as_partial_cmp, eq_by_cmp};
-ghost use Rattle.std.specs.Cmp.{on_total, on_equiv, po, partial_equiv_from_equiv, eq_by_cmp_equiv};
-ghost use Rattle.std.specs.Cmp.Rules.{comparing};
+ghost use Rattle.std.specs.{Prelude.{◌≡◌, true, length, Some}, Ordering.{on, as_partial_cmp}};
+ghost use Rattle.std.specs.{Ordering.{eq_by_cmp}, Cmp.{on_total, on_equiv, po}};
+ghost use Rattle.std.specs.{Cmp.{partial_equiv_from_equiv, eq_by_cmp_equiv}, Cmp.Rules.{comparing}};
 ghost use Rattle.std.proofs.Common.{rules, ap, refl};
 ghost use Rattle.iref_grammar.specs.{is_empty};
-ghost use Rattle.iref_component.specs.{Makers.{ParsesUtf8}, Components.{text_of}};
+ghost use Rattle.iref_component.specs.{Comparisons.{ComparesBy}, Makers.{ParsesUtf8}};
+ghost use Rattle.iref_component.specs.Components.{text_of};
 
 use crate::key::Key;
 use crate::rule::Rule;
@@ -117,3 +117,10 @@ impl<S: Storage, R: Rule, C: CharSet> fmt::Debug for RuleText<S, R, C> {
         fmt::Debug::fmt(&self.text.text(), f)
     }
 }
+
+/// The texts of a rule, borrowed or owned, compare by its key: in `==`, in order and in what a
+/// hasher is fed (RFC 3986 section 6.2.2).
+pub fn texts_compare_by_key<S: Storage, R: Rule, C: CharSet>()
+    ensures { ComparesBy (λ v. R.Key.comparison.key (text_of v)) R.Key.comparison.order
+        R.Key.comparison.fed ⟦<RuleText<S, R, C> as Ord>⟧ ⟦<RuleText<S, R, C> as Hash>⟧ }
+{}

@@ -5,7 +5,6 @@
 #![tactic(auto)]
 
 pub mod both;
-pub mod comparison;
 mod constants;
 pub mod host;
 mod host_numbers;

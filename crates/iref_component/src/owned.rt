@@ -1,12 +1,14 @@
-//! Owned texts of a rule: what the owners share that are not edited in place.
-ghost use Rattle.std.specs.{Prelude.{◌≡◌, true, []}, String.{string_bytes}};
+//! Owned texts of a rule: what the owners share.
+ghost use Rattle.std.specs.{Prelude.{◌≡◌, true, [], OnOk, OnErr, IsOk}, String.{string_bytes}};
+ghost use Rattle.iref_edit.specs.Changes.{IsNoLonger, IsWithin, changed};
 ghost use Rattle.iref_component.specs.{Makers.{ParsesUtf8}, Components.{text_of}};
-
-mod edits;
 
 use crate::rule::{AllowsEmpty, Refuses, Rule};
 use crate::text::RuleText;
 pub use crate::text::TextBuf;
+use iref_edit::change::Change;
+use iref_edit::text::replace;
+use iref_error::Memory;
 use iref_grammar::chars::CharSet;
 use std::alloc::Global;
 use std::convert::TryFrom;
@@ -17,10 +19,7 @@ impl<R: Refuses<String>, C: CharSet> TextBuf<R, C> {
     pub fn new(text: String) -> Result<Self, R::Error>
         ensures { ParsesUtf8 (R.rule C.tests) text_of R.refused (string_bytes text) text result }
     {
-        match RuleText::read(text) {
-            Ok(owner) => Ok(owner),
-            Err(text) => Err(R::refuse(text)),
-        }
+        RuleText::read(text).map_err(|text| R::refuse(text))
     }
 }
 
@@ -60,6 +59,24 @@ impl<R: Rule, C: CharSet> TextBuf<R, C> {
         ensures { result.now ≡ text_of self.now }
     {
         self.text.as_bytes()
+    }
+
+    /// The allocator of the text.
+    pub fn alloc(&self) -> Global {
+        *self.text.allocator()
+    }
+
+    /// Makes the change, where what this leaves is in the rule. All room is taken first: an `Err`
+    /// changes nothing, and what makes the text no longer takes no memory.
+    pub fn replace(&mut self, change: Change<'_>) -> Result<(), Memory>
+        requires within { IsWithin (text_of self.old) change.within }
+        requires in_rule { R.test C.tests (changed (text_of self.old) change) ≡ true }
+        ensures ok { OnOk result (text_of self.new
+            ≡ changed (text_of self.old) change.entry) }
+        ensures err { OnErr result (text_of self.new ≡ text_of self.old) }
+        ensures shorter { IsNoLonger change.entry → IsOk result }
+    {
+        Ok(replace(&mut self.text, change)?)
     }
 
     /// The text, with no copy.

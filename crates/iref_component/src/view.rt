@@ -1,6 +1,5 @@
 //! Borrowed texts of a rule: what the views of all rules share.
-ghost use Rattle.std.specs.Prelude.{◌≡◌, true, [], IfOk, option_map};
-ghost use Rattle.std.specs.{Option.{option_copied}};
+ghost use Rattle.std.specs.{Prelude.{◌≡◌, true, [], IfOk, option_map}, Option.{option_copied}};
 ghost use Rattle.iref_grammar.specs.{none_or};
 ghost use Rattle.iref_component.specs.{Makers.{ParsesUtf8}, Components.{text_of}};
 

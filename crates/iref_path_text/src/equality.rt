@@ -1,8 +1,7 @@
 //! Equality of paths: one scan of both from the back, with a count of the segments read.
 
 ghost use Rattle.std.specs.Prelude.{◌≡◌, ◌≢◌, ◌↔◌, ◌+◌, ◌<◌, ◌≤◌, ◌^◌, ◌∷◌, true};
-ghost use Rattle.iref_grammar.specs.{read_path};
-ghost use Rattle.iref_model.specs.{items_compared, IsCountedAnswer, path_key};
+ghost use Rattle.iref_model.specs.{read_path, items_compared, IsCountedAnswer, path_key};
 ghost use Rattle.iref_path_text.specs.Unread.{AreCounted, HasRoomFor, HaveRoom, IsAnswer};
 ghost use Rattle.iref_path_text.specs.Unread.{IsCountable, items_unread, steps_count, steps_taken};
 

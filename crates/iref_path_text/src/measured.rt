@@ -1,15 +1,12 @@
 //! The text of a path, which is measured before it is written (RFC 3986 sections 5.2.3 and 5.2.4).
 
-ghost use Rattle.iref_grammar.specs.{Contexts.{alone}, Grammar.{slash}};
-ghost use Rattle.iref_grammar.specs.{PathValue.{read_path, spell_path}, Tests.{is_path}};
-ghost use Rattle.iref_grammar.specs.Texts.{is_empty};
+ghost use Rattle.iref_grammar.specs.{alone, slash, read_path, spell_path, is_path, is_empty};
 ghost use Rattle.iref_model.specs.{Guard.{guarded}, PathSteps.{normalized}};
 ghost use Rattle.iref_path_text.specs.Merged.{merged_list, merged_path, path_after};
 ghost use Rattle.iref_path_text.specs.MeasuredPaths.{IsMeasured, measured_text};
 ghost use Rattle.iref_path_text.specs.{Pieces.{pieces_if_some}, Remaining.{IsSound, normal_left}};
-ghost use Rattle.iref_path_text.specs.Spelling.{each_closed};
-ghost use Rattle.iref_path_text.specs.Ways.{IsWaySound, path_between, way_left};
-ghost use Rattle.iref_path_text.specs.Written.{WritesBefore};
+ghost use Rattle.iref_path_text.specs.{Spelling.{each_closed}, Ways.{IsWaySound, path_between}};
+ghost use Rattle.iref_path_text.specs.{Ways.{way_left}, Written.{WritesBefore}};
 ghost use Rattle.std.specs.Prelude.{◌||◌, ◌&&◌, ◌≡◌, ◌+◌, ◌*◌, ◌<◌, ◌≤◌, ◌^◌, ◌++◌, IfOk, drop};
 ghost use Rattle.std.specs.{Prelude.{false, length, true}, List.{join_with_byte}};
 ghost use Rattle.std.specs.String.{string_bytes};

@@ -25,9 +25,7 @@ pub fn parent_text<C: CharSet>(path: &str) -> Option<&str>
     ensures parent { option_map value_at result ≡ function.parent (read_path path.now) }
     ensures path { IfSome result (λ text. is_path C.tests text.now ≡ true) }
 {
-    let Some((front, last)) = path.rsplit_once('/') else {
-        return None;
-    };
+    let (front, last) = path.rsplit_once('/')?;
     if front.is_empty() {
         return if last.is_empty() { None } else { Some("/") };
     }

@@ -1,16 +1,15 @@
 //! What is left of a normal list that is read from both ends of a path's text (RFC 3986 section
 //! 5.2.4).
 
-ghost use Rattle.std.specs.Iterator.{YieldsFirstBy, YieldsLastBy};
-ghost use Rattle.std.specs.Prelude.{◌≡◌, ◌+◌, ◌<◌, ◌≤◌, ◌^◌, ◌==◌, ◌&&◌, [], false, length, IfNone};
-ghost use Rattle.std.specs.Prelude.{IfSome, if◌then◌else◌};
-ghost use Rattle.iref_model.specs.NormalList as list;
+ghost use Rattle.std.specs.{Iterator.{YieldsFirstBy, YieldsLastBy}, Prelude.{◌≡◌, ◌+◌, ◌<◌, ◌≤◌}};
+ghost use Rattle.std.specs.Prelude.{◌^◌, ◌==◌, ◌&&◌, [], false, length, IfNone, IfSome};
+ghost use Rattle.std.specs.Prelude.{if◌then◌else◌};
 ghost use Rattle.iref_grammar.specs.{is_empty, read_path};
 ghost use Rattle.iref_model.specs.{open_before, staying_before, normal_segments};
-ghost use Rattle.iref_path_text.specs.Pieces.{pieces_if_some, text_at};
-ghost use Rattle.iref_path_text.specs.Remaining.{IsFate, IsSound, KeepsEnds, first_or};
-ghost use Rattle.iref_path_text.specs.Remaining.{flagged_path, names_left, normal_left};
-ghost use Rattle.iref_path_text.specs.Remaining.{open_at_start, to_read};
+ghost use Rattle.iref_path_text.specs.{Pieces.{pieces_if_some, text_at}, Remaining.{IsFate}};
+ghost use Rattle.iref_path_text.specs.Remaining.{IsSound, KeepsEnds, first_or, flagged_path};
+ghost use Rattle.iref_path_text.specs.Remaining.{names_left, normal_left, open_at_start, to_read};
+ghost use Rattle.iref_model.specs.NormalList as list;
 
 pub mod listed;
 pub mod merged;

@@ -5,9 +5,7 @@ ghost use Rattle.std.specs.Prelude.{◌≡◌, ◌+◌, ◌-◌, ◌<◌, ◌≤
 ghost use Rattle.std.specs.Prelude.{false, length, replicate, slice_range, take, vec_len};
 ghost use Rattle.std.specs.{Prelude.{if◌then◌else◌}, List.{splice}, Str.{IsUtf8}};
 ghost use Rattle.std.specs.String.{string_bytes, string_len};
-ghost use Rattle.iref_grammar.specs.PathValue.{read_path, spell_path};
-ghost use Rattle.iref_model.specs.NormalReading.{open_before, staying_before};
-ghost use Rattle.iref_model.specs.PathSteps.{normalized};
+ghost use Rattle.iref_model.specs.{read_path, spell_path, open_before, staying_before, normalized};
 ghost use Rattle.iref_path_text.specs.Rewriting.{items_text, pieces_before, rewritten};
 ghost use Rattle.iref_path_text.specs.{Rewriting.{rewritten_at}, Spelling.{each_closed}};
 ghost use Rattle.iref_path_text.specs.Written.{WritesBefore};

@@ -2,15 +2,14 @@
 //! 5.2.4).
 
 ghost use Rattle.std.specs.Prelude.{◌≡◌, ◌+◌, ◌-◌, ◌<◌, ◌≤◌, ◌^◌, ◌++◌, ◌||◌, ◌&&◌, ◌==◌, not};
-ghost use Rattle.std.specs.Prelude.{true, [], drop, length, IfOk};
-ghost use Rattle.std.specs.{List.{join_with_byte, list_any}, String.{string_bytes}};
-ghost use Rattle.iref_grammar.specs.{Contexts.{is_path_in}, Grammar.{colon, slash}};
-ghost use Rattle.iref_grammar.specs.{PathValue.{read_path, spell_path}, Tests.{is_path}};
+ghost use Rattle.std.specs.{Prelude.{true, [], drop, length, IfOk}, List.{join_with_byte}};
+ghost use Rattle.std.specs.{List.{list_any}, String.{string_bytes}};
+ghost use Rattle.iref_grammar.specs.{is_path_in, colon, slash, read_path, spell_path, is_path};
 ghost use Rattle.iref_path_text.specs.{PathParts.{is_path_after}, Remaining.{first_or}};
-ghost use Rattle.iref_path_text.specs.Spelling.{each_closed, normal_in};
+ghost use Rattle.iref_path_text.specs.{Spelling.{each_closed, normal_in}, Stacks.{in_order}};
+ghost use Rattle.iref_path_text.specs.{Stacks.{stacked_text}, Ways.{IsWaySound, way_left}};
+ghost use Rattle.iref_path_text.specs.Written.{WritesBefore};
 ghost use Rattle.iref_path_text.specs.Spelling as spelling;
-ghost use Rattle.iref_path_text.specs.Stacks.{in_order, stacked_text};
-ghost use Rattle.iref_path_text.specs.{Ways.{IsWaySound, way_left}, Written.{WritesBefore}};
 
 use crate::measured::MeasuredPath;
 use crate::pieces::split_root;
@@ -177,15 +176,6 @@ fn write_stacked_text(lead: &str, items: &[&str], buffer: &mut [u8], end: usize)
     write_before(buffer, start, lead)
 }
 
-// How many bytes what stands first has, and items that have so many with a `/` after each.
-fn stacked_len(lead: &str, _items: &[&str], size: usize) -> usize
-    requires size { size ≡ length (each_closed (in_order _items.now)) }
-    requires countable { length lead.now + size < 2 ^ 64 }
-    ensures { result ≡ length (stacked_text lead.now _items.now) }
-{
-    lead.len() + size.saturating_sub(1)
-}
-
 // What stands first, and items that are given the last first, with `/` between. So many bytes these
 // have with a `/` after each.
 fn stacked_bytes<A: Allocator>(
@@ -198,7 +188,7 @@ fn stacked_bytes<A: Allocator>(
     requires countable { length lead.now + size < 2 ^ 64 }
     ensures { IfOk result (λ bytes. bytes.items ≡ stacked_text lead.now items.now) }
 {
-    let len = stacked_len(lead, items, size);
+    let len = lead.len() + size.saturating_sub(1);
     let mut bytes = vec![in alloc; 0u8; len]?;
     write_stacked_text(lead, items, &mut bytes, len);
     Ok(bytes)

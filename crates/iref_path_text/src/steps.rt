@@ -1,7 +1,6 @@
 //! The edits of a path, each one step, by its text (RFC 3986 sections 3.3 and 5.2.4).
 ghost use Rattle.std.specs.{Prelude.{◌≡◌, ◌+◌, ◌-◌, ◌≤◌, true, [], length}, Str.{IsCharBoundary}};
-ghost use Rattle.iref_grammar.specs.Tests.{is_segment, is_path};
-ghost use Rattle.iref_grammar.specs.{PathValue.{read_path, spell_path}, Texts.{is_empty}};
+ghost use Rattle.iref_grammar.specs.{is_segment, is_path, read_path, spell_path, is_empty};
 ghost use Rattle.iref_model.specs.PathSteps.{lazy_pushed, pushed, followed, popped, closed_path};
 ghost use Rattle.iref_model.specs.PathSteps.{cleared, replaced};
 ghost use Rattle.iref_path_text.specs.PathParts.{is_path_after, step_text, StepsBy};

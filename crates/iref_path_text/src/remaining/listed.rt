@@ -1,8 +1,7 @@
 //! What is left of a normal list that is given from both ends: on a stack that holds all of it, and
 //! else in the text (RFC 3986 section 5.2.4).
 
-ghost use Rattle.iref_grammar.specs.PathValue.{read_path};
-ghost use Rattle.iref_model.specs.NormalList.{normal_segments};
+ghost use Rattle.iref_model.specs.{read_path, normal_segments};
 ghost use Rattle.iref_path_text.specs.{Pieces.{text_at}, Remaining.{IsSound}};
 ghost use Rattle.std.specs.{Iterator.{YieldsFirstBy, YieldsLastBy}, Prelude.{◌≡◌, length}};
 ghost use Rattle.std.specs.Option.{ForSome};

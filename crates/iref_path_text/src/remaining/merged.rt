@@ -2,16 +2,14 @@
 //! sections 5.2.3 and 5.2.4).
 
 ghost use Rattle.iref_grammar.specs.Texts.{is_empty};
-ghost use Rattle.iref_model.specs.NormalList as list;
-ghost use Rattle.iref_model.specs.NormalList.{normal_segments};
-ghost use Rattle.iref_model.specs.NormalReading.{open_before, staying_before};
+ghost use Rattle.iref_model.specs.{normal_segments, open_before, staying_before};
 ghost use Rattle.iref_path_text.specs.Merged.{IsBehind, IsMergeSound, merged_left, merged_list};
 ghost use Rattle.iref_path_text.specs.Merged.{merged_names, merged_path, open_before_both};
-ghost use Rattle.iref_path_text.specs.Merged.{to_read_of_both};
-ghost use Rattle.iref_path_text.specs.Pieces.{text_at};
+ghost use Rattle.iref_path_text.specs.{Merged.{to_read_of_both}, Pieces.{text_at}};
 ghost use Rattle.iref_path_text.specs.Remaining.{IsSound, KeepsEnds, first_or, normal_left};
-ghost use Rattle.std.specs.Iterator.{YieldsLastBy};
-ghost use Rattle.std.specs.Prelude.{◌≡◌, ◌+◌, ◌<◌, ◌≤◌, ◌^◌, [], length, IfNone, IfSome, None};
+ghost use Rattle.std.specs.{Iterator.{YieldsLastBy}, Prelude.{◌≡◌, ◌+◌, ◌<◌, ◌≤◌, ◌^◌, [], length}};
+ghost use Rattle.std.specs.Prelude.{IfNone, IfSome, None};
+ghost use Rattle.iref_model.specs.NormalList as list;
 
 use super::{Remaining, closing_count, ends_in_dots, is_one_empty, leading_parents};
 

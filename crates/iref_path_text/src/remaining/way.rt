@@ -1,14 +1,12 @@
 //! A way up and down: so many `..`, and the last items of a normal list, read from the back.
 
-ghost use Rattle.iref_grammar.specs.{read_path};
-ghost use Rattle.iref_model.specs.NormalList.{normal_segments};
-ghost use Rattle.iref_model.specs.Relative.{directory_names, steps_between};
+ghost use Rattle.iref_model.specs.{read_path, normal_segments, Relative.{directory_names}};
+ghost use Rattle.iref_model.specs.Relative.{steps_between};
 ghost use Rattle.iref_path_text.specs.{Merged.{IsMergeSound, merged_left}, Pieces.{text_at}};
-ghost use Rattle.iref_path_text.specs.Remaining.{IsSound, normal_left};
-ghost use Rattle.iref_path_text.specs.Ways.{IsWaySound, items_down, way_left, with_last};
-ghost use Rattle.std.specs.Iterator.{YieldsLastBy};
-ghost use Rattle.std.specs.Prelude.{◌≡◌, ◌+◌, ◌-◌, ◌<◌, ◌≤◌, ◌^◌, ◌++◌, codes, drop, length};
-ghost use Rattle.std.specs.Prelude.{replicate};
+ghost use Rattle.iref_path_text.specs.{Remaining.{IsSound, normal_left}, Ways.{IsWaySound}};
+ghost use Rattle.iref_path_text.specs.Ways.{items_down, way_left, with_last};
+ghost use Rattle.std.specs.{Iterator.{YieldsLastBy}, Prelude.{◌≡◌, ◌+◌, ◌-◌, ◌<◌, ◌≤◌, ◌^◌, ◌++◌}};
+ghost use Rattle.std.specs.Prelude.{codes, drop, length, replicate};
 
 use super::Remaining;
 use super::merged::{Merged, survey};
