@@ -2,15 +2,14 @@
 ghost use Rattle.std.specs.Prelude.{◌≡◌, ◌∷◌, Some, true, OnOk, OnErr, IfErr};
 ghost use Rattle.std.specs.Option.{option_copied};
 ghost use Rattle.iref_grammar.specs.{iri_chars};
-ghost use Rattle.iref_lines.specs.Lines as spec;
 ghost use Rattle.iref_lines.specs.Lines.{Answered, answer_text, are_valid_entries, part_field};
 ghost use Rattle.iref_lines.specs.Lines.{read_entry, text_and_entries};
 ghost use Rattle.iref_mapping.specs.PrefixTable.{compact_text};
 ghost use Rattle.iref.specs.Prefixes.{compact_value};
-ghost use Rattle.iref_batch.specs.{EditFields.{IsRead}, Fields.{fields_of}};
-ghost use Rattle.iref_batch.specs.Gathering.{Puts, PutsReply};
-ghost use Rattle.iref_batch.specs.PrefixFields.{entries_read, HasTaken, TakesNot};
-ghost use Rattle.iref_batch.specs.{Requests.{asked_of}, Runs.{reply_to}};
+ghost use Rattle.iref_batch.specs.{EditFields.{IsRead}, Fields.{fields_of}, Gathering.{Puts}};
+ghost use Rattle.iref_batch.specs.{Gathering.{PutsReply}, PrefixFields.{entries_read, HasTaken}};
+ghost use Rattle.iref_batch.specs.{PrefixFields.{TakesNot}, Requests.{asked_of}, Runs.{reply_to}};
+ghost use Rattle.iref_lines.specs.Lines as spec;
 
 use super::{put_answered, put_refused, put_text};
 use crate::edit_fields::{FieldError, name_and_value};
@@ -61,7 +60,11 @@ fn read_table(alloc: Global, fields: Option<&[u8]>) -> Result<Prefixes, FieldErr
             Err(error) => return Err(error),
         }
     }
-    are_valid.then_some(table).ok_or(FieldError::Invalid)
+    if are_valid {
+        Ok(table)
+    } else {
+        Err(FieldError::Invalid)
+    }
 }
 
 // Puts the answer of an IRI made short: `=`, the label, `:`, and the rest.
