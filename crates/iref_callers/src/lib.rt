@@ -1,15 +1,27 @@
 //! Functions as a caller writes them, each proved from the public clauses of `iref` alone.
 #![tactic(auto)]
 
-ghost use Rattle.std.specs.Prelude.{◌≡◌, IfOk, count_by, fold, length, map, max, reverse};
-ghost use Rattle.iref.specs.{Texts.{is_empty}, NormalList.{normal_segments}};
-ghost use Rattle.iref.specs.{Components.{text_of}, Paths.{path_value}};
-ghost use Rattle.iref.specs.{Key.{are_alike}, References.{reference_value}};
+ghost use Rattle.std.specs.Prelude.{◌≡◌, IfOk, MatchOption, count_by, fold, length, map, max};
+ghost use Rattle.std.specs.Prelude.{reverse};
+ghost use Rattle.iref.specs.{Characters.{uri_chars}, ComponentTexts.{spell_components}};
+ghost use Rattle.iref.specs.{Grammar.{IsUriReference}, Reference.{read_reference}, Rules.{InUtf8}};
+ghost use Rattle.iref.specs.{Parts.{uri_ref_part_texts}, Texts.{is_empty}};
+ghost use Rattle.iref.specs.{NormalList.{normal_segments}, Components.{text_of}};
+ghost use Rattle.iref.specs.{Paths.{path_value}, Key.{are_alike}, References.{reference_value}};
 
 pub mod mapping;
 
-use iref::uri::{Path, Segment, Uri};
+use iref::uri::{Path, Segment, Uri, UriRef, UriRefParts};
 use std::alloc::{AllocError, Global};
+
+/// The components of a reference, as slices of its text; None exactly where the text is none.
+pub fn parts_of(text: &str) -> Option<UriRefParts<'_>>
+    ensures { MatchOption result (¬ (InUtf8 (IsUriReference uri_chars) text.now))
+        (λ parts. InUtf8 (IsUriReference uri_chars) text.now
+        × (uri_ref_part_texts parts ≡ spell_components (read_reference text.now))) }
+{
+    Some(UriRef::new(text).ok()?.parts())
+}
 
 /// Whether two URIs mean the same.
 pub fn mean_the_same(a: Uri<'_>, b: Uri<'_>) -> bool

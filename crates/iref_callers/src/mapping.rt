@@ -1,6 +1,5 @@
 //! References of IRIs, compared by their mappings.
-ghost use Rattle.iref.specs.Key.{are_alike};
-ghost use Rattle.iref.specs.References.{reference_buf_value, reference_value};
+ghost use Rattle.iref.specs.{Key.{are_alike}, References.{reference_buf_value, reference_value}};
 ghost use Rattle.std.specs.Prelude.{◌≡◌, IfOk};
 
 use iref::{IriRef, IriRefBuf, Memory};
