@@ -1,14 +1,12 @@
 //! Edits of an authority in place (RFC 3986 section 3.2).
 ghost use Rattle.std.specs.Prelude.{◌≡◌, ◌≤◌, ◌+◌, ◌-◌, ◌++◌, true, length, slice_range, vec_len};
-ghost use Rattle.std.specs.Prelude.{Some, IfOk, IsOk, IsNone, option_map};
-ghost use Rattle.std.specs.{Borrow.{sem, RestsIfErr}, Option.{option_copied}};
+ghost use Rattle.std.specs.{Prelude.{Some, IfOk, IsOk, IsNone, option_map}, Borrow.{sem}};
+ghost use Rattle.std.specs.{Borrow.{RestsIfErr}, Option.{option_copied}};
 ghost use Rattle.iref_edit.specs.Changes.{IsWithin, replaced};
-ghost use Rattle.iref_grammar.specs.Grammar.{IsAuthority};
-ghost use Rattle.iref_grammar.specs.Tests.{is_user_info, is_port, none_or};
-ghost use Rattle.iref_grammar.specs.Authority.{AuthorityValue, is_authority, read_authority};
+ghost use Rattle.iref_component.specs.{IsAuthority, is_user_info, is_port, none_or, AuthorityValue};
+ghost use Rattle.iref_component.specs.{is_authority, read_authority, port_text, text_of};
+ghost use Rattle.iref_component.specs.{ParsesUtf8};
 ghost use Rattle.iref_model.specs.AuthoritySteps.{with_user_info, with_host, with_port};
-ghost use Rattle.iref_model.specs.PortNumbers.{port_text};
-ghost use Rattle.iref_component.specs.{Components.{text_of}, Makers.{ParsesUtf8}};
 ghost use Rattle.iref_authority.specs.Authorities.{authority_text};
 ghost use Rattle.iref_authority.specs.AuthorityTexts.{SpellsAuthority};
 

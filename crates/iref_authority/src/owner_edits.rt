@@ -1,12 +1,10 @@
 //! Authorities that own their text, edited in place (RFC 3986 section 3.2).
 ghost use Rattle.std.specs.Prelude.{◌≡◌, OnOk, OnErr, IsOk, IsNone, length, option_map};
 ghost use Rattle.std.specs.Option.{option_copied};
-ghost use Rattle.iref_grammar.specs.Grammar.{IsAuthority, IsHost, IsPort, IsUserInfo};
-ghost use Rattle.iref_grammar.specs.Authority.{read_authority};
+ghost use Rattle.iref_component.specs.{IsAuthority, IsHost, IsPort, IsUserInfo, read_authority};
+ghost use Rattle.iref_component.specs.{port_text, text_of, Tests, TestsIfSome};
 ghost use Rattle.iref_edit.proofs.PartLemmas.{whole_is_within};
 ghost use Rattle.iref_model.specs.AuthoritySteps.{with_user_info, with_host, with_port};
-ghost use Rattle.iref_model.specs.PortNumbers.{port_text};
-ghost use Rattle.iref_component.specs.{Components.{text_of}, Tries.{Tests, TestsIfSome}};
 ghost use Rattle.iref_authority.specs.Authorities.{authority_text, authority_buf_text, EditsOwner};
 ghost use Rattle.iref_authority.specs.AuthorityTexts.{IsWhole, one_whole};
 

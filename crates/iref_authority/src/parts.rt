@@ -1,9 +1,8 @@
 //! The parts of an authority (RFC 3986 section 3.2).
 ghost use Rattle.std.specs.Prelude.{◌≡◌, true};
-ghost use Rattle.iref_component.specs.{is_authority, read_authority};
-ghost use Rattle.iref_component.specs.{authority_key_cmp, fed_authority};
+ghost use Rattle.iref_component.specs.{is_authority, read_authority, authority_key_cmp};
+ghost use Rattle.iref_component.specs.{fed_authority, Comparisons.{ComparesBy}};
 ghost use Rattle.iref_authority.specs.AuthorityParts.{parts_value, parts_key};
-ghost use Rattle.iref_component.specs.Comparisons.{ComparesBy};
 
 use iref_component::texts::{Host, Port, UserInfo};
 use iref_component::view::view_of;

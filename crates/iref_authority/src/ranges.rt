@@ -1,10 +1,9 @@
 //! Where the parts of an authority stand in its text, each with its mark (RFC 3986 section 3.2).
 ghost use Rattle.std.specs.{Prelude.{◌≡◌, true, [], ◌∷◌, Option}, Option.{option_copied}};
 ghost use Rattle.std.specs.List.{splice};
-ghost use Rattle.iref_grammar.specs.{Rules.{Text}, Grammar.{at_sign, colon}};
-ghost use Rattle.iref_grammar.specs.Texts.{part_then, then_part};
-ghost use Rattle.iref_grammar.specs.Tests.{is_user_info, is_host, is_port, none_or};
-ghost use Rattle.iref_grammar.specs.Authority.{is_authority, read_authority};
+ghost use Rattle.iref_grammar.specs.{Rules.{Text}, Grammar.{at_sign, colon}, Texts.{part_then}};
+ghost use Rattle.iref_grammar.specs.{Texts.{then_part}, Tests.{is_user_info, is_host, is_port}};
+ghost use Rattle.iref_grammar.specs.{Tests.{none_or}, Authority.{is_authority, read_authority}};
 ghost use Rattle.iref_model.specs.AuthoritySteps.{with_user_info, with_host, with_port};
 ghost use Rattle.iref_authority.specs.AuthorityTexts.{SpellsAuthority, marked_length};
 ghost use Rattle.iref_edit.specs.Changes.{IsWithin};

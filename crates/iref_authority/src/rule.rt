@@ -1,7 +1,6 @@
 //! The rule of authorities, and what they are compared by (RFC 3986 sections 3.2 and 6.2.2).
 ghost use Rattle.std.specs.Prelude.{◌≡◌, true};
-ghost use Rattle.iref_grammar.specs.Grammar.{IsAuthority};
-ghost use Rattle.iref_grammar.specs.Authority.{is_authority};
+ghost use Rattle.iref_grammar.specs.{Grammar.{IsAuthority}, Authority.{is_authority}};
 ghost use Rattle.iref_grammar.proofs.AuthorityRuleLemmas.{Decides-is_authority};
 ghost use Rattle.iref_grammar.proofs.EmptyLemmas.{is_authority_empty};
 ghost use Rattle.iref_authority.specs.Comparisons.{by_parts};

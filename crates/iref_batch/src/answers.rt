@@ -1,15 +1,13 @@
 //! The answer to a line.
 ghost use Rattle.std.specs.Prelude.{◌≡◌, ◌++◌, ◌∷◌, option_map, OnOk, OnErr};
 ghost use Rattle.std.specs.Option.{option_copied};
-ghost use Rattle.iref_grammar.specs.Rules.{Text};
+ghost use Rattle.iref_reference.specs.{Text, text_of, uri_ref_part_texts};
 ghost use Rattle.iref_lines.specs.Lines.{Answered, answer_text, part_field, part_fields, tab};
 ghost use Rattle.iref_lines.specs.Lines.{yes_or_no, Parts, Normal, Equal, ToUri};
-ghost use Rattle.iref_component.specs.Components.{text_of};
 ghost use Rattle.iref_authority.specs.Authorities.{authority_text};
-ghost use Rattle.iref_reference.specs.Parts.{uri_ref_part_texts};
 ghost use Rattle.iref_batch.specs.{EditFields.{IsRefusal}, Gathering.{Puts, PutsReply}};
-ghost use Rattle.iref_batch.specs.Requests.{request_of};
-ghost use Rattle.iref_batch.specs.Runs.{reply_to, line_reply, with_newline};
+ghost use Rattle.iref_batch.specs.{Requests.{request_of}, Runs.{reply_to, line_reply}};
+ghost use Rattle.iref_batch.specs.Runs.{with_newline};
 
 mod edit;
 mod prefixes;

@@ -1,15 +1,13 @@
 //! The edits that the fields of a line name, each a name, or a name, `=` and a value.
 ghost use Rattle.std.specs.Prelude.{◌≡◌, ◌∷◌, [], Bool, Some, true, option_map};
 ghost use Rattle.std.specs.Option.{option_copied};
-ghost use Rattle.iref_grammar.specs.{Text, after, before, is_authority, is_path, iri_chars};
-ghost use Rattle.iref_grammar.specs.Tests.{none_or};
-ghost use Rattle.iref_lines.specs.Lines as spec;
+ghost use Rattle.iref_grammar.specs.{Text, after, before, is_path, iri_chars, Tests.{none_or}};
+ghost use Rattle.iref_authority.specs.{is_authority, text_of, authority_text};
 ghost use Rattle.iref_lines.specs.Lines.{edit_names, equals_sign, is_valid_edit};
-ghost use Rattle.iref_component.specs.Components.{text_of};
-ghost use Rattle.iref_authority.specs.Authorities.{authority_text};
 ghost use Rattle.iref_path.specs.Paths.{path_text};
 ghost use Rattle.iref.specs.EditSteps.{edit_step};
 ghost use Rattle.iref_batch.specs.EditFields.{IsRead, edit_named, path_edit_names};
+ghost use Rattle.iref_lines.specs.Lines as spec;
 
 use super::cut::cut_at;
 use super::request::is_name;

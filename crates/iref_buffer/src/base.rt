@@ -1,9 +1,8 @@
 //! The base of a reference: its text up to the end of the path's directory (RFC 3986 section
 //! 5.2.3).
 ghost use Rattle.std.specs.Prelude.{◌≡◌, ◌++◌, true};
-ghost use Rattle.iref_parse.specs.{texts_of, value_of};
-ghost use Rattle.iref_component.specs.{AreComponents, is_reference, read_reference, spell};
-ghost use Rattle.iref_component.specs.{directory_text, base_of};
+ghost use Rattle.iref_parse.specs.{texts_of, value_of, AreComponents, is_reference};
+ghost use Rattle.iref_model.specs.{read_reference, spell, directory_text, base_of};
 
 use iref_grammar::chars::CharSet;
 use iref_parse::offsets::offsets_of;

@@ -1,15 +1,13 @@
 //! A text in a rule of references, with the offsets of its components beside it.
-ghost use Rattle.std.specs.String.{string_bytes};
-ghost use Rattle.std.specs.Prelude.{◌≡◌, ◌≤◌, Bool, true, [], ◌∷◌, Option, None, IfSome, is_some};
-ghost use Rattle.std.specs.{Prelude.{option_map}, Option.{option_copied}};
-ghost use Rattle.iref_grammar.specs.ComponentOffsets.{text_at};
+ghost use Rattle.std.specs.{String.{string_bytes}, Prelude.{◌≡◌, ◌≤◌, Bool, true, [], ◌∷◌, Option}};
+ghost use Rattle.std.specs.{Prelude.{None, IfSome, is_some, option_map}, Option.{option_copied}};
+ghost use Rattle.iref_grammar.specs.{text_at, AreComponents, spell_components, is_readable};
+ghost use Rattle.iref_grammar.specs.{is_reference, offsets_of, hash_sign, CharTests, AreAboveAscii};
+ghost use Rattle.iref_grammar.specs.{before, hierarchy, read_reference, spell, Text, InUtf8};
 ghost use Rattle.iref_parse.specs.{texts_of, value_of};
-ghost use Rattle.iref_component.specs.{AreComponents, spell_components, is_readable, is_reference};
-ghost use Rattle.iref_component.specs.{offsets_of, hash_sign, CharTests, AreAboveAscii, before};
-ghost use Rattle.iref_component.specs.{with_query, with_fragment, hierarchy, read_reference, spell};
-ghost use Rattle.iref_component.specs.{Parses, Text, InUtf8, base_of};
-ghost use Rattle.iref_buffer.specs.ComponentLengths.{lengths_of};
-ghost use Rattle.iref_buffer.specs.PlaceTexts.{AreWithin, texts_at, front_end, authority_start};
+ghost use Rattle.iref_component.specs.{with_query, with_fragment, Parses, base_of};
+ghost use Rattle.iref_buffer.specs.{ComponentLengths.{lengths_of}, PlaceTexts.{AreWithin}};
+ghost use Rattle.iref_buffer.specs.PlaceTexts.{texts_at, front_end, authority_start};
 ghost use Rattle.iref_edit.specs.Changes.{IsWithin};
 
 mod authority;

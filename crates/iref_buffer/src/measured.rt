@@ -2,14 +2,12 @@
 //! strict (RFC 3986 sections 5.2.2 and 5.3).
 ghost use Rattle.iref_buffer.specs.ComponentLengths.{lengths_of_texts};
 ghost use Rattle.iref_buffer.specs.MeasuredReferences.{IsReady, spell_texts, measured_components};
-ghost use Rattle.iref_grammar.specs.{ComponentTexts.{spell_components}, Contexts.{fits}};
-ghost use Rattle.iref_grammar.specs.Reference.{context_of};
-ghost use Rattle.iref_model.specs.{ComponentSteps.{guarded_reference}, NormalList.{normal}};
-ghost use Rattle.iref_model.specs.Resolution.{resolved};
+ghost use Rattle.iref_grammar.specs.{ComponentTexts.{spell_components}, Reference.{context_of}};
+ghost use Rattle.iref_model.specs.{fits, normal, resolved, ComponentSteps.{guarded_reference}};
 ghost use Rattle.iref_parse.specs.ReferenceSlices.{value_of};
 ghost use Rattle.iref_path_text.specs.Written.{WritesBefore};
-ghost use Rattle.std.specs.Option.{option_copied};
-ghost use Rattle.std.specs.Prelude.{◌≡◌, ◌+◌, ◌<◌, ◌≤◌, ◌^◌, ◌++◌, true, IfOk, is_some, length};
+ghost use Rattle.std.specs.{Option.{option_copied}, Prelude.{◌≡◌, ◌+◌, ◌<◌, ◌≤◌, ◌^◌, ◌++◌, true}};
+ghost use Rattle.std.specs.Prelude.{IfOk, is_some, length};
 
 use crate::lengths::{Lengths, len_of};
 use iref_edit::text::{marked, marked_after};

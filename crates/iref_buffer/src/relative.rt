@@ -1,9 +1,8 @@
 //! What leads from a base to a target, the way back from resolution (RFC 3986 section 5.2).
 ghost use Rattle.iref_buffer.specs.Relatives.{after_path, agree, may_end_here, stays_empty};
 ghost use Rattle.iref_buffer.specs.MeasuredReferences.{IsReady, measured_components};
-ghost use Rattle.iref_grammar.specs.{ComponentTexts.{spell_components}, PathValue.{read_path}};
-ghost use Rattle.iref_model.specs.Relative.{is_same_place, relative_to};
-ghost use Rattle.iref_parse.specs.ReferenceSlices.{texts_of, value_of};
+ghost use Rattle.iref_parse.specs.{spell_components, texts_of, value_of};
+ghost use Rattle.iref_model.specs.{read_path, relative_to, Relative.{is_same_place}};
 ghost use Rattle.iref_path_text.specs.MeasuredPaths.{IsMeasured, measured_text};
 ghost use Rattle.std.specs.Prelude.{◌≡◌, ◌+◌, ◌*◌, ◌<◌, ◌^◌, length};
 

@@ -1,8 +1,7 @@
 //! Equality, order and hash of references, which agree (RFC 3986 section 6.2.2).
-ghost use Rattle.iref_grammar.specs.{Characters.{iri_chars}, Grammar.{IsUriReference}};
-ghost use Rattle.iref_grammar.specs.Reference.{ReferenceValue};
-ghost use Rattle.iref_c.specs.Answers.{TellsOf, TellsOfTwo};
-ghost use Rattle.iref_c.specs.Comparison.{equal_number, hash_number, number_of_order, order_number};
+ghost use Rattle.iref_grammar.specs.{iri_chars, IsUriReference, ReferenceValue};
+ghost use Rattle.iref_c.specs.{Answers.{TellsOf, TellsOfTwo}, Comparison.{equal_number}};
+ghost use Rattle.iref_c.specs.Comparison.{hash_number, number_of_order, order_number};
 ghost use Rattle.std.specs.Prelude.{◌≡◌, ◌↔◌, pos};
 
 use crate::status::INVALID;

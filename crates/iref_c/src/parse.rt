@@ -1,7 +1,6 @@
 //! Whether a text is in a rule, with the places of its components (RFC 3986 sections 3 and 4.1,
 //! RFC 3987 section 2.2).
-ghost use Rattle.iref_grammar.specs.Characters.{iri_chars, uri_chars};
-ghost use Rattle.iref_grammar.specs.Grammar.{IsUri, IsUriReference};
+ghost use Rattle.iref_grammar.specs.{iri_chars, uri_chars, IsUri, IsUriReference};
 ghost use Rattle.iref_c.specs.{Answers.{TellsOf}, PartPlaces.{all_places}};
 
 use crate::places::Places;

@@ -1,11 +1,9 @@
 //! Where the components of a text stand in it, as C sees them (RFC 3986 sections 3 and 5.3).
 ghost use Rattle.std.specs.Prelude.{◌≡◌, ◌+◌, ◌<◌, ◌^◌, [], ◌∷◌, length, option_map, IfSome, Some};
 ghost use Rattle.std.specs.Option.{option_copied};
-ghost use Rattle.iref_grammar.specs.Authority.{read_authority, spell_authority};
-ghost use Rattle.iref_grammar.specs.{Grammar.{at_sign, colon}, ComponentOffsets.{place_from}};
-ghost use Rattle.iref_grammar.specs.Reference.{read_reference, spell};
-ghost use Rattle.iref_grammar.specs.Texts.{part_then, then_part};
-ghost use Rattle.iref_parse.specs.{AuthoritySlices.{authority_of}, ReferenceSlices.{value_of}};
+ghost use Rattle.iref_parse.specs.{read_authority, colon, place_from, read_reference, spell};
+ghost use Rattle.iref_parse.specs.{part_then, then_part, authority_of, value_of};
+ghost use Rattle.iref_grammar.specs.{Authority.{spell_authority}, Grammar.{at_sign}};
 ghost use Rattle.iref_c.specs.PartPlaces.{all_places, authority_places, place_for_c, places_from};
 
 use iref_parse::authority::{AuthoritySlices, split_parts};

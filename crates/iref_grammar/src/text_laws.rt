@@ -2,12 +2,11 @@
 #![tactic(auto)]
 
 ghost use Rattle.std.specs.Prelude.{◌≡◌, ◌↔◌, ℕ, Some};
-ghost use Rattle.iref_grammar.specs.Rules.{Text, AcceptsExactly};
-ghost use Rattle.iref_grammar.specs.IpAddresses.{IsIpv4, IsIpv6, ipv4_value, ipv6_value};
-ghost use Rattle.iref_grammar.specs.Grammar.{IsScheme, IsUserInfo, IsRegName, IsIpvFuture};
-ghost use Rattle.iref_grammar.specs.Grammar.{IsIpLiteral, IsHost, IsPort, IsSegment, IsPath};
-ghost use Rattle.iref_grammar.specs.Grammar.{IsQuery, IsFragment, IsPctStr, IsIpv4Address};
-ghost use Rattle.iref_grammar.specs.Grammar.{IsIpv6Address};
+ghost use Rattle.iref_grammar.specs.{Rules.{Text, AcceptsExactly}, IpAddresses.{IsIpv4, IsIpv6}};
+ghost use Rattle.iref_grammar.specs.{IpAddresses.{ipv4_value, ipv6_value}, Grammar.{IsScheme}};
+ghost use Rattle.iref_grammar.specs.Grammar.{IsUserInfo, IsRegName, IsIpvFuture, IsIpLiteral};
+ghost use Rattle.iref_grammar.specs.Grammar.{IsHost, IsPort, IsSegment, IsPath, IsQuery};
+ghost use Rattle.iref_grammar.specs.Grammar.{IsFragment, IsPctStr, IsIpv4Address, IsIpv6Address};
 ghost use Rattle.iref_grammar.specs.Tests.{is_scheme, is_user_info, is_reg_name, is_ipv4, is_ipv6};
 ghost use Rattle.iref_grammar.specs.Tests.{is_ipvfuture, is_ip_literal, is_host, is_port};
 ghost use Rattle.iref_grammar.specs.Tests.{is_segment, is_path, is_query, is_fragment, is_pct_str};

@@ -1,14 +1,12 @@
 //! Laws of paths: each is the contract of a function that does nothing.
 
 ghost use Rattle.std.specs.{Prelude.{◌≡◌, Bool, true, ◌==◌, List, [], ◌↔◌}, List.{list_all}};
-ghost use Rattle.iref_grammar.specs.declared.context.PathContext.{PathContext};
-ghost use Rattle.iref_grammar.specs.{CharTests, alone, follows_authority, fits, is_readable_path};
-ghost use Rattle.iref_grammar.specs.{slash, spell_path, read_path, shows_its_list, Text};
-ghost use Rattle.iref_grammar.specs.{is_segment, lacks};
+ghost use Rattle.iref_grammar.specs.{declared.context.PathContext.{PathContext}, CharTests, alone};
+ghost use Rattle.iref_grammar.specs.{follows_authority, fits, is_readable_path, slash, spell_path};
+ghost use Rattle.iref_grammar.specs.{read_path, shows_its_list, Text, is_segment, lacks};
 ghost use Rattle.iref_grammar.specs.PathValue.{PathValue};
-ghost use Rattle.iref_model.specs.Guard.{guarded, guarded_list};
-ghost use Rattle.iref_model.specs.NormalList.{stays_before, excess, open_parents, normal};
-ghost use Rattle.iref_model.specs.NormalList.{normal_segments};
+ghost use Rattle.iref_model.specs.{Guard.{guarded, guarded_list}, NormalList.{stays_before}};
+ghost use Rattle.iref_model.specs.NormalList.{excess, open_parents, normal, normal_segments};
 ghost use Rattle.iref_model.specs.NormalReading.{NormalRest, items_left, whole_rest, first_left};
 ghost use Rattle.iref_model.specs.NormalReading.{last_left, GivesFirst, GivesLast};
 ghost use Rattle.iref_model.specs.PathFunctions.{directory, directory_text};

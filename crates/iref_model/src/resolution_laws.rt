@@ -1,9 +1,8 @@
 //! The laws of resolution and of relative references.
 
 ghost use Rattle.std.specs.Prelude.{◌≡◌, is_some, true, false};
-ghost use Rattle.iref_grammar.specs.Characters.{CharTests, AreAboveAscii};
-ghost use Rattle.iref_grammar.specs.Reference.{ReferenceValue, IsReadable, is_readable};
-ghost use Rattle.iref_grammar.specs.Reference.{read_reference, spell};
+ghost use Rattle.iref_grammar.specs.{CharTests, AreAboveAscii, ReferenceValue, IsReadable};
+ghost use Rattle.iref_grammar.specs.{is_readable, read_reference, spell};
 ghost use Rattle.iref_model.specs.{Resolution.{resolved}, Key.{AreAlike}, Relative.{relative_to}};
 ghost use Rattle.iref_model.specs.RelativeLaws.{AreTargetAndBase, DoAgree, IsOnlyPath, Leads};
 ghost use Rattle.iref_model.specs.RelativeLaws.{ClimbsLeast};

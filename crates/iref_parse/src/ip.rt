@@ -1,13 +1,12 @@
 //! IP addresses and their numbers (RFC 3986 section 3.2.2).
 
-ghost use Rattle.std.specs.{List.{list_all}, Char.{is_ascii_hexdigit}};
-ghost use Rattle.std.specs.Prelude.{◌≡◌, ◌+◌, ◌-◌, ◌*◌, ◌^◌, ◌<◌, ◌≤◌, ◌==◌, ◌&&◌, ℕ, nat_lt};
-ghost use Rattle.std.specs.Prelude.{nat_le, List, ◌∷◌, length, slice_index, Option, None, Some};
-ghost use Rattle.std.specs.Prelude.{option_map, option_and_then, map, IfSome, MatchOption};
-ghost use Rattle.std.specs.Prelude.{if◌then◌else◌};
-ghost use Rattle.iref_grammar.specs.IpAddresses as ip;
+ghost use Rattle.std.specs.{List.{list_all}, Char.{is_ascii_hexdigit}, Prelude.{◌≡◌, ◌+◌, ◌-◌}};
+ghost use Rattle.std.specs.Prelude.{◌*◌, ◌^◌, ◌<◌, ◌≤◌, ◌==◌, ◌&&◌, ℕ, nat_lt, nat_le, List, ◌∷◌};
+ghost use Rattle.std.specs.Prelude.{length, slice_index, Option, None, Some, option_map};
+ghost use Rattle.std.specs.Prelude.{option_and_then, map, IfSome, MatchOption, if◌then◌else◌};
 ghost use Rattle.iref_grammar.specs.{pieces_at, colon, Text};
 ghost use Rattle.iref_parse.specs.IpGroups.{counted, counted_after, filled_number};
+ghost use Rattle.iref_grammar.specs.IpAddresses as ip;
 
 // Whether a zero stands before another character.
 fn has_leading_zero(text: &str) -> bool

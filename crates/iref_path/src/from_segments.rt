@@ -1,9 +1,8 @@
 //! The text of a path that is made of segments (RFC 3986 section 5.2.4).
-ghost use Rattle.std.specs.Prelude.{◌≡◌, true, OnOk, IfOk, map};
-ghost use Rattle.std.specs.String.{string_bytes};
+ghost use Rattle.std.specs.{Prelude.{◌≡◌, true, OnOk, IfOk, map}, String.{string_bytes}};
 ghost use Rattle.iref_component.specs.{alone, is_path, read_path, text_of};
-ghost use Rattle.iref_model.specs.PathSteps as step;
 ghost use Rattle.iref_path.specs.Appends.{CanTakeAll, TakesAll};
+ghost use Rattle.iref_model.specs.PathSteps as step;
 
 use crate::path::Path;
 use crate::path_mut::PathMut;

@@ -1,16 +1,14 @@
 //! Paths that own their text (RFC 3986 section 3.3).
 
-ghost use Rattle.std.specs.String.{string_bytes};
-ghost use Rattle.std.specs.Prelude.{◌≡◌, ◌<◌, ◌^◌, true, not, [], Some, IfOk, IsNone, IsOk, length};
-ghost use Rattle.std.specs.Prelude.{option_map};
-ghost use Rattle.iref_model.specs.PathFunctions as function;
-ghost use Rattle.iref_model.specs.PathSteps as step;
+ghost use Rattle.std.specs.{String.{string_bytes}, Prelude.{◌≡◌, ◌<◌, ◌^◌, true, not, [], Some}};
+ghost use Rattle.std.specs.Prelude.{IfOk, IsNone, IsOk, length, option_map};
 ghost use Rattle.iref_model.specs.PathSuffix.{path_suffix};
 ghost use Rattle.iref_component.specs.{ComparesBy, path_key, path_key_cmp, fed_path, spell_path};
 ghost use Rattle.iref_component.specs.{text_of, is_path, alone, normal_segments, is_empty};
 ghost use Rattle.iref_path.specs.{path_text, path_value, path_buf_text, path_buf_value};
-ghost use Rattle.iref_path.specs.{segments_left, normal_segments_left, SpellsSuffix};
-ghost use Rattle.iref_path.specs.{ParsesPathBuf};
+ghost use Rattle.iref_path.specs.{segments_left, normal_segments_left, SpellsSuffix, ParsesPathBuf};
+ghost use Rattle.iref_model.specs.PathFunctions as function;
+ghost use Rattle.iref_model.specs.PathSteps as step;
 
 mod edits;
 mod lists;

@@ -1,12 +1,11 @@
 //! Edits of a path in place (RFC 3986 section 3.3).
 ghost use Rattle.std.specs.Prelude.{◌≡◌, ◌≤◌, ◌+◌, ◌-◌, ◌&&◌, true, not, length, Some, IfOk, IsOk};
 ghost use Rattle.std.specs.Str.{IsCharBoundary};
-ghost use Rattle.iref_grammar.specs.Contexts.{alone, follows_authority, is_path_in};
-ghost use Rattle.iref_grammar.specs.{PathValue.{PathValue, read_path}, Texts.{is_empty}};
-ghost use Rattle.iref_component.specs.Components.{text_of};
-ghost use Rattle.iref_model.specs.PathSteps as step;
+ghost use Rattle.iref_component.specs.{alone, is_path_in, PathValue, read_path, is_empty, text_of};
+ghost use Rattle.iref_grammar.specs.Contexts.{follows_authority};
 ghost use Rattle.iref_path_text.specs.PathParts.{is_path_after, step_text, StepsTo};
 ghost use Rattle.iref_path.specs.Paths.{path_text, path_value, path_buf_text, path_buf_value};
+ghost use Rattle.iref_model.specs.PathSteps as step;
 
 mod bytes;
 mod lists;

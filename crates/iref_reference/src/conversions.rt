@@ -1,8 +1,7 @@
 //! Conversions between URIs and IRIs, with their references. All keep the text, and none takes
 //! memory: a URI is an IRI (RFC 3987 section 3.1), and an IRI that holds ASCII alone is a URI.
 ghost use Rattle.std.specs.Prelude.{◌≡◌, IfSome, is_some};
-ghost use Rattle.iref_grammar.specs.{Characters.{uri_chars}, Grammar.{IsUri, IsUriReference}};
-ghost use Rattle.iref_grammar.specs.Rules.{InUtf8};
+ghost use Rattle.iref_grammar.specs.{uri_chars, IsUri, IsUriReference, InUtf8};
 ghost use Rattle.iref_reference.specs.Conversions.{BecomesUri, OwnerBecomesUri, SomeIfIn};
 ghost use Rattle.iref_reference.specs.References.{reference_text, reference_value};
 ghost use Rattle.iref_reference.specs.References.{reference_buf_text, BecomesFull};

@@ -2,12 +2,10 @@
 ghost use Rattle.std.specs.Prelude.{MatchResult, ◌≡◌, ◌↔◌, true, Option, Some, option_map, is_some};
 ghost use Rattle.std.specs.{Str.{str_to_ascii_lowercase}, Ordering.{eq_by_cmp}};
 ghost use Rattle.std.specs.Option.{option_copied};
-ghost use Rattle.std.proofs.Common.{ap};
-ghost use Rattle.std.proofs.lemmas.Option.{same_Some};
-ghost use Rattle.iref_parse.specs.{texts_of};
-ghost use Rattle.iref_component.specs.{AreComponents, spell_components, is_scheme, none_or};
-ghost use Rattle.iref_component.specs.{is_reference, read_reference, is_authority, IsUriReference};
-ghost use Rattle.iref_component.specs.{Text, InUtf8, key_cmp, fed_reference, text_of};
+ghost use Rattle.std.proofs.{Common.{ap}, lemmas.Option.{same_Some}};
+ghost use Rattle.iref_buffer.specs.{texts_of, AreComponents, spell_components, is_scheme, none_or};
+ghost use Rattle.iref_buffer.specs.{is_reference, read_reference, is_authority, Text, InUtf8};
+ghost use Rattle.iref_component.specs.{IsUriReference, key_cmp, fed_reference, text_of};
 ghost use Rattle.iref_authority.specs.{parts_value as authority_parts_value, authority_text};
 ghost use Rattle.iref_path.specs.{path_text};
 ghost use Rattle.iref_reference.specs.Parts.{part_texts, parts_value, uri_ref_part_texts};

@@ -1,9 +1,8 @@
 //! References that lead from a base to a target, the way back from resolution (RFC 3986 section
 //! 5.2).
-ghost use Rattle.iref_buffer.specs.{Relatives.{agree}, Steps.{Spells}};
-ghost use Rattle.iref_grammar.specs.{ComponentTexts.{AreComponents}, Reference.{is_readable}};
+ghost use Rattle.iref_buffer.specs.{Relatives.{agree}, Steps.{Spells}, AreComponents, is_readable};
+ghost use Rattle.iref_buffer.specs.{texts_of, value_of};
 ghost use Rattle.iref_model.specs.Relative.{relative_to, schemes_agree};
-ghost use Rattle.iref_parse.specs.ReferenceSlices.{texts_of, value_of};
 ghost use Rattle.iref_reference.specs.Parts.{uri_ref_parts_value};
 ghost use Rattle.iref_reference.specs.References.{reference_buf_text, reference_buf_value};
 ghost use Rattle.iref_reference.specs.References.{reference_text, reference_value};

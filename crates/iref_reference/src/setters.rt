@@ -1,11 +1,10 @@
 //! Owners edited in place, a component at a time (RFC 3986 sections 3 and 4.2).
 ghost use Rattle.std.specs.Prelude.{Some, OnOk, IsNone, IsOk, option_map};
-ghost use Rattle.iref_component.specs.{read_authority, with_authority, with_fragment, with_path};
-ghost use Rattle.iref_component.specs.{with_query, with_scheme, text_of};
-ghost use Rattle.iref_authority.specs.{authority_text};
+ghost use Rattle.iref_authority.specs.{read_authority, text_of, authority_text};
+ghost use Rattle.iref_buffer.specs.{with_authority, with_fragment, with_path, with_query};
+ghost use Rattle.iref_buffer.specs.{with_scheme, PathPlaces.{RemovesDots}};
 ghost use Rattle.iref_path.specs.{path_value};
 ghost use Rattle.iref_model.specs.ComponentSteps.{with_new_normal_path};
-ghost use Rattle.iref_buffer.specs.PathPlaces.{RemovesDots};
 ghost use Rattle.iref_reference.specs.References.{Edits, reference_buf_value};
 
 pub mod copies;

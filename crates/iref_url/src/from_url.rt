@@ -1,7 +1,6 @@
 //! Owners of the text of a URL.
 ghost use Rattle.std.specs.Prelude.{◌≡◌};
-ghost use Rattle.iref_grammar.specs.Rules.{Text, InUtf8};
-ghost use Rattle.iref_component.specs.Makers.{Parses};
+ghost use Rattle.iref_buffer.specs.{Text, InUtf8, Parses};
 ghost use Rattle.iref_reference.specs.References.{reference_buf_text};
 ghost use Rattle.url.specs.Parts.{serialize};
 ghost use Rattle.iref_url.specs.declared.error.FromUrlError.TheVariants.{Invalid};

@@ -1,7 +1,6 @@
 //! The URL that a text is parsed to.
 ghost use Rattle.std.specs.Prelude.{None};
-ghost use Rattle.iref_grammar.specs.Rules.{Text};
-ghost use Rattle.iref_reference.specs.References.{reference_text, reference_buf_text};
+ghost use Rattle.iref_reference.specs.{Text, reference_text, reference_buf_text};
 ghost use Rattle.url.specs.Parser.{Gives, parse_url};
 
 use iref_grammar::chars::CharSet;

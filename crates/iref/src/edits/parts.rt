@@ -1,11 +1,10 @@
 //! Edits of the path and of the parts of the authority, by the editors of these.
 ghost use Rattle.std.specs.Prelude.{◌≡◌, true, is_some};
-ghost use Rattle.iref_authority.specs.AuthorityEdits as authority;
-ghost use Rattle.iref_grammar.specs.ComponentOffsets.{offsets_of};
-ghost use Rattle.iref_grammar.specs.Reference.{context_of, is_reference, read_reference};
+ghost use Rattle.iref_buffer.specs.{offsets_of, context_of, is_reference, read_reference};
 ghost use Rattle.iref_path.specs.PathEdits.{Borrows, IsEditorOf};
 ghost use Rattle.iref.specs.EditAnswers.{DoesEdit, is_authority_edit, is_path_edit};
 ghost use Rattle.iref.specs.EditSteps.{edit_step};
+ghost use Rattle.iref_authority.specs.AuthorityEdits as authority;
 
 use crate::edits::Edit;
 use iref_authority::authority_mut::AuthorityMut;

@@ -1,8 +1,7 @@
 //! The scheme set by an edit, which a URI keeps.
 ghost use Rattle.std.specs.Prelude.{option_map};
-ghost use Rattle.iref_component.specs.Components.{text_of};
+ghost use Rattle.iref_reference.specs.{text_of, reference_buf_text};
 ghost use Rattle.iref_model.specs.Edits.{SetScheme};
-ghost use Rattle.iref_reference.specs.References.{reference_buf_text};
 ghost use Rattle.iref.specs.EditAnswers.{AppliesEdit, edited_in};
 
 use crate::edits::EditError;

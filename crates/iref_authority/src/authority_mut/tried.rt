@@ -1,9 +1,8 @@
 //! Authorities edited by texts, each of which is tested before anything grows.
 ghost use Rattle.std.specs.Option.{option_copied};
-ghost use Rattle.iref_grammar.specs.Grammar.{IsAuthority, IsHost, IsPort, IsUserInfo};
-ghost use Rattle.iref_grammar.specs.Authority.{read_authority};
+ghost use Rattle.iref_component.specs.{IsAuthority, IsHost, IsPort, IsUserInfo, read_authority};
+ghost use Rattle.iref_component.specs.{Tests, TestsIfSome};
 ghost use Rattle.iref_model.specs.AuthoritySteps.{with_user_info, with_host, with_port};
-ghost use Rattle.iref_component.specs.Tries.{Tests, TestsIfSome};
 
 use super::AuthorityMut;
 use crate::authority::Authority;

@@ -1,7 +1,6 @@
 //! The authority of a held reference as a part that is edited in place (RFC 3986 section 3.2).
 ghost use Rattle.std.specs.Prelude.{◌≡◌, true, is_some, OnErr, OnOk, IsOk};
-ghost use Rattle.iref_grammar.specs.Authority.{is_authority, read_authority};
-ghost use Rattle.iref_grammar.specs.Reference.{read_reference};
+ghost use Rattle.iref_component.specs.{is_authority, read_authority, read_reference};
 ghost use Rattle.iref_model.specs.ComponentSteps.{with_authority_step};
 ghost use Rattle.iref_edit.specs.Changes.{IsNoLonger, IsWithin, changed, replaced};
 ghost use Rattle.iref_buffer.specs.AuthorityPlaces.{IsAuthorityOf, one_authority, authority_part};

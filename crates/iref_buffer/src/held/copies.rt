@@ -1,9 +1,8 @@
 //! Held texts that are made from others: a copy, a scheme alone, a reference under a scheme.
 ghost use Rattle.std.specs.Prelude.{◌≡◌, ◌++◌, true, [], ◌∷◌, Some, IfOk, IfErr};
 ghost use Rattle.std.specs.String.{string_bytes};
-ghost use Rattle.iref_grammar.specs.{Grammar.{colon}, Tests.{is_scheme}};
+ghost use Rattle.iref_component.specs.{colon, is_scheme, with_scheme};
 ghost use Rattle.iref_buffer.specs.Steps.{IsStep};
-ghost use Rattle.iref_model.specs.ComponentSteps.{with_scheme};
 
 use super::{Held, HeldRule};
 use iref_error::Memory;

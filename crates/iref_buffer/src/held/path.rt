@@ -1,11 +1,9 @@
 //! The path of a held reference as a part that is edited in place, and as a normal one (RFC 3986
 //! sections 3.3 and 5.2.4).
 ghost use Rattle.std.specs.Prelude.{◌≡◌, ◌-◌, ◌≤◌, ◌||◌, ◌&&◌, length, not, true, OnErr, OnOk};
-ghost use Rattle.iref_grammar.specs.{Contexts.{is_path_in}, ComponentOffsets.{offsets_of}};
-ghost use Rattle.iref_grammar.specs.PathValue.{read_path};
-ghost use Rattle.iref_grammar.specs.Reference.{context_of, read_reference, spell};
-ghost use Rattle.iref_grammar.specs.{Tests.{is_path}, Texts.{is_empty}};
-ghost use Rattle.iref_model.specs.ComponentSteps.{with_path, with_new_normal_path};
+ghost use Rattle.iref_component.specs.{is_path_in, offsets_of, read_path, context_of};
+ghost use Rattle.iref_component.specs.{read_reference, spell, is_path, is_empty, with_path};
+ghost use Rattle.iref_model.specs.ComponentSteps.{with_new_normal_path};
 ghost use Rattle.iref_path_text.specs.Rewriting.{rewritten};
 ghost use Rattle.iref_buffer.specs.PathTexts.{path_text, with_path_read, with_path_text};
 ghost use Rattle.iref_buffer.specs.PathPlaces.{IsPathOf, one_path, path_is_within, RemovesDots};

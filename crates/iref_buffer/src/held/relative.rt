@@ -1,7 +1,6 @@
 //! The text that leads from a base to a target, with the offsets of its components.
 ghost use Rattle.iref_buffer.specs.{Relatives.{agree}, Steps.{Spells}};
-ghost use Rattle.iref_grammar.specs.Reference.{is_readable};
-ghost use Rattle.iref_model.specs.Relative.{relative_to};
+ghost use Rattle.iref_model.specs.{is_readable, relative_to};
 ghost use Rattle.iref_parse.specs.ReferenceSlices.{value_of};
 ghost use Rattle.std.specs.Prelude.{◌≡◌, IfOk, true};
 

@@ -1,7 +1,6 @@
 //! The editor of a path in a vector of bytes.
 ghost use Rattle.std.specs.Prelude.{◌≡◌, ◌≤◌, true, take, slice_range, vec_len, IfOk, IfErr};
-ghost use Rattle.iref_grammar.specs.{Contexts.{context_from}, Grammar.{IsPath}, Rules.{InUtf8}};
-ghost use Rattle.iref_grammar.specs.Tests.{is_path};
+ghost use Rattle.iref_grammar.specs.{Contexts.{context_from}, IsPath, InUtf8, is_path};
 ghost use Rattle.iref_path.specs.{BytePaths.{MayFollow}, PathEdits.{Borrows, IsEditorOf}};
 
 use crate::path::Path;

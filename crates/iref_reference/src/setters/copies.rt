@@ -1,8 +1,7 @@
 //! Copies of references, each with one component set (RFC 3986 sections 3 and 4.2).
 ghost use Rattle.std.specs.Prelude.{◌≡◌, Some, IfErr, IfOk, option_map};
-ghost use Rattle.iref_grammar.specs.{Grammar.{IsScheme}, Rules.{InUtf8}};
-ghost use Rattle.iref_component.specs.{read_authority, with_authority, with_fragment, with_path};
-ghost use Rattle.iref_component.specs.{with_query, with_scheme, text_of};
+ghost use Rattle.iref_component.specs.{IsScheme, InUtf8, read_authority, with_authority};
+ghost use Rattle.iref_component.specs.{with_fragment, with_path, with_query, with_scheme, text_of};
 ghost use Rattle.iref_authority.specs.{authority_text};
 ghost use Rattle.iref_path.specs.{path_value};
 ghost use Rattle.iref_reference.specs.HandedBack.{TellsInvalidBeside};
