@@ -11,8 +11,8 @@ use Rattle.iref_component.specs.declared.text.RuleText.{RuleText}
 use Rattle.iref_component.specs.Components.{text_of}
 use Rattle.iref_model.specs.ComponentSteps.{with_authority_step}
 use Rattle.iref_model.specs.Edits.{EditStep, NoAuthority, edited, with_authority_part}
-use Rattle.iref_authority.specs.declared.authority_mut.AuthorityMut.{AuthorityMut}
-use Rattle.iref_authority.specs.AuthorityEdits.{authority_mut_value, edited_bytes, BecomesAuthority, Edits, IsEditorAt}
+use Rattle.iref_component.specs.declared.authority_mut.AuthorityMut.{AuthorityMut}
+use Rattle.iref_component.specs.AuthorityEdits.{authority_mut_value, edited_bytes, BecomesAuthority, Edits, IsEditorAt}
 use Rattle.iref_buffer.proofs.EditLemmas.{readable_of}
 use Rattle.iref_reference.proofs.AuthorityStepLemmas.{authority_step}
 

@@ -9,8 +9,8 @@ use Rattle.iref_grammar.specs.Reference.{context_of, is_readable, is_reference, 
 use Rattle.iref_model.specs.ComponentSteps.{with_path_step}
 use Rattle.iref_model.specs.Edits.{EditStep, edited}
 use Rattle.iref_buffer.proofs.EditLemmas.{readable_of}
-use Rattle.iref_path.specs.declared.path_mut.PathMut.{PathMut}
-use Rattle.iref_path.specs.PathEdits.{edited_bytes, path_mut_context, path_mut_value, IsEditorOf, BecomesPath, Edits}
+use Rattle.iref_component.specs.declared.path_mut.PathMut.{PathMut}
+use Rattle.iref_component.specs.PathEdits.{edited_bytes, path_mut_context, path_mut_value, IsEditorOf, BecomesPath, Edits}
 use Rattle.iref_reference.proofs.PathStepLemmas.{path_step}
 
 -- the edit of the path, done by its editor

@@ -3,27 +3,25 @@ use Rattle.std.specs.Prelude.{option_map}
 use Rattle.iref_model.specs.Edits as model
 use Rattle.iref_model.specs.Edits.{EditStep}
 use Rattle.iref_component.specs.Components.{text_of}
-use Rattle.iref_authority.specs.Authorities.{authority_text}
-use Rattle.iref_path.specs.Paths.{path_text}
 use Rattle.iref.specs.declared.edits.Edit.{Edit}
 use Rattle.iref.specs.declared.edits.Edit.TheVariants.{SetScheme, SetAuthority, ReplaceAuthority, SetUserInfo, SetHost, SetPort, SetPortU32, SetPath, SetAndNormalizePath, SetQuery, SetFragment, LazyPush, Push, JoinPath, Pop, Clear, Normalize}
 
 -- the step that an edit is
 abbrev pub edit_step : {C : _} {c : _} → Edit C c → EditStep
 edit_step (SetScheme scheme) = model.SetScheme (option_map text_of scheme)
-edit_step (SetAuthority authority) = model.SetAuthority (option_map authority_text authority)
-edit_step (ReplaceAuthority authority) = model.ReplaceAuthority (authority_text authority)
+edit_step (SetAuthority authority) = model.SetAuthority (option_map text_of authority)
+edit_step (ReplaceAuthority authority) = model.ReplaceAuthority (text_of authority)
 edit_step (SetUserInfo user_info) = model.SetUserInfo (option_map text_of user_info)
 edit_step (SetHost host) = model.SetHost (text_of host)
 edit_step (SetPort port) = model.SetPort (option_map text_of port)
 edit_step (SetPortU32 number) = model.SetPortU32 number
-edit_step (SetPath path) = model.SetPath (path_text path)
-edit_step (SetAndNormalizePath path) = model.SetAndNormalizePath (path_text path)
+edit_step (SetPath path) = model.SetPath (text_of path)
+edit_step (SetAndNormalizePath path) = model.SetAndNormalizePath (text_of path)
 edit_step (SetQuery query) = model.SetQuery (option_map text_of query)
 edit_step (SetFragment fragment) = model.SetFragment (option_map text_of fragment)
 edit_step (LazyPush segment) = model.LazyPush (text_of segment)
 edit_step (Push segment) = model.Push (text_of segment)
-edit_step (JoinPath path) = model.JoinPath (path_text path)
+edit_step (JoinPath path) = model.JoinPath (text_of path)
 edit_step Pop = model.Pop
 edit_step Clear = model.Clear
 edit_step Normalize = model.Normalize

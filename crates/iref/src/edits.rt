@@ -5,11 +5,11 @@ mod lists;
 mod parts;
 mod schemes;
 
-use iref_authority::authority::Authority;
+use iref_component::authority::Authority;
+use iref_component::path::Path;
 use iref_component::texts::{Fragment, Host, Port, Query, Scheme, Segment, UserInfo};
 use iref_error::Memory;
 use iref_grammar::chars::CharSet;
-use iref_path::path::Path;
 pub use lists::{Applied, apply_all, apply_all_uri};
 use std::alloc::AllocError;
 use std::fmt;

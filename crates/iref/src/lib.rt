@@ -50,16 +50,16 @@ pub mod uri {
     pub type UriRefParts<'a> = iref_reference::parts::UriRefParts<'a, UriChars>;
 
     /// An authority (RFC 3986 section 3.2): in `//u@h:80/x` it is `u@h:80`, with the host `h`.
-    pub type Authority<'a> = iref_authority::authority::Authority<'a, UriChars>;
+    pub type Authority<'a> = iref_component::authority::Authority<'a, UriChars>;
     /// An authority that owns its text (RFC 3986 section 3.2): `set_port` of `80` makes `h:80` of
     /// `h`.
-    pub type AuthorityBuf = iref_authority::owner::AuthorityBuf<UriChars>;
+    pub type AuthorityBuf = iref_component::authority::AuthorityBuf<UriChars>;
     /// The editor of an authority in a vector of bytes (RFC 3986 section 3.2): at the bytes 2 to 6
     /// of `//h:80/x`, `set_port` of None leaves `//h/x`.
-    pub type AuthorityMut<'a> = iref_authority::authority_mut::AuthorityMut<'a, UriChars>;
+    pub type AuthorityMut<'a> = iref_component::authority_mut::AuthorityMut<'a, UriChars>;
     /// The parts of an authority (RFC 3986 section 3.2): of `u@h:` the user info `u`, the host `h`
     /// and an empty port, which is there.
-    pub type AuthorityParts<'a> = iref_authority::parts::AuthorityParts<'a, UriChars>;
+    pub type AuthorityParts<'a> = iref_component::authority_parts::AuthorityParts<'a, UriChars>;
 
     /// A user info (RFC 3986 section 3.2.1): in `//u:p@h` it is `u:p`.
     pub type UserInfo<'a> = iref_component::texts::UserInfo<'a, UriChars>;
@@ -74,12 +74,12 @@ pub mod uri {
 
     /// A path (RFC 3986 section 3.3): `/a/b` has the segments `a` and `b`, `a/` the segments `a`
     /// and an empty one.
-    pub type Path<'a> = iref_path::path::Path<'a, UriChars>;
+    pub type Path<'a> = iref_component::path::Path<'a, UriChars>;
     /// A path that owns its text (RFC 3986 section 3.3): `push` of `c` makes `/a/c` of `/a`.
-    pub type PathBuf = iref_path::path_buf::PathBuf<UriChars>;
+    pub type PathBuf = iref_component::path_buf::PathBuf<UriChars>;
     /// The editor of a path in a vector of bytes (RFC 3986 section 3.3): at the bytes 8 to 12 of
     /// `http://h/a/b?q`, `pop` leaves `http://h/a?q`.
-    pub type PathMut<'a> = iref_path::path_mut::PathMut<'a, UriChars>;
+    pub type PathMut<'a> = iref_component::path_mut::PathMut<'a, UriChars>;
 
     /// A segment of a path (RFC 3986 section 3.3): `b%2Fc` is one, `b/c` is none, and the empty
     /// text is one.
@@ -89,10 +89,10 @@ pub mod uri {
 
     /// The segments of a path that are left, from both ends (RFC 3986 section 3.3): of `/a//b` they
     /// are `a`, an empty one and `b`.
-    pub type Segments<'a> = iref_path::segments::Segments<'a, UriChars>;
+    pub type Segments<'a> = iref_component::segments::Segments<'a, UriChars>;
     /// The segments of a path without its dots that are left, from both ends (RFC 3986 section
     /// 5.2.4): of `a/../b/./c` they are `b` and `c`.
-    pub type NormalizedSegments<'a> = iref_path::normal::NormalizedSegments<'a, UriChars>;
+    pub type NormalizedSegments<'a> = iref_component::normal::NormalizedSegments<'a, UriChars>;
 
     /// A query (RFC 3986 section 3.4): in `a?x=1?y` it is `x=1?y`.
     pub type Query<'a> = iref_component::texts::Query<'a, UriChars>;
@@ -142,16 +142,16 @@ pub mod iri {
     pub type IriRefParts<'a> = iref_reference::parts::UriRefParts<'a, IriChars>;
 
     /// An authority (RFC 3987 section 2.2): in `//u@é:80/x` it is `u@é:80`, with the host `é`.
-    pub type Authority<'a> = iref_authority::authority::Authority<'a, IriChars>;
+    pub type Authority<'a> = iref_component::authority::Authority<'a, IriChars>;
     /// An authority that owns its text (RFC 3987 section 2.2): `set_port` of `80` makes `é:80` of
     /// `é`.
-    pub type AuthorityBuf = iref_authority::owner::AuthorityBuf<IriChars>;
+    pub type AuthorityBuf = iref_component::authority::AuthorityBuf<IriChars>;
     /// The editor of an authority in a vector of bytes (RFC 3987 section 2.2): at the bytes 2 to 7
     /// of `//é:80/x`, `set_port` of None leaves `//é/x`.
-    pub type AuthorityMut<'a> = iref_authority::authority_mut::AuthorityMut<'a, IriChars>;
+    pub type AuthorityMut<'a> = iref_component::authority_mut::AuthorityMut<'a, IriChars>;
     /// The parts of an authority (RFC 3987 section 2.2): of `u@é:` the user info `u`, the host `é`
     /// and an empty port, which is there.
-    pub type AuthorityParts<'a> = iref_authority::parts::AuthorityParts<'a, IriChars>;
+    pub type AuthorityParts<'a> = iref_component::authority_parts::AuthorityParts<'a, IriChars>;
 
     /// A user info (RFC 3987 section 2.2): in `//é:p@h` it is `é:p`.
     pub type UserInfo<'a> = iref_component::texts::UserInfo<'a, IriChars>;
@@ -166,12 +166,12 @@ pub mod iri {
 
     /// A path (RFC 3987 section 2.2): `/é/b` has the segments `é` and `b`, `é/` the segments `é`
     /// and an empty one.
-    pub type Path<'a> = iref_path::path::Path<'a, IriChars>;
+    pub type Path<'a> = iref_component::path::Path<'a, IriChars>;
     /// A path that owns its text (RFC 3987 section 2.2): `push` of `ü` makes `/a/ü` of `/a`.
-    pub type PathBuf = iref_path::path_buf::PathBuf<IriChars>;
+    pub type PathBuf = iref_component::path_buf::PathBuf<IriChars>;
     /// The editor of a path in a vector of bytes (RFC 3987 section 2.2): at the bytes 8 to 13 of
     /// `http://h/a/é?q`, `pop` leaves `http://h/a?q`.
-    pub type PathMut<'a> = iref_path::path_mut::PathMut<'a, IriChars>;
+    pub type PathMut<'a> = iref_component::path_mut::PathMut<'a, IriChars>;
 
     /// A segment of a path (RFC 3987 section 2.2): `é%2Fc` is one, `é/c` is none, and the empty
     /// text is one.
@@ -181,10 +181,10 @@ pub mod iri {
 
     /// The segments of a path that are left, from both ends (RFC 3987 section 2.2): of `/é//b` they
     /// are `é`, an empty one and `b`.
-    pub type Segments<'a> = iref_path::segments::Segments<'a, IriChars>;
+    pub type Segments<'a> = iref_component::segments::Segments<'a, IriChars>;
     /// The segments of a path without its dots that are left, from both ends (RFC 3986 section
     /// 5.2.4): of `é/../b/./ü` they are `b` and `ü`.
-    pub type NormalizedSegments<'a> = iref_path::normal::NormalizedSegments<'a, IriChars>;
+    pub type NormalizedSegments<'a> = iref_component::normal::NormalizedSegments<'a, IriChars>;
 
     /// A query (RFC 3987 section 2.2): in `a?é=1` it is `é=1`. Private characters as U+E000 stand
     /// here alone.

@@ -1,10 +1,8 @@
 //! The answer to a line.
 ghost use Rattle.std.specs.Prelude.{◌≡◌, ◌++◌, ◌∷◌, option_map, OnOk, OnErr};
-ghost use Rattle.std.specs.Option.{option_copied};
 ghost use Rattle.iref_reference.specs.{Text, text_of, uri_ref_part_texts};
 ghost use Rattle.iref_lines.specs.Lines.{Answered, answer_text, part_field, part_fields, tab};
 ghost use Rattle.iref_lines.specs.Lines.{yes_or_no, Parts, Normal, Equal, ToUri};
-ghost use Rattle.iref_authority.specs.Authorities.{authority_text};
 ghost use Rattle.iref_batch.specs.{EditFields.{IsRefusal}, Gathering.{Puts, PutsReply}};
 ghost use Rattle.iref_batch.specs.{Requests.{request_of}, Runs.{reply_to, line_reply}};
 ghost use Rattle.iref_batch.specs.Runs.{with_newline};
@@ -16,7 +14,7 @@ mod resolve;
 use super::edit_fields::FieldError;
 use super::request::{Request, read_request};
 use edit::put_answer_to_edit;
-use iref::iri::{Authority, IriRef, IriRefParts, Path};
+use iref::iri::{IriRef, IriRefParts, Path};
 use iref_component::rule::Rule;
 use iref_component::view::View;
 use iref_error::Memory;
@@ -33,28 +31,18 @@ fn put_text(text: &[u8], out: &mut Vec<u8>) -> Result<(), Memory>
 
 /// Puts a TAB and the field of a part: `-` where it is absent, else `=` and its text.
 #[inline(always)]
-fn put_part(part: Option<&[u8]>, out: &mut Vec<u8>) -> Result<(), Memory>
-    ensures { Puts (tab ∷ part_field (option_copied part.entry))
+fn put_part<R: Rule, C: CharSet>(
+    part: Option<View<'_, R, C>>,
+    out: &mut Vec<u8>,
+) -> Result<(), Memory>
+    ensures { Puts (tab ∷ part_field (option_map text_of part.entry))
         out.old.items out.new.items result }
 {
-    let Some(text) = part else {
+    let Some(part) = part else {
         return put_text(b"\t-", out);
     };
     put_text(b"\t=", out)?;
-    put_text(text, out)
-}
-
-// The bytes of a component, if it is there.
-fn bytes_of<R: Rule, C: CharSet>(part: Option<View<'_, R, C>>) -> Option<&[u8]>
-    ensures { option_copied result ≡ option_map text_of part.entry }
-{
-    part.map(|part| part.as_bytes())
-}
-
-fn authority_bytes(authority: Option<Authority<'_>>) -> Option<&[u8]>
-    ensures { option_copied result ≡ option_map authority_text authority.entry }
-{
-    authority.map(|authority| authority.as_bytes())
+    put_text(part.as_bytes(), out)
 }
 
 /// Puts the answer whose fields are the parts of a reference.
@@ -63,11 +51,11 @@ fn put_parts(parts: &IriRefParts<'_>, out: &mut Vec<u8>) -> Result<(), Memory>
         out.old.items out.new.items result }
 {
     put_text(b"ok", out)?;
-    put_part(bytes_of(parts.scheme), out)?;
-    put_part(authority_bytes(parts.authority), out)?;
-    put_part(Some(parts.path.as_bytes()), out)?;
-    put_part(bytes_of(parts.query), out)?;
-    put_part(bytes_of(parts.fragment), out)?;
+    put_part(parts.scheme, out)?;
+    put_part(parts.authority, out)?;
+    put_part(Some(parts.path), out)?;
+    put_part(parts.query, out)?;
+    put_part(parts.fragment, out)?;
     Ok(())
 }
 

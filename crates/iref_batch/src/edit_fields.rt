@@ -1,22 +1,19 @@
 //! The edits that the fields of a line name, each a name, or a name, `=` and a value.
-ghost use Rattle.std.specs.Prelude.{◌≡◌, ◌∷◌, [], Bool, Some, true, option_map};
+ghost use Rattle.std.specs.Prelude.{◌≡◌, ◌∷◌, [], Some, true, option_map};
 ghost use Rattle.std.specs.Option.{option_copied};
-ghost use Rattle.iref_grammar.specs.{Text, after, before, is_path, iri_chars, Tests.{none_or}};
-ghost use Rattle.iref_authority.specs.{is_authority, text_of, authority_text};
+ghost use Rattle.iref_grammar.specs.{after, before, iri_chars, Tests.{none_or}};
+ghost use Rattle.iref_component.specs.{text_of};
 ghost use Rattle.iref_lines.specs.Lines.{edit_names, equals_sign, is_valid_edit};
-ghost use Rattle.iref_path.specs.Paths.{path_text};
 ghost use Rattle.iref.specs.EditSteps.{edit_step};
 ghost use Rattle.iref_batch.specs.EditFields.{IsRead, edit_named, path_edit_names};
 ghost use Rattle.iref_lines.specs.Lines as spec;
 
 use super::cut::cut_at;
 use super::request::is_name;
-use iref::iri::{Authority, Edit, Path};
-use iref_authority::rule::AuthorityRule;
+use iref::iri::Edit;
 use iref_component::rule::Rule;
 use iref_component::view::View;
-use iref_grammar::chars::{CharSet, IriChars};
-use iref_path::rule::PathRule;
+use iref_grammar::chars::CharSet;
 use std::alloc::AllocFailed;
 use std::str;
 
@@ -41,78 +38,32 @@ impl<T: Drop> From<AllocFailed<T>> for FieldError {
     }
 }
 
-/// What an edit may take as its value: `h` of `host=h` is a host (RFC 3986 section 3.2.2).
-pub trait Value<'a>: Sized {
-    /// Its text.
-    ghost text: { Self → Text };
-
-    /// Which texts are in its grammar.
-    ghost test: { Text → Bool };
-
-    /// The value of this text.
-    fn read(value: &'a [u8]) -> Result<Self, FieldError>
-        ensures { IsRead text test (Some value.now) result };
-}
-
-// The text, if it is in the rule.
-fn text_in<R: Rule, C: CharSet>(value: &[u8]) -> Result<&str, FieldError>
-    ensures { IsRead (λ text. text.now) (R.test C.tests) (Some value.now) result }
+// The value of this text, if it is in the rule.
+fn read<R: Rule, C: CharSet>(value: &[u8]) -> Result<View<'_, R, C>, FieldError>
+    ensures { IsRead text_of (R.test C.tests) (Some value.now) result }
 {
     match str::from_utf8(value) {
-        Ok(text) if R::accepts::<C>(text) => Ok(text),
+        Ok(text) if R::accepts::<C>(text) => Ok(View::new_unchecked(text)),
         _ => Err(FieldError::Invalid),
     }
 }
 
-impl<'a, R: Rule, C: CharSet> Value<'a> for View<'a, R, C> {
-    ghost text = { text_of };
-
-    ghost test = { R.test C.tests };
-
-    fn read(value: &'a [u8]) -> Result<Self, FieldError> {
-        let text = text_in::<R, C>(value)?;
-        Ok(View::new_unchecked(text))
-    }
-}
-
-impl<'a> Value<'a> for Authority<'a> {
-    ghost text = { authority_text };
-
-    ghost test = { is_authority iri_chars };
-
-    fn read(value: &'a [u8]) -> Result<Self, FieldError> {
-        let text = text_in::<AuthorityRule, IriChars>(value)?;
-        Ok(Authority::new_unchecked(text))
-    }
-}
-
-impl<'a> Value<'a> for Path<'a> {
-    ghost text = { path_text };
-
-    ghost test = { is_path iri_chars };
-
-    fn read(value: &'a [u8]) -> Result<Self, FieldError> {
-        let text = text_in::<PathRule, IriChars>(value)?;
-        Ok(Path::new_unchecked(text))
-    }
-}
-
 // The value of an edit that may do without.
-fn optional<'a, V: Value<'a>>(value: Option<&'a [u8]>) -> Result<Option<V>, FieldError>
-    ensures { IsRead (option_map V.text) (none_or V.test) (Some (option_copied value.entry))
-        result }
+fn optional<R: Rule, C: CharSet>(value: Option<&[u8]>) -> Result<Option<View<'_, R, C>>, FieldError>
+    ensures { IsRead (option_map text_of) (none_or (R.test C.tests))
+        (Some (option_copied value.entry)) result }
 {
     match value {
-        Some(value) => V::read(value).map(Some),
+        Some(value) => read(value).map(Some),
         None => Ok(None),
     }
 }
 
 // The value of an edit that needs one.
-fn needed<'a, V: Value<'a>>(value: Option<&'a [u8]>) -> Result<V, FieldError>
-    ensures { IsRead V.text V.test (option_copied value.entry) result }
+fn needed<R: Rule, C: CharSet>(value: Option<&[u8]>) -> Result<View<'_, R, C>, FieldError>
+    ensures { IsRead text_of (R.test C.tests) (option_copied value.entry) result }
 {
-    V::read(value.ok_or(FieldError::Command)?)
+    read(value.ok_or(FieldError::Command)?)
 }
 
 // An edit that takes no value.

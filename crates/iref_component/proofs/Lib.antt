@@ -1,3 +1,9 @@
+pub mod AuthorityEditLemmas
+pub mod AuthorityPartLemmas
+pub mod ManyLemmas
+pub mod PathEditLemmas
+pub mod PathOwnerLemmas
+pub mod PathTryLemmas
 pub mod PortLemmas
 pub mod SchemeLookLemmas
 pub mod TextLemmas

@@ -7,9 +7,14 @@ use Rattle.std.specs.Hash.{HashWrites}
 use Rattle.std.specs.HashMap.Lent.{HashMembers}
 use Rattle.std.specs.Ordering.{is_eq}
 use Rattle.std.specs.declared.cmp.Ordering.{Ordering}
+use Rattle.iref_grammar.specs.Authority.{AuthorityValue, read_authority}
 use Rattle.iref_grammar.specs.Keys.{fed_bytes, text_order}
+use Rattle.iref_grammar.specs.PathValue.{PathValue, read_path}
 use Rattle.iref_grammar.specs.Rules.{Text}
-use Rattle.iref_model.proofs.KeyOrderLemmas.{texts_tell}
+use Rattle.iref_model.specs.AuthorityKey.{authority_key, authority_key_cmp, authority_keys_total, fed_authority}
+use Rattle.iref_model.specs.PathHash.{fed_path}
+use Rattle.iref_model.specs.PathKey.{path_key, path_key_cmp, path_keys_total}
+use Rattle.iref_model.proofs.KeyOrderLemmas.{authority_keys_tell, path_keys_tell, texts_tell}
 
 -- the key of a text, the order of keys, and what a hasher is fed of one; the order is total, and tells keys apart
 pub record Comparison : Type 1 where
@@ -30,3 +35,11 @@ ComparesBy {V} key order fed ord hash =
     ((a b : V) → (ord.eq a b ≡ true) ↔ (key a ≡ key b))
     × ((a b : V) → ord.cmp a b ≡ order (key a) (key b))
     × ((v : V) → hash.hash_input v ≡ fed (key v))
+
+-- authorities: user info and host as decoded bytes, the port as text
+abbrev pub by_parts : Comparison
+by_parts = record { Kept = AuthorityValue; key = λ text. authority_key (read_authority text); order = authority_key_cmp; fed = fed_authority; total = authority_keys_total; tells = authority_keys_tell }
+
+-- paths: whether they are absolute, and their normal segments as decoded bytes
+abbrev pub by_segments : Comparison
+by_segments = record { Kept = PathValue; key = λ text. path_key (read_path text); order = path_key_cmp; fed = fed_path; total = path_keys_total; tells = path_keys_tell }

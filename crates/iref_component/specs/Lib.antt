@@ -24,13 +24,33 @@ pub use Rattle.iref_model.specs.PathHash.{fed_path}
 pub use Rattle.iref_model.specs.PathKey.{path_key, path_key_cmp, path_keys_total}
 pub use Rattle.iref_model.specs.PortNumbers.{port_text}
 pub use Rattle.iref_model.specs.ReferenceParts.{base_of, host_of, port_of, user_info_of}
-pub use Rattle.iref_component.specs.Comparisons.{by_text, ComparesBy, Comparison}
+pub use Rattle.iref_model.specs.PathSuffix.{path_suffix}
+pub use Rattle.iref_path_text.specs.Pieces.{pieces_if_some}
+pub use Rattle.iref_path_text.specs.Remaining.{IsSound, normal_left}
+pub use Rattle.iref_path_text.specs.Unread.{HasRoomFor, steps_count, steps_taken}
+pub use Rattle.iref_component.specs.AuthorityParts.{parts_key, parts_value}
+pub use Rattle.iref_component.specs.Comparisons.{by_parts, by_segments, by_text, ComparesBy, Comparison}
 pub use Rattle.iref_component.specs.Components.{text_of}
 pub use Rattle.iref_component.specs.Makers.{Parses, ParsesUtf8}
+pub use Rattle.iref_component.specs.NormalPaths.{normal_segments_left}
+pub use Rattle.iref_component.specs.Paths.{path_value, segments_left}
 pub use Rattle.iref_component.specs.Ports.{port_number, signed_port_number}
+pub use Rattle.iref_component.specs.Suffixes.{SpellsSuffix}
 pub use Rattle.iref_component.specs.Tries.{Tests, TestsIfSome}
+pub mod Appends
+pub mod Authorities
+pub mod AuthorityEdits
+pub mod AuthorityParts
+pub mod AuthorityTexts
+pub mod BytePaths
 pub mod Comparisons
 pub mod Components
 pub mod Makers
+pub mod NormalPaths
+pub mod PathEdits
+pub mod Paths
 pub mod Ports
+pub mod Rows
+pub mod Suffixes
 pub mod Tries
+pub mod WholePaths

@@ -8,7 +8,7 @@ ghost use Rattle.iref_component.specs.{Comparisons.{ComparesBy}, Makers.{ParsesU
 ghost use Rattle.iref_component.specs.Components.{text_of};
 
 use crate::key::Key;
-use crate::rule::Rule;
+use crate::rule::{Escaped, Rule};
 use crate::text::{RuleText, Storage, View};
 use iref_grammar::chars::CharSet;
 use std::cmp::Ordering;
@@ -42,7 +42,9 @@ impl<S: Storage, R: Rule, C: CharSet> RuleText<S, R, C> {
     {
         self.text.text().len()
     }
+}
 
+impl<S: Storage, R: Escaped, C: CharSet> RuleText<S, R, C> {
     /// Whether the text is empty.
     pub fn is_empty(&self) -> bool
         ensures { result ≡ is_empty (text_of self.now) }

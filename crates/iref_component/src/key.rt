@@ -1,14 +1,18 @@
 //! What texts are compared by, in their order, and fed to hashers (RFC 3986 section 6.2.2).
-ghost use Rattle.std.specs.{Prelude.{◌≡◌, fold}, Ordering.{eq_by_cmp}};
+ghost use Rattle.std.specs.{Prelude.{◌≡◌, fold, true}, Ordering.{eq_by_cmp}};
 ghost use Rattle.std.specs.Str.{str_to_ascii_lowercase};
 ghost use Rattle.percent_encoding.specs.Percent.{percent_decode};
 ghost use Rattle.iref_grammar.specs.{CharTests, Text, fed_bytes, text_order};
-ghost use Rattle.iref_component.specs.Comparisons.{Comparison, by_text};
+ghost use Rattle.iref_grammar.specs.{Authority.{is_authority}};
+ghost use Rattle.iref_component.specs.Comparisons.{Comparison, by_parts, by_segments, by_text};
 
+use crate::authority_parts::parts_of;
 use iref_grammar::chars::CharSet;
 use iref_parse::decoded::{decoded_cmp, hash_decoded};
+use iref_path_text::equality::path_texts_eq;
+use iref_path_text::order::{hash_path_text, path_texts_cmp};
 use std::cmp::Ordering;
-use std::hash::Hasher;
+use std::hash::{Hash, Hasher};
 
 /// What texts are compared by (RFC 3986 section 6.2.2): of schemes their lower case, so that `HTTP`
 /// and `http` have one key.
@@ -94,6 +98,42 @@ impl Key for SameText {
             state.write_u8(byte);
         }
         state.write_u8(0xff);
+    }
+}
+
+/// The parts of an authority: user info and host as decoded bytes, the port as text.
+pub struct PartsKey;
+
+impl Key for PartsKey {
+    ghost comparison = { by_parts };
+
+    ghost has_key = { λ tests text. is_authority tests text ≡ true };
+
+    fn compare<C: CharSet>(a: &str, b: &str) -> Ordering {
+        parts_of::<C>(a).cmp(&parts_of::<C>(b))
+    }
+
+    fn feed<C: CharSet, H: Hasher>(text: &str, state: &mut H) {
+        parts_of::<C>(text).hash(state);
+    }
+}
+
+/// Whether a path is absolute, and its normal segments as decoded bytes.
+pub struct PathKey;
+
+impl Key for PathKey {
+    ghost comparison = { by_segments };
+
+    fn compare<C: CharSet>(a: &str, b: &str) -> Ordering {
+        path_texts_cmp(a, b)
+    }
+
+    fn is_equal<C: CharSet>(a: &str, b: &str) -> bool {
+        path_texts_eq(a, b)
+    }
+
+    fn feed<C: CharSet, H: Hasher>(text: &str, state: &mut H) {
+        hash_path_text(text, state);
     }
 }
 

@@ -1,20 +1,30 @@
-//! The components that are one text: schemes, user infos, hosts, ports, segments, queries and
-//! fragments.
+//! The components of references: schemes, authorities and their parts, paths and their segments,
+//! queries and fragments.
 //! Each is a rule of the grammar; its view and its owner are aliases of one type over what holds
-//! the text.
+//! the text. Authorities and paths have editors besides.
 #![tactic(auto)]
 
+pub mod authority;
+pub mod authority_mut;
+pub mod authority_parts;
 pub mod both;
 mod constants;
+mod from_segments;
 pub mod host;
 mod host_numbers;
 pub mod key;
+pub mod normal;
 pub mod owned;
+pub mod path;
+pub mod path_buf;
+pub mod path_equality;
+pub mod path_mut;
 pub mod pct;
 pub mod port;
 pub mod rule;
 pub mod rules;
 pub mod segment;
+pub mod segments;
 pub mod text;
 pub mod texts;
 pub mod tried;

@@ -66,9 +66,9 @@ impl<R: Rule, C: CharSet> TextBuf<R, C> {
         *self.text.allocator()
     }
 
-    /// Makes the change, where what this leaves is in the rule. All room is taken first: an `Err`
-    /// changes nothing, and what makes the text no longer takes no memory.
-    pub fn replace(&mut self, change: Change<'_>) -> Result<(), Memory>
+    // Makes the change, where what this leaves is in the rule. All room is taken first: an `Err`
+    // changes nothing, and what makes the text no longer takes no memory.
+    pub(crate) fn apply(&mut self, change: Change<'_>) -> Result<(), Memory>
         requires within { IsWithin (text_of self.old) change.within }
         requires in_rule { R.test C.tests (changed (text_of self.old) change) ≡ true }
         ensures ok { OnOk result (text_of self.new

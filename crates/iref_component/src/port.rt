@@ -1,5 +1,6 @@
 //! The numbers of ports (RFC 3986 section 3.2.3).
 ghost use Rattle.std.specs.{Prelude.{◌≡◌, ◌^◌, IfOk}, Result.{result_ok}};
+ghost use Rattle.iref_grammar.specs.{is_empty};
 ghost use Rattle.iref_model.specs.PortNumbers.{port_text};
 ghost use Rattle.iref_component.specs.Components.{text_of};
 ghost use Rattle.iref_component.specs.Ports.{port_number, signed_port_number};
@@ -26,6 +27,13 @@ impl Port<'_> {
 }
 
 impl<S: Storage> RuleText<S, PortRule, UriChars> {
+    /// Whether the text is empty.
+    pub fn is_empty(&self) -> bool
+        ensures { result ≡ is_empty (text_of self.now) }
+    {
+        self.as_view().as_str().is_empty()
+    }
+
     /// The number, if it fits a `u8`.
     pub fn as_u8(&self) -> Option<u8>
         ensures { result ≡ result_ok (port_number (2 ^ 8) (text_of self.now)) }

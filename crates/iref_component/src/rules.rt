@@ -1,9 +1,12 @@
-//! The rules of the texts that have no parts, and what each compares by.
+//! The rules of components, and what each compares by.
 ghost use Rattle.std.specs.{Prelude.{◌≡◌}, Str.{str_to_ascii_lowercase}};
 ghost use Rattle.percent_encoding.specs.Percent.{percent_decode};
 ghost use Rattle.iref_grammar.specs.{IsFragment, IsHost, IsPctStr, IsPort, IsQuery, IsScheme};
 ghost use Rattle.iref_grammar.specs.{IsSegment, IsUserInfo, is_fragment, is_host, is_pct_str};
 ghost use Rattle.iref_grammar.specs.{is_port, is_query, is_scheme, is_segment, is_user_info};
+ghost use Rattle.iref_grammar.specs.{Authority.{is_authority}, IsAuthority, IsPath, is_path};
+ghost use Rattle.iref_grammar.proofs.AuthorityRuleLemmas.{Decides-is_authority};
+ghost use Rattle.iref_grammar.proofs.EmptyLemmas.{is_authority_empty};
 ghost use Rattle.iref_grammar.proofs.EmptyLemmas.{is_fragment_empty, is_host_empty};
 ghost use Rattle.iref_grammar.proofs.EmptyLemmas.{is_pct_str_empty, is_port_empty, is_query_empty};
 ghost use Rattle.iref_grammar.proofs.EmptyLemmas.{is_segment_empty, is_user_info_empty};
@@ -12,18 +15,20 @@ ghost use Rattle.iref_grammar.proofs.LeafLemmas.{Decides-is_fragment, Decides-is
 ghost use Rattle.iref_grammar.proofs.LeafLemmas.{Decides-is_segment, Decides-is_user_info};
 ghost use Rattle.iref_grammar.proofs.PartRuleLemmas.{Decides-is_port_bytes};
 ghost use Rattle.iref_grammar.proofs.PartRuleLemmas.{Decides-is_scheme_bytes};
+ghost use Rattle.iref_grammar.proofs.PathTextLemmas.{Decides-is_path};
+ghost use Rattle.iref_model.proofs.PathGrammarLemmas.{is_path_empty};
 ghost use Rattle.iref_grammar.proofs.PctLemmas.{Decides-is_pct_str, fragment_is_pct_str};
 ghost use Rattle.iref_grammar.proofs.PctLemmas.{host_is_pct_str, query_is_pct_str};
 ghost use Rattle.iref_grammar.proofs.PctLemmas.{segment_is_pct_str, user_info_is_pct_str};
 
-use crate::key::{DecodedBytes, Key, LowerCase, SameText};
+use crate::key::{DecodedBytes, Key, LowerCase, PartsKey, PathKey, SameText};
 use crate::rule::{AllowsEmpty, Escaped, Refuses, Rule};
 use iref_error::{
-    InvalidFragment, InvalidHost, InvalidPctStr, InvalidPort, InvalidQuery, InvalidScheme,
-    InvalidSegment, InvalidUserInfo,
+    InvalidAuthority, InvalidFragment, InvalidHost, InvalidPath, InvalidPctStr, InvalidPort,
+    InvalidQuery, InvalidScheme, InvalidSegment, InvalidUserInfo,
 };
 use iref_grammar::chars::CharSet;
-use iref_parse::{host, scan};
+use iref_parse::{authority, host, scan};
 
 /// The rule of schemes (RFC 3986 section 3.1).
 pub struct SchemeRule;
@@ -52,6 +57,39 @@ impl<T> Refuses<T> for SchemeRule {
     fn refuse(input: T) -> InvalidScheme<T> {
         InvalidScheme(input)
     }
+}
+
+/// The rule of authorities (RFC 3986 section 3.2).
+pub struct AuthorityRule;
+
+impl Rule for AuthorityRule {
+    type Key = PartsKey;
+
+    ghost rule = { IsAuthority };
+
+    ghost decided = { Decides-is_authority };
+
+    ghost test = { is_authority };
+
+    fn accepts<C: CharSet>(text: &str) -> bool {
+        authority::is_authority::<C>(text)
+    }
+
+    ghost keyed = { λ _ _ in_rule. in_rule };
+}
+
+impl<T> Refuses<T> for AuthorityRule {
+    type Error = InvalidAuthority<T>;
+
+    ghost refused = { λ error. error.0 };
+
+    fn refuse(input: T) -> InvalidAuthority<T> {
+        InvalidAuthority(input)
+    }
+}
+
+impl AllowsEmpty for AuthorityRule {
+    ghost allows_empty = { is_authority_empty };
 }
 
 /// The rule of user infos (RFC 3986 section 3.2.1).
@@ -159,6 +197,39 @@ impl<T> Refuses<T> for PortRule {
 
 impl AllowsEmpty for PortRule {
     ghost allows_empty = { λ _. is_port_empty };
+}
+
+/// The rule of paths: any text of the characters of segments and `/`.
+pub struct PathRule;
+
+impl Rule for PathRule {
+    type Key = PathKey;
+
+    ghost rule = { IsPath };
+
+    ghost decided = { Decides-is_path };
+
+    ghost test = { is_path };
+
+    fn accepts<C: CharSet>(text: &str) -> bool {
+        scan::is_path::<C>(text)
+    }
+
+    ghost keyed = { λ _ _ _. record {} };
+}
+
+impl<T> Refuses<T> for PathRule {
+    type Error = InvalidPath<T>;
+
+    ghost refused = { λ error. error.0 };
+
+    fn refuse(input: T) -> InvalidPath<T> {
+        InvalidPath(input)
+    }
+}
+
+impl AllowsEmpty for PathRule {
+    ghost allows_empty = { is_path_empty };
 }
 
 /// The rule of segments (RFC 3986 section 3.3).

@@ -9,8 +9,8 @@ use Rattle.iref_grammar.specs.ComponentOffsets.{offsets_of}
 use Rattle.iref_grammar.specs.Reference.{is_readable, is_reference, read_reference, spell}
 use Rattle.iref_grammar.proofs.ReadableLemmas.{readable_read}
 use Rattle.iref_model.specs.ComponentSteps.{with_authority_step}
-use Rattle.iref_authority.specs.declared.authority_mut.AuthorityMut.{AuthorityMut}
-use Rattle.iref_authority.specs.AuthorityEdits.{edited_bytes, authority_mut_value, IsEditorAt, BecomesAuthority}
+use Rattle.iref_component.specs.declared.authority_mut.AuthorityMut.{AuthorityMut}
+use Rattle.iref_component.specs.AuthorityEdits.{edited_bytes, authority_mut_value, IsEditorAt, BecomesAuthority}
 use Rattle.iref_buffer.specs.AuthorityPlaces.{authority_part}
 use Rattle.iref_buffer.proofs.AuthorityPlaceLemmas.{authority_read_there, place_is, some_if_placed}
 use Rattle.iref_buffer.proofs.EditLemmas.{authority_part_replaced}

@@ -10,8 +10,8 @@ use Rattle.iref_grammar.specs.Reference.{context_of, is_readable, is_reference, 
 use Rattle.iref_grammar.proofs.PlaceLemmas.{path_place}
 use Rattle.iref_grammar.proofs.ReadableLemmas.{readable_read}
 use Rattle.iref_model.specs.ComponentSteps.{with_path_step}
-use Rattle.iref_path.specs.declared.path_mut.PathMut.{PathMut}
-use Rattle.iref_path.specs.PathEdits.{edited_bytes, path_mut_context, path_mut_value, IsEditorOf, BecomesPath}
+use Rattle.iref_component.specs.declared.path_mut.PathMut.{PathMut}
+use Rattle.iref_component.specs.PathEdits.{edited_bytes, path_mut_context, path_mut_value, IsEditorOf, BecomesPath}
 use Rattle.iref_buffer.proofs.EditLemmas.{path_replaced}
 use Rattle.iref_buffer.proofs.PathPlaceLemmas.{path_stands}
 use Rattle.iref_buffer.specs.Steps.{IsStep}

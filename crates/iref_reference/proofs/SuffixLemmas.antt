@@ -9,9 +9,8 @@ use Rattle.iref_component.specs.declared.text.RuleText.{RuleText}
 use Rattle.iref_model.specs.PathSuffix.{path_suffix}
 use Rattle.iref_model.specs.ReferenceSuffix.{reference_suffix}
 use Rattle.iref_model.specs.Relative.{have_same_authority, have_same_scheme}
-use Rattle.iref_path.specs.Paths.{path_buf_text, path_buf_value}
-use Rattle.iref_path.specs.Suffixes.{SpellsSuffix}
-use Rattle.iref_path.specs.declared.path_buf.PathBuf.{PathBuf}
+use Rattle.iref_component.specs.Paths.{path_value}
+use Rattle.iref_component.specs.Suffixes.{SpellsSuffix}
 use Rattle.iref_reference.specs.ReferenceSuffixes.{SpellsReferenceSuffix, left_value}
 
 -- what is left of the path, with the query and fragment of the whole
@@ -48,13 +47,13 @@ module _ (prefix r p q : ReferenceValue) (p_is : p ≡ prefix) (q_is : q ≡ r) 
         by (Some x) h = h
 
     -- what is left of the path, with the query and the fragment
-    pub left-of_path : {C c T Q U J t a j u S F V K s b k v : _} (found : Option (PathBuf C c)) (query : Option (RuleText T Q U J t a j u)) (fragment : Option (RuleText S F V K s b k v)) → SpellsSuffix p.path q.path found
+    pub left-of_path : {A P B I a0 p0 i0 b0 T Q U J t a j u S F V K s b k v : _} (found : Option (RuleText A P B I a0 p0 i0 b0)) (query : Option (RuleText T Q U J t a j u)) (fragment : Option (RuleText S F V K s b k v)) → SpellsSuffix p.path q.path found
         → option_map text_of query ≡ q.query → option_map text_of fragment ≡ q.fragment → SpellsReferenceSuffix prefix r (option_map (λ path. (path, query, fragment)) found)
     left-of_path found query fragment spells query_is fragment_is = record {
-      text = first_mapped path_buf_text (λ path. (path, query, fragment)) (λ left. path_buf_text left.0) (λ path. refl) found ∙ spells.text
+      text = first_mapped text_of (λ path. (path, query, fragment)) (λ left. text_of left.0) (λ path. refl) found ∙ spells.text
           ∙ sym (first_mapped spell_path (with_rest q) (λ left. spell_path left.0) (λ path. refl) (path_suffix p.path q.path))
           ∙ sym (ap (option_map (λ left. spell_path left.0)) rest);
-      read = first_mapped (λ path. with_rest q (path_buf_value path)) (λ path. (path, query, fragment)) left_value (λ path. λ i. (path_buf_value path, query_is i, fragment_is i)) found
-          ∙ sym (first_mapped (λ path. with_rest q (path_buf_value path)) path_buf_value (with_rest q) (λ path. refl) found)
+      read = first_mapped (λ path. with_rest q (path_value path)) (λ path. (path, query, fragment)) left_value (λ path. λ i. (path_value path, query_is i, fragment_is i)) found
+          ∙ sym (first_mapped (λ path. with_rest q (path_value path)) path_value (with_rest q) (λ path. refl) found)
           ∙ ap (option_map (with_rest q)) spells.read ∙ sym rest;
     }

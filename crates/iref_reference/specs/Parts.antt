@@ -6,8 +6,6 @@ use Rattle.iref_grammar.specs.ComponentTexts.{ComponentTexts, read_components}
 use Rattle.iref_grammar.specs.Reference.{ReferenceValue}
 use Rattle.iref_component.specs.Components.{text_of}
 use Rattle.iref_component.specs.declared.text.RuleText.{RuleText}
-use Rattle.iref_authority.specs.Authorities.{authority_text}
-use Rattle.iref_path.specs.Paths.{path_text}
 use Rattle.iref_model.specs.Key.{key}
 use Rattle.iref_reference.specs.declared.parts.Parts.{Parts}
 
@@ -15,8 +13,8 @@ use Rattle.iref_reference.specs.declared.parts.Parts.{Parts}
 abbrev pub part_texts : {S : Type 0} {C : _} {c : _} → (S → Option Text) → Parts S C c → ComponentTexts
 part_texts scheme p = record {
   scheme = scheme p.scheme;
-  authority = option_map authority_text p.authority;
-  path = path_text p.path;
+  authority = option_map text_of p.authority;
+  path = text_of p.path;
   query = option_map text_of p.query;
   fragment = option_map text_of p.fragment;
 }

@@ -1,7 +1,7 @@
 //! Editors of the parts of owners, in place (RFC 3986 section 3).
 ghost use Rattle.std.specs.{Prelude.{◌≡◌, true, is_some, IfSome}, Borrow.{sem, RestsIfNone}};
-ghost use Rattle.iref_grammar.specs.{ComponentOffsets.{offsets_of}, Reference.{context_of, is_reference}};
-ghost use Rattle.iref_path.specs.PathEdits.{Borrows, IsEditorOf};
+ghost use Rattle.iref_grammar.specs.{context_of, is_reference, offsets_of};
+ghost use Rattle.iref_component.specs.PathEdits.{Borrows, IsEditorOf};
 ghost use Rattle.iref_buffer.specs.PathPlaces.{IsPathOf, one_path, path_is_within};
 ghost use Rattle.iref_buffer.specs.AuthorityPlaces.{IsAuthorityOf, one_authority};
 ghost use Rattle.iref_buffer.specs.AuthorityPlaces.{authority_is_within};
@@ -9,15 +9,14 @@ ghost use Rattle.iref_reference.specs.contracts.owner.ReferenceBuf.{the_row};
 ghost use Rattle.iref_reference.specs.References.{reference_buf_text, reference_buf_value};
 
 use crate::owner::ReferenceBuf;
-use iref_authority::authority_mut::AuthorityMut;
-use iref_authority::part::AuthorityPart;
 use iref_buffer::held::HeldRule;
+use iref_component::authority_mut::{AuthorityMut, AuthorityPart};
+use iref_component::path_mut::PathMut;
 use iref_edit::change::{Change, Place};
 use iref_edit::target::Target;
 use iref_error::Memory;
 use iref_grammar::chars::CharSet;
 use iref_grammar::context::PathContext;
-use iref_path::path_mut::PathMut;
 use iref_path_text::part::PathPart;
 use iref_path_text::target::PathTarget;
 use std::alloc::Global;
@@ -77,7 +76,7 @@ impl<R: HeldRule, C: CharSet> Target<AuthorityPart, C> for ReferenceBuf<R, C> {
 }
 
 impl<R: HeldRule, C: CharSet> ReferenceBuf<R, C> {
-    ghost use Rattle.iref_authority.specs.AuthorityEdits as authority;
+    ghost use Rattle.iref_component.specs.AuthorityEdits as authority;
 
     /// The editor of the authority, if there is one: each of its edits is one of the reference, and
     /// keeps the other components as they are.

@@ -4,8 +4,7 @@ ghost use Rattle.std.specs.String.{string_bytes};
 ghost use Rattle.iref_component.specs.{colon, hash_sign, spell_authority, before, spell_path};
 ghost use Rattle.iref_component.specs.{spell_components, hierarchy, spell, with_query, offsets_of};
 ghost use Rattle.iref_component.specs.{with_fragment, user_info_of, host_of, port_of, base_of};
-ghost use Rattle.iref_authority.specs.{text_of, authority_text};
-ghost use Rattle.iref_path.specs.{path_text};
+ghost use Rattle.iref_component.specs.{text_of};
 ghost use Rattle.iref_reference.specs.References.{reference_text, reference_value};
 ghost use Rattle.iref_reference.specs.References.{reference_buf_text, reference_buf_value};
 ghost use Rattle.iref_reference.specs.References.{OwnerBecomesFull, ParsesReferenceBuf};
@@ -15,14 +14,14 @@ ghost use Rattle.iref_reference.specs.Parts.{parts_value};
 use crate::parts::{Parts, UriRefParts};
 use crate::rule::{FullReferenceRule, HasScheme, ReferenceRule};
 use crate::view::{Reference, UriRef};
-use iref_authority::authority::Authority;
 use iref_buffer::held::{Held, HeldRule};
+use iref_component::authority::Authority;
+use iref_component::path::Path;
 use iref_component::rule::Refuses;
 use iref_component::texts::{Fragment, Host, Port, Query, SchemeBuf, UserInfo};
 use iref_error::{InvalidUri, Memory};
 use iref_grammar::chars::CharSet;
 use iref_grammar::offsets::Offsets;
-use iref_path::path::Path;
 use std::alloc::Global;
 use std::convert::TryFrom;
 use std::fmt;
@@ -113,7 +112,7 @@ impl<R: HeldRule, C: CharSet> ReferenceBuf<R, C> {
 
     /// The authority, if the reference has one.
     pub fn authority(&self) -> Option<Authority<'_, C>>
-        ensures { option_map authority_text result
+        ensures { option_map text_of result
             ≡ option_map spell_authority (reference_buf_value self.now).authority }
     {
         self.reference_parts().authority
@@ -142,7 +141,7 @@ impl<R: HeldRule, C: CharSet> ReferenceBuf<R, C> {
 
     /// The path, which may be empty.
     pub fn path(&self) -> Path<'_, C>
-        ensures { path_text result ≡ spell_path (reference_buf_value self.now).path }
+        ensures { text_of result ≡ spell_path (reference_buf_value self.now).path }
     {
         self.reference_parts().path
     }

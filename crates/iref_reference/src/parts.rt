@@ -4,10 +4,9 @@ ghost use Rattle.std.specs.{Str.{str_to_ascii_lowercase}, Ordering.{eq_by_cmp}};
 ghost use Rattle.std.specs.Option.{option_copied};
 ghost use Rattle.std.proofs.{Common.{ap}, lemmas.Option.{same_Some}};
 ghost use Rattle.iref_buffer.specs.{texts_of, AreComponents, spell_components, is_scheme, none_or};
-ghost use Rattle.iref_buffer.specs.{is_reference, read_reference, is_authority, Text, InUtf8};
+ghost use Rattle.iref_buffer.specs.{is_reference, read_reference, Text, InUtf8};
 ghost use Rattle.iref_component.specs.{IsUriReference, key_cmp, fed_reference, text_of};
-ghost use Rattle.iref_authority.specs.{parts_value as authority_parts_value, authority_text};
-ghost use Rattle.iref_path.specs.{path_text};
+ghost use Rattle.iref_component.specs.{parts_value as authority_parts_value};
 ghost use Rattle.iref_reference.specs.Parts.{part_texts, parts_value, uri_ref_part_texts};
 ghost use Rattle.iref_reference.specs.Parts.{key_of_parts, uri_ref_parts_key, scheme_key};
 ghost use Rattle.iref_reference.specs.Parts.{uri_ref_parts_value};
@@ -15,14 +14,14 @@ ghost use Rattle.iref_model.specs.Relative.{have_same_authority, have_same_schem
 ghost use Rattle.iref_model.proofs.PartTieLemmas.{lower_case_tie, parts_tie};
 ghost use Rattle.iref_model.proofs.TieLemmas.{texts_tie};
 
-use iref_authority::authority::Authority;
-use iref_authority::parts::AuthorityParts;
+use iref_component::authority::Authority;
+use iref_component::authority_parts::AuthorityParts;
+use iref_component::path::Path;
 use iref_component::texts::{Fragment, Query, Scheme};
 use iref_component::view::view_of;
 use iref_error::InvalidUriRef;
 use iref_grammar::chars::CharSet;
 use iref_parse::split::{ReferenceSlices, parse_reference, split_reference};
-use iref_path::path::Path;
 use std::cmp::Ordering;
 use std::hash::{Hash, Hasher};
 use std::str;
@@ -139,7 +138,7 @@ impl<'a, S: SchemePart<'a>, C: CharSet> Parts<'a, S, C> {
     {
         Parts {
             scheme: S::new(slices.scheme),
-            authority: authority_of(slices.authority),
+            authority: view_of(slices.authority),
             path: Path::new_unchecked(slices.path),
             query: view_of(slices.query),
             fragment: view_of(slices.fragment),
@@ -200,21 +199,13 @@ impl<'a, C: CharSet> UriRefParts<'a, C> {
     }
 }
 
-// The authority of a slice, if it is there.
-fn authority_of<C: CharSet>(text: Option<&str>) -> Option<Authority<'_, C>>
-    requires { none_or (is_authority C.tests) (option_copied text) ≡ true }
-    ensures { option_map authority_text result ≡ option_copied text.entry }
-{
-    Some(Authority::new_unchecked(text?))
-}
-
 #[tactic(auto, unfolding(iref_model::specs::Key::key, iref_model::specs::Key::fed_reference))]
 impl<'a, S: SchemePart<'a>, C: CharSet> Hash for Parts<'a, S, C> {
     ghost hash_input = { λ parts. fed_reference (key_of_parts S.text parts) };
 
     ghost respects_eq = { λ a b same. ap fed_reference
-        ((parts_tie authority_text text_of text_of _ (S.text a.scheme) (S.text b.scheme)
-        (S.tie a.scheme b.scheme) a.authority b.authority (path_text a.path) (path_text b.path)
+        ((parts_tie text_of text_of text_of _ (S.text a.scheme) (S.text b.scheme)
+        (S.tie a.scheme b.scheme) a.authority b.authority (text_of a.path) (text_of b.path)
         a.query b.query a.fragment b.fragment).0 same) };
 
     fn hash<H: Hasher>(&self, state: &mut H) {

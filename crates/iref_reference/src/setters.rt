@@ -1,9 +1,8 @@
 //! Owners edited in place, a component at a time (RFC 3986 sections 3 and 4.2).
 ghost use Rattle.std.specs.Prelude.{Some, OnOk, IsNone, IsOk, option_map};
-ghost use Rattle.iref_authority.specs.{read_authority, text_of, authority_text};
+ghost use Rattle.iref_component.specs.{path_value, read_authority, text_of};
 ghost use Rattle.iref_buffer.specs.{with_authority, with_fragment, with_path, with_query};
 ghost use Rattle.iref_buffer.specs.{with_scheme, PathPlaces.{RemovesDots}};
-ghost use Rattle.iref_path.specs.{path_value};
 ghost use Rattle.iref_model.specs.ComponentSteps.{with_new_normal_path};
 ghost use Rattle.iref_reference.specs.References.{Edits, reference_buf_value};
 
@@ -11,23 +10,23 @@ pub mod copies;
 mod tried;
 
 use crate::owner::{ReferenceBuf, UriBuf, UriRefBuf};
-use iref_authority::authority::{Authority, text_of_authority};
 use iref_buffer::held::HeldRule;
+use iref_component::authority::Authority;
+use iref_component::path::Path;
 use iref_component::texts::{Fragment, Query, Scheme};
 use iref_component::view::text_of;
 use iref_error::Memory;
 use iref_grammar::chars::CharSet;
-use iref_path::path::Path;
 
 impl<R: HeldRule, C: CharSet> ReferenceBuf<R, C> {
     /// Replaces the authority, or takes it away, which takes no memory. Where one comes in, the
     /// path becomes absolute; where it goes, a path that begins with `//` is guarded.
     pub fn set_authority(&mut self, authority: Option<Authority<'_, C>>) -> Result<(), Memory>
         ensures set { Edits (with_authority (option_map read_authority
-            (option_map authority_text authority.entry))) self.old self.new result }
+            (option_map text_of authority.entry))) self.old self.new result }
         ensures none { IsNone authority.entry → IsOk result }
     {
-        self.held.set_authority(text_of_authority(authority))
+        self.held.set_authority(text_of(authority))
     }
 
     /// Replaces the path, with a guard where it would be read as something else.

@@ -8,10 +8,10 @@ ghost use Rattle.std.specs.Prelude.{◌≡◌, ◌&&◌, IfOk, IsNone, IsOk};
 use crate::parts::UriRefParts;
 use crate::view::{Reference, UriRef};
 use iref_buffer::held::HeldRule;
+use iref_component::path_buf::PathBuf;
 use iref_component::texts::{Fragment, Query};
 use iref_error::Memory;
 use iref_grammar::chars::CharSet;
-use iref_path::path_buf::PathBuf;
 use std::alloc::Global;
 
 /// What is left of a reference after a prefix, of its path, and its query and fragment: of `/a/b?q`

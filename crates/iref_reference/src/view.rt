@@ -4,8 +4,6 @@ ghost use Rattle.std.specs.Prelude.{option_map};
 ghost use Rattle.iref_component.specs.{text_of, spell_components, hierarchy, spell, hash_sign};
 ghost use Rattle.iref_component.specs.{spell_authority, with_query, with_fragment};
 ghost use Rattle.iref_component.specs.{user_info_of, host_of, port_of, base_of, spell_path, before};
-ghost use Rattle.iref_authority.specs.{authority_text};
-ghost use Rattle.iref_path.specs.{path_text};
 ghost use Rattle.iref_reference.specs.Parts.{part_texts, parts_value, uri_ref_part_texts};
 ghost use Rattle.iref_reference.specs.Parts.{uri_ref_parts_value};
 ghost use Rattle.iref_reference.specs.References.{reference_text, reference_value};
@@ -14,16 +12,16 @@ ghost use Rattle.iref_reference.specs.References.{reference_buf_text, BecomesFul
 use crate::owner::ReferenceBuf;
 use crate::parts::{Parts, UriRefParts};
 use crate::rule::{FullReferenceRule, HasScheme, ReferenceRule};
-use iref_authority::authority::Authority;
 use iref_buffer::base::base_text;
 use iref_buffer::held::HeldRule;
+use iref_component::authority::Authority;
+use iref_component::path::Path;
 use iref_component::rule::{AllowsEmpty, Refuses};
 use iref_component::texts::{Fragment, Host, Port, Query, UserInfo};
 use iref_component::view::View;
 use iref_error::{InvalidUri, Memory};
 use iref_grammar::chars::CharSet;
 use iref_parse::cut::cut;
-use iref_path::path::Path;
 use std::alloc::Global;
 use std::convert::TryFrom;
 use std::fmt;
@@ -101,7 +99,7 @@ impl<'a, R: HeldRule, C: CharSet> Reference<'a, R, C> {
 
     /// The authority, if the reference has one.
     pub fn authority(&self) -> Option<Authority<'a, C>>
-        ensures { option_map authority_text result
+        ensures { option_map text_of result
             ≡ option_map spell_authority (reference_value self.now).authority }
     {
         self.reference_parts().authority
@@ -130,7 +128,7 @@ impl<'a, R: HeldRule, C: CharSet> Reference<'a, R, C> {
 
     /// The path, which may be empty.
     pub fn path(&self) -> Path<'a, C>
-        ensures { path_text result ≡ spell_path (reference_value self.now).path }
+        ensures { text_of result ≡ spell_path (reference_value self.now).path }
     {
         self.reference_parts().path
     }

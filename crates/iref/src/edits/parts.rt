@@ -1,19 +1,18 @@
 //! Edits of the path and of the parts of the authority, by the editors of these.
 ghost use Rattle.std.specs.Prelude.{◌≡◌, true, is_some};
 ghost use Rattle.iref_buffer.specs.{offsets_of, context_of, is_reference, read_reference};
-ghost use Rattle.iref_path.specs.PathEdits.{Borrows, IsEditorOf};
+ghost use Rattle.iref_component.specs.PathEdits.{Borrows, IsEditorOf};
 ghost use Rattle.iref.specs.EditAnswers.{DoesEdit, is_authority_edit, is_path_edit};
 ghost use Rattle.iref.specs.EditSteps.{edit_step};
-ghost use Rattle.iref_authority.specs.AuthorityEdits as authority;
+ghost use Rattle.iref_component.specs.AuthorityEdits as authority;
 
 use crate::edits::Edit;
-use iref_authority::authority_mut::AuthorityMut;
-use iref_authority::part::AuthorityPart;
 use iref_buffer::held::HeldRule;
+use iref_component::authority_mut::{AuthorityMut, AuthorityPart};
+use iref_component::path_mut::PathMut;
 use iref_edit::target::Target;
 use iref_error::Memory;
 use iref_grammar::chars::CharSet;
-use iref_path::path_mut::PathMut;
 use iref_path_text::target::PathTarget;
 use iref_reference::owner::ReferenceBuf;
 

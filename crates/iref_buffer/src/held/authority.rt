@@ -8,7 +8,7 @@ ghost use Rattle.iref_buffer.specs.AuthorityPlaces.{authority_is_within, place_o
 
 use super::{Held, HeldRule, slice_at};
 use crate::lengths::Lengths;
-use iref_authority::part::AuthorityPart;
+use iref_component::authority_mut::AuthorityPart;
 use iref_edit::change::{Change, Place};
 use iref_edit::target::Target;
 use iref_error::Memory;

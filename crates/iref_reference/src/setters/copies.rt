@@ -1,23 +1,22 @@
 //! Copies of references, each with one component set (RFC 3986 sections 3 and 4.2).
 ghost use Rattle.std.specs.Prelude.{◌≡◌, Some, IfErr, IfOk, option_map};
-ghost use Rattle.iref_component.specs.{IsScheme, InUtf8, read_authority, with_authority};
-ghost use Rattle.iref_component.specs.{with_fragment, with_path, with_query, with_scheme, text_of};
-ghost use Rattle.iref_authority.specs.{authority_text};
-ghost use Rattle.iref_path.specs.{path_value};
+ghost use Rattle.iref_component.specs.{InUtf8, IsScheme, path_value, read_authority, text_of};
+ghost use Rattle.iref_component.specs.{with_authority, with_fragment, with_path, with_query};
+ghost use Rattle.iref_component.specs.{with_scheme};
 ghost use Rattle.iref_reference.specs.HandedBack.{TellsInvalidBeside};
 ghost use Rattle.iref_reference.specs.References.{reference_buf_text, reference_text, StepsFrom};
 ghost use Rattle.iref_buffer.specs.Steps.{IsStep};
 
 use crate::owner::{ReferenceBuf, UriBuf, UriRefBuf};
 use crate::view::{Reference, UriRef};
-use iref_authority::authority::{Authority, text_of_authority};
 use iref_buffer::held::{Held, HeldRule};
+use iref_component::authority::Authority;
+use iref_component::path::Path;
 use iref_component::texts::{Fragment, Query, Scheme};
 use iref_component::tried::read;
 use iref_component::view::text_of;
 use iref_error::{InvalidScheme, Memory, TryError};
 use iref_grammar::chars::CharSet;
-use iref_path::path::Path;
 use std::alloc::Global;
 
 /// A copy of a reference, as of `a?q` with the query `x`, `a?x`, or want of memory (RFC 3986
@@ -45,9 +44,9 @@ impl<R: HeldRule, C: CharSet> Reference<'_, R, C> {
     /// one, `/a`.
     pub fn with_authority(&self, alloc: Global, authority: Option<Authority<'_, C>>) -> Copied<R, C>
         ensures { StepsFrom (with_authority (option_map read_authority (option_map
-            authority_text authority.entry))) self.now result }
+            text_of authority.entry))) self.now result }
     {
-        let mut copy = self.copy_for(alloc, text_of_authority(authority))?;
+        let mut copy = self.copy_for(alloc, text_of(authority))?;
         copy.set_authority(authority)?;
         Ok(copy)
     }

@@ -6,15 +6,13 @@ ghost use Rattle.iref_component.specs.{with_path, with_query, with_scheme, Tests
 ghost use Rattle.iref_reference.specs.References.{Edits};
 
 use crate::owner::{ReferenceBuf, UriRefBuf};
-use iref_authority::rule::AuthorityRule;
 use iref_buffer::held::HeldRule;
-use iref_component::rules::{FragmentRule, QueryRule, SchemeRule};
+use iref_component::rules::{AuthorityRule, FragmentRule, PathRule, QueryRule, SchemeRule};
 use iref_component::tried::{Tried, test};
 use iref_error::{
     InvalidAuthority, InvalidFragment, InvalidPath, InvalidQuery, InvalidScheme, TryError,
 };
 use iref_grammar::chars::CharSet;
-use iref_path::rule::PathRule;
 
 impl<R: HeldRule, C: CharSet> ReferenceBuf<R, C> {
     /// As `set_authority`, by a text: `Invalid` hands one back that is not an authority.

@@ -3,8 +3,6 @@ use Rattle.std.proofs.lemmas.Bool.Decides.{same_from_decides}
 use Rattle.iref_model.proofs.TieLemmas.{references_tie}
 use Rattle.iref_model.proofs.PartTieLemmas.{lower_case_tie, parts_tie}
 use Rattle.iref_component.specs.Components.{text_of}
-use Rattle.iref_path.specs.Paths.{path_text}
-use Rattle.iref_authority.specs.Authorities.{authority_text}
 use Rattle.iref_reference.specs.Parts.{uri_ref_part_texts}
 use Rattle.iref_batch.proofs.AnswerLemmas.{no_left_answer, no_right_answer, same_answer, equal_answer}
 use Rattle.iref_batch.proofs.answers.put_answer_to_equal.Goals as goal
@@ -30,7 +28,7 @@ returns c =
     let right = c.args.right.now in
     let a = c.in-Ok.left_parts in
     let b = c.in-Ok-from_bytes.right_parts in
-    let keys = parts_tie authority_text text_of text_of _ _ _ (lower_case_tie text_of a.scheme b.scheme) a.authority b.authority (path_text a.path) (path_text b.path) a.query b.query a.fragment b.fragment in
+    let keys = parts_tie text_of text_of text_of _ _ _ (lower_case_tie text_of a.scheme b.scheme) a.authority b.authority (text_of a.path) (text_of b.path) a.query b.query a.fragment b.fragment in
     let alike = c.eq-2.ensures ∙ same_from_decides _ _ keys (references_tie _ _) in
     rw (
       equal_answer left right (uri_ref_part_texts a) (uri_ref_part_texts b) c.eq-2.result

@@ -1,5 +1,5 @@
 use Rattle.iref_batch.proofs.AnswerLemmas.{normal_answer, no_normal_answer}
-use Rattle.iref_path.specs.Paths.{path_text}
+use Rattle.iref_component.specs.Components.{text_of}
 use Rattle.iref_batch.proofs.answers.put_answer_to_normal.Goals as goal
 
 pub returns-in_default : goal.returns-in_default
@@ -11,7 +11,7 @@ pub returns : goal.returns
 returns c =
     let text = c.args.text.now in
     rw (
-      normal_answer text (path_text c.in-Ok.path) _ c.in-Ok.ensures.0
+      normal_answer text (text_of c.in-Ok.path) _ c.in-Ok.ensures.0
           c.in-Ok.ensures.1 c.in_ok-normal.ensures.text,
       ← c.as_bytes.ensures,
     ) c.put_answered.ensures

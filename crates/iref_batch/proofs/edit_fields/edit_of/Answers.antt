@@ -6,8 +6,6 @@ use Rattle.iref_grammar.specs.Authority.{is_authority}
 use Rattle.iref_model.specs.Edits.{EditStep, SetScheme, SetAuthority, ReplaceAuthority, SetUserInfo, SetHost, SetPort, SetPath, SetAndNormalizePath, SetQuery, SetFragment}
 use Rattle.iref_lines.specs.Lines.{edit_names, is_valid_edit}
 use Rattle.iref_component.specs.Components.{text_of}
-use Rattle.iref_authority.specs.Authorities.{authority_text}
-use Rattle.iref_path.specs.Paths.{path_text}
 use Rattle.iref.specs.declared.edits.Edit.TheVariants as edit
 use Rattle.iref_batch.specs.EditFields.{IsRead}
 use Rattle.iref.specs.EditSteps.{edit_step}
@@ -26,14 +24,14 @@ returns-then-is_name-2 c =
     let m : MatchResult c.optional-then-is_name-2.result (λ v. IsOkAnd c.map-then-is_name-2.result (λ w. w ≡ edit.SetAuthority v)) (λ e. c.map-then-is_name-2.result ≡ Err e) = search rules in
     subst (λ (o : Option EditStep). IsRead edit_step (is_valid_edit iri_chars) o c.map-then-is_name-2.result)
     (named edit_names (codes "authority") c.args.name.now (option_copied c.args.value) (λ v. Some (SetAuthority v)) c.if-is_name-2.ensures refl)
-    (made (λ v. edit.SetAuthority v) (option_map authority_text) (none_or (is_authority iri_chars)) edit_step (is_valid_edit iri_chars) SetAuthority (Some (option_copied c.args.value)) c.optional-then-is_name-2.result c.map-then-is_name-2.result (λ v. refl) (λ a. refl) m c.optional-then-is_name-2.ensures)
+    (made (λ v. edit.SetAuthority v) (option_map text_of) (none_or (is_authority iri_chars)) edit_step (is_valid_edit iri_chars) SetAuthority (Some (option_copied c.args.value)) c.optional-then-is_name-2.result c.map-then-is_name-2.result (λ v. refl) (λ a. refl) m c.optional-then-is_name-2.ensures)
 
 pub returns-then-is_name-3 : goal.returns-then-is_name-3
 returns-then-is_name-3 c =
     let m : MatchResult c.needed.result (λ v. IsOkAnd c.map-then-is_name-3.result (λ w. w ≡ edit.ReplaceAuthority v)) (λ e. c.map-then-is_name-3.result ≡ Err e) = search rules in
     subst (λ (o : Option EditStep). IsRead edit_step (is_valid_edit iri_chars) o c.map-then-is_name-3.result)
     (named edit_names (codes "replace-authority") c.args.name.now (option_copied c.args.value) (option_map ReplaceAuthority) c.if-is_name-3.ensures refl)
-    (made (λ v. edit.ReplaceAuthority v) authority_text (is_authority iri_chars) edit_step (is_valid_edit iri_chars) ReplaceAuthority (option_copied c.args.value) c.needed.result c.map-then-is_name-3.result (λ v. refl) (λ a. refl) m c.needed.ensures)
+    (made (λ v. edit.ReplaceAuthority v) text_of (is_authority iri_chars) edit_step (is_valid_edit iri_chars) ReplaceAuthority (option_copied c.args.value) c.needed.result c.map-then-is_name-3.result (λ v. refl) (λ a. refl) m c.needed.ensures)
 
 pub returns-then-is_name-4 : goal.returns-then-is_name-4
 returns-then-is_name-4 c =
@@ -61,14 +59,14 @@ returns-then-is_name-7 c =
     let m : MatchResult c.needed-then-is_name-7.result (λ v. IsOkAnd c.map-then-is_name-7.result (λ w. w ≡ edit.SetPath v)) (λ e. c.map-then-is_name-7.result ≡ Err e) = search rules in
     subst (λ (o : Option EditStep). IsRead edit_step (is_valid_edit iri_chars) o c.map-then-is_name-7.result)
     (named edit_names (codes "path") c.args.name.now (option_copied c.args.value) (option_map SetPath) c.if-is_name-7.ensures refl)
-    (made (λ v. edit.SetPath v) path_text (is_path iri_chars) edit_step (is_valid_edit iri_chars) SetPath (option_copied c.args.value) c.needed-then-is_name-7.result c.map-then-is_name-7.result (λ v. refl) (λ a. refl) m c.needed-then-is_name-7.ensures)
+    (made (λ v. edit.SetPath v) text_of (is_path iri_chars) edit_step (is_valid_edit iri_chars) SetPath (option_copied c.args.value) c.needed-then-is_name-7.result c.map-then-is_name-7.result (λ v. refl) (λ a. refl) m c.needed-then-is_name-7.ensures)
 
 pub returns-then-is_name-8 : goal.returns-then-is_name-8
 returns-then-is_name-8 c =
     let m : MatchResult c.needed-then-is_name-8.result (λ v. IsOkAnd c.map-then-is_name-8.result (λ w. w ≡ edit.SetAndNormalizePath v)) (λ e. c.map-then-is_name-8.result ≡ Err e) = search rules in
     subst (λ (o : Option EditStep). IsRead edit_step (is_valid_edit iri_chars) o c.map-then-is_name-8.result)
     (named edit_names (codes "normal-path") c.args.name.now (option_copied c.args.value) (option_map SetAndNormalizePath) c.if-is_name-8.ensures refl)
-    (made (λ v. edit.SetAndNormalizePath v) path_text (is_path iri_chars) edit_step (is_valid_edit iri_chars) SetAndNormalizePath (option_copied c.args.value) c.needed-then-is_name-8.result c.map-then-is_name-8.result (λ v. refl) (λ a. refl) m c.needed-then-is_name-8.ensures)
+    (made (λ v. edit.SetAndNormalizePath v) text_of (is_path iri_chars) edit_step (is_valid_edit iri_chars) SetAndNormalizePath (option_copied c.args.value) c.needed-then-is_name-8.result c.map-then-is_name-8.result (λ v. refl) (λ a. refl) m c.needed-then-is_name-8.ensures)
 
 pub returns-then-is_name-9 : goal.returns-then-is_name-9
 returns-then-is_name-9 c =

@@ -5,7 +5,6 @@ use Rattle.iref_grammar.specs.Tests.{is_path, is_segment}
 use Rattle.iref_model.specs.Edits.{EditStep, LazyPush, Push, JoinPath}
 use Rattle.iref_lines.specs.Lines.{is_valid_edit}
 use Rattle.iref_component.specs.Components.{text_of}
-use Rattle.iref_path.specs.Paths.{path_text}
 use Rattle.iref.specs.declared.edits.Edit.TheVariants as edit
 use Rattle.iref_batch.specs.EditFields.{IsRead, path_edit_names}
 use Rattle.iref.specs.EditSteps.{edit_step}
@@ -31,4 +30,4 @@ returns-then-is_name-3 c =
     let m : MatchResult c.needed-then-is_name-3.result (λ v. IsOkAnd c.map-then-is_name-3.result (λ w. w ≡ edit.JoinPath v)) (λ e. c.map-then-is_name-3.result ≡ Err e) = search rules in
     subst (λ (o : Option EditStep). IsRead edit_step (is_valid_edit iri_chars) o c.map-then-is_name-3.result)
     (named path_edit_names (codes "join") c.args.name.now (option_copied c.args.value) (option_map JoinPath) c.if-is_name-3.ensures refl)
-    (made (λ v. edit.JoinPath v) path_text (is_path iri_chars) edit_step (is_valid_edit iri_chars) JoinPath (option_copied c.args.value) c.needed-then-is_name-3.result c.map-then-is_name-3.result (λ v. refl) (λ a. refl) m c.needed-then-is_name-3.ensures)
+    (made (λ v. edit.JoinPath v) text_of (is_path iri_chars) edit_step (is_valid_edit iri_chars) JoinPath (option_copied c.args.value) c.needed-then-is_name-3.result c.map-then-is_name-3.result (λ v. refl) (λ a. refl) m c.needed-then-is_name-3.ensures)

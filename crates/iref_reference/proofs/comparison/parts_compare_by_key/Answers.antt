@@ -6,16 +6,14 @@ use Rattle.iref_model.specs.Key.{key, key_cmp}
 use Rattle.iref_model.proofs.TieLemmas.{texts_tie}
 use Rattle.iref_model.proofs.PartTieLemmas.{lower_case_tie, parts_tie}
 use Rattle.iref_component.specs.Components.{text_of}
-use Rattle.iref_path.specs.Paths.{path_text}
-use Rattle.iref_authority.specs.Authorities.{authority_text}
 use Rattle.iref_reference.proofs.comparison.parts_compare_by_key.Goals as goal
 
 pub returns-clause-references : goal.returns-clause-references
 unfolding key key_cmp
 returns-clause-references g c = (
   (λ a b.
-      parts_tie authority_text text_of text_of _ _ _ (lower_case_tie text_of a.scheme b.scheme)
-      a.authority b.authority (path_text a.path) (path_text b.path) a.query b.query a.fragment b.fragment),
+      parts_tie text_of text_of text_of _ _ _ (lower_case_tie text_of a.scheme b.scheme)
+      a.authority b.authority (text_of a.path) (text_of b.path) a.query b.query a.fragment b.fragment),
   (λ a b. search (comparing, rules)),
   (λ v. search rules),
 )
@@ -25,8 +23,8 @@ unfolding key key_cmp
 returns-clause-uris g c = (
   (λ a b.
       let scheme = texts_tie (str_to_ascii_lowercase (text_of a.scheme)) (str_to_ascii_lowercase (text_of b.scheme)) in
-      parts_tie authority_text text_of text_of _ (Some _) (Some _) (λ e. ap Some (scheme.0 e), λ e. scheme.1 (same_Some _ _ e))
-      a.authority b.authority (path_text a.path) (path_text b.path) a.query b.query a.fragment b.fragment),
+      parts_tie text_of text_of text_of _ (Some _) (Some _) (λ e. ap Some (scheme.0 e), λ e. scheme.1 (same_Some _ _ e))
+      a.authority b.authority (text_of a.path) (text_of b.path) a.query b.query a.fragment b.fragment),
   (λ a b. search (comparing, rules)),
   (λ v. search rules),
 )

@@ -1,6 +1,6 @@
 use Rattle.std.proofs.Common.{◌≡◌, true, Ok, rules, refl, sym, ap, ◌∙◌}
 use Rattle.std.specs.Prelude.{is_none}
-use Rattle.iref_authority.specs.Authorities.{authority_text}
+use Rattle.iref_component.specs.Components.{text_of}
 use Rattle.iref_grammar.specs.Reference.{read_reference}
 use Rattle.iref_model.specs.Edits.{drops_scheme, edited}
 use Rattle.iref_reference.specs.References.{reference_buf_text}
@@ -53,11 +53,11 @@ pub returns-then-is_none : goal.returns-then-is_none
 returns-then-is_none g c =
     let part : is_authority_edit (edit_step c.args.edit) ≡ true = search rules in
     let none : is_none c.authority.result ≡ true = search rules in
-    (refl, refused_in g.R.HeldRule.allows_scheme (edit_step c.args.edit) (read_reference (reference_buf_text c.args.reference.now)) authority_text c.authority.result part c.authority.ensures none)
+    (refl, refused_in g.R.HeldRule.allows_scheme (edit_step c.args.edit) (read_reference (reference_buf_text c.args.reference.now)) text_of c.authority.result part c.authority.ensures none)
 
 pub edit_authority-requires-clause-there : goal.edit_authority-requires-clause-there
 edit_authority-requires-clause-there g c =
-    found_in (read_reference (reference_buf_text c.args.reference.now)) authority_text c.authority.result c.authority.ensures (search rules)
+    found_in (read_reference (reference_buf_text c.args.reference.now)) text_of c.authority.result c.authority.ensures (search rules)
 
 pub returns-in_ok-edit_authority-in-ReplaceAuthority : goal.returns-in_ok-edit_authority-in-ReplaceAuthority
 returns-in_ok-edit_authority-in-ReplaceAuthority g c =

@@ -3,7 +3,6 @@ use Rattle.std.specs.Prelude.{option_map}
 use Rattle.iref_component.specs.Components.{text_of}
 use Rattle.iref_grammar.specs.Authority.{read_authority}
 use Rattle.iref_grammar.specs.Reference.{read_reference}
-use Rattle.iref_authority.specs.Authorities.{authority_text}
 use Rattle.iref_model.specs.AuthoritySteps.{with_user_info, with_host, with_port}
 use Rattle.iref_model.specs.PortNumbers.{port_text}
 use Rattle.iref_model.specs.Edits.{edited}
@@ -18,9 +17,9 @@ unfolding edited
 returns-in-ReplaceAuthority g c =
     let editor = c.authority_editor-authority.ensures in
     let r = read_reference (g.T.Target.text c.args.owner.now) in
-    let new = read_authority (authority_text c.in-ReplaceAuthority.other) in (
+    let new = read_authority (text_of c.in-ReplaceAuthority.other) in (
       authority_edited_on_ok c.authority_editor-authority.result c.replace.new.self g.C.CharSet.tests g.met.C.CharSet.above_ascii (edit_step c.args.edit) (λ a. new) (ap (λ edit. edited (edit_step edit) r) c.in-ReplaceAuthority.is) c.requires.there editor.reference
-          (with_whole_authority-readable g.C.CharSet.tests new r (authority_in_rule g.C.CharSet.tests (authority_text c.in-ReplaceAuthority.other) c.in-ReplaceAuthority.other.text.in_rule)) editor.editor (search rules) c.replace.result c.replace.ensures,
+          (with_whole_authority-readable g.C.CharSet.tests new r (authority_in_rule g.C.CharSet.tests (text_of c.in-ReplaceAuthority.other) c.in-ReplaceAuthority.other.in_rule)) editor.editor (search rules) c.replace.result c.replace.ensures,
       search rules,
     )
 

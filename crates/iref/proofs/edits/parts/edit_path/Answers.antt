@@ -2,7 +2,7 @@ use Rattle.std.proofs.Common.{rules, ap, sym, ◌∙◌}
 use Rattle.iref_component.specs.Components.{text_of}
 use Rattle.iref_grammar.specs.Reference.{read_reference}
 use Rattle.iref_grammar.proofs.PathTestLemmas.{is_path-segments}
-use Rattle.iref_path.specs.Paths.{path_text, path_value}
+use Rattle.iref_component.specs.Paths.{path_value}
 use Rattle.iref_model.specs.PathSteps.{lazy_pushed, pushed, joined, popped, cleared, normalized}
 use Rattle.iref_model.specs.Edits.{edited}
 use Rattle.iref_model.proofs.ReferenceStepLemmas.{lazy_pushed-readable, pushed-readable, joined-readable, popped-readable, normalized-readable, cleared-readable}
@@ -39,7 +39,7 @@ returns-in-JoinPath g c =
     let r = read_reference (g.T.Target.text c.args.owner.now) in
     let new = path_value c.in-JoinPath.other in (
       path_edited_on_ok c.join.new.self g.C.CharSet.tests g.met.C.CharSet.above_ascii (edit_step c.args.edit) (λ context. joined context new) (ap (λ edit. edited (edit_step edit) r) c.in-JoinPath.is) editor.reference
-          (joined-readable g.C.CharSet.tests new r (sym (is_path-segments g.C.CharSet.tests g.met.C.CharSet.above_ascii (path_text c.in-JoinPath.other)) ∙ c.in-JoinPath.other.text.in_rule)) editor.editor (search rules) c.join.result c.join.ensures,
+          (joined-readable g.C.CharSet.tests new r (sym (is_path-segments g.C.CharSet.tests g.met.C.CharSet.above_ascii (text_of c.in-JoinPath.other)) ∙ c.in-JoinPath.other.in_rule)) editor.editor (search rules) c.join.result c.join.ensures,
       search rules,
     )
 

@@ -1,0 +1,99 @@
+-- What callers see of an editor of a path, and what an edit does.
+use Rattle.std.specs.Borrow.{GName}
+use Rattle.std.specs.Prelude.{ℕ, ◌≡◌, ◌+◌, length, slice_range, Result, MatchResult}
+use Rattle.std.specs.List.{splice}
+use Rattle.iref_grammar.specs.declared.context.PathContext.{PathContext}
+use Rattle.iref_grammar.specs.Contexts.{alone}
+use Rattle.iref_grammar.specs.Rules.{Text}
+use Rattle.iref_grammar.specs.PathValue.{PathValue, read_path, spell_path}
+use Rattle.iref_component.specs.declared.path_mut.PathMut.{PathMut}
+use Rattle.iref_component.specs.declared.text.RuleText.{RuleText}
+use Rattle.iref_component.specs.Components.{text_of}
+use Rattle.iref_component.specs.Paths.{path_value}
+
+-- it holds the reference of this name
+abbrev pub Borrows : {C : _} {T : _} {A : _} {c : _} {t : _} {a : _} → PathMut C T A c t a → GName → Type 0
+Borrows p name = p.target.ghost_name ≡ name
+
+-- the bytes that hold the path
+abbrev pub edited_bytes : {C : _} {T : _} {A : _} {c : _} {t : _} {a : _} → PathMut C T A c t a → Text
+edited_bytes {C} {T} {A} {c} {t} {a} p = t.text p.target.now
+
+-- what stands before the path
+abbrev pub path_mut_context : {C : _} {T : _} {A : _} {c : _} {t : _} {a : _} → PathMut C T A c t a → PathContext
+path_mut_context p = p.context
+
+-- where the path stands
+abbrev pub path_mut_start : {C : _} {T : _} {A : _} {c : _} {t : _} {a : _} → PathMut C T A c t a → ℕ
+path_mut_start p = p.place.start
+
+abbrev pub path_mut_end : {C : _} {T : _} {A : _} {c : _} {t : _} {a : _} → PathMut C T A c t a → ℕ
+path_mut_end p = p.place.end
+
+-- the text of the path
+abbrev pub path_mut_text : {C : _} {T : _} {A : _} {c : _} {t : _} {a : _} → PathMut C T A c t a → Text
+path_mut_text p = slice_range (edited_bytes p) p.place.start p.place.end
+
+-- the flag and the list that it is read as
+abbrev pub path_mut_value : {C : _} {T : _} {A : _} {c : _} {t : _} {a : _} → PathMut C T A c t a → PathValue
+path_mut_value p = read_path (path_mut_text p)
+
+-- it edits what stands there
+pub record IsEditorOf {C : _} {T : _} {A : _} {c : _} {t : _} {a : _} (p : PathMut C T A c t a) (bytes : Text) (context : PathContext) (start end : ℕ) : Type 0 where
+  pub bytes_are : edited_bytes p ≡ bytes
+  pub context_is : p.context ≡ context
+  pub from : p.place.start ≡ start
+  pub to : p.place.end ≡ end
+
+-- it borrows the same target still
+abbrev pub IsSameEditor : {C : _} {T : _} {A : _} {c : _} {t : _} {a : _} → PathMut C T A c t a → PathMut C T A c t a → Type 0
+IsSameEditor old new = new.target.ghost_name ≡ old.target.ghost_name
+
+-- the path becomes this one, its range is exact, and no other byte changes
+pub record BecomesPath {C : _} {T : _} {A : _} {c : _} {t : _} {a : _} (old new : PathMut C T A c t a) (value : PathValue) : Type 0 where
+  pub bytes : edited_bytes new ≡ splice (edited_bytes old) old.place.start old.place.end (spell_path value)
+  pub context : new.context ≡ old.context
+  pub from : new.place.start ≡ old.place.start
+  pub to : new.place.end ≡ old.place.start + length (spell_path value)
+  pub read : path_mut_value new ≡ value
+
+-- nothing changes
+pub record IsUnchanged {C : _} {T : _} {A : _} {c : _} {t : _} {a : _} (old new : PathMut C T A c t a) : Type 0 where
+  pub bytes : edited_bytes new ≡ edited_bytes old
+  pub context : new.context ≡ old.context
+  pub from : new.place.start ≡ old.place.start
+  pub to : new.place.end ≡ old.place.end
+
+-- an edit: it borrows the same target still, at Ok the path becomes this one, and at an Err nothing changes
+pub record EditsTo {C : _} {T : _} {A : _} {c : _} {t : _} {a : _} {V E : Type 0} (value : PathValue) (old new : PathMut C T A c t a) (result : Result V E) : Type 0 where
+  pub same : IsSameEditor old new
+  pub outcome : MatchResult result (λ _. BecomesPath old new value) (λ _. IsUnchanged old new)
+
+-- what an edit makes of a path, in the context of what stands before it
+abbrev pub PathStep : Type 0
+PathStep = PathContext → PathValue → PathValue
+
+-- the path becomes what this step makes of it
+abbrev pub Becomes : {C : _} {T : _} {A : _} {c : _} {t : _} {a : _} → PathMut C T A c t a → PathMut C T A c t a → PathStep → Type 0
+Becomes old new step = BecomesPath old new (step (path_mut_context old) (path_mut_value old))
+
+-- an edit whose path is what this step makes of the old one
+abbrev pub Edits : {C : _} {T : _} {A : _} {c : _} {t : _} {a : _} {V E : Type 0} → PathStep → PathMut C T A c t a → PathMut C T A c t a → Result V E → Type 0
+Edits step old new result = EditsTo (step (path_mut_context old) (path_mut_value old)) old new result
+
+-- the same by a step that takes something besides the path, as a segment
+abbrev pub EditsBy : {C : _} {T : _} {A : _} {c : _} {t : _} {a : _} {X V E : Type 0} → (PathContext → X → PathValue → PathValue) → X → PathMut C T A c t a → PathMut C T A c t a → Result V E → Type 0
+EditsBy step by = Edits (λ context. step context by)
+
+-- the owner's text spells this path, and is read as it
+pub record SpellsPath {S R C K s r k c : _} (p : RuleText S R C K s r k c) (value : PathValue) : Type 0 where
+  pub text : text_of p ≡ spell_path value
+  pub read : path_value p ≡ value
+
+-- the owner's path, which stands alone, becomes what this step makes of it
+abbrev pub OwnerBecomes : {S R C K s r k c : _} → RuleText S R C K s r k c → RuleText S R C K s r k c → PathStep → Type 0
+OwnerBecomes old new step = SpellsPath new (step alone (path_value old))
+
+-- an edit of an owner: at Ok its path becomes what the step makes of it, and at an Err its text is as it was
+abbrev pub EditsOwner : {S R C K s r k c : _} {V E : Type 0} → (PathValue → PathValue) → RuleText S R C K s r k c → RuleText S R C K s r k c → Result V E → Type 0
+EditsOwner step old new result = MatchResult result (λ _. SpellsPath new (step (path_value old))) (λ _. text_of new ≡ text_of old)

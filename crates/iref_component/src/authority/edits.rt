@@ -1,0 +1,142 @@
+//! Authorities that own their text, edited in place (RFC 3986 section 3.2).
+ghost use Rattle.std.specs.Prelude.{◌≡◌, OnOk, OnErr, IsOk, IsNone, length, option_map};
+ghost use Rattle.std.specs.Option.{option_copied};
+ghost use Rattle.iref_component.specs.{Authorities.{EditsOwner}, AuthorityTexts.{IsWhole}};
+ghost use Rattle.iref_component.specs.{AuthorityTexts.{one_whole}, Components.{text_of}};
+ghost use Rattle.iref_component.specs.Tries.{Tests, TestsIfSome};
+ghost use Rattle.iref_grammar.specs.{IsAuthority, IsHost, IsPort, IsUserInfo};
+ghost use Rattle.iref_model.specs.{port_text};
+ghost use Rattle.iref_edit.proofs.PartLemmas.{whole_is_within};
+ghost use Rattle.iref_model.specs.AuthoritySteps.{with_user_info, with_host, with_port};
+
+use crate::authority::{Authority, AuthorityBuf};
+use crate::authority_mut::{AuthorityMut, AuthorityPart};
+use crate::texts::{Host, Port, UserInfo};
+use crate::tried::Tried;
+use iref_edit::change::{Change, Place};
+use iref_edit::target::Target;
+use iref_error::{InvalidAuthority, InvalidHost, InvalidPort, InvalidUserInfo, Memory};
+use iref_grammar::chars::CharSet;
+use std::alloc::Global;
+
+impl<C: CharSet> Target<AuthorityPart, C> for AuthorityBuf<C> {
+    type Alloc = Global;
+
+    ghost text = { text_of };
+
+    ghost stands = { λ text _. IsWhole text };
+
+    ghost one_place = { λ text _. one_whole text };
+
+    ghost is_within = { λ _ _ _ _ stands. whole_is_within stands.0 stands.1 };
+
+    fn alloc(&self) -> Global {
+        self.alloc()
+    }
+
+    fn part(&self, after: (), at: Place) -> &str {
+        self.as_str()
+    }
+
+    fn replace(&mut self, after: (), at: Place, by: Change<'_>) -> Result<usize, Memory> {
+        self.apply(by)?;
+        Ok(self.len())
+    }
+}
+
+impl<C: CharSet> AuthorityBuf<C> {
+    ghost use Rattle.iref_component.specs.AuthorityEdits.{Borrows, edited_bytes};
+    ghost use Rattle.iref_component.specs.AuthorityEdits.{authority_mut_start, authority_mut_end};
+
+    /// The editor of all of it.
+    pub fn as_authority_mut(&mut self) -> AuthorityMut<'_, C, AuthorityBuf<C>>
+        ensures same_reference { Borrows result self.entry.ghost_name }
+        ensures bytes { edited_bytes result ≡ text_of self.old }
+        ensures start { authority_mut_start result ≡ 0 }
+        ensures end { authority_mut_end result ≡ length (text_of self.old) }
+    {
+        let end = self.len();
+        AuthorityMut::of_target(self, 0..end)
+    }
+
+    /// Replaces the authority, in the room of the old one where it fits.
+    pub fn replace(&mut self, authority: Authority<'_, C>) -> Result<(), Memory>
+        ensures ok { OnOk result (text_of self.new ≡ text_of authority.entry) }
+        ensures err { OnErr result (text_of self.new ≡ text_of self.old) }
+    {
+        self.as_authority_mut().replace(authority)
+    }
+
+    /// Replaces the user info and its `@`, or takes them away, which takes no memory: `u@h` without
+    /// a user info is `h`.
+    pub fn set_user_info(&mut self, user_info: Option<UserInfo<'_, C>>) -> Result<(), Memory>
+        ensures edit { EditsOwner (with_user_info (option_map text_of user_info.entry))
+            self.old self.new result }
+        ensures none { IsNone user_info.entry → IsOk result }
+    {
+        self.as_authority_mut().set_user_info(user_info)
+    }
+
+    /// Replaces the host.
+    pub fn set_host(&mut self, host: Host<'_, C>) -> Result<(), Memory>
+        ensures { EditsOwner (with_host (text_of host.entry)) self.old self.new result }
+    {
+        self.as_authority_mut().set_host(host)
+    }
+
+    /// Replaces the port and its `:`, or takes them away, which takes no memory: `h:80` without a
+    /// port is `h`.
+    pub fn set_port(&mut self, port: Option<Port<'_>>) -> Result<(), Memory>
+        ensures edit { EditsOwner (with_port (option_map text_of port.entry))
+            self.old self.new result }
+        ensures none { IsNone port.entry → IsOk result }
+    {
+        self.as_authority_mut().set_port(port)
+    }
+
+    /// Replaces the port by a number in decimal digits without leading zeros, or takes it away,
+    /// which takes no memory.
+    pub fn set_port_u32(&mut self, port: Option<u32>) -> Result<(), Memory>
+        ensures edit { EditsOwner (with_port (option_map port_text port)) self.old self.new result }
+        ensures none { IsNone port → IsOk result }
+    {
+        self.as_authority_mut().set_port_u32(port)
+    }
+
+    /// As `replace`, by a text: `Invalid` hands one back that is not an authority.
+    pub fn try_replace<'t>(&mut self, authority: &'t str) -> Tried<InvalidAuthority<&'t str>>
+        ensures ok { OnOk result (text_of self.new ≡ authority.now) }
+        ensures text { Tests (IsAuthority C.tests) authority.entry (λ error. error.0) result }
+        ensures err { OnErr result (text_of self.new ≡ text_of self.old) }
+    {
+        self.as_authority_mut().try_replace(authority)
+    }
+
+    /// As `set_user_info`, by a text: `Invalid` hands one back that is not a user info.
+    pub fn try_set_user_info<'t>(
+        &mut self,
+        user_info: Option<&'t str>,
+    ) -> Tried<InvalidUserInfo<&'t str>>
+        ensures edit { EditsOwner (with_user_info (option_copied user_info.entry))
+            self.old self.new result }
+        ensures text { TestsIfSome (IsUserInfo C.tests) user_info.entry (λ error. error.0) result }
+    {
+        self.as_authority_mut().try_set_user_info(user_info)
+    }
+
+    /// As `set_host`, by a text: `Invalid` hands one back that is not a host.
+    pub fn try_set_host<'t>(&mut self, host: &'t str) -> Tried<InvalidHost<&'t str>>
+        ensures edit { EditsOwner (with_host host.now) self.old self.new result }
+        ensures text { Tests (IsHost C.tests) host.entry (λ error. error.0) result }
+    {
+        self.as_authority_mut().try_set_host(host)
+    }
+
+    /// As `set_port`, by a text: `Invalid` hands one back that is not a port.
+    pub fn try_set_port<'t>(&mut self, port: Option<&'t str>) -> Tried<InvalidPort<&'t str>>
+        ensures edit { EditsOwner (with_port (option_copied port.entry)) self.old self.new result }
+        ensures text { TestsIfSome IsPort port.entry (λ error. error.0) result }
+    {
+        self.as_authority_mut().try_set_port(port)
+    }
+}

@@ -1,0 +1,254 @@
+//! Edits of an authority in place (RFC 3986 section 3.2).
+ghost use Rattle.std.specs.Prelude.{◌≡◌, ◌≤◌, ◌+◌, ◌-◌, ◌++◌, true, length, slice_range, vec_len};
+ghost use Rattle.std.specs.{Prelude.{Some, IfOk, IsOk, IsNone, option_map}, Borrow.{sem}};
+ghost use Rattle.std.specs.{Borrow.{RestsIfErr}, Option.{option_copied}};
+ghost use Rattle.iref_edit.specs.Changes.{IsWithin, replaced};
+ghost use Rattle.iref_component.specs.AuthorityTexts.{SpellsAuthority, authority_is_text};
+ghost use Rattle.iref_component.specs.{Components.{text_of}, Makers.{ParsesUtf8}};
+ghost use Rattle.iref_grammar.specs.{AuthorityValue, IsAuthority, is_authority, is_port};
+ghost use Rattle.iref_grammar.specs.{is_user_info, none_or, read_authority};
+ghost use Rattle.iref_model.specs.{port_text};
+ghost use Rattle.iref_model.specs.AuthoritySteps.{with_user_info, with_host, with_port};
+
+mod ranges;
+mod tried;
+
+use crate::authority::Authority;
+use crate::texts::{Host, Port, UserInfo};
+use crate::view::text_of;
+use iref_edit::change::{Change, Place};
+use iref_edit::target::{Part, Target};
+use iref_edit::text::{marked, marked_after};
+use iref_error::{InvalidAuthority, Memory};
+use iref_grammar::chars::CharSet;
+use itoa::Buffer;
+use ranges::{host_range, port_range, user_info_range, whole_range};
+use std::fmt;
+use std::marker::PhantomData;
+use std::ops::Range;
+
+/// An authority as a part of a text, which may stand wherever one does.
+pub struct AuthorityPart;
+
+impl Part for AuthorityPart {
+    type Context = ();
+
+    ghost test = { λ tests _. is_authority tests };
+
+    ghost reads = { λ tests _. is_authority tests };
+
+    ghost is_text = { λ tests above _. authority_is_text tests above };
+}
+
+/// The editor of an authority that stands in a vector of bytes, or in another text that it borrows:
+/// of `//h:80/x` the bytes 2 to 6 are edited to `//h/x` by a port of `None`. It knows where the
+/// authority stands, in bytes, and its end moves with each edit; a refused edit changes nothing.
+#[derive(Drop)]
+pub struct AuthorityMut<'a, C: CharSet, T: Target<AuthorityPart, C> = Vec<u8>> {
+    target: &'a mut T,
+    place: Place,
+    chars: PhantomData<C>,
+    ghost placed: { T.stands (T.text target.now) tt
+        place.start place.end } by { T.one_place _ _ _ _ },
+}
+
+impl<'a, C: CharSet> AuthorityMut<'a, C, Vec<u8>> {
+    ghost use Rattle.iref_component.specs.AuthorityEdits.{borrowed_name, Borrows, edited_bytes};
+    ghost use Rattle.iref_component.specs.AuthorityEdits.{authority_mut_start, authority_mut_end};
+    ghost use Rattle.iref_component.specs.{AuthorityEdits.{authority_mut_text}, Rows.{bytes_row}};
+
+    /// The editor of the authority in a range of the bytes, or what stands in the range.
+    pub fn new(
+        bytes: &'a mut Vec<u8>,
+        range: Range<usize>,
+    ) -> Result<Self, InvalidAuthority<&'a [u8]>>
+        requires start_le_end { range.start ≤ range.end }
+        requires in_bounds { range.end ≤ vec_len bytes.old }
+        ensures* unchanged_if_refused { sem 𝓛 (RestsIfErr bytes_row bytes.entry borrowed_name
+            result (λ last. last.items ≡ bytes.old.items)) }
+        ensures parses { let part = slice_range bytes.old.items range.start range.end in
+            ParsesUtf8 (IsAuthority C.tests) authority_mut_text (λ e. e.0.now) part part result }
+        ensures same_reference { IfOk result (λ editor. Borrows editor bytes.entry.ghost_name) }
+        ensures bytes { IfOk result (λ editor. edited_bytes editor ≡ bytes.old.items) }
+        ensures start { IfOk result (λ editor. authority_mut_start editor ≡ range.start) }
+        ensures end { IfOk result (λ editor. authority_mut_end editor ≡ range.end) }
+    {
+        match Authority::<C>::from_bytes(&bytes[range.start..range.end]) {
+            Ok(_) => Ok(AuthorityMut::new_unchecked(bytes, range)),
+            Err(_) => Err(InvalidAuthority(&bytes[range.start..range.end])),
+        }
+    }
+
+    /// The editor of the authority in a range of the bytes that is known to hold one.
+    pub fn new_unchecked(bytes: &'a mut Vec<u8>, range: Range<usize>) -> Self
+        requires start_le_end { range.start ≤ range.end }
+        requires in_bounds { range.end ≤ vec_len bytes.old }
+        requires in_rule { is_authority C.tests
+            (slice_range bytes.old.items range.start range.end) ≡ true }
+        ensures same_reference { Borrows result bytes.entry.ghost_name }
+        ensures bytes { edited_bytes result ≡ bytes.old.items }
+        ensures start { authority_mut_start result ≡ range.start }
+        ensures end { authority_mut_end result ≡ range.end }
+    {
+        AuthorityMut::of_target(bytes, range)
+    }
+}
+
+impl<'a, C: CharSet, T: Target<AuthorityPart, C>> AuthorityMut<'a, C, T> {
+    ghost use Rattle.iref_component.specs.AuthorityEdits.{Borrows, edited_bytes, LiesInBytes};
+    ghost use Rattle.iref_component.specs.AuthorityEdits.{authority_mut_start, authority_mut_end};
+    ghost use Rattle.iref_component.specs.AuthorityEdits.{authority_mut_text, Edits, EditsTo};
+
+    /// The editor of the authority in a range of what holds it.
+    pub fn of_target(target: &'a mut T, range: Range<usize>) -> Self
+        requires { T.stands (T.text target.old) tt range.start range.end }
+        ensures same_reference { Borrows result target.entry.ghost_name }
+        ensures bytes { edited_bytes result ≡ T.text target.old }
+        ensures start { authority_mut_start result ≡ range.start }
+        ensures end { authority_mut_end result ≡ range.end }
+    {
+        let Range { start, end } = range;
+        AuthorityMut {
+            target,
+            place: Place { start, end },
+            chars: PhantomData,
+        }
+    }
+
+    // The text of the authority.
+    fn text(&self) -> &str
+        ensures value { result.now ≡ authority_mut_text self.now }
+        ensures in_rule { is_authority C.tests result.now ≡ true }
+        ensures lies { LiesInBytes self.now }
+    {
+        self.target.part((), self.place)
+    }
+
+    /// The authority.
+    pub fn as_authority(&self) -> Authority<'_, C>
+        ensures { text_of result ≡ authority_mut_text self.now }
+    {
+        Authority::new_unchecked(self.text())
+    }
+
+    /// The authority, for as long as its target is borrowed.
+    pub fn into_authority(self) -> Authority<'a, C>
+        ensures { text_of result ≡ authority_mut_text self.entry }
+    {
+        let AuthorityMut { target, place, .. } = self;
+        Authority::new_unchecked(target.part((), place))
+    }
+
+    /// Where the authority stands, in bytes.
+    pub fn range(&self) -> Range<usize>
+        ensures start { result.start ≡ authority_mut_start self.now }
+        ensures end { result.end ≡ authority_mut_end self.now }
+    {
+        self.place.start..self.place.end
+    }
+
+    // Replaces a range of the authority by two pieces, as one edit.
+    fn put(&mut self, within: Range<usize>, pieces: (&str, &str)) -> Result<(), Memory>
+        requires lies { LiesInBytes self.old }
+        requires within { IsWithin (authority_mut_text self.old) within }
+        requires in_rule { is_authority C.tests (replaced (authority_mut_text self.old) within
+            (pieces.0.now ++ pieces.1.now)) ≡ true }
+        ensures edit { (value : AuthorityValue) → SpellsAuthority C.tests
+            (replaced (authority_mut_text self.old) within
+            (pieces.entry.0.now ++ pieces.entry.1.now)) value
+            → EditsTo value self.old self.new result }
+        ensures shorter { length pieces.entry.0.now + length pieces.entry.1.now
+            ≤ within.end - within.start → IsOk result }
+    {
+        let (lead, middle) = pieces;
+        let change = Change {
+            within,
+            lead,
+            middle,
+            close: "",
+        };
+        self.place.end = self.target.replace((), self.place, change)?;
+        Ok(())
+    }
+
+    // Replaces the user info, or takes it away.
+    fn put_user_info(&mut self, user_info: Option<&str>) -> Result<(), Memory>
+        requires { none_or (is_user_info C.tests) (option_copied user_info) ≡ true }
+        ensures edit { Edits (with_user_info (option_copied user_info.entry))
+            self.old self.new result }
+        ensures none { IsNone user_info.entry → IsOk result }
+    {
+        let within = user_info_range::<C>(self.text());
+        self.put(within, marked_after(user_info, "@"))
+    }
+
+    // Replaces the port, or takes it away.
+    fn put_port(&mut self, port: Option<&str>) -> Result<(), Memory>
+        requires { none_or is_port (option_copied port) ≡ true }
+        ensures edit { Edits (with_port (option_copied port.entry)) self.old self.new result }
+        ensures none { IsNone port.entry → IsOk result }
+    {
+        let within = port_range::<C>(self.text());
+        self.put(within, marked(":", port))
+    }
+
+    /// Replaces the authority, and nothing that stands before or after it.
+    pub fn replace(&mut self, authority: Authority<'_, C>) -> Result<(), Memory>
+        ensures { Edits (λ _. read_authority (text_of authority.entry))
+            self.old self.new result }
+    {
+        let within = whole_range::<C>(self.text());
+        self.put(within, (authority.as_str(), ""))
+    }
+
+    /// Replaces the user info and its `@`, or takes them away, which takes no memory: `u@h` without
+    /// a user info is `h`, and with an empty one `@h`.
+    pub fn set_user_info(&mut self, user_info: Option<UserInfo<'_, C>>) -> Result<(), Memory>
+        ensures edit { Edits (with_user_info (option_map text_of user_info.entry))
+            self.old self.new result }
+        ensures none { IsNone user_info.entry → IsOk result }
+    {
+        self.put_user_info(text_of(user_info))
+    }
+
+    /// Replaces the host: of `u@h:80` what stands before the `:80` and after the `u@`.
+    pub fn set_host(&mut self, host: Host<'_, C>) -> Result<(), Memory>
+        ensures { Edits (with_host (text_of host.entry)) self.old self.new result }
+    {
+        let within = host_range::<C>(self.text());
+        self.put(within, (host.as_str(), ""))
+    }
+
+    /// Replaces the port and its `:`, or takes them away, which takes no memory: `h:80` without a
+    /// port is `h`, and with an empty one `h:`.
+    pub fn set_port(&mut self, port: Option<Port<'_>>) -> Result<(), Memory>
+        ensures edit { Edits (with_port (option_map text_of port.entry))
+            self.old self.new result }
+        ensures none { IsNone port.entry → IsOk result }
+    {
+        self.put_port(text_of(port))
+    }
+
+    /// Replaces the port by a number in decimal digits without leading zeros, or takes it away,
+    /// which takes no memory.
+    #[tactic(auto, using(iref_model::proofs::PortNumberLemmas::written))]
+    pub fn set_port_u32(&mut self, port: Option<u32>) -> Result<(), Memory>
+        ensures edit { Edits (with_port (option_map port_text port)) self.old self.new result }
+        ensures none { IsNone port → IsOk result }
+    {
+        match port {
+            Some(number) => self.put_port(Some(Buffer::new().format(number))),
+            None => self.put_port(None),
+        }
+    }
+}
+
+impl<C: CharSet, T: Target<AuthorityPart, C>> fmt::Display for AuthorityMut<'_, C, T> {
+    ghost use Rattle.iref_component.specs.AuthorityEdits.{authority_mut_text};
+
+    ghost output = { λ editor. Some (authority_mut_text editor) };
+
+    fn fmt<W: fmt::Write>(&self, f: &mut fmt::Formatter<W>) -> fmt::Result {
+        f.write_str(self.text())
+    }
+}

@@ -1,0 +1,44 @@
+//! The parts of an authority (RFC 3986 section 3.2).
+ghost use Rattle.std.specs.Prelude.{◌≡◌, true};
+ghost use Rattle.iref_component.specs.AuthorityParts.{parts_key, parts_value};
+ghost use Rattle.iref_component.specs.Comparisons.{ComparesBy};
+ghost use Rattle.iref_grammar.specs.{is_authority, read_authority};
+ghost use Rattle.iref_model.specs.{authority_key_cmp, fed_authority};
+
+use crate::texts::{Host, Port, UserInfo};
+use crate::view::view_of;
+use iref_grammar::chars::CharSet;
+use iref_parse::authority::split_parts;
+use std::hash::Hash;
+
+/// The parts of an authority (RFC 3986 section 3.2): `u@h:80` has the user info `u`, the host `h`
+/// and the port `80`. They compare as it does: by the decoded user info and host, and by the text
+/// of the port.
+#[derive_where(Clone, Copy, Debug, PartialEq, Eq, PartialOrd, Ord, Hash)]
+pub struct AuthorityParts<'a, C: CharSet> {
+    /// What stands before the first `@`.
+    pub user_info: Option<UserInfo<'a, C>>,
+    /// What stands before the port.
+    pub host: Host<'a, C>,
+    /// What follows the `:` after the host.
+    pub port: Option<Port<'a>>,
+}
+
+/// The parts of a text that is known to be an authority, as slices of it.
+pub fn parts_of<C: CharSet>(text: &str) -> AuthorityParts<'_, C>
+    requires { is_authority C.tests text.now ≡ true }
+    ensures { parts_value result ≡ read_authority text.now }
+{
+    let slices = split_parts(text);
+    AuthorityParts {
+        user_info: view_of(slices.user_info),
+        host: Host::new_unchecked(slices.host),
+        port: view_of(slices.port),
+    }
+}
+
+/// The parts of authorities are equal, in order and hashed by their keys (RFC 3986 section 6.2.2).
+pub fn authority_parts_compare_by_key<C: CharSet>()
+    ensures { ComparesBy parts_key authority_key_cmp fed_authority
+        ⟦<AuthorityParts<'static, C> as Ord>⟧ ⟦<AuthorityParts<'static, C> as Hash>⟧ }
+{}

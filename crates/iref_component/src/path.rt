@@ -1,0 +1,221 @@
+//! Paths (RFC 3986 section 3.3).
+ghost use Rattle.std.specs.Prelude.{◌≡◌, ◌<◌, ◌^◌, not, [], IfOk, IsNone, IsOk, length};
+ghost use Rattle.std.specs.Prelude.{codes, option_map};
+ghost use Rattle.iref_model.specs.PathFunctions as function;
+ghost use Rattle.iref_model.specs.PathSteps as step;
+ghost use Rattle.iref_component.specs.{Comparisons.{ComparesBy}, Components.{text_of}};
+ghost use Rattle.iref_component.specs.{NormalPaths.{normal_segments_left}, Paths.{path_value}};
+ghost use Rattle.iref_component.specs.{Paths.{segments_left}, Suffixes.{SpellsSuffix}};
+ghost use Rattle.iref_grammar.specs.{alone, is_empty, spell_path};
+ghost use Rattle.iref_model.specs.{fed_path, normal_segments, path_key, path_key_cmp};
+ghost use Rattle.iref_model.specs.PathSuffix.{path_suffix};
+
+use crate::normal::NormalizedSegments;
+use crate::path_buf::PathBuf;
+use crate::rules::PathRule;
+use crate::segment::looks_like_scheme;
+use crate::segments::Segments;
+use crate::text::{RuleText, Storage};
+use crate::texts::Segment;
+use crate::view::View;
+use iref_error::Memory;
+use iref_grammar::chars::CharSet;
+use iref_grammar::context::PathContext;
+use iref_path_text::path_text::{directory_text, parent_text};
+use iref_path_text::pieces::split_root;
+use iref_path_text::spell::normalized_text;
+use iref_path_text::suffix::suffix_text;
+use std::alloc::Global;
+use std::hash::Hash;
+
+/// A path (RFC 3986 section 3.3): `/a//b` has the segments `a`, the empty one and `b`.
+/// `InvalidPath` holds a text that is none, as `a?b`.
+pub type Path<'a, C> = View<'a, PathRule, C>;
+
+impl<S: Storage, C: CharSet> RuleText<S, PathRule, C> {
+    /// Whether the path has no segments.
+    #[tactic(auto, using(iref_path_text::proofs::SlashLemmas::some_pieces))]
+    pub fn is_empty(&self) -> bool
+        ensures { result ≡ is_empty (path_value self.now).segments }
+    {
+        split_root(self.as_view().as_str()).1.is_none()
+    }
+
+    /// Whether the path begins with `/`.
+    pub fn is_absolute(&self) -> bool
+        ensures { result ≡ (path_value self.now).absolute }
+    {
+        split_root(self.as_view().as_str()).0
+    }
+
+    /// Whether the path does not begin with `/`.
+    pub fn is_relative(&self) -> bool
+        ensures { result ≡ not (path_value self.now).absolute }
+    {
+        !self.is_absolute()
+    }
+
+    /// How many segments the path has.
+    pub fn segment_count(&self) -> usize
+        ensures { result ≡ function.segment_count (path_value self.now) }
+    {
+        self.as_view().segments().len()
+    }
+
+    /// The path of the normal segments, with a guard where one is needed (RFC 3986 section 5.2.4).
+    /// It is equal to this path.
+    pub fn normalized(&self, alloc: Global) -> Result<PathBuf<C>, Memory>
+        ensures text { IfOk result (λ path.
+            text_of path ≡ spell_path (step.normalized alone (path_value self.now))) }
+        ensures value { IfOk result (λ path.
+            path_value path ≡ step.normalized alone (path_value self.now)) }
+        ensures equal { IfOk result (λ path.
+            path_key (path_value path) ≡ path_key (path_value self.now)) }
+    {
+        let path = self.as_view().as_str();
+        let alone = PathContext::default();
+        let text = normalized_text::<C, _>(alloc, alone, self.is_absolute(), path)?;
+        Ok(PathBuf::new_unchecked(text))
+    }
+
+    /// What is left of the path after a prefix, as a relative path: of `/foo/bar` after `/foo` it
+    /// is `bar`, of `//foo` after `/` it is `.//foo`. None where the normal segments of the prefix
+    /// are not a beginning of the path's, after decoding, or where only one of both is absolute.
+    pub fn suffix(&self, alloc: Global, prefix: Path<'_, C>) -> Result<Option<PathBuf<C>>, Memory>
+        ensures suffix { IfOk result
+            (SpellsSuffix (path_value prefix.entry) (path_value self.now)) }
+        ensures none { IsNone (path_suffix (path_value prefix.entry) (path_value self.now))
+            → IsOk result }
+    {
+        let path = self.as_view().as_str();
+        let text = suffix_text::<C, _>(alloc, prefix.as_str(), path)?;
+        Ok(text.map(|text| PathBuf::new_unchecked(text)))
+    }
+
+    /// Whether what stands before the first `:` is a scheme (RFC 3986 section 4.2).
+    pub fn looks_like_scheme(&self) -> bool
+        ensures { result ≡ function.looks_like_scheme (text_of self.now) }
+    {
+        looks_like_scheme(self.as_view().as_str())
+    }
+}
+
+impl<'a, C: CharSet> Path<'a, C> {
+    /// The relative path without segments.
+    pub fn empty_relative() -> Self
+        ensures { text_of result ≡ [] }
+    {
+        Path::empty()
+    }
+
+    /// The absolute path without segments.
+    #[tactic(auto, using(iref_model::proofs::PathGrammarLemmas::empty_paths))]
+    pub fn empty_absolute() -> Self
+        ensures { text_of result ≡ codes "/" }
+    {
+        Path::new_unchecked("/")
+    }
+
+    // The path without segments.
+    #[tactic(auto, unfolding(iref_grammar::specs::PathValue::read_path))]
+    pub(crate) fn without_segments(absolute: bool) -> Self
+        ensures { path_value result ≡ record { absolute = absolute; segments = [] } }
+    {
+        if absolute {
+            Path::empty_absolute()
+        } else {
+            Path::empty_relative()
+        }
+    }
+
+    /// The segments.
+    pub fn segments(&self) -> Segments<'a, C>
+        ensures left { segments_left result ≡ (path_value self.now).segments }
+        ensures fits { length (segments_left result) < 2 ^ 64 }
+    {
+        Segments::of_text(split_root(self.as_str()).1)
+    }
+
+    /// The normal segments: the `..` that nothing cancels stand first where the path is relative.
+    ///
+    /// This reads the path once, from its end. Up to sixteen normal segments are kept in the value,
+    /// and nothing is read again for them. Where there are more, the back reads each segment once
+    /// more; the front looks ahead from each name for the `..` that takes it, as far as all that is
+    /// left where none does: so `a/x/../` repeated costs the square of its length from the front.
+    pub fn normalized_segments(&self) -> NormalizedSegments<'a, C>
+        ensures { normal_segments_left result ≡ normal_segments (path_value self.now) }
+    {
+        NormalizedSegments::of_text(self.as_str())
+    }
+
+    /// The first segment.
+    pub fn first(&self) -> Option<Segment<'a, C>>
+        ensures { option_map text_of result ≡ function.first (path_value self.now) }
+    {
+        self.segments().next()
+    }
+
+    /// The last segment.
+    pub fn last(&self) -> Option<Segment<'a, C>>
+        ensures { option_map text_of result ≡ function.last (path_value self.now) }
+    {
+        self.segments().next_back()
+    }
+
+    /// The last segment unless it is empty.
+    #[tactic(auto, unfolding(iref_model::specs::PathFunctions::file_name))]
+    pub fn file_name(&self) -> Option<Segment<'a, C>>
+        ensures { option_map text_of result ≡ function.file_name (path_value self.now) }
+    {
+        let last = self.last()?;
+        if last.is_empty() { None } else { Some(last) }
+    }
+
+    /// All up to and with the last `/` (RFC 3986 section 5.2.3): the empty path where there is
+    /// none.
+    pub fn directory(&self) -> Self
+        ensures text { text_of result ≡ function.directory_text (text_of self.now) }
+        ensures value { path_value result ≡ function.directory (path_value self.now) }
+    {
+        Path::new_unchecked(directory_text::<C>(self.as_str()))
+    }
+
+    /// The path without its last segment, but for the empty path and one relative segment.
+    pub fn parent(&self) -> Option<Self>
+        ensures { option_map path_value result ≡ function.parent (path_value self.now) }
+    {
+        let text = parent_text::<C>(self.as_str())?;
+        Some(Path::new_unchecked(text))
+    }
+
+    /// The parent, or else the empty path that is absolute where this one is.
+    #[tactic(auto, unfolding(iref_model::specs::PathFunctions::parent_or_empty))]
+    pub fn parent_or_empty(&self) -> Self
+        ensures { path_value result ≡ function.parent_or_empty (path_value self.now) }
+    {
+        self.parent()
+            .unwrap_or(Path::without_segments(self.is_absolute()))
+    }
+}
+
+impl<'a, C: CharSet> IntoIterator for Path<'a, C> {
+    type Item = Segment<'a, C>;
+
+    type IntoIter = Segments<'a, C>;
+
+    ghost into_iter_gives = { λ path segments.
+        (segments_left segments ≡ (path_value path).segments)
+        × (length (segments_left segments) < 2 ^ 64) };
+
+    fn into_iter(self) -> Segments<'a, C> {
+        self.segments()
+    }
+}
+
+/// Paths are equal where their flags and their normal segments, decoded, are the same; they are in
+/// the order of these, and a hasher is fed them (RFC 3986 section 6.2.2).
+#[tactic(auto, using(iref_model::proofs::TieLemmas::paths_tie))]
+pub fn paths_compare_by_key<S: Storage, C: CharSet>()
+    ensures { ComparesBy (λ p. path_key (path_value p)) path_key_cmp fed_path
+        ⟦<RuleText<S, PathRule, C> as Ord>⟧ ⟦<RuleText<S, PathRule, C> as Hash>⟧ }
+{}

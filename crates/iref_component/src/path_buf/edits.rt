@@ -1,0 +1,130 @@
+//! Edits of a path that owns its text (RFC 3986 sections 3.3 and 5.2.4).
+ghost use Rattle.std.specs.Prelude.{◌≡◌, ◌&&◌, ◌≤◌, not, length, IfOk, IsOk};
+ghost use Rattle.iref_component.specs.{Components.{text_of}, PathEdits.{Borrows, EditsOwner}};
+ghost use Rattle.iref_component.specs.{PathEdits.{IsEditorOf, SpellsPath}, Paths.{path_value}};
+ghost use Rattle.iref_component.specs.WholePaths.{IsWholePath, one_whole_path};
+ghost use Rattle.iref_grammar.specs.{alone, is_empty, spell_path};
+ghost use Rattle.iref_edit.proofs.PartLemmas.{whole_is_within};
+ghost use Rattle.iref_model.specs.PathSteps as step;
+
+use crate::path::Path;
+use crate::path_buf::PathBuf;
+use crate::path_mut::PathMut;
+use crate::texts::Segment;
+use iref_edit::change::{Change, Place};
+use iref_edit::target::Target;
+use iref_error::Memory;
+use iref_grammar::chars::CharSet;
+use iref_grammar::context::PathContext;
+use iref_path_text::part::PathPart;
+use iref_path_text::rewriting::rewrite_text;
+use iref_path_text::target::PathTarget;
+use std::alloc::Global;
+use std::mem;
+
+impl<C: CharSet> Target<PathPart, C> for PathBuf<C> {
+    type Alloc = Global;
+
+    ghost text = { text_of };
+
+    ghost stands = { IsWholePath C.tests };
+
+    ghost one_place = { one_whole_path C.tests };
+
+    ghost is_within = { λ _ _ _ _ stands. whole_is_within stands.0 stands.1 };
+
+    fn alloc(&self) -> Global {
+        self.alloc()
+    }
+
+    fn part(&self, after: PathContext, at: Place) -> &str {
+        self.as_str()
+    }
+
+    fn replace(&mut self, after: PathContext, at: Place, by: Change<'_>) -> Result<usize, Memory> {
+        self.apply(by)?;
+        Ok(self.len())
+    }
+}
+
+impl<C: CharSet> PathTarget<C> for PathBuf<C> {
+    fn rewrite(&mut self, after: PathContext, at: Place, lead: &str) -> usize {
+        let empty = PathBuf::empty(self.alloc());
+        let mut text = mem::replace(self, empty).into_string();
+        let end = rewrite_text(&mut text, at, lead);
+        *self = PathBuf::new_unchecked(text);
+        end
+    }
+}
+
+impl<C: CharSet> PathBuf<C> {
+    /// The editor of the path.
+    pub fn as_path_mut(&mut self) -> PathMut<'_, C, PathBuf<C>>
+        ensures same_reference { Borrows result self.entry.ghost_name }
+        ensures editor { IsEditorOf result (text_of self.old) alone
+            0 (length (text_of self.old)) }
+    {
+        PathMut::from_path(self)
+    }
+
+    /// Puts a segment at the end, as it is: `.` and `..` too.
+    pub fn lazy_push(&mut self, segment: Segment<'_, C>) -> Result<(), Memory>
+        ensures { EditsOwner (step.lazy_pushed alone (text_of segment.entry))
+            self.old self.new result }
+    {
+        self.as_path_mut().lazy_push(segment)
+    }
+
+    /// Follows a segment: `.` closes the path, `..` takes the last segment away and closes it, and
+    /// any other is put at the end (RFC 3986 section 5.2.4). `foo/bar` and `..` give `foo/`.
+    pub fn push(&mut self, segment: Segment<'_, C>) -> Result<(), Memory>
+        ensures { EditsOwner (step.pushed alone (text_of segment.entry))
+            self.old self.new result }
+    {
+        self.as_path_mut().push(segment)
+    }
+
+    /// Takes the last segment away: where there is none to take, or where it is `..`, a `..` stands
+    /// at the end then. `//a` gives `/./`.
+    pub fn pop(&mut self) -> Result<(), Memory>
+        ensures { EditsOwner (step.popped alone) self.old self.new result }
+    {
+        self.as_path_mut().pop()
+    }
+
+    /// The same, and whether the path changed: an absolute path without segments stays.
+    pub fn try_pop(&mut self) -> Result<bool, Memory>
+        ensures edit { EditsOwner (step.popped alone) self.old self.new result }
+        ensures changed { IfOk result (λ changed. changed ≡ not ((path_value self.old).absolute
+            && is_empty (path_value self.old).segments)) }
+    {
+        let changes = self.is_relative() || !self.is_empty();
+        self.pop()?;
+        Ok(changes)
+    }
+
+    /// Puts another path in its place, after what guards it there.
+    pub fn replace(&mut self, path: Path<'_, C>) -> Result<(), Memory>
+        ensures { EditsOwner (step.replaced alone (path_value path.entry))
+            self.old self.new result }
+    {
+        self.as_path_mut().replace(path)
+    }
+
+    /// Puts the path of the normal segments in its place, guarded where that is needed (RFC 3986
+    /// section 5.2.4). Memory is taken only where that path is longer, as `./a:b` for `a:b`.
+    pub fn normalize(&mut self) -> Result<(), Memory>
+        ensures edit { EditsOwner (step.normalized alone) self.old self.new result }
+        ensures shorter { length (spell_path (step.normalized alone (path_value self.old)))
+            ≤ length (text_of self.old) → IsOk result }
+    {
+        self.as_path_mut().normalize()
+    }
+
+    /// Takes the segments away, so that the path is `/` or empty.
+    pub fn clear(&mut self)
+        ensures { SpellsPath self.new (step.cleared (path_value self.old)) }
+    {
+        self.as_path_mut().clear();
+    }
+}

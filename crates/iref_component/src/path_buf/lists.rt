@@ -1,0 +1,65 @@
+//! Edits of a path that owns its text by many segments (RFC 3986 section 5.2.4).
+ghost use Rattle.std.specs.Prelude.{IfOk, map};
+ghost use Rattle.iref_component.specs.Appends.{Appends, CanTakeAll, TakesAll, followed_each};
+ghost use Rattle.iref_component.specs.{Components.{text_of}, PathEdits.{EditsOwner, OwnerBecomes}};
+ghost use Rattle.iref_component.specs.{PathEdits.{SpellsPath}, Paths.{path_value}};
+ghost use Rattle.iref_grammar.specs.{alone};
+ghost use Rattle.iref_model.specs.PathSteps as step;
+
+use crate::from_segments::text_of_segments;
+use crate::path::Path;
+use crate::path_buf::PathBuf;
+use crate::texts::Segment;
+use iref_error::Memory;
+use iref_grammar::chars::CharSet;
+use std::alloc::Global;
+
+impl<C: CharSet> PathBuf<C> {
+    /// Puts each segment at the end, as it is. The iterator is asked up to its first `None`. At an
+    /// `Err` the segments before the refused one stand.
+    pub fn lazy_append<'s, I>(&mut self, segments: I) -> Result<(), Memory>
+    where
+        I: Iterator<Item = Segment<'s, C>> + Drop,
+        requires { CanTakeAll I.can_next I.remaining segments }
+        ensures { Appends step.lazy_appended step.lazy_appended I.next_gives segments
+            (OwnerBecomes self.old self.new) result }
+    {
+        self.as_path_mut().lazy_append(segments)
+    }
+
+    /// Follows each segment, and closes the path after a last `.` or `..`: `..` and `baz` after
+    /// `/foo/bar` give `/foo/baz`. The iterator is asked up to its first `None`. At an `Err` the
+    /// segments before the refused one stand, and the path is not closed.
+    pub fn append<'s, I>(&mut self, segments: I) -> Result<(), Memory>
+    where
+        I: Iterator<Item = Segment<'s, C>> + Drop,
+        requires { CanTakeAll I.can_next I.remaining segments }
+        ensures { Appends step.appended followed_each I.next_gives segments
+            (OwnerBecomes self.old self.new) result }
+    {
+        self.as_path_mut().append(segments)
+    }
+
+    /// Puts an absolute path in its place, and appends the segments of a relative one to it: `../b`
+    /// after `/x/a` gives `/x/b`. This is one edit, so an `Err` changes nothing.
+    pub fn join(&mut self, path: Path<'_, C>) -> Result<(), Memory>
+        ensures { EditsOwner (step.joined alone (path_value path.entry)) self.old self.new result }
+    {
+        self.as_path_mut().join(path)
+    }
+
+    /// The path that pushing these segments one by one on the empty or the absolute path gives:
+    /// absolute and `a`, `b`, `..` is `/a/`.
+    pub fn from_segments<'s, I: Iterator<Item = Segment<'s, C>> + Drop>(
+        alloc: Global,
+        absolute: bool,
+        segments: I,
+    ) -> Result<PathBuf<C>, Memory>
+        requires { CanTakeAll I.can_next I.remaining segments }
+        ensures { IfOk result (λ path. TakesAll I.next_gives segments (λ items.
+            SpellsPath path (step.from_segments absolute (map text_of items)))) }
+    {
+        let text = text_of_segments::<C, Global, I>(alloc, absolute, segments)?;
+        Ok(PathBuf::new_unchecked(text))
+    }
+}

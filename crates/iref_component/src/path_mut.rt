@@ -1,0 +1,221 @@
+//! Edits of a path in place (RFC 3986 section 3.3).
+ghost use Rattle.std.specs.Prelude.{◌≡◌, ◌≤◌, ◌+◌, ◌-◌, ◌&&◌, true, not, length, Some, IfOk, IsOk};
+ghost use Rattle.std.specs.Str.{IsCharBoundary};
+ghost use Rattle.iref_component.specs.{Components.{text_of}, Paths.{path_value}};
+ghost use Rattle.iref_grammar.specs.{alone, is_empty, is_path_in, read_path, PathValue.{PathValue}};
+ghost use Rattle.iref_grammar.specs.Contexts.{follows_authority};
+ghost use Rattle.iref_path_text.specs.PathParts.{is_path_after, step_text, StepsTo};
+ghost use Rattle.iref_model.specs.PathSteps as step;
+
+mod bytes;
+mod lists;
+mod normal;
+mod tries;
+
+use crate::path::Path;
+use crate::path_buf::PathBuf;
+use crate::texts::Segment;
+use iref_edit::change::{Change, Place};
+use iref_edit::target::Target;
+use iref_error::Memory;
+use iref_grammar::chars::CharSet;
+use iref_grammar::context::PathContext;
+use iref_path_text::part::PathPart;
+use iref_path_text::steps::{self, Step};
+use std::fmt;
+use std::marker::PhantomData;
+use std::ops::Range;
+
+/// The editor of a path that stands in a vector of bytes, or in another text that it borrows (RFC
+/// 3986 section 3.3): at the bytes 8 to 12 of `http://h/a/b?q`, `pop` leaves `http://h/a?q`.
+#[derive(Drop)]
+pub struct PathMut<'a, C: CharSet, T: Target<PathPart, C> = Vec<u8>> {
+    target: &'a mut T,
+    context: PathContext,
+    place: Place,
+    chars: PhantomData<C>,
+    ghost placed: { T.stands (T.text target.now) context
+        place.start place.end } by { T.one_place _ _ _ _ },
+}
+
+impl<'a, C: CharSet, T: Target<PathPart, C>> PathMut<'a, C, T> {
+    ghost use Rattle.iref_component.specs.PathEdits.{Borrows, edited_bytes, path_mut_context};
+    ghost use Rattle.iref_component.specs.PathEdits.{path_mut_start, path_mut_end, path_mut_text};
+    ghost use Rattle.iref_component.specs.PathEdits.{path_mut_value, IsEditorOf, IsSameEditor};
+    ghost use Rattle.iref_component.specs.PathEdits.{BecomesPath, Edits, EditsBy, EditsTo};
+
+    /// The path in a range of what holds it, with what stands before it.
+    pub fn of_target(target: &'a mut T, context: PathContext, range: Range<usize>) -> Self
+        requires { T.stands (T.text target.old) context range.start range.end }
+        ensures same_reference { Borrows result target.entry.ghost_name }
+        ensures editor { IsEditorOf result (T.text target.old) context range.start range.end }
+    {
+        PathMut {
+            target,
+            context,
+            place: Place {
+                start: range.start,
+                end: range.end,
+            },
+            chars: PhantomData,
+        }
+    }
+
+    // The text of the path.
+    fn text(&self) -> &str
+        ensures value { result.now ≡ path_mut_text self.now }
+        ensures test { is_path_after C.tests (path_mut_context self.now) result.now ≡ true }
+    {
+        self.target.part(self.context, self.place)
+    }
+
+    /// The path.
+    pub fn as_path(&self) -> Path<'_, C>
+        ensures { text_of result ≡ path_mut_text self.now }
+    {
+        Path::new_unchecked(self.text())
+    }
+
+    /// Where the path stands, in bytes.
+    pub fn range(&self) -> Range<usize>
+        ensures start { result.start ≡ path_mut_start self.now }
+        ensures end { result.end ≡ path_mut_end self.now }
+    {
+        self.place.start..self.place.end
+    }
+
+    // The allocator of what holds the path.
+    fn alloc(&self) -> T::Alloc {
+        self.target.alloc()
+    }
+
+    // Replaces what a step changes, as one edit.
+    fn apply(&mut self, step: Step<'_>) -> Result<(), Memory>
+        requires keep { IsCharBoundary (path_mut_text self.old) step.keep }
+        requires path { is_path_after C.tests (path_mut_context self.old)
+            (step_text (path_mut_text self.old) step) ≡ true }
+        requires reads { is_path_in C.tests (path_mut_context self.old) (path_mut_text self.old)
+            ≡ true → is_path_in C.tests (path_mut_context self.old)
+            (step_text (path_mut_text self.old) step) ≡ true }
+        ensures edit { (value : PathValue) → StepsTo C.tests (path_mut_context self.old)
+            (path_mut_text self.old) (step_text (path_mut_text self.old) step.entry) value
+            → EditsTo value self.old self.new result }
+        ensures shorter { length step.entry.lead.now + length step.entry.middle.now
+            + length step.entry.close.now
+            ≤ length (path_mut_text self.old) - step.entry.keep → IsOk result }
+    {
+        let change = Change {
+            within: step.keep..self.text().len(),
+            lead: step.lead,
+            middle: step.middle,
+            close: step.close,
+        };
+        self.place.end = self.target.replace(self.context, self.place, change)?;
+        Ok(())
+    }
+
+    // Replaces the whole path by a text that may stand there.
+    fn put(&mut self, text: &str) -> Result<(), Memory>
+        requires keep { IsCharBoundary (path_mut_text self.old) 0 }
+        requires path { is_path_after C.tests (path_mut_context self.old) text.now ≡ true }
+        requires reads { is_path_in C.tests (path_mut_context self.old) (path_mut_text self.old)
+            ≡ true → is_path_in C.tests (path_mut_context self.old) text.now ≡ true }
+        ensures { EditsTo (read_path text.now) self.old self.new result }
+    {
+        self.apply(Step {
+            keep: 0,
+            lead: "",
+            middle: text,
+            close: "",
+        })
+    }
+
+    /// Puts a segment at the end, as it is: `.` and `..` too.
+    pub fn lazy_push(&mut self, segment: Segment<'_, C>) -> Result<(), Memory>
+        ensures { EditsBy step.lazy_pushed (text_of segment.entry) self.old self.new result }
+    {
+        let step = steps::lazy_pushed::<C>(self.context, self.text(), segment.as_str());
+        self.apply(step)
+    }
+
+    /// Follows a segment: `.` closes the path, `..` takes the last segment away and closes it, and
+    /// any other is put at the end (RFC 3986 section 5.2.4). `foo/bar` and `..` give `foo/`.
+    pub fn push(&mut self, segment: Segment<'_, C>) -> Result<(), Memory>
+        ensures { EditsBy step.pushed (text_of segment.entry) self.old self.new result }
+    {
+        let step = steps::pushed::<C>(self.context, self.text(), segment.as_str());
+        self.apply(step)
+    }
+
+    /// Takes the last segment away: where there is none to take, or where it is `..`, a `..` stands
+    /// at the end then. `//a` gives `/./`.
+    pub fn pop(&mut self) -> Result<(), Memory>
+        ensures { Edits step.popped self.old self.new result }
+    {
+        let step = steps::popped::<C>(self.context, self.text());
+        self.apply(step)
+    }
+
+    /// The same, and whether the path changed: an absolute path without segments stays.
+    pub fn try_pop(&mut self) -> Result<bool, Memory>
+        ensures edit { Edits step.popped self.old self.new result }
+        ensures changed { IfOk result (λ changed. changed ≡ not ((path_mut_value self.old).absolute
+            && is_empty (path_mut_value self.old).segments)) }
+    {
+        let path = self.as_path();
+        let changes = path.is_relative() || !path.is_empty();
+        self.pop()?;
+        Ok(changes)
+    }
+
+    /// Puts another path in its place, after what guards it there.
+    pub fn replace(&mut self, path: Path<'_, C>) -> Result<(), Memory>
+        ensures { EditsBy step.replaced (path_value path.entry) self.old self.new result }
+    {
+        let step = steps::replaced::<C>(self.context, self.text(), path.as_str());
+        self.apply(step)
+    }
+
+    /// Takes the segments away, so that the path is `/` or empty.
+    pub fn clear(&mut self)
+        ensures same { IsSameEditor self.old self.new }
+        ensures value { BecomesPath self.old self.new (step.cleared (path_mut_value self.old)) }
+    {
+        let step = steps::cleared::<C>(self.context, self.text());
+        self.apply(step).unwrap();
+    }
+}
+
+impl<'a, C: CharSet> PathMut<'a, C, PathBuf<C>> {
+    ghost use Rattle.iref_component.specs.PathEdits.{Borrows, IsEditorOf};
+
+    /// The editor of a path that stands alone.
+    pub fn from_path(path: &'a mut PathBuf<C>) -> Self
+        ensures same_reference { Borrows result path.entry.ghost_name }
+        ensures editor { IsEditorOf result (text_of path.old) alone
+            0 (length (text_of path.old)) }
+    {
+        PathMut::from_path_with_context(path, PathContext::default())
+    }
+
+    /// The editor of a path, with what it is to stand after.
+    pub fn from_path_with_context(path: &'a mut PathBuf<C>, context: PathContext) -> Self
+        requires { follows_authority context (path_value path.old) ≡ true }
+        ensures same_reference { Borrows result path.entry.ghost_name }
+        ensures editor { IsEditorOf result (text_of path.old) context
+            0 (length (text_of path.old)) }
+    {
+        let len = path.as_str().len();
+        PathMut::of_target(path, context, 0..len)
+    }
+}
+
+impl<C: CharSet, T: Target<PathPart, C>> fmt::Display for PathMut<'_, C, T> {
+    ghost use Rattle.iref_component.specs.PathEdits.{path_mut_text};
+
+    ghost output = { λ editor. Some (path_mut_text editor) };
+
+    fn fmt<W: fmt::Write>(&self, f: &mut fmt::Formatter<W>) -> fmt::Result {
+        f.write_str(self.text())
+    }
+}

@@ -1,0 +1,91 @@
+//! Edits of a path in place by many segments (RFC 3986 section 5.2.4).
+ghost use Rattle.iref_component.specs.Appends.{Appends, CanTakeAll, followed_each};
+ghost use Rattle.iref_component.specs.{Components.{text_of}, PathEdits.{Becomes, Edits, EditsBy}};
+ghost use Rattle.iref_component.specs.{PathEdits.{IsSameEditor}, Paths.{path_value}};
+ghost use Rattle.iref_model.specs.PathSteps as step;
+
+use crate::path::Path;
+use crate::path_mut::PathMut;
+use crate::texts::Segment;
+use iref_edit::target::Target;
+use iref_error::Memory;
+use iref_grammar::chars::CharSet;
+use iref_path_text::names::is_name;
+use iref_path_text::part::PathPart;
+use iref_path_text::steps;
+
+impl<C: CharSet, T: Target<PathPart, C>> PathMut<'_, C, T> {
+    // Follows a segment, without closing the path.
+    pub(super) fn follow(&mut self, segment: Segment<'_, C>) -> Result<(), Memory>
+        ensures { Edits (λ context path. step.followed context path (text_of segment.entry))
+            self.old self.new result }
+    {
+        let step = steps::followed::<C>(self.context, self.text(), segment.as_str());
+        self.apply(step)
+    }
+
+    // Closes the path.
+    pub(super) fn close(&mut self) -> Result<(), Memory>
+        ensures { Edits step.closed_path self.old self.new result }
+    {
+        let step = steps::closed::<C>(self.context, self.text());
+        self.apply(step)
+    }
+
+    /// Puts each segment at the end, as it is. The iterator is asked up to its first `None`. At an
+    /// `Err` the segments before the refused one stand.
+    pub fn lazy_append<'s, I>(&mut self, segments: I) -> Result<(), Memory>
+    where
+        I: Iterator<Item = Segment<'s, C>> + Drop,
+        requires { CanTakeAll I.can_next I.remaining segments }
+        ensures same { IsSameEditor self.old self.new }
+        ensures edit { Appends step.lazy_appended step.lazy_appended I.next_gives segments
+            (Becomes self.old self.new) result }
+    {
+        for segment in segments {
+            self.lazy_push(segment)?;
+        }
+        Ok(())
+    }
+
+    /// Follows each segment, and closes the path after a last `.` or `..`: `..` and `baz` after
+    /// `/foo/bar` give `/foo/baz`. The iterator is asked up to its first `None`. At an `Err` the
+    /// segments before the refused one stand, and the path is not closed.
+    pub fn append<'s, I>(&mut self, segments: I) -> Result<(), Memory>
+    where
+        I: Iterator<Item = Segment<'s, C>> + Drop,
+        requires { CanTakeAll I.can_next I.remaining segments }
+        ensures same { IsSameEditor self.old self.new }
+        ensures edit { Appends step.appended followed_each I.next_gives segments
+            (Becomes self.old self.new) result }
+    {
+        let mut ends_in_dots = false;
+        for segment in segments {
+            self.follow(segment)?;
+            ends_in_dots = !is_name(segment.as_str());
+        }
+        if ends_in_dots {
+            self.close()?;
+        }
+        Ok(())
+    }
+
+    /// Puts an absolute path in its place, and appends the segments of a relative one to it: `../b`
+    /// after `/x/a` gives `/x/b`. This is one edit, so an `Err` changes nothing.
+    pub fn join(&mut self, path: Path<'_, C>) -> Result<(), Memory>
+        ensures { EditsBy step.joined (path_value path.entry) self.old self.new result }
+    {
+        if path.is_absolute() {
+            return self.replace(path);
+        }
+        let mut bytes = String::from_str(self.alloc(), self.text())?.into_bytes();
+        let len = bytes.len();
+        let mut copy: PathMut<'_, C, Vec<u8, T::Alloc>> = PathMut::of_target(
+            &mut bytes,
+            self.context,
+            0..len,
+        );
+        copy.append(path.segments())?;
+        self.put(copy.text())
+    }
+}

@@ -1,0 +1,45 @@
+//! The normal form of a path in its place (RFC 3986 section 5.2.4).
+ghost use Rattle.std.specs.Prelude.{◌≡◌, ◌≤◌, true, [], length, OnOk, IsOk};
+ghost use Rattle.iref_model.specs.{spell_path, RemovesDotSegments};
+ghost use Rattle.iref_component.specs.PathEdits.{Edits, path_mut_context, path_mut_text};
+ghost use Rattle.iref_component.specs.PathEdits.{path_mut_value};
+ghost use Rattle.iref_model.specs.PathSteps as step;
+
+use crate::path_mut::PathMut;
+use iref_error::Memory;
+use iref_grammar::chars::CharSet;
+use iref_path_text::rewriting::normal_lead;
+use iref_path_text::spell::normalized_text;
+use iref_path_text::target::PathTarget;
+
+impl<C: CharSet, T: PathTarget<C>> PathMut<'_, C, T> {
+    /// Puts the path of the normal segments in its place, guarded where that is needed (RFC 3986
+    /// section 5.2.4). Under an authority that is what `remove_dot_segments` leaves. Memory is
+    /// taken only where that path is longer, as `./a:b` for `a:b` and `../` for `..`.
+    pub fn normalize(&mut self) -> Result<(), Memory>
+        ensures edit { Edits step.normalized self.old self.new result }
+        ensures dots { (path_mut_context self.old).has_authority ≡ true
+            → (path_mut_value self.old).absolute ≡ true → OnOk result
+            (RemovesDotSegments (path_mut_text self.old) [] (path_mut_text self.new)) }
+        ensures shorter { length (spell_path (step.normalized
+            (path_mut_context self.old) (path_mut_value self.old)))
+            ≤ length (path_mut_text self.old) → IsOk result }
+    {
+        let path = self.text();
+        let (lead, len) = normal_lead(self.context, path);
+        if len > path.len() {
+            return self.put_normal();
+        }
+        self.place.end = self.target.rewrite(self.context, self.place, lead);
+        Ok(())
+    }
+
+    // Puts the normal form in its place, once it is made beside the path.
+    fn put_normal(&mut self) -> Result<(), Memory>
+        ensures { Edits step.normalized self.old self.new result }
+    {
+        let absolute = self.as_path().is_absolute();
+        let text = normalized_text::<C, _>(self.alloc(), self.context, absolute, self.text())?;
+        self.put(text.as_str())
+    }
+}

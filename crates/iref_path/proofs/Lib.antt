@@ -1,4 +1,0 @@
-pub mod EditLemmas
-pub mod ManyLemmas
-pub mod OwnerLemmas
-pub mod TryLemmas
