@@ -1,5 +1,5 @@
 //! Texts of a rule, borrowed or owned: what views and owners share.
-ghost use Rattle.std.specs.{Prelude.{◌≡◌, true, length, Some}, Ordering.{on, as_partial_cmp}};
+ghost use Rattle.std.specs.{Prelude.{◌≡◌, length, Some}, Ordering.{on, as_partial_cmp}};
 ghost use Rattle.std.specs.{Ordering.{eq_by_cmp}, Cmp.{on_total, on_equiv, po}};
 ghost use Rattle.std.specs.{Cmp.{partial_equiv_from_equiv, eq_by_cmp_equiv}, Cmp.Rules.{comparing}};
 ghost use Rattle.std.proofs.Common.{rules, ap, refl};

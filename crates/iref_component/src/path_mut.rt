@@ -39,7 +39,7 @@ pub struct PathMut<'a, C: CharSet, T: Target<PathPart, C> = Vec<u8>> {
 }
 
 impl<'a, C: CharSet, T: Target<PathPart, C>> PathMut<'a, C, T> {
-    ghost use Rattle.iref_component.specs.PathEdits.{Borrows, edited_bytes, path_mut_context};
+    ghost use Rattle.iref_component.specs.PathEdits.{Borrows, path_mut_context};
     ghost use Rattle.iref_component.specs.PathEdits.{path_mut_start, path_mut_end, path_mut_text};
     ghost use Rattle.iref_component.specs.PathEdits.{path_mut_value, IsEditorOf, IsSameEditor};
     ghost use Rattle.iref_component.specs.PathEdits.{BecomesPath, Edits, EditsBy, EditsTo};

@@ -269,7 +269,7 @@ impl Escaped for SegmentRule {
     ghost escaped = { segment_is_pct_str };
 }
 
-/// The rule of querys (RFC 3986 section 3.4).
+/// The rule of queries (RFC 3986 section 3.4).
 pub struct QueryRule;
 
 impl Rule for QueryRule {

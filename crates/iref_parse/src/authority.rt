@@ -4,8 +4,7 @@ ghost use Rattle.std.specs.{Prelude.{◌≡◌, true}, Option.{option_copied}};
 ghost use Rattle.iref_grammar.specs.Authority.{read_authority, read_host_and_port, bracketed};
 ghost use Rattle.iref_grammar.specs.Authority.{after_bracketed, has_authority_parts};
 ghost use Rattle.iref_grammar.specs.Authority as authority;
-ghost use Rattle.iref_grammar.specs.Tests as test;
-ghost use Rattle.iref_grammar.specs.{Tests.{none_or}, Characters.{CharTests, AreAboveAscii}};
+ghost use Rattle.iref_grammar.specs.{Characters.{CharTests, AreAboveAscii}};
 ghost use Rattle.iref_parse.specs.AuthoritySlices.{authority_of, is_port_part};
 
 use crate::cut::{cut, split_before};

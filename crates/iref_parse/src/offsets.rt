@@ -2,7 +2,7 @@
 
 ghost use Rattle.std.specs.Option.{option_copied};
 ghost use Rattle.std.specs.Prelude.{◌≡◌, ◌+◌, ◌<◌, ◌^◌, length, option_map, [], ◌∷◌};
-ghost use Rattle.iref_grammar.specs.{place_from, offsets_in, colon, part_then, then_part, Text};
+ghost use Rattle.iref_grammar.specs.{place_from, offsets_in, colon, part_then, then_part};
 ghost use Rattle.iref_grammar.specs.{spell};
 ghost use Rattle.iref_parse.specs.ReferenceSlices.{value_of};
 

@@ -7,7 +7,7 @@ ghost use Rattle.iref_path_text.specs.MeasuredPaths.{IsMeasured, measured_text};
 ghost use Rattle.iref_path_text.specs.{Pieces.{pieces_if_some}, Remaining.{IsSound, normal_left}};
 ghost use Rattle.iref_path_text.specs.{Spelling.{each_closed}, Ways.{IsWaySound, path_between}};
 ghost use Rattle.iref_path_text.specs.{Ways.{way_left}, Written.{WritesBefore}};
-ghost use Rattle.std.specs.Prelude.{◌||◌, ◌&&◌, ◌≡◌, ◌+◌, ◌*◌, ◌<◌, ◌≤◌, ◌^◌, ◌++◌, IfOk, drop};
+ghost use Rattle.std.specs.Prelude.{◌||◌, ◌&&◌, ◌≡◌, ◌+◌, ◌*◌, ◌<◌, ◌≤◌, ◌^◌, ◌++◌, IfOk};
 ghost use Rattle.std.specs.{Prelude.{false, length, true}, List.{join_with_byte}};
 ghost use Rattle.std.specs.String.{string_bytes};
 

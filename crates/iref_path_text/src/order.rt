@@ -1,11 +1,10 @@
 //! Order and hash of paths, by their keys: both normal lists are read from the back, and take no
 //! memory.
 
-ghost use Rattle.std.specs.Prelude.{◌≡◌, ◌-◌, ◌≤◌, true, fold, length, map, take};
+ghost use Rattle.std.specs.Prelude.{◌≡◌, ◌-◌, ◌≤◌, fold, length, take};
 ghost use Rattle.std.specs.Cmp.Lexicographic.{slice_cmp};
-ghost use Rattle.percent_encoding.specs.Percent.{percent_decode};
 ghost use Rattle.iref_grammar.specs.{read_path, text_order};
-ghost use Rattle.iref_model.specs.{normal_segments, path_key, path_key_cmp, fed_from_the_back};
+ghost use Rattle.iref_model.specs.{path_key, path_key_cmp, fed_from_the_back};
 ghost use Rattle.iref_model.specs.{fed_path};
 ghost use Rattle.iref_path_text.specs.Remaining.{IsSound, decoded_left, normal_left};
 

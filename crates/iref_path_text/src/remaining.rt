@@ -5,9 +5,9 @@ ghost use Rattle.std.specs.{Iterator.{YieldsFirstBy, YieldsLastBy}, Prelude.{◌
 ghost use Rattle.std.specs.Prelude.{◌^◌, ◌==◌, ◌&&◌, [], false, length, IfNone, IfSome};
 ghost use Rattle.std.specs.Prelude.{if◌then◌else◌};
 ghost use Rattle.iref_grammar.specs.{is_empty, read_path};
-ghost use Rattle.iref_model.specs.{open_before, staying_before, normal_segments};
+ghost use Rattle.iref_model.specs.{normal_segments};
 ghost use Rattle.iref_path_text.specs.{Pieces.{pieces_if_some, text_at}, Remaining.{IsFate}};
-ghost use Rattle.iref_path_text.specs.Remaining.{IsSound, KeepsEnds, first_or, flagged_path};
+ghost use Rattle.iref_path_text.specs.Remaining.{IsSound, KeepsEnds};
 ghost use Rattle.iref_path_text.specs.Remaining.{names_left, normal_left, open_at_start, to_read};
 ghost use Rattle.iref_model.specs.NormalList as list;
 

@@ -1,8 +1,8 @@
 //! The text of a normalized path, which is measured and written from its end (RFC 3986 section
 //! 5.2.4).
 
-ghost use Rattle.std.specs.Prelude.{◌≡◌, ◌+◌, ◌-◌, ◌<◌, ◌≤◌, ◌^◌, ◌++◌, ◌||◌, ◌&&◌, ◌==◌, not};
-ghost use Rattle.std.specs.{Prelude.{true, [], drop, length, IfOk}, List.{join_with_byte}};
+ghost use Rattle.std.specs.Prelude.{◌≡◌, ◌+◌, ◌-◌, ◌<◌, ◌≤◌, ◌^◌, ◌||◌, ◌&&◌, ◌==◌};
+ghost use Rattle.std.specs.{Prelude.{true, [], length, IfOk}, List.{join_with_byte}};
 ghost use Rattle.std.specs.{List.{list_any}, String.{string_bytes}};
 ghost use Rattle.iref_grammar.specs.{is_path_in, colon, slash, read_path, spell_path, is_path};
 ghost use Rattle.iref_path_text.specs.{PathParts.{is_path_after}, Remaining.{first_or}};

@@ -3,7 +3,7 @@ ghost use Rattle.iref_grammar.specs.{Grammar.{IsUri, IsUriReference}, Rules.{InU
 ghost use Rattle.iref_error.specs.Tried.{TellsInvalid};
 ghost use Rattle.iref_reference.specs.References.{reference_buf_text, reference_text};
 ghost use Rattle.iref_reference.specs.Resolutions.{IsResolved};
-ghost use Rattle.std.specs.Prelude.{◌≡◌, IfOk, OnErr, OnOk};
+ghost use Rattle.std.specs.Prelude.{◌≡◌, IfOk};
 
 mod owners;
 

@@ -1,5 +1,5 @@
 //! Edits of a list, one after the other, up to the first that cannot be done.
-ghost use Rattle.std.specs.Prelude.{◌≡◌, map};
+ghost use Rattle.std.specs.Prelude.{map};
 ghost use Rattle.iref_model.specs.Edits.{edited, edited_uri};
 ghost use Rattle.iref_reference.specs.References.{reference_buf_text, reference_buf_value};
 ghost use Rattle.iref.specs.EditAnswers.{AppliesEdit, AppliesEdits, AppliesTo, edited_in};

@@ -1,7 +1,6 @@
 //! What is left of the normal list of two texts that are read as one, from the back (RFC 3986
 //! sections 5.2.3 and 5.2.4).
 
-ghost use Rattle.iref_grammar.specs.Texts.{is_empty};
 ghost use Rattle.iref_model.specs.{normal_segments, open_before, staying_before};
 ghost use Rattle.iref_path_text.specs.Merged.{IsBehind, IsMergeSound, merged_left, merged_list};
 ghost use Rattle.iref_path_text.specs.Merged.{merged_names, merged_path, open_before_both};
