@@ -283,10 +283,6 @@ pub any-contained : (text : Text) (mark : ℕ) → list_any (λ c. c == mark) te
 any-contained [] mark = refl
 any-contained (c ∷ text) mark = ap (λ b. c == mark || b) (any-contained text mark)
 
--- a buffer that was filled to its end
-pub filled : (n : ℕ) (new old : Text) → length new ≡ n → take n (new ++ drop (length new) old) ≡ new
-filled n new old h = take_at new (drop (length new) old) n h
-
 -- ---- the sizes of lists of segments
 
 -- a segment with its `/` has a byte at least

@@ -30,20 +30,6 @@ size_last list front s e =
 pub parents_before : (n m : ℕ) → n ≡ m + 1 → replicate n (codes "..") ≡ replicate m (codes "..") ++ codes ".." ∷ []
 parents_before n m e = ap (λ k. replicate k (codes "..")) e ∙ sym (replicate-append-replicate m 1 (codes ".."))
 
--- one byte with a `/` after each is one empty segment
-pub lone_size : (list : List Text) → (length (each_closed list) == 1) ≡ is_one_empty list
-lone_size [] = refl
-lone_size ([] ∷ []) = refl
-lone_size ([] ∷ t ∷ rest) =
-    let first = size-cons [] (t ∷ rest) in
-    let second = size-cons t rest in
-    let more : (length (each_closed ([] ∷ t ∷ rest)) == 1) ≡ false = grind (arith, nat_tests) in
-    more
-lone_size ((c ∷ s) ∷ rest) =
-    let first = size-cons (c ∷ s) rest in
-    let more : (length (each_closed ((c ∷ s) ∷ rest)) == 1) ≡ false = grind (arith, nat_tests) in
-    more
-
 pub closing_size : (closes : Bool) → length (each_closed (closing closes)) ≤ 1
 closing_size true = omega arith
 closing_size false = omega arith
