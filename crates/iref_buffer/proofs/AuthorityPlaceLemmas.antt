@@ -1,7 +1,7 @@
 -- The authority of a reference where it stands, and after an edit of it.
-use Rattle.std.proofs.Common.{◌≡◌, ℕ, ◌+◌, true, length, length-append, refl, sym, ◌∙◌, ap, subst, arith}
+use Rattle.std.proofs.Common.{◌≡◌, ℕ, ◌+◌, true, length, length-append, refl, sym, ◌∙◌, ap, arith}
 use mathlib.Core.Bool.{true≢false}
-use Rattle.std.specs.Prelude.{codes, Option, Some, None, IfSome, is_some, option_map}
+use Rattle.std.specs.Prelude.{codes, Option, Some, None, is_some, option_map}
 use Rattle.std.specs.List.{splice}
 use Rattle.std.specs.declared.ops.Range.{Range}
 use Rattle.iref_grammar.specs.Characters.{CharTests, AreAboveAscii}
@@ -16,10 +16,9 @@ use Rattle.iref_grammar.proofs.AuthorityRuleLemmas.{authority_read, Decides-has_
 use Rattle.iref_grammar.proofs.PlaceLemmas.{authority_place}
 use Rattle.iref_grammar.proofs.ReadablePartsLemmas.{readable_parts}
 use Rattle.iref_model.specs.ComponentSteps.{with_authority_step}
-use Rattle.iref_edit.specs.Changes.{IsWithin}
 use Rattle.iref_buffer.specs.AuthorityPlaces.{authority_part, place_of_authority}
 use Rattle.iref_buffer.proofs.EditLemmas.{authority_part_replaced, readable_of}
-use Rattle.iref_buffer.proofs.HeldLemmas.{components_of, offsets_within}
+use Rattle.iref_buffer.proofs.HeldLemmas.{components_of}
 
 -- ---- where it stands
 
@@ -39,10 +38,6 @@ module _ (text : Text) (has : is_some (read_reference text).authority ≡ true) 
   pub authority_spelled_there : option_map spell_authority (read_reference text).authority ≡ Some (authority_part text)
   authority_spelled_there = sym (authority_place text) ∙ ap (option_map (text_at text)) authority_stands
 
-  -- how much stands there
-  pub authority_len : option_map length (option_map spell_authority (read_reference text).authority) ≡ Some (length (authority_part text))
-  authority_len = ap (option_map length) authority_spelled_there
-
 module _ (set : CharTests) (above : AreAboveAscii set) (text : Text) (h : is_reference set text ≡ true) (has : is_some (read_reference text).authority ≡ true) where
   -- it is read there
   pub authority_read_there : (read_reference text).authority ≡ Some (read_authority (authority_part text))
@@ -56,9 +51,6 @@ module _ (set : CharTests) (above : AreAboveAscii set) (text : Text) (h : is_ref
 
   pub authority_in_rule : is_authority set (authority_part text) ≡ true
   authority_in_rule = ap (none_or (is_authority set)) (sym (authority_spelled_there text has)) ∙ (components_of set above text h).authority
-
-  pub authority_part_within : IsWithin text (place_of_authority text)
-  authority_part_within = subst (λ o. IfSome o (IsWithin text)) (authority_stands text has) (offsets_within set above text h).authority
 
 -- ---- what is known where a place is
 

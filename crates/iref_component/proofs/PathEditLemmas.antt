@@ -1,5 +1,5 @@
 -- The text that an edit leaves.
-use Rattle.std.proofs.Common.{Bool, true, subst, ◌≡◌, ℕ, ◌+◌, ◌-◌, ◌≤◌, [], ◌++◌, length, take, refl, sym, ap, ◌∙◌, arith}
+use Rattle.std.proofs.Common.{Bool, true, subst, ◌≡◌, ℕ, ◌+◌, ◌-◌, [], ◌++◌, length, take, refl, sym, ap, ◌∙◌, arith}
 use Rattle.std.proofs.lemmas.List.{append-nil, drop_all, take_all}
 use Rattle.std.specs.List.{splice, slice_range}
 use Rattle.iref_grammar.specs.declared.context.PathContext.{PathContext}
@@ -20,7 +20,7 @@ use Rattle.iref_grammar.specs.PathValue.{PathValue, read_path, spell_path}
 use Rattle.iref_path_text.specs.declared.steps.Step.{Step}
 use Rattle.iref_path_text.specs.PathParts.{is_path_after, step_text, StepsTo}
 use Rattle.iref_component.specs.declared.path_mut.PathMut.{PathMut}
-use Rattle.iref_component.specs.PathEdits.{edited_bytes, path_mut_context, path_mut_text, path_mut_value, IsEditorOf, BecomesPath}
+use Rattle.iref_component.specs.PathEdits.{edited_bytes, path_mut_context, path_mut_value, IsEditorOf, BecomesPath}
 
 -- the part after a step
 pub step_spliced : (path : Text) (step : Step) (n : ℕ) → n ≡ length path → splice path step.keep n (step.lead.now ++ step.middle.now ++ step.close.now) ≡ step_text path step
@@ -76,11 +76,3 @@ normal_fits set above context path old lead e spelled h =
     let path_is : is_path set old ≡ true = first_of_both (is_path set old) (follows_authority context (read_path old)) (ap (is_path_after set context) (sym e) ∙ h) in
     let fit = normalized-in_context context (read_path old).absolute old set above path_is in
     (text, ap (is_path_in set context) text ∙ fit.0, ap (is_path_after set context) text ∙ fit.1)
-
--- where the normal form of a whole text is no longer, that of the edited path is not
-pub whole_shorter : {C : _} {T : _} {A : _} {c : _} {t : _} {a : _} {old : PathMut C T A c t a} {bytes : Text} {context : PathContext} → IsEditorOf old bytes context 0 (length bytes)
-    → length (spell_path (normalized context (read_path bytes))) ≤ length bytes → length (spell_path (normalized (path_mut_context old) (path_mut_value old))) ≤ length (path_mut_text old)
-whole_shorter {C} {T} {A} {c} {t} {a} {old} {bytes} {context} of h =
-    let text : path_mut_text old ≡ bytes = (λ i. slice_range (of.bytes_are i) (of.from i) (of.to i)) ∙ slice_all bytes 0 (length bytes) refl (omega arith) in
-    let Fits : PathContext → Text → Type 0 = λ where_it_is path. length (spell_path (normalized where_it_is (read_path path))) ≤ length path in
-    subst (λ where_it_is. Fits where_it_is (path_mut_text old)) (sym of.context_is) (subst (Fits context) (sym text) h)
