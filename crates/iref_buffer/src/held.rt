@@ -242,7 +242,7 @@ fn authority_start(offsets: &Offsets) -> usize
     }
 }
 
-// What stands at a place.
+// What is at a place.
 fn slice_at<'a>(text: &'a str, place: &Range<usize>) -> &'a str
     requires { IsWithin text.now place.now }
     ensures { result.now ≡ text_at text.now place.now }
@@ -250,7 +250,7 @@ fn slice_at<'a>(text: &'a str, place: &Range<usize>) -> &'a str
     &text[place.start..place.end]
 }
 
-// What stands at a place, if there is one.
+// What is at a place, if there is one.
 fn slice_if<'a>(text: &'a str, place: &Option<Range<usize>>) -> Option<&'a str>
     requires { IfSome place.now (IsWithin text.now) }
     ensures { option_copied result ≡ option_map (text_at text.now) place.now }
@@ -261,7 +261,7 @@ fn slice_if<'a>(text: &'a str, place: &Option<Range<usize>>) -> Option<&'a str>
     }
 }
 
-// What stands at the offsets.
+// What is at the offsets.
 fn slices_at<'a>(text: &'a str, offsets: &Offsets) -> ReferenceSlices<'a>
     requires { AreWithin text.now offsets.now }
     ensures { texts_of result ≡ texts_at text.now offsets.now }

@@ -26,7 +26,7 @@ pub struct Lengths {
 }
 
 impl Lengths {
-    /// Of what stands at these offsets.
+    /// Of what is at these offsets.
     pub fn at(offsets: &Offsets) -> Lengths
         ensures { result ≡ lengths_at offsets.now }
     {

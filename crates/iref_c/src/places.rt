@@ -130,7 +130,7 @@ fn places_from(start: usize, parts: AuthoritySlices<'_>) -> AuthorityPlaces
     }
 }
 
-// The parts of an authority that stands at this place, where there is one.
+// The parts of an authority that is at this place, where there is one.
 fn places_at(place: Place, authority: Option<&str>) -> AuthorityPlaces
     requires fits { place.end < 2 ^ 64 }
     requires ends { IfSome (option_copied authority) (λ text.

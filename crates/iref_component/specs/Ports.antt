@@ -17,4 +17,4 @@ port_number limit digits = fitting limit (port_value digits)
 
 -- the same of a type with a sign
 abbrev pub signed_port_number : ℕ → Text → Result ℤ PortError
-signed_port_number limit digits = result_map_both pos (λ fault. fault) (port_number limit digits)
+signed_port_number limit digits = result_map_both pos (λ error. error) (port_number limit digits)

@@ -29,7 +29,7 @@ struct Run {
     len: usize,
 }
 
-// How many zero groups stand at the front.
+// How many zero groups are at the front.
 fn zeros_at_front(groups: &[u16]) -> usize
     ensures { result ≡ prefix_len (λ group. group == 0) groups.now }
 {

@@ -1,4 +1,4 @@
--- Normal paths where they stand: a guard hides nothing, so to normalise again changes nothing.
+-- Normal paths where they stand: a guard hides nothing, so to normalize again changes nothing.
 use Rattle.std.proofs.Common.{◌≡◌, Bool, true, false, not, cond, ◌&&◌, ◌||◌, List, [], ◌∷◌, ◌++◌, refl, sym, ◌∙◌, ap}
 use Rattle.std.specs.Prelude.{codes, map}
 use mathlib.Core.Bool.{true≢false}
@@ -51,7 +51,7 @@ pub normal-guarded : (context : PathContext) (p : PathValue) → follows_authori
 unfolding guarded
 normal-guarded context p h = normal-dot_where_needed context (made_absolute context p) ∙ ap normal (made_absolute-same context p h)
 
--- ---- normalised paths
+-- ---- normalized paths
 
 follows-normal : (context : PathContext) (p : PathValue) → follows_authority context p ≡ true → follows_authority context (normal p) ≡ true
 unfolding normal_segments excess staying_names
@@ -64,14 +64,14 @@ follows-normal context p h = by context.has_authority p.absolute p.segments h
     by false true segments h = refl
     by false false segments h = refl
 
--- the normal path of a normalised path is its normal path
+-- the normal path of a normalized path is its normal path
 pub normal-normalized : (context : PathContext) (p : PathValue) → follows_authority context p ≡ true → normal (normalized context p) ≡ normal p
 normal-normalized context p h = normal-guarded context (normal p) (follows-normal context p h) ∙ normal_again p
 
 pub normalized-normalized : (context : PathContext) (p : PathValue) → follows_authority context p ≡ true → normalized context (normalized context p) ≡ normalized context p
 normalized-normalized context p h = ap (guarded context) (normal-normalized context p h)
 
--- a normalised path is equal to the path
+-- a normalized path is equal to the path
 pub path_key-normalized : (context : PathContext) (p : PathValue) → follows_authority context p ≡ true → path_key (normalized context p) ≡ path_key p
 unfolding path_key
 path_key-normalized context p h =

@@ -216,7 +216,7 @@ with_port-readable set port r k =
 pub with_whole_authority-readable : (set : CharTests) (new : AuthorityValue) (r : ReferenceValue) → has_authority_parts set new ≡ true → is_readable set r ≡ true → is_readable set (with_authority_step (λ a. new) r) ≡ true
 with_whole_authority-readable set new r k = with_authority_step-readable set (λ a. new) r (λ a h. k)
 
--- ---- normalising a reference
+-- ---- normalizing a reference
 
 pub with_normal_path-again : (set : CharTests) (r : ReferenceValue) → is_readable set r ≡ true → with_normal_path (with_normal_path r) ≡ with_normal_path r
 with_normal_path-again set r h =
@@ -229,6 +229,6 @@ key-with_normal_path set r h =
     let follows = (readable_parts set r h).follows in
     λ i. record (key r) { path = path_key-normalized (context_of r) r.path follows i }
 
--- normalising an absolute path under an authority leaves what the rewriting leaves of its text
+-- normalizing an absolute path under an authority leaves what the rewriting leaves of its text
 pub with_normal_path-removes : (r : ReferenceValue) → is_some r.authority ≡ true → r.path.absolute ≡ true → list_all (lacks slash) r.path.segments ≡ true → RemovesDotSegments (spell_path r.path) [] (spell_path (with_normal_path r).path)
 with_normal_path-removes r = path_removes_dot_segments (context_of r) r.path

@@ -59,7 +59,7 @@ pub fn names_that_stay_are_counted_from_the_back()
     ensures excess { (segments : List Text) → excess segments ≡ open_parents segments }
 {}
 
-/// To normalise twice is to normalise once.
+/// To normalize twice is to normalize once.
 pub fn normalizing_again_changes_nothing()
     ensures normal { (p : PathValue) → normal (normal p) ≡ normal p }
     ensures guarded { (context : PathContext) (p : PathValue) → follows_authority context p ≡ true
@@ -68,12 +68,12 @@ pub fn normalizing_again_changes_nothing()
         → normalized context (normalized context p) ≡ normalized context p }
 {}
 
-/// What is normalised is equal to what it was.
+/// What is normalized is equal to what it was.
 pub fn normalizing_keeps_the_key()
     ensures { (p : PathValue) → path_key (normalized alone p) ≡ path_key p }
 {}
 
-/// Normalising an absolute path under an authority leaves what `remove_dot_segments` leaves of its
+/// Normalizing an absolute path under an authority leaves what `remove_dot_segments` leaves of its
 /// text (RFC 3986 section 5.2.4).
 pub fn normalizing_removes_dot_segments()
     ensures path { (context : PathContext) (p : PathValue) → context.has_authority ≡ true

@@ -66,7 +66,7 @@ pub fn authority_steps_keep_references_readable()
         → KeepsReadable set (with_authority_step (λ old. a)) }
 {}
 
-/// To normalise the path of a reference twice is to normalise it once; the reference is equal to
+/// To normalize the path of a reference twice is to normalize it once; the reference is equal to
 /// what it was; and of an absolute path under an authority it leaves what `remove_dot_segments`
 /// leaves of its text (RFC 3986 section 5.2.4).
 pub fn normalizing_a_reference()

@@ -195,7 +195,7 @@ impl<R: HeldRule, C: CharSet, A: Allocator> Held<R, C, A> {
         self.offsets.path.start..self.offsets.path.end
     }
 
-    // Where a range of what stands at a place stands in the text.
+    // Where a range of what is at a place is in the text.
     pub(super) fn part_of(&self, place: Range<usize>, within: &Range<usize>) -> Range<usize>
         requires place { IsWithin self.now place }
         requires within { IsWithin (text_at self.now place) within.now }
