@@ -115,7 +115,7 @@ fn verb_and_fields(line: &[u8]) -> (&[u8], Option<&[u8]>)
 }
 
 /// What a line asks for, if its verb is one of the program's and its fields are as many as that
-/// takes. The fields of edits are not looked at yet.
+/// takes. The fields of edits and of prefix tables are not looked at yet.
 pub fn read_request(line: &[u8]) -> Option<Request<'_>>
     ensures { read_line all_verbs line.now ≡ option_and_then request_of result }
 {

@@ -4,7 +4,7 @@ ghost use Rattle.percent_encoding.specs.{Iter.{decoded_bytes}, Percent.{percent_
 ghost use Rattle.iref_component.specs.Components.{text_of};
 
 use crate::owned::TextBuf;
-use crate::rule::{Escaped, Rule};
+use crate::rule::Escaped;
 use crate::rules::PctStrRule;
 use crate::view::View;
 pub use iref_error::InvalidPctStr;

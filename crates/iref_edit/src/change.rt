@@ -5,10 +5,10 @@ ghost use Rattle.iref_edit.specs.Changes.{IsNoLonger, cut_length, pieces_length}
 use std::alloc::AllocError;
 use std::ops::Range;
 
-/// Where a part stands in a text, with what stands before it as far as that matters.
+/// Where a part stands in a text, in bytes.
 #[derive(Clone, Copy)]
 pub struct Place {
-    /// Where the part begins, in bytes.
+    /// Where the part begins.
     pub start: usize,
     /// Where it ends.
     pub end: usize,

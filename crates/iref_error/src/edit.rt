@@ -1,4 +1,4 @@
-//! Why an edit is refused.
+//! Why an edit, or a call that makes a text, is refused.
 use std::alloc::{AllocError, AllocFailed};
 use std::fmt;
 use thiserror::Error;

@@ -39,7 +39,7 @@ pub struct MeasuredPath<'a> {
 
 // Whether what follows these segments is absolute: after an authority, what follows none is.
 #[tactic(auto, using(crate::proofs::SlashLemmas::some_pieces))]
-fn is_absolute_after(has_authority: bool, absolute: bool, segments: Option<&str>) -> bool
+fn is_merged_absolute(has_authority: bool, absolute: bool, segments: Option<&str>) -> bool
     ensures { result ≡ absolute || (has_authority && is_empty (pieces_if_some segments.entry)) }
 {
     absolute || has_authority && segments.is_none()
@@ -80,7 +80,7 @@ impl<'a> MeasuredPath<'a> {
             return MeasuredPath::of_segments(context, true, None, segments);
         }
         let (absolute, front) = split_root(base);
-        let absolute = is_absolute_after(context.has_authority, absolute, front);
+        let absolute = is_merged_absolute(context.has_authority, absolute, front);
         MeasuredPath::of_segments(context, absolute, without_last(front), segments)
     }
 

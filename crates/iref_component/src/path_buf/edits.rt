@@ -98,9 +98,7 @@ impl<C: CharSet> PathBuf<C> {
         ensures changed { IfOk result (λ changed. changed ≡ not ((path_value self.old).absolute
             && is_empty (path_value self.old).segments)) }
     {
-        let changes = self.is_relative() || !self.is_empty();
-        self.pop()?;
-        Ok(changes)
+        self.as_path_mut().try_pop()
     }
 
     /// Puts another path in its place, after what guards it there.
