@@ -42,3 +42,4 @@ pub mod FrontLemmas
 pub mod PctLemmas
 pub mod EmptyLemmas
 pub mod MarkLemmas
+pub mod FeedLemmas

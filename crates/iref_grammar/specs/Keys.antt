@@ -1,7 +1,7 @@
--- What texts are compared by: bytes. Equal keys are equal texts, the order is that of bytes, and a hasher is fed each byte.
-use Rattle.std.specs.Prelude.{◌++◌, Bool, ◌==◌}
-use Rattle.std.specs.List.{flat_map}
-use Rattle.std.specs.Hash.{HashWrites, u8}
+-- What texts are compared by: bytes. Equal keys are equal texts, the order is that of bytes, and what a hasher is fed determines the bytes.
+use Rattle.std.specs.Prelude.{◌≡◌, ℕ, Bool, ◌==◌, List, [], ◌∷◌, ◌++◌, length, if◌then◌else◌}
+use Rattle.std.specs.List.{concat}
+use Rattle.std.specs.Hash.{HashWrites}
 use Rattle.std.specs.Ordering.{nat_cmp}
 use Rattle.std.specs.Cmp.Lexicographic.{pointwise, slice_cmp}
 use Rattle.std.specs.declared.cmp.Ordering.{Ordering}
@@ -15,6 +15,20 @@ is_same_text = pointwise ◌==◌
 abbrev pub text_order : Text → Text → Ordering
 text_order = slice_cmp nat_cmp
 
--- what a hasher is fed: each byte, and then one that no UTF-8 has
-unfoldable pub fed_bytes : Text → HashWrites
-fed_bytes bytes = flat_map u8 bytes ++ u8 255
+-- one write: the number of bytes, then the bytes
+abbrev pub piece : Text → List ℕ
+piece bytes = length bytes ∷ bytes
+
+-- what is fed of a text, where some bytes are held already: 63 held bytes are written as one piece, and the last piece has fewer
+unfoldable pub fed_after : Text → Text → HashWrites
+fed_after held [] = piece held ∷ []
+fed_after held (b ∷ bs) =
+    if length held == 62 then piece (held ++ b ∷ []) ∷ fed_after [] bs else fed_after (held ++ b ∷ []) bs
+
+-- what a hasher is fed of a text: pieces of 63 bytes, each in one write after its length; a shorter piece ends the text
+abbrev pub fed_bytes : Text → HashWrites
+fed_bytes bytes = fed_after [] bytes
+
+-- The bytes that are fed determine the value and where it ends, whatever bytes follow: no two values feed the same bytes.
+abbrev pub IsSelfDelimiting : {T : Type 0} → (T → HashWrites) → Type 0
+IsSelfDelimiting {T} fed = (a b : T) (r s : List ℕ) → concat (fed a) ++ r ≡ concat (fed b) ++ s → (a ≡ b) × (r ≡ s)
