@@ -12,11 +12,11 @@ use Rattle.iref_grammar.specs.Characters.{CharTests, AreAboveAscii, uri_chars}
 use Rattle.iref_grammar.specs.Grammar.{colon, at_sign, slash, question_mark, is_not_percent, is_sub_delim, is_reg_name_char, is_user_info_char, is_path_char, is_fragment_char, is_query_char}
 
 -- whether the rule of this number has the byte, by the table
-abbrev listed : ℕ → ℕ → Bool
+abbrev pub listed : ℕ → ℕ → Bool
 listed n b = nat_le (slice_index FIRST_RULES b) n
 
 -- whether it has it, by the grammar
-abbrev allowed : (ℕ → Bool) → ℕ → Bool
+abbrev pub allowed : (ℕ → Bool) → ℕ → Bool
 allowed test b = is_ascii b && (is_not_percent b && test b)
 
 abbrev entries_match : (ℕ → Bool) → ℕ → ℕ → Bool

@@ -36,7 +36,7 @@ pub host_alone : (set : CharTests) → AreAboveAscii set → (host : Text) → i
 host_alone set above host h = ap (is_authority set) (sym (append-nil host)) ∙ host_and_port set above host None h refl
 
 -- a port after a host
-port_after : (set : CharTests) → AreAboveAscii set → (host end : Text) → is_host set host ≡ true → is_port_part end ≡ true → is_authority set (host ++ end) ≡ true
+pub port_after : (set : CharTests) → AreAboveAscii set → (host end : Text) → is_host set host ≡ true → is_port_part end ≡ true → is_authority set (host ++ end) ≡ true
 unfolding is_port
 port_after set above host [] h k = host_and_port set above host None h refl
 port_after set above host (c ∷ port) h k =

@@ -1,4 +1,5 @@
 pub mod AsciiLemmas
+pub mod BufferLemmas
 pub mod ScanLemmas
 pub mod DigitLemmas
 pub mod OctetLemmas
@@ -7,5 +8,10 @@ pub mod DoubleColonLemmas
 pub mod Ipv6ScanLemmas
 pub mod LiteralLemmas
 pub mod SlicePlaceLemmas
-pub mod MarkLemmas
 pub mod AuthorityLemmas
+pub mod LaneLemmas
+pub mod DifferLemmas
+pub mod SeenLemmas
+pub mod PlainLemmas
+pub mod PlainTextLemmas
+pub mod PositionLemmas

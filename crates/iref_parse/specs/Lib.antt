@@ -16,3 +16,5 @@ pub mod ReferenceSlices
 pub mod IpGroups
 pub mod Ipv6Scan
 pub mod Splits
+pub mod Lanes
+pub mod Plain

@@ -64,8 +64,8 @@ pub fn split_parts(text: &str) -> AuthoritySlices<'_>
     }
 }
 
-// Whether the bytes are nothing, or `:` and a port.
-fn is_port_part(bytes: &[u8]) -> bool
+/// Whether the bytes are nothing, or `:` and a port.
+pub(crate) fn is_port_part(bytes: &[u8]) -> bool
     ensures { result ≡ is_port_part bytes.now }
 {
     let Some((first, port)) = bytes.split_first() else {

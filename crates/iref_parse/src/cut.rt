@@ -3,6 +3,8 @@
 ghost use Rattle.std.specs.{Prelude.{◌≡◌, ◌<◌, [], ◌∷◌}, Option.{option_copied}};
 ghost use Rattle.iref_grammar.specs.Texts.{before, from_first, after};
 
+use crate::position::position_of;
+
 /// What stands before the first of the mark, or all of the text, and what follows it.
 #[inline(always)]
 pub fn cut(text: &str, mark: char) -> (&str, Option<&str>)
@@ -10,9 +12,11 @@ pub fn cut(text: &str, mark: char) -> (&str, Option<&str>)
     ensures before { result.0.now ≡ before (mark ∷ []) text.now }
     ensures after { option_copied result.1 ≡ after mark text.now }
 {
-    match text.split_once(mark) {
-        Some((front, back)) => (front, Some(back)),
-        None => (text, None),
+    let (front, rest) = split_before(text, mark);
+    if rest.is_empty() {
+        (front, None)
+    } else {
+        (front, Some(&rest[1..]))
     }
 }
 
@@ -23,6 +27,5 @@ pub fn split_before(text: &str, mark: char) -> (&str, &str)
     ensures before { result.0.now ≡ before (mark ∷ []) text.now }
     ensures from_first { result.1.now ≡ from_first (mark ∷ []) text.now }
 {
-    let (front, _) = cut(text, mark);
-    text.split_at(front.len())
+    text.split_at(position_of(text.as_bytes(), mark as u8))
 }

@@ -1,18 +1,22 @@
 //! The one split of a reference into its components (RFC 3986 section 4.1 and appendix B).
 
 ghost use Rattle.std.specs.Prelude.{◌≡◌, ◌<◌, ◌↔◌, [], ◌∷◌, IfSome, is_some, true};
-ghost use Rattle.std.specs.Option.{option_copied};
+ghost use Rattle.std.specs.{Option.{option_copied}, List.{list_all}};
 ghost use Rattle.iref_grammar.specs.Reference as spec;
 ghost use Rattle.iref_grammar.specs.{hash_sign, question_mark, before, after};
 ghost use Rattle.iref_grammar.specs.{hierarchy, read_reference, is_reference, spell_components};
-ghost use Rattle.iref_grammar.specs.{AreComponents};
+ghost use Rattle.iref_grammar.specs.{AreComponents, none_or};
+ghost use Rattle.iref_grammar.specs.Authority as authority;
+ghost use Rattle.iref_grammar.specs.Tests as test;
+ghost use Rattle.iref_parse.specs.Plain.{ArePlain, is_plain_byte, is_plain_of_authorities};
 ghost use Rattle.iref_parse.specs.{ReferenceSlices.{texts_of, value_of}, Splits.{SplitsBefore}};
 
-use crate::authority::is_authority;
+use crate::authority::{is_authority, is_port_part};
 use crate::cut::{cut, split_before};
+use crate::plain::is_plain;
+use crate::position::{position_near, position_of, position_of_either};
 use crate::scan::{is_fragment, is_path, is_query, is_scheme};
 use iref_grammar::chars::CharSet;
-use memchr::memchr2;
 
 /// The components of a reference, as slices of its text (RFC 3986 appendix B): of `s://h/p?q#f`
 /// they are `s`, `h`, `/p`, `q` and `f`.
@@ -37,8 +41,7 @@ fn split_before_either(text: &str, first: u8, second: u8) -> (&str, &str)
     requires second_is_ascii { second < 128 }
     ensures { SplitsBefore first second text.now result.0.now result.1.now }
 {
-    let place = memchr2(first, second, text.as_bytes());
-    text.split_at(place.unwrap_or(text.len()))
+    text.split_at(position_of_either(text.as_bytes(), first, second))
 }
 
 // The same byte by byte, which costs less where a mark is near.
@@ -48,10 +51,7 @@ fn split_before_near(text: &str, first: u8, second: u8) -> (&str, &str)
     requires second_is_ascii { second < 128 }
     ensures { SplitsBefore first second text.now result.0.now result.1.now }
 {
-    let place = text
-        .bytes()
-        .position(|byte| byte == first || byte == second);
-    text.split_at(place.unwrap_or(text.len()))
+    text.split_at(position_near(text.as_bytes(), first, second))
 }
 
 // The scheme, if a `:` stands before each `/`, and what follows it.
@@ -117,9 +117,9 @@ pub fn split_reference(text: &str) -> ReferenceSlices<'_>
     }
 }
 
-// Whether each slice is in the rule of its component.
+// Whether each slice is in the rule of its component, by a scan of each.
 #[inline(always)]
-fn are_components<C: CharSet>(slices: ReferenceSlices<'_>) -> bool
+fn are_scanned_components<C: CharSet>(slices: ReferenceSlices<'_>) -> bool
     ensures { (result ≡ true) ↔ AreComponents C.tests (texts_of slices.entry) }
 {
     slices.scheme.is_none_or(|scheme| is_scheme(scheme))
@@ -133,6 +133,57 @@ fn are_components<C: CharSet>(slices: ReferenceSlices<'_>) -> bool
             .is_none_or(|fragment| is_fragment::<C>(fragment))
 }
 
+// Whether the authority, of plain bytes, is in its rule. Up to the first `:` or `@` it is a
+// registered name.
+#[inline(always)]
+fn is_plain_authority<C: CharSet>(part: Option<&str>) -> bool
+    requires { none_or (list_all is_plain_of_authorities) (option_copied part) ≡ true }
+    ensures { result ≡ none_or (authority.is_authority C.tests) (option_copied part.entry) }
+{
+    let Some(text) = part else {
+        return true;
+    };
+    let (_, end) = split_before_either(text, b':', b'@');
+    is_port_part(end.as_bytes()) || is_authority::<C>(text)
+}
+
+// Whether the fragment, of plain bytes, is in its rule, as it is without `#`.
+#[inline(always)]
+fn is_plain_fragment<C: CharSet>(part: Option<&str>) -> bool
+    requires { none_or (list_all is_plain_byte) (option_copied part) ≡ true }
+    ensures { result ≡ none_or (test.is_fragment C.tests) (option_copied part.entry) }
+{
+    let Some(text) = part else {
+        return true;
+    };
+    position_of(text.as_bytes(), b'#') == text.len() || is_fragment::<C>(text)
+}
+
+// Whether each slice of a plain text is in the rule of its component, as the path and the query are.
+#[tactic(auto, using(crate::proofs::PlainTextLemmas::plain_path, crate::proofs::PlainTextLemmas::plain_query))]
+#[inline(always)]
+fn are_plain_components<C: CharSet>(slices: ReferenceSlices<'_>) -> bool
+    requires { ArePlain (texts_of slices) }
+    ensures { (result ≡ true) ↔ AreComponents C.tests (texts_of slices.entry) }
+{
+    slices.scheme.is_none_or(|scheme| is_scheme(scheme))
+        && is_plain_authority::<C>(slices.authority)
+        && is_plain_fragment::<C>(slices.fragment)
+}
+
+// Whether each slice of the text is in the rule of its component.
+#[inline(always)]
+fn are_components<C: CharSet>(text: &str, slices: ReferenceSlices<'_>) -> bool
+    requires { texts_of slices ≡ spell_components (read_reference text.now) }
+    ensures { (result ≡ true) ↔ AreComponents C.tests (texts_of slices.entry) }
+{
+    if is_plain(text.as_bytes()) {
+        are_plain_components::<C>(slices)
+    } else {
+        are_scanned_components::<C>(slices)
+    }
+}
+
 /// The components of a text that is a reference (RFC 3986 section 4.1).
 #[inline(always)]
 pub fn parse_reference<C: CharSet>(text: &str) -> Option<ReferenceSlices<'_>>
@@ -142,7 +193,7 @@ pub fn parse_reference<C: CharSet>(text: &str) -> Option<ReferenceSlices<'_>>
     ensures components { IfSome result (λ s. AreComponents C.tests (texts_of s)) }
 {
     let slices = split_reference(text);
-    if are_components::<C>(slices) {
+    if are_components::<C>(text, slices) {
         Some(slices)
     } else {
         None

@@ -1,7 +1,21 @@
-use Rattle.iref_grammar.specs.Texts.{after}
-use Rattle.iref_grammar.proofs.CutLemmas.{cut}
-use Rattle.iref_grammar.proofs.SliceLemmas.{mark_boundary}
+use Rattle.std.proofs.Common.{◌∷◌, [], ap, subst, sym, ◌∙◌, take, drop}
+use Rattle.std.specs.Char.{char_set_contains}
+use Rattle.std.specs.List.{position_or_len}
+use Rattle.std.specs.Str.{IsCharBoundary}
+use Rattle.iref_parse.proofs.PositionLemmas.{position_of_one, boundary_at_position}
 use Rattle.iref_parse.proofs.cut.split_before.Goals as goal
 
 pub split_at-requires : goal.split_at-requires
-split_at-requires c = rw c.cut.ensures.before (mark_boundary c.args.mark _ (after c.args.mark c.args.text.now) c.args.text.now c.requires (cut c.args.mark c.args.text.now))
+split_at-requires c =
+    let text = c.args.text.now in
+    let mark = c.args.mark in
+    let at = c.position_of.ensures ∙ ap (position_or_len (char_set_contains (mark ∷ []))) c.as_bytes.ensures.value in
+    subst (IsCharBoundary text) (position_of_one mark text ∙ sym at) (boundary_at_position mark mark text c.requires c.requires)
+
+pub returns : goal.returns
+returns c =
+    let text = c.args.text.now in
+    let at = c.position_of.ensures ∙ ap (position_or_len (char_set_contains (c.args.mark ∷ []))) c.as_bytes.ensures.value in record {
+      before = c.split_at.ensures.front ∙ ap (λ n. take n text) at;
+      from_first = c.split_at.ensures.back ∙ ap (λ n. drop n text) at;
+    }

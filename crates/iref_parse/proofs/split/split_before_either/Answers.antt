@@ -1,13 +1,20 @@
-use Rattle.std.proofs.Common.{take, drop, ap, subst, ◌∙◌}
-use Rattle.memchr.specs.Find.{IsFirstByte, is_byte2}
-use Rattle.iref_parse.proofs.MarkLemmas.{first_mark}
+use Rattle.std.proofs.Common.{◌∷◌, [], take, drop, ap, subst, sym, ◌∙◌}
+use Rattle.std.specs.Char.{char_set_contains}
+use Rattle.std.specs.List.{position_or_len}
+use Rattle.std.specs.Str.{IsCharBoundary}
+use Rattle.iref_parse.proofs.PositionLemmas.{boundary_at_position}
 use Rattle.iref_parse.proofs.split.split_before_either.Goals as goal
+
+pub split_at-requires : goal.split_at-requires
+split_at-requires c =
+    let text = c.args.text.now in
+    let at = c.position_of_either.ensures ∙ ap (position_or_len (char_set_contains (c.args.first ∷ c.args.second ∷ []))) c.as_bytes.ensures.value in
+    subst (IsCharBoundary text) (sym at) (boundary_at_position c.args.first c.args.second text c.requires.first_is_ascii c.requires.second_is_ascii)
 
 pub returns : goal.returns
 returns c =
     let text = c.args.text.now in
-    let found = subst (λ bytes. IsFirstByte (is_byte2 c.args.first c.args.second) bytes c.memchr2-place.result) c.as_bytes.ensures.value c.memchr2-place.ensures in
-    let at = c.unwrap_or.ensures ∙ first_mark c.args.first c.args.second text c.memchr2-place.result found in record {
+    let at = c.position_of_either.ensures ∙ ap (position_or_len (char_set_contains (c.args.first ∷ c.args.second ∷ []))) c.as_bytes.ensures.value in record {
       front = c.split_at.ensures.front ∙ ap (λ n. take n text) at;
       back = c.split_at.ensures.back ∙ ap (λ n. drop n text) at;
     }

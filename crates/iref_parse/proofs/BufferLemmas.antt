@@ -1,0 +1,71 @@
+-- A buffer whose first byte is to say how many of those behind it are held.
+use Rattle.std.proofs.Common.{◌≡◌, ℕ, suc, ◌+◌, ◌<◌, true, false, List, [], ◌∷◌, ◌++◌, length, take, drop, set, fold, sym, ◌∙◌, ap, arith, ◌==◌, cond, length-append, length-set}
+use Rattle.std.proofs.lemmas.Bool.Decides.{nat_tests}
+use Rattle.std.proofs.lemmas.List.{drop-set-add, take_more_set, length-take-le, length-drop, take_all}
+use Rattle.iref_grammar.specs.Rules.{Text}
+use Rattle.iref_grammar.specs.Keys.{piece, fed_after}
+
+is_full : (n : ℕ) → n ≡ 62 → (n == 62) ≡ true
+is_full n e = grind (arith, nat_tests)
+
+has_room : (n : ℕ) → n < 62 → (n == 62) ≡ false
+has_room n e = grind (arith, nat_tests)
+
+-- one byte more, where a piece is full with it and where it is not
+full_step : (held : Text) (b : ℕ) (rest : Text) → length held ≡ 62 → fed_after held (b ∷ rest) ≡ piece (held ++ b ∷ []) ∷ fed_after [] rest
+unfolding fed_after
+full_step held b rest e = ap (λ t. cond t (piece (held ++ b ∷ []) ∷ fed_after [] rest) (fed_after (held ++ b ∷ []) rest)) (is_full (length held) e)
+
+room_step : (held : Text) (b : ℕ) (rest : Text) → length held < 62 → fed_after held (b ∷ rest) ≡ fed_after (held ++ b ∷ []) rest
+unfolding fed_after
+room_step held b rest e = ap (λ t. cond t (piece (held ++ b ∷ []) ∷ fed_after [] rest) (fed_after (held ++ b ∷ []) rest)) (has_room (length held) e)
+
+-- those that the buffer holds
+abbrev pub held_in : List ℕ → ℕ → Text
+held_in buffer n = take n (drop 1 buffer)
+
+held_size : (buffer : List ℕ) (n : ℕ) → n < length buffer → length (held_in buffer n) ≡ n
+held_size buffer n low = let size = length-drop 1 buffer in length-take-le n (drop 1 buffer) (omega (arith, size, low))
+
+held_more : (buffer : List ℕ) (n b : ℕ) → n + 1 < length buffer → held_in (set buffer (n + 1) b) (n + 1) ≡ held_in buffer n ++ b ∷ []
+held_more buffer n b low =
+    let size = length-drop 1 buffer in
+    let place : n + 1 ≡ 1 + n = omega arith in
+    ap (λ k. take (n + 1) (drop 1 (set buffer k b))) place ∙ ap (take (n + 1)) (drop-set-add 1 buffer n b)
+    ∙ take_more_set (drop 1 buffer) n b (omega (arith, size, low))
+
+-- the buffer up to there, with a number in front
+numbered : (buffer : List ℕ) (n v : ℕ) → 0 < length buffer → take (n + 1) (set buffer 0 v) ≡ v ∷ held_in buffer n
+numbered [] n v low = absurd (omega (arith, low))
+numbered (x ∷ xs) n v low = let place : n + 1 ≡ suc n = omega arith in ap (λ k. take k (v ∷ xs)) place
+
+module _ {S : Type 0} (write : S → List ℕ → S) where
+  -- a byte that fills the piece, one that does not, and the end of the text
+  pub full_turn : (s t : S) (buffer : List ℕ) (n b : ℕ) (rest : Text) → length buffer ≡ 64 → n + 1 ≡ 63 → t ≡ write s (set (set buffer (n + 1) b) 0 63)
+      → fold write t (fed_after [] rest) ≡ fold write s (fed_after (held_in buffer n) (b ∷ rest))
+  full_turn s t buffer n b rest size at e =
+      let many = held_size buffer n (omega (arith, size, at)) in
+      let after = set buffer (n + 1) b in
+      let wide : 64 ≡ length after = sym size ∙ sym (length-set buffer (n + 1) b) in
+      let whole : set after 0 63 ≡ take (63 + 1) (set after 0 63) = sym (take_all 64 (set after 0 63) (omega (arith, wide, length-set after 0 63))) in
+      let bytes : set after 0 63 ≡ 63 ∷ (held_in buffer n ++ b ∷ []) =
+      whole ∙ numbered after 63 63 (omega (arith, wide))
+      ∙ ap (λ l. 63 ∷ l) (ap (held_in after) (sym at) ∙ held_more buffer n b (omega (arith, size, at))) in
+      let count : 63 ≡ length (held_in buffer n ++ b ∷ []) =
+      let sum = length-append (held_in buffer n) (b ∷ []) in omega (arith, sum, many, at) in
+      let written : t ≡ write s (piece (held_in buffer n ++ b ∷ [])) = e ∙ ap (write s) (bytes ∙ ap (λ k. k ∷ (held_in buffer n ++ b ∷ [])) count) in
+      ap (λ u. fold write u (fed_after [] rest)) written ∙ ap (fold write s) (sym (full_step (held_in buffer n) b rest (omega (arith, many, at))))
+
+  pub room_turn : (s : S) (buffer : List ℕ) (n b : ℕ) (rest : Text) → length buffer ≡ 64 → n + 1 < 63
+      → fold write s (fed_after (held_in (set buffer (n + 1) b) (n + 1)) rest) ≡ fold write s (fed_after (held_in buffer n) (b ∷ rest))
+  room_turn s buffer n b rest size low =
+      let many = held_size buffer n (omega (arith, size, low)) in
+      ap (λ held. fold write s (fed_after held rest)) (held_more buffer n b (omega (arith, size, low)))
+      ∙ ap (fold write s) (sym (room_step (held_in buffer n) b rest (omega (arith, many, low))))
+
+  pub last_turn : (s t : S) (buffer : List ℕ) (n : ℕ) → length buffer ≡ 64 → n < 63 → t ≡ write s (take (n + 1) (set buffer 0 n))
+      → t ≡ fold write s (fed_after (held_in buffer n) [])
+  unfolding fed_after
+  last_turn s t buffer n size low e =
+      let many = held_size buffer n (omega (arith, size, low)) in
+      e ∙ ap (write s) (numbered buffer n n (omega (arith, size)) ∙ ap (λ k. k ∷ held_in buffer n) (sym many))

@@ -1,0 +1,126 @@
+-- The first place that is marked, by marks of 16 at a time.
+use Rattle.std.proofs.Common.{◌≡◌, ◌≢◌, ℕ, ◌+◌, ◌-◌, ◌<◌, ◌≤◌, List, [], ◌∷◌, Bool, true, false, cond, eqb, ◌||◌, length, get_or, not, replicate, bit_or, refl, sym, ap, subst, ◌∙◌, arith, ⊎_elim, inl, inr}
+use Rattle.std.specs.Prelude.{◌==◌}
+use Rattle.std.specs.Str.{IsCharBoundary, IsUtf8}
+use Rattle.std.specs.List.{position_or_len}
+use Rattle.std.specs.Char.{char_set_contains}
+use Rattle.std.proofs.lemmas.Bool.{cases_lt, eq-eqb, or_right}
+use Rattle.std.proofs.lemmas.Bool.Decides.{eqb_tells}
+use Rattle.std.proofs.lemmas.List.Sums.{position_or_len_is, passes_at_first, prefix_len-le-length}
+use Rattle.std.proofs.lemmas.Str.{IsCharBoundary-end, IsCharBoundary-before_ascii, IsUtf8-drop}
+use mathlib.Core.Bool.{true≢false}
+use Rattle.std.proofs.lemmas.Simd.{get_or-replicate}
+use Rattle.iref_parse.specs.Lanes.{HasLanes, DifferFirstAt}
+use Rattle.iref_grammar.specs.Texts.{from_first}
+use Rattle.iref_grammar.proofs.SplitLemmas.{begins_with_mark}
+
+-- of n places, none before this one is marked
+pub record IsClearFront (mark : ℕ → ℕ) (n at : ℕ) : Type 0 where
+  pub within : at ≤ n
+  pub each : (k : ℕ) → k < at → mark k ≡ 0
+
+module _ (mark : ℕ → ℕ) (n at : ℕ) (old : IsClearFront mark n at) where
+  -- the last 16, which may be read again
+  pub IsClearFront-last : 16 ≤ n → n ≤ at + 16 → IsClearFront mark n (n - 16)
+  IsClearFront-last long near = record { within = omega arith; each = λ k l. old.each k (omega arith) }
+
+  module _ (v : List ℕ) (r : ℕ) (room : at + 16 ≤ n) (marks : HasLanes v (λ k. mark (at + k))) (first : DifferFirstAt v (replicate 16 0) 16 r) where
+    pub IsClearFront-more : IsClearFront mark n (at + r)
+    IsClearFront-more =
+        let within = first.within in
+        record {
+          within = omega arith;
+          each = λ k l. ⊎_elim (λ below. old.each k below)
+              (λ from.
+              let here : k ≡ at + (k - at) = omega arith in
+              ap mark here ∙ sym (marks.each (k - at) (omega arith)) ∙ first.same (k - at) (omega arith) ∙ get_or-replicate 16 (k - at) 0 0 (omega arith))
+              (cases_lt k at);
+        }
+
+    pub IsClearFront-ends : r < 16 → mark (at + r) ≢ 0
+    IsClearFront-ends l e = first.other l (marks.each r l ∙ e ∙ sym (get_or-replicate 16 r 0 0 l))
+
+-- a byte that is one of two
+abbrev pub either_at : ℕ → ℕ → List ℕ → ℕ → ℕ
+either_at first second bytes k = cond (char_set_contains (first ∷ second ∷ []) (get_or bytes k 0)) 255 0
+
+turned : (a b : ℕ) → (a == b) ≡ (b == a)
+turned a b =
+    elim (eqb_tells a b) [
+      | inl e ↦ elim (eqb_tells b a) [ inl f ↦ e.0 ∙ sym f.0 | inr f ↦ absurd (f.1 (sym e.1)) ]
+      | inr e ↦ elim (eqb_tells b a) [ inl f ↦ absurd (e.1 (sym f.1)) | inr f ↦ e.0 ∙ sym f.0 ]
+    ]
+
+joined : (p q : Bool) → bit_or (cond p 255 0) (cond q 255 0) ≡ cond (p || (q || false)) 255 0
+joined true true = refl
+joined true false = refl
+joined false true = refl
+joined false false = refl
+
+pub either_marked : (first second b : ℕ) → bit_or (cond (eqb b first) 255 0) (cond (eqb b second) 255 0) ≡ cond (char_set_contains (first ∷ second ∷ []) b) 255 0
+either_marked first second b = joined (eqb b first) (eqb b second) ∙ (λ i. cond (turned b first i || (turned b second i || false)) 255 0)
+
+abbrev all_bits_if : Bool → ℕ
+all_bits_if p = cond p 255 0
+
+clear_if : (p : Bool) → all_bits_if p ≡ 0 → p ≡ false
+clear_if true e = absurd (omega (arith, e))
+clear_if false e = refl
+
+marked_if : (p : Bool) → all_bits_if p ≢ 0 → p ≡ true
+marked_if true e = refl
+marked_if false e = absurd (e refl)
+
+-- the first of two marks is at the end of the clear front
+pub position_from_clear : (first second : ℕ) (bytes : List ℕ) (at : ℕ) → IsClearFront (either_at first second bytes) (length bytes) at → (at < length bytes → either_at first second bytes at ≢ 0)
+    → at ≡ position_or_len (char_set_contains (first ∷ second ∷ [])) bytes
+position_from_clear first second bytes at h other =
+    sym (position_or_len_is (char_set_contains (first ∷ second ∷ [])) bytes at 0 h.within (λ k l. clear_if _ (h.each k l)) (λ l. marked_if _ (other l)))
+
+-- one mark is two that are the same
+pub position_of_one : (mark : ℕ) (text : List ℕ) → position_or_len (char_set_contains (mark ∷ mark ∷ [])) text ≡ position_or_len (char_set_contains (mark ∷ [])) text
+position_of_one mark [] = refl
+position_of_one mark (c ∷ cs) = λ i. cond (not (once (mark == c) i)) (1 + position_of_one mark cs i) 0
+  where
+    once : (p : Bool) → (p || (p || false)) ≡ (p || false)
+    once true = refl
+    once false = refl
+
+-- a text may be cut before the first of two ASCII marks, and at its end
+pub boundary_at_position : (first second : ℕ) (text : List ℕ) → first < 128 → second < 128 → IsCharBoundary text (position_or_len (char_set_contains (first ∷ second ∷ [])) text)
+boundary_at_position first second text f s =
+    let test = char_set_contains (first ∷ second ∷ []) in
+    let n = position_or_len test text in
+    let bound = prefix_len-le-length (λ c. not (test c)) text in
+    ⊎_elim (λ inside. IsCharBoundary-before_ascii text n inside (is_ascii (get_or text n 0) (passes_at_first test text 0 inside)))
+    (λ past. let end : length text ≡ n = omega (arith, bound, past) in subst (IsCharBoundary text) end (IsCharBoundary-end text)) (cases_lt n (length text))
+  where
+    is_ascii : (c : ℕ) → char_set_contains (first ∷ second ∷ []) c ≡ true → c < 128
+    is_ascii c h = elim (eqb_tells first c) [
+      | inl e ↦ omega (arith, e.1, f)
+      | inr e ↦ elim (eqb_tells second c) [
+        | inl g ↦ omega (arith, g.1, s)
+        | inr g ↦ absurd (true≢false (sym h ∙ (λ i. e.0 i || (g.0 i || false))))
+      ]
+    ]
+
+pub marked_as_first : (first second : ℕ) (bytes : List ℕ) (k : ℕ) → get_or bytes k 0 ≡ first → either_at first second bytes k ≢ 0
+marked_as_first first second bytes k e h =
+    let yes : char_set_contains (first ∷ second ∷ []) (get_or bytes k 0) ≡ true = (λ i. eq-eqb first (get_or bytes k 0) (sym e) i || ((second == get_or bytes k 0) || false)) in
+    true≢false (sym yes ∙ clear_if _ h)
+
+pub marked_as_second : (first second : ℕ) (bytes : List ℕ) (k : ℕ) → get_or bytes k 0 ≡ second → either_at first second bytes k ≢ 0
+marked_as_second first second bytes k e h =
+    let yes : char_set_contains (first ∷ second ∷ []) (get_or bytes k 0) ≡ true = (λ i. (first == get_or bytes k 0) || (eq-eqb second (get_or bytes k 0) (sym e) i || false)) ∙ or_right _ true refl in
+    true≢false (sym yes ∙ clear_if _ h)
+
+-- what begins at the mark begins with it
+pub begins_at_mark : (mark : ℕ) (text rest : List ℕ) → rest ≡ from_first (mark ∷ []) text → 0 < length rest → get_or rest 0 0 ≡ mark
+begins_at_mark mark text [] e l = absurd (omega arith)
+begins_at_mark mark text (c ∷ cs) e l = elim (eqb_tells mark c) [
+  | inl f ↦ sym f.1
+  | inr f ↦ absurd (true≢false (sym (begins_with_mark (mark ∷ []) text c cs (sym e)) ∙ (λ i. f.0 i || false)))
+]
+
+pub from_mark_in_utf8 : (mark : ℕ) (text : List ℕ) → mark < 128 → IsUtf8 text → IsUtf8 (from_first (mark ∷ []) text)
+from_mark_in_utf8 mark text low u = IsUtf8-drop text _ u (subst (IsCharBoundary text) (position_of_one mark text) (boundary_at_position mark mark text low low))

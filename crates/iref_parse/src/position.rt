@@ -1,0 +1,61 @@
+//! Where the first of two bytes stands.
+ghost use Rattle.std.specs.Prelude.{◌≡◌, ◌+◌, ◌≤◌, [], ◌∷◌, if◌then◌else◌, length, slice_index};
+ghost use Rattle.std.specs.{List.{position_or_len}, Char.{char_set_contains}};
+ghost use Rattle.iref_parse.specs.Lanes.{HasLanes};
+
+use crate::lanes::{common_lanes, either, equal_to, load};
+use std::simd::prelude::*;
+
+/// The position of the first byte that is one of two, or the length of the text. It is found byte
+/// by byte, which costs less where that byte is near.
+#[inline(always)]
+pub(crate) fn position_near(bytes: &[u8], first: u8, second: u8) -> usize
+    ensures { result ≡ position_or_len (char_set_contains (first ∷ second ∷ [])) bytes.now }
+{
+    let mut at = 0;
+    while at < bytes.len() && bytes[at] != first && bytes[at] != second {
+        at += 1;
+    }
+    at
+}
+
+// All bits of a lane where the byte is one of two, and else none.
+#[inline(always)]
+fn marks(bytes: &[u8], at: usize, first: u8, second: u8) -> u8x16
+    requires { at + 16 ≤ length bytes.now }
+    ensures { HasLanes result (λ k.
+        if char_set_contains (first ∷ second ∷ []) (slice_index bytes.now (at + k))
+        then 255 else 0) }
+{
+    let v = load(bytes, at);
+    either(equal_to(v, first), equal_to(v, second))
+}
+
+/// The position of the first byte that is one of two, or the length of the text.
+#[inline(always)]
+pub(crate) fn position_of_either(bytes: &[u8], first: u8, second: u8) -> usize
+    ensures { result ≡ position_or_len (char_set_contains (first ∷ second ∷ [])) bytes.now }
+{
+    let len = bytes.len();
+    if len < 16 {
+        return position_near(bytes, first, second);
+    }
+    let mut at = 0;
+    while 16 < len - at {
+        let clear = common_lanes(marks(bytes, at, first, second), u8x16::splat(0));
+        if clear < 16 {
+            return at + clear;
+        }
+        at += 16;
+    }
+    let last = len - 16;
+    last + common_lanes(marks(bytes, last, first, second), u8x16::splat(0))
+}
+
+/// The position of the first such byte, or the length of the text.
+#[inline(always)]
+pub(crate) fn position_of(bytes: &[u8], mark: u8) -> usize
+    ensures { result ≡ position_or_len (char_set_contains (mark ∷ [])) bytes.now }
+{
+    position_of_either(bytes, mark, mark)
+}
