@@ -8,13 +8,13 @@ use crate::change::{Change, Place};
 use crate::target::{Part, Target};
 use iref_error::Memory;
 use iref_grammar::chars::CharSet;
-use std::alloc::{AllocError, Allocator};
+use std::alloc::{AllocError, Global};
 use std::str;
 
 /// Makes the change. All room is taken first: an `Err` changes nothing, and what makes the bytes no
 /// more takes no memory.
 #[tactic(auto, using(crate::proofs::Splices::gaps))]
-pub fn replace<A: Allocator>(bytes: &mut Vec<u8, A>, change: Change<'_>) -> Result<(), AllocError>
+pub fn replace(bytes: &mut Vec<u8>, change: Change<'_>) -> Result<(), AllocError>
     requires start_le_end { change.within.start ≤ change.within.end }
     requires in_bounds { change.within.end ≤ vec_len bytes.old }
     ensures ok { OnOk result (bytes.new.items ≡ changed bytes.old.items change.entry) }
@@ -37,7 +37,7 @@ pub fn replace<A: Allocator>(bytes: &mut Vec<u8, A>, change: Change<'_>) -> Resu
 
 // Puts `more` bytes of any value before `end`.
 #[tactic(auto, using(crate::proofs::Splices::gaps))]
-fn open_gap<A: Allocator>(bytes: &mut Vec<u8, A>, end: usize, more: usize) -> Result<(), AllocError>
+fn open_gap(bytes: &mut Vec<u8>, end: usize, more: usize) -> Result<(), AllocError>
     requires in_bounds { end ≤ vec_len bytes.old }
     ensures before { OnOk result (take end bytes.new.items ≡ take end bytes.old.items) }
     ensures after { OnOk result (drop (end + more) bytes.new.items ≡ drop end bytes.old.items) }
@@ -53,7 +53,7 @@ fn open_gap<A: Allocator>(bytes: &mut Vec<u8, A>, end: usize, more: usize) -> Re
 
 // Takes the bytes from `start` to `end` away.
 #[tactic(auto, using(crate::proofs::Splices::gaps))]
-fn close_gap<A: Allocator>(bytes: &mut Vec<u8, A>, start: usize, end: usize)
+fn close_gap(bytes: &mut Vec<u8>, start: usize, end: usize)
     requires start_le_end { start ≤ end }
     requires in_bounds { end ≤ vec_len bytes.old }
     ensures items { bytes.new.items ≡ take start bytes.old.items ++ drop end bytes.old.items }
@@ -66,7 +66,7 @@ fn close_gap<A: Allocator>(bytes: &mut Vec<u8, A>, start: usize, end: usize)
 
 // Writes the pieces over what stands where the change begins.
 #[tactic(auto, using(crate::proofs::Splices::gaps))]
-fn fill<A: Allocator>(bytes: &mut Vec<u8, A>, change: &Change<'_>)
+fn fill(bytes: &mut Vec<u8>, change: &Change<'_>)
     requires { change.now.within.start + pieces_length change.now ≤ vec_len bytes.old }
     ensures { bytes.new.items ≡ splice bytes.old.items change.now.within.start
         (change.now.within.start + pieces_length change.now) (pieces change.now) }
@@ -83,7 +83,7 @@ fn fill<A: Allocator>(bytes: &mut Vec<u8, A>, change: &Change<'_>)
     );
 }
 
-fn overwrite<A: Allocator>(bytes: &mut Vec<u8, A>, start: usize, text: &[u8])
+fn overwrite(bytes: &mut Vec<u8>, start: usize, text: &[u8])
     requires { start + length text.now ≤ vec_len bytes.old }
     ensures items { bytes.new.items
         ≡ splice bytes.old.items start (start + length text.now) text.now }
@@ -92,9 +92,7 @@ fn overwrite<A: Allocator>(bytes: &mut Vec<u8, A>, start: usize, text: &[u8])
     bytes[start..start + text.len()].copy_from_slice(text);
 }
 
-impl<P: Part, C: CharSet, A: Allocator + Copy> Target<P, C> for Vec<u8, A> {
-    type Alloc = A;
-
+impl<P: Part, C: CharSet> Target<P, C> for Vec<u8> {
     ghost text = { λ bytes. bytes.items };
 
     ghost stands = { StandsIn (P.test C.tests) };
@@ -103,7 +101,7 @@ impl<P: Part, C: CharSet, A: Allocator + Copy> Target<P, C> for Vec<u8, A> {
 
     ghost is_within = { λ _ _ _ _ stands. (stands.0, stands.1) };
 
-    fn alloc(&self) -> A {
+    fn alloc(&self) -> Global {
         *self.allocator()
     }
 

@@ -7,7 +7,7 @@ ghost use Rattle.iref_edit.specs.Changes.{IsNoLonger, IsWithin, changed_at, chan
 use crate::change::{Change, Place};
 use iref_error::Memory;
 use iref_grammar::chars::CharSet;
-use std::alloc::Allocator;
+use std::alloc::Global;
 
 /// A kind of part, as the path of a reference, with what it may be in a context.
 pub trait Part {
@@ -27,9 +27,6 @@ pub trait Part {
 
 /// What holds a part: a vector of bytes, or an owner.
 pub trait Target<P: Part, C: CharSet> {
-    /// The allocator of the text.
-    type Alloc: Allocator + Copy;
-
     /// The bytes.
     ghost text: { Self → Text };
 
@@ -45,7 +42,7 @@ pub trait Target<P: Part, C: CharSet> {
         → stands text context start end → (start ≤ end) × (end ≤ length text) };
 
     /// The allocator of the text.
-    fn alloc(&self) -> Self::Alloc;
+    fn alloc(&self) -> Global;
 
     /// The part.
     fn part(&self, after: P::Context, at: Place) -> &str

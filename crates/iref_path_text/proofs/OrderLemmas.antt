@@ -9,7 +9,7 @@ use Rattle.std.specs.Cmp.Lexicographic.{slice_cmp}
 use Rattle.std.proofs.lemmas.List.{length-take-le, take_at, take_min, length-map, length-take, take-map, reverse-append, take-append-drop, map-append}
 use Rattle.std.proofs.lemmas.Bool.Decides.{nat_tests}
 use Rattle.std.proofs.lemmas.List.Concat.{flat_map-cons}
-use Rattle.std.specs.Hash.{bool, fed_then, usize}
+use Rattle.std.specs.Hash.{bool, fed_then, u8}
 use Rattle.iref_grammar.specs.Keys.{fed_bytes, text_order}
 use Rattle.iref_model.specs.PathHash.{fed_from_the_back, fed_path}
 use Rattle.percent_encoding.specs.Percent.{percent_decode}
@@ -147,11 +147,10 @@ module _ (p q : PathValue) (flags : Ordering) (flags_are : flags ≡ bool_cmp p.
       by Equal rest h = refl
       by Greater rest h = absurd (true≢false h)
 
-pub fed_key : {S : Type 0} (write : S → List ℕ → S) (s t u v : S) (p : PathValue) (items : List Text) (count : ℕ) → items ≡ normal_segments p → count ≡ length items
-    → t ≡ fold write s (bool p.absolute) → u ≡ fold write t (fed_from_the_back (decoded items)) → v ≡ fold write u (usize count) → v ≡ fold write s (fed_path (path_key p))
+pub fed_key : {S : Type 0} (write : S → List ℕ → S) (s t u v : S) (p : PathValue) (items : List Text) → items ≡ normal_segments p
+    → t ≡ fold write s (bool p.absolute) → u ≡ fold write t (fed_from_the_back (decoded items)) → v ≡ fold write u (u8 255) → v ≡ fold write s (fed_path (path_key p))
 unfolding path_key fed_path
-fed_key write s t u v p items count h k flag listed ended =
-    let counted : count ≡ length (decoded (normal_segments p)) = k ∙ ap length h ∙ sym (length-map (normal_segments p) percent_decode) in
-    fed_then write s t v (bool p.absolute) (fed_from_the_back (decoded (normal_segments p)) ++ usize (length (decoded (normal_segments p)))) flag
-    (fed_then write t u v (fed_from_the_back (decoded (normal_segments p))) (usize (length (decoded (normal_segments p))))
-    (listed ∙ (λ i. fold write t (fed_from_the_back (decoded (h i))))) (ended ∙ (λ i. fold write u (usize (counted i)))))
+fed_key write s t u v p items h flag listed ended =
+    fed_then write s t v (bool p.absolute) (fed_from_the_back (decoded (normal_segments p)) ++ u8 255) flag
+    (fed_then write t u v (fed_from_the_back (decoded (normal_segments p))) (u8 255)
+    (listed ∙ (λ i. fold write t (fed_from_the_back (decoded (h i))))) ended)

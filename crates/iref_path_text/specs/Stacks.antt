@@ -20,10 +20,10 @@ stacked_text lead items = lead ++ join_with_byte slash (in_order items)
 
 -- The stack has what follows these items in a whole list: their size, the first of them, and the items themselves
 -- where each found room.
-pub record Completes (stack : Stack) (front whole : List Text) : Type 0 where
+pub record Completes {P : Type 0} (items : P → List (Bor Text)) (stack : Stack P) (front whole : List Text) : Type 0 where
   pub size : length (each_closed front) + stack.size ≡ length (each_closed whole)
   pub first : first_or stack.first.now front ≡ first_or [] whole
-  pub items : stack.is_whole ≡ true → front ++ in_order stack.items.items ≡ whole
+  pub listed : stack.is_whole ≡ true → front ++ in_order (items stack.items) ≡ whole
 
 -- the path of these segments
 abbrev pub path_of : Bool → Option (Bor Text) → PathValue

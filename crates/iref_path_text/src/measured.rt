@@ -19,7 +19,7 @@ use crate::spell::{lead_in, measure, write_before, write_items};
 use iref_error::Memory;
 use iref_grammar::chars::CharSet;
 use iref_grammar::context::PathContext;
-use std::alloc::Allocator;
+use std::alloc::Global;
 
 // Nothing stands before the path.
 const ALONE: PathContext = PathContext {
@@ -156,7 +156,7 @@ impl<'a> MeasuredPath<'a> {
     }
 
     /// The text of a path. The room is taken once: an `Err` is that there is none.
-    pub fn to_text<C: CharSet, A: Allocator>(self, alloc: A) -> Result<String<A>, Memory>
+    pub fn to_text<C: CharSet>(self, alloc: Global) -> Result<String, Memory>
         requires measured { IsMeasured self }
         requires path { is_path C.tests (measured_text self) ≡ true }
         ensures { IfOk result (λ text. string_bytes text ≡ measured_text self.entry) }
@@ -168,7 +168,7 @@ impl<'a> MeasuredPath<'a> {
     }
 
     // The bytes of the text.
-    pub(crate) fn bytes<A: Allocator>(self, alloc: A) -> Result<Vec<u8, A>, Memory>
+    pub(crate) fn bytes(self, alloc: Global) -> Result<Vec<u8>, Memory>
         requires { IsMeasured self }
         ensures { IfOk result (λ bytes. bytes.items ≡ measured_text self.entry) }
     {

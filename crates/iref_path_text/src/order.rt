@@ -90,8 +90,8 @@ fn hash_left<H: Hasher>(left: &mut Remaining<'_>, state: &mut H)
 pub fn hash_path_text<H: Hasher>(path: &str, state: &mut H)
     ensures { state.new ≡ fold H.write state.old (fed_path (path_key (read_path path.now))) }
 {
-    let (mut left, count) = Remaining::new(path);
+    let (mut left, _) = Remaining::new(path);
     is_absolute(path).hash(state);
     hash_left(&mut left, state);
-    state.write_usize(count);
+    state.write_u8(0xff);
 }

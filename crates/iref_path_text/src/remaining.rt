@@ -13,6 +13,7 @@ ghost use Rattle.iref_model.specs.NormalList as list;
 
 pub mod listed;
 pub mod merged;
+pub mod places;
 pub mod stack;
 pub mod way;
 

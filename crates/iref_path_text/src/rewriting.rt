@@ -14,13 +14,13 @@ ghost use Rattle.iref_edit.specs.Changes.{part_at};
 use crate::names::bytes_stay;
 use crate::pieces::split_root;
 use crate::remaining::leading_parents;
+use crate::remaining::places::Nowhere;
 use crate::remaining::stack::Stack;
 use crate::spell::{lead_in, write_before};
 use iref_edit::bytes::replace;
 use iref_edit::change::{Change, Place};
 use iref_grammar::context::PathContext;
 use memchr::memrchr;
-use std::alloc::Allocator;
 use std::mem;
 use std::ops::Range;
 
@@ -161,7 +161,7 @@ fn write_at(bytes: &mut [u8], at: Place, lead: &str) -> usize
 }
 
 // Takes the bytes of the range away.
-fn cut<A: Allocator>(bytes: &mut Vec<u8, A>, within: Range<usize>)
+fn cut(bytes: &mut Vec<u8>, within: Range<usize>)
     requires start_le_end { within.start ≤ within.end }
     requires in_bounds { within.end ≤ vec_len bytes.old }
     ensures { bytes.new.items ≡ splice bytes.old.items within.start within.end [] }
@@ -177,7 +177,7 @@ fn cut<A: Allocator>(bytes: &mut Vec<u8, A>, within: Range<usize>)
 
 /// Puts what stands first and the normal list of the path at a place in the place of the path, and
 /// answers where that ends. It takes no memory.
-pub fn rewrite<A: Allocator>(bytes: &mut Vec<u8, A>, at: Place, lead: &str) -> usize
+pub fn rewrite(bytes: &mut Vec<u8>, at: Place, lead: &str) -> usize
     requires start_le_end { at.start ≤ at.end }
     requires in_bounds { at.end ≤ vec_len bytes.old }
     requires shorter { length (rewritten lead.now (part_at bytes.old.items at))
@@ -191,7 +191,7 @@ pub fn rewrite<A: Allocator>(bytes: &mut Vec<u8, A>, at: Place, lead: &str) -> u
 }
 
 /// The same of a text.
-pub fn rewrite_text<A: Allocator + Copy>(text: &mut String<A>, at: Place, lead: &str) -> usize
+pub fn rewrite_text(text: &mut String, at: Place, lead: &str) -> usize
     requires start_le_end { at.start ≤ at.end }
     requires in_bounds { at.end ≤ string_len text.old }
     requires shorter { length (rewritten lead.now (part_at (string_bytes text.old) at))
@@ -216,7 +216,7 @@ pub fn normal_lead(context: PathContext, path: &str) -> (&'static str, usize)
     ensures len { result.1 ≡ length (rewritten result.0.now path.now) }
 {
     let (absolute, segments) = split_root(path);
-    let mut stack = Stack::new();
+    let mut stack = Stack::new(Nowhere::new());
     stack.read(absolute, segments);
     let lead = lead_in(context, absolute, stack.size, stack.first);
     (lead, lead.len() + stack.size.saturating_sub(1))

@@ -13,12 +13,15 @@ ghost use Rattle.iref_path_text.specs.Spelling as spelling;
 
 use crate::measured::MeasuredPath;
 use crate::pieces::split_root;
+use crate::remaining::places::Places;
 use crate::remaining::stack::Stack;
 use crate::remaining::way::Way;
+use arrayvec::ArrayVec;
 use iref_error::Memory;
 use iref_grammar::chars::CharSet;
 use iref_grammar::context::PathContext;
-use std::alloc::Allocator;
+use smallvec::SmallVec;
+use std::alloc::Global;
 
 /// How many bytes the items have with a `/` after each, and the first of them, or nothing.
 pub(crate) fn measure(mut left: Way<'_>) -> (usize, &str)
@@ -178,12 +181,7 @@ fn write_stacked_text(lead: &str, items: &[&str], buffer: &mut [u8], end: usize)
 
 // What stands first, and items that are given the last first, with `/` between. So many bytes these
 // have with a `/` after each.
-fn stacked_bytes<A: Allocator>(
-    alloc: A,
-    lead: &str,
-    items: &[&str],
-    size: usize,
-) -> Result<Vec<u8, A>, Memory>
+fn stacked_bytes(alloc: Global, lead: &str, items: &[&str], size: usize) -> Result<Vec<u8>, Memory>
     requires size { size ≡ length (each_closed (in_order items.now)) }
     requires countable { length lead.now + size < 2 ^ 64 }
     ensures { IfOk result (λ bytes. bytes.items ≡ stacked_text lead.now items.now) }
@@ -194,19 +192,24 @@ fn stacked_bytes<A: Allocator>(
     Ok(bytes)
 }
 
+// The longest path, in bytes, whose list may take memory while it is read.
+const LONGEST_LISTED: usize = 16_384;
+
 // The bytes of the normalized path in its context, with a flag of its own. The segments are read
-// once where the list has at most sixteen items, and else once more.
-fn normal_bytes<A: Allocator>(
-    alloc: A,
+// once where each item of the list finds a place here, and else once more.
+fn normal_bytes_by<'a, P: Places<&'a str> + Drop>(
+    places: P,
+    alloc: Global,
     context: PathContext,
     absolute: bool,
-    path: &str,
-) -> Result<Vec<u8, A>, Memory>
+    path: &'a str,
+) -> Result<Vec<u8>, Memory>
+    requires { P.items places ≡ [] }
     ensures { IfOk result (λ bytes.
         bytes.items ≡ spell_path (normal_in context absolute path.now)) }
 {
     let segments = split_root(path).1;
-    let mut stack = Stack::new();
+    let mut stack = Stack::new(places);
     let (left, _count) = stack.read(absolute, segments);
     let lead = lead_in(context, absolute, stack.size, stack.first);
     if stack.is_whole {
@@ -215,17 +218,34 @@ fn normal_bytes<A: Allocator>(
     MeasuredPath::of_items(lead, left, stack.size).bytes(alloc)
 }
 
+// The same. The list of a path that is not too long may take memory, and does without where that is
+// refused.
+fn normal_bytes(
+    alloc: Global,
+    context: PathContext,
+    absolute: bool,
+    path: &str,
+) -> Result<Vec<u8>, Memory>
+    ensures { IfOk result (λ bytes.
+        bytes.items ≡ spell_path (normal_in context absolute path.now)) }
+{
+    if path.len() <= LONGEST_LISTED {
+        return normal_bytes_by(SmallVec::new(alloc), alloc, context, absolute, path);
+    }
+    normal_bytes_by(ArrayVec::new(), alloc, context, absolute, path)
+}
+
 /// The text of the normalized path in its context, with a flag of its own (RFC 3986 section 5.2.4):
 /// a text is read as absolute or relative, whatever it begins with, before its dots are removed.
 ///
 /// After an authority `//b/.` becomes `//b/`, and `../b` that is to be absolute `/b`; standing
 /// alone, `a/../b:c` becomes `./b:c`. The room is taken once: an `Err` is that there is none.
-pub fn normalized_text<C: CharSet, A: Allocator>(
-    alloc: A,
+pub fn normalized_text<C: CharSet>(
+    alloc: Global,
     context: PathContext,
     absolute: bool,
     path: &str,
-) -> Result<String<A>, Memory>
+) -> Result<String, Memory>
     requires { is_path C.tests path.now ≡ true }
     ensures text { IfOk result (λ text.
         string_bytes text ≡ spell_path (normal_in context absolute path.now)) }

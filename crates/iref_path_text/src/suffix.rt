@@ -14,7 +14,7 @@ use crate::remaining::Remaining;
 use crate::remaining::way::Way;
 use iref_error::Memory;
 use iref_grammar::chars::CharSet;
-use std::alloc::Allocator;
+use std::alloc::Global;
 
 // The items of the path after those of the prefix, if these are a beginning of them, and both paths
 // are absolute or both relative.
@@ -40,11 +40,11 @@ fn rest_after<'a>(prefix: &str, path: &'a str) -> Option<Way<'a>>
 /// segment by segment after decoding, or where only one of both is absolute; that takes no memory.
 ///
 /// The room is taken once: an `Err` is that there is none.
-pub fn suffix_text<C: CharSet, A: Allocator>(
-    alloc: A,
+pub fn suffix_text<C: CharSet>(
+    alloc: Global,
     prefix: &str,
     path: &str,
-) -> Result<Option<String<A>>, Memory>
+) -> Result<Option<String>, Memory>
     requires { is_path C.tests path.now ≡ true }
     ensures text { IfOk result (λ found. option_map string_bytes found
         ≡ option_map spell_path (path_suffix (read_path prefix.now) (read_path path.now))) }
@@ -58,6 +58,6 @@ pub fn suffix_text<C: CharSet, A: Allocator>(
     let Some(rest) = rest_after(prefix, path) else {
         return Ok(None);
     };
-    let text = MeasuredPath::relative(rest).to_text::<C, A>(alloc)?;
+    let text = MeasuredPath::relative(rest).to_text::<C>(alloc)?;
     Ok(Some(text))
 }

@@ -11,7 +11,6 @@ use iref_edit::change::Place;
 use iref_edit::target::Target;
 use iref_grammar::chars::CharSet;
 use iref_grammar::context::PathContext;
-use std::alloc::Allocator;
 
 /// What holds a path, and rewrites it in its own bytes: of `/a/../b` it leaves `/b` there.
 pub trait PathTarget<C: CharSet>: Target<PathPart, C> {
@@ -32,7 +31,7 @@ pub trait PathTarget<C: CharSet>: Target<PathPart, C> {
             ≡ at.start + length (rewritten lead.now (part_at (Self.text self.old) at)) };
 }
 
-impl<C: CharSet, A: Allocator + Copy> PathTarget<C> for Vec<u8, A> {
+impl<C: CharSet> PathTarget<C> for Vec<u8> {
     fn rewrite(&mut self, after: PathContext, at: Place, lead: &str) -> usize {
         rewrite(self, at, lead)
     }

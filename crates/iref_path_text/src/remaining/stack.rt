@@ -9,14 +9,14 @@ ghost use Rattle.iref_path_text.specs.{Spelling.{each_closed}, Stacks.{Completes
 ghost use Rattle.std.specs.Prelude.{◌≡◌, ◌+◌, ◌<◌, ◌^◌, ◌∷◌, ◌*◌, ◌++◌, List, [], codes, length};
 ghost use Rattle.std.specs.Prelude.{replicate, true};
 
+use super::places::Places;
 use super::{Remaining, closing_count, ends_in_dots, leading_parents};
-use arrayvec::ArrayVec;
 
-/// Items, the last first, of which the sixteen that come last in the list find room.
+/// Items, the last first, of which those that come last in the list find room.
 #[derive(Drop)]
-pub struct Stack<'a> {
+pub struct Stack<'a, P: Places<&'a str>> {
     /// The items that found room.
-    pub items: ArrayVec<&'a str, 16>,
+    pub items: P,
     /// How many bytes all of them have with a `/` after each.
     pub size: usize,
     /// The first of the list, or nothing.
@@ -25,14 +25,15 @@ pub struct Stack<'a> {
     pub is_whole: bool,
 }
 
-impl<'a> Stack<'a> {
-    /// No items.
+impl<'a, P: Places<&'a str>> Stack<'a, P> {
+    /// No items, and these places for them.
     #[inline(always)]
-    pub fn new() -> Self
-        ensures { (whole : List Text) → Completes result whole whole }
+    pub fn new(places: P) -> Self
+        requires { P.items places ≡ [] }
+        ensures { (whole : List Text) → Completes P.items result whole whole }
     {
         Stack {
-            items: ArrayVec::new(),
+            items: places,
             size: 0,
             first: "",
             is_whole: true,
@@ -44,20 +45,21 @@ impl<'a> Stack<'a> {
     fn put(&mut self, item: &'a str)
         requires { self.old.size + length item.now + 1 < 2 ^ 64 }
         ensures items { (front whole : List Text)
-            → Completes self.old (front ++ item.now ∷ []) whole
-            → Completes self.new front whole }
+            → Completes P.items self.old (front ++ item.now ∷ []) whole
+            → Completes P.items self.new front whole }
         ensures size { self.new.size ≡ self.old.size + length item.now + 1 }
     {
         self.size += item.len() + 1;
         self.first = item;
-        self.is_whole = self.is_whole && self.items.try_push(item).is_ok();
+        self.is_whole = self.is_whole && self.items.put(item);
     }
 
     // Puts the empty segment that closes a list, if it does.
     fn put_closing(&mut self, closes: bool)
         requires { self.old.size + 1 < 2 ^ 64 }
         ensures items { (front whole : List Text)
-            → Completes self.old (front ++ closing closes) whole → Completes self.new front whole }
+            → Completes P.items self.old (front ++ closing closes) whole
+            → Completes P.items self.new front whole }
         ensures size { self.new.size ≡ self.old.size + length (each_closed (closing closes)) }
     {
         if closes {
@@ -72,8 +74,9 @@ impl<'a> Stack<'a> {
         ensures parents { result.0 ≡ open_before (pieces_if_some segments.entry) 0 }
         ensures names { result.1 ≡ length (staying_before (pieces_if_some segments.entry) 0) }
         ensures items { (front whole : List Text)
-            → Completes self.old (front ++ staying_before (pieces_if_some segments.entry) 0) whole
-            → Completes self.new front whole }
+            → Completes P.items self.old
+            (front ++ staying_before (pieces_if_some segments.entry) 0) whole
+            → Completes P.items self.new front whole }
         ensures size { self.new.size ≡ self.old.size
             + length (each_closed (staying_before (pieces_if_some segments.entry) 0)) }
     {
@@ -90,8 +93,8 @@ impl<'a> Stack<'a> {
     fn put_parents(&mut self, count: usize)
         requires { self.old.size + 3 * count < 2 ^ 64 }
         ensures items { (whole : List Text)
-            → Completes self.old (replicate count (codes "..")) whole
-            → Completes self.new [] whole }
+            → Completes P.items self.old (replicate count (codes "..")) whole
+            → Completes P.items self.new [] whole }
     {
         let mut left = count;
         while left > 0 {
@@ -102,9 +105,9 @@ impl<'a> Stack<'a> {
 
     // Takes the only item away, if that is an empty one, and answers whether it was.
     fn drop_lone(&mut self) -> bool
-        ensures items { (whole : List Text) → Completes self.old [] whole
-            → Completes self.new [] (without_lone_empty whole) }
-        ensures lone { (whole : List Text) → Completes self.old [] whole
+        ensures items { (whole : List Text) → Completes P.items self.old [] whole
+            → Completes P.items self.new [] (without_lone_empty whole) }
+        ensures lone { (whole : List Text) → Completes P.items self.old [] whole
             → result ≡ is_one_empty whole }
     {
         if self.size != 1 {
@@ -119,9 +122,10 @@ impl<'a> Stack<'a> {
     /// Puts the items of the path of these segments, and answers what they are read from, and how
     /// many they are.
     pub fn read(&mut self, absolute: bool, segments: Option<&'a str>) -> (Remaining<'a>, usize)
-        requires empty { (whole : List Text) → Completes self.old whole whole }
+        requires empty { (whole : List Text) → Completes P.items self.old whole whole }
         requires fits { length (each_closed (pieces_if_some segments)) + 1 < 2 ^ 64 }
-        ensures stack { Completes self.new [] (normal_segments (path_of absolute segments.entry)) }
+        ensures stack { Completes P.items self.new []
+            (normal_segments (path_of absolute segments.entry)) }
         ensures items { normal_left result.0
             ≡ normal_segments (path_of absolute segments.entry) }
         ensures count { result.1 ≡ length (normal_left result.0) }

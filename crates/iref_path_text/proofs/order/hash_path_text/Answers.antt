@@ -7,4 +7,4 @@ use Rattle.iref_path_text.proofs.order.hash_path_text.Goals as goal
 
 pub returns : goal.returns
 returns g c =
-    fed_key g.H.Hasher.write c.args.state.now c.hash.new.state c.hash_left.new.state c.write_usize.new.self (read_path c.args.path.now) (normal_left c.new-count.result.0) c.new-count.result.1 c.new-count.ensures.items c.new-count.ensures.count (c.hash.ensures ∙ ap (λ b. fold g.H.Hasher.write c.args.state.now (bool b)) c.is_absolute.ensures) c.hash_left.ensures c.write_usize.ensures
+    fed_key g.H.Hasher.write c.args.state.now c.hash.new.state c.hash_left.new.state c.write_u8.new.self (read_path c.args.path.now) (normal_left c.new.result.0) c.new.ensures.items (c.hash.ensures ∙ ap (λ b. fold g.H.Hasher.write c.args.state.now (bool b)) c.is_absolute.ensures) c.hash_left.ensures c.write_u8.ensures

@@ -9,10 +9,10 @@ use Rattle.iref_path_text.specs.Stacks.{path_of}
 use Rattle.iref_path_text.proofs.SpellLemmas.{length-lead, normal_size, normalized-spelled, read_size}
 use Rattle.iref_path_text.proofs.rewriting.normal_lead.Goals as goal
 
-pub read-requires-clause-fits : goal.read-requires-clause-fits
-read-requires-clause-fits c =
+pub read-requires : goal.read-requires
+read-requires c =
     let size = read_size c.args.path.now _ c.split_root-absolute.ensures.path in
-    omega (arith, size)
+    λ k. ((refl, tt), (c.new-stack.ensures, omega (arith, size)))
 
 pub overflow_add-result : goal.overflow_add-result
 overflow_add-result c =

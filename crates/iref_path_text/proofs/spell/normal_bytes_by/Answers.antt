@@ -1,4 +1,4 @@
-use Rattle.std.proofs.Common.{◌++◌, ◌≡◌, [], length, arith, sym, subst, ap, ◌∙◌}
+use Rattle.std.proofs.Common.{◌++◌, ◌≡◌, [], length, refl, arith, sym, subst, ap, ◌∙◌}
 use Rattle.std.specs.Prelude.{IfOk}
 use Rattle.std.specs.List.{join_with_byte}
 use Rattle.iref_grammar.specs.Grammar.{slash}
@@ -8,12 +8,12 @@ use Rattle.iref_path_text.specs.Remaining.{first_or, normal_left}
 use Rattle.iref_path_text.specs.Spelling.{each_closed}
 use Rattle.iref_path_text.specs.Stacks.{in_order, path_of, stacked_text}
 use Rattle.iref_path_text.proofs.SpellLemmas.{normal_size, normalized-spelled, read_size}
-use Rattle.iref_path_text.proofs.spell.normal_bytes.Goals as goal
+use Rattle.iref_path_text.proofs.spell.normal_bytes_by.Goals as goal
 
-pub read-count-requires-clause-fits : goal.read-count-requires-clause-fits
-read-count-requires-clause-fits g c =
+pub read-count-requires : goal.read-count-requires
+read-count-requires g c =
     let size = read_size c.args.path.now _ c.split_root.ensures.path in
-    omega (arith, size)
+    λ k. ((refl, tt), (c.new-stack.ensures, omega (arith, size)))
 
 pub stacked_bytes-requires-clause-countable : goal.stacked_bytes-requires-clause-countable
 stacked_bytes-requires-clause-countable g c =
@@ -36,7 +36,7 @@ unfolding stacked_text
 returns-then-stack g c =
     let stack = c.read-count.new.self in
     let list = in_order c.as_slice.result.now in
-    let same = ap in_order c.as_slice.ensures.value ∙ c.read-count.ensures.stack.items c.if-stack.true in
+    let same = ap in_order c.as_slice.ensures ∙ c.read-count.ensures.stack.listed c.if-stack.true in
     let whole = c.read-count.ensures.stack.size in
     let listed = ap (λ items. length (each_closed items)) same in
     let size : stack.size ≡ length (each_closed list) = omega (arith, whole, listed) in
