@@ -153,7 +153,7 @@ step_of_whole step old new start end new_start new_end a b e f g r =
     (spelled, ap read_authority (sym (slice_whole new new_start new_end (f ∙ a) ends)) ∙ r ∙ ap (λ t. step (read_authority t)) all)
 
 -- an edit of an editor of all of a text
-module _ {C T A c H a : _} {R E : Type 0} (result : Result R E) (text : Text) (old new : AuthorityMut C T A c H a) (bytes : edited_bytes old ≡ text) (start : authority_mut_start old ≡ 0) (end : authority_mut_end old ≡ length text) where
+module _ {C T c H : _} {R E : Type 0} (result : Result R E) (text : Text) (old new : AuthorityMut C T c H) (bytes : edited_bytes old ≡ text) (start : authority_mut_start old ≡ 0) (end : authority_mut_end old ≡ length text) where
   pub whole_text : (authority : Text) → Edits (λ _. read_authority authority) old new result → OnOk result (edited_bytes new ≡ authority)
   whole_text authority edits =
       MatchResult-weaker result edits.outcome

@@ -29,7 +29,7 @@ splice_over : (bytes first second : Text) (start end : ℕ) → start ≤ end �
 splice_over bytes first second start end a b = same_lists _ _ (search (rules, places)) (λ k d h. grind (arith, places))
 
 -- no edit yet
-pub no_edit : {C : _} {T : _} {A : _} {c : _} {t : _} {a : _} (p : PathMut C T A c t a) → p.place.start ≤ p.place.end → p.place.end ≤ length (edited_bytes p) → BecomesPath p p (path_mut_value p)
+pub no_edit : {C : _} {T : _} {c : _} {t : _} (p : PathMut C T c t) → p.place.start ≤ p.place.end → p.place.end ≤ length (edited_bytes p) → BecomesPath p p (path_mut_value p)
 no_edit p a b =
     let spelled = (read_path-reads (path_mut_text p)).spelled in record {
       bytes = sym (splice_same (edited_bytes p) p.place.start p.place.end a b) ∙ ap (splice (edited_bytes p) p.place.start p.place.end) (sym spelled);
@@ -40,8 +40,8 @@ no_edit p a b =
     }
 
 -- an edit after another
-pub edit_then : {C : _} {T : _} {A : _} {c : _} {t : _} {a : _} {p q r : PathMut C T A c t a} {value next : PathValue} → p.place.start ≤ p.place.end → p.place.end ≤ length (edited_bytes p) → BecomesPath p q value → BecomesPath q r next → BecomesPath p r next
-edit_then {C} {T} {A} {c} {t} {a} {p} {q} {r} {value} {next} h k first second = record {
+pub edit_then : {C : _} {T : _} {c : _} {t : _} {p q r : PathMut C T c t} {value next : PathValue} → p.place.start ≤ p.place.end → p.place.end ≤ length (edited_bytes p) → BecomesPath p q value → BecomesPath q r next → BecomesPath p r next
+edit_then {C} {T} {c} {t} {p} {q} {r} {value} {next} h k first second = record {
   bytes = second.bytes ∙ (λ i. splice (first.bytes i) (first.from i) (first.to i) (spell_path next)) ∙ splice_over (edited_bytes p) (spell_path value) (spell_path next) p.place.start p.place.end h k;
   context = second.context ∙ first.context;
   from = second.from ∙ first.from;
@@ -50,8 +50,8 @@ edit_then {C} {T} {A} {c} {t} {a} {p} {q} {r} {value} {next} h k first second = 
 }
 
 -- a refused edit after another
-pub refused_then : {C : _} {T : _} {A : _} {c : _} {t : _} {a : _} {p q r : PathMut C T A c t a} {value : PathValue} → BecomesPath p q value → IsUnchanged q r → BecomesPath p r value
-refused_then {C} {T} {A} {c} {t} {a} {p} {q} {r} {value} first same = record {
+pub refused_then : {C : _} {T : _} {c : _} {t : _} {p q r : PathMut C T c t} {value : PathValue} → BecomesPath p q value → IsUnchanged q r → BecomesPath p r value
+refused_then {C} {T} {c} {t} {p} {q} {r} {value} first same = record {
   bytes = same.bytes ∙ first.bytes;
   context = same.context ∙ first.context;
   from = same.from ∙ first.from;
@@ -60,9 +60,9 @@ refused_then {C} {T} {A} {c} {t} {a} {p} {q} {r} {value} first same = record {
 }
 
 -- a step after another
-pub next_edit : {C : _} {T : _} {A : _} {c : _} {t : _} {a : _} {p q r : PathMut C T A c t a} {value : PathValue} (next : PathContext → PathValue → PathValue) → p.place.start ≤ p.place.end → p.place.end ≤ length (edited_bytes p) → BecomesPath p q value
+pub next_edit : {C : _} {T : _} {c : _} {t : _} {p q r : PathMut C T c t} {value : PathValue} (next : PathContext → PathValue → PathValue) → p.place.start ≤ p.place.end → p.place.end ≤ length (edited_bytes p) → BecomesPath p q value
     → BecomesPath q r (next (path_mut_context q) (path_mut_value q)) → BecomesPath p r (next (path_mut_context p) value)
-next_edit {C} {T} {A} {c} {t} {a} {p} {q} {r} next h k first second =
+next_edit {C} {T} {c} {t} {p} {q} {r} next h k first second =
     subst (BecomesPath p r) (λ i. next (first.context i) (first.read i)) (edit_then h k first second)
 
 -- one more segment followed
@@ -98,9 +98,9 @@ pub items_drained : {S A : Type 0} (view : A → Text) (rest : S → List Text) 
 items_drained view rest s items (after, (left, given, none)) = items_from_drains items (left, given, λ _. (after, none)) (YieldsList-from_first view rest (rest s) refl)
 
 -- the value of a copy after an edit
-pub copy_edit : {C : _} {T : _} {A : _} {c : _} {t : _} {a : _} {p q : PathMut C T A c t a} {bytes : Text} {context : PathContext} {n : ℕ} (step : PathContext → PathValue → PathValue) → IsEditorOf p bytes context 0 n → n ≡ length bytes
+pub copy_edit : {C : _} {T : _} {c : _} {t : _} {p q : PathMut C T c t} {bytes : Text} {context : PathContext} {n : ℕ} (step : PathContext → PathValue → PathValue) → IsEditorOf p bytes context 0 n → n ≡ length bytes
     → BecomesPath p q (step (path_mut_context p) (path_mut_value p)) → path_mut_value q ≡ step context (read_path bytes)
-copy_edit {C} {T} {A} {c} {t} {a} {p} {q} {bytes} {context} {n} step of len e =
+copy_edit {C} {T} {c} {t} {p} {q} {bytes} {context} {n} step of len e =
     e.read ∙ (λ i. step (of.context_is i) (read_path (slice_range (of.bytes_are i) (of.from i) (of.to i)))) ∙ ap (λ text. step context (read_path text)) (slice_all bytes 0 n refl (omega (arith, len)))
 
 -- what is joined, by whether it is absolute

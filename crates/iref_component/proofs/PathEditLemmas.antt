@@ -37,10 +37,10 @@ pub slice_all : (text : Text) (start end : ℕ) → start ≡ 0 → end ≡ star
 slice_all text start end from to = (λ i. slice_range text (from i) end) ∙ take_all (end - 0) text (omega (arith, from, to))
 
 -- the text and the value of a whole text after an edit by a step
-pub whole_edit : {C : _} {T : _} {A : _} {c : _} {t : _} {a : _} {old new : PathMut C T A c t a} {bytes : Text} {context : PathContext} (step : PathContext → PathValue → PathValue)
+pub whole_edit : {C : _} {T : _} {c : _} {t : _} {old new : PathMut C T c t} {bytes : Text} {context : PathContext} (step : PathContext → PathValue → PathValue)
     → IsEditorOf old bytes context 0 (length bytes) → BecomesPath old new (step (path_mut_context old) (path_mut_value old))
     → let value = step context (read_path bytes) in (edited_bytes new ≡ spell_path value) × (read_path (edited_bytes new) ≡ value)
-whole_edit {C} {T} {A} {c} {t} {a} {old} {new} {bytes} {context} step of e =
+whole_edit {C} {T} {c} {t} {old} {new} {bytes} {context} step of e =
     let value : step (path_mut_context old) (path_mut_value old) ≡ step context (read_path bytes) =
     (λ i. step (of.context_is i) (read_path (slice_range (of.bytes_are i) (of.from i) (of.to i)))) ∙ ap (λ text. step context (read_path text)) (slice_all bytes 0 (length bytes) refl (omega arith)) in
     let whole = whole_text (edited_bytes old) (edited_bytes new) (spell_path _) old.place.start old.place.end e.bytes of.from (of.to ∙ sym (ap length of.bytes_are)) in

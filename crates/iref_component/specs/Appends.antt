@@ -1,57 +1,69 @@
 -- What an edit by many segments takes of an iterator, and what it makes of a path.
-use Rattle.std.specs.Prelude.{List, Option, Result, [], ◌∷◌, ◌++◌, ◌≡◌, fold, map, MatchResult}
+use Rattle.std.specs.Prelude.{Bool, false, true, List, Option, None, Result, ◌≡◌, fold, map, IfNone, MatchOption, MatchResult}
 use Rattle.std.specs.Borrow.{Bor}
-use Rattle.std.specs.Iterator.{Count, IsFinite, Yields, Drains}
+use Rattle.std.specs.Iterator.{YieldsThen, Drains}
 use Rattle.std.specs.List.{All}
 use Rattle.iref_grammar.specs.declared.context.PathContext.{PathContext}
 use Rattle.iref_grammar.specs.Characters.{CharTests}
 use Rattle.iref_grammar.specs.Grammar.{IsSegment}
 use Rattle.iref_grammar.specs.PathValue.{PathValue}
 use Rattle.iref_grammar.specs.Rules.{Text, InUtf8}
-use Rattle.iref_model.specs.PathSteps.{followed}
+use Rattle.iref_model.specs.NormalList.{ends_in_dots}
+use Rattle.iref_model.specs.PathSteps.{appended, followed, lazy_appended}
 use Rattle.iref_component.specs.declared.text.RuleText.{RuleText}
 use Rattle.iref_component.specs.Components.{text_of}
+use Rattle.iref_error.specs.Tried.{InvalidIfOutside}
 use Rattle.iref_error.specs.declared.edit.TryError.{TryError}
-use Rattle.iref_error.specs.declared.edit.TryError.TheVariants.{Invalid, Memory}
+use Rattle.iref_error.specs.declared.edit.TryError.TheVariants.{Memory}
 use Rattle.iref_error.specs.declared.invalid.InvalidSegment.{InvalidSegment}
 use Rattle.iref_component.specs.PathEdits.{PathStep}
 
--- it may be asked for its items, and they end
-abbrev pub CanTakeAll : {S : Type 0} → (S → Type 0) → (S → Count) → S → Type 0
-CanTakeAll can_next remaining s = can_next s × IsFinite (remaining s)
+-- of the iterator that is made of the source it takes all items, up to the first None, and this is true of them
+abbrev pub TakesAll : {U S X : Type 0} → (U → S → Type 0) → (S → Option X → S → Type 0) → U → (List X → Type 0) → Type 0
+TakesAll {U} {S} {X} becomes steps source Holds = (iterator : S) × (items : List X) × becomes source iterator × Drains steps iterator items × Holds items
 
--- it takes all items, up to the first None, and this is true of them
-abbrev pub TakesAll : {S X : Type 0} → (S → Option X → S → Type 0) → S → (List X → Type 0) → Type 0
-TakesAll {S} {X} steps s Holds = (items : List X) × Drains steps s items × Holds items
-
--- it takes these items first, and this is true of them
-abbrev pub TakesFirst : {S X : Type 0} → (S → Option X → S → Type 0) → S → (List X → Type 0) → Type 0
-TakesFirst {S} {X} steps s Holds = (items : List X) × (rest : S) × Yields steps s items rest × Holds items
-
--- it stops at an item that is not in the rule, which the error holds, or for want of memory: this is true of the items before, which are in the rule
-abbrev pub StopsAfter : {S X E : Type 0} → (S → Option X → S → Type 0) → S → (X → Type 0) → (X → E → Type 0) → (List X → Type 0) → TryError E → Type 0
-StopsAfter {S} {X} {E} steps s in_rule hands_back Holds (Invalid error) = (items : List X) × (next : X) × (rest : S) × Yields steps s (items ++ next ∷ []) rest × All in_rule items × ¬ (in_rule next) × hands_back next error × Holds items
-StopsAfter {S} {X} {E} steps s in_rule hands_back Holds Memory = (items : List X) × (rest : S) × Yields steps s items rest × All in_rule items × Holds items
-
--- at Ok all items are in the rule, and the first is true of them; at an error the second is true of those before it
-abbrev pub TriesItems : {S X V E : Type 0} → (S → Option X → S → Type 0) → S → (X → Type 0) → (X → E → Type 0) → (List X → Type 0) → (List X → Type 0) → Result V (TryError E) → Type 0
-TriesItems steps s in_rule hands_back Whole Before result = MatchResult result (λ _. TakesAll steps s (λ items. All in_rule items × Whole items)) (StopsAfter steps s in_rule hands_back Before)
+-- it takes these items first, the call after them gives this, and that is true of both
+abbrev pub TakesFirst : {U S X : Type 0} → (U → S → Type 0) → (S → Option X → S → Type 0) → U → (List X → Option X → Type 0) → Type 0
+TakesFirst {U} {S} {X} becomes steps source Holds = (iterator : S) × (items : List X) × (next : Option X) × (rest : S) × becomes source iterator × YieldsThen steps iterator items next rest × Holds items next
 
 -- what the texts of segments make of a path, in the context of what stands before it
 abbrev pub ListStep : Type 0
 ListStep = PathContext → List Text → PathValue → PathValue
 
--- the segments followed one by one, and the path not closed
-abbrev pub followed_each : ListStep
-followed_each context items path = fold (followed context) path items
+-- an edit by segments: what all of them make of a path, what those before a refused one make of it, and whether the path is closed after the last
+pub record ListEdit : Type 0 where
+  pub whole : ListStep
+  pub before : ListStep
+  pub closes : List Text → Bool
 
--- an edit by segments: at Ok all were taken, and the path becomes what the first makes of their texts; at an Err some were, and it becomes what the second makes of theirs
-abbrev pub Appends : {T R C K t r k c : _} {S V E : Type 0} → ListStep → ListStep → (S → Option (RuleText T R C K t r k c) → S → Type 0) → S → (PathStep → Type 0) → Result V E → Type 0
-Appends whole before steps s Becomes result =
-    MatchResult result (λ _. TakesAll steps s (λ items. Becomes (λ context. whole context (map text_of items)))) (λ _. TakesFirst steps s (λ items. Becomes (λ context. before context (map text_of items))))
+-- each is put at the end as it is
+abbrev pub lazily : ListEdit
+lazily = record { whole = lazy_appended; before = lazy_appended; closes = λ _. false }
 
--- the same by texts that are tested first: an error hands back the first that is not a segment, and is of want of memory otherwise
-abbrev pub TriesAppends : {S V : Type 0} → ListStep → ListStep → CharTests → (S → Option (Bor Text) → S → Type 0) → S → (PathStep → Type 0) → Result V (TryError (InvalidSegment (Bor Text))) → Type 0
-TriesAppends whole before set steps s Becomes result =
-    TriesItems steps s (λ item. InUtf8 (IsSegment set) item.now) (λ item error. error.0 ≡ item)
-    (λ items. Becomes (λ context. whole context (map (λ item. item.now) items))) (λ items. Becomes (λ context. before context (map (λ item. item.now) items))) result
+-- each is followed, and the path is closed after a last . or ..
+abbrev pub following : ListEdit
+following = record { whole = appended; before = λ context items path. fold (followed context) path items; closes = ends_in_dots }
+
+-- an edit by segments: at Ok all were taken, and the path becomes what they make of it; at an Err the next segment is refused, or after the last the closing, and the path becomes what those before make of it
+abbrev pub Appends : {T R C K t r k c : _} {U S V E : Type 0} → ListEdit → (U → S → Type 0) → (S → Option (RuleText T R C K t r k c) → S → Type 0) → U → (PathStep → Type 0) → Result V E → Type 0
+Appends edit becomes steps source Becomes result = MatchResult result
+    (λ _. TakesAll becomes steps source (λ items. Becomes (λ context. edit.whole context (map text_of items))))
+    (λ _. TakesFirst becomes steps source (λ items next. IfNone next (edit.closes (map text_of items) ≡ true) × Becomes (λ context. edit.before context (map text_of items))))
+
+-- the texts of borrowed items
+abbrev pub item_texts : List (Bor Text) → List Text
+item_texts items = map (λ item. item.now) items
+
+-- the text is a segment
+abbrev pub IsSegmentText : CharTests → Bor Text → Type 0
+IsSegmentText set item = InUtf8 (IsSegment set) item.now
+
+-- the error tells whether the next text is a segment, and holds it where it is none; where no text is left memory was wanting, and the path is to be closed
+abbrev pub RefusesNext : CharTests → Bool → Option (Bor Text) → TryError (InvalidSegment (Bor Text)) → Type 0
+RefusesNext set closes next error = MatchOption next ((error ≡ Memory) × (closes ≡ true)) (λ item. InvalidIfOutside (IsSegmentText set item) (λ invalid. invalid.0 ≡ item) error)
+
+-- the same by texts that are tested first: those that were taken are segments, and an error hands back the next if it is none
+abbrev pub TriesAppends : {U S V : Type 0} → ListEdit → CharTests → (U → S → Type 0) → (S → Option (Bor Text) → S → Type 0) → U → (PathStep → Type 0) → Result V (TryError (InvalidSegment (Bor Text))) → Type 0
+TriesAppends edit set becomes steps source Becomes result = MatchResult result
+    (λ _. TakesAll becomes steps source (λ items. All (IsSegmentText set) items × Becomes (λ context. edit.whole context (item_texts items))))
+    (λ error. TakesFirst becomes steps source (λ items next. All (IsSegmentText set) items × RefusesNext set (edit.closes (item_texts items)) next error × Becomes (λ context. edit.before context (item_texts items))))

@@ -8,64 +8,64 @@ use Rattle.iref_grammar.specs.Authority.{AuthorityValue, spell_authority, read_a
 use Rattle.iref_component.specs.declared.authority_mut.AuthorityMut.{AuthorityMut}
 
 -- the name of the reference that it holds
-abbrev pub borrowed_name : {C T A c H a : _} → AuthorityMut C T A c H a → GName
+abbrev pub borrowed_name : {C T c H : _} → AuthorityMut C T c H → GName
 borrowed_name editor = editor.target.ghost_name
 
 -- it holds the reference of this name
-abbrev pub Borrows : {C T A c H a : _} → AuthorityMut C T A c H a → GName → Type 0
+abbrev pub Borrows : {C T c H : _} → AuthorityMut C T c H → GName → Type 0
 Borrows editor name = borrowed_name editor ≡ name
 
 -- the bytes that hold the authority
-abbrev pub edited_bytes : {C T A c H a : _} → AuthorityMut C T A c H a → Text
+abbrev pub edited_bytes : {C T c H : _} → AuthorityMut C T c H → Text
 edited_bytes {H = H} editor = H.text editor.target.now
 
 -- where the authority stands
-abbrev pub authority_mut_start : {C T A c H a : _} → AuthorityMut C T A c H a → ℕ
+abbrev pub authority_mut_start : {C T c H : _} → AuthorityMut C T c H → ℕ
 authority_mut_start editor = editor.place.start
 
-abbrev pub authority_mut_end : {C T A c H a : _} → AuthorityMut C T A c H a → ℕ
+abbrev pub authority_mut_end : {C T c H : _} → AuthorityMut C T c H → ℕ
 authority_mut_end editor = editor.place.end
 
 -- the text of the authority
-abbrev pub authority_mut_text : {C T A c H a : _} → AuthorityMut C T A c H a → Text
+abbrev pub authority_mut_text : {C T c H : _} → AuthorityMut C T c H → Text
 authority_mut_text editor = slice_range (edited_bytes editor) editor.place.start editor.place.end
 
 -- the parts that it is read as
-abbrev pub authority_mut_value : {C T A c H a : _} → AuthorityMut C T A c H a → AuthorityValue
+abbrev pub authority_mut_value : {C T c H : _} → AuthorityMut C T c H → AuthorityValue
 authority_mut_value editor = read_authority (authority_mut_text editor)
 
 -- it edits what stands at this place of the bytes, where one is given
-pub record IsEditorAt {C T A c H a : _} (editor : AuthorityMut C T A c H a) (bytes : Text) (place : Option (Range ℕ)) : Type 0 where
+pub record IsEditorAt {C T c H : _} (editor : AuthorityMut C T c H) (bytes : Text) (place : Option (Range ℕ)) : Type 0 where
   pub bytes_are : edited_bytes editor ≡ bytes
   pub place_is : place ≡ Some (record { start = editor.place.start; end = editor.place.end })
 
 -- the range lies in the bytes
-pub record LiesInBytes {C T A c H a : _} (editor : AuthorityMut C T A c H a) : Type 0 where
+pub record LiesInBytes {C T c H : _} (editor : AuthorityMut C T c H) : Type 0 where
   pub start_le_end : editor.place.start ≤ editor.place.end
   pub in_bounds : editor.place.end ≤ length (edited_bytes editor)
 
 -- it borrows the same target still
-abbrev pub IsSameEditor : {C T A c H a : _} → AuthorityMut C T A c H a → AuthorityMut C T A c H a → Type 0
+abbrev pub IsSameEditor : {C T c H : _} → AuthorityMut C T c H → AuthorityMut C T c H → Type 0
 IsSameEditor old new = borrowed_name new ≡ borrowed_name old
 
 -- the authority becomes this one, its range is exact, and no other byte changes
-pub record BecomesAuthority {C T A c H a : _} (old new : AuthorityMut C T A c H a) (value : AuthorityValue) : Type 0 where
+pub record BecomesAuthority {C T c H : _} (old new : AuthorityMut C T c H) (value : AuthorityValue) : Type 0 where
   pub bytes : edited_bytes new ≡ splice (edited_bytes old) old.place.start old.place.end (spell_authority value)
   pub from : new.place.start ≡ old.place.start
   pub to : new.place.end ≡ old.place.start + length (spell_authority value)
   pub reads : authority_mut_value new ≡ value
 
 -- nothing changes
-pub record IsUnchanged {C T A c H a : _} (old new : AuthorityMut C T A c H a) : Type 0 where
+pub record IsUnchanged {C T c H : _} (old new : AuthorityMut C T c H) : Type 0 where
   pub bytes : edited_bytes new ≡ edited_bytes old
   pub from : new.place.start ≡ old.place.start
   pub to : new.place.end ≡ old.place.end
 
 -- an edit: it borrows the same target still, at Ok the authority becomes this one, and at an Err nothing changes
-pub record EditsTo {C T A c H a : _} {V E : Type 0} (value : AuthorityValue) (old new : AuthorityMut C T A c H a) (result : Result V E) : Type 0 where
+pub record EditsTo {C T c H : _} {V E : Type 0} (value : AuthorityValue) (old new : AuthorityMut C T c H) (result : Result V E) : Type 0 where
   pub same : IsSameEditor old new
   pub outcome : MatchResult result (λ _. BecomesAuthority old new value) (λ _. IsUnchanged old new)
 
 -- an edit whose authority is what this step makes of the old one
-abbrev pub Edits : {C T A c H a : _} {V E : Type 0} → (AuthorityValue → AuthorityValue) → AuthorityMut C T A c H a → AuthorityMut C T A c H a → Result V E → Type 0
+abbrev pub Edits : {C T c H : _} {V E : Type 0} → (AuthorityValue → AuthorityValue) → AuthorityMut C T c H → AuthorityMut C T c H → Result V E → Type 0
 Edits step old new result = EditsTo (step (authority_mut_value old)) old new result

@@ -8,15 +8,18 @@ use Rattle.std.specs.HashMap.Lent.{HashMembers}
 use Rattle.std.specs.Ordering.{is_eq}
 use Rattle.std.specs.declared.cmp.Ordering.{Ordering}
 use Rattle.iref_grammar.specs.Authority.{AuthorityValue, read_authority}
-use Rattle.iref_grammar.specs.Keys.{fed_bytes, text_order}
+use Rattle.iref_grammar.specs.Keys.{fed_bytes, IsSelfDelimiting, text_order}
 use Rattle.iref_grammar.specs.PathValue.{PathValue, read_path}
 use Rattle.iref_grammar.specs.Rules.{Text}
 use Rattle.iref_model.specs.AuthorityKey.{authority_key, authority_key_cmp, authority_keys_total, fed_authority}
 use Rattle.iref_model.specs.PathHash.{fed_path}
 use Rattle.iref_model.specs.PathKey.{path_key, path_key_cmp, path_keys_total}
+use Rattle.iref_grammar.proofs.FeedLemmas.{text_feed_delimits}
+use Rattle.iref_model.proofs.FeedLemmas.{authority_feed_delimits, path_feed_delimits}
 use Rattle.iref_model.proofs.KeyOrderLemmas.{authority_keys_tell, path_keys_tell, texts_tell}
 
--- the key of a text, the order of keys, and what a hasher is fed of one; the order is total, and tells keys apart
+-- the key of a text, the order of keys, and what a hasher is fed of a key; the order is total, and keys that differ differ in
+-- the order and in what is fed
 pub record Comparison : Type 1 where
   pub Kept : Type 0
   pub key : Text → Kept
@@ -24,22 +27,25 @@ pub record Comparison : Type 1 where
   pub fed : Kept → HashWrites
   pub total : IsTotalOrder order
   pub tells : (k l : Kept) → is_eq (order k l) ≡ true → k ≡ l
+  pub delimits : IsSelfDelimiting fed
 
 -- by a key that is a text: by its bytes
 abbrev pub by_text : (Text → Text) → Comparison
-by_text key = record { Kept = Text; key = key; order = text_order; fed = fed_bytes; total = nat_list_cmp_total; tells = texts_tell }
+by_text key = record { Kept = Text; key = key; order = text_order; fed = fed_bytes; total = nat_list_cmp_total; tells = texts_tell; delimits = text_feed_delimits }
 
--- values are equal exactly where their keys are the same, in the order of the keys, and a hasher is fed the key
+-- Values are equal exactly where their keys are the same, and in the order of the keys. A hasher is fed the key, in bytes that
+-- determine it: values that are not equal feed different bytes.
 abbrev pub ComparesBy : {V K : Type 0} → (V → K) → (K → K → Ordering) → (K → HashWrites) → OrdMembers V → HashMembers V → Type 0
 ComparesBy {V} key order fed ord hash =
     ((a b : V) → (ord.eq a b ≡ true) ↔ (key a ≡ key b))
     × ((a b : V) → ord.cmp a b ≡ order (key a) (key b))
     × ((v : V) → hash.hash_input v ≡ fed (key v))
+    × IsSelfDelimiting fed
 
 -- authorities: user info and host as decoded bytes, the port as text
 abbrev pub by_parts : Comparison
-by_parts = record { Kept = AuthorityValue; key = λ text. authority_key (read_authority text); order = authority_key_cmp; fed = fed_authority; total = authority_keys_total; tells = authority_keys_tell }
+by_parts = record { Kept = AuthorityValue; key = λ text. authority_key (read_authority text); order = authority_key_cmp; fed = fed_authority; total = authority_keys_total; tells = authority_keys_tell; delimits = authority_feed_delimits }
 
 -- paths: whether they are absolute, and their normal segments as decoded bytes
 abbrev pub by_segments : Comparison
-by_segments = record { Kept = PathValue; key = λ text. path_key (read_path text); order = path_key_cmp; fed = fed_path; total = path_keys_total; tells = path_keys_tell }
+by_segments = record { Kept = PathValue; key = λ text. path_key (read_path text); order = path_key_cmp; fed = fed_path; total = path_keys_total; tells = path_keys_tell; delimits = path_feed_delimits }

@@ -11,46 +11,50 @@ use Rattle.iref_component.specs.declared.text.RuleText.{RuleText}
 use Rattle.iref_component.specs.Components.{text_of}
 use Rattle.iref_component.specs.Paths.{path_value}
 
+-- the name of the reference that it holds
+abbrev pub borrowed_name : {C : _} {T : _} {c : _} {t : _} → PathMut C T c t → GName
+borrowed_name p = p.target.ghost_name
+
 -- it holds the reference of this name
-abbrev pub Borrows : {C : _} {T : _} {A : _} {c : _} {t : _} {a : _} → PathMut C T A c t a → GName → Type 0
-Borrows p name = p.target.ghost_name ≡ name
+abbrev pub Borrows : {C : _} {T : _} {c : _} {t : _} → PathMut C T c t → GName → Type 0
+Borrows p name = borrowed_name p ≡ name
 
 -- the bytes that hold the path
-abbrev pub edited_bytes : {C : _} {T : _} {A : _} {c : _} {t : _} {a : _} → PathMut C T A c t a → Text
-edited_bytes {C} {T} {A} {c} {t} {a} p = t.text p.target.now
+abbrev pub edited_bytes : {C : _} {T : _} {c : _} {t : _} → PathMut C T c t → Text
+edited_bytes {C} {T} {c} {t} p = t.text p.target.now
 
 -- what stands before the path
-abbrev pub path_mut_context : {C : _} {T : _} {A : _} {c : _} {t : _} {a : _} → PathMut C T A c t a → PathContext
+abbrev pub path_mut_context : {C : _} {T : _} {c : _} {t : _} → PathMut C T c t → PathContext
 path_mut_context p = p.context
 
 -- where the path stands
-abbrev pub path_mut_start : {C : _} {T : _} {A : _} {c : _} {t : _} {a : _} → PathMut C T A c t a → ℕ
+abbrev pub path_mut_start : {C : _} {T : _} {c : _} {t : _} → PathMut C T c t → ℕ
 path_mut_start p = p.place.start
 
-abbrev pub path_mut_end : {C : _} {T : _} {A : _} {c : _} {t : _} {a : _} → PathMut C T A c t a → ℕ
+abbrev pub path_mut_end : {C : _} {T : _} {c : _} {t : _} → PathMut C T c t → ℕ
 path_mut_end p = p.place.end
 
 -- the text of the path
-abbrev pub path_mut_text : {C : _} {T : _} {A : _} {c : _} {t : _} {a : _} → PathMut C T A c t a → Text
+abbrev pub path_mut_text : {C : _} {T : _} {c : _} {t : _} → PathMut C T c t → Text
 path_mut_text p = slice_range (edited_bytes p) p.place.start p.place.end
 
 -- the flag and the list that it is read as
-abbrev pub path_mut_value : {C : _} {T : _} {A : _} {c : _} {t : _} {a : _} → PathMut C T A c t a → PathValue
+abbrev pub path_mut_value : {C : _} {T : _} {c : _} {t : _} → PathMut C T c t → PathValue
 path_mut_value p = read_path (path_mut_text p)
 
 -- it edits what stands there
-pub record IsEditorOf {C : _} {T : _} {A : _} {c : _} {t : _} {a : _} (p : PathMut C T A c t a) (bytes : Text) (context : PathContext) (start end : ℕ) : Type 0 where
+pub record IsEditorOf {C : _} {T : _} {c : _} {t : _} (p : PathMut C T c t) (bytes : Text) (context : PathContext) (start end : ℕ) : Type 0 where
   pub bytes_are : edited_bytes p ≡ bytes
   pub context_is : p.context ≡ context
   pub from : p.place.start ≡ start
   pub to : p.place.end ≡ end
 
 -- it borrows the same target still
-abbrev pub IsSameEditor : {C : _} {T : _} {A : _} {c : _} {t : _} {a : _} → PathMut C T A c t a → PathMut C T A c t a → Type 0
-IsSameEditor old new = new.target.ghost_name ≡ old.target.ghost_name
+abbrev pub IsSameEditor : {C : _} {T : _} {c : _} {t : _} → PathMut C T c t → PathMut C T c t → Type 0
+IsSameEditor old new = borrowed_name new ≡ borrowed_name old
 
 -- the path becomes this one, its range is exact, and no other byte changes
-pub record BecomesPath {C : _} {T : _} {A : _} {c : _} {t : _} {a : _} (old new : PathMut C T A c t a) (value : PathValue) : Type 0 where
+pub record BecomesPath {C : _} {T : _} {c : _} {t : _} (old new : PathMut C T c t) (value : PathValue) : Type 0 where
   pub bytes : edited_bytes new ≡ splice (edited_bytes old) old.place.start old.place.end (spell_path value)
   pub context : new.context ≡ old.context
   pub from : new.place.start ≡ old.place.start
@@ -58,14 +62,14 @@ pub record BecomesPath {C : _} {T : _} {A : _} {c : _} {t : _} {a : _} (old new 
   pub read : path_mut_value new ≡ value
 
 -- nothing changes
-pub record IsUnchanged {C : _} {T : _} {A : _} {c : _} {t : _} {a : _} (old new : PathMut C T A c t a) : Type 0 where
+pub record IsUnchanged {C : _} {T : _} {c : _} {t : _} (old new : PathMut C T c t) : Type 0 where
   pub bytes : edited_bytes new ≡ edited_bytes old
   pub context : new.context ≡ old.context
   pub from : new.place.start ≡ old.place.start
   pub to : new.place.end ≡ old.place.end
 
 -- an edit: it borrows the same target still, at Ok the path becomes this one, and at an Err nothing changes
-pub record EditsTo {C : _} {T : _} {A : _} {c : _} {t : _} {a : _} {V E : Type 0} (value : PathValue) (old new : PathMut C T A c t a) (result : Result V E) : Type 0 where
+pub record EditsTo {C : _} {T : _} {c : _} {t : _} {V E : Type 0} (value : PathValue) (old new : PathMut C T c t) (result : Result V E) : Type 0 where
   pub same : IsSameEditor old new
   pub outcome : MatchResult result (λ _. BecomesPath old new value) (λ _. IsUnchanged old new)
 
@@ -74,15 +78,15 @@ abbrev pub PathStep : Type 0
 PathStep = PathContext → PathValue → PathValue
 
 -- the path becomes what this step makes of it
-abbrev pub Becomes : {C : _} {T : _} {A : _} {c : _} {t : _} {a : _} → PathMut C T A c t a → PathMut C T A c t a → PathStep → Type 0
+abbrev pub Becomes : {C : _} {T : _} {c : _} {t : _} → PathMut C T c t → PathMut C T c t → PathStep → Type 0
 Becomes old new step = BecomesPath old new (step (path_mut_context old) (path_mut_value old))
 
 -- an edit whose path is what this step makes of the old one
-abbrev pub Edits : {C : _} {T : _} {A : _} {c : _} {t : _} {a : _} {V E : Type 0} → PathStep → PathMut C T A c t a → PathMut C T A c t a → Result V E → Type 0
+abbrev pub Edits : {C : _} {T : _} {c : _} {t : _} {V E : Type 0} → PathStep → PathMut C T c t → PathMut C T c t → Result V E → Type 0
 Edits step old new result = EditsTo (step (path_mut_context old) (path_mut_value old)) old new result
 
 -- the same by a step that takes something besides the path, as a segment
-abbrev pub EditsBy : {C : _} {T : _} {A : _} {c : _} {t : _} {a : _} {X V E : Type 0} → (PathContext → X → PathValue → PathValue) → X → PathMut C T A c t a → PathMut C T A c t a → Result V E → Type 0
+abbrev pub EditsBy : {C : _} {T : _} {c : _} {t : _} {X V E : Type 0} → (PathContext → X → PathValue → PathValue) → X → PathMut C T c t → PathMut C T c t → Result V E → Type 0
 EditsBy step by = Edits (λ context. step context by)
 
 -- the owner's text spells this path, and is read as it

@@ -1,5 +1,5 @@
 //! The parts of an authority (RFC 3986 section 3.2).
-ghost use Rattle.std.specs.Prelude.{◌≡◌, true};
+ghost use Rattle.std.specs.Prelude.{◌≡◌, true, ⊤};
 ghost use Rattle.iref_component.specs.AuthorityParts.{parts_key, parts_value};
 ghost use Rattle.iref_component.specs.Comparisons.{ComparesBy};
 ghost use Rattle.iref_grammar.specs.{is_authority, read_authority};
@@ -9,12 +9,13 @@ use crate::texts::{Host, Port, UserInfo};
 use crate::view::view_of;
 use iref_grammar::chars::CharSet;
 use iref_parse::authority::split_parts;
+use std::alloc::AllocError;
 use std::hash::Hash;
 
 /// The parts of an authority (RFC 3986 section 3.2): `u@h:80` has the user info `u`, the host `h`
 /// and the port `80`. They compare as it does: by the decoded user info and host, and by the text
 /// of the port.
-#[derive_where(Clone, Copy, Debug, PartialEq, Eq, PartialOrd, Ord, Hash)]
+#[derive_where(Copy, Debug, PartialEq, Eq, PartialOrd, Ord, Hash)]
 pub struct AuthorityParts<'a, C: CharSet> {
     /// What stands before the first `@`.
     pub user_info: Option<UserInfo<'a, C>>,
@@ -22,6 +23,16 @@ pub struct AuthorityParts<'a, C: CharSet> {
     pub host: Host<'a, C>,
     /// What follows the `:` after the host.
     pub port: Option<Port<'a>>,
+}
+
+impl<C: CharSet> Clone for AuthorityParts<'_, C> {
+    ghost is_clone = { λ parts copy. copy ≡ parts };
+
+    ghost is_infallible = { λ _. ⊤ };
+
+    fn clone(&self) -> Result<Self, AllocError> {
+        Ok(*self)
+    }
 }
 
 /// The parts of a text that is known to be an authority, as slices of it.

@@ -9,6 +9,7 @@ ghost use Rattle.iref_component.specs.Comparisons.{Comparison, by_parts, by_segm
 use crate::authority_parts::parts_of;
 use iref_grammar::chars::CharSet;
 use iref_parse::decoded::{decoded_cmp, hash_decoded};
+use iref_parse::piece::Piece;
 use iref_path_text::equality::path_texts_eq;
 use iref_path_text::order::{hash_path_text, path_texts_cmp};
 use std::cmp::Ordering;
@@ -73,12 +74,12 @@ impl Key for LowerCase {
         a.cmp(b)
     }
 
-    #[tactic(auto, unfolding(iref_grammar::specs::Keys::fed_bytes))]
     fn feed<C: CharSet, H: Hasher>(text: &str, state: &mut H) {
+        let mut piece = Piece::new();
         for byte in text.bytes() {
-            state.write_u8(byte.to_ascii_lowercase());
+            piece.add(byte.to_ascii_lowercase(), state);
         }
-        state.write_u8(0xff);
+        piece.end(state);
     }
 }
 
@@ -92,12 +93,12 @@ impl Key for SameText {
         a.cmp(b)
     }
 
-    #[tactic(auto, unfolding(iref_grammar::specs::Keys::fed_bytes))]
     fn feed<C: CharSet, H: Hasher>(text: &str, state: &mut H) {
+        let mut piece = Piece::new();
         for byte in text.bytes() {
-            state.write_u8(byte);
+            piece.add(byte, state);
         }
-        state.write_u8(0xff);
+        piece.end(state);
     }
 }
 

@@ -1,7 +1,8 @@
 //! The normal segments of a path, from both ends (RFC 3986 section 5.2.4).
 
-ghost use Rattle.std.specs.{Prelude.{◌≡◌, true, length}, List.{list_all}};
-ghost use Rattle.std.specs.Iterator.{YieldsFirstBy, YieldsLastBy, item_count};
+ghost use Rattle.std.specs.{Prelude.{◌≡◌, true, length, Some, IfSome}, List.{list_all}};
+ghost use Rattle.std.specs.Iterator.{YieldsFirstBy, YieldsLastBy, item_count, UpTo};
+ghost use Rattle.std.specs.Iterator.SizeHint.{IsWithinCount};
 ghost use Rattle.iref_component.specs.Components.{text_of};
 ghost use Rattle.iref_grammar.specs.{is_path, is_segment, read_path};
 ghost use Rattle.iref_model.specs.{normal_segments};
@@ -52,7 +53,12 @@ impl<'a, C: CharSet> Iterator for NormalizedSegments<'a, C> {
         Some(Segment::new_unchecked(text))
     }
 
-    fn size_hint(&self) -> (usize, Option<usize>) {
+    fn size_hint(&self) -> (usize, Option<usize>)
+        ensures lower { IsWithinCount result.0 (item_count normal_segments_left self.now) }
+        ensures upper { IfSome result.1 (UpTo (item_count normal_segments_left self.now)) }
+        ensures value { let left = length (normal_segments_left self.now) in
+            result ≡ (left, Some left) }
+    {
         (self.count, Some(self.count))
     }
 }

@@ -74,7 +74,7 @@ impl<S: Storage, C: CharSet> RuleText<S, PathRule, C> {
     {
         let path = self.as_view().as_str();
         let alone = PathContext::default();
-        let text = normalized_text::<C, _>(alloc, alone, self.is_absolute(), path)?;
+        let text = normalized_text::<C>(alloc, alone, self.is_absolute(), path)?;
         Ok(PathBuf::new_unchecked(text))
     }
 
@@ -88,7 +88,7 @@ impl<S: Storage, C: CharSet> RuleText<S, PathRule, C> {
             → IsOk result }
     {
         let path = self.as_view().as_str();
-        let text = suffix_text::<C, _>(alloc, prefix.as_str(), path)?;
+        let text = suffix_text::<C>(alloc, prefix.as_str(), path)?;
         Ok(text.map(|text| PathBuf::new_unchecked(text)))
     }
 
@@ -214,7 +214,6 @@ impl<'a, C: CharSet> IntoIterator for Path<'a, C> {
 
 /// Paths are equal where their flags and their normal segments, decoded, are the same; they are in
 /// the order of these, and a hasher is fed them (RFC 3986 section 6.2.2).
-#[tactic(auto, using(iref_model::proofs::TieLemmas::paths_tie))]
 pub fn paths_compare_by_key<S: Storage, C: CharSet>()
     ensures { ComparesBy (λ p. path_key (path_value p)) path_key_cmp fed_path
         ⟦<RuleText<S, PathRule, C> as Ord>⟧ ⟦<RuleText<S, PathRule, C> as Hash>⟧ }

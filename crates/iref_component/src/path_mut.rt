@@ -22,6 +22,7 @@ use iref_grammar::chars::CharSet;
 use iref_grammar::context::PathContext;
 use iref_path_text::part::PathPart;
 use iref_path_text::steps::{self, Step};
+use std::alloc::Global;
 use std::fmt;
 use std::marker::PhantomData;
 use std::ops::Range;
@@ -85,7 +86,7 @@ impl<'a, C: CharSet, T: Target<PathPart, C>> PathMut<'a, C, T> {
     }
 
     // The allocator of what holds the path.
-    fn alloc(&self) -> T::Alloc {
+    fn alloc(&self) -> Global {
         self.target.alloc()
     }
 

@@ -1,7 +1,8 @@
 //! The segments of a path, from both ends.
 
-ghost use Rattle.std.specs.{Prelude.{◌≡◌, true}, List.{list_all}};
-ghost use Rattle.std.specs.Iterator.{YieldsFirstBy, YieldsLastBy, item_count};
+ghost use Rattle.std.specs.{Prelude.{◌≡◌, true, length, Some, IfSome}, List.{list_all}};
+ghost use Rattle.std.specs.Iterator.{YieldsFirstBy, YieldsLastBy, item_count, UpTo};
+ghost use Rattle.std.specs.Iterator.SizeHint.{IsWithinCount};
 ghost use Rattle.iref_component.specs.Components.{text_of};
 ghost use Rattle.iref_grammar.specs.{is_segment};
 ghost use Rattle.iref_path_text.specs.{pieces_if_some};
@@ -50,7 +51,11 @@ impl<'a, C: CharSet> Iterator for Segments<'a, C> {
         Some(Segment::new_unchecked(segment))
     }
 
-    fn size_hint(&self) -> (usize, Option<usize>) {
+    fn size_hint(&self) -> (usize, Option<usize>)
+        ensures lower { IsWithinCount result.0 (item_count segments_left self.now) }
+        ensures upper { IfSome result.1 (UpTo (item_count segments_left self.now)) }
+        ensures value { let left = length (segments_left self.now) in result ≡ (left, Some left) }
+    {
         let len = self.len();
         (len, Some(len))
     }

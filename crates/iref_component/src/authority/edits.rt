@@ -20,8 +20,6 @@ use iref_grammar::chars::CharSet;
 use std::alloc::Global;
 
 impl<C: CharSet> Target<AuthorityPart, C> for AuthorityBuf<C> {
-    type Alloc = Global;
-
     ghost text = { text_of };
 
     ghost stands = { λ text _. IsWhole text };

@@ -23,8 +23,6 @@ use std::alloc::Global;
 use std::mem;
 
 impl<C: CharSet> Target<PathPart, C> for PathBuf<C> {
-    type Alloc = Global;
-
     ghost text = { text_of };
 
     ghost stands = { IsWholePath C.tests };

@@ -1,6 +1,6 @@
 //! Edits of a path that owns its text by many segments (RFC 3986 section 5.2.4).
-ghost use Rattle.std.specs.Prelude.{IfOk, map};
-ghost use Rattle.iref_component.specs.Appends.{Appends, CanTakeAll, TakesAll, followed_each};
+ghost use Rattle.std.specs.{Prelude.{IfOk, map}, Iterator.{IsFiniteIterable}};
+ghost use Rattle.iref_component.specs.Appends.{Appends, TakesAll, following, lazily};
 ghost use Rattle.iref_component.specs.{Components.{text_of}, PathEdits.{EditsOwner, OwnerBecomes}};
 ghost use Rattle.iref_component.specs.{PathEdits.{SpellsPath}, Paths.{path_value}};
 ghost use Rattle.iref_grammar.specs.{alone};
@@ -19,9 +19,10 @@ impl<C: CharSet> PathBuf<C> {
     /// `Err` the segments before the refused one stand.
     pub fn lazy_append<'s, I>(&mut self, segments: I) -> Result<(), Memory>
     where
-        I: Iterator<Item = Segment<'s, C>> + Drop,
-        requires { CanTakeAll I.can_next I.remaining segments }
-        ensures { Appends step.lazy_appended step.lazy_appended I.next_gives segments
+        I: IntoIterator<Item = Segment<'s, C>>,
+        requires { IsFiniteIterable I.into_iter_gives I.IntoIter.can_next I.IntoIter.remaining
+            segments }
+        ensures { Appends lazily I.into_iter_gives I.IntoIter.next_gives segments
             (OwnerBecomes self.old self.new) result }
     {
         self.as_path_mut().lazy_append(segments)
@@ -32,9 +33,10 @@ impl<C: CharSet> PathBuf<C> {
     /// segments before the refused one stand, and the path is not closed.
     pub fn append<'s, I>(&mut self, segments: I) -> Result<(), Memory>
     where
-        I: Iterator<Item = Segment<'s, C>> + Drop,
-        requires { CanTakeAll I.can_next I.remaining segments }
-        ensures { Appends step.appended followed_each I.next_gives segments
+        I: IntoIterator<Item = Segment<'s, C>>,
+        requires { IsFiniteIterable I.into_iter_gives I.IntoIter.can_next I.IntoIter.remaining
+            segments }
+        ensures { Appends following I.into_iter_gives I.IntoIter.next_gives segments
             (OwnerBecomes self.old self.new) result }
     {
         self.as_path_mut().append(segments)
@@ -50,16 +52,17 @@ impl<C: CharSet> PathBuf<C> {
 
     /// The path that pushing these segments one by one on the empty or the absolute path gives:
     /// absolute and `a`, `b`, `..` is `/a/`.
-    pub fn from_segments<'s, I: Iterator<Item = Segment<'s, C>> + Drop>(
+    pub fn from_segments<'s, I: IntoIterator<Item = Segment<'s, C>> + Drop>(
         alloc: Global,
         absolute: bool,
         segments: I,
     ) -> Result<PathBuf<C>, Memory>
-        requires { CanTakeAll I.can_next I.remaining segments }
-        ensures { IfOk result (λ path. TakesAll I.next_gives segments (λ items.
-            SpellsPath path (step.from_segments absolute (map text_of items)))) }
+        requires { IsFiniteIterable I.into_iter_gives I.IntoIter.can_next I.IntoIter.remaining
+            segments }
+        ensures { IfOk result (λ path. TakesAll I.into_iter_gives I.IntoIter.next_gives segments
+            (λ items. SpellsPath path (step.from_segments absolute (map text_of items)))) }
     {
-        let text = text_of_segments::<C, Global, I>(alloc, absolute, segments)?;
+        let text = text_of_segments::<C, I>(alloc, absolute, segments)?;
         Ok(PathBuf::new_unchecked(text))
     }
 }

@@ -1,5 +1,6 @@
 //! Edits of a path that owns its text by a text that is tested first.
-ghost use Rattle.iref_component.specs.Appends.{CanTakeAll, TriesAppends, followed_each};
+ghost use Rattle.std.specs.Iterator.{IsFiniteIterable};
+ghost use Rattle.iref_component.specs.Appends.{TriesAppends, following, lazily};
 ghost use Rattle.iref_component.specs.{PathEdits.{EditsOwner, OwnerBecomes}, Tries.{Tests}};
 ghost use Rattle.iref_grammar.specs.{IsPath, IsSegment, alone, read_path};
 ghost use Rattle.iref_model.specs.PathSteps as step;
@@ -30,9 +31,10 @@ impl<C: CharSet> PathBuf<C> {
     /// `None`. At an `Err` the segments before the refused text stand.
     pub fn try_lazy_append<'t, I>(&mut self, segments: I) -> Tried<InvalidSegment<&'t str>>
     where
-        I: Iterator<Item = &'t str> + Drop,
-        requires { CanTakeAll I.can_next I.remaining segments }
-        ensures { TriesAppends step.lazy_appended step.lazy_appended C.tests I.next_gives segments
+        I: IntoIterator<Item = &'t str>,
+        requires { IsFiniteIterable I.into_iter_gives I.IntoIter.can_next I.IntoIter.remaining
+            segments }
+        ensures { TriesAppends lazily C.tests I.into_iter_gives I.IntoIter.next_gives segments
             (OwnerBecomes self.old self.new) result }
     {
         self.as_path_mut().try_lazy_append(segments)
@@ -44,9 +46,10 @@ impl<C: CharSet> PathBuf<C> {
     /// refused at `c/d`, and leave `/a/b`.
     pub fn try_append<'t, I>(&mut self, segments: I) -> Tried<InvalidSegment<&'t str>>
     where
-        I: Iterator<Item = &'t str> + Drop,
-        requires { CanTakeAll I.can_next I.remaining segments }
-        ensures { TriesAppends step.appended followed_each C.tests I.next_gives segments
+        I: IntoIterator<Item = &'t str>,
+        requires { IsFiniteIterable I.into_iter_gives I.IntoIter.can_next I.IntoIter.remaining
+            segments }
+        ensures { TriesAppends following C.tests I.into_iter_gives I.IntoIter.next_gives segments
             (OwnerBecomes self.old self.new) result }
     {
         self.as_path_mut().try_append(segments)

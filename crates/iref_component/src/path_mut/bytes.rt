@@ -1,46 +1,41 @@
 //! The editor of a path in a vector of bytes.
-ghost use Rattle.std.specs.Prelude.{◌≡◌, ◌≤◌, true, take, slice_range, vec_len, IfOk, IfErr};
-ghost use Rattle.iref_grammar.specs.{Contexts.{context_from}, IsPath, InUtf8, is_path};
-ghost use Rattle.iref_component.specs.{BytePaths.{MayFollow}, PathEdits.{Borrows, IsEditorOf}};
+ghost use Rattle.std.specs.Prelude.{◌≡◌, ◌≤◌, true, take, slice_range, vec_len, IfOk};
+ghost use Rattle.std.specs.Borrow.{RestsIfErr, sem};
+ghost use Rattle.iref_grammar.specs.{Contexts.{context_from}, IsPath, is_path};
+ghost use Rattle.iref_component.specs.{BytePaths.{MayFollow}, Makers.{ParsesUtf8}};
+ghost use Rattle.iref_component.specs.PathEdits.{Borrows, IsEditorOf, borrowed_name};
+ghost use Rattle.iref_component.specs.{PathEdits.{path_mut_text}, Rows.{bytes_row}};
 
 use crate::path::Path;
 use crate::path_mut::PathMut;
 use iref_error::InvalidPath;
 use iref_grammar::chars::CharSet;
 use iref_grammar::context::PathContext;
-use std::alloc::Allocator;
 use std::ops::Range;
 
-impl<'a, C: CharSet, A: Allocator + Copy> PathMut<'a, C, Vec<u8, A>> {
+impl<'a, C: CharSet> PathMut<'a, C, Vec<u8>> {
     /// The editor of the path in a range of the bytes, by what stands before it, or the bytes of
     /// the range.
-    pub fn new(
-        buffer: &'a mut Vec<u8, A>,
-        range: Range<usize>,
-    ) -> Result<Self, InvalidPath<&'a [u8]>>
+    pub fn new(buffer: &'a mut Vec<u8>, range: Range<usize>) -> Result<Self, InvalidPath<&'a [u8]>>
         requires start_le_end { range.start ≤ range.end }
         requires in_bounds { range.end ≤ vec_len buffer.old }
         requires follows { MayFollow C.tests buffer.old.items range.start range.end }
+        ensures* unchanged_if_refused { sem 𝓛 (RestsIfErr bytes_row buffer.entry borrowed_name
+            result (λ last. last.items ≡ buffer.old.items)) }
+        ensures parses { let part = slice_range buffer.old.items range.start range.end in
+            ParsesUtf8 (IsPath C.tests) path_mut_text (λ e. e.0.now) part part result }
         ensures same_reference { IfOk result (λ p. Borrows p buffer.entry.ghost_name) }
         ensures editor { IfOk result (λ p. IsEditorOf p buffer.old.items
             (context_from (take range.start buffer.old.items)) range.start range.end) }
-        ensures ok { IfOk result (λ _. InUtf8 (IsPath C.tests)
-            (slice_range buffer.old.items range.start range.end)) }
-        ensures err { IfErr result (λ error. ¬ (InUtf8 (IsPath C.tests)
-            (slice_range buffer.old.items range.start range.end))) }
-        ensures bytes { IfErr result (λ error. error.0.now
-            ≡ slice_range buffer.old.items range.start range.end) }
     {
-        let context = PathContext::from_bytes(&buffer[..range.start]);
-        if is_path::<C>(&buffer[range.start..range.end]) {
-            Ok(PathMut::of_target(buffer, context, range))
-        } else {
-            Err(InvalidPath(&buffer[range.start..range.end]))
+        match Path::<C>::from_bytes(&buffer[range.start..range.end]) {
+            Ok(_) => Ok(PathMut::new_unchecked(buffer, range)),
+            Err(_) => Err(InvalidPath(&buffer[range.start..range.end])),
         }
     }
 
     /// The same of bytes that are known to be a path.
-    pub fn new_unchecked(buffer: &'a mut Vec<u8, A>, range: Range<usize>) -> Self
+    pub fn new_unchecked(buffer: &'a mut Vec<u8>, range: Range<usize>) -> Self
         requires start_le_end { range.start ≤ range.end }
         requires in_bounds { range.end ≤ vec_len buffer.old }
         requires path { is_path C.tests (slice_range buffer.old.items range.start range.end)
@@ -53,11 +48,4 @@ impl<'a, C: CharSet, A: Allocator + Copy> PathMut<'a, C, Vec<u8, A>> {
         let context = PathContext::from_bytes(&buffer[..range.start]);
         PathMut::of_target(buffer, context, range)
     }
-}
-
-// Whether the bytes are a path.
-fn is_path<C: CharSet>(bytes: &[u8]) -> bool
-    ensures { result ≡ is_path C.tests bytes.now }
-{
-    Path::<C>::from_bytes(bytes).is_ok()
 }

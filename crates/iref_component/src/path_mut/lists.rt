@@ -1,5 +1,6 @@
 //! Edits of a path in place by many segments (RFC 3986 section 5.2.4).
-ghost use Rattle.iref_component.specs.Appends.{Appends, CanTakeAll, followed_each};
+ghost use Rattle.std.specs.Iterator.{IsFiniteIterable};
+ghost use Rattle.iref_component.specs.Appends.{Appends, following, lazily};
 ghost use Rattle.iref_component.specs.{Components.{text_of}, PathEdits.{Becomes, Edits, EditsBy}};
 ghost use Rattle.iref_component.specs.{PathEdits.{IsSameEditor}, Paths.{path_value}};
 ghost use Rattle.iref_model.specs.PathSteps as step;
@@ -36,10 +37,11 @@ impl<C: CharSet, T: Target<PathPart, C>> PathMut<'_, C, T> {
     /// `Err` the segments before the refused one stand.
     pub fn lazy_append<'s, I>(&mut self, segments: I) -> Result<(), Memory>
     where
-        I: Iterator<Item = Segment<'s, C>> + Drop,
-        requires { CanTakeAll I.can_next I.remaining segments }
+        I: IntoIterator<Item = Segment<'s, C>>,
+        requires { IsFiniteIterable I.into_iter_gives I.IntoIter.can_next I.IntoIter.remaining
+            segments }
         ensures same { IsSameEditor self.old self.new }
-        ensures edit { Appends step.lazy_appended step.lazy_appended I.next_gives segments
+        ensures edit { Appends lazily I.into_iter_gives I.IntoIter.next_gives segments
             (Becomes self.old self.new) result }
     {
         for segment in segments {
@@ -53,10 +55,11 @@ impl<C: CharSet, T: Target<PathPart, C>> PathMut<'_, C, T> {
     /// segments before the refused one stand, and the path is not closed.
     pub fn append<'s, I>(&mut self, segments: I) -> Result<(), Memory>
     where
-        I: Iterator<Item = Segment<'s, C>> + Drop,
-        requires { CanTakeAll I.can_next I.remaining segments }
+        I: IntoIterator<Item = Segment<'s, C>>,
+        requires { IsFiniteIterable I.into_iter_gives I.IntoIter.can_next I.IntoIter.remaining
+            segments }
         ensures same { IsSameEditor self.old self.new }
-        ensures edit { Appends step.appended followed_each I.next_gives segments
+        ensures edit { Appends following I.into_iter_gives I.IntoIter.next_gives segments
             (Becomes self.old self.new) result }
     {
         let mut ends_in_dots = false;
@@ -80,12 +83,8 @@ impl<C: CharSet, T: Target<PathPart, C>> PathMut<'_, C, T> {
         }
         let mut bytes = String::from_str(self.alloc(), self.text())?.into_bytes();
         let len = bytes.len();
-        let mut copy: PathMut<'_, C, Vec<u8, T::Alloc>> = PathMut::of_target(
-            &mut bytes,
-            self.context,
-            0..len,
-        );
-        copy.append(path.segments())?;
+        let mut copy: PathMut<'_, C> = PathMut::of_target(&mut bytes, self.context, 0..len);
+        copy.append(path)?;
         self.put(copy.text())
     }
 }

@@ -39,7 +39,7 @@ impl<C: CharSet, T: PathTarget<C>> PathMut<'_, C, T> {
         ensures { Edits step.normalized self.old self.new result }
     {
         let absolute = self.as_path().is_absolute();
-        let text = normalized_text::<C, _>(self.alloc(), self.context, absolute, self.text())?;
+        let text = normalized_text::<C>(self.alloc(), self.context, absolute, self.text())?;
         self.put(text.as_str())
     }
 }

@@ -1,5 +1,6 @@
 //! Edits of a path in place by a text that is tested first.
-ghost use Rattle.iref_component.specs.Appends.{CanTakeAll, TriesAppends, followed_each};
+ghost use Rattle.std.specs.Iterator.{IsFiniteIterable};
+ghost use Rattle.iref_component.specs.Appends.{TriesAppends, following, lazily};
 ghost use Rattle.iref_component.specs.PathEdits.{Becomes, Edits, EditsBy, IsSameEditor};
 ghost use Rattle.iref_component.specs.Tries.{Tests};
 ghost use Rattle.iref_grammar.specs.{IsPath, IsSegment, read_path};
@@ -37,11 +38,12 @@ impl<C: CharSet, T: Target<PathPart, C>> PathMut<'_, C, T> {
     /// `None`. At an `Err` the segments before the refused text stand.
     pub fn try_lazy_append<'t, I>(&mut self, segments: I) -> Tried<InvalidSegment<&'t str>>
     where
-        I: Iterator<Item = &'t str> + Drop,
-        requires { CanTakeAll I.can_next I.remaining segments }
+        I: IntoIterator<Item = &'t str>,
+        requires { IsFiniteIterable I.into_iter_gives I.IntoIter.can_next I.IntoIter.remaining
+            segments }
         ensures same { IsSameEditor self.old self.new }
-        ensures edit { TriesAppends step.lazy_appended step.lazy_appended C.tests I.next_gives
-            segments (Becomes self.old self.new) result }
+        ensures edit { TriesAppends lazily C.tests I.into_iter_gives I.IntoIter.next_gives segments
+            (Becomes self.old self.new) result }
     {
         for segment in segments {
             self.try_lazy_push(segment)?;
@@ -55,10 +57,11 @@ impl<C: CharSet, T: Target<PathPart, C>> PathMut<'_, C, T> {
     /// refused at `c/d`, and leave `/a/b`.
     pub fn try_append<'t, I>(&mut self, segments: I) -> Tried<InvalidSegment<&'t str>>
     where
-        I: Iterator<Item = &'t str> + Drop,
-        requires { CanTakeAll I.can_next I.remaining segments }
+        I: IntoIterator<Item = &'t str>,
+        requires { IsFiniteIterable I.into_iter_gives I.IntoIter.can_next I.IntoIter.remaining
+            segments }
         ensures same { IsSameEditor self.old self.new }
-        ensures edit { TriesAppends step.appended followed_each C.tests I.next_gives segments
+        ensures edit { TriesAppends following C.tests I.into_iter_gives I.IntoIter.next_gives segments
             (Becomes self.old self.new) result }
     {
         let mut ends_in_dots = false;

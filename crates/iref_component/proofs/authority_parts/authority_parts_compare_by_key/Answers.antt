@@ -4,6 +4,7 @@ use Rattle.std.specs.Cmp.Rules.{comparing}
 use Rattle.percent_encoding.specs.Percent.{percent_decode}
 use Rattle.iref_grammar.specs.Keys.{fed_bytes}
 use Rattle.iref_component.specs.Components.{text_of}
+use Rattle.iref_model.proofs.FeedLemmas.{authority_feed_delimits}
 use Rattle.iref_model.proofs.TieLemmas.{texts_tie, options_tie_by, options_tie_through, both_tie_by, feeds_by, feeds_through}
 use Rattle.iref_component.proofs.authority_parts.authority_parts_compare_by_key.Goals as goal
 
@@ -23,4 +24,5 @@ returns g c = (
       let user_info = feeds_through fed_bytes text_of percent_decode v.user_info in
       let port = feeds_by fed_bytes text_of v.port in
       (λ i. user_info i ++ (host ++ port i)) ∙ sym (append_assoc _ host _)),
+  authority_feed_delimits,
 )

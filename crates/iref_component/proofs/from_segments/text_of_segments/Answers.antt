@@ -1,4 +1,4 @@
-use Rattle.std.proofs.Common.{rules, sym, ap, ◌∙◌}
+use Rattle.std.proofs.Common.{sym, ap, ◌∙◌}
 use Rattle.iref_component.specs.Components.{text_of}
 use Rattle.iref_grammar.specs.Contexts.{alone}
 use Rattle.iref_grammar.specs.PathValue.{read_path}
@@ -10,9 +10,11 @@ use Rattle.iref_component.proofs.from_segments.text_of_segments.Goals as goal
 
 pub loop-segment-init : goal.loop-segment-init
 loop-segment-init g c =
-    let bytes = ap (λ v. v.items) c.into_bytes-bytes.ensures.value ∙ c.in_ok-from_str.ensures.ok ∙ c.as_str.ensures.text in record {
-      can = search rules;
-      ends = search rules;
+    let bytes = ap (λ v. v.items) c.into_bytes-bytes.ensures.value ∙ c.in_ok-from_str.ensures.ok ∙ c.as_str.ensures.text in
+    let it = c.into_iter-segment-iterator in
+    let goes = c.requires it.result it.ensures.into_iter_gives in record {
+      can = goes.0;
+      ends = goes.1;
       value = ap read_path bytes ∙ c.without_segments-start.ensures ∙ sym (from_segments_none c.args.absolute);
       in_rule = ap (is_path g.C.CharSet.tests) bytes ∙ c.without_segments-start.result.in_rule;
     }

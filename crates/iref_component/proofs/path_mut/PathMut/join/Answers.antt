@@ -27,8 +27,8 @@ put-requires-clause-reads g c = λ old_reads.
     let above = g.met.C.CharSet.above_ascii in
     let taken = c.in_ok-append.ensures.edit in
     let bytes = ap (λ v. v.items) c.into_bytes-bytes.ensures.value ∙ c.in_ok-from_str.ensures.ok ∙ c.text.ensures.value in
-    let items = items_drained text_of segments_left _ taken.0 taken.1 ∙ c.segments.ensures.left in
-    let value = copy_edit (λ context. appended context (map text_of taken.0)) c.of_target-copy.ensures.editor (search rules) taken.2 in
+    let items = items_drained text_of segments_left _ taken.1 taken.3 ∙ taken.2.0 in
+    let value = copy_edit (λ context. appended context (map text_of taken.1)) c.of_target-copy.ensures.editor (search rules) taken.4 in
     let read = ap read_path c.text-2.ensures.value ∙ value ∙ (λ i. appended (path_mut_context p) (items i) (read_path (bytes i))) in
     let segments = sym (is_path-segments set above (text_of c.args.path)) ∙ c.args.path.in_rule in
     ap (is_readable_path set (path_mut_context p)) read ∙ appended-readable set (path_mut_context p) (path_value c.args.path).segments (path_mut_value p) segments old_reads
@@ -38,8 +38,8 @@ returns g c =
     let p = c.args.self.now in
     let taken = c.in_ok-append.ensures.edit in
     let bytes = ap (λ v. v.items) c.into_bytes-bytes.ensures.value ∙ c.in_ok-from_str.ensures.ok ∙ c.text.ensures.value in
-    let items = items_drained text_of segments_left _ taken.0 taken.1 ∙ c.segments.ensures.left in
-    let value = copy_edit (λ context. appended context (map text_of taken.0)) c.of_target-copy.ensures.editor (search rules) taken.2 in
+    let items = items_drained text_of segments_left _ taken.1 taken.3 ∙ taken.2.0 in
+    let value = copy_edit (λ context. appended context (map text_of taken.1)) c.of_target-copy.ensures.editor (search rules) taken.4 in
     let read = ap read_path c.text-2.ensures.value ∙ value ∙ (λ i. appended (path_mut_context p) (items i) (read_path (bytes i))) in
     let relative = sym c.is_absolute.ensures ∙ c.if-is_absolute.false in
     subst (λ value. EditsTo value p c.put.new.self c.put.result) (read ∙ sym (joined_relative (path_mut_context p) (path_value c.args.path) (path_mut_value p) relative)) c.put.ensures

@@ -1,16 +1,18 @@
-use Rattle.std.proofs.Common.{rules, refl, sym, subst}
+use Rattle.std.proofs.Common.{◌≡◌, rules, Some, Err, refl, sym, subst}
 use Rattle.iref_component.specs.Components.{text_of}
 use Rattle.iref_model.specs.PathSteps.{lazy_pushed}
 use Rattle.iref_component.specs.PathEdits.{path_mut_context, path_mut_value, BecomesPath}
-use Rattle.iref_component.proofs.ManyLemmas.{no_edit, next_edit, lazy_appended_none, lazy_appended_next}
+use Rattle.iref_component.proofs.ManyLemmas.{no_edit, next_edit, refused_then, lazy_appended_none, lazy_appended_next}
 use Rattle.iref_component.proofs.path_mut.PathMut.lazy_append.Goals as goal
 
 pub loop-segment-init : goal.loop-segment-init
 loop-segment-init g c =
     let inside = g.T.Target.is_within _ _ _ _ c.args.self.now.placed in
-    let p = c.args.self.now in record {
-      can = search rules;
-      ends = search rules;
+    let p = c.args.self.now in
+    let it = c.into_iter-segment-iterator in
+    let goes = c.requires it.result it.ensures.into_iter_gives in record {
+      can = goes.0;
+      ends = goes.1;
       same = refl;
       path = subst (BecomesPath p p) (sym (lazy_appended_none (path_mut_context p) (path_mut_value p))) (no_edit p inside.0 inside.1);
     }
@@ -26,3 +28,15 @@ loop-segment-preserved g c =
       same = search rules;
       path = subst (BecomesPath p c.lazy_push.new.self) (sym (lazy_appended_next text_of (path_mut_context p) (path_mut_value p) c.loop-segment.yielded c.in-Some.segment)) push;
     }
+
+pub returns-in_err-lazy_push-clause-edit : goal.returns-in_err-lazy_push-clause-edit
+returns-in_err-lazy_push-clause-edit g c =
+    let it = c.into_iter-segment-iterator in
+    let at = c.loop-segment in
+    let same : c.from_residual.result ≡ Err _ = search rules in
+    rw same (it.result, at.yielded, Some c.in-Some.segment, c.next.new.self, it.ensures.into_iter_gives, (at.segment-iterator, at.yielded_by, c.in-Some.ensures.steps), (tt, refused_then at.invariant.path c.in_err-lazy_push.ensures.outcome))
+
+pub returns-clause-edit : goal.returns-clause-edit
+returns-clause-edit g c =
+    let it = c.into_iter-segment-iterator in
+    (it.result, c.loop-segment.yielded, it.ensures.into_iter_gives, search rules, c.loop-segment.invariant.path)

@@ -1,9 +1,8 @@
 use Rattle.std.proofs.Common.{◌≡◌, map, fold}
 use Rattle.std.specs.List.{All}
-use Rattle.iref_grammar.specs.Grammar.{IsSegment}
-use Rattle.iref_grammar.specs.Rules.{InUtf8}
 use Rattle.iref_model.specs.NormalList.{ends_in_dots}
 use Rattle.iref_model.specs.PathSteps.{followed}
+use Rattle.iref_component.specs.Appends.{IsSegmentText}
 use Rattle.iref_component.specs.PathEdits.{path_mut_context, path_mut_value, IsSameEditor, BecomesPath}
 use Rattle.iref_component.proofs.path_mut.PathMut.try_append.Given as goal
 
@@ -12,7 +11,7 @@ invariant-loop-segment g l = record {
   can : (goal.iterator-loop-segment g).can_next l.segment-iterator;
   ends : (goal.iterator-loop-segment g).is_finite l.segment-iterator;
   same : IsSameEditor l.initial.self l.self;
-  segments : All (λ item. InUtf8 (IsSegment g.C.CharSet.tests) item.now) l.yielded;
+  segments : All (IsSegmentText g.C.CharSet.tests) l.yielded;
   path : BecomesPath l.initial.self l.self (fold (followed (path_mut_context l.initial.self)) (path_mut_value l.initial.self) (map (λ item. item.now) l.yielded));
   dots : l.ends_in_dots ≡ ends_in_dots (map (λ item. item.now) l.yielded);
 }

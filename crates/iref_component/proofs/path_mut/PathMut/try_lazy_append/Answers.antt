@@ -1,19 +1,19 @@
-use Rattle.std.proofs.Common.{◌≡◌, rules, Err, refl, sym, subst}
+use Rattle.std.proofs.Common.{◌≡◌, rules, Some, Err, refl, sym, subst}
 use Rattle.std.proofs.lemmas.List.Elements.{All-nil, All-push}
-use Rattle.iref_grammar.specs.Grammar.{IsSegment}
-use Rattle.iref_grammar.specs.Rules.{InUtf8}
 use Rattle.iref_model.specs.PathSteps.{lazy_pushed}
+use Rattle.iref_component.specs.Appends.{IsSegmentText}
 use Rattle.iref_component.specs.PathEdits.{path_mut_context, path_mut_value, BecomesPath}
 use Rattle.iref_component.proofs.ManyLemmas.{no_edit, next_edit, refused_then, lazy_appended_none, lazy_appended_next}
-use Rattle.iref_component.proofs.PathTryLemmas.{stops_after}
 use Rattle.iref_component.proofs.path_mut.PathMut.try_lazy_append.Goals as goal
 
 pub loop-segment-init : goal.loop-segment-init
 loop-segment-init g c =
     let inside = g.T.Target.is_within _ _ _ _ c.args.self.now.placed in
-    let p = c.args.self.now in record {
-      can = search rules;
-      ends = search rules;
+    let p = c.args.self.now in
+    let it = c.into_iter-segment-iterator in
+    let goes = c.requires it.result it.ensures.into_iter_gives in record {
+      can = goes.0;
+      ends = goes.1;
       same = refl;
       segments = All-nil _;
       path = subst (BecomesPath p p) (sym (lazy_appended_none (path_mut_context p) (path_mut_value p))) (no_edit p inside.0 inside.1);
@@ -28,15 +28,19 @@ loop-segment-preserved g c =
       can = goes.0;
       ends = goes.1;
       same = search rules;
-      segments = All-push (λ item. InUtf8 (IsSegment g.C.CharSet.tests) item.now) c.loop-segment.yielded c.in-Some.segment c.loop-segment.invariant.segments c.in_ok-try_lazy_push.ensures.text;
+      segments = All-push (IsSegmentText g.C.CharSet.tests) c.loop-segment.yielded c.in-Some.segment c.loop-segment.invariant.segments c.in_ok-try_lazy_push.ensures.text;
       path = subst (BecomesPath p c.try_lazy_push.new.self) (sym (lazy_appended_next (λ item. item.now) (path_mut_context p) (path_mut_value p) c.loop-segment.yielded c.in-Some.segment)) push;
     }
 
 pub returns-in_err-try_lazy_push-clause-edit : goal.returns-in_err-try_lazy_push-clause-edit
 returns-in_err-try_lazy_push-clause-edit g c =
     let e = c.in_err-try_lazy_push in
+    let it = c.into_iter-segment-iterator in
+    let at = c.loop-segment in
     let same : c.from_residual.result ≡ Err e.field-0.0 = search rules in
-    rw same (stops_after g.I.Iterator.next_gives c.args.segments c.loop-segment.segment-iterator c.next.new.self c.loop-segment.yielded c.in-Some.segment (λ item. InUtf8 (IsSegment g.C.CharSet.tests) item.now) _ _ e.field-0.0 (search rules) c.in-Some.ensures.steps c.loop-segment.invariant.segments e.ensures.text (refused_then c.loop-segment.invariant.path e.ensures.edit.outcome))
+    rw same (it.result, at.yielded, Some c.in-Some.segment, c.next.new.self, it.ensures.into_iter_gives, (at.segment-iterator, at.yielded_by, c.in-Some.ensures.steps), (at.invariant.segments, e.ensures.text, refused_then at.invariant.path e.ensures.edit.outcome))
 
 pub returns-clause-edit : goal.returns-clause-edit
-returns-clause-edit g c = (c.loop-segment.yielded, search rules, (c.loop-segment.invariant.segments, c.loop-segment.invariant.path))
+returns-clause-edit g c =
+    let it = c.into_iter-segment-iterator in
+    (it.result, c.loop-segment.yielded, it.ensures.into_iter_gives, search rules, (c.loop-segment.invariant.segments, c.loop-segment.invariant.path))

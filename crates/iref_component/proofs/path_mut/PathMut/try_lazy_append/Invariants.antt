@@ -1,8 +1,7 @@
 use Rattle.std.proofs.Common.{map}
 use Rattle.std.specs.List.{All}
-use Rattle.iref_grammar.specs.Grammar.{IsSegment}
-use Rattle.iref_grammar.specs.Rules.{InUtf8}
 use Rattle.iref_model.specs.PathSteps.{lazy_appended}
+use Rattle.iref_component.specs.Appends.{IsSegmentText}
 use Rattle.iref_component.specs.PathEdits.{path_mut_context, path_mut_value, IsSameEditor, BecomesPath}
 use Rattle.iref_component.proofs.path_mut.PathMut.try_lazy_append.Given as goal
 
@@ -11,6 +10,6 @@ invariant-loop-segment g l = record {
   can : (goal.iterator-loop-segment g).can_next l.segment-iterator;
   ends : (goal.iterator-loop-segment g).is_finite l.segment-iterator;
   same : IsSameEditor l.initial.self l.self;
-  segments : All (λ item. InUtf8 (IsSegment g.C.CharSet.tests) item.now) l.yielded;
+  segments : All (IsSegmentText g.C.CharSet.tests) l.yielded;
   path : BecomesPath l.initial.self l.self (lazy_appended (path_mut_context l.initial.self) (map (λ item. item.now) l.yielded) (path_mut_value l.initial.self));
 }

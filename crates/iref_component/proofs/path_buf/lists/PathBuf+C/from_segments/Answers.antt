@@ -7,5 +7,5 @@ use Rattle.iref_component.proofs.path_buf.lists.PathBuf+C.from_segments.Goals as
 pub returns : goal.returns
 returns g c =
     let taken = c.in_ok-text.ensures.value in
-    let read = ap read_path c.new_unchecked.ensures ∙ taken.2 in
-    (taken.0, taken.1, record { text = sym (read_path-reads (text_of c.new_unchecked.result)).spelled ∙ ap spell_path read; read = read })
+    let read = ap read_path c.new_unchecked.ensures ∙ taken.4 in
+    (taken.0, taken.1, taken.2, taken.3, record { text = sym (read_path-reads (text_of c.new_unchecked.result)).spelled ∙ ap spell_path read; read = read })
