@@ -25,7 +25,9 @@ use Rattle.iref_model.proofs.PieceLemmas.{some_piece}
 use Rattle.iref_path_text.specs.Merged.{path_after}
 use Rattle.iref_path_text.proofs.GuardTextLemmas.{guarded-same}
 use Rattle.iref_buffer.specs.ComponentLengths.{lengths_of_texts, placed, total_length}
-use Rattle.iref_buffer.specs.MeasuredReferences.{spell_texts}
+use Rattle.iref_buffer.specs.MeasuredReferences.{IsComposed, IsReady, measured_components, spell_texts}
+use Rattle.iref_buffer.specs.Steps.{Spells}
+use Rattle.iref_buffer.specs.declared.measured.MeasuredReference.{MeasuredReference}
 use Rattle.iref_buffer.proofs.EditLemmas.{is_step}
 use Rattle.iref_buffer.proofs.LengthLemmas.{first_len, marked_len, placed-read}
 
@@ -167,20 +169,25 @@ spelled_texts t r e = ap spell_texts e
 
 -- ---- the text of the components of a readable reference that the rule allows
 
-pub record AreHeld (test : Text → Bool) (t : ComponentTexts) (r : ReferenceValue) : Type 0 where
-  pub in_rule : test (spell_texts t) ≡ true
-  pub offsets : placed (lengths_of_texts t) ≡ offsets_of (spell_texts t)
-  pub spelled : spell_texts t ≡ spell r
-  pub value : read_reference (spell_texts t) ≡ r
+pub record Composes (test : Text → Bool) (m : MeasuredReference) (r : ReferenceValue) : Type 0 where
+  pub composed : IsComposed test m
+  pub spelled : Spells r (spell_texts (measured_components m))
 
-pub are_held : (set : CharTests) → AreAboveAscii set → (test : Text → Bool) (allows : Option Text → Bool)
+pub composes : (set : CharTests) → AreAboveAscii set → (test : Text → Bool) (allows : Option Text → Bool)
     → ((text : Text) → is_reference set text ≡ true → allows (read_reference text).scheme ≡ true → test text ≡ true)
-    → (t : ComponentTexts) (r : ReferenceValue) → t ≡ spell_components r → is_readable set r ≡ true → allows r.scheme ≡ true → AreHeld test t r
-are_held set above test allows allowed t r e h k =
+    → (m : MeasuredReference) (r : ReferenceValue) → IsReady m → measured_components m ≡ spell_components r → is_readable set r ≡ true → allows r.scheme ≡ true → Composes test m r
+composes set above test allows allowed m r ready e h k =
+    let t = measured_components m in
     let step = is_step set above test allows allowed (spell_texts t) r (spelled_texts t r e) h k in
     record {
-      in_rule = step.leaves.in_rule;
-      offsets = ap placed (ap lengths_of_texts e ∙ step.leaves.lengths) ∙ placed-read (spell_texts t);
-      spelled = spelled_texts t r e;
-      value = step.value;
+      composed = record {
+        ready = ready;
+        in_rule = step.leaves.in_rule;
+        offsets = ap placed (ap lengths_of_texts e ∙ step.leaves.lengths) ∙ placed-read (spell_texts t);
+      };
+      spelled = (spelled_texts t r e, step.value);
     }
+
+-- what is given this text is given what it spells
+pub spells_same : (r : ReferenceValue) (text same : Text) → Spells r text → same ≡ text → Spells r same
+spells_same r text same spelled e = (e ∙ spelled.0, ap read_reference e ∙ spelled.1)

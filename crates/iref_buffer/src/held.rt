@@ -11,12 +11,11 @@ ghost use Rattle.iref_buffer.specs.PlaceTexts.{texts_at, front_end, authority_st
 ghost use Rattle.iref_edit.specs.Changes.{IsWithin};
 
 mod authority;
+mod composed;
 mod copies;
 mod edits;
 mod mapping;
 mod path;
-mod relative;
-mod resolution;
 
 use crate::base::base_slice;
 use crate::lengths::Lengths;
@@ -25,7 +24,7 @@ use iref_grammar::chars::CharSet;
 use iref_grammar::offsets::Offsets;
 use iref_parse::offsets::offsets_of;
 use iref_parse::split::{ReferenceSlices, split_reference};
-use std::alloc::{Allocator, Global};
+use std::alloc::Global;
 use std::fmt;
 use std::marker::{Model, PhantomData};
 use std::ops::Range;
@@ -63,13 +62,13 @@ pub trait HeldRule: Rule {
 /// `s:/a?q` the path is at 2 to 4. `new` hands back a text that is outside the rule (RFC 3986
 /// sections 3 and 4.1).
 #[derive(Drop)]
-pub struct Held<R: HeldRule, C: CharSet, A: Allocator = Global> {
-    text: String<A>,
+pub struct Held<R: HeldRule, C: CharSet> {
+    text: String,
     offsets: Offsets,
     rule: PhantomData<(R, C)>,
 }
 
-impl<R: HeldRule, C: CharSet, A: Allocator> Model for Held<R, C, A> {
+impl<R: HeldRule, C: CharSet> Model for Held<R, C> {
     ghost Value = { Text };
 
     ghost view = { λ h. string_bytes h.text };
@@ -78,9 +77,9 @@ impl<R: HeldRule, C: CharSet, A: Allocator> Model for Held<R, C, A> {
         × (h.offsets ≡ offsets_of (string_bytes h.text)) };
 }
 
-impl<R: HeldRule, C: CharSet, A: Allocator> Held<R, C, A> {
+impl<R: HeldRule, C: CharSet> Held<R, C> {
     /// The text, if it is in the rule, with the offsets found in one scan, or the text.
-    pub fn new(text: String<A>) -> Result<Self, String<A>>
+    pub fn new(text: String) -> Result<Self, String>
         ensures { Parses (InUtf8 (R.rule C.tests)) (string_bytes text)
             (λ held. held) (λ input. input ≡ text) result }
     {
@@ -97,7 +96,7 @@ impl<R: HeldRule, C: CharSet, A: Allocator> Held<R, C, A> {
     }
 
     /// The text, which is known to be in the rule, with the offsets found in one scan.
-    pub fn new_unchecked(text: String<A>) -> Self
+    pub fn new_unchecked(text: String) -> Self
         requires { R.test C.tests (string_bytes text) ≡ true }
         ensures { result ≡ string_bytes text }
     {
@@ -111,7 +110,7 @@ impl<R: HeldRule, C: CharSet, A: Allocator> Held<R, C, A> {
     }
 
     /// The text of these bytes of UTF-8, if it is in the rule, or the bytes.
-    pub fn from_bytes(bytes: Vec<u8, A>) -> Result<Self, Vec<u8, A>>
+    pub fn from_bytes(bytes: Vec<u8>) -> Result<Self, Vec<u8>>
         ensures { Parses (InUtf8 (R.rule C.tests)) bytes.items
             (λ held. held) (λ input. input ≡ bytes) result }
     {
@@ -130,7 +129,7 @@ impl<R: HeldRule, C: CharSet, A: Allocator> Held<R, C, A> {
     }
 
     /// The allocator of the text.
-    pub fn allocator(&self) -> &A {
+    pub fn allocator(&self) -> &Global {
         self.text.allocator()
     }
 
@@ -192,7 +191,7 @@ impl<R: HeldRule, C: CharSet, A: Allocator> Held<R, C, A> {
 
     /// The same text under another rule that it is in, of its own characters or of others, with
     /// its offsets.
-    pub fn into_rule<S: HeldRule, D: CharSet>(self) -> Held<S, D, A>
+    pub fn into_rule<S: HeldRule, D: CharSet>(self) -> Held<S, D>
         requires { R.test C.tests self ≡ true → S.test D.tests self ≡ true }
         ensures { result ≡ self }
     {
@@ -206,7 +205,7 @@ impl<R: HeldRule, C: CharSet, A: Allocator> Held<R, C, A> {
     }
 
     /// The text, with no copy.
-    pub fn into_string(self) -> String<A>
+    pub fn into_string(self) -> String
         ensures text { string_bytes result ≡ self }
         ensures in_rule { R.test C.tests self ≡ true }
     {
@@ -215,7 +214,7 @@ impl<R: HeldRule, C: CharSet, A: Allocator> Held<R, C, A> {
     }
 }
 
-impl<R: HeldRule, C: CharSet, A: Allocator> fmt::Debug for Held<R, C, A> {
+impl<R: HeldRule, C: CharSet> fmt::Debug for Held<R, C> {
     fn fmt<W: fmt::Write>(&self, f: &mut fmt::Formatter<W>) -> fmt::Result {
         fmt::Debug::fmt(&self.as_str(), f)
     }

@@ -6,8 +6,8 @@ ghost use Rattle.iref_grammar.specs.{ComponentTexts.{spell_components}, Referenc
 ghost use Rattle.iref_model.specs.{fits, normal, resolved, ComponentSteps.{guarded_reference}};
 ghost use Rattle.iref_parse.specs.ReferenceSlices.{value_of};
 ghost use Rattle.iref_path_text.specs.Written.{WritesBefore};
-ghost use Rattle.std.specs.{Option.{option_copied}, Prelude.{◌≡◌, ◌+◌, ◌<◌, ◌≤◌, ◌^◌, ◌++◌, true}};
-ghost use Rattle.std.specs.Prelude.{IfOk, is_some, length};
+ghost use Rattle.std.specs.{Option.{option_copied}, Prelude.{◌≡◌, ◌+◌, ◌*◌, ◌<◌, ◌≤◌, ◌^◌, ◌++◌}};
+ghost use Rattle.std.specs.Prelude.{IfOk, is_some, length, true};
 
 use crate::lengths::{Lengths, len_of};
 use iref_edit::text::{marked, marked_after};
@@ -16,7 +16,7 @@ use iref_grammar::context::PathContext;
 use iref_parse::split::ReferenceSlices;
 use iref_path_text::measured::MeasuredPath;
 use iref_path_text::spell::write_before;
-use std::alloc::Allocator;
+use std::alloc::{AllocError, Global};
 
 /// The components of a reference that is not written yet, as of what `../g` resolves to against
 /// `http://a/b/c`, which takes 10 bytes (RFC 3986 section 5.3).
@@ -27,6 +27,17 @@ pub struct MeasuredReference<'a> {
     pub(crate) path: MeasuredPath<'a>,
     pub(crate) query: Option<&'a str>,
     pub(crate) fragment: Option<&'a str>,
+}
+
+/// Refuses a base's path and another one of which the bytes and the steps between cannot be counted,
+/// since no text can hold them.
+pub fn count_paths(base: &str, other: &str) -> Result<(), AllocError>
+    ensures { IfOk result (λ _. 3 * length base.now + length other.now + 16 < 2 ^ 64) }
+{
+    let climbs = base.len().checked_mul(3).ok_or(AllocError)?;
+    let steps = climbs.checked_add(other.len()).ok_or(AllocError)?;
+    steps.checked_add(16).ok_or(AllocError)?;
+    Ok(())
 }
 
 // What stands before a path after these components.
@@ -128,7 +139,7 @@ impl<'a> MeasuredReference<'a> {
     }
 
     /// The bytes of the text.
-    pub fn bytes<A: Allocator>(self, alloc: A) -> Result<Vec<u8, A>, Memory>
+    pub fn bytes(self, alloc: Global) -> Result<Vec<u8>, Memory>
         requires { IsReady self }
         ensures { IfOk result (λ bytes.
             bytes.items ≡ spell_texts (measured_components self.entry)) }
@@ -139,8 +150,8 @@ impl<'a> MeasuredReference<'a> {
         Ok(bytes)
     }
 
-    // Fills the buffer with the text, from its end.
-    fn write(self, buffer: &mut [u8])
+    /// Fills the buffer with the text, from its end.
+    pub fn write(self, buffer: &mut [u8])
         requires ready { IsReady self }
         requires room { length (spell_texts (measured_components self)) ≡ length buffer.old }
         ensures { buffer.new ≡ spell_texts (measured_components self.entry) }

@@ -16,10 +16,10 @@ use Rattle.iref_buffer.proofs.AuthorityPlaceLemmas.{authority_read_there, place_
 use Rattle.iref_buffer.proofs.EditLemmas.{authority_part_replaced}
 use Rattle.iref_buffer.specs.Steps.{IsStep}
 
-pub authority_step : {C T A c H a : _} {old new : AuthorityMut C T A c H a} {text : Text} (set : CharTests) → AreAboveAscii set → (step : AuthorityValue → AuthorityValue)
+pub authority_step : {C T c H : _} {old new : AuthorityMut C T c H} {text : Text} (set : CharTests) → AreAboveAscii set → (step : AuthorityValue → AuthorityValue)
     → is_reference set text ≡ true → is_readable set (with_authority_step step (read_reference text)) ≡ true → IsEditorAt old text (offsets_of text).authority
     → BecomesAuthority old new (step (authority_mut_value old)) → IsStep (with_authority_step step) text (edited_bytes new)
-authority_step {C} {T} {A} {c} {H} {a} {old} {new} {text} set above step h readable of e =
+authority_step {C} {T} {c} {H} {old} {new} {text} set above step h readable of e =
     let r = read_reference text in
     let there = place_is text _ of.place_is in
     let has = some_if_placed text _ of.place_is in

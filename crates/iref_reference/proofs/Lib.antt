@@ -5,3 +5,4 @@ pub mod ResolutionLemmas
 pub mod SuffixLemmas
 pub mod RelativeLemmas
 pub mod MappingLemmas
+pub mod PartLemmas

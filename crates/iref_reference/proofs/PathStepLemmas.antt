@@ -16,11 +16,11 @@ use Rattle.iref_buffer.proofs.EditLemmas.{path_replaced}
 use Rattle.iref_buffer.proofs.PathPlaceLemmas.{path_stands}
 use Rattle.iref_buffer.specs.Steps.{IsStep}
 
-pub path_step : {C : _} {T : _} {A : _} {c : _} {t : _} {a : _} {old new : PathMut C T A c t a} {text : Text} (set : CharTests) → AreAboveAscii set → (step : PathContext → PathValue → PathValue)
+pub path_step : {C : _} {T : _} {c : _} {t : _} {old new : PathMut C T c t} {text : Text} (set : CharTests) → AreAboveAscii set → (step : PathContext → PathValue → PathValue)
     → is_reference set text ≡ true → is_readable set (with_path_step step (read_reference text)) ≡ true
     → IsEditorOf old text (context_of (read_reference text)) (offsets_of text).path.start (offsets_of text).path.end
     → BecomesPath old new (step (path_mut_context old) (path_mut_value old)) → IsStep (with_path_step step) text (edited_bytes new)
-path_step {C} {T} {A} {c} {t} {a} {old} {new} {text} set above step h readable of e =
+path_step {C} {T} {c} {t} {old} {new} {text} set above step h readable of e =
     let r = read_reference text in
     let value : step (path_mut_context old) (path_mut_value old) ≡ step (context_of r) r.path =
     (λ i. step (of.context_is i) (read_path (slice_range (of.bytes_are i) (of.from i) (of.to i))))

@@ -9,7 +9,7 @@ use Rattle.iref_grammar.proofs.ComponentLemmas.{scheme_if_full}
 use Rattle.iref_model.specs.ComponentSteps.{guarded_reference}
 use Rattle.iref_model.specs.Resolution.{resolved, target}
 
-scheme_of_base : (base r : ReferenceValue) → is_some base.scheme ≡ true → is_some (resolved base r).scheme ≡ true
+pub scheme_of_base : (base r : ReferenceValue) → is_some base.scheme ≡ true → is_some (resolved base r).scheme ≡ true
 unfolding resolved
 scheme_of_base base r h = by r.scheme r.authority
   where

@@ -22,6 +22,9 @@ part_texts scheme p = record {
 abbrev pub uri_ref_part_texts : {T R U K t r k u C c : _} → Parts (Option (RuleText T R U K t r k u)) C c → ComponentTexts
 uri_ref_part_texts = part_texts (option_map text_of)
 
+abbrev pub uri_part_texts : {T R U K t r k u C c : _} → Parts (RuleText T R U K t r k u) C c → ComponentTexts
+uri_part_texts = part_texts (λ scheme. Some (text_of scheme))
+
 -- the reference that the parts are those of
 abbrev pub parts_value : {S : Type 0} {C : _} {c : _} → (S → Option Text) → Parts S C c → ReferenceValue
 parts_value scheme p = read_components (part_texts scheme p)

@@ -4,7 +4,8 @@ ghost use Rattle.std.specs.Prelude.{◌≡◌, IfSome, is_some};
 ghost use Rattle.iref_grammar.specs.{uri_chars, IsUri, IsUriReference, InUtf8};
 ghost use Rattle.iref_reference.specs.Conversions.{BecomesUri, OwnerBecomesUri, SomeIfIn};
 ghost use Rattle.iref_reference.specs.References.{reference_text, reference_value};
-ghost use Rattle.iref_reference.specs.References.{reference_buf_text, BecomesFull};
+ghost use Rattle.iref_reference.specs.References.{reference_buf_text, reference_buf_value};
+ghost use Rattle.iref_reference.specs.References.{BecomesFull};
 ghost use Rattle.iref_reference.specs.References.{OwnerBecomesFull, ParsesReferenceBuf};
 
 use crate::owner::{ReferenceBuf, UriBuf, UriRefBuf};
@@ -125,6 +126,14 @@ impl<'a> TryFrom<UriRef<'a, UriChars>> for Uri<'a, IriChars> {
 }
 
 impl<R: HeldRule> ReferenceBuf<R, UriChars> {
+    /// The view of the reference of IRIs of the same text, with the same components.
+    pub fn as_iri_ref(&self) -> UriRef<'_, IriChars>
+        ensures text { reference_text result ≡ reference_buf_text self.now }
+        ensures value { reference_value result ≡ reference_buf_value self.now }
+    {
+        self.as_reference().as_iri_ref()
+    }
+
     /// The reference of IRIs of the same text, with no copy.
     #[tactic(auto, using(crate::proofs::ConversionLemmas::iri_reference))]
     pub fn into_iri_ref(self) -> UriRefBuf<IriChars>
@@ -135,6 +144,13 @@ impl<R: HeldRule> ReferenceBuf<R, UriChars> {
 }
 
 impl UriBuf<UriChars> {
+    /// The view of the IRI of the same text.
+    pub fn as_iri(&self) -> Uri<'_, IriChars>
+        ensures { reference_text result ≡ reference_buf_text self.now }
+    {
+        self.as_reference().as_iri()
+    }
+
     /// The IRI of the same text, with no copy.
     #[tactic(auto, using(crate::proofs::ConversionLemmas::iri))]
     pub fn into_iri(self) -> UriBuf<IriChars>
@@ -145,6 +161,14 @@ impl UriBuf<UriChars> {
 }
 
 impl UriRefBuf<UriChars> {
+    /// The view of the IRI of the same text, if the reference has a scheme.
+    pub fn as_iri(&self) -> Option<Uri<'_, IriChars>>
+        ensures text { IfSome result (λ iri. reference_text iri ≡ reference_buf_text self.now) }
+        ensures scheme { is_some result ≡ is_some (reference_buf_value self.now).scheme }
+    {
+        self.as_reference().as_iri()
+    }
+
     /// The IRI of the same text, with no copy, or the reference if it has no scheme.
     pub fn try_into_iri(self) -> Result<UriBuf<IriChars>, InvalidIri<Self>>
         ensures { OwnerBecomesFull (λ error. error.0) self result }
@@ -168,6 +192,22 @@ impl<R: HeldRule, C: CharSet> ReferenceBuf<R, C> {
 }
 
 impl<R: HeldRule> ReferenceBuf<R, IriChars> {
+    /// The view of the URI of the same text, if it is one: it has a scheme and holds ASCII alone.
+    pub fn as_uri(&self) -> Option<Uri<'_, UriChars>>
+        ensures { SomeIfIn (InUtf8 (IsUri uri_chars)) (reference_buf_text self.now)
+            reference_text result }
+    {
+        self.as_reference().as_uri()
+    }
+
+    /// The view of the reference of URIs of the same text, if it is one: it holds ASCII alone.
+    pub fn as_uri_ref(&self) -> Option<UriRef<'_, UriChars>>
+        ensures { SomeIfIn (InUtf8 (IsUriReference uri_chars)) (reference_buf_text self.now)
+            reference_text result }
+    {
+        self.as_reference().as_uri_ref()
+    }
+
     /// The URI of the same text, with no copy, or the owner if its text is no URI.
     pub fn try_into_uri(self) -> Result<UriBuf<UriChars>, InvalidUri<Self>>
         ensures { OwnerBecomesUri IsUri (λ error. error.0) self result }

@@ -22,8 +22,6 @@ use iref_path_text::target::PathTarget;
 use std::alloc::Global;
 
 impl<R: HeldRule, C: CharSet> Target<PathPart, C> for ReferenceBuf<R, C> {
-    type Alloc = Global;
-
     ghost text = { reference_buf_text };
 
     ghost stands = { IsPathOf C.tests };
@@ -52,8 +50,6 @@ impl<R: HeldRule, C: CharSet> PathTarget<C> for ReferenceBuf<R, C> {
 }
 
 impl<R: HeldRule, C: CharSet> Target<AuthorityPart, C> for ReferenceBuf<R, C> {
-    type Alloc = Global;
-
     ghost text = { reference_buf_text };
 
     ghost stands = { λ text _. IsAuthorityOf C.tests text };

@@ -1,6 +1,7 @@
 //! Conversions between URIs and references, by the names of each family.
 ghost use Rattle.iref_reference.specs.References.{reference_text, reference_value};
-ghost use Rattle.iref_reference.specs.References.{reference_buf_text, OwnerBecomesFull};
+ghost use Rattle.iref_reference.specs.References.{reference_buf_text, reference_buf_value};
+ghost use Rattle.iref_reference.specs.References.{OwnerBecomesFull};
 ghost use Rattle.std.specs.Prelude.{◌≡◌, true, IfSome, is_some};
 
 use crate::owner::{UriBuf, UriRefBuf};
@@ -104,6 +105,14 @@ impl UriRefBuf<UriChars> {
         self.as_reference()
     }
 
+    /// The view of the URI of the same text, if the reference has a scheme.
+    pub fn as_uri(&self) -> Option<Uri<'_, UriChars>>
+        ensures text { IfSome result (λ uri. reference_text uri ≡ reference_buf_text self.now) }
+        ensures scheme { is_some result ≡ is_some (reference_buf_value self.now).scheme }
+    {
+        self.as_reference().to_full()
+    }
+
     /// The URI of the same text, with no copy, or the reference if it has no scheme.
     pub fn try_into_uri(self) -> Result<UriBuf<UriChars>, InvalidUri<Self>>
         ensures { OwnerBecomesFull (λ error. error.0) self result }
@@ -118,6 +127,14 @@ impl UriRefBuf<IriChars> {
         ensures { reference_text result ≡ reference_buf_text self.now }
     {
         self.as_reference()
+    }
+
+    /// The view of the IRI of the same text, if the reference has a scheme.
+    pub fn as_iri(&self) -> Option<Uri<'_, IriChars>>
+        ensures text { IfSome result (λ iri. reference_text iri ≡ reference_buf_text self.now) }
+        ensures scheme { is_some result ≡ is_some (reference_buf_value self.now).scheme }
+    {
+        self.as_reference().to_full()
     }
 
     /// The IRI of the same text, with no copy, or the reference if it has no scheme.

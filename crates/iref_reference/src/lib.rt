@@ -2,6 +2,7 @@
 #![tactic(auto)]
 
 pub mod comparison;
+pub mod composed;
 pub mod conversions;
 pub mod editors;
 pub mod families;

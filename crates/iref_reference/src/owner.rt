@@ -5,6 +5,7 @@ ghost use Rattle.iref_component.specs.{colon, hash_sign, spell_authority, before
 ghost use Rattle.iref_component.specs.{spell_components, hierarchy, spell, with_query, offsets_of};
 ghost use Rattle.iref_component.specs.{with_fragment, user_info_of, host_of, port_of, base_of};
 ghost use Rattle.iref_component.specs.{text_of};
+ghost use Rattle.iref_buffer.specs.{is_readable};
 ghost use Rattle.iref_reference.specs.References.{reference_text, reference_value};
 ghost use Rattle.iref_reference.specs.References.{reference_buf_text, reference_buf_value};
 ghost use Rattle.iref_reference.specs.References.{OwnerBecomesFull, ParsesReferenceBuf};
@@ -222,6 +223,7 @@ impl<'a, R: HasScheme<'a>, C: CharSet> ReferenceBuf<R, C> {
             ≡ spell_components (reference_buf_value self.now) }
         ensures value { parts_value R.Scheme.text result ≡ reference_buf_value self.now }
         ensures spelled { spell (reference_buf_value self.now) ≡ reference_buf_text self.now }
+        ensures readable { is_readable C.tests (parts_value R.Scheme.text result) ≡ true }
     {
         Parts::from_slices(self.held.slices())
     }

@@ -1,15 +1,16 @@
 //! The components of references and of URIs.
-ghost use Rattle.std.specs.Prelude.{MatchResult, ◌≡◌, ◌↔◌, true, Option, Some, option_map, is_some};
+ghost use Rattle.std.specs.Prelude.{MatchResult, ◌≡◌, ◌↔◌, ⊤, true, Option, Some, option_map};
+ghost use Rattle.std.specs.Prelude.{IfOk, IfSome, is_some};
 ghost use Rattle.std.specs.{Str.{str_to_ascii_lowercase}, Ordering.{eq_by_cmp}};
 ghost use Rattle.std.specs.Option.{option_copied};
 ghost use Rattle.std.proofs.{Common.{ap}, lemmas.Option.{same_Some}};
 ghost use Rattle.iref_buffer.specs.{texts_of, AreComponents, spell_components, is_scheme, none_or};
-ghost use Rattle.iref_buffer.specs.{is_reference, read_reference, Text, InUtf8};
-ghost use Rattle.iref_component.specs.{IsUriReference, key_cmp, fed_reference, text_of};
+ghost use Rattle.iref_buffer.specs.{is_readable, is_reference, read_reference, Text, InUtf8};
+ghost use Rattle.iref_component.specs.{IsUri, IsUriReference, key_cmp, fed_reference, text_of};
 ghost use Rattle.iref_component.specs.{parts_value as authority_parts_value};
 ghost use Rattle.iref_reference.specs.Parts.{part_texts, parts_value, uri_ref_part_texts};
 ghost use Rattle.iref_reference.specs.Parts.{key_of_parts, uri_ref_parts_key, scheme_key};
-ghost use Rattle.iref_reference.specs.Parts.{uri_ref_parts_value};
+ghost use Rattle.iref_reference.specs.Parts.{uri_part_texts, uri_parts_value, uri_ref_parts_value};
 ghost use Rattle.iref_model.specs.Relative.{have_same_authority, have_same_scheme};
 ghost use Rattle.iref_model.proofs.PartTieLemmas.{lower_case_tie, parts_tie};
 ghost use Rattle.iref_model.proofs.TieLemmas.{texts_tie};
@@ -18,10 +19,11 @@ use iref_component::authority::Authority;
 use iref_component::authority_parts::AuthorityParts;
 use iref_component::path::Path;
 use iref_component::texts::{Fragment, Query, Scheme};
-use iref_component::view::view_of;
-use iref_error::InvalidUriRef;
+use iref_component::view::{text_of, view_of};
+use iref_error::{InvalidUri, InvalidUriRef};
 use iref_grammar::chars::CharSet;
 use iref_parse::split::{ReferenceSlices, parse_reference, split_reference};
+use std::alloc::AllocError;
 use std::cmp::Ordering;
 use std::hash::{Hash, Hasher};
 use std::str;
@@ -89,7 +91,7 @@ impl<'a> SchemePart<'a> for Option<Scheme<'a>> {
 
 /// The components of a reference, which compare as it does: each by itself. Of `//h/a?q` they are
 /// no scheme, the authority `h`, the path `/a`, the query `q` and no fragment (RFC 3986 section 3).
-#[derive_where(Clone, Copy, Debug, PartialEq, Eq, PartialOrd, Ord; S)]
+#[derive_where(Copy, Debug, PartialEq, Eq, PartialOrd, Ord; S)]
 pub struct Parts<'a, S, C: CharSet> {
     /// What stands before the first `:`, if it is a scheme's.
     pub scheme: S,
@@ -101,6 +103,22 @@ pub struct Parts<'a, S, C: CharSet> {
     pub query: Option<Query<'a, C>>,
     /// What follows `#`.
     pub fragment: Option<Fragment<'a, C>>,
+}
+
+impl<S: Copy, C: CharSet> Clone for Parts<'_, S, C> {
+    ghost is_clone = { λ parts copy. copy ≡ parts };
+
+    ghost is_infallible = { λ _. ⊤ };
+
+    fn clone(&self) -> Result<Self, AllocError> {
+        Ok(Parts {
+            scheme: self.scheme,
+            authority: self.authority,
+            path: self.path,
+            query: self.query,
+            fragment: self.fragment,
+        })
+    }
 }
 
 /// The components of a reference (RFC 3986 section 4.1): of `//h?` the authority `h`, the empty
@@ -144,6 +162,32 @@ impl<'a, S: SchemePart<'a>, C: CharSet> Parts<'a, S, C> {
             fragment: view_of(slices.fragment),
         }
     }
+
+    // The slices of the components.
+    pub(crate) fn slices(&self) -> ReferenceSlices<'a>
+        ensures { texts_of result ≡ part_texts S.text self.now }
+    {
+        ReferenceSlices {
+            scheme: text_of(self.scheme.to_option()),
+            authority: text_of(self.authority),
+            path: self.path.as_str(),
+            query: text_of(self.query),
+            fragment: text_of(self.fragment),
+        }
+    }
+
+    // The same components, with a scheme if there is one.
+    pub(crate) fn to_reference_parts(&self) -> UriRefParts<'a, C>
+        ensures { uri_ref_part_texts result ≡ part_texts S.text self.now }
+    {
+        UriRefParts {
+            scheme: self.scheme.to_option(),
+            authority: self.authority,
+            path: self.path,
+            query: self.query,
+            fragment: self.fragment,
+        }
+    }
 }
 
 impl<'a, C: CharSet> UriRefParts<'a, C> {
@@ -179,15 +223,34 @@ impl<'a, C: CharSet> UriRefParts<'a, C> {
         self.authority == other.authority
     }
 
+    // The components of a URI, if there is a scheme.
+    pub(crate) fn to_full(&self) -> Option<UriParts<'a, C>>
+        ensures texts { IfSome result (λ full.
+            uri_part_texts full ≡ uri_ref_part_texts self.now) }
+        ensures scheme { is_some result ≡ is_some (uri_ref_part_texts self.now).scheme }
+    {
+        Some(UriParts {
+            scheme: self.scheme?,
+            authority: self.authority,
+            path: self.path,
+            query: self.query,
+            fragment: self.fragment,
+        })
+    }
+
     /// The components of the reference of these bytes of UTF-8, or the bytes: `UriRef::from_bytes`
     /// and `parts` by one split.
     #[inline(always)]
     pub fn from_bytes(bytes: &'a [u8]) -> Result<Self, InvalidUriRef<&'a [u8]>>
-        ensures { MatchResult result
+        ensures parsed { MatchResult result
             (λ parts. InUtf8 (IsUriReference C.tests) bytes.now
             × (uri_ref_part_texts parts ≡ spell_components (read_reference bytes.now)))
             (λ error. ¬ (InUtf8 (IsUriReference C.tests) bytes.now)
             × (error.0 ≡ bytes.entry)) }
+        ensures value { IfOk result (λ parts.
+            uri_ref_parts_value parts ≡ read_reference bytes.now) }
+        ensures readable { IfOk result (λ parts.
+            is_readable C.tests (uri_ref_parts_value parts) ≡ true) }
     {
         let Ok(text) = str::from_utf8(bytes) else {
             return Err(InvalidUriRef(bytes));
@@ -195,6 +258,31 @@ impl<'a, C: CharSet> UriRefParts<'a, C> {
         match parse_reference::<C>(text) {
             Some(slices) => Ok(UriRefParts::from_slices(slices)),
             None => Err(InvalidUriRef(bytes)),
+        }
+    }
+}
+
+impl<'a, C: CharSet> UriParts<'a, C> {
+    /// The components of the URI of these bytes of UTF-8, or the bytes: `Uri::from_bytes` and
+    /// `parts` by one split.
+    #[inline(always)]
+    pub fn from_bytes(bytes: &'a [u8]) -> Result<Self, InvalidUri<&'a [u8]>>
+        ensures parsed { MatchResult result
+            (λ parts. InUtf8 (IsUri C.tests) bytes.now
+            × (uri_part_texts parts ≡ spell_components (read_reference bytes.now)))
+            (λ error. ¬ (InUtf8 (IsUri C.tests) bytes.now)
+            × (error.0 ≡ bytes.entry)) }
+        ensures value { IfOk result (λ parts.
+            uri_parts_value parts ≡ read_reference bytes.now) }
+        ensures readable { IfOk result (λ parts.
+            is_readable C.tests (uri_parts_value parts) ≡ true) }
+    {
+        let Ok(parts) = UriRefParts::from_bytes(bytes) else {
+            return Err(InvalidUri(bytes));
+        };
+        match parts.to_full() {
+            Some(full) => Ok(full),
+            None => Err(InvalidUri(bytes)),
         }
     }
 }

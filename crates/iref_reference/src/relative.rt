@@ -1,24 +1,22 @@
 //! References that lead from a base to a target, the way back from resolution (RFC 3986 section
 //! 5.2).
-ghost use Rattle.iref_buffer.specs.{Relatives.{agree}, Steps.{Spells}, AreComponents, is_readable};
-ghost use Rattle.iref_buffer.specs.{texts_of, value_of};
+ghost use Rattle.iref_buffer.specs.{Relatives.{agree}, Steps.{Spells}, is_readable};
 ghost use Rattle.iref_model.specs.Relative.{relative_to, schemes_agree};
-ghost use Rattle.iref_reference.specs.Parts.{uri_ref_parts_value};
+ghost use Rattle.iref_reference.specs.Parts.{parts_value, uri_ref_parts_value};
 ghost use Rattle.iref_reference.specs.References.{reference_buf_text, reference_buf_value};
 ghost use Rattle.iref_reference.specs.References.{reference_text, reference_value};
 ghost use Rattle.iref_reference.specs.Relatives.{ClimbsNoMore, IsRelative, LeadsThere};
 ghost use Rattle.iref_reference.specs.Relatives.{LeadsToTarget, WritesPathAlone, takes_scheme};
 ghost use Rattle.std.specs.Prelude.{◌≡◌, IfOk, true};
 
-use crate::owner::UriRefBuf;
-use crate::parts::UriRefParts;
-use crate::rule::ReferenceRule;
+use crate::composed::{Composed, ComposedUriRef};
+use crate::owner::{ReferenceBuf, UriRefBuf};
+use crate::parts::{Parts, SchemePart, UriRefParts};
 use crate::view::{Reference, UriRef};
-use iref_buffer::held::{Held, HeldRule};
+use iref_buffer::held::HeldRule;
 use iref_error::Memory;
 use iref_grammar::chars::CharSet;
-use iref_parse::split::{ReferenceSlices, split_reference};
-use std::alloc::{Allocator, Global};
+use std::alloc::Global;
 
 // Whether the target takes its scheme from any base.
 fn takes_scheme<C: CharSet>(target: &UriRefParts<'_, C>) -> bool
@@ -42,39 +40,32 @@ fn agree<C: CharSet>(target: &UriRefParts<'_, C>, base: &UriRefParts<'_, C>) -> 
     schemes_agree(target, base) && target.has_authority_of(base)
 }
 
-/// As `relative_to`, of the components of references, with room of any allocator.
-pub fn held_relative<C: CharSet, A: Allocator>(
-    alloc: A,
-    target: ReferenceSlices<'_>,
-    base: ReferenceSlices<'_>,
-) -> Result<Held<ReferenceRule, C, A>, Memory>
-    requires target { AreComponents C.tests (texts_of target) }
-    requires base { AreComponents C.tests (texts_of base) }
-    requires readable { is_readable C.tests (value_of target) ≡ true }
-    ensures { IfOk result (Spells (relative_to (value_of target.entry) (value_of base.entry))) }
-{
-    let agrees = agree::<C>(
-        &UriRefParts::from_slices(target),
-        &UriRefParts::from_slices(base),
-    );
-    Held::relative_to(alloc, agrees, target, base)
+impl<'a, S: SchemePart<'a>, C: CharSet> Parts<'a, S, C> {
+    /// What leads to the reference of these components from that of others, not written yet: from
+    /// `http://a/b/c/d` to `http://a/b` it is `../../b`. `Memory` says that its length cannot be
+    /// counted. Components that were read from a text are readable.
+    pub fn relative_to(&self, base: &UriRefParts<'a, C>) -> Result<ComposedUriRef<'a, C>, Memory>
+        requires { is_readable C.tests (parts_value S.text self.now) ≡ true }
+        ensures { IfOk result (Spells
+            (relative_to (parts_value S.text self.now) (uri_ref_parts_value base.now))) }
+    {
+        let target = self.to_reference_parts();
+        let agrees = agree(&target, base);
+        Composed::relative_to(agrees, target.slices(), base.slices())
+    }
 }
 
-impl<R: HeldRule, C: CharSet> Reference<'_, R, C> {
-    // As `relative_to`, with room of any allocator.
-    fn held_relative_to<A: Allocator>(
-        &self,
-        alloc: A,
-        base: UriRef<'_, C>,
-    ) -> Result<Held<ReferenceRule, C, A>, Memory>
-        ensures text { IfOk result (λ held.
-            IsRelative (reference_text self.now) (reference_text base.entry) held) }
+impl<'a, R: HeldRule, C: CharSet> Reference<'a, R, C> {
+    // As `relative_to`, not written yet.
+    fn composed_relative_to(&self, base: UriRef<'a, C>) -> Result<ComposedUriRef<'a, C>, Memory>
+        ensures text { IfOk result (IsRelative (reference_text self.now)
+            (reference_text base.entry)) }
         ensures target { is_readable C.tests (reference_value self.now) ≡ true }
         ensures base { is_readable C.tests (reference_value base.entry) ≡ true }
     {
-        let target = split_reference(self.as_str());
-        let base = split_reference(base.as_str());
-        held_relative(alloc, target, base)
+        let target = UriRefParts::of_text(self.as_str());
+        let base = UriRefParts::of_text(base.as_str());
+        target.relative_to(&base)
     }
 
     /// A reference that leads from a base to this one: from `http://a/b/c/d` to `http://a/b` it is
@@ -91,7 +82,25 @@ impl<R: HeldRule, C: CharSet> Reference<'_, R, C> {
         ensures least { IfOk result (λ answer. ClimbsNoMore (reference_value self.now)
             (reference_value base.entry) (reference_buf_value answer)) }
     {
-        let held = self.held_relative_to(alloc, base)?;
-        Ok(UriRefBuf::from_held(held))
+        let reference = self.composed_relative_to(base)?;
+        reference.to_owned(alloc)
+    }
+}
+
+impl<R: HeldRule, C: CharSet> ReferenceBuf<R, C> {
+    /// A reference that leads from a base to this one, as `relative_to` of the borrowed reference.
+    pub fn relative_to(&self, alloc: Global, base: UriRef<'_, C>) -> Result<UriRefBuf<C>, Memory>
+        ensures text { IfOk result (λ answer. IsRelative (reference_buf_text self.now)
+            (reference_text base.entry) (reference_buf_text answer)) }
+        ensures leads { IfOk result (λ answer. LeadsThere (reference_buf_value self.now)
+            (reference_value base.entry) (reference_buf_value answer)) }
+        ensures target { IfOk result (λ answer. LeadsToTarget (reference_buf_value self.now)
+            (reference_value base.entry) (reference_buf_value answer)) }
+        ensures alone { IfOk result (λ answer. WritesPathAlone (reference_buf_value self.now)
+            (reference_value base.entry) (reference_buf_value answer)) }
+        ensures least { IfOk result (λ answer. ClimbsNoMore (reference_buf_value self.now)
+            (reference_value base.entry) (reference_buf_value answer)) }
+    {
+        self.as_reference().relative_to(alloc, base)
     }
 }

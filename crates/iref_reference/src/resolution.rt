@@ -1,15 +1,20 @@
 //! References resolved against a base, strict (RFC 3986 section 5.2).
 ghost use Rattle.iref_grammar.specs.{Grammar.{IsUri, IsUriReference}, Rules.{InUtf8}};
 ghost use Rattle.iref_error.specs.Tried.{TellsInvalid};
+ghost use Rattle.iref_buffer.specs.{Steps.{Spells}, is_readable};
+ghost use Rattle.iref_model.specs.Resolution.{resolved};
+ghost use Rattle.iref_reference.specs.Parts.{parts_value, uri_parts_value};
 ghost use Rattle.iref_reference.specs.References.{reference_buf_text, reference_text};
 ghost use Rattle.iref_reference.specs.Resolutions.{IsResolved};
-ghost use Rattle.std.specs.Prelude.{◌≡◌, IfOk};
+ghost use Rattle.std.specs.Prelude.{◌≡◌, IfOk, true};
 
 mod owners;
 
-use crate::owner::{ReferenceBuf, UriBuf, UriRefBuf};
+use crate::composed::{Composed, ComposedUri};
+use crate::owner::UriBuf;
+use crate::parts::{Parts, SchemePart, UriParts};
 use crate::view::{Reference, Uri, UriRef};
-use iref_buffer::held::{Held, HeldRule};
+use iref_buffer::held::HeldRule;
 use iref_error::{InvalidUri, InvalidUriRef, Memory, TryError};
 use iref_grammar::chars::CharSet;
 use iref_parse::split::split_reference;
@@ -23,8 +28,8 @@ impl<R: HeldRule, C: CharSet> Reference<'_, R, C> {
             (reference_text self.now) (reference_buf_text uri)) }
     {
         let base = split_reference(base.as_str());
-        let held = Held::resolved(alloc, base, split_reference(self.as_str()))?;
-        Ok(UriBuf::from_held(held))
+        let uri = Composed::resolved(base, split_reference(self.as_str()))?;
+        uri.to_owned(alloc)
     }
 
     /// As `resolved`, by a text: `Invalid` hands one back that is not a URI.
@@ -40,6 +45,20 @@ impl<R: HeldRule, C: CharSet> Reference<'_, R, C> {
     {
         let base = Uri::new(base).map_err(TryError::Invalid)?;
         self.resolved(alloc, base).or(Err(TryError::Memory))
+    }
+}
+
+impl<'a, S: SchemePart<'a>, C: CharSet> Parts<'a, S, C> {
+    /// What the reference of these components resolves to against a base, not written yet: `../g`
+    /// and `http://a/b/c` give `http://a/g`. `Memory` says that its length cannot be counted.
+    /// Components that were read from a text are readable.
+    pub fn resolved(&self, base: &UriParts<'a, C>) -> Result<ComposedUri<'a, C>, Memory>
+        requires reference { is_readable C.tests (parts_value S.text self.now) ≡ true }
+        requires base { is_readable C.tests (uri_parts_value base.now) ≡ true }
+        ensures { IfOk result (Spells
+            (resolved (uri_parts_value base.now) (parts_value S.text self.now))) }
+    {
+        Composed::resolved(base.slices(), self.slices())
     }
 }
 

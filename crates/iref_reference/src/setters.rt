@@ -36,8 +36,8 @@ impl<R: HeldRule, C: CharSet> ReferenceBuf<R, C> {
         self.held.set_path(path.as_str())
     }
 
-    /// Replaces the path by its normal form, with a guard where that would be read as something
-    /// else. After an authority `/a/../b/.` becomes `/b/` (RFC 3986 section 5.2.4).
+    /// Sets the path and normalizes it, as one edit: after an authority `/a/../b/.` leaves `/b/`
+    /// (RFC 3986 section 5.2.4).
     pub fn set_and_normalize_path(&mut self, path: Path<'_, C>) -> Result<(), Memory>
         ensures set { Edits (with_new_normal_path (path_value path.entry)) self.old self.new
             result }

@@ -2,9 +2,11 @@
 ghost use Rattle.iref_model.specs.ReferenceSuffix.{reference_suffix};
 ghost use Rattle.iref_model.specs.Relative.{have_same_authority, have_same_scheme};
 ghost use Rattle.iref_reference.specs.{Parts.{uri_ref_parts_value}, References.{reference_value}};
+ghost use Rattle.iref_reference.specs.References.{reference_buf_value};
 ghost use Rattle.iref_reference.specs.ReferenceSuffixes.{SpellsReferenceSuffix};
 ghost use Rattle.std.specs.Prelude.{◌≡◌, ◌&&◌, IfOk, IsNone, IsOk};
 
+use crate::owner::ReferenceBuf;
 use crate::parts::UriRefParts;
 use crate::view::{Reference, UriRef};
 use iref_buffer::held::HeldRule;
@@ -50,5 +52,21 @@ impl<'a, R: HeldRule, C: CharSet> Reference<'a, R, C> {
             return Ok(None);
         };
         Ok(Some((path, parts.query, parts.fragment)))
+    }
+}
+
+impl<R: HeldRule, C: CharSet> ReferenceBuf<R, C> {
+    /// What is left of the reference after a prefix, as `suffix` of the borrowed reference.
+    pub fn suffix(
+        &self,
+        alloc: Global,
+        prefix: UriRef<'_, C>,
+    ) -> Result<Option<Suffix<'_, C>>, Memory>
+        ensures suffix { IfOk result
+            (SpellsReferenceSuffix (reference_value prefix.entry) (reference_buf_value self.now)) }
+        ensures none { IsNone (reference_suffix
+            (reference_value prefix.entry) (reference_buf_value self.now)) → IsOk result }
+    {
+        self.as_reference().suffix(alloc, prefix)
     }
 }

@@ -1,6 +1,7 @@
 //! Borrowed references (RFC 3986 sections 3 and 4.1).
 ghost use Rattle.std.specs.Prelude.{IfOk, IfSome, is_some, ◌≡◌, true, [], ◌∷◌, Some, None};
 ghost use Rattle.std.specs.Prelude.{option_map};
+ghost use Rattle.iref_buffer.specs.{is_readable};
 ghost use Rattle.iref_component.specs.{text_of, spell_components, hierarchy, spell, hash_sign};
 ghost use Rattle.iref_component.specs.{spell_authority, with_query, with_fragment};
 ghost use Rattle.iref_component.specs.{user_info_of, host_of, port_of, base_of, spell_path, before};
@@ -204,6 +205,7 @@ impl<'a, R: HasScheme<'a>, C: CharSet> Reference<'a, R, C> {
             ≡ spell_components (reference_value self.now) }
         ensures value { parts_value R.Scheme.text result ≡ reference_value self.now }
         ensures spelled { spell (reference_value self.now) ≡ reference_text self.now }
+        ensures readable { is_readable C.tests (parts_value R.Scheme.text result) ≡ true }
     {
         Parts::of_text(self.as_str())
     }

@@ -13,12 +13,10 @@ use iref_edit::change::{Change, Place};
 use iref_edit::target::Target;
 use iref_error::Memory;
 use iref_grammar::chars::CharSet;
-use std::alloc::Allocator;
+use std::alloc::Global;
 use std::ops::Range;
 
-impl<R: HeldRule, C: CharSet, A: Allocator + Copy> Target<AuthorityPart, C> for Held<R, C, A> {
-    type Alloc = A;
-
+impl<R: HeldRule, C: CharSet> Target<AuthorityPart, C> for Held<R, C> {
     ghost text = { λ held. held };
 
     ghost stands = { λ text _. IsAuthorityOf C.tests text };
@@ -27,7 +25,7 @@ impl<R: HeldRule, C: CharSet, A: Allocator + Copy> Target<AuthorityPart, C> for 
 
     ghost is_within = { λ text _. authority_is_within C.tests text };
 
-    fn alloc(&self) -> A {
+    fn alloc(&self) -> Global {
         *self.text.allocator()
     }
 
@@ -41,7 +39,7 @@ impl<R: HeldRule, C: CharSet, A: Allocator + Copy> Target<AuthorityPart, C> for 
     }
 }
 
-impl<R: HeldRule, C: CharSet, A: Allocator> Held<R, C, A> {
+impl<R: HeldRule, C: CharSet> Held<R, C> {
     /// Makes a change of the authority, where what this leaves is one.
     pub fn replace_in_authority(&mut self, change: Change<'_>) -> Result<(), Memory>
         requires has { is_some (read_reference self.old).authority ≡ true }

@@ -7,15 +7,15 @@ ghost use Rattle.iref_buffer.specs.Steps.{IsStep};
 use super::{Held, HeldRule};
 use iref_error::Memory;
 use iref_grammar::chars::CharSet;
-use std::alloc::{AllocError, Allocator};
+use std::alloc::{AllocError, Global};
 
 // Room for the mark before a component and for the guard or the root after it.
 const MARKS: usize = 3;
 
-impl<R: HeldRule, C: CharSet, A: Allocator> Held<R, C, A> {
+impl<R: HeldRule, C: CharSet> Held<R, C> {
     /// A copy of a text that is known to be in the rule, with room for a component that it is to
     /// get, if there is one.
-    pub fn copied(alloc: A, text: &str, component: Option<&str>) -> Result<Self, Memory>
+    pub fn copied(alloc: Global, text: &str, component: Option<&str>) -> Result<Self, Memory>
         requires { R.test C.tests text.now ≡ true }
         ensures { IfOk result (λ held. held ≡ text.now) }
     {
@@ -30,7 +30,7 @@ impl<R: HeldRule, C: CharSet, A: Allocator> Held<R, C, A> {
     }
 
     /// The reference that is a scheme alone: of `data`, `data:`. It takes the scheme's buffer.
-    pub fn from_scheme(scheme: String<A>) -> Result<Self, Memory>
+    pub fn from_scheme(scheme: String) -> Result<Self, Memory>
         requires scheme { is_scheme (string_bytes scheme) ≡ true }
         requires allowed { R.allows_scheme (Some (string_bytes scheme)) ≡ true }
         ensures { IfOk result (λ held. held ≡ string_bytes scheme ++ colon ∷ []) }
@@ -42,7 +42,7 @@ impl<R: HeldRule, C: CharSet, A: Allocator> Held<R, C, A> {
 
     /// The same reference under a scheme, with no copy where the buffer has room, or the reference
     /// as it was.
-    pub fn into_with_scheme<S: HeldRule>(self, scheme: &str) -> Result<Held<S, C, A>, Self>
+    pub fn into_with_scheme<S: HeldRule>(self, scheme: &str) -> Result<Held<S, C>, Self>
         requires scheme { is_scheme scheme.now ≡ true }
         requires allowed { R.allows_scheme (Some scheme.now) ≡ true }
         requires allows { S.allows_scheme (Some scheme.now) ≡ true }

@@ -22,10 +22,9 @@ use iref_error::Memory;
 use iref_grammar::chars::CharSet;
 use iref_grammar::context::PathContext;
 use iref_path_text::guard::{guard_of, root_of};
-use std::alloc::Allocator;
 use std::ops::Range;
 
-impl<R: HeldRule, C: CharSet, A: Allocator> Held<R, C, A> {
+impl<R: HeldRule, C: CharSet> Held<R, C> {
     /// Replaces the query, or takes it away, which takes no memory.
     pub fn set_query(&mut self, query: Option<&str>) -> Result<(), Memory>
         requires { none_or (is_query C.tests) (option_copied query) ≡ true }

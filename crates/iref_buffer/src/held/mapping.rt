@@ -7,12 +7,12 @@ use super::{Held, HeldRule};
 use iref_error::Memory;
 use iref_grammar::chars::{CharSet, UriChars};
 use iref_mapping::bytes::{count_escaped, map_in_place, mapped};
-use std::alloc::Allocator;
+use std::alloc::Global;
 
-impl<R: HeldRule, A: Allocator> Held<R, UriChars, A> {
+impl<R: HeldRule> Held<R, UriChars> {
     /// The mapping of a text that is known to be in the rule over some characters, in a buffer of
     /// its exact size.
-    pub fn mapped<C: CharSet>(alloc: A, text: &str) -> Result<Self, Memory>
+    pub fn mapped<C: CharSet>(alloc: Global, text: &str) -> Result<Self, Memory>
         requires { R.test C.tests text.now ≡ true }
         ensures { IfOk result (λ held. held ≡ mapped text.now) }
     {
@@ -20,10 +20,10 @@ impl<R: HeldRule, A: Allocator> Held<R, UriChars, A> {
     }
 }
 
-impl<R: HeldRule, C: CharSet, A: Allocator> Held<R, C, A> {
+impl<R: HeldRule, C: CharSet> Held<R, C> {
     /// The mapping, within the buffer. A text of ASCII is its own mapping, and takes no memory. At
     /// want of memory the text is handed back as it was.
-    pub fn into_mapped(self) -> Result<Held<R, UriChars, A>, Self>
+    pub fn into_mapped(self) -> Result<Held<R, UriChars>, Self>
         ensures ok { IfOk result (λ held. held ≡ mapped self) }
         ensures err { IfErr result (λ held. held ≡ self) }
         ensures ascii { list_all is_ascii self ≡ true → IsOk result }

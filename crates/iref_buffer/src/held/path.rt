@@ -20,11 +20,9 @@ use iref_path_text::pieces::split_root;
 use iref_path_text::rewriting::rewrite_text;
 use iref_path_text::spell::normalized_text;
 use iref_path_text::target::PathTarget;
-use std::alloc::Allocator;
+use std::alloc::Global;
 
-impl<R: HeldRule, C: CharSet, A: Allocator + Copy> Target<PathPart, C> for Held<R, C, A> {
-    type Alloc = A;
-
+impl<R: HeldRule, C: CharSet> Target<PathPart, C> for Held<R, C> {
     ghost text = { λ held. held };
 
     ghost stands = { IsPathOf C.tests };
@@ -33,7 +31,7 @@ impl<R: HeldRule, C: CharSet, A: Allocator + Copy> Target<PathPart, C> for Held<
 
     ghost is_within = { path_is_within C.tests };
 
-    fn alloc(&self) -> A {
+    fn alloc(&self) -> Global {
         *self.text.allocator()
     }
 
@@ -47,14 +45,14 @@ impl<R: HeldRule, C: CharSet, A: Allocator + Copy> Target<PathPart, C> for Held<
     }
 }
 
-impl<R: HeldRule, C: CharSet, A: Allocator + Copy> PathTarget<C> for Held<R, C, A> {
+impl<R: HeldRule, C: CharSet> PathTarget<C> for Held<R, C> {
     fn rewrite(&mut self, after: PathContext, at: Place, lead: &str) -> usize {
         self.rewrite_path(lead);
         self.offsets.path.end
     }
 }
 
-impl<R: HeldRule, C: CharSet, A: Allocator> Held<R, C, A> {
+impl<R: HeldRule, C: CharSet> Held<R, C> {
     /// What stands before the path.
     pub fn context(&self) -> PathContext
         ensures { result ≡ context_of (read_reference self.now) }
@@ -63,7 +61,7 @@ impl<R: HeldRule, C: CharSet, A: Allocator> Held<R, C, A> {
     }
 }
 
-impl<R: HeldRule, C: CharSet, A: Allocator + Copy> Held<R, C, A> {
+impl<R: HeldRule, C: CharSet> Held<R, C> {
     // Puts what stands first and the normal list in the place of the path, where that may stand.
     // It takes no memory.
     fn rewrite_path(&mut self, lead: &str)
@@ -91,8 +89,7 @@ impl<R: HeldRule, C: CharSet, A: Allocator + Copy> Held<R, C, A> {
         self.offsets = lengths.offsets_in(self.text.as_str());
     }
 
-    /// Replaces the path by its normal form, with a guard where that would be read as something
-    /// else.
+    /// Sets the path and normalizes it, as one edit.
     pub fn set_and_normalize_path(&mut self, path: &str) -> Result<(), Memory>
         requires { is_path C.tests path.now ≡ true }
         ensures text { OnOk result (self.new
@@ -106,7 +103,7 @@ impl<R: HeldRule, C: CharSet, A: Allocator + Copy> Held<R, C, A> {
     {
         let context = self.context();
         let absolute = is_absolute_after(context, path);
-        let normal = normalized_text::<C, A>(*self.text.allocator(), context, absolute, path)?;
+        let normal = normalized_text::<C>(*self.text.allocator(), context, absolute, path)?;
         let normal = normal.as_str();
         let lengths = Lengths {
             path: normal.len(),

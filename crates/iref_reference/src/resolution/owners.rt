@@ -7,12 +7,24 @@ ghost use Rattle.iref_reference.specs.References.{reference_buf_text, reference_
 ghost use Rattle.iref_reference.specs.{References.{reference_text}, Resolutions.{IsResolved}};
 ghost use Rattle.std.specs.Prelude.{◌≡◌, IfErr, IfOk, IsSome, OnErr, OnOk};
 
-use crate::owner::{UriBuf, UriRefBuf};
+use crate::composed::Composed;
+use crate::owner::{ReferenceBuf, UriBuf, UriRefBuf};
 use crate::view::{Uri, UriRef};
-use iref_buffer::held::Held;
+use iref_buffer::held::HeldRule;
 use iref_error::{InvalidUri, InvalidUriRef, Memory, TryError};
 use iref_grammar::chars::CharSet;
 use iref_parse::split::split_reference;
+use std::alloc::Global;
+
+impl<R: HeldRule, C: CharSet> ReferenceBuf<R, C> {
+    /// What it resolves to against a base, as `resolved` of the borrowed reference.
+    pub fn resolved(&self, alloc: Global, base: Uri<'_, C>) -> Result<UriBuf<C>, Memory>
+        ensures { IfOk result (λ uri. IsResolved (reference_text base.entry)
+            (reference_buf_text self.now) (reference_buf_text uri)) }
+    {
+        self.as_reference().resolved(alloc, base)
+    }
+}
 
 impl<C: CharSet> UriRefBuf<C> {
     // What the reference resolves to against a base, in a buffer of its own.
@@ -22,9 +34,8 @@ impl<C: CharSet> UriRefBuf<C> {
         ensures scheme { IfOk result (λ uri. IsSome (reference_buf_value uri).scheme) }
     {
         let base = split_reference(base.as_str());
-        let alloc = *self.held.allocator();
-        let held = Held::resolved(alloc, base, self.held.slices())?;
-        Ok(UriBuf::from_held(held))
+        let uri = Composed::resolved(base, self.held.slices())?;
+        uri.to_owned(*self.held.allocator())
     }
 
     /// Becomes what it resolves to against a base, as `resolved` of the borrowed reference says:
@@ -96,9 +107,8 @@ impl<C: CharSet> UriBuf<C> {
         ensures err { OnErr result (reference_buf_text self.new ≡ reference_buf_text self.old) }
     {
         let reference = split_reference(reference.as_str());
-        let alloc = *self.held.allocator();
-        let held = Held::resolved(alloc, self.held.slices(), reference)?;
-        *self = UriBuf::from_held(held);
+        let uri = Composed::resolved(self.held.slices(), reference)?;
+        *self = uri.to_owned(*self.held.allocator())?;
         Ok(())
     }
 

@@ -3,6 +3,7 @@ use Rattle.std.proofs.lemmas.Option.{same_Some}
 use Rattle.std.specs.Str.{str_to_ascii_lowercase}
 use Rattle.std.specs.Cmp.Rules.{comparing}
 use Rattle.iref_model.specs.Key.{key, key_cmp}
+use Rattle.iref_model.proofs.FeedLemmas.{reference_feed_delimits}
 use Rattle.iref_model.proofs.TieLemmas.{texts_tie}
 use Rattle.iref_model.proofs.PartTieLemmas.{lower_case_tie, parts_tie}
 use Rattle.iref_component.specs.Components.{text_of}
@@ -16,6 +17,7 @@ returns-clause-references g c = (
       a.authority b.authority (text_of a.path) (text_of b.path) a.query b.query a.fragment b.fragment),
   (λ a b. search (comparing, rules)),
   (λ v. search rules),
+  reference_feed_delimits,
 )
 
 pub returns-clause-uris : goal.returns-clause-uris
@@ -27,4 +29,5 @@ returns-clause-uris g c = (
       a.authority b.authority (text_of a.path) (text_of b.path) a.query b.query a.fragment b.fragment),
   (λ a b. search (comparing, rules)),
   (λ v. search rules),
+  reference_feed_delimits,
 )

@@ -5,7 +5,7 @@ use Rattle.iref_buffer.proofs.MeasuredLemmas.{total-texts}
 use Rattle.iref_buffer.proofs.measured.MeasuredReference.bytes.Goals as goal
 
 pub write-requires-clause-room : goal.write-requires-clause-room
-write-requires-clause-room g c =
+write-requires-clause-room c =
     let size = total-texts (measured_components c.args.self) in
     let lengths = ap total_length c.lengths.ensures in
     let len = c.in_ok-len.ensures in

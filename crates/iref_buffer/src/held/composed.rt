@@ -1,0 +1,31 @@
+//! The text of components that are measured, with the offsets of its components (RFC 3986 section
+//! 5.3).
+ghost use Rattle.iref_buffer.specs.MeasuredReferences.{IsComposed, spell_texts};
+ghost use Rattle.iref_buffer.specs.MeasuredReferences.{measured_components};
+ghost use Rattle.std.specs.Prelude.{◌≡◌, IfOk};
+
+use super::{Held, HeldRule};
+use crate::measured::MeasuredReference;
+use iref_error::Memory;
+use iref_grammar::chars::CharSet;
+use std::alloc::Global;
+use std::marker::PhantomData;
+
+impl<R: HeldRule, C: CharSet> Held<R, C> {
+    /// The text of these components, which is in the rule. The room is taken once, and each byte is
+    /// written once.
+    pub fn of_components(alloc: Global, components: MeasuredReference<'_>) -> Result<Self, Memory>
+        requires { IsComposed (R.test C.tests) components }
+        ensures { IfOk result (λ held. held ≡ spell_texts (measured_components components.entry)) }
+    {
+        let bytes = components.bytes(alloc)?;
+        // What spells a reference is text, so no byte is read again.
+        let text = unsafe { String::from_utf8_unchecked(bytes) };
+        let offsets = components.lengths().offsets_in(text.as_str());
+        Ok(Held {
+            text,
+            offsets,
+            rule: PhantomData,
+        })
+    }
+}

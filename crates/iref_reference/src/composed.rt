@@ -1,0 +1,134 @@
+//! References that are composed of the components of others, and not written yet (RFC 3986 sections
+//! 5.2 and 5.3).
+ghost use Rattle.iref_buffer.specs.MeasuredReferences.{IsComposed, measured_components};
+ghost use Rattle.iref_buffer.specs.{MeasuredReferences.{spell_texts}, Relatives.{agree}};
+ghost use Rattle.iref_buffer.specs.{Steps.{Spells}, is_readable, value_of};
+ghost use Rattle.iref_grammar.specs.{Rules.{Text}, Texts.{is_empty}};
+ghost use Rattle.iref_model.specs.{Relative.{relative_to}, Resolution.{resolved}};
+ghost use Rattle.iref_reference.specs.References.{reference_buf_text};
+ghost use Rattle.std.specs.Prelude.{◌≡◌, ◌≤◌, ◌++◌, drop, IfOk, length, OnErr, OnOk, true};
+
+use crate::owner::ReferenceBuf;
+use crate::rule::{FullReferenceRule, ReferenceRule};
+use iref_buffer::held::{Held, HeldRule};
+use iref_buffer::measured::{MeasuredReference, count_paths};
+use iref_error::Memory;
+use iref_grammar::chars::CharSet;
+use iref_parse::split::ReferenceSlices;
+use std::alloc::{AllocError, Global};
+use std::marker::{Model, PhantomData};
+
+/// A reference of a rule, composed of borrowed components and not written yet: what `../g` resolves
+/// to against `http://a/b/c` takes 10 bytes (RFC 3986 section 5.3).
+#[derive(Drop)]
+pub struct Composed<'a, R: HeldRule, C: CharSet> {
+    components: MeasuredReference<'a>,
+    len: usize,
+    rule: PhantomData<(R, C)>,
+}
+
+/// A reference that is not written yet, as `../../b`, which leads from `http://a/b/c/d` to
+/// `http://a/b` (RFC 3986 section 4.1).
+pub type ComposedUriRef<'a, C> = Composed<'a, ReferenceRule, C>;
+
+/// A URI that is not written yet, as `http://a/g`, which `../g` resolves to against `http://a/b/c`
+/// (RFC 3986 section 5.2).
+pub type ComposedUri<'a, C> = Composed<'a, FullReferenceRule, C>;
+
+impl<'a, R: HeldRule, C: CharSet> Model for Composed<'a, R, C> {
+    ghost Value = { Text };
+
+    ghost view = { λ c. spell_texts (measured_components c.components) };
+
+    ghost invariant = { λ c. IsComposed (R.test C.tests) c.components
+        × (c.len ≡ length (spell_texts (measured_components c.components))) };
+}
+
+impl<'a, R: HeldRule, C: CharSet> Composed<'a, R, C> {
+    // What these components spell, if its length can be counted.
+    fn of_components(components: MeasuredReference<'a>) -> Result<Self, Memory>
+        requires { IsComposed (R.test C.tests) components }
+        ensures { IfOk result (λ composed.
+            composed ≡ spell_texts (measured_components components.entry)) }
+    {
+        let len = components.lengths().total()?;
+        Ok(Composed {
+            components,
+            len,
+            rule: PhantomData,
+        })
+    }
+
+    // What a reference resolves to against a base.
+    pub(crate) fn resolved(
+        base: ReferenceSlices<'a>,
+        reference: ReferenceSlices<'a>,
+    ) -> Result<Self, Memory>
+        requires base { is_readable C.tests (value_of base) ≡ true }
+        requires reference { is_readable C.tests (value_of reference) ≡ true }
+        requires allowed { R.allows_scheme
+            (resolved (value_of base) (value_of reference)).scheme ≡ true }
+        ensures { IfOk result (Spells (resolved (value_of base.entry) (value_of reference.entry))) }
+    {
+        count_paths(base.path, reference.path)?;
+        Composed::of_components(MeasuredReference::resolved(base, reference))
+    }
+
+    // What leads from a base to a target, given whether their schemes and authorities agree.
+    pub(crate) fn relative_to(
+        agrees: bool,
+        target: ReferenceSlices<'a>,
+        base: ReferenceSlices<'a>,
+    ) -> Result<Self, Memory>
+        requires agrees { agrees ≡ agree (value_of target) (value_of base) }
+        requires target { is_readable C.tests (value_of target) ≡ true }
+        requires allowed { R.allows_scheme
+            (relative_to (value_of target) (value_of base)).scheme ≡ true }
+        ensures { IfOk result (Spells (relative_to (value_of target.entry) (value_of base.entry))) }
+    {
+        count_paths(base.path, target.path)?;
+        Composed::of_components(MeasuredReference::relative_to(agrees, target, base))
+    }
+
+    /// How many bytes the text has.
+    pub fn len(&self) -> usize
+        ensures { result ≡ length self.now }
+    {
+        self.len
+    }
+
+    /// Whether the text is empty.
+    pub fn is_empty(&self) -> bool
+        ensures { result ≡ is_empty self.now }
+    {
+        self.len == 0
+    }
+
+    /// Writes the text first into a buffer, whose other bytes stay as they are.
+    pub fn write_to(&self, buffer: &mut [u8])
+        requires { length self.now ≤ length buffer.old }
+        ensures { buffer.new ≡ self.now ++ drop (length self.now) buffer.old }
+    {
+        self.components.write(&mut buffer[..self.len]);
+    }
+
+    /// Appends the text to a vector. The room is taken once, and each byte is written once.
+    pub fn append_to(&self, out: &mut Vec<u8>) -> Result<(), Memory>
+        ensures ok { OnOk result (out.new.items ≡ out.old.items ++ self.now) }
+        ensures err { OnErr result (out.new.items ≡ out.old.items) }
+    {
+        let start = out.len();
+        let len = start.checked_add(self.len).ok_or(AllocError)?;
+        out.resize(len, 0)?;
+        self.components.write(&mut out[start..]);
+        Ok(())
+    }
+
+    /// An owner of the text. The room is taken once, and each byte is written once.
+    pub fn to_owned(&self, alloc: Global) -> Result<ReferenceBuf<R, C>, Memory>
+        ensures { IfOk result (λ owner. reference_buf_text owner ≡ self.now) }
+    {
+        let held = Held::of_components(alloc, self.components)?;
+        Ok(ReferenceBuf::from_held(held))
+    }
+}
