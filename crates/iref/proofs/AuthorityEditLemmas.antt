@@ -26,7 +26,7 @@ unfolding is_authority
 authority_in_rule set text h = h
 
 -- the edit of a part of the authority, done by its editor
-pub authority_edited : {C T A c H t : _} {old new : AuthorityMut C T A c H t} {text after : Text} (set : CharTests) → AreAboveAscii set → (edit : EditStep) (step : AuthorityValue → AuthorityValue)
+pub authority_edited : {C T c H : _} {old new : AuthorityMut C T c H} {text after : Text} (set : CharTests) → AreAboveAscii set → (edit : EditStep) (step : AuthorityValue → AuthorityValue)
     → edited edit (read_reference text) ≡ with_authority_part step (read_reference text) → is_some (read_reference text).authority ≡ true → is_reference set text ≡ true
     → (is_readable set (read_reference text) ≡ true → is_readable set (with_authority_step step (read_reference text)) ≡ true)
     → IsEditorAt old text (offsets_of text).authority → after ≡ edited_bytes new → BecomesAuthority old new (step (authority_mut_value old)) → edited edit (read_reference text) ≡ Ok (read_reference after)
@@ -35,7 +35,7 @@ authority_edited {text = text} set above edit step e has h readable of same beco
     e ∙ (λ i. if has i then Ok (with_authority_step step (read_reference text)) else Err NoAuthority) ∙ ap Ok (sym (ap read_reference same ∙ read))
 
 -- the same where it is done
-pub authority_edited_on_ok : {C T A c H t : _} {text after : Text} {U E : Type 0} (old new : AuthorityMut C T A c H t) (set : CharTests) → AreAboveAscii set → (edit : EditStep) (step : AuthorityValue → AuthorityValue)
+pub authority_edited_on_ok : {C T c H : _} {text after : Text} {U E : Type 0} (old new : AuthorityMut C T c H) (set : CharTests) → AreAboveAscii set → (edit : EditStep) (step : AuthorityValue → AuthorityValue)
     → edited edit (read_reference text) ≡ with_authority_part step (read_reference text) → is_some (read_reference text).authority ≡ true → is_reference set text ≡ true
     → (is_readable set (read_reference text) ≡ true → is_readable set (with_authority_step step (read_reference text)) ≡ true)
     → IsEditorAt old text (offsets_of text).authority → after ≡ edited_bytes new

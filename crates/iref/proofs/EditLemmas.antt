@@ -14,7 +14,7 @@ use Rattle.iref_component.specs.PathEdits.{edited_bytes, path_mut_context, path_
 use Rattle.iref_reference.proofs.PathStepLemmas.{path_step}
 
 -- the edit of the path, done by its editor
-pub path_edited : {C : _} {T : _} {A : _} {c : _} {t : _} {a : _} {old new : PathMut C T A c t a} {text after : Text} (set : CharTests) → AreAboveAscii set → (edit : EditStep) (step : PathContext → PathValue → PathValue)
+pub path_edited : {C : _} {T : _} {c : _} {t : _} {old new : PathMut C T c t} {text after : Text} (set : CharTests) → AreAboveAscii set → (edit : EditStep) (step : PathContext → PathValue → PathValue)
     → edited edit (read_reference text) ≡ Ok (with_path_step step (read_reference text)) → is_reference set text ≡ true
     → (is_readable set (read_reference text) ≡ true → is_readable set (with_path_step step (read_reference text)) ≡ true)
     → IsEditorOf old text (context_of (read_reference text)) (offsets_of text).path.start (offsets_of text).path.end → after ≡ edited_bytes new
@@ -24,7 +24,7 @@ path_edited {text} set above edit step e h readable of same becomes =
     e ∙ ap Ok (sym (ap read_reference same ∙ read))
 
 -- the same where it is done
-pub path_edited_on_ok : {C : _} {T : _} {A : _} {c : _} {t : _} {a : _} {old : PathMut C T A c t a} {text after : Text} {U E : Type 0} (new : PathMut C T A c t a) (set : CharTests) → AreAboveAscii set → (edit : EditStep) (step : PathContext → PathValue → PathValue)
+pub path_edited_on_ok : {C : _} {T : _} {c : _} {t : _} {old : PathMut C T c t} {text after : Text} {U E : Type 0} (new : PathMut C T c t) (set : CharTests) → AreAboveAscii set → (edit : EditStep) (step : PathContext → PathValue → PathValue)
     → edited edit (read_reference text) ≡ Ok (with_path_step step (read_reference text)) → is_reference set text ≡ true
     → (is_readable set (read_reference text) ≡ true → is_readable set (with_path_step step (read_reference text)) ≡ true)
     → IsEditorOf old text (context_of (read_reference text)) (offsets_of text).path.start (offsets_of text).path.end → after ≡ edited_bytes new

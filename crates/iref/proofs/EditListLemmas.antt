@@ -1,6 +1,6 @@
 -- A list of edits is done an edit at a time.
 use Rattle.std.proofs.Common.{◌≡◌, ℕ, ◌+◌, zero, suc, Bool, true, false, List, [], ◌∷◌, ◌<◌, ◌≤◌, map, take, length, get_or, Result, Ok, Err, refl, sym, ap, subst, ◌∙◌, add-one, arith}
-use Rattle.std.specs.Prelude.{Option, Some, None, IsSomeAnd, is_some, is_none, option_map, slice_get, if◌then◌else◌}
+use Rattle.std.specs.Prelude.{Option, Some, None, IsOk, IsSomeAnd, is_some, is_none, option_map, slice_get, if◌then◌else◌}
 use Rattle.std.proofs.lemmas.List.{take_all, length-map}
 use Rattle.std.proofs.lemmas.Option.{slice_get-map, slice_get_read}
 use Rattle.iref_grammar.specs.Rules.{Text}
@@ -11,9 +11,9 @@ use Rattle.iref_model.specs.Edits.{EditStep, SetScheme, ReplaceAuthority, SetUse
 use Rattle.iref_model.specs.AuthoritySteps.{with_user_info, with_host, with_port}
 use Rattle.iref_model.specs.ComponentSteps.{with_authority_step}
 use Rattle.iref_model.specs.PortNumbers.{port_text}
-use Rattle.iref.specs.declared.edits.EditError.{EditError}
-use Rattle.iref.specs.declared.edits.EditError.TheVariants.{NoAuthority, SchemeNeeded, Memory}
-use Rattle.iref.specs.EditAnswers.{AppliesEdit, AreDone, StopsAt, edited_in, is_authority_edit, may_take_memory}
+use Rattle.iref.specs.declared.edits.EditFault.{EditFault}
+use Rattle.iref.specs.declared.edits.EditFault.TheVariants.{NoAuthority, SchemeNeeded, Memory}
+use Rattle.iref.specs.EditAnswers.{AppliesEdit, AreDone, Refuses, StopsAt, edited_in, is_authority_edit}
 
 -- an edit that keeps the scheme does the same under each rule
 pub kept_in : (allows : Option Text → Bool) (edit : EditStep) (r : ReferenceValue) {outcome : Result ReferenceValue EditRefusal} → drops_scheme edit ≡ false → edited edit r ≡ outcome → edited_in allows edit r ≡ outcome
@@ -37,11 +37,42 @@ refused_without (SetPort port) r h none = refused_part (with_port port) r none
 refused_without (SetPortU32 number) r h none = refused_part (with_port (option_map port_text number)) r none
 refused_without edit r h none = absurd (cc)
 
+-- and is done where there is one
+done_part : (step : AuthorityValue → AuthorityValue) (r : ReferenceValue) → is_some r.authority ≡ true → IsOk (with_authority_part step r)
+done_part step r some = subst (λ (there : Bool). IsOk (if there then Ok (with_authority_step step r) else Err model.NoAuthority)) (sym some) refl
+
+part_done : (edit : EditStep) (r : ReferenceValue) → is_authority_edit edit ≡ true → is_some r.authority ≡ true → IsOk (edited edit r)
+unfolding edited
+part_done (ReplaceAuthority authority) r h some = done_part (λ a. read_authority authority) r some
+part_done (SetUserInfo user_info) r h some = done_part (with_user_info user_info) r some
+part_done (SetHost host) r h some = done_part (with_host host) r some
+part_done (SetPort port) r h some = done_part (with_port port) r some
+part_done (SetPortU32 number) r h some = done_part (with_port (option_map port_text number)) r some
+part_done edit r h some = absurd (cc)
+
+-- every other edit is done
+done_elsewhere : (edit : EditStep) (r : ReferenceValue) → is_authority_edit edit ≡ false → IsOk (edited edit r)
+unfolding edited
+done_elsewhere (ReplaceAuthority authority) r h = absurd (cc)
+done_elsewhere (SetUserInfo user_info) r h = absurd (cc)
+done_elsewhere (SetHost host) r h = absurd (cc)
+done_elsewhere (SetPort port) r h = absurd (cc)
+done_elsewhere (SetPortU32 number) r h = absurd (cc)
+done_elsewhere edit r h = refl
+
 pub keeps_scheme : (edit : EditStep) → is_authority_edit edit ≡ true → drops_scheme edit ≡ false
 keeps_scheme (SetScheme scheme) h = absurd (cc)
 keeps_scheme edit h = refl
 
--- also where the texts of the parts tell that there is none
+-- under each rule an edit is done that keeps the scheme and is of no part of the authority
+pub done_in : (allows : Option Text → Bool) (edit : EditStep) (r : ReferenceValue) → drops_scheme edit ≡ false → is_authority_edit edit ≡ false → IsOk (edited_in allows edit r)
+done_in allows edit r keeps h = subst (λ (outcome : Result ReferenceValue EditRefusal). IsOk outcome) (sym (kept_in allows edit r keeps refl)) (done_elsewhere edit r h)
+
+-- and one of a part of the authority, where there is one
+pub part_done_in : (allows : Option Text → Bool) (edit : EditStep) (r : ReferenceValue) → is_authority_edit edit ≡ true → is_some r.authority ≡ true → IsOk (edited_in allows edit r)
+part_done_in allows edit r h some = subst (λ (outcome : Result ReferenceValue EditRefusal). IsOk outcome) (sym (kept_in allows edit r (keeps_scheme edit h) refl)) (part_done edit r h some)
+
+-- an edit is refused also where the texts of the parts tell that there is none
 pub refused_in : {A : Type 0} (allows : Option Text → Bool) (edit : EditStep) (r : ReferenceValue) (text_of : A → Text) (found : Option A) → is_authority_edit edit ≡ true
     → option_map text_of found ≡ option_map spell_authority r.authority → is_none found ≡ true → edited_in allows edit r ≡ Err model.NoAuthority
 refused_in allows edit r text_of found h e none = kept_in allows edit r (keeps_scheme edit h) (refused_without edit r h (by found r.authority e none))
@@ -124,7 +155,9 @@ module _ (step : Edited) where
     done_at e = rw add-one (done_next 0 i (map f xs) (f x) old (read_reference before) (read_reference after) h here e)
 
     -- it stops there
-    pub stops_at : (error : EditError) → AppliesEdit step (f x) before after (Err error) → StopsAt step (map f xs) old (read_reference after) i error
+    pub stops_at : (error : EditFault) → AppliesEdit step (f x) before after (Err error) → StopsAt step (map f xs) old (read_reference after) i error
     stops_at NoAuthority e = stops_next 0 i (map f xs) (f x) model.NoAuthority old (read_reference before) h here e.1 ∙ outcome model.NoAuthority e.0
     stops_at SchemeNeeded e = stops_next 0 i (map f xs) (f x) model.SchemeNeeded old (read_reference before) h here e.1 ∙ outcome model.SchemeNeeded e.0
-    stops_at Memory e = (h ∙ ap (λ (text : Text). Ok (read_reference text)) (sym e.0), subst (λ (o : Option EditStep). IsSomeAnd o (λ edit. may_take_memory edit ≡ true)) (sym here) e.1)
+    stops_at Memory e =
+        let wants = subst (λ (text : Text). Refuses step (f x) (read_reference text) Memory) (sym e.0) e.1 in
+        (h ∙ ap (λ (text : Text). Ok (read_reference text)) (sym e.0), subst (λ (o : Option EditStep). IsSomeAnd o (λ edit. Refuses step edit (read_reference after) Memory)) (sym here) wants)

@@ -73,7 +73,7 @@ slice_get-front [] e i d h = absurd (cc h)
 slice_get-front (x ∷ table) e zero d h = h
 slice_get-front (x ∷ table) e (suc i) d h = slice_get-front table e i d h
 
-pub empty_indexed : {A : Type 0} (index : Index A) → IsEmptyIndex index → IsIndexed [] index
+pub empty_indexed : (index : Index) → IsEmptyIndex index → IsIndexed [] index
 empty_indexed index h = record {
   labels = λ label. subst (IsNumber (has_label label) []) (sym (h.labels label)) refl;
   texts = λ text. subst (IsNumber (has_text text) []) (sym (h.texts text)) refl;
@@ -114,7 +114,7 @@ one_more_length : (set : BTreeSet ℕ) (table : PrefixTable) (e : PrefixEntry) �
 one_more_length set [] e has h = (has, tt)
 one_more_length set (x ∷ table) e has h = (h.0, one_more_length set table e has h.1)
 
-module _ {A : Type 0} (table : PrefixTable) (old new : Index A) (h : IsIndexed table old) where
+module _ (table : PrefixTable) (old new : Index) (h : IsIndexed table old) where
   pub index_next : (label iri : Text) → Gains old.labels new.labels label (length table) → Gains old.texts new.texts iri (length table) → GainsLength old.lengths new.lengths (length iri)
       → IsIndexed (table ++ record { label = label; iri = iri } ∷ []) new
   index_next label iri labels texts lengths = let e : PrefixEntry = record { label = label; iri = iri } in record {

@@ -1,13 +1,13 @@
 -- What a list of edits leaves, and where it stops.
-use Rattle.std.specs.Prelude.{◌≡◌, ℕ, Bool, true, false, List, take, slice_get, Option, None, is_some, Result, MatchResult, Ok, Err, OnOk, OnErr, IsSomeAnd, if◌then◌else◌}
+use Rattle.std.specs.Prelude.{◌≡◌, ℕ, Bool, true, false, List, take, slice_get, Option, None, is_some, Result, MatchResult, Ok, Err, IsOk, OnOk, OnErr, IsSomeAnd, if◌then◌else◌}
 use Rattle.iref_grammar.specs.Rules.{Text}
 use Rattle.iref_grammar.specs.Reference.{ReferenceValue, read_reference, spell}
 use Rattle.iref_model.specs.Edits as model
 use Rattle.iref_model.specs.Edits.{EditStep, SetScheme, SetAuthority, ReplaceAuthority, SetUserInfo, SetHost, SetPort, SetPortU32, SetQuery, SetFragment, LazyPush, Push, JoinPath, Pop, Clear, Normalize, Edited, edited, edited_uri, edited_from}
 use Rattle.iref_reference.specs.declared.owner.ReferenceBuf.{ReferenceBuf}
 use Rattle.iref_reference.specs.References.{reference_buf_text, reference_buf_value}
-use Rattle.iref.specs.declared.edits.EditError.{EditError}
-use Rattle.iref.specs.declared.edits.EditError.TheVariants.{NoAuthority, SchemeNeeded, Memory}
+use Rattle.iref.specs.declared.edits.EditFault.{EditFault}
+use Rattle.iref.specs.declared.edits.EditFault.TheVariants.{NoAuthority, SchemeNeeded, Memory}
 
 -- what takes a component away, or all segments, takes no memory
 abbrev pub may_take_memory : EditStep → Bool
@@ -21,14 +21,14 @@ may_take_memory (SetFragment fragment) = is_some fragment
 may_take_memory Clear = false
 may_take_memory edit = true
 
--- an edit is refused, or wants memory
-abbrev pub Refuses : Edited → EditStep → ReferenceValue → EditError → Type 0
+-- an edit is refused for this reason; or it is not refused, and wants memory
+abbrev pub Refuses : Edited → EditStep → ReferenceValue → EditFault → Type 0
 Refuses edited edit r NoAuthority = edited edit r ≡ Err model.NoAuthority
 Refuses edited edit r SchemeNeeded = edited edit r ≡ Err model.SchemeNeeded
-Refuses edited edit r Memory = may_take_memory edit ≡ true
+Refuses edited edit r Memory = IsOk (edited edit r) × (may_take_memory edit ≡ true)
 
 -- the edit is done, or refused with nothing changed
-abbrev pub AppliesEdit : Edited → EditStep → Text → Text → Result (Unit {0}) EditError → Type 0
+abbrev pub AppliesEdit : Edited → EditStep → Text → Text → Result (Unit {0}) EditFault → Type 0
 AppliesEdit edited edit old new (Ok done) = edited edit (read_reference old) ≡ Ok (read_reference new)
 AppliesEdit edited edit old new (Err error) = (new ≡ old) × Refuses edited edit (read_reference old) error
 
@@ -45,19 +45,19 @@ edited_in allows = if allows None then edited else edited_uri
 abbrev pub AreDone : Edited → List EditStep → ReferenceValue → ReferenceValue → Type 0
 AreDone edited edits old new = edited_from edited 0 edits old ≡ Ok new
 
--- the edit of this number is refused or wants memory, and those before it are done
-abbrev pub StopsAt : Edited → List EditStep → ReferenceValue → ReferenceValue → ℕ → EditError → Type 0
+-- the edit of this number is refused, or it is not refused and wants memory; and those before it are done
+abbrev pub StopsAt : Edited → List EditStep → ReferenceValue → ReferenceValue → ℕ → EditFault → Type 0
 StopsAt edited edits old new i NoAuthority = edited_from edited 0 edits old ≡ Err (i, model.NoAuthority, new)
 StopsAt edited edits old new i SchemeNeeded = edited_from edited 0 edits old ≡ Err (i, model.SchemeNeeded, new)
 StopsAt edited edits old new i Memory =
-    AreDone edited (take i edits) old new × IsSomeAnd (slice_get edits i) (λ edit. may_take_memory edit ≡ true)
+    AreDone edited (take i edits) old new × IsSomeAnd (slice_get edits i) (λ edit. Refuses edited edit new Memory)
 
 -- all edits are done, or those before the one that stops
-abbrev pub AppliesEdits : Edited → List EditStep → ReferenceValue → ReferenceValue → Result (Unit {0}) (ℕ × EditError) → Type 0
+abbrev pub AppliesEdits : Edited → List EditStep → ReferenceValue → ReferenceValue → Result (Unit {0}) (ℕ × EditFault) → Type 0
 AppliesEdits edited edits old new result = MatchResult result (λ _. AreDone edited edits old new) (λ stop. StopsAt edited edits old new stop.0 stop.1)
 
 -- the same of an owner, whose text is the spelling of what it holds then
-abbrev pub AppliesTo : {R C K : _} → Edited → List EditStep → ReferenceBuf R C K → ReferenceBuf R C K → Result (Unit {0}) (ℕ × EditError) → Type 0
+abbrev pub AppliesTo : {R C K : _} → Edited → List EditStep → ReferenceBuf R C K → ReferenceBuf R C K → Result (Unit {0}) (ℕ × EditFault) → Type 0
 AppliesTo edited edits old new result =
     AppliesEdits edited edits (reference_buf_value old) (reference_buf_value new) result × (reference_buf_text new ≡ spell (reference_buf_value new))
 

@@ -21,6 +21,7 @@ pub use Rattle.iref_grammar.specs.Texts
 pub use Rattle.iref_model.specs.AuthorityKey
 pub use Rattle.iref_model.specs.AuthoritySteps
 pub use Rattle.iref_model.specs.ComponentSteps
+pub use Rattle.iref_model.specs.CountedEquality
 pub use Rattle.iref_model.specs.Edits
 pub use Rattle.iref_model.specs.HostNumbers
 pub use Rattle.iref_model.specs.Key
@@ -37,7 +38,9 @@ pub use Rattle.iref_model.specs.RelativeLaws
 pub use Rattle.iref_model.specs.Resolution
 pub use Rattle.iref_mapping.specs.Mapping
 pub use Rattle.iref_mapping.specs.PrefixTable
+pub use Rattle.iref_parse.specs.AuthoritySlices
 pub use Rattle.iref_parse.specs.ReferenceSlices
+pub use Rattle.iref_path_text.specs.Unread
 pub use Rattle.iref_component.specs.Makers
 pub use Rattle.iref_component.specs.Ports
 pub use Rattle.iref_component.specs.Components

@@ -18,13 +18,13 @@ IsNumber test table None = find test table ≡ None
 IsNumber test table (Some i) = (e : PrefixEntry) × (slice_get table i ≡ Some e) × (find test table ≡ Some e)
 
 -- the index finds each entry by its label, and the first of each text; it has the lengths of all texts
-pub record IsIndexed {A : Type 0} (table : PrefixTable) (index : Index A) : Type 0 where
+pub record IsIndexed (table : PrefixTable) (index : Index) : Type 0 where
   pub labels : (label : Text) → IsNumber (has_label label) table (get_by_text index.labels label)
   pub texts : (text : Text) → IsNumber (has_text text) table (get_by_text index.texts text)
   pub lengths : AllByRecursion (λ (e : PrefixEntry). contains nat_cmp index.lengths (length e.iri) ≡ true) table
 
 -- no entry is found
-pub record IsEmptyIndex {A : Type 0} (index : Index A) : Type 0 where
+pub record IsEmptyIndex (index : Index) : Type 0 where
   pub labels : (label : Text) → get_by_text index.labels label ≡ None
   pub texts : (text : Text) → get_by_text index.texts text ≡ None
 

@@ -18,14 +18,14 @@ use entry::{Entry, add};
 use index::Index;
 use iref_error::Memory;
 use iref_parse::cut::cut;
-use std::alloc::{Allocator, Global};
+use std::alloc::Global;
 use std::marker::Model;
 use text::{after_front, iri_of, is_label, joined};
 use thiserror::Error;
 
 /// Why an entry cannot be inserted, as one under the label `1x`.
 #[derive(Clone, Copy, Debug, PartialEq, Eq, Error)]
-pub enum PrefixError {
+pub enum PrefixFault {
     /// The label is not an ASCII letter followed by ASCII letters, digits, `-` and `_`.
     #[error("not a label")]
     BadLabel,
@@ -39,7 +39,7 @@ pub enum PrefixError {
 
 /// Why a text cannot be expanded, as one without a `:`.
 #[derive(Clone, Copy, Debug, PartialEq, Eq, Error)]
-pub enum ExpandError {
+pub enum ExpandFault {
     /// The text holds no `:`.
     #[error("no colon")]
     NoColon,
@@ -54,23 +54,23 @@ pub enum ExpandError {
     NotAnIri,
 }
 
-impl From<Memory> for PrefixError {
-    ghost use Rattle.iref.specs.declared.compact.PrefixError.TheVariants as prefix_error;
+impl From<Memory> for PrefixFault {
+    ghost use Rattle.iref.specs.declared.compact.PrefixFault.TheVariants as prefix_fault;
 
-    ghost from_gives = { λ _ error. error ≡ prefix_error.Memory };
+    ghost from_gives = { λ _ error. error ≡ prefix_fault.Memory };
 
-    fn from(_: Memory) -> PrefixError {
-        PrefixError::Memory
+    fn from(_: Memory) -> PrefixFault {
+        PrefixFault::Memory
     }
 }
 
-impl From<Memory> for ExpandError {
-    ghost use Rattle.iref.specs.declared.compact.ExpandError.TheVariants as expand_error;
+impl From<Memory> for ExpandFault {
+    ghost use Rattle.iref.specs.declared.compact.ExpandFault.TheVariants as expand_fault;
 
-    ghost from_gives = { λ _ error. error ≡ expand_error.Memory };
+    ghost from_gives = { λ _ error. error ≡ expand_fault.Memory };
 
-    fn from(_: Memory) -> ExpandError {
-        ExpandError::Memory
+    fn from(_: Memory) -> ExpandFault {
+        ExpandFault::Memory
     }
 }
 
@@ -97,12 +97,12 @@ impl Compact<'_> {
 /// `ex` for `http://example.org/`, `compact` of `http://example.org/a` answers `ex` and `a`, and
 /// `expand` of `ex:a` that IRI (RFC 3987 section 2.2).
 #[derive(Drop)]
-pub struct Prefixes<A: Allocator = Global> {
-    entries: Vec<Entry<A>, A>,
-    index: Index<A>,
+pub struct Prefixes {
+    entries: Vec<Entry>,
+    index: Index,
 }
 
-impl<A: Allocator> Model for Prefixes<A> {
+impl Model for Prefixes {
     ghost use Rattle.iref_mapping.specs.PrefixTable.{PrefixTable, IsPrefixTable};
     ghost use Rattle.iref.specs.PrefixIndex.{IsIndexed};
 
@@ -113,9 +113,9 @@ impl<A: Allocator> Model for Prefixes<A> {
     ghost invariant = { λ p. IsPrefixTable p.entries.items × IsIndexed p.entries.items p.index };
 }
 
-impl<A: Allocator + Copy> Prefixes<A> {
+impl Prefixes {
     /// The empty table.
-    pub fn new(alloc: A) -> Self
+    pub fn new(alloc: Global) -> Self
         ensures { result ≡ [] }
     {
         let entries = Vec::new(alloc);
@@ -132,7 +132,7 @@ impl<A: Allocator + Copy> Prefixes<A> {
 
     // The entry of a label.
     #[tactic(auto, using(crate::proofs::PrefixIndexLemmas::numbers))]
-    fn find(&self, label: &str) -> Option<&Entry<A>>
+    fn find(&self, label: &str) -> Option<&Entry>
         ensures { option_copied result ≡ find (has_label label.now) self.now }
     {
         let at = self.index.label(label)?;
@@ -141,7 +141,7 @@ impl<A: Allocator + Copy> Prefixes<A> {
 
     // The first entry whose text is the IRI's beginning of this length.
     #[tactic(auto, using(crate::proofs::PrefixIndexLemmas::no_number))]
-    fn beginning(&self, iri: &str, len: usize) -> Option<&Entry<A>>
+    fn beginning(&self, iri: &str, len: usize) -> Option<&Entry>
         requires { len ≤ length iri.now }
         ensures { option_copied result ≡ find (has_text (take len iri.now)) self.now }
     {
@@ -156,7 +156,7 @@ impl<A: Allocator + Copy> Prefixes<A> {
     // The first of the longest entries whose text is a beginning of the IRI's: the lengths of
     // texts are tried from the greatest down.
     #[tactic(auto, using(crate::proofs::PrefixSearchLemmas::all_below))]
-    fn longest_fit(&self, iri: &str) -> Option<&Entry<A>>
+    fn longest_fit(&self, iri: &str) -> Option<&Entry>
         ensures entry { option_copied result ≡ longest_fit iri.now self.now }
         ensures table { IsPrefixTable self.now }
     {
@@ -186,7 +186,7 @@ impl<A: Allocator + Copy> Prefixes<A> {
     ///
     /// `BadLabel`, then `Taken`, then `Memory`.
     #[tactic(auto, using(crate::proofs::PrefixTableLemmas::inserts))]
-    pub fn insert(&mut self, label: &str, iri: Iri<'_>) -> Result<(), PrefixError>
+    pub fn insert(&mut self, label: &str, iri: Iri<'_>) -> Result<(), PrefixFault>
         ensures ok { OnOk result (inserted label.now (reference_text iri.entry) self.old
             ≡ Ok self.new) }
         ensures err { IfErr result
@@ -194,10 +194,10 @@ impl<A: Allocator + Copy> Prefixes<A> {
         ensures unchanged { OnErr result (self.new ≡ self.old) }
     {
         if !is_label(label) {
-            return Err(PrefixError::BadLabel);
+            return Err(PrefixFault::BadLabel);
         }
         if self.find(label).is_some() {
-            return Err(PrefixError::Taken);
+            return Err(PrefixFault::Taken);
         }
         Ok(add(&mut self.entries, &mut self.index, label, iri.as_str())?)
     }
@@ -227,13 +227,13 @@ impl<A: Allocator + Copy> Prefixes<A> {
     ///
     /// `NoColon`, then `UnknownLabel`, then `Memory`, then `NotAnIri`.
     #[tactic(auto, using(crate::proofs::PrefixTableLemmas::expanding))]
-    pub fn expand(&self, alloc: Global, text: &str) -> Result<IriBuf, ExpandError>
+    pub fn expand(&self, alloc: Global, text: &str) -> Result<IriBuf, ExpandFault>
         ensures ok { IfOk result (λ iri. expanded text.now self.now ≡ Ok (reference_buf_text iri)) }
         ensures err { IfErr result (RefusesExpand (expanded text.now self.now)) }
     {
         let (label, rest) = cut(text, ':');
-        let rest = rest.ok_or(ExpandError::NoColon)?;
-        let iri = self.get(label).ok_or(ExpandError::UnknownLabel)?;
+        let rest = rest.ok_or(ExpandFault::NoColon)?;
+        let iri = self.get(label).ok_or(ExpandFault::UnknownLabel)?;
         let text = joined(alloc, iri.as_str(), "", rest)?;
         iri_of(text)
     }

@@ -17,7 +17,7 @@ use thiserror::Error;
 
 /// An edit of a reference or of a URI: what is set in it, or what is done to its path. `Pop` leaves
 /// `//h/?q` of `//h/a?q` (RFC 3986 sections 3 and 5.2.4).
-#[derive_where(Copy, Debug)]
+#[derive_where(Copy)]
 pub enum Edit<'a, C: CharSet> {
     /// Replaces the scheme, or takes it away, which a URI refuses.
     SetScheme(Option<Scheme<'a>>),
@@ -35,7 +35,7 @@ pub enum Edit<'a, C: CharSet> {
     SetPortU32(Option<u32>),
     /// Replaces the path, guarded where it would be read as something else.
     SetPath(Path<'a, C>),
-    /// Replaces the path by its normal form (RFC 3986 section 5.2.4).
+    /// Sets the path and normalizes it, as one edit (RFC 3986 section 5.2.4).
     SetAndNormalizePath(Path<'a, C>),
     /// Replaces the query, or takes it away.
     SetQuery(Option<Query<'a, C>>),
@@ -65,9 +65,40 @@ impl<C: CharSet> Clone for Edit<'_, C> {
     }
 }
 
+impl<C: CharSet> Edit<'_, C> {
+    // The name of what it does.
+    fn name(&self) -> &'static str {
+        match self {
+            Edit::SetScheme(_) => "SetScheme",
+            Edit::SetAuthority(_) => "SetAuthority",
+            Edit::ReplaceAuthority(_) => "ReplaceAuthority",
+            Edit::SetUserInfo(_) => "SetUserInfo",
+            Edit::SetHost(_) => "SetHost",
+            Edit::SetPort(_) => "SetPort",
+            Edit::SetPortU32(_) => "SetPortU32",
+            Edit::SetPath(_) => "SetPath",
+            Edit::SetAndNormalizePath(_) => "SetAndNormalizePath",
+            Edit::SetQuery(_) => "SetQuery",
+            Edit::SetFragment(_) => "SetFragment",
+            Edit::LazyPush(_) => "LazyPush",
+            Edit::Push(_) => "Push",
+            Edit::JoinPath(_) => "JoinPath",
+            Edit::Pop => "Pop",
+            Edit::Clear => "Clear",
+            Edit::Normalize => "Normalize",
+        }
+    }
+}
+
+impl<C: CharSet> fmt::Debug for Edit<'_, C> {
+    fn fmt<W: fmt::Write>(&self, f: &mut fmt::Formatter<W>) -> fmt::Result {
+        f.write_str(self.name())
+    }
+}
+
 /// Why an edit of a list cannot be done, as `SetHost` of `s:a` (RFC 3986 section 3.2).
 #[derive(Clone, Copy, Debug, PartialEq, Eq, Error)]
-pub enum EditError {
+pub enum EditFault {
     /// The edit is of a part of the authority, and there is none.
     #[error("no authority")]
     NoAuthority,
@@ -79,12 +110,12 @@ pub enum EditError {
     Memory,
 }
 
-impl From<Memory> for EditError {
-    ghost use Rattle.iref.specs.declared.edits.EditError.TheVariants as edit_error;
+impl From<Memory> for EditFault {
+    ghost use Rattle.iref.specs.declared.edits.EditFault.TheVariants as edit_fault;
 
-    ghost from_gives = { λ _ error. error ≡ edit_error.Memory };
+    ghost from_gives = { λ _ error. error ≡ edit_fault.Memory };
 
-    fn from(_: Memory) -> EditError {
-        EditError::Memory
+    fn from(_: Memory) -> EditFault {
+        EditFault::Memory
     }
 }

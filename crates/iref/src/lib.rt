@@ -9,6 +9,8 @@ mod shared;
 pub use iref_component::pct;
 pub use iref_error::InvalidPctStr;
 pub use iref_grammar::chars;
+pub use iref_parse::authority::{AuthoritySlices, split_parts as split_authority};
+pub use iref_parse::offsets::offsets_of;
 pub use iref_parse::split::{ReferenceSlices, split_reference};
 pub use iri::{InvalidIri, InvalidIriRef, Iri, IriBuf, IriError, IriRef, IriRefBuf};
 pub use shared::{
@@ -17,14 +19,23 @@ pub use shared::{
 };
 pub use uri::{InvalidUri, InvalidUriRef, Uri, UriBuf, UriError, UriRef, UriRefBuf};
 
+/// What code names that serves all components, or all references, alike.
+pub mod rules {
+    pub use iref_buffer::held::HeldRule;
+    pub use iref_component::rule::Rule;
+    pub use iref_component::view::View;
+    pub use iref_reference::composed::Composed;
+}
+
 /// URIs and references of URIs, with their components (RFC 3986 sections 3 and 4.1).
 pub mod uri {
-    pub use crate::edits::{Applied, EditError, apply_all, apply_all_uri};
+    pub use crate::edits::{Applied, EditFault, apply_all, apply_all_uri};
     pub use crate::errors::UriError;
     pub use crate::shared::{
-        InvalidAuthority, InvalidFragment, InvalidHost, InvalidPath, InvalidPort, InvalidQuery,
-        InvalidScheme, InvalidSegment, InvalidUserInfo, Memory, Offsets, PathContext, Port,
-        PortBuf, PortError, Scheme, SchemeBuf, Steps, TryError, path_eq_counted,
+        AuthorityPart, InvalidAuthority, InvalidFragment, InvalidHost, InvalidPath, InvalidPort,
+        InvalidQuery, InvalidScheme, InvalidSegment, InvalidUserInfo, Memory, Offsets, PathContext,
+        PathPart, PathTarget, Port, PortBuf, PortError, Scheme, SchemeBuf, Steps, Target, TryError,
+        new_steps_have_room, path_eq_counted,
     };
     pub use iref_error::{InvalidUri, InvalidUriRef};
     use iref_grammar::chars::UriChars;
@@ -49,14 +60,25 @@ pub mod uri {
     /// empty path, and an empty query and fragment, which are there.
     pub type UriRefParts<'a> = iref_reference::parts::UriRefParts<'a, UriChars>;
 
+    /// A URI that is composed of the components of others and not written yet (RFC 3986 section
+    /// 5.2): what `../g` resolves to against `http://a/b/c` takes 10 bytes.
+    pub type ComposedUri<'a> = iref_reference::composed::ComposedUri<'a, UriChars>;
+    /// A reference that is composed and not written yet (RFC 3986 section 4.1), as `../../b`, which
+    /// leads from `http://a/b/c/d` to `http://a/b`.
+    pub type ComposedUriRef<'a> = iref_reference::composed::ComposedUriRef<'a, UriChars>;
+
     /// An authority (RFC 3986 section 3.2): in `//u@h:80/x` it is `u@h:80`, with the host `h`.
     pub type Authority<'a> = iref_component::authority::Authority<'a, UriChars>;
     /// An authority that owns its text (RFC 3986 section 3.2): `set_port` of `80` makes `h:80` of
     /// `h`.
     pub type AuthorityBuf = iref_component::authority::AuthorityBuf<UriChars>;
-    /// The editor of an authority in a vector of bytes (RFC 3986 section 3.2): at the bytes 2 to 6
-    /// of `//h:80/x`, `set_port` of None leaves `//h/x`.
-    pub type AuthorityMut<'a> = iref_component::authority_mut::AuthorityMut<'a, UriChars>;
+    /// The editor of an authority in a vector of bytes, or in an owner as `UriBuf` (RFC 3986
+    /// section 3.2): at the bytes 2 to 6 of `//h:80/x`, `set_port` of None leaves `//h/x`.
+    pub type AuthorityMut<'a, T = Vec<u8>> = iref_component::authority_mut::AuthorityMut<
+        'a,
+        UriChars,
+        T,
+    >;
     /// The parts of an authority (RFC 3986 section 3.2): of `u@h:` the user info `u`, the host `h`
     /// and an empty port, which is there.
     pub type AuthorityParts<'a> = iref_component::authority_parts::AuthorityParts<'a, UriChars>;
@@ -77,9 +99,9 @@ pub mod uri {
     pub type Path<'a> = iref_component::path::Path<'a, UriChars>;
     /// A path that owns its text (RFC 3986 section 3.3): `push` of `c` makes `/a/c` of `/a`.
     pub type PathBuf = iref_component::path_buf::PathBuf<UriChars>;
-    /// The editor of a path in a vector of bytes (RFC 3986 section 3.3): at the bytes 8 to 12 of
-    /// `http://h/a/b?q`, `pop` leaves `http://h/a?q`.
-    pub type PathMut<'a> = iref_component::path_mut::PathMut<'a, UriChars>;
+    /// The editor of a path in a vector of bytes, or in an owner as `UriBuf` or `PathBuf` (RFC 3986
+    /// section 3.3): at the bytes 8 to 12 of `http://h/a/b?q`, `pop` leaves `http://h/a?q`.
+    pub type PathMut<'a, T = Vec<u8>> = iref_component::path_mut::PathMut<'a, UriChars, T>;
 
     /// A segment of a path (RFC 3986 section 3.3): `b%2Fc` is one, `b/c` is none, and the empty
     /// text is one.
@@ -111,12 +133,13 @@ pub mod uri {
 
 /// IRIs and references of IRIs, with their components (RFC 3987 section 2.2).
 pub mod iri {
-    pub use crate::edits::{Applied, EditError, apply_all, apply_all_uri};
+    pub use crate::edits::{Applied, EditFault, apply_all, apply_all_uri};
     pub use crate::errors::IriError;
     pub use crate::shared::{
-        InvalidAuthority, InvalidFragment, InvalidHost, InvalidPath, InvalidPort, InvalidQuery,
-        InvalidScheme, InvalidSegment, InvalidUserInfo, Memory, Offsets, PathContext, Port,
-        PortBuf, PortError, Scheme, SchemeBuf, Steps, TryError, path_eq_counted,
+        AuthorityPart, InvalidAuthority, InvalidFragment, InvalidHost, InvalidPath, InvalidPort,
+        InvalidQuery, InvalidScheme, InvalidSegment, InvalidUserInfo, Memory, Offsets, PathContext,
+        PathPart, PathTarget, Port, PortBuf, PortError, Scheme, SchemeBuf, Steps, Target, TryError,
+        new_steps_have_room, path_eq_counted,
     };
     pub use iref_error::{InvalidIri, InvalidIriRef};
     use iref_grammar::chars::IriChars;
@@ -141,14 +164,25 @@ pub mod iri {
     /// `ü`, and no others.
     pub type IriRefParts<'a> = iref_reference::parts::UriRefParts<'a, IriChars>;
 
+    /// An IRI that is composed of the components of others and not written yet (RFC 3987 section
+    /// 2.2): what `../ü` resolves to against `http://a/b/c` takes 11 bytes.
+    pub type ComposedIri<'a> = iref_reference::composed::ComposedUri<'a, IriChars>;
+    /// A reference that is composed and not written yet (RFC 3987 section 2.2), as `../../é`, which
+    /// leads from `http://a/b/c/d` to `http://a/é`.
+    pub type ComposedIriRef<'a> = iref_reference::composed::ComposedUriRef<'a, IriChars>;
+
     /// An authority (RFC 3987 section 2.2): in `//u@é:80/x` it is `u@é:80`, with the host `é`.
     pub type Authority<'a> = iref_component::authority::Authority<'a, IriChars>;
     /// An authority that owns its text (RFC 3987 section 2.2): `set_port` of `80` makes `é:80` of
     /// `é`.
     pub type AuthorityBuf = iref_component::authority::AuthorityBuf<IriChars>;
-    /// The editor of an authority in a vector of bytes (RFC 3987 section 2.2): at the bytes 2 to 7
-    /// of `//é:80/x`, `set_port` of None leaves `//é/x`.
-    pub type AuthorityMut<'a> = iref_component::authority_mut::AuthorityMut<'a, IriChars>;
+    /// The editor of an authority in a vector of bytes, or in an owner as `IriBuf` (RFC 3987
+    /// section 2.2): at the bytes 2 to 7 of `//é:80/x`, `set_port` of None leaves `//é/x`.
+    pub type AuthorityMut<'a, T = Vec<u8>> = iref_component::authority_mut::AuthorityMut<
+        'a,
+        IriChars,
+        T,
+    >;
     /// The parts of an authority (RFC 3987 section 2.2): of `u@é:` the user info `u`, the host `é`
     /// and an empty port, which is there.
     pub type AuthorityParts<'a> = iref_component::authority_parts::AuthorityParts<'a, IriChars>;
@@ -169,9 +203,9 @@ pub mod iri {
     pub type Path<'a> = iref_component::path::Path<'a, IriChars>;
     /// A path that owns its text (RFC 3987 section 2.2): `push` of `ü` makes `/a/ü` of `/a`.
     pub type PathBuf = iref_component::path_buf::PathBuf<IriChars>;
-    /// The editor of a path in a vector of bytes (RFC 3987 section 2.2): at the bytes 8 to 13 of
-    /// `http://h/a/é?q`, `pop` leaves `http://h/a?q`.
-    pub type PathMut<'a> = iref_component::path_mut::PathMut<'a, IriChars>;
+    /// The editor of a path in a vector of bytes, or in an owner as `IriBuf` or `PathBuf` (RFC 3987
+    /// section 2.2): at the bytes 8 to 13 of `http://h/a/é?q`, `pop` leaves `http://h/a?q`.
+    pub type PathMut<'a, T = Vec<u8>> = iref_component::path_mut::PathMut<'a, IriChars, T>;
 
     /// A segment of a path (RFC 3987 section 2.2): `é%2Fc` is one, `é/c` is none, and the empty
     /// text is one.

@@ -1,9 +1,14 @@
-//! What both families have: texts of ASCII alone, and errors.
-pub use iref_component::path_equality::{Steps, path_eq_counted};
+//! What both families have: texts of ASCII alone, errors, and what holds the part that an editor
+//! edits.
+pub use iref_component::authority_mut::AuthorityPart;
+pub use iref_component::path_equality::{Steps, new_steps_have_room, path_eq_counted};
 pub use iref_component::texts::{Port, PortBuf, Scheme, SchemeBuf};
+pub use iref_edit::target::Target;
 pub use iref_error::{
     InvalidAuthority, InvalidFragment, InvalidHost, InvalidPath, InvalidPort, InvalidQuery,
     InvalidScheme, InvalidSegment, InvalidUserInfo, Memory, PortError, TryError,
 };
 pub use iref_grammar::context::PathContext;
 pub use iref_grammar::offsets::Offsets;
+pub use iref_path_text::part::PathPart;
+pub use iref_path_text::target::PathTarget;

@@ -4,10 +4,10 @@ use Rattle.std.proofs.lemmas.Bool.{and_right}
 use Rattle.std.specs.List.{join_with_byte}
 use Rattle.iref_grammar.specs.Rules.{Text, InUtf8}
 use Rattle.iref_grammar.specs.Characters.{iri_chars, iri_above_ascii}
-use Rattle.iref_grammar.specs.Grammar.{IsPath, IsUriReference}
+use Rattle.iref_grammar.specs.Grammar.{IsPath, IsUri, IsUriReference}
 use Rattle.iref_grammar.specs.Tests.{is_path}
 use Rattle.iref_grammar.proofs.PathTextLemmas.{Decides-is_path}
-use Rattle.iref_grammar.proofs.ReferenceRuleLemmas.{Decides-is_uri_reference}
+use Rattle.iref_grammar.proofs.ReferenceRuleLemmas.{Decides-is_uri, Decides-is_uri_reference}
 use Rattle.iref_grammar.specs.PathValue.{spell_path, read_path}
 use Rattle.iref_grammar.specs.Contexts.{alone}
 use Rattle.iref_grammar.specs.Reference.{ReferenceValue, is_reference, is_full_reference, read_reference, spell}
@@ -18,7 +18,6 @@ use Rattle.iref_model.specs.Key.{key, are_alike}
 use Rattle.iref_model.proofs.TieLemmas.{references_tie}
 use Rattle.iref_model.specs.Relative.{relative_to}
 use Rattle.iref_model.specs.Resolution.{resolved}
-use Rattle.iref_buffer.proofs.HeldLemmas.{read_components-spelled}
 use Rattle.iref_mapping.specs.Mapping.{mapped}
 use Rattle.iref_lines.specs.Lines.{Request, answer_if_valid, read_line, answer, BadCommand, InvalidText, Answered, Parts, Resolve, Relative, Normal, Equal, ToUri, answer_to, is_valid, answer_text, part_fields, yes_or_no, tab, all_verbs}
 use Rattle.iref_batch.specs.EditFields.{IsRead, IsRefusal}
@@ -78,23 +77,37 @@ pub no_parts_answer : (text : Text) → ¬ (InUtf8 (IsUriReference iri_chars) te
 unfolding is_valid
 no_parts_answer text h = invalid (Parts text) (no_reference text h)
 
-pub resolve_answer : (reference base written : Text) (r b : ReferenceValue) → is_reference iri_chars reference ≡ true → is_full_reference iri_chars base ≡ true → r ≡ read_reference reference → b ≡ read_reference base → written ≡ spell (resolved b r) → answer_if_valid iri_chars (Resolve reference base) ≡ Answered written
+uri : (text : Text) → InUtf8 (IsUri iri_chars) text → is_full_reference iri_chars text ≡ true
+uri text h = (Decides-is_uri iri_chars iri_above_ascii text).1 h
+
+no_uri : (text : Text) → ¬ (InUtf8 (IsUri iri_chars) text) → is_full_reference iri_chars text ≡ false
+no_uri text h = false_if_not _ (λ e. h ((Decides-is_uri iri_chars iri_above_ascii text).0 e))
+
+pub resolve_answer : (reference base written : Text) (r b : ReferenceValue) → InUtf8 (IsUriReference iri_chars) reference → InUtf8 (IsUri iri_chars) base → r ≡ read_reference reference → b ≡ read_reference base → written ≡ spell (resolved b r) → answer_if_valid iri_chars (Resolve reference base) ≡ Answered written
 unfolding is_valid answer_to
-resolve_answer reference base written r b h k e f w =
-    valid (Resolve reference base) (rw (h, k) refl) ∙ ap (λ (v : ReferenceValue). Answered (spell v)) ((λ i. resolved (sym f i) (sym e i))) ∙ ap Answered (sym w)
+resolve_answer text base written r b h k e f w =
+    valid (Resolve text base) (rw (reference text h, uri base k) refl) ∙ ap (λ (v : ReferenceValue). Answered (spell v)) ((λ i. resolved (sym f i) (sym e i))) ∙ ap Answered (sym w)
 
-pub no_resolve_answer : (reference base : Text) → (is_reference iri_chars reference && is_full_reference iri_chars base) ≡ false → answer_if_valid iri_chars (Resolve reference base) ≡ InvalidText
+pub no_reference_to_resolve : (text base : Text) → ¬ (InUtf8 (IsUriReference iri_chars) text) → answer_if_valid iri_chars (Resolve text base) ≡ InvalidText
 unfolding is_valid
-no_resolve_answer reference base h = invalid (Resolve reference base) h
+no_reference_to_resolve text base h = invalid (Resolve text base) (rw (no_reference text h) refl)
 
-pub relative_answer : (target base written : Text) (t b : ReferenceValue) → is_reference iri_chars target ≡ true → is_reference iri_chars base ≡ true → t ≡ read_reference target → b ≡ read_reference base → written ≡ spell (relative_to t b) → answer_if_valid iri_chars (Relative target base) ≡ Answered written
+pub no_base_to_resolve : (text base : Text) → ¬ (InUtf8 (IsUri iri_chars) base) → answer_if_valid iri_chars (Resolve text base) ≡ InvalidText
+unfolding is_valid
+no_base_to_resolve text base h = invalid (Resolve text base) (and_right (is_reference iri_chars text) _ (no_uri base h))
+
+pub relative_answer : (target base written : Text) (t b : ReferenceValue) → InUtf8 (IsUriReference iri_chars) target → InUtf8 (IsUriReference iri_chars) base → t ≡ read_reference target → b ≡ read_reference base → written ≡ spell (relative_to t b) → answer_if_valid iri_chars (Relative target base) ≡ Answered written
 unfolding is_valid answer_to
 relative_answer target base written t b h k e f w =
-    valid (Relative target base) (rw (h, k) refl) ∙ ap (λ (v : ReferenceValue). Answered (spell v)) ((λ i. relative_to (sym e i) (sym f i))) ∙ ap Answered (sym w)
+    valid (Relative target base) (rw (reference target h, reference base k) refl) ∙ ap (λ (v : ReferenceValue). Answered (spell v)) ((λ i. relative_to (sym e i) (sym f i))) ∙ ap Answered (sym w)
 
-pub no_relative_answer : (target base : Text) → (is_reference iri_chars target && is_reference iri_chars base) ≡ false → answer_if_valid iri_chars (Relative target base) ≡ InvalidText
+pub no_target_to_lead_to : (target base : Text) → ¬ (InUtf8 (IsUriReference iri_chars) target) → answer_if_valid iri_chars (Relative target base) ≡ InvalidText
 unfolding is_valid
-no_relative_answer target base h = invalid (Relative target base) h
+no_target_to_lead_to target base h = invalid (Relative target base) (rw (no_reference target h) refl)
+
+pub no_base_to_lead_from : (target base : Text) → ¬ (InUtf8 (IsUriReference iri_chars) base) → answer_if_valid iri_chars (Relative target base) ≡ InvalidText
+unfolding is_valid
+no_base_to_lead_from target base h = invalid (Relative target base) (and_right (is_reference iri_chars target) _ (no_reference base h))
 
 pub normal_answer : (text same written : Text) → InUtf8 (IsPath iri_chars) text → same ≡ text → written ≡ spell_path (guarded alone (normal (read_path same))) → answer_if_valid iri_chars (Normal text) ≡ Answered written
 unfolding is_valid answer_to
@@ -104,19 +117,17 @@ pub no_normal_answer : (text : Text) → ¬ (InUtf8 (IsPath iri_chars) text) →
 unfolding is_valid
 no_normal_answer text h = invalid (Normal text) (no_path text h)
 
-pub equal_answer : (left right : Text) (t u : ComponentTexts) (alike : Bool) → InUtf8 (IsUriReference iri_chars) left → InUtf8 (IsUriReference iri_chars) right → t ≡ spell_components (read_reference left) → u ≡ spell_components (read_reference right) → alike ≡ are_alike (read_components t) (read_components u) → answer_if_valid iri_chars (Equal left right) ≡ Answered (yes_or_no alike)
+pub equal_answer : (left right : Text) (r s : ReferenceValue) (alike : Bool) → InUtf8 (IsUriReference iri_chars) left → InUtf8 (IsUriReference iri_chars) right → r ≡ read_reference left → s ≡ read_reference right → alike ≡ are_alike r s → answer_if_valid iri_chars (Equal left right) ≡ Answered (yes_or_no alike)
 unfolding is_valid answer_to
-equal_answer left right t u alike h k e f a =
-    let same_left = ap read_components e ∙ read_components-spelled left in
-    let same_right = ap read_components f ∙ read_components-spelled right in
-    valid (Equal left right) (rw (reference left h, reference right k) refl) ∙ ap (λ (b : Bool). Answered (yes_or_no b)) (sym (a ∙ (λ i. are_alike (same_left i) (same_right i))))
+equal_answer left right r s alike h k e f a =
+    valid (Equal left right) (rw (reference left h, reference right k) refl) ∙ ap (λ (b : Bool). Answered (yes_or_no b)) (sym (a ∙ (λ i. are_alike (e i) (f i))))
 
 -- one text twice
 pub same_answer : (left right : Text) → left ≡ right → InUtf8 (IsUriReference iri_chars) left → answer_if_valid iri_chars (Equal left right) ≡ Answered (codes "yes")
 same_answer left right e h =
-    let t = spell_components (read_reference left) in
-    equal_answer left right t t true h (subst (λ (r : Text). InUtf8 (IsUriReference iri_chars) r) e h) refl (ap (λ (r : Text). spell_components (read_reference r)) e)
-    (sym ((references_tie (key (read_components t)) (key (read_components t))).1 refl))
+    let r = read_reference left in
+    equal_answer left right r r true h (subst (λ (t : Text). InUtf8 (IsUriReference iri_chars) t) e h) refl (ap read_reference e)
+    (sym ((references_tie (key r) (key r)).1 refl))
 
 pub no_left_answer : (left right : Text) → ¬ (InUtf8 (IsUriReference iri_chars) left) → answer_if_valid iri_chars (Equal left right) ≡ InvalidText
 unfolding is_valid

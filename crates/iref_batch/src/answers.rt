@@ -1,6 +1,6 @@
 //! The answer to a line.
 ghost use Rattle.std.specs.Prelude.{◌≡◌, ◌++◌, ◌∷◌, option_map, OnOk, OnErr};
-ghost use Rattle.iref_reference.specs.{Text, text_of, uri_ref_part_texts};
+ghost use Rattle.iref.specs.{Components.{text_of}, Parts.{uri_ref_part_texts}, Rules.{Text}};
 ghost use Rattle.iref_lines.specs.Lines.{Answered, answer_text, part_field, part_fields, tab};
 ghost use Rattle.iref_lines.specs.Lines.{yes_or_no, Parts, Normal, Equal, ToUri};
 ghost use Rattle.iref_batch.specs.{EditFields.{IsRefusal}, Gathering.{Puts, PutsReply}};
@@ -14,11 +14,10 @@ mod resolve;
 use super::edit_fields::FieldError;
 use super::request::{Request, read_request};
 use edit::put_answer_to_edit;
+use iref::Memory;
+use iref::chars::CharSet;
 use iref::iri::{IriRef, IriRefParts, Path};
-use iref_component::rule::Rule;
-use iref_component::view::View;
-use iref_error::Memory;
-use iref_grammar::chars::CharSet;
+use iref::rules::{Rule, View};
 use prefixes::put_answer_by_table;
 use resolve::{put_answer_to_relative, put_answer_to_resolve};
 

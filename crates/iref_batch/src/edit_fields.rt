@@ -2,7 +2,7 @@
 ghost use Rattle.std.specs.Prelude.{◌≡◌, ◌∷◌, [], Some, true, option_map};
 ghost use Rattle.std.specs.Option.{option_copied};
 ghost use Rattle.iref_grammar.specs.{after, before, iri_chars, Tests.{none_or}};
-ghost use Rattle.iref_component.specs.{text_of};
+ghost use Rattle.iref.specs.Components.{text_of};
 ghost use Rattle.iref_lines.specs.Lines.{edit_names, equals_sign, is_valid_edit};
 ghost use Rattle.iref.specs.EditSteps.{edit_step};
 ghost use Rattle.iref_batch.specs.EditFields.{IsRead, edit_named, path_edit_names};
@@ -10,10 +10,9 @@ ghost use Rattle.iref_lines.specs.Lines as spec;
 
 use super::cut::cut_at;
 use super::request::is_name;
+use iref::chars::CharSet;
 use iref::iri::Edit;
-use iref_component::rule::Rule;
-use iref_component::view::View;
-use iref_grammar::chars::CharSet;
+use iref::rules::{Rule, View};
 use std::alloc::AllocFailed;
 use std::str;
 

@@ -1,6 +1,6 @@
 //! Inputs that are read to their end, in pieces of any size.
+use crate::same::{holds, same};
 use crate::streams::{End, Narrow, Trickle, WIDE, writes, written};
-use iref_checks::same::{holds, same};
 use std::alloc::{AllocError, Global};
 use std::test::Fail;
 

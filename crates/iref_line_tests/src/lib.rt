@@ -7,6 +7,8 @@ mod failures;
 #[cfg(test)]
 mod inputs;
 #[cfg(test)]
+mod same;
+#[cfg(test)]
 mod streams;
 #[cfg(test)]
 mod turns;

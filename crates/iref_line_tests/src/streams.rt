@@ -1,7 +1,7 @@
 //! Readers and writers that give and take a part at a time and fail once, and what a run over them
 //! leaves.
+use crate::same::{same, same_bytes};
 use iref_batch::{FromStd, run};
-use iref_checks::same::{same, same_bytes};
 use std::alloc::Global;
 use std::io::{self, ErrorKind, Read, Write};
 use std::test::Fail;

@@ -8,17 +8,17 @@ ghost use Rattle.iref_reference.specs.References.{reference_text};
 use super::index::Index;
 use crate::iri::Iri;
 use iref_error::Memory;
-use std::alloc::Allocator;
+use std::alloc::Global;
 use std::marker::Model;
 
 // A label, and the text of its IRI.
 #[derive(Drop)]
-pub(super) struct Entry<A: Allocator> {
-    label: String<A>,
-    iri: String<A>,
+pub(super) struct Entry {
+    label: String,
+    iri: String,
 }
 
-impl<A: Allocator> Model for Entry<A> {
+impl Model for Entry {
     ghost use Rattle.std.specs.{Prelude.{◌≡◌, true}, String.{string_bytes}};
     ghost use Rattle.iref_grammar.specs.{Characters.{iri_chars}, Reference.{is_full_reference}};
     ghost use Rattle.iref_mapping.specs.PrefixTable.{PrefixEntry};
@@ -30,9 +30,9 @@ impl<A: Allocator> Model for Entry<A> {
     ghost invariant = { λ e. is_full_reference iri_chars (string_bytes e.iri) ≡ true };
 }
 
-impl<A: Allocator + Copy> Entry<A> {
+impl Entry {
     // An entry of copies.
-    pub(super) fn new(alloc: A, label: &str, iri: &str) -> Result<Self, Memory>
+    pub(super) fn new(alloc: Global, label: &str, iri: &str) -> Result<Self, Memory>
         requires { is_full_reference iri_chars iri.now ≡ true }
         ensures { IfOk result (λ entry.
             entry ≡ record { label = label.now; iri = iri.now }) }
@@ -56,9 +56,9 @@ impl<A: Allocator + Copy> Entry<A> {
 }
 
 // Adds a last entry, and its number to the index.
-pub(super) fn add<A: Allocator + Copy>(
-    entries: &mut Vec<Entry<A>, A>,
-    index: &mut Index<A>,
+pub(super) fn add(
+    entries: &mut Vec<Entry>,
+    index: &mut Index,
     label: &str,
     iri: &str,
 ) -> Result<(), Memory>

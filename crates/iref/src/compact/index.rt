@@ -6,25 +6,25 @@ ghost use Rattle.iref.specs.PrefixIndex.{IsEmptyIndex, Gains, Stays, GainsLength
 ghost use Rattle.iref.specs.PrefixIndex.{IsLengthBelow};
 
 use iref_error::Memory;
-use std::alloc::Allocator;
+use std::alloc::Global;
 use std::collections::{BTreeMap, BTreeSet};
 
 // Numbers of entries, by texts.
-type Places<A> = BTreeMap<String<A>, usize, A>;
+type Places = BTreeMap<String, usize>;
 
 // Where the entries are.
 #[derive(Drop)]
-pub(super) struct Index<A: Allocator> {
+pub(super) struct Index {
     // of each label its entry
-    labels: Places<A>,
+    labels: Places,
     // of each text the first entry whose IRI it is
-    texts: Places<A>,
+    texts: Places,
     // the lengths of the texts, and perhaps others
-    lengths: BTreeSet<usize, A>,
+    lengths: BTreeSet<usize>,
 }
 
-impl<A: Allocator + Copy> Index<A> {
-    pub(super) fn new(alloc: A) -> Self
+impl Index {
+    pub(super) fn new(alloc: Global) -> Self
         ensures { IsEmptyIndex result }
     {
         Index {
@@ -59,7 +59,13 @@ impl<A: Allocator + Copy> Index<A> {
     }
 
     // Adds an entry of this number.
-    pub(super) fn add(&mut self, alloc: A, label: &str, text: &str, at: usize) -> Result<(), Memory>
+    pub(super) fn add(
+        &mut self,
+        alloc: Global,
+        label: &str,
+        text: &str,
+        at: usize,
+    ) -> Result<(), Memory>
         ensures labels { OnOk result (Gains self.old.labels self.new.labels label.now at) }
         ensures texts { OnOk result (Gains self.old.texts self.new.texts text.now at) }
         ensures lengths { OnOk result
@@ -81,12 +87,7 @@ impl<A: Allocator + Copy> Index<A> {
 }
 
 // Adds a number under a text that has none, and tells whether it had none.
-fn add_first<A: Allocator + Copy>(
-    alloc: A,
-    places: &mut Places<A>,
-    text: &str,
-    at: usize,
-) -> Result<bool, Memory>
+fn add_first(alloc: Global, places: &mut Places, text: &str, at: usize) -> Result<bool, Memory>
     ensures ok { OnOk result (Gains places.old places.new text.now at) }
     ensures new { IfOk result (λ is_new. is_new ≡ not (is_some (get_by_text places.old text.now))) }
     ensures err { OnErr result (Stays places.old places.new) }

@@ -7,10 +7,10 @@ ghost use Rattle.iref_mapping.specs.PrefixTable.{is_label, is_label_char, if_iri
 ghost use Rattle.iref_reference.specs.References.{reference_buf_text};
 ghost use Rattle.iref.specs.Prefixes.{RefusesExpand};
 
-use super::ExpandError;
+use super::ExpandFault;
 use crate::iri::IriBuf;
 use iref_error::Memory;
-use std::alloc::{AllocError, Allocator};
+use std::alloc::{AllocError, Global};
 
 // Whether a label may hold the byte after its first letter.
 fn is_label_byte(byte: u8) -> bool
@@ -48,12 +48,7 @@ pub(super) fn after_front<'a>(text: &'a str, front: &str) -> Option<&'a str>
 }
 
 // The pieces one after the other.
-pub(super) fn joined<A: Allocator>(
-    alloc: A,
-    front: &str,
-    mark: &str,
-    back: &str,
-) -> Result<String<A>, Memory>
+pub(super) fn joined(alloc: Global, front: &str, mark: &str, back: &str) -> Result<String, Memory>
     ensures { IfOk result (λ text.
         string_bytes text ≡ front.now ++ mark.now ++ back.now) }
 {
@@ -68,12 +63,12 @@ pub(super) fn joined<A: Allocator>(
 
 // The IRI of a text.
 #[tactic(auto, using(crate::proofs::PrefixTableLemmas::iris))]
-pub(super) fn iri_of(text: String) -> Result<IriBuf, ExpandError>
+pub(super) fn iri_of(text: String) -> Result<IriBuf, ExpandFault>
     ensures ok { IfOk result (λ iri. if_iri (string_bytes text) ≡ Ok (reference_buf_text iri)) }
     ensures err { IfErr result (RefusesExpand (if_iri (string_bytes text))) }
 {
     match IriBuf::new(text) {
         Ok(iri) => Ok(iri),
-        Err(_) => Err(ExpandError::NotAnIri),
+        Err(_) => Err(ExpandFault::NotAnIri),
     }
 }

@@ -7,19 +7,19 @@ ghost use Rattle.iref.specs.EditSteps.{edit_step};
 
 use crate::edits::parts::{edit_authority, edit_path};
 use crate::edits::schemes::SetsScheme;
-use crate::edits::{Edit, EditError};
+use crate::edits::{Edit, EditFault};
 use iref_grammar::chars::CharSet;
 use iref_reference::owner::{ReferenceBuf, UriBuf, UriRefBuf};
 
 /// What a list of edits answers: the number of the first that cannot be done, from 0, and why.
-pub type Applied = Result<(), (usize, EditError)>;
+pub type Applied = Result<(), (usize, EditFault)>;
 
 // Does one edit, or changes nothing.
-#[tactic(auto, unfolding(iref_model::specs::Edits::edited))]
+#[tactic(auto, using(crate::proofs::EditListLemmas::done_in, crate::proofs::EditListLemmas::part_done_in), unfolding(iref_model::specs::Edits::edited))]
 fn apply<R: SetsScheme, C: CharSet>(
     reference: &mut ReferenceBuf<R, C>,
     edit: Edit<'_, C>,
-) -> Result<(), EditError>
+) -> Result<(), EditFault>
     ensures { AppliesEdit (edited_in R.allows_scheme) (edit_step edit.entry)
         (reference_buf_text reference.old) (reference_buf_text reference.new) result }
 {
@@ -36,7 +36,7 @@ fn apply<R: SetsScheme, C: CharSet>(
         | Edit::SetPort(_)
         | Edit::SetPortU32(_) => {
             if reference.authority().is_none() {
-                return Err(EditError::NoAuthority);
+                return Err(EditFault::NoAuthority);
             }
             Ok(edit_authority(reference, edit)?)
         }

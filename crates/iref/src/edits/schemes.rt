@@ -4,7 +4,7 @@ ghost use Rattle.iref_reference.specs.{text_of, reference_buf_text};
 ghost use Rattle.iref_model.specs.Edits.{SetScheme};
 ghost use Rattle.iref.specs.EditAnswers.{AppliesEdit, edited_in};
 
-use crate::edits::EditError;
+use crate::edits::EditFault;
 use iref_buffer::held::HeldRule;
 use iref_component::texts::Scheme;
 use iref_grammar::chars::CharSet;
@@ -17,7 +17,7 @@ pub trait SetsScheme: HeldRule {
     fn set_scheme<C: CharSet>(
         reference: &mut ReferenceBuf<Self, C>,
         scheme: Option<Scheme<'_>>,
-    ) -> Result<(), EditError>
+    ) -> Result<(), EditFault>
         ensures { AppliesEdit (edited_in Self.allows_scheme)
             (SetScheme (option_map text_of scheme.entry))
             (reference_buf_text reference.old) (reference_buf_text reference.new) result };
@@ -28,7 +28,7 @@ impl SetsScheme for ReferenceRule {
     fn set_scheme<C: CharSet>(
         reference: &mut UriRefBuf<C>,
         scheme: Option<Scheme<'_>>,
-    ) -> Result<(), EditError> {
+    ) -> Result<(), EditFault> {
         Ok(reference.set_scheme(scheme)?)
     }
 }
@@ -38,10 +38,10 @@ impl SetsScheme for FullReferenceRule {
     fn set_scheme<C: CharSet>(
         reference: &mut UriBuf<C>,
         scheme: Option<Scheme<'_>>,
-    ) -> Result<(), EditError> {
+    ) -> Result<(), EditFault> {
         match scheme {
             Some(scheme) => Ok(reference.set_scheme(scheme)?),
-            None => Err(EditError::SchemeNeeded),
+            None => Err(EditFault::SchemeNeeded),
         }
     }
 }

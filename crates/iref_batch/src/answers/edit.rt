@@ -11,8 +11,8 @@ ghost use Rattle.iref.specs.EditSteps.{edit_step};
 use super::{put_answered, put_refused, put_text};
 use crate::edit_fields::{FieldError, read_edit};
 use crate::request::next_field;
-use iref::iri::{Edit, EditError, IriRefBuf, apply_all};
-use iref_error::Memory;
+use iref::Memory;
+use iref::iri::{Edit, EditFault, IriRefBuf, apply_all};
 use std::alloc::Global;
 
 // The edits that the fields name. All fields are read, since one that is no edit at all goes
@@ -54,9 +54,9 @@ fn put_edited(bytes: Vec<u8>, edits: &[Edit<'_>], out: &mut Vec<u8>) -> Result<(
     };
     match apply_all(&mut reference, edits) {
         Ok(()) => put_answered(reference.as_bytes(), out),
-        Err((_, EditError::NoAuthority)) => put_text(b"error edit", out),
-        Err((_, EditError::SchemeNeeded)) => put_text(b"error edit", out),
-        Err((_, EditError::Memory)) => Err(Memory),
+        Err((_, EditFault::NoAuthority)) => put_text(b"error edit", out),
+        Err((_, EditFault::SchemeNeeded)) => put_text(b"error edit", out),
+        Err((_, EditFault::Memory)) => Err(Memory),
     }
 }
 

@@ -14,9 +14,9 @@ ghost use Rattle.iref_lines.specs.Lines as spec;
 use super::{put_answered, put_refused, put_text};
 use crate::edit_fields::{FieldError, name_and_value};
 use crate::request::{TableVerb, next_field};
-use iref::compact::{Compact, ExpandError, PrefixError, Prefixes};
+use iref::Memory;
+use iref::compact::{Compact, ExpandFault, PrefixFault, Prefixes};
 use iref::iri::Iri;
-use iref_error::Memory;
 use std::alloc::Global;
 use std::str;
 
@@ -38,9 +38,9 @@ fn insert_field(table: &mut Prefixes, field: &[u8]) -> Result<(), FieldError>
     };
     match table.insert(label, iri) {
         Ok(()) => Ok(()),
-        Err(PrefixError::BadLabel) => Err(FieldError::Invalid),
-        Err(PrefixError::Taken) => Err(FieldError::Invalid),
-        Err(PrefixError::Memory) => Err(FieldError::Memory),
+        Err(PrefixFault::BadLabel) => Err(FieldError::Invalid),
+        Err(PrefixFault::Taken) => Err(FieldError::Invalid),
+        Err(PrefixFault::Memory) => Err(FieldError::Memory),
     }
 }
 
@@ -103,10 +103,10 @@ fn put_expanded(table: &Prefixes, text: &[u8], out: &mut Vec<u8>) -> Result<(), 
     };
     match table.expand(*out.allocator(), text) {
         Ok(iri) => put_answered(iri.as_bytes(), out),
-        Err(ExpandError::Memory) => Err(Memory),
-        Err(ExpandError::NoColon) => put_text(b"error invalid", out),
-        Err(ExpandError::UnknownLabel) => put_text(b"error invalid", out),
-        Err(ExpandError::NotAnIri) => put_text(b"error invalid", out),
+        Err(ExpandFault::Memory) => Err(Memory),
+        Err(ExpandFault::NoColon) => put_text(b"error invalid", out),
+        Err(ExpandFault::UnknownLabel) => put_text(b"error invalid", out),
+        Err(ExpandFault::NotAnIri) => put_text(b"error invalid", out),
     }
 }
 

@@ -1,5 +1,5 @@
 use Rattle.iref_batch.proofs.AnswerLemmas.{normal_answer, no_normal_answer}
-use Rattle.iref_component.specs.Components.{text_of}
+use Rattle.iref.specs.Components.{text_of}
 use Rattle.iref_batch.proofs.answers.put_answer_to_normal.Goals as goal
 
 pub returns-in_default : goal.returns-in_default

@@ -1,4 +1,4 @@
-use Rattle.iref_reference.specs.References.{reference_text}
+use Rattle.iref.specs.References.{reference_text}
 use Rattle.iref_batch.proofs.AnswerLemmas.{to_uri_answer, no_to_uri_answer}
 use Rattle.iref_batch.proofs.answers.put_answer_to_to_uri.Goals as goal
 

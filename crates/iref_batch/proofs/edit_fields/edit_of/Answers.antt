@@ -5,7 +5,7 @@ use Rattle.iref_grammar.specs.Tests.{none_or, is_fragment, is_host, is_path, is_
 use Rattle.iref_grammar.specs.Authority.{is_authority}
 use Rattle.iref_model.specs.Edits.{EditStep, SetScheme, SetAuthority, ReplaceAuthority, SetUserInfo, SetHost, SetPort, SetPath, SetAndNormalizePath, SetQuery, SetFragment}
 use Rattle.iref_lines.specs.Lines.{edit_names, is_valid_edit}
-use Rattle.iref_component.specs.Components.{text_of}
+use Rattle.iref.specs.Components.{text_of}
 use Rattle.iref.specs.declared.edits.Edit.TheVariants as edit
 use Rattle.iref_batch.specs.EditFields.{IsRead}
 use Rattle.iref.specs.EditSteps.{edit_step}

@@ -4,7 +4,7 @@ use Rattle.iref_grammar.specs.Characters.{iri_chars}
 use Rattle.iref_grammar.specs.Tests.{is_path, is_segment}
 use Rattle.iref_model.specs.Edits.{EditStep, LazyPush, Push, JoinPath}
 use Rattle.iref_lines.specs.Lines.{is_valid_edit}
-use Rattle.iref_component.specs.Components.{text_of}
+use Rattle.iref.specs.Components.{text_of}
 use Rattle.iref.specs.declared.edits.Edit.TheVariants as edit
 use Rattle.iref_batch.specs.EditFields.{IsRead, path_edit_names}
 use Rattle.iref.specs.EditSteps.{edit_step}

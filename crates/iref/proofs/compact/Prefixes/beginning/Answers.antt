@@ -10,13 +10,13 @@ use Rattle.iref.proofs.PrefixSearchLemmas.{no_text_ends}
 use Rattle.iref.proofs.compact.Prefixes.beginning.Goals as goal
 
 pub returns-then-not-is_char_boundary : goal.returns-then-not-is_char_boundary
-returns-then-not-is_char_boundary g c =
+returns-then-not-is_char_boundary c =
     let test = has_text (take c.args.len c.args.iri.now) in
     sym (ap (find test) (sym c.self.view_is) ∙ no_text_ends c.args.iri.now c.self.inside.entries.items c.args.len c.utf8.iri c.requires
     (λ cut. true≢false (sym (c.if-not-is_char_boundary.ensures.test.1 cut))) c.self.invariant.0.iris)
 
 pub returns : goal.returns
-returns g c =
+returns c =
     let test = has_text (take c.args.len c.args.iri.now) in
     let front : c.range.result.now ≡ take c.args.len c.args.iri.now = grind (arith, common_steps) in
     let number : get_by_text c.self.inside.index.texts c.range.result.now ≡ Some c.in_ok-at.at = search rules in

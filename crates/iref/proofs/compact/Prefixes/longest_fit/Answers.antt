@@ -4,7 +4,7 @@ use Rattle.iref.proofs.PrefixSearchLemmas.{HasLengths, found_there, not_there, n
 use Rattle.iref.proofs.compact.Prefixes.longest_fit.Goals as goal
 
 pub returns-then-is_some : goal.returns-then-is_some
-returns-then-is_some g c =
+returns-then-is_some c =
     let set = c.self.inside.index.lengths in
     record {
       entry = found_there c.args.iri.now c.args.self.now set c.loop-len.end c.in-Some.len (subst (HasLengths set) c.self.view_is c.self.invariant.1.lengths)
@@ -13,7 +13,7 @@ returns-then-is_some g c =
     }
 
 pub loop-len-preserved : goal.loop-len-preserved
-loop-len-preserved g c =
+loop-len-preserved c =
     let set = c.self.inside.index.lengths in
     let at = c.in-Some.ensures in
     record {
@@ -23,7 +23,7 @@ loop-len-preserved g c =
     }
 
 pub returns : goal.returns
-returns g c =
+returns c =
     let set = c.self.inside.index.lengths in
     record {
       entry = sym (none_fits c.args.iri.now c.args.self.now set c.loop-len.end (subst (HasLengths set) c.self.view_is c.self.invariant.1.lengths) (search rules) c.loop-len.invariant.below);

@@ -3,7 +3,7 @@ use Rattle.iref.proofs.PrefixSearchLemmas.{FitsBelow}
 use Rattle.iref.proofs.compact.Prefixes.longest_fit.Given as goal
 
 abbrev pub invariant-loop-len : goal.invariant-loop-len
-invariant-loop-len g l = record { in_range : l.end ≤ length l.iri + 1; below : FitsBelow l.iri l.self l.end }
+invariant-loop-len l = record { in_range : l.end ≤ length l.iri + 1; below : FitsBelow l.iri l.self l.end }
 
 abbrev pub decreases-loop-len : goal.decreases-loop-len
-decreases-loop-len g l = l.end
+decreases-loop-len l = l.end

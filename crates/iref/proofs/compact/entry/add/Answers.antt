@@ -4,12 +4,12 @@ use Rattle.iref.proofs.PrefixIndexLemmas.{index_next, index_stays}
 use Rattle.iref.proofs.compact.entry.add.Goals as goal
 
 pub returns-in_err-add-clause-indexed : goal.returns-in_err-add-clause-indexed
-returns-in_err-add-clause-indexed g c =
+returns-in_err-add-clause-indexed c =
     subst (λ table. IsIndexed table c.add.new.self) (sym c.in_ok-reserve.ensures.items)
     (index_stays c.args.entries.now.items c.args.index.now c.add.new.self c.requires.indexed c.in_err-add.ensures.labels_stay c.in_err-add.ensures.texts_stay c.in_err-add.ensures.lengths_stay)
 
 pub returns-clause-indexed : goal.returns-clause-indexed
-returns-clause-indexed g c =
+returns-clause-indexed c =
     let same : c.push_reserved.new.self.items ≡ c.args.entries.now.items ++ record { label = c.args.label.now; iri = c.args.iri.now } ∷ [] = search rules in
     let number : c.len.result ≡ length c.args.entries.now.items = search rules in
     let labels : Gains c.args.index.now.labels c.add.new.self.labels c.args.label.now (length c.args.entries.now.items) = subst (Gains c.args.index.now.labels c.add.new.self.labels c.args.label.now) number c.in_ok-add.ensures.labels in

@@ -1,6 +1,6 @@
 use Rattle.std.proofs.Common.{◌∙◌, map}
 use Rattle.iref_model.specs.Edits as model
-use Rattle.iref_reference.specs.References.{reference_buf_text, reference_buf_value}
+use Rattle.iref.specs.References.{reference_buf_text, reference_buf_value}
 use Rattle.iref.specs.EditSteps.{edit_step}
 use Rattle.iref_batch.proofs.EditAnswerLemmas.{edited_answer, no_edited_answer, refused_answer}
 use Rattle.iref_batch.proofs.answers.edit.put_edited.Goals as goal
