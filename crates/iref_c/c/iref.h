@@ -11,8 +11,8 @@
  * What the caller owes. No pointer is NULL, not even one of length 0. What is passed as a text holds that many bytes that
  * can be read, and does not change during the call. What is passed as a buffer holds that many bytes that can be read and
  * written, and each place for a result is aligned as its type is. No buffer or place for a result overlaps anything else
- * that is passed. malloc, realloc and free are of one allocator, and iref_normalize_path, iref_resolve, iref_relative and
- * iref_to_uri are not called from a signal handler, nor in the forked child of a process with threads. Nothing checks any of
+ * that is passed. malloc, realloc and free are of one allocator, and iref_normalize_path and iref_to_uri, which alone take
+ * memory, are not called from a signal handler, nor in the forked child of a process with threads. Nothing checks any of
  * this.
  *
  * Results. A call answers a status, one of those below. Where it is not IREF_OK, nothing is written, but that *needed is
@@ -41,7 +41,7 @@ extern "C" {
 #define IREF_INVALID 1        /* the text, or the first of two, is not in the rule that its call names */
 #define IREF_SECOND_INVALID 2 /* the first of two texts is in its rule, and the second is not in its own */
 #define IREF_SHORT 3          /* the buffer is too short: *needed is the length that serves */
-#define IREF_MEMORY 4         /* memory was refused */
+#define IREF_MEMORY 4         /* memory was refused, or a length cannot be counted */
 
 /* Where a component stands in its text. */
 struct iref_place {
@@ -90,8 +90,12 @@ uint32_t iref_equal(const char *first, size_t first_length, const char *second, 
 uint32_t iref_compare(const char *first, size_t first_length, const char *second, size_t second_length, int32_t *order);
 
 /* *hash becomes the hash of the reference, by SipHash-1-3 with keys of 0: the same in each run of each program. So whoever
- * may choose the texts can choose many with one hash. */
+ * may choose the texts can choose many with one hash: a table that strangers fill takes iref_hash_keyed. */
 uint32_t iref_hash(const char *text, size_t length, uint64_t *hash);
+
+/* *hash becomes the hash of the reference, by SipHash-1-3 with these keys, which are random and stay secret: iref_hash is
+ * this with keys of 0. Equal references have one hash under the same keys. */
+uint32_t iref_hash_keyed(const char *text, size_t length, uint64_t key0, uint64_t key1, uint64_t *hash);
 
 /* Texts that are written into the caller's buffer `out` of `out_length` bytes, and *needed becomes their length. At
  * IREF_SHORT that is more than out_length, and the buffer is as it was. At IREF_OK the text stands first in the buffer, no

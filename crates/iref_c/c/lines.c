@@ -154,10 +154,17 @@ static uint32_t check_length(const struct verb *verb, const struct text *texts, 
     return status;
 }
 
+/* The length of a buffer in which most texts fit. */
+#define USUAL 4096
+
 /* The text fits exactly into a buffer of its length, and into no shorter one. */
 static void check_written(const struct verb *verb, const struct text *texts) {
     size_t needed = 12345, again = 0;
-    uint32_t status = check_length(verb, texts, 4096, &needed);
+    uint32_t status = check_length(verb, texts, USUAL, &needed);
+    if (status == IREF_SHORT) {
+        expect(needed > USUAL, "a text that fits is told too long", texts[0]);
+        status = check_length(verb, texts, needed, &again);
+    }
     if (status != IREF_OK) {
         expect(status == IREF_INVALID || (status == IREF_SECOND_INVALID && verb->texts == 2), verb->name, texts[0]);
         return;
@@ -200,6 +207,20 @@ static uint64_t hash_of(struct text text) {
     return hash;
 }
 
+static uint64_t keyed_hash_of(struct text text, uint64_t key0, uint64_t key1) {
+    uint64_t hash = 0;
+    iref_hash_keyed(text.at, text.length, key0, key1, &hash);
+    return hash;
+}
+
+/* Each key counts, and keys of 0 are none. */
+static void check_keys(struct text text) {
+    uint64_t hash = keyed_hash_of(text, 1, 2);
+    expect(keyed_hash_of(text, 0, 0) == hash_of(text), "keys of 0 give another hash", text);
+    expect(keyed_hash_of(text, 3, 2) != hash && keyed_hash_of(text, 1, 3) != hash, "a key does not count", text);
+    expect(keyed_hash_of(text, 2, 1) != hash, "the keys turned round give the same", text);
+}
+
 /* Equality, order and hash agree, in both directions. */
 static void check_pair(struct text first, struct text second) {
     uint32_t equal = 7;
@@ -213,8 +234,31 @@ static void check_pair(struct text first, struct text second) {
         return;
     }
     expect(equal == (order == 0) && order == -back, "equality and order do not agree", first);
-    expect(equal == 0 || hash_of(first) == hash_of(second), "equal references differ in their hash", first);
-    expect(equal == 1 || hash_of(first) != hash_of(second), "two references of these have one hash", first);
+    expect(equal == (hash_of(first) == hash_of(second)), "equality and hash do not agree", first);
+    uint64_t hash = keyed_hash_of(first, 1, 2);
+    expect(equal == (hash == keyed_hash_of(second, 1, 2)), "equality and hash under keys do not agree", first);
+    check_keys(first);
+}
+
+/* All 70 URIs of eight segments, each empty or `%FF`, of which four are `%FF`, have hashes of their own. */
+static void check_crowd(void) {
+    uint64_t hashes[70], keyed[70];
+    size_t count = 0;
+    for (unsigned chosen = 0; chosen < 256; chosen++) {
+        char at[64] = "http://h/";
+        int full = 0;
+        for (int segment = 0; segment < 8; segment++) {
+            if (segment > 0) strcat(at, "/");
+            if (chosen >> segment & 1) full++, strcat(at, "%FF");
+        }
+        if (full != 4) continue;
+        struct text text = {at, strlen(at)};
+        hashes[count] = hash_of(text);
+        keyed[count] = keyed_hash_of(text, 1, 2);
+        for (size_t i = 0; i < count; i++)
+            expect(hashes[i] != hashes[count] && keyed[i] != keyed[count], "two of 70 URIs have one hash", text);
+        count++;
+    }
 }
 
 /* The texts that were looked at last, for pairs with the next one. */
@@ -246,6 +290,16 @@ static void check(const struct text *fields, size_t count) {
     for (size_t i = 0; i < count; i++) check_pairs(fields[i]);
 }
 
+/* A text that is longer than most buffers is written into one that is long enough. */
+static void check_long(void) {
+    static char at[3 * USUAL];
+    memset(at, 'a', sizeof at);
+    for (size_t i = 7; i < sizeof at; i += 8) at[i] = '/';
+    memcpy(at, "http:/", 6);
+    struct text text = {at, sizeof at};
+    check(&text, 1);
+}
+
 /* Bytes that are not UTF-8 are refused by every call, and the empty text is a reference. */
 static void check_bytes(void) {
     static const char *const NOT_UTF8[] = {"\xFF", "a\xC3", "\xC0\xAF", "http://a/\xED\xA0\x80", "\x80"};
@@ -261,6 +315,8 @@ static void check_bytes(void) {
         }
         uint32_t status = iref_hash(texts[0].at, texts[0].length, &hash);
         expect(status == IREF_INVALID && hash == 7, "bytes that are not UTF-8 are hashed", texts[0]);
+        status = iref_hash_keyed(texts[0].at, texts[0].length, 1, 2, &hash);
+        expect(status == IREF_INVALID && hash == 7, "bytes that are not UTF-8 are hashed under keys", texts[0]);
     }
     check(&empty, 1);
     expect(iref_hash(empty.at, empty.length, &hash) == IREF_OK, "the empty text is no reference", empty);
@@ -297,6 +353,10 @@ int main(int count, char **arguments) {
             answer(fields, found);
     }
     free(line);
-    if (is_check) check_bytes();
+    if (is_check) {
+        check_bytes();
+        check_long();
+        check_crowd();
+    }
     return ferror(stdin) || fflush(stdout) ? 2 : wrong;
 }

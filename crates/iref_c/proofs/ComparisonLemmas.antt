@@ -1,14 +1,15 @@
 -- Equality, order and hash of references agree.
 use Rattle.std.proofs.Common.{◌≡◌, ◌↔◌, Bool, true, false, refl, ap, fold, arith}
 use Rattle.std.specs.Prelude.{pos}
-use Rattle.std.specs.Hash.DefaultHasher.{finish, initial, write}
+use Rattle.std.specs.declared.hash.DefaultHasher.{DefaultHasher}
+use Rattle.std.specs.Hash.DefaultHasher.{finish, write}
 use Rattle.std.specs.Ordering.{is_eq}
 use Rattle.std.specs.declared.cmp.Ordering.{Ordering}
 use Rattle.std.specs.declared.cmp.Ordering.TheVariants.{Less, Equal, Greater}
 use Rattle.iref.specs.Key.{are_alike, key, key_cmp}
 use Rattle.iref_grammar.specs.Reference.{ReferenceValue}
 use Rattle.iref_model.proofs.KeyOrderLemmas.{fed_where_tied}
-use Rattle.iref_c.specs.Comparison.{equal_number, hash_number, number_of_equality, number_of_order, order_number}
+use Rattle.iref_c.specs.Comparison.{equal_number, hash_from, number_of_equality, number_of_order, order_number}
 
 true_if_one : (b : Bool) → number_of_equality b ≡ 1 → b ≡ true
 true_if_one true e = refl
@@ -23,6 +24,6 @@ one_where_zero Greater = (λ e. let bad : ⊥ = omega (arith, e) in absurd bad, 
 pub equal-order : (r s : ReferenceValue) → (equal_number r s ≡ 1) ↔ (order_number r s ≡ pos 0)
 equal-order r s = one_where_zero (key_cmp (key r) (key s))
 
--- and equal ones have one hash
-pub equal-hash : (r s : ReferenceValue) → equal_number r s ≡ 1 → hash_number r ≡ hash_number s
-equal-hash r s e = ap (λ fed. finish (fold write initial fed)) (fed_where_tied (key r) (key s) (true_if_one (are_alike r s) e))
+-- and equal ones have one hash, by each hasher
+pub equal-hash : (hasher : DefaultHasher) (r s : ReferenceValue) → equal_number r s ≡ 1 → hash_from hasher r ≡ hash_from hasher s
+equal-hash hasher r s e = ap (λ fed. finish (fold write hasher fed)) (fed_where_tied (key r) (key s) (true_if_one (are_alike r s) e))

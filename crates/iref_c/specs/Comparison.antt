@@ -2,7 +2,8 @@
 use Rattle.std.specs.Prelude.{ℕ, Bool, ℤ, pos, negsuc, fold, if◌then◌else◌}
 use Rattle.std.specs.declared.cmp.Ordering.{Ordering}
 use Rattle.std.specs.declared.cmp.Ordering.TheVariants.{Less, Equal, Greater}
-use Rattle.std.specs.Hash.DefaultHasher.{initial, write, finish}
+use Rattle.std.specs.declared.hash.DefaultHasher.{DefaultHasher}
+use Rattle.std.specs.Hash.DefaultHasher.{initial, with_keys, write, finish}
 use Rattle.iref.specs.Key.{are_alike, fed_reference, key, key_cmp}
 use Rattle.iref_grammar.specs.Reference.{ReferenceValue}
 
@@ -22,6 +23,14 @@ number_of_order Greater = pos 1
 abbrev pub order_number : ReferenceValue → ReferenceValue → ℤ
 order_number r s = number_of_order (key_cmp (key r) (key s))
 
--- what std's hasher answers that is fed the key
+-- what a hasher of std answers that is fed the key
+abbrev pub hash_from : DefaultHasher → ReferenceValue → ℕ
+hash_from hasher r = finish (fold write hasher (fed_reference (key r)))
+
+-- with keys of 0
 abbrev pub hash_number : ReferenceValue → ℕ
-hash_number r = finish (fold write initial (fed_reference (key r)))
+hash_number = hash_from initial
+
+-- with these keys
+abbrev pub keyed_hash_number : ℕ → ℕ → ReferenceValue → ℕ
+keyed_hash_number key0 key1 = hash_from (with_keys key0 key1)

@@ -1,11 +1,13 @@
 //! Equality, order and hash of references, which agree (RFC 3986 section 6.2.2).
 ghost use Rattle.iref_grammar.specs.{iri_chars, IsUriReference, ReferenceValue};
 ghost use Rattle.iref_c.specs.{Answers.{TellsOf, TellsOfTwo}, Comparison.{equal_number}};
-ghost use Rattle.iref_c.specs.Comparison.{hash_number, number_of_order, order_number};
-ghost use Rattle.std.specs.Prelude.{◌≡◌, ◌↔◌, pos};
+ghost use Rattle.iref_c.specs.Comparison.{hash_from, hash_number, keyed_hash_number};
+ghost use Rattle.iref_c.specs.Comparison.{number_of_order, order_number};
+ghost use Rattle.std.specs.Prelude.{◌≡◌, ◌↔◌, ℕ, pos};
 
 use crate::status::INVALID;
 use crate::tell::{tell, two_references};
+use core::hash::keyed_hasher;
 use iref::iri::IriRef;
 use std::cmp::Ordering;
 use std::hash::{DefaultHasher, Hash, Hasher};
@@ -43,24 +45,43 @@ pub extern "C" fn iref_compare(first: &[u8], second: &[u8], order: &mut i32) -> 
     }
 }
 
+// The hash of a reference by this hasher.
+fn hash_by(hasher: DefaultHasher, text: &[u8], hash: &mut u64) -> u32
+    ensures { TellsOf (IsUriReference iri_chars) (hash_from hasher) text.now hash.old hash.new
+        result }
+{
+    let Ok(reference) = IriRef::from_bytes(text) else {
+        return INVALID;
+    };
+    let mut hasher = hasher;
+    reference.hash(&mut hasher);
+    tell(hasher.finish(), hash)
+}
+
 /// The hash of a reference, the same for equal ones.
 #[unsafe(no_mangle)]
 pub extern "C" fn iref_hash(text: &[u8], hash: &mut u64) -> u32
     ensures { TellsOf (IsUriReference iri_chars) hash_number text.now hash.old hash.new result }
 {
-    let Ok(reference) = IriRef::from_bytes(text) else {
-        return INVALID;
-    };
-    let mut hasher = DefaultHasher::new();
-    reference.hash(&mut hasher);
-    tell(hasher.finish(), hash)
+    hash_by(DefaultHasher::new(), text, hash)
 }
 
-/// The three agree: references are equal exactly where their order is 0, and equal ones have one
-/// hash.
+/// The hash of a reference under two keys, the same for equal ones.
+#[unsafe(no_mangle)]
+pub extern "C" fn iref_hash_keyed(text: &[u8], key0: u64, key1: u64, hash: &mut u64) -> u32
+    ensures { TellsOf (IsUriReference iri_chars) (keyed_hash_number key0 key1)
+        text.now hash.old hash.new result }
+{
+    hash_by(keyed_hasher(key0, key1), text, hash)
+}
+
+/// Equality, order and hash agree: references are equal exactly where their order is 0, and equal
+/// ones have one hash, also under keys.
 pub fn equality_order_and_hash_agree()
     ensures order { (r s : ReferenceValue) → (equal_number r s ≡ 1)
         ↔ (order_number r s ≡ pos 0) }
     ensures hash { (r s : ReferenceValue) → equal_number r s ≡ 1
         → hash_number r ≡ hash_number s }
+    ensures keyed { (key0 key1 : ℕ) (r s : ReferenceValue) → equal_number r s ≡ 1
+        → keyed_hash_number key0 key1 r ≡ keyed_hash_number key0 key1 s }
 {}

@@ -1,14 +1,13 @@
 //! Where the components of a text stand in it, as C sees them (RFC 3986 sections 3 and 5.3).
 ghost use Rattle.std.specs.Prelude.{◌≡◌, ◌+◌, ◌<◌, ◌^◌, [], ◌∷◌, length, option_map, IfSome, Some};
 ghost use Rattle.std.specs.Option.{option_copied};
-ghost use Rattle.iref_parse.specs.{read_authority, colon, place_from, read_reference, spell};
-ghost use Rattle.iref_parse.specs.{part_then, then_part, authority_of, value_of};
-ghost use Rattle.iref_grammar.specs.{Authority.{spell_authority}, Grammar.{at_sign}};
+ghost use Rattle.iref.specs.{Authority.{read_authority, spell_authority}, Grammar.{at_sign, colon}};
+ghost use Rattle.iref.specs.{ComponentOffsets.{place_from}, Texts.{part_then, then_part}};
+ghost use Rattle.iref.specs.{AuthoritySlices.{authority_of}, ReferenceSlices.{value_of}};
+ghost use Rattle.iref.specs.Reference.{read_reference, spell};
 ghost use Rattle.iref_c.specs.PartPlaces.{all_places, authority_places, place_for_c, places_from};
 
-use iref_parse::authority::{AuthoritySlices, split_parts};
-use iref_parse::offsets::offsets_of;
-use iref_parse::split::{ReferenceSlices, split_reference};
+use iref::{AuthoritySlices, ReferenceSlices, offsets_of, split_authority, split_reference};
 use std::ops::Range;
 
 /// Where a component stands in its text, in bytes.
@@ -139,7 +138,7 @@ fn places_at(place: Place, authority: Option<&str>) -> AuthorityPlaces
         (option_map read_authority (option_copied authority.entry)) }
 {
     match authority {
-        Some(authority) => places_from(place.start, split_parts(authority)),
+        Some(authority) => places_from(place.start, split_authority(authority)),
         None => AuthorityPlaces {
             user_info: ABSENT,
             host: ABSENT,

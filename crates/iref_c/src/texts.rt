@@ -8,9 +8,8 @@ ghost use Rattle.std.specs.Prelude.{⊤};
 ghost use Rattle.iref.specs.PathSteps as step;
 
 use crate::status::{INVALID, MEMORY, SECOND_INVALID};
-use crate::tell::two_references;
-use crate::write::write_text;
-use iref::iri::{Iri, IriRef, Path};
+use crate::write::{write_composed, write_text};
+use iref::iri::{IriParts, IriRef, IriRefParts, Path};
 use std::alloc::Global;
 
 /// Writes the normal form of a path.
@@ -37,7 +36,6 @@ pub extern "C" fn iref_normalize_path(
 /// Writes what a reference resolves to against a base.
 #[unsafe(no_mangle)]
 pub extern "C" fn iref_resolve(
-    alloc: Global,
     reference: &[u8],
     base: &[u8],
     out: &mut [u8],
@@ -47,14 +45,14 @@ pub extern "C" fn iref_resolve(
         (spell (resolved (read_reference base.now) (read_reference reference.now)))
         out.old out.new needed.old needed.new result }
 {
-    let Ok(reference) = IriRef::from_bytes(reference) else {
+    let Ok(reference) = IriRefParts::from_bytes(reference) else {
         return INVALID;
     };
-    let Ok(base) = Iri::from_bytes(base) else {
+    let Ok(base) = IriParts::from_bytes(base) else {
         return SECOND_INVALID;
     };
-    match reference.resolved(alloc, base) {
-        Ok(iri) => write_text(iri.as_bytes(), out, needed),
+    match reference.resolved(&base) {
+        Ok(iri) => write_composed(&iri, out, needed),
         Err(_) => MEMORY,
     }
 }
@@ -62,7 +60,6 @@ pub extern "C" fn iref_resolve(
 /// Writes a reference that leads from a base to a target.
 #[unsafe(no_mangle)]
 pub extern "C" fn iref_relative(
-    alloc: Global,
     target: &[u8],
     base: &[u8],
     out: &mut [u8],
@@ -72,12 +69,14 @@ pub extern "C" fn iref_relative(
         (spell (relative_to (read_reference target.now) (read_reference base.now)))
         out.old out.new needed.old needed.new result }
 {
-    let (target, base) = match two_references(target, base) {
-        Ok(both) => both,
-        Err(status) => return status,
+    let Ok(target) = IriRefParts::from_bytes(target) else {
+        return INVALID;
     };
-    match target.relative_to(alloc, base) {
-        Ok(reference) => write_text(reference.as_bytes(), out, needed),
+    let Ok(base) = IriRefParts::from_bytes(base) else {
+        return SECOND_INVALID;
+    };
+    match target.relative_to(&base) {
+        Ok(reference) => write_composed(&reference, out, needed),
         Err(_) => MEMORY,
     }
 }

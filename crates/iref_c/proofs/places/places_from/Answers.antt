@@ -1,6 +1,6 @@
 use Rattle.std.proofs.Common.{ap, arith}
 use Rattle.iref_c.proofs.PlaceLemmas.{length-spelled}
-use Rattle.iref_parse.specs.AuthoritySlices.{authority_of}
+use Rattle.iref.specs.AuthoritySlices.{authority_of}
 use Rattle.iref_c.proofs.places.places_from.Goals as goal
 
 pub part_before-host_start-requires : goal.part_before-host_start-requires

@@ -1,5 +1,5 @@
 use Rattle.std.proofs.Common.{◌∙◌}
-use Rattle.iref_parse.specs.ReferenceSlices.{value_of}
+use Rattle.iref.specs.ReferenceSlices.{value_of}
 use Rattle.iref_c.specs.PartPlaces.{all_places}
 use Rattle.iref_c.proofs.PlaceLemmas.{authority-placed, place-ends, placed-parts}
 use Rattle.iref_c.proofs.places.Places.of_slices.Goals as goal
