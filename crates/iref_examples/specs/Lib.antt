@@ -1,0 +1,3 @@
+pub mod Caches
+pub mod Components
+pub mod Links

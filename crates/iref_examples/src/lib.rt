@@ -1,0 +1,109 @@
+//! Functions as a caller writes them, each proved from the public clauses of `iref` alone: here
+//! those of one reference or path, and a module for each longer example.
+#![tactic(auto)]
+
+ghost use Rattle.std.specs.Prelude.{◌≡◌, ◌↔◌, IfOk, MatchOption, count_by, fold, length, map, max};
+ghost use Rattle.std.specs.Prelude.{reverse, true};
+ghost use Rattle.iref.specs.{Characters.{uri_chars}, ComponentTexts.{spell_components}};
+ghost use Rattle.iref.specs.{Grammar.{IsUriReference}, Reference.{read_reference}, Rules.{InUtf8}};
+ghost use Rattle.iref.specs.{Parts.{uri_ref_part_texts}, Texts.{is_empty}};
+ghost use Rattle.iref.specs.{NormalList.{normal_segments}, Components.{text_of}};
+ghost use Rattle.iref.specs.{Paths.{path_value}, Key.{are_alike}, References.{reference_value}};
+ghost use Rattle.iref.specs.{CountedEquality.{IsCountedAnswer}, PathKey.{path_key}};
+
+pub mod cache;
+pub mod context;
+pub mod editors;
+pub mod mapping;
+pub mod mirror;
+pub mod validator;
+
+use iref::uri::{
+    Path, Segment, Steps, Uri, UriRef, UriRefParts, new_steps_have_room, path_eq_counted,
+};
+use std::alloc::{AllocError, Global};
+
+/// The components of a reference, as slices of its text; None exactly where the text is none.
+pub fn parts_of(text: &str) -> Option<UriRefParts<'_>>
+    ensures { MatchOption result (¬ (InUtf8 (IsUriReference uri_chars) text.now))
+        (λ parts. InUtf8 (IsUriReference uri_chars) text.now
+        × (uri_ref_part_texts parts ≡ spell_components (read_reference text.now))) }
+{
+    Some(UriRef::new(text).ok()?.parts())
+}
+
+/// Whether two URIs mean the same.
+pub fn mean_the_same(a: Uri<'_>, b: Uri<'_>) -> bool
+    ensures { result ≡ are_alike (reference_value a.entry) (reference_value b.entry) }
+{
+    a == b
+}
+
+/// Whether two paths are equal, and how many segments were read to tell it.
+pub fn compared(a: Path<'_>, b: Path<'_>) -> (bool, u128)
+    ensures equal { (result.0 ≡ true)
+        ↔ (path_key (path_value a.entry) ≡ path_key (path_value b.entry)) }
+    ensures counted { IsCountedAnswer (path_value a.entry) (path_value b.entry)
+        result.0 result.1 }
+{
+    new_steps_have_room(a, b);
+    let mut steps = Steps::new();
+    let equal = path_eq_counted(a, b, &mut steps);
+    (equal, steps.count())
+}
+
+/// How many segments of the path are empty.
+pub fn empty_segment_count(path: Path<'_>) -> usize
+    ensures { result ≡ count_by is_empty (path_value path.entry).segments }
+{
+    let mut count = 0;
+    for segment in path.segments() {
+        if segment.is_empty() {
+            count += 1;
+        }
+    }
+    count
+}
+
+/// The segments of the path, in a vector.
+pub fn segment_list<'a>(path: Path<'a>, alloc: Global) -> Result<Vec<Segment<'a>>, AllocError>
+    ensures { IfOk result (λ list. map text_of list.items ≡ (path_value path.entry).segments) }
+{
+    path.segments().collect(alloc)
+}
+
+/// The segments of the path, the last one first.
+pub fn reversed_segment_list<'a>(
+    path: Path<'a>,
+    alloc: Global,
+) -> Result<Vec<Segment<'a>>, AllocError>
+    ensures { IfOk result
+        (λ list. map text_of list.items ≡ reverse (path_value path.entry).segments) }
+{
+    path.segments().rev().collect(alloc)
+}
+
+/// The normal segments of the path, in a vector.
+pub fn normal_segment_list<'a>(
+    path: Path<'a>,
+    alloc: Global,
+) -> Result<Vec<Segment<'a>>, AllocError>
+    ensures { IfOk result
+        (λ list. map text_of list.items ≡ normal_segments (path_value path.entry)) }
+{
+    path.normalized_segments().collect(alloc)
+}
+
+/// The longest of the path's segments, in bytes; 0 where it has none.
+pub fn longest_segment_length(path: Path<'_>) -> usize
+    ensures { result ≡ fold (λ longest segment. max longest (length segment)) 0
+        (path_value path.entry).segments }
+{
+    let mut longest = 0;
+    for segment in path {
+        if segment.len() > longest {
+            longest = segment.len();
+        }
+    }
+    longest
+}

@@ -1,0 +1,33 @@
+//! Links told from the page that they stand on.
+ghost use Rattle.std.specs.Prelude.{IfOk, MatchOption};
+ghost use Rattle.iref.specs.{Characters.{uri_chars}, Grammar.{IsUri, IsUriReference}};
+ghost use Rattle.iref.specs.{Reference.{read_reference}, Rules.{InUtf8}};
+ghost use Rattle.iref.specs.References.{reference_buf_value, reference_value};
+ghost use Rattle.iref_examples.specs.Links.{IsRelinked};
+
+use iref::Memory;
+use iref::uri::{Uri, UriRef, UriRefBuf};
+use std::alloc::Global;
+
+/// The link from its page: on `http://a/b/c`, `http://a/b/x/../d#e` is `d#e`. It leads where the
+/// link leads, and is without scheme and authority where they are the page's.
+pub fn from_page(alloc: Global, page: Uri<'_>, link: UriRef<'_>) -> Result<UriRefBuf, Memory>
+    ensures { IfOk result (λ answer. IsRelinked (reference_value page.entry)
+        (reference_value link.entry) (reference_buf_value answer)) }
+{
+    let target = link.resolved(alloc, page)?;
+    target.as_uri_ref().relative_to(alloc, page.as_uri_ref())
+}
+
+/// The same of texts; None exactly where the page is no URI or the link no reference.
+pub fn relinked(alloc: Global, page: &str, link: &str) -> Result<Option<UriRefBuf>, Memory>
+    ensures { IfOk result (λ answer. MatchOption answer
+        (¬ (InUtf8 (IsUri uri_chars) page.now × InUtf8 (IsUriReference uri_chars) link.now))
+        (λ answer. IsRelinked (read_reference page.now) (read_reference link.now)
+        (reference_buf_value answer))) }
+{
+    let (Ok(page), Ok(link)) = (Uri::new(page), UriRef::new(link)) else {
+        return Ok(None);
+    };
+    Ok(Some(from_page(alloc, page, link)?))
+}

@@ -1,0 +1,71 @@
+//! Which component of a text keeps it from being an IRI reference.
+ghost use Rattle.std.specs.Prelude.{MatchResult};
+ghost use Rattle.iref.specs.{Characters.{iri_chars}, ComponentTexts.{spell_components}};
+ghost use Rattle.iref.specs.{Grammar.{IsUriReference}, Reference.{read_reference}, Rules.{InUtf8}};
+ghost use Rattle.iref_examples.specs.Components.{IsChecked, IsFirstOutside};
+
+use iref::iri::{Authority, Fragment, Path, Query, Scheme};
+use iref::split_reference;
+use std::convert::TryFrom;
+use std::fmt;
+
+/// A component of a reference (RFC 3986 section 3).
+#[derive(Clone, Copy)]
+pub enum Component {
+    /// What stands before the first `:`, where no `/`, `?` or `#` is before that.
+    Scheme,
+    /// What stands between `//` and the next `/`, `?` or `#`.
+    Authority,
+    /// What follows, up to the next `?` or `#`.
+    Path,
+    /// What stands between `?` and the next `#`.
+    Query,
+    /// What follows `#`.
+    Fragment,
+}
+
+impl fmt::Display for Component {
+    fn fmt<W: fmt::Write>(&self, f: &mut fmt::Formatter<W>) -> fmt::Result {
+        f.write_str(match self {
+            Component::Scheme => "scheme",
+            Component::Authority => "authority",
+            Component::Path => "path",
+            Component::Query => "query",
+            Component::Fragment => "fragment",
+        })
+    }
+}
+
+// Whether the text, if there is one, is of the type; else the error names the component.
+fn check<'a, T: TryFrom<&'a str>>(
+    component: Component,
+    text: Option<&'a str>,
+) -> Result<(), Component>
+where
+    T: Drop,
+    T::Error: Drop,
+    ensures { IsChecked T.try_from_gives component text.entry result }
+{
+    let Some(text) = text else {
+        return Ok(());
+    };
+    match T::try_from(text) {
+        Ok(_) => Ok(()),
+        Err(_) => Err(component),
+    }
+}
+
+/// Whether the text is an IRI reference; else the error names the first of its components, as it
+/// is cut by RFC 3986 appendix B, that is outside its rule.
+pub fn checked(text: &str) -> Result<(), Component>
+    ensures { MatchResult result (λ _. InUtf8 (IsUriReference iri_chars) text.now)
+        (λ component. (¬ (InUtf8 (IsUriReference iri_chars) text.now))
+        × IsFirstOutside component (spell_components (read_reference text.now))) }
+{
+    let parts = split_reference(text);
+    check::<Scheme>(Component::Scheme, parts.scheme)?;
+    check::<Authority>(Component::Authority, parts.authority)?;
+    check::<Path>(Component::Path, Some(parts.path))?;
+    check::<Query>(Component::Query, parts.query)?;
+    check::<Fragment>(Component::Fragment, parts.fragment)
+}

@@ -1,0 +1,115 @@
+//! Answers lines by the examples: `put<TAB>URI<TAB>value` and `get<TAB>URI` by the cache,
+//! `relink<TAB>page<TAB>link` by the mirror, `prefix<TAB>label<TAB>IRI`, `shorten<TAB>IRI` and
+//! `expand<TAB>label:rest` by the context, `check<TAB>text` by the validator.
+#![tactic(auto)]
+
+use iref::Memory;
+use iref::compact::Prefixes;
+use iref::iri::Iri;
+use iref_examples::cache::{self, Cache, uri_of};
+use iref_examples::context::shortened;
+use iref_examples::mirror::relinked;
+use iref_examples::validator::checked;
+use std::alloc::Global;
+use std::collections::HashMap;
+use std::io;
+
+// What lasts from line to line.
+#[derive(Drop)]
+struct Tables {
+    cache: Cache,
+    context: Prefixes,
+}
+
+fn owned(alloc: Global, text: &str) -> Result<String, Memory> {
+    Ok(String::from_str(alloc, text)?)
+}
+
+fn put(alloc: Global, cache: &mut Cache, uri: &str, value: &str) -> Result<String, Memory> {
+    let Some(uri) = uri_of(alloc, uri)? else {
+        return owned(alloc, "error invalid");
+    };
+    cache::put(cache, uri, owned(alloc, value)?)?;
+    owned(alloc, "ok")
+}
+
+fn get(alloc: Global, cache: &Cache, uri: &str) -> Result<String, Memory> {
+    let Some(uri) = uri_of(alloc, uri)? else {
+        return owned(alloc, "error invalid");
+    };
+    match cache::get(cache, &uri) {
+        Some(value) => Ok(format!(in alloc; "={value}")?),
+        None => owned(alloc, "-"),
+    }
+}
+
+fn relink(alloc: Global, page: &str, link: &str) -> Result<String, Memory> {
+    match relinked(alloc, page, link)? {
+        Some(link) => Ok(format!(in alloc; "ok\t{link}")?),
+        None => owned(alloc, "error invalid"),
+    }
+}
+
+fn prefix(alloc: Global, context: &mut Prefixes, label: &str, iri: &str) -> Result<String, Memory> {
+    let Ok(iri) = Iri::new(iri) else {
+        return owned(alloc, "error: not an IRI");
+    };
+    match context.insert(label, iri) {
+        Ok(()) => owned(alloc, "ok"),
+        Err(error) => Ok(format!(in alloc; "error: {error}")?),
+    }
+}
+
+fn shorten(alloc: Global, context: &Prefixes, iri: &str) -> Result<String, Memory> {
+    let Ok(iri) = Iri::new(iri) else {
+        return owned(alloc, "error: not an IRI");
+    };
+    match shortened(alloc, context, iri)? {
+        Some(short) => Ok(short),
+        None => owned(alloc, iri.as_str()),
+    }
+}
+
+fn expand(alloc: Global, context: &Prefixes, short: &str) -> Result<String, Memory> {
+    match context.expand(alloc, short) {
+        Ok(iri) => Ok(iri.into_string()),
+        Err(error) => Ok(format!(in alloc; "error: {error}")?),
+    }
+}
+
+fn check(alloc: Global, reference: &str) -> Result<String, Memory> {
+    match checked(reference) {
+        Ok(()) => owned(alloc, "ok"),
+        Err(component) => Ok(format!(in alloc; "error {component}")?),
+    }
+}
+
+// The answer to a line, whose verb alone is followed by an empty field; `get` alone is no command.
+fn answer(alloc: Global, tables: &mut Tables, line: &str) -> Result<String, Memory> {
+    let (verb, rest) = line.split_once('\t').unwrap_or((line, ""));
+    match (verb, rest.split_once('\t')) {
+        ("put", Some((uri, value))) => put(alloc, &mut tables.cache, uri, value),
+        ("get", None) if verb.len() < line.len() => get(alloc, &tables.cache, rest),
+        ("relink", Some((page, link))) => relink(alloc, page, link),
+        ("put" | "get" | "relink", _) => owned(alloc, "error command"),
+        ("prefix", Some((label, iri))) => prefix(alloc, &mut tables.context, label, iri),
+        ("shorten", None) => shorten(alloc, &tables.context, rest),
+        ("expand", None) => expand(alloc, &tables.context, rest),
+        ("check", _) => check(alloc, rest),
+        _ => owned(alloc, "error: no command"),
+    }
+}
+
+fn main(rt: HostRuntime) -> io::Result<()> {
+    let mut tables = Tables {
+        cache: HashMap::new(rt.alloc()),
+        context: Prefixes::new(rt.alloc()),
+    };
+    for line in rt.lines(rt.alloc()) {
+        match answer(rt.alloc(), &mut tables, line?.as_str()) {
+            Ok(answer) => println!(rt; "{answer}")?,
+            Err(Memory) => println!(rt; "error memory")?,
+        }
+    }
+    Ok(())
+}
