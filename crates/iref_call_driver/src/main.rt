@@ -1,0 +1,98 @@
+//! Makes the public call that each line names, and writes what it answers: once, and again where
+//! memory was refused. A line is the family, what the call is made on, the call, the text, what
+//! stands where memory is refused, and perhaps an argument, with TABs between.
+#![tactic(auto)]
+
+mod answer;
+mod authorities;
+mod bytes;
+mod copies;
+mod families;
+mod handed_back;
+mod hands_back;
+mod lists;
+mod made;
+mod paths;
+mod prefixes;
+mod references;
+mod row;
+mod step;
+mod subject;
+mod texts;
+mod urls;
+mod views;
+
+use authorities::AuthorityOf;
+use bytes::{AuthorityBytes, PathBytes};
+use families::{Converted, MappedIri, MappedRef};
+use handed_back::{OfScheme, Resolving};
+use iref::chars::{CharSet, IriChars, UriChars};
+use iref_component::authority::AuthorityBuf;
+use iref_component::path_buf::PathBuf;
+use iref_reference::owner::{UriBuf, UriRefBuf};
+use lists::Listed;
+use made::Made;
+use paths::PathOf;
+use prefixes::Table;
+use row::Row;
+use std::io;
+use subject::answer;
+use urls::{FromUrl, UrlOf};
+use views::Views;
+
+// Answers a line whose call is made on a part of a reference, or on bytes.
+fn answer_of_part<C: CharSet>(rt: &HostRuntime, row: &Row<'_>) -> io::Result<()> {
+    match row.on {
+        "AuthorityBuf" => answer::<AuthorityBuf<C>>(rt, row),
+        "AuthorityBuf.as_authority_mut" => answer::<AuthorityOf<AuthorityBuf<C>, C>>(rt, row),
+        "UriRefBuf.authority_mut" => answer::<AuthorityOf<UriRefBuf<C>, C>>(rt, row),
+        "UriBuf.authority_mut" => answer::<AuthorityOf<UriBuf<C>, C>>(rt, row),
+        "AuthorityMut" => answer::<AuthorityBytes<C>>(rt, row),
+        "PathBuf" => answer::<PathBuf<C>>(rt, row),
+        "PathBuf.as_path_mut" => answer::<PathOf<PathBuf<C>, C>>(rt, row),
+        "UriRefBuf.path_mut" => answer::<PathOf<UriRefBuf<C>, C>>(rt, row),
+        "UriBuf.path_mut" => answer::<PathOf<UriBuf<C>, C>>(rt, row),
+        "PathMut" => answer::<PathBytes<C>>(rt, row),
+        _ => answer::<Made<C>>(rt, row),
+    }
+}
+
+// Answers a line of a family.
+fn answer_of<C: CharSet>(rt: &HostRuntime, row: &Row<'_>) -> io::Result<()> {
+    match row.on {
+        "UriRefBuf" => answer::<UriRefBuf<C>>(rt, row),
+        "UriBuf" => answer::<UriBuf<C>>(rt, row),
+        "UriRefBuf list" => answer::<Listed<UriRefBuf<C>, C>>(rt, row),
+        "UriBuf list" => answer::<Listed<UriBuf<C>, C>>(rt, row),
+        "UriRefBuf taken" => answer::<Resolving<C>>(rt, row),
+        "SchemeBuf" => answer::<OfScheme<C>>(rt, row),
+        "UriBuf URL" => answer::<UrlOf<C>>(rt, row),
+        "URL UriBuf" => answer::<FromUrl<UriBuf<C>>>(rt, row),
+        "URL UriRefBuf" => answer::<FromUrl<UriRefBuf<C>>>(rt, row),
+        "view" => answer::<Views<C>>(rt, row),
+        _ => answer_of_part::<C>(rt, row),
+    }
+}
+
+// Answers a line of IRIs.
+fn answer_of_iri(rt: &HostRuntime, row: &Row<'_>) -> io::Result<()> {
+    match row.on {
+        "IriRefBuf" => answer::<MappedRef>(rt, row),
+        "IriBuf" => answer::<MappedIri>(rt, row),
+        "Prefixes" => answer::<Table>(rt, row),
+        "conversions" => answer::<Converted>(rt, row),
+        _ => answer_of::<IriChars>(rt, row),
+    }
+}
+
+fn main(rt: HostRuntime) -> io::Result<()> {
+    for line in rt.lines(rt.alloc()) {
+        let line = line?;
+        let (family, row) = Row::of(line.as_str());
+        match family {
+            "uri" => answer_of::<UriChars>(&rt, &row)?,
+            _ => answer_of_iri(&rt, &row)?,
+        }
+    }
+    Ok(())
+}

@@ -1,0 +1,79 @@
+//! The fields of a line.
+use std::alloc::{AllocError, Global};
+
+/// A call, and what it is made on.
+#[derive(Clone, Copy, Drop)]
+pub struct Row<'t> {
+    /// What the call is made on.
+    pub on: &'t str,
+    /// The call.
+    pub call: &'t str,
+    /// The text of what the call is made on, with marks `<` and `>` round a part that is edited.
+    pub text: &'t str,
+    /// What stands where memory is refused: `=` if that is the text as it was, `-` if the call takes
+    /// no memory, and else the text, perhaps a space, and what stands after the call made again.
+    left: &'t str,
+    /// The argument, if there is one.
+    pub arg: Option<&'t str>,
+}
+
+// What is before the first TAB, and after it.
+fn cut(text: &str) -> (&str, &str) {
+    text.split_once('\t').unwrap_or((text, ""))
+}
+
+// How many bytes there are beside marks.
+fn unmarked_len(text: &str) -> usize {
+    let mut len = 0usize;
+    for byte in text.bytes() {
+        if byte != b'<' && byte != b'>' {
+            len = len.saturating_add(1);
+        }
+    }
+    len
+}
+
+impl<'t> Row<'t> {
+    /// The family and the row of a line.
+    pub fn of(line: &'t str) -> (&'t str, Row<'t>) {
+        let (family, rest) = cut(line);
+        let (on, rest) = cut(rest);
+        let (call, rest) = cut(rest);
+        let (text, rest) = cut(rest);
+        let (left, arg) = match rest.split_once('\t') {
+            Some((left, arg)) => (left, Some(arg)),
+            None => (rest, None),
+        };
+        let row = Row {
+            on,
+            call,
+            text,
+            left,
+            arg,
+        };
+        (family, row)
+    }
+
+    /// The argument, which is empty where there is none.
+    pub fn needed(&self) -> &'t str {
+        self.arg.unwrap_or("")
+    }
+
+    // How much room the buffer has: for exactly what is to stand where memory is refused.
+    fn room(&self) -> usize {
+        match self.left.split_once(' ') {
+            Some((stands, _)) => unmarked_len(stands),
+            None if self.left == "=" || self.left == "-" => unmarked_len(self.text),
+            None => unmarked_len(self.left),
+        }
+    }
+
+    /// The text without marks, in a buffer with no more room than is to be.
+    pub fn owned(&self, alloc: Global) -> Result<String, AllocError> {
+        let mut text = String::with_capacity(alloc, self.room())?;
+        for piece in self.text.split(['<', '>']) {
+            text.push_str(piece)?;
+        }
+        Ok(text)
+    }
+}
