@@ -1,4 +1,4 @@
--- Links told from the page that they stand on.
+-- Links rewritten relative to their page.
 use Rattle.iref.specs.Key.{AreAlike}
 use Rattle.iref.specs.Reference.{ReferenceValue}
 use Rattle.iref.specs.Relatives.{ClimbsNoMore, WritesPathAlone}

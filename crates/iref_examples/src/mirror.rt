@@ -1,4 +1,4 @@
-//! Links told from the page that they stand on.
+//! Links rewritten relative to their page (RFC 3986 section 5.2).
 ghost use Rattle.std.specs.Prelude.{IfOk, MatchOption};
 ghost use Rattle.iref.specs.{Characters.{uri_chars}, Grammar.{IsUri, IsUriReference}};
 ghost use Rattle.iref.specs.{Reference.{read_reference}, Rules.{InUtf8}};
@@ -9,8 +9,9 @@ use iref::Memory;
 use iref::uri::{Uri, UriRef, UriRefBuf};
 use std::alloc::Global;
 
-/// The link from its page: on `http://a/b/c`, `http://a/b/x/../d#e` is `d#e`. It leads where the
-/// link leads, and is without scheme and authority where they are the page's.
+/// The link, rewritten relative to its page: on `http://a/b/c`, `http://a/b/x/../d#e` becomes
+/// `d#e`. Both resolve to equal URIs. Where scheme and authority are the page's and the path begins
+/// at the root, the result has neither.
 pub fn from_page(alloc: Global, page: Uri<'_>, link: UriRef<'_>) -> Result<UriRefBuf, Memory>
     ensures { IfOk result (λ answer. IsRelinked (reference_value page.entry)
         (reference_value link.entry) (reference_buf_value answer)) }
