@@ -72,7 +72,7 @@ done_in allows edit r keeps h = subst (λ (outcome : Result ReferenceValue EditR
 pub part_done_in : (allows : Option Text → Bool) (edit : EditStep) (r : ReferenceValue) → is_authority_edit edit ≡ true → is_some r.authority ≡ true → IsOk (edited_in allows edit r)
 part_done_in allows edit r h some = subst (λ (outcome : Result ReferenceValue EditRefusal). IsOk outcome) (sym (kept_in allows edit r (keeps_scheme edit h) refl)) (part_done edit r h some)
 
--- an edit is refused also where the texts of the parts tell that there is none
+-- an edit is refused also where the texts of the parts show no authority
 pub refused_in : {A : Type 0} (allows : Option Text → Bool) (edit : EditStep) (r : ReferenceValue) (text_of : A → Text) (found : Option A) → is_authority_edit edit ≡ true
     → option_map text_of found ≡ option_map spell_authority r.authority → is_none found ≡ true → edited_in allows edit r ≡ Err model.NoAuthority
 refused_in allows edit r text_of found h e none = kept_in allows edit r (keeps_scheme edit h) (refused_without edit r h (by found r.authority e none))
@@ -82,7 +82,7 @@ refused_in allows edit r text_of found h e none = kept_in allows edit r (keeps_s
     by None (Some a) e none = absurd (cc)
     by (Some x) (Some a) e none = absurd (cc)
 
--- where they tell that there is one
+-- where they show an authority
 pub found_in : {A : Type 0} (r : ReferenceValue) (text_of : A → Text) (found : Option A) → option_map text_of found ≡ option_map spell_authority r.authority → is_none found ≡ false → is_some r.authority ≡ true
 found_in r text_of found e some = by found r.authority e some
   where

@@ -21,7 +21,7 @@ may_take_memory (SetFragment fragment) = is_some fragment
 may_take_memory Clear = false
 may_take_memory edit = true
 
--- an edit is refused for this reason; or it is not refused, and wants memory
+-- an edit is refused for this reason; or it is not refused, and is out of memory
 abbrev pub Refuses : Edited → EditStep → ReferenceValue → EditFault → Type 0
 Refuses edited edit r NoAuthority = edited edit r ≡ Err model.NoAuthority
 Refuses edited edit r SchemeNeeded = edited edit r ≡ Err model.SchemeNeeded
@@ -32,7 +32,7 @@ abbrev pub AppliesEdit : Edited → EditStep → Text → Text → Result (Unit 
 AppliesEdit edited edit old new (Ok done) = edited edit (read_reference old) ≡ Ok (read_reference new)
 AppliesEdit edited edit old new (Err error) = (new ≡ old) × Refuses edited edit (read_reference old) error
 
--- the edit is done, or wants memory that it may take, with nothing changed
+-- the edit is done; or it may take memory, is out of memory, and changes nothing
 abbrev pub DoesEdit : {E : Type 0} → EditStep → Text → Text → Result (Unit {0}) E → Type 0
 DoesEdit edit old new result =
     OnOk result (edited edit (read_reference old) ≡ Ok (read_reference new)) × OnErr result ((new ≡ old) × (may_take_memory edit ≡ true))
@@ -45,7 +45,7 @@ edited_in allows = if allows None then edited else edited_uri
 abbrev pub AreDone : Edited → List EditStep → ReferenceValue → ReferenceValue → Type 0
 AreDone edited edits old new = edited_from edited 0 edits old ≡ Ok new
 
--- the edit of this number is refused, or it is not refused and wants memory; and those before it are done
+-- the edit of this number is refused, or it is not refused and is out of memory; and those before it are done
 abbrev pub StopsAt : Edited → List EditStep → ReferenceValue → ReferenceValue → ℕ → EditFault → Type 0
 StopsAt edited edits old new i NoAuthority = edited_from edited 0 edits old ≡ Err (i, model.NoAuthority, new)
 StopsAt edited edits old new i SchemeNeeded = edited_from edited 0 edits old ≡ Err (i, model.SchemeNeeded, new)

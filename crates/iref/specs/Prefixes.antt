@@ -14,7 +14,7 @@ use Rattle.iref.specs.declared.compact.ExpandFault.TheVariants.{NoColon, Unknown
 abbrev pub compact_value : Compact → CompactValue
 compact_value c = record { label = c.label.now; rest = c.rest.now }
 
--- an insert is refused for this reason, or wants memory
+-- an insert is refused for this reason, or is out of memory
 abbrev pub RefusesInsert : Result PrefixTable InsertRefusal → PrefixFault → Type 0
 RefusesInsert answer BadLabel = answer ≡ Err table.BadLabel
 RefusesInsert answer Taken = answer ≡ Err table.Taken

@@ -19,7 +19,7 @@ pub use shared::{
 };
 pub use uri::{InvalidUri, InvalidUriRef, Uri, UriBuf, UriError, UriRef, UriRefBuf};
 
-/// What code names that serves all components, or all references, alike.
+/// The names for code that serves all components, or all references.
 pub mod rules {
     pub use iref_buffer::held::HeldRule;
     pub use iref_component::rule::Rule;

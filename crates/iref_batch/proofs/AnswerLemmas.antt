@@ -117,9 +117,9 @@ pub no_normal_answer : (text : Text) → ¬ (InUtf8 (IsPath iri_chars) text) →
 unfolding is_valid
 no_normal_answer text h = invalid (Normal text) (no_path text h)
 
-pub equal_answer : (left right : Text) (r s : ReferenceValue) (alike : Bool) → InUtf8 (IsUriReference iri_chars) left → InUtf8 (IsUriReference iri_chars) right → r ≡ read_reference left → s ≡ read_reference right → alike ≡ are_alike r s → answer_if_valid iri_chars (Equal left right) ≡ Answered (yes_or_no alike)
+pub equal_answer : (left right : Text) (r s : ReferenceValue) (equal : Bool) → InUtf8 (IsUriReference iri_chars) left → InUtf8 (IsUriReference iri_chars) right → r ≡ read_reference left → s ≡ read_reference right → equal ≡ are_alike r s → answer_if_valid iri_chars (Equal left right) ≡ Answered (yes_or_no equal)
 unfolding is_valid answer_to
-equal_answer left right r s alike h k e f a =
+equal_answer left right r s equal h k e f a =
     valid (Equal left right) (rw (reference left h, reference right k) refl) ∙ ap (λ (b : Bool). Answered (yes_or_no b)) (sym (a ∙ (λ i. are_alike (e i) (f i))))
 
 -- one text twice

@@ -44,7 +44,7 @@ begun_with text before contents lines others replies out lost e a d w = record {
 pub breaks_at_line : (tail others : Text) (old new : Option Text) (lines : Lines) → IsLine tail → ((line : Text) → Holds lines.begun line → RepliesPart (line ++ tail) old new lines.gathered.bytes.items) → BreaksOff (tail ++ newline ∷ others) old new lines
 breaks_at_line tail others old new lines l f seen before s =
     let r = f s.line s.kept in
-    let q = r.2 (before ++ s.out) s.told in
+    let q = r.2 (before ++ s.out) s.known in
     begun_with (seen ++ (tail ++ newline ∷ others)) before new (s.ended ++ (s.line ++ tail) ∷ []) (lines_of others) (s.replies ++ r.0 ∷ []) (s.out ++ q.0) q.1
     (ap lines_of (ap (λ (t : Text). t ++ (tail ++ newline ∷ others)) s.seen_is ∙ next_line s.ended s.line tail others) ∙
     lines_of_next s.ended (s.line ++ tail) others s.are_lines (line-append s.line tail s.is_line l))
@@ -55,7 +55,7 @@ breaks_at_line tail others old new lines l f seen before s =
 -- a write fails while replies are written
 pub breaks_at_flush : (others : Text) (old new : Option Text) (lines : Lines) → WritesPart lines.gathered.bytes.items old new → BreaksOff others old new lines
 breaks_at_flush others old new lines f seen before s =
-    let q = f (before ++ s.out) s.told in
+    let q = f (before ++ s.out) s.known in
     begun_with (seen ++ others) before new s.ended (lines_of (s.line ++ others)) s.replies (s.out ++ q.0) q.1
     (ap lines_of (ap (λ (t : Text). t ++ others) s.seen_is ∙ append_assoc (with_newlines s.ended) s.line others) ∙ lines_of_lines s.ended (s.line ++ others) s.are_lines)
     s.answered
@@ -95,7 +95,7 @@ pub all_answered : (seen before : Text) (old new : Option Text) (lines : Lines) 
 all_answered seen before old new lines n w s = record {
   replies = s.replies;
   answered = rw (ap lines_of (s.seen_is ∙ ap (λ (t : Text). with_newlines s.ended ++ t) (nothing_begun lines.begun s.line n s.kept)) ∙ lines_of_ended s.ended s.are_lines) s.answered;
-  written = w (before ++ s.out) s.told ∙ ap Some (append_assoc before s.out lines.gathered.bytes.items ∙ ap (λ (t : Text). before ++ t) s.out_is);
+  written = w (before ++ s.out) s.known ∙ ap Some (append_assoc before s.out lines.gathered.bytes.items ∙ ap (λ (t : Text). before ++ t) s.out_is);
 }
 
 pub ended_answered : (input seen left before : Text) (reader_failed : Bool) (remaining contents : Option Text) (lines : Lines) → (reader_failed ≡ false → 2 ^ 64 - 1 ≤ length seen) → lines.gathered.bytes.items ≡ [] → input ≡ seen ++ left → remaining ≡ Some left → InRun seen before contents lines → EndsEarly input before reader_failed remaining contents
@@ -107,7 +107,7 @@ ended_answered input seen left before reader_failed remaining contents lines man
   still_left = r;
   long = many;
   answered = rw (ap ended_lines s.seen_is ∙ ended_lines_of s.ended s.line s.are_lines s.is_line) s.answered;
-  written = s.told ∙ ap (λ (t : Text). Some (before ++ t)) (sym (append-nil s.out) ∙ ap (λ (t : Text). s.out ++ t) (sym g) ∙ s.out_is);
+  written = s.known ∙ ap (λ (t : Text). Some (before ++ t)) (sym (append-nil s.out) ∙ ap (λ (t : Text). s.out ++ t) (sym g) ∙ s.out_is);
 }
 
 pub begun_is : (text same before : Text) (contents : Option Text) → text ≡ same → AnswersBegun text before contents → AnswersBegun same before contents

@@ -34,17 +34,17 @@ Puts text old new result = OnOk result (new ≡ old ++ text) × OnErr result (Ex
 abbrev pub PutsReply : {E : Type 0} → Request → Text → Text → Result (Unit {0}) E → Type 0
 PutsReply request = Puts (request_reply request)
 
--- where the writer tells its bytes, they have grown by the text
+-- where the bytes of the writer are known, they have grown by the text
 abbrev pub Writes : Text → Option Text → Option Text → Type 0
 Writes text old new = (xs : Text) → old ≡ Some xs → new ≡ Some (xs ++ text)
 
--- where the writer tells its bytes, they have grown by a beginning of the text
+-- where the bytes of the writer are known, they have grown by a beginning of the text
 abbrev pub WritesPart : Text → Option Text → Option Text → Type 0
 WritesPart text old new =
     (xs : Text) → old ≡ Some xs →
     (out : Text) × (lost : Text) × (new ≡ Some (xs ++ out)) × (text ≡ out ++ lost)
 
--- where the writer tells its bytes, these and the replies gathered have grown by the text
+-- where the bytes of the writer are known, these and the replies gathered have grown by the text
 abbrev pub Gains : Text → Option Text → Option Text → Text → Text → Type 0
 Gains text old new gathered gathered_then =
     (xs : Text) → old ≡ Some xs →
@@ -78,7 +78,7 @@ pub record InRun (seen before : Text) (contents : Option Text) (lines : Lines) :
   pub are_lines : All IsLine ended
   pub is_line : IsLine line
   pub answered : AllZip IsReply ended replies
-  pub told : contents ≡ Some (before ++ out)
+  pub known : contents ≡ Some (before ++ out)
   pub out_is : out ++ lines.gathered.bytes.items ≡ with_newlines replies
   pub kept : Holds lines.begun line
   pub some : lines.begun.is_refused ≡ true → is_empty line ≡ false

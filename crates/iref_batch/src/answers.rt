@@ -99,10 +99,10 @@ fn put_answer_to_normal(text: &[u8], out: &mut Vec<u8>) -> Result<(), Memory>
     put_answered(normal.as_bytes(), out)
 }
 
-fn yes_or_no(alike: bool) -> &'static [u8]
-    ensures { result.now ≡ yes_or_no alike }
+fn yes_or_no(equal: bool) -> &'static [u8]
+    ensures { result.now ≡ yes_or_no equal }
 {
-    if alike { b"yes" } else { b"no" }
+    if equal { b"yes" } else { b"no" }
 }
 
 /// Puts the answer to `equal`. A text is read once where it stands twice.

@@ -10,7 +10,7 @@ pub struct StreamError;
 
 /// A reader that is not called again once a call has failed, an interrupted one too.
 pub trait Source {
-    /// The bytes that reads will give from here on, where they are told.
+    /// The bytes that further reads return, where they are known.
     ghost remaining: { Self → Option (List ℕ) };
 
     /// A call has failed.
@@ -27,7 +27,7 @@ pub trait Source {
 
 /// A writer that is not called again once a call has failed, an interrupted one too.
 pub trait Sink {
-    /// The bytes that were written, where they are told.
+    /// The bytes that were written, where they are known.
     ghost contents: { Self → Option (List ℕ) };
 
     /// A call has failed.
@@ -63,7 +63,7 @@ impl<X> FromStd<X> {
         }
     }
 
-    /// Whether a call has failed: after a `RunError` this tells the reader's failure from the
+    /// Whether a call has failed: after a `RunError` this separates the reader's failure from the
     /// writer's.
     pub fn has_failed(&self) -> bool
         ensures { result ≡ has_failed self.now }

@@ -50,7 +50,7 @@ module _ (t b : ComponentTexts) (equal : Bool) (decides : Decides equal (path_ke
     pub query_lost : keeps ≡ false → false ≡ is_same_place (read_components t) (read_components b)
     query_lost h = (λ i. sym same i && sym h i && may_end_here (read_components t)) ∙ by_path keeps _ keeps_is refl
 
--- ---- by what the tests have told
+-- ---- by what the tests have found
 
 abbrev by_tests : ReferenceValue → ReferenceValue → Bool → Bool → Bool → ReferenceValue
 by_tests target base agrees same root =

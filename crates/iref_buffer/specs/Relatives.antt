@@ -8,7 +8,7 @@ use Rattle.iref_grammar.specs.Reference.{ReferenceValue}
 use Rattle.iref_model.specs.NormalList.{normal_segments}
 use Rattle.iref_model.specs.Relative.{have_same_authority, schemes_agree}
 
--- the target may be told without scheme and authority
+-- a reference to the target may leave out scheme and authority
 abbrev pub agree : ReferenceValue → ReferenceValue → Bool
 agree target base = schemes_agree target base && have_same_authority target base
 

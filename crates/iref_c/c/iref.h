@@ -6,7 +6,7 @@
  * they may run in several threads at once.
  *
  * Families. Each URI is an IRI, and each reference of URIs one of IRIs, so the calls on IRIs serve for URIs: of URIs they
- * answer URIs. iref_parse_uri and iref_parse_uri_reference tell whether a text is of the narrower family.
+ * answer URIs. iref_parse_uri and iref_parse_uri_reference say whether a text is of the narrower family.
  *
  * What the caller owes. No pointer is NULL, not even one of length 0. What is passed as a text holds that many bytes that
  * can be read, and does not change during the call. What is passed as a buffer holds that many bytes that can be read and

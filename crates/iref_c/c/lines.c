@@ -230,7 +230,7 @@ static void check_pair(struct text first, struct text second) {
     iref_compare(second.at, second.length, first.at, first.length, &back);
     expect(status == other, "equality and order differ in their status", first);
     if (status != IREF_OK) {
-        expect(equal == 7 && order == 7 && back == 7, "a refusal tells something", first);
+        expect(equal == 7 && order == 7 && back == 7, "a refused call stores something", first);
         return;
     }
     expect(equal == (order == 0) && order == -back, "equality and order do not agree", first);

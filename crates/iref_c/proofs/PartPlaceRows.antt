@@ -1,4 +1,4 @@
--- Worked rows of the places that C is told of the parts of an authority, computed.
+-- Worked rows of the ranges that C gets of the subcomponents of an authority, computed.
 use Prim.Native.String.{String}
 use Rattle.std.specs.Prelude.{◌≡◌, ℕ, List, [], ◌∷◌, map, codes, Option, Some, None, option_map, refl}
 use Rattle.iref_grammar.specs.Authority.{read_authority}
@@ -24,11 +24,11 @@ parts =
 abbrev place : Ends → Place
 place ends = place_for_c (option_map (λ (e : ℕ × ℕ). record { start = e.0; end = e.1 }) ends)
 
-abbrev told : Places → Place × Place × Place
-told places = (places.user_info, places.host, places.port)
+abbrev stored : Places → Place × Place × Place
+stored places = (places.user_info, places.host, places.port)
 
 parts_hold :
-    map (λ row. told (all_places (read_reference (codes row.0)))) parts
+    map (λ row. stored (all_places (read_reference (codes row.0)))) parts
     ≡ map (λ row. (place row.1, place row.2, place row.3)) parts
 unfolding all_places read_reference read_authority
 parts_hold = refl

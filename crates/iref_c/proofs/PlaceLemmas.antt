@@ -27,7 +27,7 @@ pub authority-placed : (r : ReferenceValue) (places : Offsets) (place : Place) �
 unfolding offsets_in
 authority-placed r places place e h = h ∙ ap (λ (o : Offsets). place_for_c o.authority) e
 
--- the place of an authority that is there ends so many bytes after its start
+-- the range of an authority that is there ends this number of bytes after its start
 pub place-ends : (start : ℕ) (text : Option Text) (place : Place) → place ≡ place_for_c (option_map (place_from start) (option_map spell_authority (option_map read_authority text)))
     → IfSome text (λ t. place.end ≡ place.start + length t)
 place-ends start None place e = tt

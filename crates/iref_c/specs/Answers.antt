@@ -6,34 +6,34 @@ use Rattle.iref_grammar.specs.Reference.{ReferenceValue, read_reference}
 use Rattle.iref_grammar.specs.Rules.{InUtf8, Rule, Text}
 use Rattle.iref_c.specs.declared.status.TheConstants.{OK, INVALID, SECOND_INVALID, SHORT, MEMORY}
 
--- A call on two texts, of which each is in its rule or not: where both are, it is done. Else it tells the first that is
--- not, and leaves all as it was. A call on one text has a second that always is.
+-- A call on two texts, of which each is in its rule or not: where both are, it is done. Else its status says which is the
+-- first that is not, and all stays as it was. A call on one text has a second that always is.
 pub record Answers (valid other_valid done unchanged : Type 0) (status : ℕ) : Type 0 where
   pub valid_done : valid → other_valid → done
   pub first_invalid : ¬ valid → (status ≡ INVALID) × unchanged
   pub second_invalid : valid → ¬ other_valid → (status ≡ SECOND_INVALID) × unchanged
 
--- a call that tells a value
-abbrev pub Tells : {V : Type 0} → Type 0 → Type 0 → V → V → V → ℕ → Type 0
-Tells valid other_valid value before after status = Answers valid other_valid ((status ≡ OK) × (after ≡ value)) (after ≡ before) status
+-- a call that writes a value
+abbrev pub Stores : {V : Type 0} → Type 0 → Type 0 → V → V → V → ℕ → Type 0
+Stores valid other_valid value before after status = Answers valid other_valid ((status ≡ OK) × (after ≡ value)) (after ≡ before) status
 
 -- the text of a reference of IRIs
 abbrev pub IsReference : Rule
 IsReference = InUtf8 (IsUriReference iri_chars)
 
--- a call that tells something of the components of a text of the rule
-abbrev pub TellsOf : {V : Type 0} → Rule → (ReferenceValue → V) → Text → V → V → ℕ → Type 0
-TellsOf rule value text = Tells (InUtf8 rule text) ⊤ (value (read_reference text))
+-- a call that writes a value of the components of a text of the rule
+abbrev pub StoresOf : {V : Type 0} → Rule → (ReferenceValue → V) → Text → V → V → ℕ → Type 0
+StoresOf rule value text = Stores (InUtf8 rule text) ⊤ (value (read_reference text))
 
--- a call that tells something of two references
-abbrev pub TellsOfTwo : {V : Type 0} → (ReferenceValue → ReferenceValue → V) → Text → Text → V → V → ℕ → Type 0
-TellsOfTwo value first second = Tells (IsReference first) (IsReference second) (value (read_reference first) (read_reference second))
+-- a call that writes a value of two references
+abbrev pub StoresOfTwo : {V : Type 0} → (ReferenceValue → ReferenceValue → V) → Text → Text → V → V → ℕ → Type 0
+StoresOfTwo value first second = Stores (IsReference first) (IsReference second) (value (read_reference first) (read_reference second))
 
 -- the status of the first of two texts that is not in its rule
-abbrev pub TellsInvalid : Type 0 → Type 0 → ℕ → Type 0
-TellsInvalid valid other_valid = Answers valid other_valid ⊥ ⊤
+abbrev pub ReportsInvalid : Type 0 → Type 0 → ℕ → Type 0
+ReportsInvalid valid other_valid = Answers valid other_valid ⊥ ⊤
 
--- the text stands first in the buffer, whose rest is as it was, or it is longer than the buffer; then its length is told
+-- the text stands first in the buffer, whose rest is as it was, or it is longer than the buffer; its length is written in both cases
 abbrev pub IsWritten : Text → Text → Text → ℕ → ℕ → Type 0
 IsWritten text before after needed status =
     (needed ≡ length text)

@@ -1,4 +1,4 @@
--- What the calls that compare tell, as numbers.
+-- The results of the calls that compare, as numbers.
 use Rattle.std.specs.Prelude.{ℕ, Bool, ℤ, pos, negsuc, fold, if◌then◌else◌}
 use Rattle.std.specs.declared.cmp.Ordering.{Ordering}
 use Rattle.std.specs.declared.cmp.Ordering.TheVariants.{Less, Equal, Greater}

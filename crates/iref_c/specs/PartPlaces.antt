@@ -32,7 +32,7 @@ abbrev pub authority_places : ℕ → Option AuthorityValue → AuthorityPlaces
 authority_places start None = record { user_info = place_for_c None; host = place_for_c None; port = place_for_c None }
 authority_places start (Some a) = places_from start a
 
--- all that C is told: the places of the components, and the parts of the authority
+-- all ranges that C gets: those of the components and of the subcomponents of the authority
 unfoldable pub all_places : ReferenceValue → Places
 all_places r =
     let parts = authority_places (authority_mark r + 2) r.authority in

@@ -1,12 +1,12 @@
 //! Equality, order and hash of references, which agree (RFC 3986 section 6.2.2).
 ghost use Rattle.iref_grammar.specs.{iri_chars, IsUriReference, ReferenceValue};
-ghost use Rattle.iref_c.specs.{Answers.{TellsOf, TellsOfTwo}, Comparison.{equal_number}};
+ghost use Rattle.iref_c.specs.{Answers.{StoresOf, StoresOfTwo}, Comparison.{equal_number}};
 ghost use Rattle.iref_c.specs.Comparison.{hash_from, hash_number, keyed_hash_number};
 ghost use Rattle.iref_c.specs.Comparison.{number_of_order, order_number};
 ghost use Rattle.std.specs.Prelude.{◌≡◌, ◌↔◌, ℕ, pos};
 
 use crate::status::INVALID;
-use crate::tell::{tell, two_references};
+use crate::store::{store, two_references};
 use core::hash::keyed_hasher;
 use iref::iri::IriRef;
 use std::cmp::Ordering;
@@ -15,10 +15,10 @@ use std::hash::{DefaultHasher, Hash, Hasher};
 /// Whether two references are equal: 1 where they are, else 0.
 #[unsafe(no_mangle)]
 pub extern "C" fn iref_equal(first: &[u8], second: &[u8], equal: &mut u32) -> u32
-    ensures { TellsOfTwo equal_number first.now second.now equal.old equal.new result }
+    ensures { StoresOfTwo equal_number first.now second.now equal.old equal.new result }
 {
     match two_references(first, second) {
-        Ok((first, second)) => tell(if first == second { 1 } else { 0 }, equal),
+        Ok((first, second)) => store(if first == second { 1 } else { 0 }, equal),
         Err(status) => status,
     }
 }
@@ -37,17 +37,17 @@ fn number_of(order: Ordering) -> i32
 /// The order of two references: -1, 0 where they are equal, or 1.
 #[unsafe(no_mangle)]
 pub extern "C" fn iref_compare(first: &[u8], second: &[u8], order: &mut i32) -> u32
-    ensures { TellsOfTwo order_number first.now second.now order.old order.new result }
+    ensures { StoresOfTwo order_number first.now second.now order.old order.new result }
 {
     match two_references(first, second) {
-        Ok((first, second)) => tell(number_of(first.cmp(&second)), order),
+        Ok((first, second)) => store(number_of(first.cmp(&second)), order),
         Err(status) => status,
     }
 }
 
 // The hash of a reference by this hasher.
 fn hash_by(hasher: DefaultHasher, text: &[u8], hash: &mut u64) -> u32
-    ensures { TellsOf (IsUriReference iri_chars) (hash_from hasher) text.now hash.old hash.new
+    ensures { StoresOf (IsUriReference iri_chars) (hash_from hasher) text.now hash.old hash.new
         result }
 {
     let Ok(reference) = IriRef::from_bytes(text) else {
@@ -55,13 +55,13 @@ fn hash_by(hasher: DefaultHasher, text: &[u8], hash: &mut u64) -> u32
     };
     let mut hasher = hasher;
     reference.hash(&mut hasher);
-    tell(hasher.finish(), hash)
+    store(hasher.finish(), hash)
 }
 
 /// The hash of a reference, the same for equal ones.
 #[unsafe(no_mangle)]
 pub extern "C" fn iref_hash(text: &[u8], hash: &mut u64) -> u32
-    ensures { TellsOf (IsUriReference iri_chars) hash_number text.now hash.old hash.new result }
+    ensures { StoresOf (IsUriReference iri_chars) hash_number text.now hash.old hash.new result }
 {
     hash_by(DefaultHasher::new(), text, hash)
 }
@@ -69,7 +69,7 @@ pub extern "C" fn iref_hash(text: &[u8], hash: &mut u64) -> u32
 /// The hash of a reference under two keys, the same for equal ones.
 #[unsafe(no_mangle)]
 pub extern "C" fn iref_hash_keyed(text: &[u8], key0: u64, key1: u64, hash: &mut u64) -> u32
-    ensures { TellsOf (IsUriReference iri_chars) (keyed_hash_number key0 key1)
+    ensures { StoresOf (IsUriReference iri_chars) (keyed_hash_number key0 key1)
         text.now hash.old hash.new result }
 {
     hash_by(keyed_hasher(key0, key1), text, hash)

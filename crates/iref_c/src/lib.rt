@@ -1,11 +1,11 @@
-//! The calls of `iref` for C, which `c/iref.h` tells its callers: each states the library's clause
-//! again, and results are numbers.
+//! The calls of `iref` for C, declared in `c/iref.h`: each states the library's clause again, and
+//! results are numbers.
 #![tactic(auto)]
 
 pub mod comparison;
 pub mod parse;
 pub mod places;
 pub mod status;
-pub mod tell;
+pub mod store;
 pub mod texts;
 pub mod write;

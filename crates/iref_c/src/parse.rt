@@ -1,21 +1,21 @@
 //! Whether a text is in a rule, with the places of its components (RFC 3986 sections 3 and 4.1,
 //! RFC 3987 section 2.2).
 ghost use Rattle.iref_grammar.specs.{iri_chars, uri_chars, IsUri, IsUriReference};
-ghost use Rattle.iref_c.specs.{Answers.{TellsOf}, PartPlaces.{all_places}};
+ghost use Rattle.iref_c.specs.{Answers.{StoresOf}, PartPlaces.{all_places}};
 
 use crate::places::Places;
 use crate::status::INVALID;
-use crate::tell::tell;
+use crate::store::store;
 use iref::iri::{Iri, IriRef};
 use iref::uri::{Uri, UriRef};
 
 /// Whether the text is a URI.
 #[unsafe(no_mangle)]
 pub extern "C" fn iref_parse_uri(text: &[u8], places: &mut Places) -> u32
-    ensures { TellsOf (IsUri uri_chars) all_places text.now places.old places.new result }
+    ensures { StoresOf (IsUri uri_chars) all_places text.now places.old places.new result }
 {
     match Uri::from_bytes(text) {
-        Ok(uri) => tell(Places::of_text(uri.as_str()), places),
+        Ok(uri) => store(Places::of_text(uri.as_str()), places),
         Err(_) => INVALID,
     }
 }
@@ -23,10 +23,10 @@ pub extern "C" fn iref_parse_uri(text: &[u8], places: &mut Places) -> u32
 /// Whether the text is a reference of URIs.
 #[unsafe(no_mangle)]
 pub extern "C" fn iref_parse_uri_reference(text: &[u8], places: &mut Places) -> u32
-    ensures { TellsOf (IsUriReference uri_chars) all_places text.now places.old places.new result }
+    ensures { StoresOf (IsUriReference uri_chars) all_places text.now places.old places.new result }
 {
     match UriRef::from_bytes(text) {
-        Ok(reference) => tell(Places::of_text(reference.as_str()), places),
+        Ok(reference) => store(Places::of_text(reference.as_str()), places),
         Err(_) => INVALID,
     }
 }
@@ -34,10 +34,10 @@ pub extern "C" fn iref_parse_uri_reference(text: &[u8], places: &mut Places) -> 
 /// Whether the text is an IRI.
 #[unsafe(no_mangle)]
 pub extern "C" fn iref_parse_iri(text: &[u8], places: &mut Places) -> u32
-    ensures { TellsOf (IsUri iri_chars) all_places text.now places.old places.new result }
+    ensures { StoresOf (IsUri iri_chars) all_places text.now places.old places.new result }
 {
     match Iri::from_bytes(text) {
-        Ok(iri) => tell(Places::of_text(iri.as_str()), places),
+        Ok(iri) => store(Places::of_text(iri.as_str()), places),
         Err(_) => INVALID,
     }
 }
@@ -45,10 +45,10 @@ pub extern "C" fn iref_parse_iri(text: &[u8], places: &mut Places) -> u32
 /// Whether the text is a reference of IRIs.
 #[unsafe(no_mangle)]
 pub extern "C" fn iref_parse_iri_reference(text: &[u8], places: &mut Places) -> u32
-    ensures { TellsOf (IsUriReference iri_chars) all_places text.now places.old places.new result }
+    ensures { StoresOf (IsUriReference iri_chars) all_places text.now places.old places.new result }
 {
     match IriRef::from_bytes(text) {
-        Ok(reference) => tell(Places::of_text(reference.as_str()), places),
+        Ok(reference) => store(Places::of_text(reference.as_str()), places),
         Err(_) => INVALID,
     }
 }

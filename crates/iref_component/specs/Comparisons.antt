@@ -16,7 +16,7 @@ use Rattle.iref_model.specs.PathHash.{fed_path}
 use Rattle.iref_model.specs.PathKey.{path_key, path_key_cmp, path_keys_total}
 use Rattle.iref_grammar.proofs.FeedLemmas.{text_feed_delimits}
 use Rattle.iref_model.proofs.FeedLemmas.{authority_feed_delimits, path_feed_delimits}
-use Rattle.iref_model.proofs.KeyOrderLemmas.{authority_keys_tell, path_keys_tell, texts_tell}
+use Rattle.iref_model.proofs.KeyOrderLemmas.{authority_keys_separate, path_keys_separate, texts_separate}
 
 -- the key of a text, the order of keys, and what a hasher is fed of a key; the order is total, and keys that differ differ in
 -- the order and in what is fed
@@ -26,12 +26,12 @@ pub record Comparison : Type 1 where
   pub order : Kept → Kept → Ordering
   pub fed : Kept → HashWrites
   pub total : IsTotalOrder order
-  pub tells : (k l : Kept) → is_eq (order k l) ≡ true → k ≡ l
+  pub separates : (k l : Kept) → is_eq (order k l) ≡ true → k ≡ l
   pub delimits : IsSelfDelimiting fed
 
 -- by a key that is a text: by its bytes
 abbrev pub by_text : (Text → Text) → Comparison
-by_text key = record { Kept = Text; key = key; order = text_order; fed = fed_bytes; total = nat_list_cmp_total; tells = texts_tell; delimits = text_feed_delimits }
+by_text key = record { Kept = Text; key = key; order = text_order; fed = fed_bytes; total = nat_list_cmp_total; separates = texts_separate; delimits = text_feed_delimits }
 
 -- Values are equal exactly where their keys are the same, and in the order of the keys. A hasher is fed the key, in bytes that
 -- determine it: values that are not equal feed different bytes.
@@ -44,8 +44,8 @@ ComparesBy {V} key order fed ord hash =
 
 -- authorities: user info and host as decoded bytes, the port as text
 abbrev pub by_parts : Comparison
-by_parts = record { Kept = AuthorityValue; key = λ text. authority_key (read_authority text); order = authority_key_cmp; fed = fed_authority; total = authority_keys_total; tells = authority_keys_tell; delimits = authority_feed_delimits }
+by_parts = record { Kept = AuthorityValue; key = λ text. authority_key (read_authority text); order = authority_key_cmp; fed = fed_authority; total = authority_keys_total; separates = authority_keys_separate; delimits = authority_feed_delimits }
 
 -- paths: whether they are absolute, and their normal segments as decoded bytes
 abbrev pub by_segments : Comparison
-by_segments = record { Kept = PathValue; key = λ text. path_key (read_path text); order = path_key_cmp; fed = fed_path; total = path_keys_total; tells = path_keys_tell; delimits = path_feed_delimits }
+by_segments = record { Kept = PathValue; key = λ text. path_key (read_path text); order = path_key_cmp; fed = fed_path; total = path_keys_total; separates = path_keys_separate; delimits = path_feed_delimits }

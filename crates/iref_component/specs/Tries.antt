@@ -1,4 +1,4 @@
--- What an edit by a text tells of the text.
+-- What the result of an edit by a text says of the text.
 use Rattle.std.specs.Borrow.{Bor}
 use Rattle.std.specs.Prelude.{◌≡◌, Option, Some, IfSome, IsNone, IsOk, Result}
 use Rattle.std.specs.Option.{option_copied}

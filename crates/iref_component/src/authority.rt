@@ -17,7 +17,7 @@ use iref_grammar::chars::CharSet;
 use std::hash::Hash;
 
 /// An authority (RFC 3986 section 3.2): that of `//u@h:80/x` is `u@h:80`. `InvalidAuthority` holds
-/// a text that is none, as `h:8a`.
+/// a text that is no authority, such as `h:8a`.
 pub type Authority<'a, C> = View<'a, AuthorityRule, C>;
 /// An authority that owns its text (RFC 3986 section 3.2), as `u@h`, which is edited in place to
 /// `u@h:80`.

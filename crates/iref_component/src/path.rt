@@ -29,7 +29,7 @@ use std::alloc::Global;
 use std::hash::Hash;
 
 /// A path (RFC 3986 section 3.3): `/a//b` has the segments `a`, the empty one and `b`.
-/// `InvalidPath` holds a text that is none, as `a?b`.
+/// `InvalidPath` holds a text that is no path, such as `a?b`.
 pub type Path<'a, C> = View<'a, PathRule, C>;
 
 impl<S: Storage, C: CharSet> RuleText<S, PathRule, C> {

@@ -10,44 +10,44 @@ use crate::view::View;
 use iref_grammar::chars::{CharSet, UriChars};
 
 /// A scheme (RFC 3986 section 3.1): `HTTP://h` has the scheme `HTTP`, which is equal to `http`.
-/// `InvalidScheme` holds a text that is none, as `1a`.
+/// `InvalidScheme` holds a text that is no scheme, such as `1a`.
 pub type Scheme<'a> = View<'a, SchemeRule, UriChars>;
 /// A scheme that owns its text (RFC 3986 section 3.1), as `urn` of `urn:isbn:1`.
 pub type SchemeBuf = TextBuf<SchemeRule, UriChars>;
 
 /// A user info (RFC 3986 section 3.2.1): `//u:p@h` has `u:p`, which is equal to `%75:p`.
-/// `InvalidUserInfo` holds a text that is none, as `a@b`.
+/// `InvalidUserInfo` holds a text that is no user info, such as `a@b`.
 pub type UserInfo<'a, C> = View<'a, UserInfoRule, C>;
 /// A user info that owns its text (RFC 3986 section 3.2.1), as `u` of `//u@h`.
 pub type UserInfoBuf<C> = TextBuf<UserInfoRule, C>;
 
 /// A host (RFC 3986 section 3.2.2), a name or an address: `//[::1]:80` has the host `[::1]`, and
-/// `//h` the host `h`. `InvalidHost` holds a text that is none, as `a:b`.
+/// `//h` the host `h`. `InvalidHost` holds a text that is no host, such as `a:b`.
 pub type Host<'a, C> = View<'a, HostRule, C>;
 /// A host that owns its text (RFC 3986 section 3.2.2): of the number 0x7F00_0001 it is `127.0.0.1`.
 pub type HostBuf<C> = TextBuf<HostRule, C>;
 
 /// A port (RFC 3986 section 3.2.3), any number of digits: `//h:80` has the port `80`, and `//h:`
-/// the empty one. `InvalidPort` holds a text that is none, as `8a`; `PortError` says why one is no
-/// number of a type.
+/// the empty one. `InvalidPort` holds a text that is no port, such as `8a`; `PortError` says why a
+/// port is no number of a type.
 pub type Port<'a> = View<'a, PortRule, UriChars>;
 /// A port that owns its text (RFC 3986 section 3.2.3): of the number 80 it is `80`.
 pub type PortBuf = TextBuf<PortRule, UriChars>;
 
 /// A segment (RFC 3986 section 3.3), what stands between two `/`: `/a//b` has `a`, the empty one
-/// and `b`. `InvalidSegment` holds a text that is none, as `a/b`.
+/// and `b`. `InvalidSegment` holds a text that is no segment, such as `a/b`.
 pub type Segment<'a, C> = View<'a, SegmentRule, C>;
 /// A segment that owns its text (RFC 3986 section 3.3), as `b%2Fc` of `a/b%2Fc`.
 pub type SegmentBuf<C> = TextBuf<SegmentRule, C>;
 
 /// A query (RFC 3986 section 3.4), without its `?`: `/a?q=1#f` has the query `q=1`, and `/a?` the
-/// empty one. `InvalidQuery` holds a text that is none, as `a#b`.
+/// empty one. `InvalidQuery` holds a text that is no query, such as `a#b`.
 pub type Query<'a, C> = View<'a, QueryRule, C>;
 /// A query that owns its text (RFC 3986 section 3.4), as `q=1` of `?q=1`.
 pub type QueryBuf<C> = TextBuf<QueryRule, C>;
 
 /// A fragment (RFC 3986 section 3.5), without its `#`: `/a#f` has the fragment `f`, and `/a#` the
-/// empty one. `InvalidFragment` holds a text that is none, as `a#b`.
+/// empty one. `InvalidFragment` holds a text that is no fragment, such as `a#b`.
 pub type Fragment<'a, C> = View<'a, FragmentRule, C>;
 /// A fragment that owns its text (RFC 3986 section 3.5), as `f` of `#f`.
 pub type FragmentBuf<C> = TextBuf<FragmentRule, C>;

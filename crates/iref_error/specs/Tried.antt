@@ -1,4 +1,4 @@
--- What an edit by a text tells of the text.
+-- What the result of an edit by a text says of the text.
 use Rattle.std.specs.Prelude.{Result, MatchResult}
 use Rattle.iref_error.specs.declared.edit.TryError.{TryError}
 use Rattle.iref_error.specs.declared.edit.TryError.TheVariants.{Invalid, Memory}

@@ -1,4 +1,4 @@
-//! The errors of every call: an input outside its rule, and want of memory.
+//! The errors of every call: an input outside its rule, and out of memory.
 #![tactic(auto)]
 
 pub mod edit;

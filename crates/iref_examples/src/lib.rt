@@ -39,7 +39,7 @@ pub fn mean_the_same(a: Uri<'_>, b: Uri<'_>) -> bool
     a == b
 }
 
-/// Whether two paths are equal, and how many segments were read to tell it.
+/// Whether two paths are equal, and how many segments were read to decide it.
 pub fn compared(a: Path<'_>, b: Path<'_>) -> (bool, u128)
     ensures equal { (result.0 ≡ true)
         ↔ (path_key (path_value a.entry) ≡ path_key (path_value b.entry)) }

@@ -12,7 +12,7 @@ use Rattle.iref_grammar.proofs.RuleLemmas.{Decides-ones}
 use Rattle.iref_grammar.proofs.TextLemmas.{first_of_both, second_of_both}
 use Rattle.iref_grammar.proofs.Ipv4RuleLemmas.{ipv4_number, ipv4_in_rule}
 
--- ---- so many characters that pass a test
+-- ---- a number of characters that pass a test
 
 length_of_ones : (test : ℕ → Bool) (pieces : List Text) → AllByRecursion (OneOf test) pieces → length (concat pieces) ≡ length pieces
 length_of_ones test [] all = refl
@@ -97,7 +97,7 @@ colons_back (p ∷ ps) all =
 
 -- ---- what stands after `::`, or all of it
 
--- last groups, so many
+-- this number of last groups
 abbrev pub LastGroups : ℕ → Rule
 LastGroups count text = (groups : List ℕ) × AreLastGroups text groups × (length groups ≡ count)
 
@@ -191,7 +191,7 @@ none_back text (inr z) = absurd (two z.front (ap length z.value))
 
 -- ---- what stands before `::`
 
--- groups, so many at most
+-- at most this number of groups
 abbrev FirstGroups : ℕ → Rule
 FirstGroups most text = (groups : List ℕ) × AreGroups text groups × (length groups ≤ most)
 

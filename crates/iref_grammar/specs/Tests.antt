@@ -1,4 +1,4 @@
--- The rules of the grammar as tests of bytes that compute. Rules of ASCII alone are tested on bytes and on characters alike.
+-- The rules of the grammar as tests of bytes that compute. Rules of ASCII alone are tested on bytes and on characters by one test.
 use Rattle.std.specs.Prelude.{◌≡◌, ℕ, ◌<◌, length, MatchOption, ◌-◌, nat_lt, Bool, true, false, ◌&&◌, ◌||◌, not, ◌==◌, [], ◌∷◌, Option, Some}
 use Rattle.std.specs.Prelude.{None, is_some, chars, if◌then◌else◌, codes}
 use Rattle.std.specs.Borrow.{Bor}

@@ -25,7 +25,7 @@ const INPUTS: &[(&[u8], &[u8])] = &[
     ),
 ];
 
-// A run over the input and a writer, in pieces of so many bytes.
+// A run over the input and a writer, in pieces of this number of bytes.
 fn in_pieces(alloc: Global, input: &[u8], at_once: usize, want: &[u8]) -> Result<(), Fail> {
     let reader = Trickle {
         first: input,
@@ -52,7 +52,7 @@ fn parts_of_lines_are_put_together(rt: HostRuntime) -> Result<(), Fail> {
     Ok(())
 }
 
-// A line of a verb and an absolute path of so many steps, and a short one.
+// A line of a verb and an absolute path of this number of steps, and a short one.
 fn long_line(alloc: Global, verb: &str, step: &str, steps: usize) -> Result<Vec<u8>, AllocError> {
     let mut input = verb.as_bytes().to_vec(alloc)?;
     input.extend_from_slice(b"\t/")?;

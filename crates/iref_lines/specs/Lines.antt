@@ -155,7 +155,7 @@ edits_answer (Ok r) = Answered (spell r)
 edits_answer (Err refused) = RefusedEdit
 
 abbrev pub yes_or_no : Bool → Text
-yes_or_no alike = if alike then codes "yes" else codes "no"
+yes_or_no equal = if equal then codes "yes" else codes "no"
 
 -- the table of entries that can be inserted
 abbrev pub table_of : List PrefixEntry → PrefixTable

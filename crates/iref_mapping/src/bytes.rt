@@ -60,7 +60,7 @@ fn map_to_the_end(buffer: &mut [u8], from: usize)
     }
 }
 
-/// Maps bytes within their buffer, of which so many are escaped. The room is taken once, and
+/// Maps bytes within their buffer; `escaped` of them are escaped. The room is taken once, and
 /// nothing changes where it is refused.
 pub fn map_in_place<A: Allocator>(bytes: &mut Vec<u8, A>, escaped: usize) -> Result<(), AllocError>
     requires { escaped ≡ count_escaped bytes.old.items }

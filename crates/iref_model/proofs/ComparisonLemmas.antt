@@ -1,4 +1,4 @@
--- What segments read from the back tell of every list that ends in them.
+-- What segments read from the back say of every list that ends in them.
 use Rattle.std.proofs.Common.{◌≡◌, ℕ, ◌+◌, Bool, true, false, cond, ◌&&◌, List, [], ◌∷◌, ◌++◌, map, refl, sym, ◌∙◌, ap, append_assoc}
 use Rattle.std.specs.Prelude.{◌==◌}
 use Rattle.std.proofs.lemmas.List.{append-nil}
@@ -58,7 +58,7 @@ abbrev pub decoded : List Text → List Text
 decoded list = map percent_decode list
 
 -- What the comparison has read of both decides that the items differ.
-pub record AreToldApart (F G : List Text → List Text) (r q : List Text) (left right : List Text) : Type 0 where
+pub record AreReadApart (F G : List Text → List Text) (r q : List Text) (left right : List Text) : Type 0 where
   pub seen_left : List Text
   pub seen_right : List Text
   pub split_left : r ≡ seen_left ++ left
@@ -90,9 +90,9 @@ first_or d (x ∷ xs) = x
 split_again : (r seen u l left : List Text) → r ≡ seen ++ u → u ≡ l ++ left → r ≡ (seen ++ l) ++ left
 split_again r seen u l left e f = e ∙ ap (λ xs. seen ++ xs) f ∙ sym (append_assoc seen l left)
 
-pub told_apart : (ss ts : List ItemRead) (F G : List Text → List Text) (r q : List Text) → Reads F r ss → Reads G q ts → (items_compared ss ts).equal ≡ false → AreToldApart F G r q (items_compared ss ts).left (items_compared ss ts).right
-told_apart [] [] F G r q a b h = absurd (true≢false h)
-told_apart [] (t ∷ ts) F G r q a b h =
+pub read_apart : (ss ts : List ItemRead) (F G : List Text → List Text) (r q : List Text) → Reads F r ss → Reads G q ts → (items_compared ss ts).equal ≡ false → AreReadApart F G r q (items_compared ss ts).left (items_compared ss ts).right
+read_apart [] [] F G r q a b h = absurd (true≢false h)
+read_apart [] (t ∷ ts) F G r q a b h =
     record {
       seen_left = r;
       seen_right = b.0;
@@ -103,7 +103,7 @@ told_apart [] (t ∷ ts) F G r q a b h =
           let there : decoded (G (b.0 ++ other)) ≡ decoded (t.item ∷ b.1 other) = ap decoded (b.3 other l) in
           true≢false (ap is_empty (sym here ∙ e ∙ there));
     }
-told_apart (s ∷ ss) [] F G r q a b h =
+read_apart (s ∷ ss) [] F G r q a b h =
     record {
       seen_left = a.0;
       seen_right = q;
@@ -114,25 +114,25 @@ told_apart (s ∷ ss) [] F G r q a b h =
           let there : decoded (G (q ++ other)) ≡ [] = ap (λ m. decoded (G (q ++ m))) (l refl) ∙ ap (λ m. decoded (G m)) (append-nil q) ∙ ap decoded b in
           true≢false (sym (ap is_empty (sym here ∙ e ∙ there)));
     }
-told_apart (s ∷ ss) (t ∷ ts) F G r q a b h =
-    by (same_decoded s.item t.item) refl (items_compared ss ts) (told_apart ss ts a.1 b.1 s.unread t.unread a.4 b.4) h
+read_apart (s ∷ ss) (t ∷ ts) F G r q a b h =
+    by (same_decoded s.item t.item) refl (items_compared ss ts) (read_apart ss ts a.1 b.1 s.unread t.unread a.4 b.4) h
   where
-    by : (same : Bool) → same_decoded s.item t.item ≡ same → (c : Comparison) → (c.equal ≡ false → AreToldApart a.1 b.1 s.unread t.unread c.left c.right) → let d = cond same c (record { equal = false; left = s.unread; right = t.unread }) in d.equal ≡ false → AreToldApart F G r q d.left d.right
+    by : (same : Bool) → same_decoded s.item t.item ≡ same → (c : Comparison) → (c.equal ≡ false → AreReadApart a.1 b.1 s.unread t.unread c.left c.right) → let d = cond same c (record { equal = false; left = s.unread; right = t.unread }) in d.equal ≡ false → AreReadApart F G r q d.left d.right
     by true i c ih h =
-        let told = ih h in
+        let known = ih h in
         record {
-          seen_left = a.0 ++ told.seen_left;
-          seen_right = b.0 ++ told.seen_right;
-          split_left = split_again r a.0 s.unread told.seen_left c.left a.2 told.split_left;
-          split_right = split_again q b.0 t.unread told.seen_right c.right b.2 told.split_right;
+          seen_left = a.0 ++ known.seen_left;
+          seen_right = b.0 ++ known.seen_right;
+          split_left = split_again r a.0 s.unread known.seen_left c.left a.2 known.split_left;
+          split_right = split_again q b.0 t.unread known.seen_right c.right b.2 known.split_right;
           apart = λ more other k l e.
-              let here : decoded (F ((a.0 ++ told.seen_left) ++ more)) ≡ decoded (s.item ∷ a.1 (told.seen_left ++ more)) =
-              ap (λ m. decoded (F m)) (append_assoc a.0 told.seen_left more)
-              ∙ ap decoded (a.3 (told.seen_left ++ more) (nothing_after s.unread told.seen_left c.left more told.split_left k)) in
-              let there : decoded (G ((b.0 ++ told.seen_right) ++ other)) ≡ decoded (t.item ∷ b.1 (told.seen_right ++ other)) =
-              ap (λ m. decoded (G m)) (append_assoc b.0 told.seen_right other)
-              ∙ ap decoded (b.3 (told.seen_right ++ other) (nothing_after t.unread told.seen_right c.right other told.split_right l)) in
-              told.apart more other k l (ap tail_of (sym here ∙ e ∙ there));
+              let here : decoded (F ((a.0 ++ known.seen_left) ++ more)) ≡ decoded (s.item ∷ a.1 (known.seen_left ++ more)) =
+              ap (λ m. decoded (F m)) (append_assoc a.0 known.seen_left more)
+              ∙ ap decoded (a.3 (known.seen_left ++ more) (nothing_after s.unread known.seen_left c.left more known.split_left k)) in
+              let there : decoded (G ((b.0 ++ known.seen_right) ++ other)) ≡ decoded (t.item ∷ b.1 (known.seen_right ++ other)) =
+              ap (λ m. decoded (G m)) (append_assoc b.0 known.seen_right other)
+              ∙ ap decoded (b.3 (known.seen_right ++ other) (nothing_after t.unread known.seen_right c.right other known.split_right l)) in
+              known.apart more other k l (ap tail_of (sym here ∙ e ∙ there));
         }
     by false i c ih h =
         record {
@@ -147,23 +147,23 @@ told_apart (s ∷ ss) (t ∷ ts) F G r q a b h =
               true≢false (sym ((bytes_eq-Decides (percent_decode s.item) (percent_decode t.item)).1 heads) ∙ i);
         }
 
--- where the comparison finds no difference, the items are alike and nothing is left unread
-pub record AreToldAlike (ss ts : List ItemRead) (c : Comparison) : Type 0 where
-  pub alike : decoded (map item_of ss) ≡ decoded (map item_of ts)
+-- where the comparison finds no difference, the items decode to the same and nothing is left unread
+pub record AreReadEqual (ss ts : List ItemRead) (c : Comparison) : Type 0 where
+  pub same_items : decoded (map item_of ss) ≡ decoded (map item_of ts)
   pub left : c.left ≡ []
   pub right : c.right ≡ []
 
-pub told_alike : (ss ts : List ItemRead) → (items_compared ss ts).equal ≡ true → AreToldAlike ss ts (items_compared ss ts)
-told_alike [] [] h = record { alike = refl; left = refl; right = refl }
-told_alike [] (t ∷ ts) h = absurd (true≢false (sym h))
-told_alike (s ∷ ss) [] h = absurd (true≢false (sym h))
-told_alike (s ∷ ss) (t ∷ ts) h = by (same_decoded s.item t.item) refl (items_compared ss ts) (told_alike ss ts) h
+pub read_equal : (ss ts : List ItemRead) → (items_compared ss ts).equal ≡ true → AreReadEqual ss ts (items_compared ss ts)
+read_equal [] [] h = record { same_items = refl; left = refl; right = refl }
+read_equal [] (t ∷ ts) h = absurd (true≢false (sym h))
+read_equal (s ∷ ss) [] h = absurd (true≢false (sym h))
+read_equal (s ∷ ss) (t ∷ ts) h = by (same_decoded s.item t.item) refl (items_compared ss ts) (read_equal ss ts) h
   where
-    by : (same : Bool) → same_decoded s.item t.item ≡ same → (c : Comparison) → (c.equal ≡ true → AreToldAlike ss ts c) → let d = cond same c (record { equal = false; left = s.unread; right = t.unread }) in d.equal ≡ true → AreToldAlike (s ∷ ss) (t ∷ ts) d
+    by : (same : Bool) → same_decoded s.item t.item ≡ same → (c : Comparison) → (c.equal ≡ true → AreReadEqual ss ts c) → let d = cond same c (record { equal = false; left = s.unread; right = t.unread }) in d.equal ≡ true → AreReadEqual (s ∷ ss) (t ∷ ts) d
     by true i c ih h =
-        let told = ih h in
+        let known = ih h in
         let heads = (bytes_eq-Decides (percent_decode s.item) (percent_decode t.item)).0 i in
-        record { alike = λ j. heads j ∷ told.alike j; left = told.left; right = told.right }
+        record { same_items = λ j. heads j ∷ known.same_items j; left = known.left; right = known.right }
     by false i c ih h = absurd (true≢false (sym h))
 
 -- ---- one empty item stands for none
@@ -194,9 +194,9 @@ lone-decoded (s ∷ list) = (λ i. cond (empty-decoded s i && none list i) [] (d
     by true = refl
     by false = refl
 
--- lists alike are alike with a lone empty item set aside
-pub lone_alike : (xs ys : List Text) → decoded xs ≡ decoded ys → decoded (without_lone_empty xs) ≡ decoded (without_lone_empty ys)
-lone_alike xs ys e = sym (lone-decoded xs) ∙ ap without_lone_empty e ∙ lone-decoded ys
+-- lists that decode to the same do so with a lone empty item set aside
+pub lone_equal : (xs ys : List Text) → decoded xs ≡ decoded ys → decoded (without_lone_empty xs) ≡ decoded (without_lone_empty ys)
+lone_equal xs ys e = sym (lone-decoded xs) ∙ ap without_lone_empty e ∙ lone-decoded ys
 
 one_empty : (list : List Text) → is_one_empty list ≡ true → list ≡ [] ∷ []
 one_empty [] h = absurd (true≢false (sym h))

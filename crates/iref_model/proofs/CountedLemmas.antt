@@ -14,7 +14,7 @@ use Rattle.iref_model.specs.NormalList.{without_lone_empty, normal_segments}
 use Rattle.iref_model.specs.PathKey.{path_key}
 use Rattle.iref_model.specs.CountedEquality.{EndsAlike, AreFoundApart, IsCountedAnswer, Comparison, all_items_read, items_compared, paths_compared, segments_read}
 use Rattle.iref_model.proofs.BackLemmas.{item_of, all_items_read-is}
-use Rattle.iref_model.proofs.ComparisonLemmas.{decoded, reads-all_items_read, AreToldApart, told_apart, told_alike, lone_alike, lone_same}
+use Rattle.iref_model.proofs.ComparisonLemmas.{decoded, reads-all_items_read, AreReadApart, read_apart, read_equal, lone_equal, lone_same}
 
 map-reverse : (list : List Text) → decoded (reverse list) ≡ reverse (decoded list)
 map-reverse [] = refl
@@ -42,8 +42,8 @@ same_with_lone [] ys h k e = absurd (true≢false h)
 same_with_lone (x ∷ xs) [] h k e = absurd (true≢false k)
 same_with_lone (x ∷ xs) (y ∷ ys) h k e = lone_same x y xs ys e
 
-alike_items : (a b : Bool) (x y : List Text) → decoded (without_lone_empty (read_items a x)) ≡ decoded (without_lone_empty (read_items b y)) → decoded (read_items a x) ≡ decoded (read_items b y)
-alike_items a b x y e = same_with_lone (read_items a x) (read_items b y) (some_item a x) (some_item b y) e
+equal_items : (a b : Bool) (x y : List Text) → decoded (without_lone_empty (read_items a x)) ≡ decoded (without_lone_empty (read_items b y)) → decoded (read_items a x) ≡ decoded (read_items b y)
+equal_items a b x y e = same_with_lone (read_items a x) (read_items b y) (some_item a x) (some_item b y) e
 
 abbrev SeenBack : List Text → List Text → List Text → Type 0
 SeenBack seen left other = (more : List Text) × (reverse other ≡ seen ++ more) × (left ≡ [] → more ≡ [])
@@ -59,24 +59,24 @@ seen_back segments seen left other e h =
       λ n. let none : length left ≡ 0 = ap length n in ap reverse (h.2 (omega (arith, size, none))),
     )
 
-found : (p q : PathValue) (left right : List Text) → AreToldApart (read_items p.absolute) (read_items q.absolute) (reverse p.segments) (reverse q.segments) left right → AreFoundApart p q (length p.segments - length left + (length q.segments - length right))
+found : (p q : PathValue) (left right : List Text) → AreReadApart (read_items p.absolute) (read_items q.absolute) (reverse p.segments) (reverse q.segments) left right → AreFoundApart p q (length p.segments - length left + (length q.segments - length right))
 unfolding path_key normal_segments
-found p q left right told =
-    let p_size : length p.segments ≡ length told.seen_left + length left = sym (length-reverse p.segments) ∙ ap length told.split_left ∙ length-append told.seen_left left in
-    let q_size : length q.segments ≡ length told.seen_right + length right = sym (length-reverse q.segments) ∙ ap length told.split_right ∙ length-append told.seen_right right in
+found p q left right known =
+    let p_size : length p.segments ≡ length known.seen_left + length left = sym (length-reverse p.segments) ∙ ap length known.split_left ∙ length-append known.seen_left left in
+    let q_size : length q.segments ≡ length known.seen_right + length right = sym (length-reverse q.segments) ∙ ap length known.split_right ∙ length-append known.seen_right right in
     record {
-      left = length told.seen_left;
-      right = length told.seen_right;
+      left = length known.seen_left;
+      right = length known.seen_right;
       left_within = omega (arith, p_size);
       right_within = omega (arith, q_size);
       counted = omega (arith, p_size, q_size);
       decided = λ x y a k b l e.
-          let u : SeenBack told.seen_left left x.segments = seen_back p.segments told.seen_left left x.segments told.split_left k in
-          let v : SeenBack told.seen_right right y.segments = seen_back q.segments told.seen_right right y.segments told.split_right l in
+          let u : SeenBack known.seen_left left x.segments = seen_back p.segments known.seen_left left x.segments known.split_left k in
+          let v : SeenBack known.seen_right right y.segments = seen_back q.segments known.seen_right right y.segments known.split_right l in
           let keys : decoded (normal_segments x) ≡ decoded (normal_segments y) = (λ i. (e i).segments) in
-          let alike = alike_items x.absolute y.absolute (reverse x.segments) (reverse y.segments) (key_back x ∙ ap reverse keys ∙ sym (key_back y)) in
-          told.apart u.0 v.0 u.2 v.2
-          ((λ i. decoded (read_items (sym a i) (sym (u.1) i))) ∙ alike ∙ (λ i. decoded (read_items (b i) (v.1 i))));
+          let same_items = equal_items x.absolute y.absolute (reverse x.segments) (reverse y.segments) (key_back x ∙ ap reverse keys ∙ sym (key_back y)) in
+          known.apart u.0 v.0 u.2 v.2
+          ((λ i. decoded (read_items (sym a i) (sym (u.1) i))) ∙ same_items ∙ (λ i. decoded (read_items (b i) (v.1 i))));
     }
 
 -- paths with the same flag
@@ -87,18 +87,18 @@ compared_same p q flags c e = by c.equal refl
   where
     by : (equal : Bool) → c.equal ≡ equal → IsCountedAnswer p q equal (length p.segments - length c.left + (length q.segments - length c.right))
     by true h =
-        let told = told_alike (all_items_read p.absolute (reverse p.segments)) (all_items_read q.absolute (reverse q.segments)) (ap (λ d. d.equal) (sym e) ∙ h) in
+        let known = read_equal (all_items_read p.absolute (reverse p.segments)) (all_items_read q.absolute (reverse q.segments)) (ap (λ d. d.equal) (sym e) ∙ h) in
         let back : reverse (decoded (normal_segments p)) ≡ reverse (decoded (normal_segments q)) =
-        sym (key_back p) ∙ lone_alike (read_items p.absolute (reverse p.segments)) (read_items q.absolute (reverse q.segments)) told.alike ∙ key_back q in
+        sym (key_back p) ∙ lone_equal (read_items p.absolute (reverse p.segments)) (read_items q.absolute (reverse q.segments)) known.same_items ∙ key_back q in
         let keys : decoded (normal_segments p) ≡ decoded (normal_segments q) =
         sym (reverse-reverse (decoded (normal_segments p))) ∙ ap reverse back ∙ reverse-reverse (decoded (normal_segments q)) in
-        let left : length c.left ≡ 0 = ap (λ d. length d.left) e ∙ ap length told.left in
-        let right : length c.right ≡ 0 = ap (λ d. length d.right) e ∙ ap length told.right in
+        let left : length c.left ≡ 0 = ap (λ d. length d.left) e ∙ ap length known.left in
+        let right : length c.right ≡ 0 = ap (λ d. length d.right) e ∙ ap length known.right in
         (λ i. record { absolute = flags i; segments = keys i }, omega (arith, left, right))
     by false h =
         subst (λ d. AreFoundApart p q (length p.segments - length d.left + (length q.segments - length d.right))) (sym e)
         (found p q _ _
-        (told_apart (all_items_read p.absolute (reverse p.segments)) (all_items_read q.absolute (reverse q.segments))
+        (read_apart (all_items_read p.absolute (reverse p.segments)) (all_items_read q.absolute (reverse q.segments))
         (read_items p.absolute) (read_items q.absolute) (reverse p.segments) (reverse q.segments)
         (reads-all_items_read p.absolute (reverse p.segments)) (reads-all_items_read q.absolute (reverse q.segments))
         (ap (λ d. d.equal) (sym e) ∙ h)))

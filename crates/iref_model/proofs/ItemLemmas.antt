@@ -20,7 +20,7 @@ name_no_parent s h = by (is_dot s) (is_dot_dot s) h
     by false true h = absurd (true≢false (sym h))
     by false false h = refl
 
--- whether a list ends in `.` or `..` is told by its last segment
+-- the last segment decides whether a list ends in `.` or `..`
 pub ends-last : (front : List Text) (s : Text) → ends_in_dots (front ++ s ∷ []) ≡ not (is_name s)
 ends-last [] s = refl
 ends-last (t ∷ []) s = refl

@@ -30,71 +30,71 @@ keys_total =
 
 -- ---- what ties is the same
 
-abbrev pub Tells : {A : Type 0} → (A → A → Ordering) → Type 0
-Tells {A} cmp = (x y : A) → is_eq (cmp x y) ≡ true → x ≡ y
+abbrev pub Separates : {A : Type 0} → (A → A → Ordering) → Type 0
+Separates {A} cmp = (x y : A) → is_eq (cmp x y) ≡ true → x ≡ y
 
 pub both_tie : (a b : Ordering) → is_eq (ordering_then a b) ≡ true → (is_eq a ≡ true) × (is_eq b ≡ true)
 both_tie Less b h = absurd (true≢false (sym h))
 both_tie Equal b h = (refl, h)
 both_tie Greater b h = absurd (true≢false (sym h))
 
-flags_tell : Tells bool_cmp
-flags_tell true true h = refl
-flags_tell true false h = absurd (true≢false (sym h))
-flags_tell false true h = absurd (true≢false (sym h))
-flags_tell false false h = refl
+flags_separate : Separates bool_cmp
+flags_separate true true h = refl
+flags_separate true false h = absurd (true≢false (sym h))
+flags_separate false true h = absurd (true≢false (sym h))
+flags_separate false false h = refl
 
-pub options_tell : {A : Type 0} (cmp : A → A → Ordering) → Tells cmp → Tells (option_cmp cmp)
-options_tell cmp tell None None h = refl
-options_tell cmp tell None (Some y) h = absurd (true≢false (sym h))
-options_tell cmp tell (Some x) None h = absurd (true≢false (sym h))
-options_tell cmp tell (Some x) (Some y) h = ap Some (tell x y h)
+pub options_separate : {A : Type 0} (cmp : A → A → Ordering) → Separates cmp → Separates (option_cmp cmp)
+options_separate cmp separate None None h = refl
+options_separate cmp separate None (Some y) h = absurd (true≢false (sym h))
+options_separate cmp separate (Some x) None h = absurd (true≢false (sym h))
+options_separate cmp separate (Some x) (Some y) h = ap Some (separate x y h)
 
-lists_tell : {A : Type 0} (cmp : A → A → Ordering) → Tells cmp → Tells (slice_cmp cmp)
-lists_tell cmp tell [] [] h = refl
-lists_tell cmp tell [] (y ∷ ys) h = absurd (true≢false (sym h))
-lists_tell cmp tell (x ∷ xs) [] h = absurd (true≢false (sym h))
-lists_tell cmp tell (x ∷ xs) (y ∷ ys) h =
+lists_separate : {A : Type 0} (cmp : A → A → Ordering) → Separates cmp → Separates (slice_cmp cmp)
+lists_separate cmp separate [] [] h = refl
+lists_separate cmp separate [] (y ∷ ys) h = absurd (true≢false (sym h))
+lists_separate cmp separate (x ∷ xs) [] h = absurd (true≢false (sym h))
+lists_separate cmp separate (x ∷ xs) (y ∷ ys) h =
     let both = both_tie (cmp x y) (slice_cmp cmp xs ys) h in
-    let rest = lists_tell cmp tell xs ys both.1 in
-    λ i. tell x y both.0 i ∷ rest i
+    let rest = lists_separate cmp separate xs ys both.1 in
+    λ i. separate x y both.0 i ∷ rest i
 
-pub texts_tell : Tells text_order
-texts_tell x y h = (bytes_decides x y).0 (sym (is_eq-slice_cmp x y) ∙ h)
+pub texts_separate : Separates text_order
+texts_separate x y h = (bytes_decides x y).0 (sym (is_eq-slice_cmp x y) ∙ h)
 
-pub authority_keys_tell : Tells authority_key_cmp
-authority_keys_tell a b h =
+pub authority_keys_separate : Separates authority_key_cmp
+authority_keys_separate a b h =
     let first = both_tie (option_cmp text_order a.user_info b.user_info) _ h in
     let second = both_tie (text_order a.host b.host) _ first.1 in
     λ i. record {
-      user_info = options_tell text_order texts_tell a.user_info b.user_info first.0 i;
-      host = texts_tell a.host b.host second.0 i;
-      port = options_tell text_order texts_tell a.port b.port second.1 i;
+      user_info = options_separate text_order texts_separate a.user_info b.user_info first.0 i;
+      host = texts_separate a.host b.host second.0 i;
+      port = options_separate text_order texts_separate a.port b.port second.1 i;
     }
 
-pub path_keys_tell : Tells path_key_cmp
-path_keys_tell p q h =
+pub path_keys_separate : Separates path_key_cmp
+path_keys_separate p q h =
     let both = both_tie (bool_cmp p.absolute q.absolute) _ h in
-    λ i. record { absolute = flags_tell p.absolute q.absolute both.0 i; segments = lists_tell text_order texts_tell p.segments q.segments both.1 i }
+    λ i. record { absolute = flags_separate p.absolute q.absolute both.0 i; segments = lists_separate text_order texts_separate p.segments q.segments both.1 i }
 
-pub keys_tell : Tells key_cmp
+pub keys_separate : Separates key_cmp
 unfolding key_cmp
-keys_tell r s h =
+keys_separate r s h =
     let one = both_tie (option_cmp text_order r.scheme s.scheme) _ h in
     let two = both_tie (option_cmp authority_key_cmp r.authority s.authority) _ one.1 in
     let three = both_tie (path_key_cmp r.path s.path) _ two.1 in
     let four = both_tie (option_cmp text_order r.query s.query) _ three.1 in
-    let scheme = options_tell text_order texts_tell r.scheme s.scheme one.0 in
-    let authority = options_tell authority_key_cmp authority_keys_tell r.authority s.authority two.0 in
-    let path = path_keys_tell r.path s.path three.0 in
-    let query = options_tell text_order texts_tell r.query s.query four.0 in
-    let fragment = options_tell text_order texts_tell r.fragment s.fragment four.1 in
+    let scheme = options_separate text_order texts_separate r.scheme s.scheme one.0 in
+    let authority = options_separate authority_key_cmp authority_keys_separate r.authority s.authority two.0 in
+    let path = path_keys_separate r.path s.path three.0 in
+    let query = options_separate text_order texts_separate r.query s.query four.0 in
+    let fragment = options_separate text_order texts_separate r.fragment s.fragment four.1 in
     λ i. record { scheme = scheme i; authority = authority i; path = path i; query = query i; fragment = fragment i }
 
--- in a total order that tells, to tie is to be the same
-pub tied_exactly : {K : Type 0} {order : K → K → Ordering} → IsTotalOrder order → Tells order → (a b : K) → (is_eq (order a b) ≡ true) ↔ (a ≡ b)
-tied_exactly {order = order} total tell a b = (tell a b, λ same. (λ i. is_eq (order a (sym same i))) ∙ ap is_eq (tied_itself total a))
+-- in a total order whose ties are equal, to tie is to be the same
+pub tied_exactly : {K : Type 0} {order : K → K → Ordering} → IsTotalOrder order → Separates order → (a b : K) → (is_eq (order a b) ≡ true) ↔ (a ≡ b)
+tied_exactly {order = order} total separate a b = (separate a b, λ same. (λ i. is_eq (order a (sym same i))) ∙ ap is_eq (tied_itself total a))
 
--- and what is the same is fed alike
+-- and what is the same is hashed by the same bytes
 pub fed_where_tied : (k l : ReferenceValue) → is_eq (key_cmp k l) ≡ true → fed_reference k ≡ fed_reference l
-fed_where_tied k l h = ap fed_reference (keys_tell k l h)
+fed_where_tied k l h = ap fed_reference (keys_separate k l h)

@@ -86,7 +86,7 @@ relative_steps =
     ∷ (4, "", "mid/6")
     ∷ []
 
--- the buffers after so many steps from the quoted input
+-- the buffers after this number of steps from the quoted input
 abbrev buffers_after : String → ℕ → Buffers
 buffers_after input steps = rewritten steps (record { input = codes input; output = [] })
 

@@ -33,7 +33,7 @@ module _ {A : Type 0} (text : A → Text) (a b : Option A) where
       let right = ap (option_map authority_key) (option_map_twice text read_authority b) in
       (λ e. left ∙ tie.0 e ∙ sym right, λ e. tie.1 (sym left ∙ e ∙ right))
 
--- the components, the scheme by any test that tells its key
+-- the components, the scheme by any test that decides its key
 pub parts_tie : {A Q F : Type 0} (authority : A → Text) (query : Q → Text) (fragment : F → Text) (same_scheme : Bool) (s t : Option Text)
     → (same_scheme ≡ true) ↔ (option_map str_to_ascii_lowercase s ≡ option_map str_to_ascii_lowercase t)
     → (a b : Option A) (p q : Text) (c d : Option Q) (e f : Option F)

@@ -21,7 +21,7 @@ reference text = read_reference (encode_utf8_all (codes text))
 
 -- ---- components
 
--- every component, absent and empty ones told apart
+-- every component; absent and empty ones differ
 components_of_a_reference :
     reference "//user:1@host.org:80/a//b?#"
     ≡ record {

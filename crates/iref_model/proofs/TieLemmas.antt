@@ -14,20 +14,20 @@ use Rattle.iref_grammar.proofs.TextLemmas.{first_of_both, second_of_both}
 use Rattle.iref_model.specs.AuthorityKey.{authority_key_cmp}
 use Rattle.iref_model.specs.PathKey.{path_key_cmp}
 use Rattle.iref_model.specs.Key.{key_cmp}
-use Rattle.iref_model.proofs.KeyOrderLemmas.{texts_total, texts_tell, authority_keys_total, authority_keys_tell, path_keys_total, path_keys_tell}
-use Rattle.iref_model.proofs.KeyOrderLemmas.{keys_total, keys_tell, tied_exactly}
+use Rattle.iref_model.proofs.KeyOrderLemmas.{texts_total, texts_separate, authority_keys_total, authority_keys_separate, path_keys_total, path_keys_separate}
+use Rattle.iref_model.proofs.KeyOrderLemmas.{keys_total, keys_separate, tied_exactly}
 
 pub texts_tie : (a b : Text) → (is_eq (text_order a b) ≡ true) ↔ (a ≡ b)
-texts_tie = tied_exactly texts_total texts_tell
+texts_tie = tied_exactly texts_total texts_separate
 
 pub authorities_tie : (a b : AuthorityValue) → (is_eq (authority_key_cmp a b) ≡ true) ↔ (a ≡ b)
-authorities_tie = tied_exactly authority_keys_total authority_keys_tell
+authorities_tie = tied_exactly authority_keys_total authority_keys_separate
 
 pub paths_tie : (a b : PathValue) → (is_eq (path_key_cmp a b) ≡ true) ↔ (a ≡ b)
-paths_tie = tied_exactly path_keys_total path_keys_tell
+paths_tie = tied_exactly path_keys_total path_keys_separate
 
 pub references_tie : (a b : ReferenceValue) → (is_eq (key_cmp a b) ≡ true) ↔ (a ≡ b)
-references_tie = tied_exactly keys_total keys_tell
+references_tie = tied_exactly keys_total keys_separate
 
 -- ---- tests of parts
 

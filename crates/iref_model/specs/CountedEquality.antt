@@ -19,7 +19,7 @@ AreDecidedApart p m q n =
     (x y : PathValue) → x.absolute ≡ p.absolute → EndsAlike p.segments m x.segments → y.absolute ≡ q.absolute → EndsAlike q.segments n y.segments
     → ¬ (path_key x ≡ path_key y)
 
--- Some last segments of both paths, so many in all, decide that the paths differ.
+-- Some last segments of both paths, this number in all, decide that the paths differ.
 pub record AreFoundApart (p q : PathValue) (steps : ℕ) : Type 0 where
   pub left : ℕ
   pub right : ℕ
@@ -28,7 +28,7 @@ pub record AreFoundApart (p q : PathValue) (steps : ℕ) : Type 0 where
   pub counted : steps ≡ left + right
   pub decided : AreDecidedApart p left q right
 
--- The answer whether the paths are equal, after so many segments were read: all of them, if they are.
+-- The answer whether the paths are equal, after this number of segments was read: all of them, if they are.
 abbrev pub IsCountedAnswer : PathValue → PathValue → Bool → ℕ → Type 0
 IsCountedAnswer p q true steps = (path_key p ≡ path_key q) × (steps ≡ length p.segments + length q.segments)
 IsCountedAnswer p q false steps = AreFoundApart p q steps
@@ -46,7 +46,7 @@ last_read s = record { item = s; unread = [] }
 abbrev pub item_before : Bool → Text → List Text → List ItemRead → List ItemRead
 item_before stays s unread later = if stays then record { item = s; unread = unread } ∷ later else later
 
--- the items of these segments, where so many `..` are open behind them
+-- the items of these segments, where this number of `..` is open behind them
 abbrev pub items_read : Bool → ℕ → List Text → List ItemRead
 items_read absolute behind [] = map last_read (leading_parents absolute behind)
 items_read absolute behind (s ∷ before) =

@@ -4,12 +4,12 @@ use Rattle.iref_grammar.specs.Rules.{Text}
 use Rattle.iref_grammar.specs.PathValue.{PathValue, is_one_empty}
 use Rattle.iref_model.specs.NormalList.{is_dot_dot, is_name, counted, ends_in_dots}
 
--- how many `..` are open before the segments, where so many are open behind them
+-- how many `..` are open before the segments, where this number is open behind them
 abbrev pub open_before : List Text → ℕ → ℕ
 open_before [] behind = behind
 open_before (s ∷ rest) behind = counted (is_dot_dot s) (is_name s) (open_before rest behind)
 
--- the names among the segments that stay, where so many `..` are open behind them
+-- the names among the segments that stay, where this number of `..` is open behind them
 abbrev pub staying_before : List Text → ℕ → List Text
 staying_before [] behind = []
 staying_before (s ∷ rest) behind =

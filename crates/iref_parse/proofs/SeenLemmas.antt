@@ -1,4 +1,4 @@
--- What a vector of joined marks tells of all places, of which it saw the first and the last 16.
+-- What a vector of joined marks says of all positions, of which it saw the first and the last 16.
 use Rattle.std.proofs.Common.{◌≡◌, ℕ, ◌+◌, ◌-◌, ◌<◌, ◌≤◌, List, true, eqb, length, get_or, sym, ap, ◌∙◌, arith, bit_or, ⊎_elim}
 use Rattle.std.specs.List.{list_all}
 use Rattle.std.proofs.lemmas.Bool.{eqb-true, eq-eqb, cases_lt}
@@ -14,7 +14,7 @@ Unmarked mark i j = (k : ℕ) → i ≤ k → k < j → mark k ≡ 0
 abbrev pub IsZero : List ℕ → Type 0
 IsZero v = (k : ℕ) → k < 16 → get_or v k 0 ≡ 0
 
--- of n places, v tells of the first and of the last 16 whether one is marked
+-- of n positions, v shows of the first and of the last 16 whether one is marked
 pub record Seen (mark : ℕ → ℕ) (n at : ℕ) (v : List ℕ) : Type 0 where
   pub long : length v ≡ 16
   pub front : IsZero v → Unmarked mark 0 at
@@ -54,7 +54,7 @@ module _ (mark : ℕ → ℕ) where
       }
 
   module _ (n at : ℕ) (v : List ℕ) (long : 16 ≤ n) (near : n < at + 16) (seen : Seen mark n at v) where
-    -- once the two parts meet, it tells of all
+    -- once the two parts meet, it shows all
     pub unmarked_from_clear : list_all (λ x. eqb x 0) v ≡ true → Unmarked mark 0 n
     unmarked_from_clear e =
         let size = seen.long in

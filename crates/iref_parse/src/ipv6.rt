@@ -6,7 +6,8 @@ ghost use Rattle.iref_parse.specs.Ipv6Scan as scan;
 
 use crate::ip::ipv6_value;
 
-// Whether the bytes go on a group of so many digits, and end in groups for which there is room.
+// Whether the bytes continue a group that has this number of digits, and end in groups for which
+// there is room.
 fn ends_in_groups(bytes: &[u8], room: u8, digits: u8) -> bool
     ensures { result ≡ scan.ends_in_groups room digits bytes.now }
 {
@@ -20,14 +21,15 @@ fn ends_in_groups(bytes: &[u8], room: u8, digits: u8) -> bool
     }
 }
 
-// Whether the bytes are what may follow `::`, with so many groups at most.
+// Whether the bytes may follow `::`, with at most this number of groups.
 fn is_after_gap(bytes: &[u8], room: u8) -> bool
     ensures { result ≡ scan.is_after_gap room bytes.now }
 {
     bytes.is_empty() || (room > 0 && ends_in_groups(bytes, room - 1, 0))
 }
 
-// Whether the bytes go on a group of so many digits, and fill the room for groups or hold `::`.
+// Whether the bytes continue a group that has this number of digits, and fill the room for groups
+// or hold `::`.
 fn has_groups(bytes: &[u8], room: u8, digits: u8) -> bool
     ensures { result ≡ scan.has_groups room digits bytes.now }
 {

@@ -4,7 +4,7 @@ use Rattle.std.specs.List.{common_prefix_len}
 use Rattle.std.proofs.lemmas.Bool.Decides.{nat_tests}
 use Rattle.std.proofs.lemmas.List.Sums.{common_prefix_len-le}
 
--- the common beginning where it ends within a list of so many items, else this one
+-- the common prefix where it ends within a list of this number of items, else this one
 abbrev pub or_else : ℕ → ℕ → ℕ → ℕ
 or_else common size other = cond (nat_lt common size) common other
 

@@ -96,7 +96,7 @@ order-before xs ys us vs s t order h e f =
           ∙ sym (then-assoc (slice_cmp text_order (decoded us) (decoded vs)) (text_order (percent_decode s) (percent_decode t)) order),
     )
 
--- a list of so many items after those past a length have been passed over
+-- a list of this number of items after those past a length have been passed over
 pub shortened : (xs us : List Text) (n m : ℕ) → n ≡ length xs → us ≡ take (length xs - (n - m)) xs → us ≡ take m xs
 shortened xs us n m h e = e ∙ ap (λ k. take (length xs - (k - m)) xs) h ∙ cut_to xs m
 

@@ -1,4 +1,4 @@
--- What a path's text tells, by its first and its last marks.
+-- What the first and the last delimiters of a path say of it.
 use Rattle.std.proofs.Common.{◌≡◌, ℕ, suc, ◌+◌, ◌-◌, ◌<◌, true, false, not, cond, ◌&&◌, ◌||◌, [], ◌∷◌, ◌++◌, length, get_or, take, drop, drop-cons, refl, sym, ◌∙◌, ap, subst, arith, inl, inr}
 use Rattle.std.specs.Prelude.{◌==◌, ◌≢◌, Some, None, codes}
 use Rattle.std.proofs.lemmas.Bool.Decides.{nat_tests, eqb_tells}

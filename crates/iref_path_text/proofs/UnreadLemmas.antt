@@ -13,7 +13,7 @@ use Rattle.iref_path_text.specs.declared.equality.Unread.{Unread}
 use Rattle.iref_path_text.specs.declared.equality.Steps.{Steps}
 use Rattle.iref_path_text.specs.Unread.{AreCounted, GivesSegment, IsAnswer, all_items_unread, item_given, items_unread, path_unread, segments_unread, steps_taken, unread_in}
 
--- what a read tells of the items
+-- what a read says of the items
 pub after_read : (u v : Unread) (s : Bor Text) → GivesSegment u (Some s) v → items_unread u ≡ items_read v.absolute v.open_parents (s.now ∷ segments_unread v)
 unfolding items_unread
 after_read u v s h = λ i. items_read (sym h.absolute i) (sym h.open_parents i) (h.segment i)

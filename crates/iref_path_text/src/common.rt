@@ -9,7 +9,7 @@ use crate::order::skip_back;
 use crate::remaining::Remaining;
 use iref_parse::decoded::decoded_eq;
 
-/// Of two lists of so many items: the foremost difference decides, and is read last.
+/// Two lists of this number of items each: the foremost difference decides, and is read last.
 fn same_length_common(mut left: Remaining<'_>, mut right: Remaining<'_>, len: usize) -> usize
     requires left { IsSound left }
     requires right { IsSound right }
@@ -32,7 +32,7 @@ fn same_length_common(mut left: Remaining<'_>, mut right: Remaining<'_>, len: us
     common
 }
 
-/// How many items two lists of so many items have in common from the front on: each pair decodes to
+/// How many items two lists of this number of items have in common from the front: each pair decodes to
 /// the same bytes.
 ///
 /// Of `a`, `b`, `c` and `a`, `%62`, `d`, `e` it is 2. Each segment that is left is read once.

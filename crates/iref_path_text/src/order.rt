@@ -21,7 +21,7 @@ pub(crate) fn is_absolute(path: &str) -> bool
     split_root(path).0
 }
 
-/// Passes over so many of the last items.
+/// Passes over the last `count` items.
 pub(crate) fn skip_back(left: &mut Remaining<'_>, count: usize)
     requires sound { IsSound left.old }
     requires within { count ≤ length (normal_left left.old) }

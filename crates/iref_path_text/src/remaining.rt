@@ -45,7 +45,7 @@ fn ends_in_dots(rest: Option<&str>) -> bool
     }
 }
 
-/// How many `..` stand first in a list before which so many are open.
+/// How many `..` stand first in a list before which this number is open.
 pub(crate) fn leading_parents(absolute: bool, open_parents: usize) -> usize
     ensures { result ≡ (if absolute then 0 else open_parents) }
 {
@@ -59,7 +59,7 @@ fn closing_count(closes: bool) -> usize
     usize::from(closes)
 }
 
-/// Whether a list of so many `..`, so many names and a closing segment is one empty segment.
+/// Whether a list is one empty segment, by its numbers of `..` and of names and its closing segment.
 fn is_one_empty(parents: usize, names: usize, first: &str, closes: bool) -> bool
     requires { names + 1 < 2 ^ 64 }
     ensures { result

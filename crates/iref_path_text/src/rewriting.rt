@@ -92,7 +92,7 @@ fn move_names(
     (start, open_parents)
 }
 
-// Writes so many `..`, with a `/` after each, so that they end at a place, and answers where they
+// Writes `count` times `..`, with a `/` after each, so that they end at a position, and returns where they
 // begin.
 fn write_parents(bytes: &mut [u8], count: usize, end: usize) -> usize
     requires room { length (each_closed (replicate count (codes ".."))) ≤ end }

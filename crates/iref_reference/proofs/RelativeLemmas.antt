@@ -16,7 +16,7 @@ use Rattle.iref_model.specs.NormalList.{count_parents}
 use Rattle.iref_model.specs.Relative.{relative_to}
 use Rattle.iref_model.specs.RelativeLaws.{IsOnlyPath, Leads}
 use Rattle.iref_model.specs.Resolution.{resolved}
-use Rattle.iref_model.proofs.KeyOrderLemmas.{authority_keys_tell, authority_keys_total, options_tell, texts_tell, texts_total, tied_exactly}
+use Rattle.iref_model.proofs.KeyOrderLemmas.{authority_keys_separate, authority_keys_total, options_separate, texts_separate, texts_total, tied_exactly}
 use Rattle.iref_model.proofs.PartTieLemmas.{authority_parts_tie, lower_case_tie}
 use Rattle.iref_model.proofs.ReadableRelativeLemmas.{readable-stands}
 use Rattle.iref_model.proofs.RelativeLemmas.{relative_to-leads, relative_to-leads_full, relative_to-least, relative_to-no_root, relative_to-only_path}
@@ -25,11 +25,11 @@ use Rattle.iref_reference.specs.Relatives.{ClimbsNoMore, LeadsThere, LeadsToTarg
 module _ {A : Type 0} (text : A → Text) (a b : Option A) where
   pub schemes_tested : option_eq (λ x y. is_eq (text_order (str_to_ascii_lowercase (text x)) (str_to_ascii_lowercase (text y)))) a b
       ≡ is_eq (option_cmp text_order (option_map str_to_ascii_lowercase (option_map text a)) (option_map str_to_ascii_lowercase (option_map text b)))
-  schemes_tested = same_from_decides _ _ (lower_case_tie text a b) (tied_exactly (options_total texts_total) (options_tell text_order texts_tell) _ _)
+  schemes_tested = same_from_decides _ _ (lower_case_tie text a b) (tied_exactly (options_total texts_total) (options_separate text_order texts_separate) _ _)
 
   pub authorities_tested : option_eq (λ x y. is_eq (authority_key_cmp (authority_key (read_authority (text x))) (authority_key (read_authority (text y))))) a b
       ≡ is_eq (option_cmp authority_key_cmp (option_map authority_key (option_map read_authority (option_map text a))) (option_map authority_key (option_map read_authority (option_map text b))))
-  authorities_tested = same_from_decides _ _ (authority_parts_tie text a b) (tied_exactly (options_total authority_keys_total) (options_tell authority_key_cmp authority_keys_tell) _ _)
+  authorities_tested = same_from_decides _ _ (authority_parts_tie text a b) (tied_exactly (options_total authority_keys_total) (options_separate authority_key_cmp authority_keys_separate) _ _)
 
 -- ---- what is known of what leads from a base to a target
 

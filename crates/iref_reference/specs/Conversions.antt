@@ -1,4 +1,4 @@
--- What conversions that may be refused promise: those that hand back are told by `ParsesReference` and `HasSchemeOrRefused`.
+-- What conversions that may be refused promise: `ParsesReference` and `HasSchemeOrRefused` state those that return their input.
 use Rattle.std.specs.Prelude.{◌≡◌, Option, MatchOption, Result}
 use Rattle.iref_grammar.specs.Characters.{CharTests, uri_chars}
 use Rattle.iref_grammar.specs.Rules.{Text}

@@ -33,7 +33,7 @@ fn schemes_agree<C: CharSet>(target: &UriRefParts<'_, C>, base: &UriRefParts<'_,
     target.has_scheme_of(base) || takes_scheme(target)
 }
 
-// Whether the target may be told without scheme and authority.
+// Whether a reference to the target may leave out scheme and authority.
 fn agree<C: CharSet>(target: &UriRefParts<'_, C>, base: &UriRefParts<'_, C>) -> bool
     ensures { result ≡ agree (uri_ref_parts_value target.now) (uri_ref_parts_value base.now) }
 {

@@ -86,7 +86,7 @@ impl Index {
     }
 }
 
-// Adds a number under a text that has none, and tells whether it had none.
+// Adds a number under a text that has none, and returns whether it had none.
 fn add_first(alloc: Global, places: &mut Places, text: &str, at: usize) -> Result<bool, Memory>
     ensures ok { OnOk result (Gains places.old places.new text.now at) }
     ensures new { IfOk result (λ is_new. is_new ≡ not (is_some (get_by_text places.old text.now))) }

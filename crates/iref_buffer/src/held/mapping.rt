@@ -21,8 +21,8 @@ impl<R: HeldRule> Held<R, UriChars> {
 }
 
 impl<R: HeldRule, C: CharSet> Held<R, C> {
-    /// The mapping, within the buffer. A text of ASCII is its own mapping, and takes no memory. At
-    /// want of memory the text is handed back as it was.
+    /// The mapping, within the buffer. A text of ASCII is its own mapping, and takes no memory. Out
+    /// of memory, the call returns the text as it was.
     pub fn into_mapped(self) -> Result<Held<R, UriChars>, Self>
         ensures ok { IfOk result (λ held. held ≡ mapped self) }
         ensures err { IfErr result (λ held. held ≡ self) }

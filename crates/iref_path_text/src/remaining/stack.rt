@@ -89,7 +89,7 @@ impl<'a, P: Places<&'a str>> Stack<'a, P> {
         (left.open_parents, names)
     }
 
-    // Puts so many `..`.
+    // Puts this number of `..`.
     fn put_parents(&mut self, count: usize)
         requires { self.old.size + 3 * count < 2 ^ 64 }
         ensures items { (whole : List Text)

@@ -1,4 +1,4 @@
-//! A way up and down: so many `..`, and the last items of a normal list, read from the back.
+//! A way up and down: a number of `..`, and the last items of a normal list, read from the back.
 
 ghost use Rattle.iref_model.specs.{read_path, normal_segments, Relative.{directory_names}};
 ghost use Rattle.iref_model.specs.Relative.{steps_between};
@@ -68,7 +68,7 @@ impl<'a> Way<'a> {
         Way::new(depth - common, count - common, items)
     }
 
-    /// So many `..`, and so many of the last items.
+    /// A number of `..`, and a number of the last items.
     pub fn new(up: usize, down: usize, items: Remaining<'a>) -> Self
         requires { IsSound items }
         ensures items { way_left result ≡ replicate up (codes "..")

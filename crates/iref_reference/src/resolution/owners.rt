@@ -63,8 +63,8 @@ impl<C: CharSet> UriRefBuf<C> {
         self.resolve(base).or(Err(TryError::Memory))
     }
 
-    /// What it resolves to against a base, as a URI. At want of memory the reference is handed
-    /// back.
+    /// What it resolves to against a base, as a URI. Out of memory, the call returns the
+    /// reference itself.
     pub fn into_resolved(self, base: Uri<'_, C>) -> Result<UriBuf<C>, (UriRefBuf<C>, Memory)>
         ensures ok { IfOk result (λ uri. IsResolved (reference_text base.entry)
             (reference_buf_text self) (reference_buf_text uri)) }

@@ -19,8 +19,8 @@ use iref_error::{InvalidScheme, Memory, TryError};
 use iref_grammar::chars::CharSet;
 use std::alloc::Global;
 
-/// A copy of a reference, as of `a?q` with the query `x`, `a?x`, or want of memory (RFC 3986
-/// section 4.1).
+/// A copy of a reference, such as `a?x` of `a?q` with the query `x`, or `Memory` where memory runs
+/// out (RFC 3986 section 4.1).
 pub type Copied<R, C> = Result<ReferenceBuf<R, C>, Memory>;
 
 impl<R: HeldRule, C: CharSet> Reference<'_, R, C> {

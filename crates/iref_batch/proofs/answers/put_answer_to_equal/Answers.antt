@@ -29,10 +29,10 @@ returns c =
     let a = c.in-Ok.left_parts in
     let b = c.in-Ok-from_bytes.right_parts in
     let keys = parts_tie text_of text_of text_of _ _ _ (lower_case_tie text_of a.scheme b.scheme) a.authority b.authority (text_of a.path) (text_of b.path) a.query b.query a.fragment b.fragment in
-    let alike = c.eq-2.ensures ∙ same_from_decides _ _ keys (references_tie _ _) in
+    let equal = c.eq-2.ensures ∙ same_from_decides _ _ keys (references_tie _ _) in
     rw (
       equal_answer left right (uri_ref_parts_value a) (uri_ref_parts_value b) c.eq-2.result
           c.in-Ok.ensures.parsed.0 c.in-Ok-from_bytes.ensures.parsed.0
-          c.in-Ok.ensures.value c.in-Ok-from_bytes.ensures.value alike,
+          c.in-Ok.ensures.value c.in-Ok-from_bytes.ensures.value equal,
       ← c.yes_or_no.ensures,
     ) c.put_answered-2.ensures

@@ -1,12 +1,12 @@
-//! Two references are read, and a value is told.
+//! Reads two references, and writes a result where the caller wants it.
 ghost use Rattle.iref.specs.References.{reference_text};
-ghost use Rattle.iref_c.specs.Answers.{IsReference, TellsInvalid};
+ghost use Rattle.iref_c.specs.Answers.{IsReference, ReportsInvalid};
 ghost use Rattle.std.specs.Prelude.{◌≡◌, IfErr, IfOk, OnOk};
 
 use crate::status::{INVALID, OK, SECOND_INVALID};
 use iref::iri::IriRef;
 
-/// The references of two texts, or the status of the first that is none.
+/// The references of two texts, or the status of the first that is no reference.
 pub fn two_references<'a>(
     first: &'a [u8],
     second: &'a [u8],
@@ -15,18 +15,18 @@ pub fn two_references<'a>(
     ensures first { IfOk result (λ read. reference_text read.0 ≡ first.now) }
     ensures second { IfOk result (λ read. reference_text read.1 ≡ second.now) }
     ensures invalid { IfErr result (λ status.
-        TellsInvalid (IsReference first.now) (IsReference second.now) status) }
+        ReportsInvalid (IsReference first.now) (IsReference second.now) status) }
 {
     let first = IriRef::from_bytes(first).or(Err(INVALID))?;
     let second = IriRef::from_bytes(second).or(Err(SECOND_INVALID))?;
     Ok((first, second))
 }
 
-/// Tells the value.
-pub fn tell<V: Copy>(value: V, told: &mut V) -> u32
+/// Stores the value.
+pub fn store<V: Copy>(value: V, stored: &mut V) -> u32
     ensures done { result ≡ OK }
-    ensures told { told.new ≡ value }
+    ensures stored { stored.new ≡ value }
 {
-    *told = value;
+    *stored = value;
     OK
 }
