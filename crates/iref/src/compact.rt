@@ -94,7 +94,7 @@ impl Compact<'_> {
 }
 
 /// Labels, each with the IRI that it stands for, in the order in which they were inserted: with
-/// `ex` for `http://example.org/`, `compact` of `http://example.org/a` answers `ex` and `a`, and
+/// `ex` for `http://example.org/`, `compact` of `http://example.org/a` returns `ex` and `a`, and
 /// `expand` of `ex:a` that IRI (RFC 3987 section 2.2).
 #[derive(Drop)]
 pub struct Prefixes {

@@ -31,7 +31,7 @@ pub enum Edit<'a, C: CharSet> {
     SetHost(Host<'a, C>),
     /// Replaces the port of the authority, or takes it away.
     SetPort(Option<Port<'a>>),
-    /// The same by a number, which is written in decimal digits without leading zeros.
+    /// Sets the port to a number, which is written in decimal digits without leading zeros.
     SetPortU32(Option<u32>),
     /// Replaces the path, guarded where it would be read as something else.
     SetPath(Path<'a, C>),
@@ -96,7 +96,7 @@ impl<C: CharSet> fmt::Debug for Edit<'_, C> {
     }
 }
 
-/// Why an edit of a list cannot be done, as `SetHost` of `s:a` (RFC 3986 section 3.2).
+/// Why an edit of a list cannot be done, such as `SetHost` of `s:a` (RFC 3986 section 3.2).
 #[derive(Clone, Copy, Debug, PartialEq, Eq, Error)]
 pub enum EditFault {
     /// The edit is of a part of the authority, and there is none.

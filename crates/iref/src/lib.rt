@@ -43,7 +43,7 @@ pub mod uri {
     /// A URI (RFC 3986 section 3): `http://a/b?q#f` and `urn:isbn:1`, but not `//a/b`, which has no
     /// scheme.
     pub type Uri<'a> = iref_reference::view::Uri<'a, UriChars>;
-    /// A reference of URIs (RFC 3986 section 4.1): any URI, and what is relative to one, as
+    /// A reference of URIs (RFC 3986 section 4.1): any URI, and what is relative to one, such as
     /// `//a/b`, `../b`, `?q` and the empty text.
     pub type UriRef<'a> = iref_reference::view::UriRef<'a, UriChars>;
     /// A URI that owns its text (RFC 3986 section 3), and is edited in place: `set_query` of `q`
@@ -63,8 +63,8 @@ pub mod uri {
     /// A URI that is composed of the components of others and not written yet (RFC 3986 section
     /// 5.2): what `../g` resolves to against `http://a/b/c` takes 10 bytes.
     pub type ComposedUri<'a> = iref_reference::composed::ComposedUri<'a, UriChars>;
-    /// A reference that is composed and not written yet (RFC 3986 section 4.1), as `../../b`, which
-    /// leads from `http://a/b/c/d` to `http://a/b`.
+    /// A reference that is composed and not written yet (RFC 3986 section 4.1), such as `../../b`,
+    /// which leads from `http://a/b/c/d` to `http://a/b`.
     pub type ComposedUriRef<'a> = iref_reference::composed::ComposedUriRef<'a, UriChars>;
 
     /// An authority (RFC 3986 section 3.2): in `//u@h:80/x` it is `u@h:80`, with the host `h`.
@@ -85,11 +85,11 @@ pub mod uri {
 
     /// A user info (RFC 3986 section 3.2.1): in `//u:p@h` it is `u:p`.
     pub type UserInfo<'a> = iref_component::texts::UserInfo<'a, UriChars>;
-    /// A user info that owns its text (RFC 3986 section 3.2.1), as `u:p` of `//u:p@h`.
+    /// A user info that owns its text (RFC 3986 section 3.2.1), such as `u:p` of `//u:p@h`.
     pub type UserInfoBuf = iref_component::texts::UserInfoBuf<UriChars>;
 
     /// A host (RFC 3986 section 3.2.2): a name as `a.org`, an address as `10.0.0.1`, or one in
-    /// brackets, as `[::1]`. In `//u@:80` it is empty.
+    /// brackets, such as `[::1]`. In `//u@:80` it is empty.
     pub type Host<'a> = iref_component::texts::Host<'a, UriChars>;
     /// A host that owns its text (RFC 3986 section 3.2.2): that of the IPv6 number 1 is `[::1]`.
     pub type HostBuf = iref_component::texts::HostBuf<UriChars>;
@@ -106,7 +106,7 @@ pub mod uri {
     /// A segment of a path (RFC 3986 section 3.3): `b%2Fc` is one, `b/c` is none, and the empty
     /// text is one.
     pub type Segment<'a> = iref_component::texts::Segment<'a, UriChars>;
-    /// A segment that owns its text (RFC 3986 section 3.3), as `b` of `a/b`.
+    /// A segment that owns its text (RFC 3986 section 3.3), such as `b` of `a/b`.
     pub type SegmentBuf = iref_component::texts::SegmentBuf<UriChars>;
 
     /// The segments of a path that are left, from both ends (RFC 3986 section 3.3): of `/a//b` they
@@ -118,12 +118,12 @@ pub mod uri {
 
     /// A query (RFC 3986 section 3.4): in `a?x=1?y` it is `x=1?y`.
     pub type Query<'a> = iref_component::texts::Query<'a, UriChars>;
-    /// A query that owns its text (RFC 3986 section 3.4), as `q` of `a?q`.
+    /// A query that owns its text (RFC 3986 section 3.4), such as `q` of `a?q`.
     pub type QueryBuf = iref_component::texts::QueryBuf<UriChars>;
 
     /// A fragment (RFC 3986 section 3.5): in `a#b/c` it is `b/c`.
     pub type Fragment<'a> = iref_component::texts::Fragment<'a, UriChars>;
-    /// A fragment that owns its text (RFC 3986 section 3.5), as `f` of `a#f`.
+    /// A fragment that owns its text (RFC 3986 section 3.5), such as `f` of `a#f`.
     pub type FragmentBuf = iref_component::texts::FragmentBuf<UriChars>;
 
     /// An edit of a list, for `apply_all`: `Edit::Push` of the segment `b` makes `http://h/a/b` of
@@ -147,8 +147,8 @@ pub mod iri {
     /// An IRI (RFC 3987 section 2.2): `http://é/b` and each URI, but not `//é/b`, which has no
     /// scheme.
     pub type Iri<'a> = iref_reference::view::Uri<'a, IriChars>;
-    /// A reference of IRIs (RFC 3987 section 2.2): any IRI, and what is relative to one, as `//é`,
-    /// `../ü` and the empty text.
+    /// A reference of IRIs (RFC 3987 section 2.2): any IRI, and what is relative to one, such as
+    /// `//é`, `../ü` and the empty text.
     pub type IriRef<'a> = iref_reference::view::UriRef<'a, IriChars>;
     /// An IRI that owns its text (RFC 3987 section 2.2): `into_uri` makes the URI `http://a/%C3%A9`
     /// of `http://a/é`. It never loses its scheme.
@@ -167,8 +167,8 @@ pub mod iri {
     /// An IRI that is composed of the components of others and not written yet (RFC 3987 section
     /// 2.2): what `../ü` resolves to against `http://a/b/c` takes 11 bytes.
     pub type ComposedIri<'a> = iref_reference::composed::ComposedUri<'a, IriChars>;
-    /// A reference that is composed and not written yet (RFC 3987 section 2.2), as `../../é`, which
-    /// leads from `http://a/b/c/d` to `http://a/é`.
+    /// A reference that is composed and not written yet (RFC 3987 section 2.2), such as `../../é`,
+    /// which leads from `http://a/b/c/d` to `http://a/é`.
     pub type ComposedIriRef<'a> = iref_reference::composed::ComposedUriRef<'a, IriChars>;
 
     /// An authority (RFC 3987 section 2.2): in `//u@é:80/x` it is `u@é:80`, with the host `é`.
@@ -189,11 +189,11 @@ pub mod iri {
 
     /// A user info (RFC 3987 section 2.2): in `//é:p@h` it is `é:p`.
     pub type UserInfo<'a> = iref_component::texts::UserInfo<'a, IriChars>;
-    /// A user info that owns its text (RFC 3987 section 2.2), as `é` of `//é@h`.
+    /// A user info that owns its text (RFC 3987 section 2.2), such as `é` of `//é@h`.
     pub type UserInfoBuf = iref_component::texts::UserInfoBuf<IriChars>;
 
     /// A host (RFC 3987 section 2.2): a name as `é.org`, an address as `10.0.0.1`, or one in
-    /// brackets, as `[::1]`. In `//u@:80` it is empty.
+    /// brackets, such as `[::1]`. In `//u@:80` it is empty.
     pub type Host<'a> = iref_component::texts::Host<'a, IriChars>;
     /// A host that owns its text (RFC 3987 section 2.2): that of the IPv6 number 1 is `[::1]`.
     pub type HostBuf = iref_component::texts::HostBuf<IriChars>;
@@ -210,7 +210,7 @@ pub mod iri {
     /// A segment of a path (RFC 3987 section 2.2): `é%2Fc` is one, `é/c` is none, and the empty
     /// text is one.
     pub type Segment<'a> = iref_component::texts::Segment<'a, IriChars>;
-    /// A segment that owns its text (RFC 3987 section 2.2), as `é` of `a/é`.
+    /// A segment that owns its text (RFC 3987 section 2.2), such as `é` of `a/é`.
     pub type SegmentBuf = iref_component::texts::SegmentBuf<IriChars>;
 
     /// The segments of a path that are left, from both ends (RFC 3987 section 2.2): of `/é//b` they
@@ -223,12 +223,12 @@ pub mod iri {
     /// A query (RFC 3987 section 2.2): in `a?é=1` it is `é=1`. Private characters as U+E000 stand
     /// here alone.
     pub type Query<'a> = iref_component::texts::Query<'a, IriChars>;
-    /// A query that owns its text (RFC 3987 section 2.2), as `é` of `a?é`.
+    /// A query that owns its text (RFC 3987 section 2.2), such as `é` of `a?é`.
     pub type QueryBuf = iref_component::texts::QueryBuf<IriChars>;
 
     /// A fragment (RFC 3987 section 2.2): in `a#é/c` it is `é/c`.
     pub type Fragment<'a> = iref_component::texts::Fragment<'a, IriChars>;
-    /// A fragment that owns its text (RFC 3987 section 2.2), as `é` of `a#é`.
+    /// A fragment that owns its text (RFC 3987 section 2.2), such as `é` of `a#é`.
     pub type FragmentBuf = iref_component::texts::FragmentBuf<IriChars>;
 
     /// An edit of a list, for `apply_all`: `Edit::Push` of the segment `é` makes `http://h/a/é` of

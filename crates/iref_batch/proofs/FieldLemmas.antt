@@ -17,7 +17,7 @@ field_and_rest text field rest h e = ap (pieces_at tab) e ∙ slice_split_at (λ
 pub last_field : (text : Text) → Lacks tab text → pieces_at tab text ≡ text ∷ []
 last_field text h = slice_split_none (λ c. c == tab) text h
 
--- a name without the mark, and what follows the mark
+-- a name without the delimiter, and what follows the delimiter
 no_mark : (mark : ℕ) (text : Text) → Lacks mark text → char_set_contains text mark ≡ false
 no_mark mark [] h = refl
 no_mark mark (c ∷ cs) h = rw (h 0 0 (omega arith), no_mark mark cs (λ k d lt. h (suc k) d (omega arith))) refl

@@ -9,11 +9,11 @@ use Rattle.iref_batch.specs.declared.lines.Begun.{Begun}
 use Rattle.iref_batch.specs.declared.lines.Lines.{Lines}
 use Rattle.iref_batch.specs.Runs.{IsReply, request_reply, with_newline, with_newlines, AnswersBegun}
 
--- a text without the mark
+-- a text without the delimiter
 abbrev pub Lacks : ℕ → Text → Type 0
 Lacks mark text = All (λ b. (b == mark) ≡ false) text
 
--- what stands before the first mark in the text, and what stands after it, if the mark is there
+-- what stands before the first delimiter in the text, and what stands after it, if the delimiter is there
 abbrev pub Cuts : ℕ → Text → Option (Bor Text × Bor Text) → Type 0
 Cuts mark text None = Lacks mark text
 Cuts mark text (Some cut) = Lacks mark cut.0.now × (text ≡ cut.0.now ++ mark ∷ cut.1.now)

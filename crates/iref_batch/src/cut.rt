@@ -1,10 +1,10 @@
-//! A text cut at a mark.
+//! A text cut at a delimiter.
 ghost use Rattle.memchr.specs.Find.{IsFirstByte, is_byte};
 ghost use Rattle.iref_batch.specs.Gathering.{Cuts};
 
 use memchr::memchr;
 
-/// What stands before the first mark in the text, and what stands after it.
+/// What stands before the first delimiter in the text, and what stands after it.
 #[inline(always)]
 pub fn cut_at(mark: u8, text: &[u8]) -> Option<(&[u8], &[u8])>
     ensures { Cuts mark text.now result }
@@ -13,7 +13,7 @@ pub fn cut_at(mark: u8, text: &[u8]) -> Option<(&[u8], &[u8])>
     Some((&text[..at], &text[at + 1..]))
 }
 
-/// The first place of the mark, byte by byte.
+/// The first place of the delimiter, byte by byte.
 fn place_near(mark: u8, text: &[u8]) -> Option<usize>
     ensures { IsFirstByte (is_byte mark) text.now result }
 {
@@ -25,7 +25,7 @@ fn place_near(mark: u8, text: &[u8]) -> Option<usize>
     None
 }
 
-/// As `cut_at`, byte by byte, which costs less where the mark is near.
+/// As `cut_at`, byte by byte, which costs less where the delimiter is near.
 #[inline(always)]
 pub fn cut_near(mark: u8, text: &[u8]) -> Option<(&[u8], &[u8])>
     ensures { Cuts mark text.now result }

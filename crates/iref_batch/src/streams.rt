@@ -16,7 +16,7 @@ pub trait Source {
     /// A call has failed.
     ghost has_failed: { Self → Bool };
 
-    /// Reads some bytes into `buf` and answers how many; none, if `buf` has room, at the end of the
+    /// Reads some bytes into `buf` and returns how many; none, if `buf` has room, at the end of the
     /// input.
     fn read(&mut self, buf: &mut [u8]) -> Result<usize, StreamError>
         requires { has_failed self.old ≡ false }
@@ -33,7 +33,7 @@ pub trait Sink {
     /// A call has failed.
     ghost has_failed: { Self → Bool };
 
-    /// Writes a beginning of `bytes` and answers its length, at least 1 if there are any.
+    /// Writes a beginning of `bytes` and returns its length, at least 1 if there are any.
     fn write(&mut self, bytes: &[u8]) -> Result<usize, StreamError>
         requires { has_failed self.old ≡ false }
         ensures bound { IfOk result (λ n. n ≤ length bytes.now) }

@@ -58,12 +58,12 @@ within text before part behind start spelled at u v =
     ends : length (before ++ part) ≡ start + length part
     ends = length-append before part ∙ ap (λ n. n + length part) (sym at)
 
--- a part and the mark after it, if there is one, at the start
+-- a part and the delimiter after it, if there is one, at the start
 within_before : (mark : Text) (o : Option Text) (behind : Text) → IsUtf8 mark → IfSome o IsUtf8 → IsUtf8 behind → IfSome (option_map (place_from 0) o) (IsWithin (part_then mark o ++ behind))
 within_before mark None behind m u v = tt
 within_before mark (Some part) behind m u v = within ((part ++ mark) ++ behind) [] part (mark ++ behind) 0 (sym (append_assoc part mark behind)) refl u (IsUtf8-append mark behind m v)
 
--- a mark and the part after it, if there is one
+-- a delimiter and the part after it, if there is one
 within_after : (before mark : Text) (o : Option Text) (behind : Text) → IfSome o IsUtf8 → IsUtf8 behind
     → IfSome (option_map (place_from (length before + length mark)) o) (IsWithin (before ++ (then_part mark o ++ behind)))
 within_after before mark None behind u v = tt
@@ -71,7 +71,7 @@ within_after before mark (Some part) behind u v =
     within (before ++ ((mark ++ part) ++ behind)) (before ++ mark) part behind (length before + length mark)
     (append_assoc before mark (part ++ behind) ∙ ap (λ t. before ++ t) (sym (append_assoc mark part behind))) (sym (length-append before mark)) u v
 
--- the marks are ASCII
+-- the delimiters are ASCII
 utf8_mark : (c : ℕ) → c < 128 → IsUtf8 (c ∷ [])
 utf8_mark c h = IsUtf8-from_ascii (c ∷ []) (λ i. ascii i)
   where
@@ -202,7 +202,7 @@ module _ (set : CharTests) (above : AreAboveAscii set) where
       subst (λ t. AreWithin t (offsets_in (read_reference text))) (read_reference-spelled text)
       (spelled_within (read_reference text) (components_utf8 _ (components_of text h)))
 
-  -- and so does the mark of the authority
+  -- and so does the delimiter of the authority
   pub authority_mark_within : (text : Text) → is_reference set text ≡ true → IsCharBoundary text (authority_mark (read_reference text))
   authority_mark_within text h =
       subst (λ t. IsCharBoundary t (authority_mark (read_reference text))) (read_reference-spelled text)
@@ -216,7 +216,7 @@ module _ (s a p q f : Text) where
   hierarchy_of : s ++ a ++ p ++ [] ++ [] ≡ take (length s + length a + length p) (s ++ a ++ p ++ q ++ f)
   hierarchy_of = same_lists _ _ (search (rules, places)) (λ k d h. grind (arith, places))
 
--- the query ends, or the path without one, where the mark of the fragment stands
+-- the query ends, or the path without one, where the delimiter of the fragment stands
 pub fragment_marked : (r : ReferenceValue) → front_end (offsets_in r) ≡ fragment_mark r
 unfolding offsets_in
 fragment_marked r = by r.query

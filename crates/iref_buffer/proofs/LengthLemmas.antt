@@ -35,7 +35,7 @@ pub lengths-offsets_of : (text : Text) → lengths_at (offsets_of text) ≡ leng
 unfolding offsets_of
 lengths-offsets_of text = lengths-offsets_in (read_reference text)
 
--- a part with its mark
+-- a part with its delimiter
 pub first_len : (o : Option Text) → with_mark 1 (option_map length o) ≡ length (part_then (colon ∷ []) o)
 first_len None = refl
 first_len (Some part) = omega (arith, length-append part (colon ∷ []))
@@ -48,7 +48,7 @@ place_from_len : (start : ℕ) (o : Option Text) → option_map (place_with_len 
 place_from_len start None = refl
 place_from_len start (Some part) = refl
 
--- where the components stand in terms of the lengths of the parts with their marks
+-- where the components stand in terms of the lengths of the parts with their delimiters
 abbrev of_parts : ReferenceValue → ℕ → ℕ → ℕ → Offsets
 of_parts r s a q = record {
   scheme = option_map (place_from 0) r.scheme;

@@ -1,4 +1,4 @@
--- A scheme and its mark are a reference, in each rule that allows the scheme.
+-- A scheme and its delimiter are a reference, in each rule that allows the scheme.
 use Rattle.std.proofs.Common.{◌≡◌, Bool, true, false, [], ◌∷◌, ◌++◌, refl, sym}
 use Rattle.std.specs.Prelude.{Option, Some, None}
 use Rattle.std.proofs.lemmas.List.{append-nil}

@@ -48,7 +48,7 @@ lengths_of_texts t = record {
 abbrev pub context_by : Lengths → PathContext
 context_by l = record { has_scheme = is_some l.scheme; has_authority = is_some l.authority }
 
--- of a part with its mark, where there is a part
+-- of a part with its delimiter, where there is a part
 abbrev pub with_mark : ℕ → Option ℕ → ℕ
 with_mark mark None = 0
 with_mark mark (Some n) = mark + n

@@ -8,7 +8,7 @@ use Rattle.iref_grammar.specs.PathValue.{read_path}
 use Rattle.iref_grammar.specs.Reference.{ReferenceValue, read_reference}
 use Rattle.iref_grammar.specs.ComponentOffsets.{offsets_of, text_at}
 
--- the authority and its mark
+-- the authority and its delimiter
 abbrev pub authority_text : Text → Text
 authority_text text =
     then_part (codes "//") (option_map spell_authority (read_reference text).authority)

@@ -33,7 +33,7 @@ front_end_at (Some query) path_end = query.end
 abbrev pub front_end : Offsets → ℕ
 front_end offsets = front_end_at offsets.query offsets.path.end
 
--- where the mark of the authority stands, or the path without one
+-- where the delimiter of the authority stands, or the path without one
 abbrev pub authority_start_at : Option (Range ℕ) → ℕ → ℕ
 authority_start_at None path_start = path_start
 authority_start_at (Some authority) path_start = authority.start - 2

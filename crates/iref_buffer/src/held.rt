@@ -59,8 +59,8 @@ pub trait HeldRule: Rule {
 }
 
 /// A text in a rule of references, with the offsets of its components beside it, in bytes: of
-/// `s:/a?q` the path is at 2 to 4. `new` hands back a text that is outside the rule (RFC 3986
-/// sections 3 and 4.1).
+/// `s:/a?q` the path is at 2 to 4. `new` returns a text that is outside the rule (RFC 3986 sections
+/// 3 and 4.1).
 #[derive(Drop)]
 pub struct Held<R: HeldRule, C: CharSet> {
     text: String,
@@ -230,7 +230,7 @@ fn front_end(offsets: &Offsets) -> usize
     }
 }
 
-// Where the mark of the authority stands, or the path without one.
+// Where the delimiter of the authority stands, or the path without one.
 fn authority_start(offsets: &Offsets) -> usize
     requires { IfSome offsets.now.authority (λ authority. 2 ≤ authority.start) }
     ensures { result ≡ authority_start offsets.now }

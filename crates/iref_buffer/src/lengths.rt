@@ -78,7 +78,7 @@ impl Lengths {
     }
 }
 
-// A length and that of a part with its mark, if there is one.
+// A length and that of a part with its delimiter, if there is one.
 fn add_part(len: usize, mark: usize, part: Option<usize>) -> Result<usize, AllocError>
     ensures { IfOk result (λ sum. sum ≡ len + with_mark mark part) }
 {
@@ -96,7 +96,7 @@ fn place_len(place: &Option<Range<usize>>) -> Option<usize>
     place.as_ref().map(|place| place.len())
 }
 
-// Where a part at the start stands, and where its mark of one byte ends.
+// Where a part at the start stands, and where its delimiter of one byte ends.
 fn place_first(len: Option<usize>) -> (Option<Range<usize>>, usize)
     requires { with_mark 1 len < 2 ^ 64 }
     ensures place { result.0 ≡ option_map (place_with_len 0) len }
@@ -108,7 +108,7 @@ fn place_first(len: Option<usize>) -> (Option<Range<usize>>, usize)
     }
 }
 
-// Where a part stands after a mark that begins at `start`, and where it ends.
+// Where a part stands after a delimiter that begins at `start`, and where it ends.
 fn place_after(start: usize, mark: usize, len: Option<usize>) -> (Option<Range<usize>>, usize)
     requires { start + with_mark mark len < 2 ^ 64 }
     ensures place { result.0 ≡ option_map (place_with_len (start + mark)) len }

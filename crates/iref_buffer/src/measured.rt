@@ -53,7 +53,7 @@ fn context_after(scheme: Option<&str>, authority: Option<&str>) -> PathContext
     }
 }
 
-// Writes two pieces so that they end at a place, and answers where they begin.
+// Writes two pieces so that they end at a place, and returns where they begin.
 #[tactic(auto, using(iref_path_text::proofs::WrittenLemmas::both_written))]
 fn write_pair(buffer: &mut [u8], end: usize, pair: (&str, &str)) -> usize
     requires room { length (pair.0.now ++ pair.1.now) ≤ end }

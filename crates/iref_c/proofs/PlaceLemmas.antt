@@ -12,7 +12,7 @@ use Rattle.iref_grammar.proofs.AuthorityLemmas.{read_authority-spelled}
 use Rattle.iref_c.specs.declared.places.Place.{Place}
 use Rattle.iref_c.specs.PartPlaces.{authority_places, place_for_c, places_from}
 
--- an authority is as long as its parts and their marks
+-- an authority is as long as its parts and their delimiters
 pub length-spelled : (a : AuthorityValue) → length (spell_authority a) ≡ length (part_then (at_sign ∷ []) a.user_info) + length a.host + length (then_part (colon ∷ []) a.port)
 unfolding spell_authority
 length-spelled a = simp (length-append)

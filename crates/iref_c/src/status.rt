@@ -1,4 +1,4 @@
-//! What the calls answer.
+//! The statuses that the calls return.
 
 /// It is done.
 pub const OK: u32 = 0;

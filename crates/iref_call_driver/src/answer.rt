@@ -9,7 +9,7 @@ use iref_url::ParseError;
 use std::alloc::{AllocError, AllocFailed};
 use std::io;
 
-/// What a call answers that is not refused.
+/// What a call returns that is not refused.
 #[derive(Clone, Copy, Drop)]
 pub enum Outcome {
     /// It is done.

@@ -7,7 +7,7 @@ use Rattle.iref_grammar.specs.Rules.{Text}
 use Rattle.iref_grammar.specs.Authority.{AuthorityValue, spell_authority, read_authority, is_authority}
 use Rattle.iref_grammar.proofs.AuthorityRuleLemmas.{Decides-is_authority}
 
--- how many bytes a part and its mark have, where there is one
+-- how many bytes a part and its delimiter have, where there is one
 abbrev pub marked_length : Option Text → ℕ
 marked_length None = 0
 marked_length (Some part) = length part + 1

@@ -19,8 +19,8 @@ use std::hash::Hash;
 /// An authority (RFC 3986 section 3.2): that of `//u@h:80/x` is `u@h:80`. `InvalidAuthority` holds
 /// a text that is no authority, such as `h:8a`.
 pub type Authority<'a, C> = View<'a, AuthorityRule, C>;
-/// An authority that owns its text (RFC 3986 section 3.2), as `u@h`, which is edited in place to
-/// `u@h:80`.
+/// An authority that owns its text (RFC 3986 section 3.2), such as `u@h`, which is edited in place
+/// to `u@h:80`.
 pub type AuthorityBuf<C> = TextBuf<AuthorityRule, C>;
 
 impl<'a, C: CharSet> Authority<'a, C> {

@@ -17,7 +17,8 @@ use crate::segments::Segments;
 use crate::texts::Segment;
 use iref_grammar::chars::CharSet;
 
-/// A path that owns its text (RFC 3986 section 3.3), as `/a`, which is edited in place to `/a/b`.
+/// A path that owns its text (RFC 3986 section 3.3), such as `/a`, which is edited in place to
+/// `/a/b`.
 pub type PathBuf<C> = TextBuf<PathRule, C>;
 
 impl<C: CharSet> PathBuf<C> {

@@ -157,7 +157,7 @@ impl<'a, C: CharSet, T: Target<PathPart, C>> PathMut<'a, C, T> {
         self.apply(step)
     }
 
-    /// The same, and whether the path changed: an absolute path without segments stays.
+    /// Pops, and returns whether the path changed: an absolute path without segments stays.
     pub fn try_pop(&mut self) -> Result<bool, Memory>
         ensures edit { Edits step.popped self.old self.new result }
         ensures changed { IfOk result (λ changed. changed ≡ not ((path_mut_value self.old).absolute

@@ -30,7 +30,7 @@ pub trait Rule {
         → Self.Key.has_key tests text };
 }
 
-/// A rule whose refused inputs are handed back in an error of its own.
+/// A rule whose refused inputs are returned in an error of its own.
 pub trait Refuses<T>: Rule {
     /// The error.
     type Error;

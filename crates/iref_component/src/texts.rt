@@ -12,13 +12,13 @@ use iref_grammar::chars::{CharSet, UriChars};
 /// A scheme (RFC 3986 section 3.1): `HTTP://h` has the scheme `HTTP`, which is equal to `http`.
 /// `InvalidScheme` holds a text that is no scheme, such as `1a`.
 pub type Scheme<'a> = View<'a, SchemeRule, UriChars>;
-/// A scheme that owns its text (RFC 3986 section 3.1), as `urn` of `urn:isbn:1`.
+/// A scheme that owns its text (RFC 3986 section 3.1), such as `urn` of `urn:isbn:1`.
 pub type SchemeBuf = TextBuf<SchemeRule, UriChars>;
 
 /// A user info (RFC 3986 section 3.2.1): `//u:p@h` has `u:p`, which is equal to `%75:p`.
 /// `InvalidUserInfo` holds a text that is no user info, such as `a@b`.
 pub type UserInfo<'a, C> = View<'a, UserInfoRule, C>;
-/// A user info that owns its text (RFC 3986 section 3.2.1), as `u` of `//u@h`.
+/// A user info that owns its text (RFC 3986 section 3.2.1), such as `u` of `//u@h`.
 pub type UserInfoBuf<C> = TextBuf<UserInfoRule, C>;
 
 /// A host (RFC 3986 section 3.2.2), a name or an address: `//[::1]:80` has the host `[::1]`, and
@@ -37,19 +37,19 @@ pub type PortBuf = TextBuf<PortRule, UriChars>;
 /// A segment (RFC 3986 section 3.3), what stands between two `/`: `/a//b` has `a`, the empty one
 /// and `b`. `InvalidSegment` holds a text that is no segment, such as `a/b`.
 pub type Segment<'a, C> = View<'a, SegmentRule, C>;
-/// A segment that owns its text (RFC 3986 section 3.3), as `b%2Fc` of `a/b%2Fc`.
+/// A segment that owns its text (RFC 3986 section 3.3), such as `b%2Fc` of `a/b%2Fc`.
 pub type SegmentBuf<C> = TextBuf<SegmentRule, C>;
 
 /// A query (RFC 3986 section 3.4), without its `?`: `/a?q=1#f` has the query `q=1`, and `/a?` the
 /// empty one. `InvalidQuery` holds a text that is no query, such as `a#b`.
 pub type Query<'a, C> = View<'a, QueryRule, C>;
-/// A query that owns its text (RFC 3986 section 3.4), as `q=1` of `?q=1`.
+/// A query that owns its text (RFC 3986 section 3.4), such as `q=1` of `?q=1`.
 pub type QueryBuf<C> = TextBuf<QueryRule, C>;
 
 /// A fragment (RFC 3986 section 3.5), without its `#`: `/a#f` has the fragment `f`, and `/a#` the
 /// empty one. `InvalidFragment` holds a text that is no fragment, such as `a#b`.
 pub type Fragment<'a, C> = View<'a, FragmentRule, C>;
-/// A fragment that owns its text (RFC 3986 section 3.5), as `f` of `#f`.
+/// A fragment that owns its text (RFC 3986 section 3.5), such as `f` of `#f`.
 pub type FragmentBuf<C> = TextBuf<FragmentRule, C>;
 
 impl SchemeBuf {

@@ -10,11 +10,11 @@ use crate::view::View;
 use iref_error::TryError;
 use iref_grammar::chars::CharSet;
 
-/// What an edit by a text answers, where `E` hands back one that is outside its rule: an edit by
-/// the port `8a` is refused with `Invalid(InvalidPort("8a"))`, and `Memory` is want of room.
+/// The result of an edit by a text, where `E` returns one that is outside its rule: an edit by the
+/// port `8a` is refused with `Invalid(InvalidPort("8a"))`, and `Memory` says that memory ran out.
 pub type Tried<E> = Result<(), TryError<E>>;
 
-/// The view of a text that is in a rule: `Invalid` hands back one that is not, in the rule's error.
+/// The view of a text that is in a rule: `Invalid` returns one that is not, in the rule's error.
 pub fn read<'t, R: Refuses<&'t str>, C: CharSet>(
     text: &'t str,
 ) -> Result<View<'t, R, C>, TryError<R::Error>>
@@ -24,7 +24,7 @@ pub fn read<'t, R: Refuses<&'t str>, C: CharSet>(
     View::new(text).map_err(TryError::Invalid)
 }
 
-/// Whether the text, if there is one, is in a rule: `Invalid` hands back one that is not, in the
+/// Whether the text, if there is one, is in a rule: `Invalid` returns one that is not, in the
 /// rule's error.
 pub fn test<'t, R: Refuses<&'t str>, C: CharSet>(
     text: Option<&'t str>,

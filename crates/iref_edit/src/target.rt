@@ -50,7 +50,7 @@ pub trait Target<P: Part, C: CharSet> {
         ensures value { result.now ≡ part_at (text self.now) at }
         ensures test { P.test C.tests after result.now ≡ true };
 
-    /// Changes the part, and answers where it ends then. All room is taken first: an `Err` changes
+    /// Changes the part, and returns where it ends then. All room is taken first: an `Err` changes
     /// nothing, and what makes the part no longer takes no memory.
     fn replace(&mut self, after: P::Context, at: Place, by: Change<'_>) -> Result<usize, Memory>
         requires stands { stands (text self.old) after at.start at.end }

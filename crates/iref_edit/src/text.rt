@@ -26,7 +26,7 @@ pub fn replace(text: &mut String, change: Change<'_>) -> Result<(), AllocError>
     replaced
 }
 
-/// The mark and the part, or nothing.
+/// The delimiter and the part, or nothing.
 pub fn marked<'a>(mark: &'a str, part: Option<&'a str>) -> (&'a str, &'a str)
     ensures pieces { result.0.now ++ result.1.now
         ≡ then_part mark.entry.now (option_copied part.entry) }
@@ -38,7 +38,7 @@ pub fn marked<'a>(mark: &'a str, part: Option<&'a str>) -> (&'a str, &'a str)
     }
 }
 
-/// The part and the mark after it, or nothing.
+/// The part and the delimiter after it, or nothing.
 pub fn marked_after<'a>(part: Option<&'a str>, mark: &'a str) -> (&'a str, &'a str)
     ensures pieces { result.0.now ++ result.1.now
         ≡ part_then mark.entry.now (option_copied part.entry) }

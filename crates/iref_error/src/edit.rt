@@ -4,7 +4,7 @@ use std::fmt;
 use thiserror::Error;
 
 /// A growth was refused, or the new length, in bytes, would pass what a buffer can hold:
-/// `set_query` answers it and leaves `http://a` as it was. It is printed as `out of memory`.
+/// `set_query` returns it and leaves `http://a` as it was. It is printed as `out of memory`.
 #[derive(Clone, Copy, Debug, PartialEq, Eq, Error)]
 #[error("out of memory")]
 pub struct Memory;
@@ -21,7 +21,7 @@ impl<T: Drop> From<AllocFailed<T>> for Memory {
     }
 }
 
-/// Why an edit by a text is refused: a port set to `8a` answers `Invalid(InvalidPort("8a"))`.
+/// Why an edit by a text is refused: a port set to `8a` returns `Invalid(InvalidPort("8a"))`.
 #[derive(Clone, Copy, Debug, PartialEq, Eq, Drop, Error)]
 #[error_bound(E: fmt::Display)]
 pub enum TryError<E> {

@@ -1,4 +1,4 @@
-//! A map of std over URIs: two spellings of one URI find one entry, as `HTTP://a/%7Eb/./c` and
+//! A map of std over URIs: two spellings of one URI find one entry, such as `HTTP://a/%7Eb/./c` and
 //! `http://a/~b/c`.
 ghost use Rattle.std.specs.{Prelude.{◌≡◌, IfOk, MatchOption, OnErr, OnOk}, Option.{option_copied}};
 ghost use Rattle.std.specs.HashMap.{IsUnchanged};

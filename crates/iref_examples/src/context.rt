@@ -1,4 +1,4 @@
-//! A context of prefixes, as in JSON-LD: IRIs made short, as `schema:name` for
+//! A context of prefixes, as in JSON-LD: IRIs made short, such as `schema:name` for
 //! `https://schema.org/name`.
 ghost use Rattle.std.specs.{Prelude.{◌≡◌, Ok, IfOk, IfSome, option_map}, String.{string_bytes}};
 ghost use Rattle.iref.specs.PrefixTable.{compact_text, compacted, expanded};

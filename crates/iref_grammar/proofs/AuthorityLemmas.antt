@@ -44,7 +44,7 @@ read_authority-spelled text = by (after at_sign text) (cut at_sign text)
     by None e = host_and_port-joins None text
     by (Some rest) e = host_and_port-joins (Some (before (at_sign ∷ []) text)) rest ∙ append_assoc (before (at_sign ∷ []) text) (at_sign ∷ []) rest ∙ e
 
--- each part of an authority lacks the marks that end it
+-- each part of an authority lacks the delimiters that end it
 abbrev pub IsPlainHost : Text → Type 0
 IsPlainHost host = (lacks colon host ≡ true) × (begins_with (left_bracket ∷ []) host ≡ false)
 

@@ -1,4 +1,4 @@
--- What the components of a text lack: the marks that end them.
+-- What the components of a text lack: the delimiters that end them.
 use Rattle.std.proofs.Common.{◌≡◌, ℕ, Bool, true, false, cond, ◌&&◌, ◌||◌, List, [], ◌∷◌, ◌++◌, refl, sym, ◌∙◌, ap, inl, inr, subst, ◌<◌, lit<}
 use Rattle.std.specs.Prelude.{◌==◌, Option, Some, None, codes, IfSome}
 use Rattle.std.specs.Char.{char_set_contains, is_ascii_alphanumeric, is_ascii_alphabetic, is_ascii_digit}
@@ -17,7 +17,7 @@ use Rattle.std.proofs.lemmas.Option.{same_Some}
 use Rattle.iref_grammar.proofs.LackLemmas.{lacks_more, lacks-append, all_lacks, IsRefused, in_utf8_lacks}
 use Rattle.iref_grammar.proofs.HostLemmas.{IsOutside, address_lacks, before_lacks}
 
--- a mark that ends a part of an authority
+-- a delimiter that ends a part of an authority
 pub record IsCut (mark : ℕ) : Type 0 where
   pub ascii : mark < 128
   pub letters : (is_ascii_alphanumeric mark || char_set_contains (codes "-._~") mark) ≡ false
@@ -115,7 +115,7 @@ pub port_lacks : (mark : ℕ) → IsCut mark → (p : Text) → is_port p ≡ tr
 unfolding is_port
 port_lacks mark m p h = all_lacks is_ascii_digit mark m.digit p h
 
--- an option's part, with a mark after it or before it
+-- an option's part, with a delimiter after it or before it
 pub part_then_lacks : (mark sep : ℕ) → (sep == mark) ≡ false → (o : Option Text) → IfSome o (λ t. lacks mark t ≡ true) → lacks mark (part_then (sep ∷ []) o) ≡ true
 part_then_lacks mark sep h None k = refl
 part_then_lacks mark sep h (Some t) k = lacks-append mark t (sep ∷ []) k (lacks_more mark sep [] h refl)

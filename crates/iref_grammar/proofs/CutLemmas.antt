@@ -1,4 +1,4 @@
--- Cuts of a text at its first mark.
+-- Cuts of a text at its first delimiter.
 use Rattle.std.proofs.Common.{◌≡◌, ℕ, ◌+◌, Bool, true, false, not, cond, ◌||◌, List, [], ◌∷◌, ◌++◌, take, drop, refl, sym, ◌∙◌, ap, inl, inr}
 use Rattle.std.specs.Prelude.{◌==◌, Option, Some, None}
 use Rattle.std.specs.Char.{char_set_contains}
@@ -11,11 +11,11 @@ use Rattle.iref_grammar.specs.Rules.{Text}
 use Rattle.iref_grammar.specs.Texts.{before, from_first, after, after_first_char, then_part}
 use Rattle.iref_grammar.proofs.TextLemmas.{lacks}
 
--- what stands before the marks, and from the first of them on
+-- what stands before the delimiters, and from the first of them on
 pub before-from_first : (marks : List ℕ) (text : Text) → before marks text ++ from_first marks text ≡ text
 before-from_first marks text = take-append-drop (position_or_len (char_set_contains marks) text) text
 
--- at a character that is no mark, and at one that is
+-- at a character that is no delimiter, and at one that is
 pub before-no : (marks : List ℕ) (c : ℕ) (cs : Text) → char_set_contains marks c ≡ false → before marks (c ∷ cs) ≡ c ∷ before marks cs
 before-no marks c cs h =
     let n = position_or_len (char_set_contains marks) cs in
@@ -32,7 +32,7 @@ before-yes marks c cs h = ap (λ b. take (cond (not b) (1 + position_or_len (cha
 pub from_first-yes : (marks : List ℕ) (c : ℕ) (cs : Text) → char_set_contains marks c ≡ true → from_first marks (c ∷ cs) ≡ c ∷ cs
 from_first-yes marks c cs h = ap (λ b. drop (cond (not b) (1 + position_or_len (char_set_contains marks) cs) 0) (c ∷ cs)) h
 
--- a text cut at its first mark
+-- a text cut at its first delimiter
 pub cut : (mark : ℕ) (text : Text) → before (mark ∷ []) text ++ then_part (mark ∷ []) (after mark text) ≡ text
 cut mark [] = refl
 cut mark (c ∷ cs) = elim (eqb_tells mark c) [
@@ -44,7 +44,7 @@ cut mark (c ∷ cs) = elim (eqb_tells mark c) [
       (λ i. before-no (mark ∷ []) c cs no i ++ then_part (mark ∷ []) (after_first_char (from_first-no (mark ∷ []) c cs no i))) ∙ ap (λ t. c ∷ t) (cut mark cs)
 ]
 
--- a first character other than the mark, and the rest without it
+-- a first character other than the delimiter, and the rest without it
 pub first_lacks : (mark c : ℕ) (cs : Text) → lacks mark (c ∷ cs) ≡ true → (mark == c) ≡ false
 first_lacks mark c cs h = elim (eqb_tells mark c) [
   | inl e ↦ elim (eqb_tells c mark) [
@@ -67,7 +67,7 @@ no_mark mark c cs h = λ i. first_lacks mark c cs h i || false
 pub is_mark : (mark : ℕ) → char_set_contains (mark ∷ []) mark ≡ true
 is_mark mark = elim (eqb_tells mark mark) [ inl e ↦ λ i. e.0 i || false | inr e ↦ absurd (e.1 refl) ]
 
--- a text without the mark, and one that goes on with it
+-- a text without the delimiter, and one that goes on with it
 pub before-lacking : (mark : ℕ) (front : Text) → lacks mark front ≡ true → before (mark ∷ []) front ≡ front
 before-lacking mark [] h = refl
 before-lacking mark (c ∷ cs) h = before-no (mark ∷ []) c cs (no_mark mark c cs h) ∙ ap (λ t. c ∷ t) (before-lacking mark cs (rest_lacks mark c cs h))

@@ -19,7 +19,7 @@ use Rattle.iref_grammar.proofs.CutLemmas.{cut, before-no, before-yes}
 use Rattle.iref_grammar.proofs.LackLemmas.{lacks_more, lacks-append, all_lacks}
 use Rattle.iref_grammar.proofs.Ipv6Lemmas.{ipv6_value-sound}
 
--- a mark that no IP address holds
+-- a delimiter that no IP address holds
 pub record IsOutside (mark : ℕ) : Type 0 where
   pub hex : is_ascii_hexdigit mark ≡ false
   pub digit : digit_value mark ≡ 36
@@ -106,7 +106,7 @@ address_lacks mark m v text h = by (ipv6_value text) refl h
     by None e k = future_lacks mark m v text k
     by (Some n) e k = let z = ipv6_value-sound text n e in ipv6_lacks mark m text z.0 z.1
 
--- what stands before a mark lacks it
+-- what stands before a delimiter lacks it
 pub before_lacks : (mark : ℕ) (text : Text) → lacks mark (before (mark ∷ []) text) ≡ true
 before_lacks mark [] = refl
 before_lacks mark (c ∷ cs) = elim (eqb_tells mark c) [

@@ -38,7 +38,7 @@ groups_complete [] (n ∷ ns) z = absurd z
 groups_complete (p ∷ pieces) [] z = absurd z
 groups_complete (p ∷ pieces) (n ∷ ns) z = λ i. option_and_then (λ x. option_map (λ xs. x ∷ xs) (groups_complete pieces ns z.1 i)) (group_value-complete p n z.0 i)
 
--- ---- pieces that are not empty, with no mark in them
+-- ---- pieces that are not empty, with no delimiter in them
 
 abbrev pub is_piece : ℕ → Text → Bool
 is_piece mark p = not (is_empty p) && lacks mark p

@@ -1,4 +1,4 @@
--- What a test takes lacks each mark that the test refuses.
+-- What a test takes lacks each delimiter that the test refuses.
 use Rattle.std.proofs.Common.{◌≡◌, ℕ, ◌+◌, ◌/◌, ◌%◌, ◌<◌, ◌≤◌, zero, suc, Bool, true, false, not, cond, ◌||◌, [], ◌∷◌, ◌++◌, refl, sym, ◌∙◌, ap, subst, arith, inl, inr}
 use Rattle.std.specs.Prelude.{◌==◌, nat_lt, chars, encode_utf8_all, bytes_eq, Some}
 use Rattle.std.specs.Char.{char_set_contains, encode_utf8, is_ascii_hexdigit}
@@ -16,7 +16,7 @@ use Rattle.iref_grammar.proofs.EncodedLemmas.{by_percent, by_char, by_digit, if_
 pub lacks_more : (mark c : ℕ) (cs : Text) → (c == mark) ≡ false → lacks mark cs ≡ true → lacks mark (c ∷ cs) ≡ true
 lacks_more mark c cs h k = (λ i. not (h i || char_set_contains cs mark)) ∙ k
 
--- the first character is no mark, and what follows from the others
+-- the first character is no delimiter, and what follows from the others
 split_lacks : (mark c : ℕ) (cs : Text) → lacks mark (c ∷ cs) ≡ true → (ds : Text) → (lacks mark cs ≡ true → lacks mark ds ≡ true) → lacks mark (c ∷ ds) ≡ true
 split_lacks mark c cs h ds f = by (c == mark) h
   where
@@ -24,7 +24,7 @@ split_lacks mark c cs h ds f = by (c == mark) h
     by true l = absurd (true≢false (sym l))
     by false l = f l
 
--- the first character is no mark, and the others hold none
+-- the first character is no delimiter, and the others hold none
 pub parted : (mark c : ℕ) (cs : Text) → lacks mark (c ∷ cs) ≡ true → ((c == mark) ≡ false) × (lacks mark cs ≡ true)
 parted mark c cs h = by (c == mark) h
   where
@@ -36,7 +36,7 @@ pub lacks-append : (mark : ℕ) (xs ys : Text) → lacks mark xs ≡ true → la
 lacks-append mark [] ys h k = k
 lacks-append mark (c ∷ cs) ys h k = split_lacks mark c cs h (cs ++ ys) (λ l. lacks-append mark cs ys l k)
 
--- a byte from 128 on is no mark
+-- a byte from 128 on is no delimiter
 high : (mark b : ℕ) → mark < 128 → 128 ≤ b → (b == mark) ≡ false
 high mark b h k = grind (arith, nat_tests)
 
@@ -59,14 +59,14 @@ lacks-encoded mark (c ∷ cs) h k =
     let p = parted mark c cs k in
     lacks-append mark (encode_utf8 c) (encode_utf8_all cs) (lacks_encoded_char mark c h p.0) (lacks-encoded mark cs h p.1)
 
--- a mark is refused: by the test, and as `%` and a digit
+-- a delimiter is refused: by the test, and as `%` and a digit
 pub record IsRefused (test : ℕ → Bool) (mark : ℕ) : Type 0 where
   pub ascii : mark < 128
   pub alone : test mark ≡ false
   pub percent : (mark == percent_sign) ≡ false
   pub digit : is_ascii_hexdigit mark ≡ false
 
--- a character that a test takes is no mark that it refuses
+-- a character that a test takes is no delimiter that it refuses
 other : (test : ℕ → Bool) (mark c : ℕ) → test mark ≡ false → test c ≡ true → (c == mark) ≡ false
 other test mark c h k = elim (eqb_tells c mark) [
   | inl e ↦ absurd (true≢false (sym k ∙ ap test e.1 ∙ h))

@@ -1,4 +1,4 @@
--- The scheme and the authority that bytes begin with, by their first mark.
+-- The scheme and the authority that bytes begin with, by their first delimiter.
 use Rattle.std.proofs.Common.{◌≡◌, ℕ, ◌&&◌, Bool, true, false, cond, [], ◌∷◌, refl, sym, ◌∙◌, ap, inl, inr, subst}
 use Rattle.std.specs.Prelude.{◌==◌, ◌||◌, codes}
 use Rattle.std.specs.Char.{char_set_contains}

@@ -1,4 +1,4 @@
--- No two references spell one text, where each part lacks the marks that end it.
+-- No two references spell one text, where each part lacks the delimiters that end it.
 use Rattle.std.proofs.Common.{◌≡◌, ℕ, Bool, true, false, not, cond, ◌&&◌, ◌||◌, List, [], ◌∷◌, ◌++◌, drop, refl, sym, ◌∙◌, ap, append_assoc, inl, inr, subst}
 use Rattle.std.specs.Prelude.{◌==◌, Option, Some, None, option_map, codes, is_some, IfSome}
 use Rattle.std.specs.Char.{char_set_contains}
@@ -109,7 +109,7 @@ path_ends_authority false (s ∷ ss) h = absurd (true≢false (sym h))
 abbrev pub front_of : ReferenceValue → Text
 front_of r = part_then (colon ∷ []) r.scheme ++ (then_part (codes "//") (option_map spell_authority r.authority) ++ spell_path r.path)
 
--- each component lacks the marks that end it, and the path shows where it stands
+-- each component lacks the delimiters that end it, and the path shows where it stands
 pub record IsDelimited (r : ReferenceValue) : Type 0 where
   pub scheme : IfSome r.scheme (λ s. (lacks colon s ≡ true) × (lacks slash s ≡ true))
   pub authority : IfSome r.authority (λ a. IsDelimitedAuthority a × (lacks slash (spell_authority a) ≡ true))

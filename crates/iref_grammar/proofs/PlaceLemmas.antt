@@ -24,13 +24,13 @@ text_between text before part behind start spelled at =
     same : (n m : ℕ) → n + m - n ≡ m
     same n m = omega arith
 
--- a part and the mark after it, if there is one, at the start
+-- a part and the delimiter after it, if there is one, at the start
 part_before : (mark : Text) (o : Option Text) (behind : Text) → option_map (text_at (part_then mark o ++ behind)) (option_map (place_from 0) o) ≡ o
 part_before mark None behind = refl
 part_before mark (Some part) behind =
     ap (λ t. Some t) (text_between ((part ++ mark) ++ behind) [] part (mark ++ behind) 0 (sym (append_assoc part mark behind)) refl)
 
--- a mark and the part after it, if there is one
+-- a delimiter and the part after it, if there is one
 part_after : (before mark : Text) (o : Option Text) (behind : Text)
     → option_map (text_at (before ++ (then_part mark o ++ behind))) (option_map (place_from (length before + length mark)) o) ≡ o
 part_after before mark None behind = refl

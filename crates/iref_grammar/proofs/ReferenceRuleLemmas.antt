@@ -53,7 +53,7 @@ pub record IsSpelledReference (set : CharTests) (has_scheme : Bool) (bytes : Tex
 Decides-itself : (b : Bool) → Decides b (b ≡ true)
 Decides-itself b = (λ h. h, λ h. h)
 
--- two marks, and two texts
+-- two delimiters, and two texts
 two_marks : (m n l r x y front rest text : Text) (c d : ℕ) → m ≡ c ∷ [] → n ≡ d ∷ [] → x ≡ l → y ≡ r → l ++ r ≡ front → n ++ front ≡ rest → m ++ rest ≡ text → c ∷ d ∷ (x ++ y) ≡ text
 two_marks m n l r x y front rest text c d e f p q g h k = (λ i. sym e i ++ (sym f i ++ (p i ++ q i))) ∙ ap (λ t. m ++ (n ++ t)) g ∙ ap (λ t. m ++ t) h ∙ k
 

@@ -74,7 +74,7 @@ lacks-split mark (c ∷ xs) ys h =
     let r = lacks-split mark xs ys p.1 in
     (lacks_more mark c xs p.0 r.0, r.1)
 
--- a mark of ASCII in the text is in its bytes
+-- a delimiter of ASCII in the text is in its bytes
 encode_mark : (mark : ℕ) → mark < 128 → encode_utf8 mark ≡ mark ∷ []
 encode_mark mark h = Rattle.std.proofs.lemmas.Str.encode_ascii mark h
 

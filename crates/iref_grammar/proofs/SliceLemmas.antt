@@ -1,4 +1,4 @@
--- Slices of a text that end at a mark.
+-- Slices of a text that end at a delimiter.
 use Rattle.std.proofs.Common.{◌≡◌, ℕ, ◌+◌, ◌<◌, zero, suc, Bool, true, false, not, cond, [], ◌∷◌, ◌++◌, length, get_or, drop, refl, sym, ◌∙◌, ap, subst, arith}
 use Rattle.std.specs.Prelude.{◌==◌, Option, Some, None}
 use Rattle.std.specs.Char.{char_set_contains}
@@ -10,7 +10,7 @@ use Rattle.std.proofs.lemmas.List.{append-nil}
 use Rattle.iref_grammar.specs.Rules.{Text}
 use Rattle.iref_grammar.specs.Texts.{after, after_first_char, then_part, pieces_at}
 
--- a mark is found by its number as by the set of it alone
+-- a delimiter is found by its number as by the set of it alone
 position-mark : (mark : ℕ) (text : Text) → position_or_len (char_set_contains (mark ∷ [])) text ≡ position_or_len (λ b. b == mark) text
 position-mark mark [] = refl
 position-mark mark (c ∷ cs) = grind (arith, common_steps, position-mark mark cs)
@@ -20,11 +20,11 @@ after_first_char-drop [] n h = absurd (omega arith)
 after_first_char-drop (c ∷ cs) zero h = refl
 after_first_char-drop (c ∷ cs) (suc n) h = grind (arith, common_steps, after_first_char-drop cs n (omega arith))
 
--- what follows a mark that was found
+-- what follows a delimiter that was found
 pub after-found : (mark : ℕ) (text : Text) → position_or_len (λ b. b == mark) text < length text → after mark text ≡ Some (after_first (λ b. b == mark) text)
 after-found mark text h = ap (λ n. after_first_char (drop n text)) (position-mark mark text) ∙ after_first_char-drop text (position_or_len (λ b. b == mark) text) h
 
--- a text may be cut before an ASCII mark, and at its end
+-- a text may be cut before an ASCII delimiter, and at its end
 pub mark_boundary : (mark : ℕ) (front : Text) (back : Option Text) (text : Text) → mark < 128 → front ++ then_part (mark ∷ []) back ≡ text → IsCharBoundary text (length front)
 mark_boundary mark front None text m e =
     let whole : front ≡ text = sym (append-nil front) ∙ e in
@@ -34,7 +34,7 @@ mark_boundary mark front (Some back) text m e =
     let inside : length front < length (front ++ mark ∷ back) = grind (arith, common_steps) in
     subst (λ t. IsCharBoundary t (length front)) e (IsCharBoundary-before_ascii (front ++ mark ∷ back) (length front) inside here)
 
--- a text without the mark is its one piece
+-- a text without the delimiter is its one piece
 pub pieces_at-whole : (mark : ℕ) (text : Text) → position_or_len (λ b. b == mark) text ≡ length text → pieces_at mark text ≡ text ∷ []
 pieces_at-whole mark [] h = refl
 pieces_at-whole mark (c ∷ cs) h = by (c == mark) h (λ k. pieces_at-whole mark cs k)

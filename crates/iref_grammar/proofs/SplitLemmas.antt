@@ -22,7 +22,7 @@ use Rattle.iref_grammar.proofs.OnlyLemmas.{scheme-back, no_scheme, no_colon}
 pub place_or_len : (p : ℕ → Bool) (text : Text) → unwrap_or (cond (ltb (position_or_len p text) (length text)) (Some (position_or_len p text)) None) (length text) ≡ position_or_len p text
 place_or_len p text = let bound = prefix_len-le-length (λ c. not (p c)) text in grind (arith, common_steps)
 
--- what stands before the marks lacks each of them
+-- what stands before the delimiters lacks each of them
 pub lacks-before : (marks : List ℕ) (mark : ℕ) (text : Text) → char_set_contains marks mark ≡ true → lacks mark (before marks text) ≡ true
 lacks-before marks mark [] h = refl
 lacks-before marks mark (c ∷ cs) h = by (char_set_contains marks c) refl (lacks-before marks mark cs h)
@@ -89,7 +89,7 @@ hash = hash_sign ∷ []
 abbrev pub question : List ℕ
 question = question_mark ∷ []
 
--- a character that is no mark, and one that is
+-- a character that is no delimiter, and one that is
 no_single : (mark c : ℕ) → (mark == c) ≡ false → char_set_contains (mark ∷ []) c ≡ false
 no_single mark c h = λ i. h i || false
 
@@ -140,7 +140,7 @@ hierarchy-cut text = (is_tail text).hierarchy
 pub fragment-cut : (text : Text) → after hash_sign (from_first ends_path text) ≡ after hash_sign text
 fragment-cut text = (is_tail text).fragment
 
--- the query stands behind its mark at the front of the tail
+-- the query stands behind its delimiter at the front of the tail
 query-found : (text rest : Text) → before hash (from_first ends_path text) ≡ question_mark ∷ rest → after question_mark (before hash text) ≡ Some rest
 query-found text rest e = sym (is_tail text).query ∙ ap (after question_mark) e ∙ ap after_first_char (from_first-yes question question_mark rest (is_mark question_mark))
 

@@ -1,4 +1,4 @@
--- Cuts at a mark, and joins.
+-- Cuts at a delimiter, and joins.
 use Rattle.std.proofs.Common.{◌≡◌, ℕ, Bool, true, false, not, cond, ◌&&◌, ◌||◌, List, [], ◌∷◌, ◌++◌, refl, sym, ◌∙◌, ap, inl, inr}
 use Rattle.std.specs.Prelude.{◌==◌}
 use Rattle.std.specs.List.{list_all, join_with_byte, onto_first}
@@ -26,7 +26,7 @@ list_all-snoc test list s h k = list_all-append test list (s ∷ []) ∙ and_fro
 pub join-pieces_at : (mark : ℕ) (text : Text) → join_with_byte mark (pieces_at mark text) ≡ text
 join-pieces_at mark text = join_with_byte-slice_split mark text
 
--- no piece holds the mark
+-- no piece holds the delimiter
 lacks-onto_first : (mark c : ℕ) (pieces : List Text) → (c == mark) ≡ false → list_all (lacks mark) pieces ≡ true → list_all (lacks mark) (onto_first c pieces) ≡ true
 lacks-onto_first mark c [] h k = λ i. not (h i || false) && true
 lacks-onto_first mark c (p ∷ pieces) h k = (λ i. not (h i || char_set_contains p mark) && list_all (lacks mark) pieces) ∙ k
@@ -39,7 +39,7 @@ lacks-pieces_at mark (c ∷ cs) = elim (eqb_tells c mark) [
       ∙ lacks-onto_first mark c (pieces_at mark cs) e.0 (lacks-pieces_at mark cs)
 ]
 
--- pieces without the mark are read back
+-- pieces without the delimiter are read back
 pub pieces_at-one : (mark : ℕ) (p : Text) → lacks mark p ≡ true → pieces_at mark p ≡ p ∷ []
 pieces_at-one mark [] h = refl
 pieces_at-one mark (c ∷ p) h = elim (eqb_tells c mark) [

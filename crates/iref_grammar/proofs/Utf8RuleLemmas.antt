@@ -112,7 +112,7 @@ in_utf8-ascii A ascii bytes = (
 pub in_utf8-mark : (mark : ℕ) → is_ascii mark ≡ true → (bytes : Text) → InUtf8 (Mark mark) bytes ↔ Mark mark bytes
 in_utf8-mark mark low = in_utf8-ascii (Mark mark) (λ t e. ap (list_all is_ascii) e ∙ and_from (is_ascii mark) true low refl)
 
--- ---- a part that may be left out, with its mark
+-- ---- a part that may be left out, with its delimiter
 
 abbrev pub IsThenPart : ℕ → Rule → Rule
 IsThenPart mark A bytes = (o : Option Text) × IfSome o A × (then_part (mark ∷ []) o ≡ bytes)

@@ -90,7 +90,7 @@ abbrev pub none_or : {A : Type 0} → (A → Bool) → Option A → Bool
 none_or test None = true
 none_or test (Some x) = test x
 
--- the mark is there, and nothing follows it
+-- the delimiter is there, and nothing follows it
 abbrev pub ends_here : Option Text → Bool
 ends_here rest = some_and is_empty rest
 

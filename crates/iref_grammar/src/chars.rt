@@ -39,7 +39,8 @@ impl CharSet for UriChars {
     }
 }
 
-/// The characters of IRIs, as `é`, and in a query private ones, as U+E000 (RFC 3987 section 2.2).
+/// The characters of IRIs, such as `é`, and in a query private ones, as U+E000 (RFC 3987 section
+/// 2.2).
 pub struct IriChars;
 
 impl CharSet for IriChars {

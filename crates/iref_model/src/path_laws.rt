@@ -96,7 +96,7 @@ pub fn reading_from_both_ends_gives_the_normal_list()
     ensures last { (rest : NormalRest) → GivesLast (items_left rest) (last_left rest) }
 {}
 
-/// The comparison from the back answers whether two paths are equal, and what it has read of both
+/// The comparison from the back returns whether two paths are equal, and what it has read of both
 /// decides it.
 pub fn comparison_from_the_back_decides()
     ensures counted { (p q : PathValue)

@@ -38,7 +38,7 @@ rest_passes p (c ∷ cs) h = (and_parts _ _ h).1
 after_passes : (p : ℕ → Bool) (mark : ℕ) (text : Text) → list_all p text ≡ true → none_or (list_all p) (after mark text) ≡ true
 after_passes p mark text h = rest_passes p (from_first (mark ∷ []) text) ((parts_pass p _ text h).1)
 
--- what stands before the mark is not the mark
+-- what stands before the delimiter is not the delimiter
 before_passes : (p : ℕ → Bool) (mark : ℕ) (text : Text) → list_all p text ≡ true → list_all (λ b. p b && not (b == mark)) (before (mark ∷ []) text) ≡ true
 before_passes p mark [] h = refl
 before_passes p mark (c ∷ cs) h = elim (eqb_tells mark c) [
@@ -171,7 +171,7 @@ module _ (set : CharTests) (above : AreAboveAscii set) where
   plain_query None h = refl
   plain_query (Some text) h = in_utf8_alone _ text (weaken _ _ query_alone text h)
 
-  -- of which none is one of the marks
+  -- of which none is one of the delimiters
   unmarked : (p test : ℕ → Bool) (text : Text) → list_all p text ≡ true → position_or_len test text ≡ length text → list_all (λ b. p b && not (test b)) text ≡ true
   unmarked p test text h e =
       list_all-from_AllPass (λ b. p b && not (test b)) text
@@ -187,7 +187,7 @@ module _ (set : CharTests) (above : AreAboveAscii set) where
           let byte = byte_of b ((and_parts _ _ k).0) in
           sym (agree_below_at (λ c. is_plain_byte c && not (char_set_contains (hash_sign ∷ []) c)) is_plain_of_queries 256 b refl byte) ∙ k
 
-  -- a registered name up to one of the two marks, and a port, if any
+  -- a registered name up to one of the two delimiters, and a port, if any
   pub plain_authority : (text host end : Text) → list_all is_plain_of_authorities text ≡ true → host ≡ before (colon ∷ at_sign ∷ []) text → end ≡ from_first (colon ∷ at_sign ∷ []) text
       → is_port_part end ≡ true → is_authority set text ≡ true
   unfolding is_host is_reg_name

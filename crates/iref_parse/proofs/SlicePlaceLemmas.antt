@@ -35,7 +35,7 @@ path_end s = authority_end s + length s.path.now
 abbrev pub query_end : ReferenceSlices → ℕ
 query_end s = path_end s + length (then_part (question_mark ∷ []) (option_copied s.query))
 
--- the text is as long as its slices and their marks
+-- the text is as long as its slices and their delimiters
 pub length-spelled : (s : ReferenceSlices) → length (spell (value_of s)) ≡ query_end s + length (then_part (hash_sign ∷ []) (option_copied s.fragment))
 unfolding spell
 length-spelled s = simp (length-append, spelled_authority, spelled_path)

@@ -14,7 +14,7 @@ is_plain_byte b = is_ascii b && (is_ascii_alphanumeric b || char_set_contains (c
 abbrev pub other_groups : List ℕ → List ℕ → ℕ → ℕ
 other_groups low high b = bit_and (slice_index low (b % 16)) (slice_index high (b / 16))
 
--- the plain bytes of the components that a mark ends
+-- the plain bytes of the components that a delimiter ends
 abbrev pub is_plain_of_queries : ℕ → Bool
 is_plain_of_queries b = is_plain_byte b && not (b == hash_sign)
 

@@ -18,7 +18,7 @@ fn place_from(start: usize, part: &str) -> Range<usize>
     start..start + part.len()
 }
 
-// Where a part stands after a mark that begins at `start`, and where it ends.
+// Where a part stands after a delimiter that begins at `start`, and where it ends.
 fn place_after(start: usize, mark: &str, part: Option<&str>) -> (Option<Range<usize>>, usize)
     requires { start + length (then_part mark.now (option_copied part)) < 2 ^ 64 }
     ensures place { result.0 ≡ option_map (place_from (start + length mark.now))

@@ -34,7 +34,7 @@ pub struct ReferenceSlices<'a> {
     pub fragment: Option<&'a str>,
 }
 
-// What stands before the first of two marks, and the text from there on.
+// What stands before the first of two delimiters, and the text from there on.
 #[inline(always)]
 fn split_before_either(text: &str, first: u8, second: u8) -> (&str, &str)
     requires first_is_ascii { first < 128 }
@@ -44,7 +44,7 @@ fn split_before_either(text: &str, first: u8, second: u8) -> (&str, &str)
     text.split_at(position_of_either(text.as_bytes(), first, second))
 }
 
-// The same byte by byte, which costs less where a mark is near.
+// The same byte by byte, which costs less where a delimiter is near.
 #[inline(always)]
 fn split_before_near(text: &str, first: u8, second: u8) -> (&str, &str)
     requires first_is_ascii { first < 128 }

@@ -77,7 +77,7 @@ pub next_text : (context : PathContext) (path s : Text) (n : ℕ) → n ≡ leng
 next_text context path s n size h =
     (λ i. take_all n path (omega (arith, size)) i ++ (slash ∷ append-nil s i)) ∙ ap (λ t. t ++ (slash ∷ s)) (sym (read_path-reads path).spelled) ∙ next_pushed context (read_path path) s h
 
--- a colon alone decides where no mark stands before
+-- a colon alone decides where no delimiter stands before
 pub guard_by_colon : (context : PathContext) (rooted : Bool) (s : Text) (has : Bool) → false ≡ (length s == 0) → (rooted || context.has_scheme) ≡ false → has ≡ char_set_contains s colon → has ≡ first_needs_guard context rooted s
 guard_by_colon context rooted [] has h e k = absurd (true≢false (sym h))
 guard_by_colon context rooted (c ∷ s) has h e k = k ∙ (λ i. not (sym e i) && char_set_contains (c ∷ s) colon)

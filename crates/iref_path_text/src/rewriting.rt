@@ -39,7 +39,7 @@ fn segment_before(bytes: &[u8], end: usize) -> usize
 }
 
 // Moves a segment, if it is a name that stays, so that it ends, with a `/` after it, at a place,
-// and answers where that begins.
+// and returns where that begins.
 fn move_segment(
     bytes: &mut [u8],
     segment: usize,
@@ -68,7 +68,7 @@ fn move_segment(
 }
 
 // Moves the names that stay before a place, with a `/` after each, so that they end at another, and
-// answers where they begin then, and how many `..` are open before them.
+// returns where they begin then, and how many `..` are open before them.
 fn move_names(
     bytes: &mut [u8],
     mut unread: usize,
@@ -117,7 +117,7 @@ fn moved_end(stays: bool, last: usize, len: usize) -> usize
 }
 
 // Writes the normal list of the segments over them, with `/` between, so that it ends where they
-// end, and answers where it begins.
+// end, and returns where it begins.
 fn write_list(bytes: &mut [u8], absolute: bool) -> usize
     requires { absolute ≡ false
         → length (items_text absolute bytes.old) ≤ length bytes.old }
@@ -134,7 +134,7 @@ fn write_list(bytes: &mut [u8], absolute: bool) -> usize
 }
 
 // Writes what stands first and the normal list of the path over the path, so that they end where it
-// ends, and answers where they begin.
+// ends, and returns where they begin.
 fn write_over(path: &mut [u8], lead: &str) -> usize
     requires { length (rewritten lead.now path.old) ≤ length path.old }
     ensures { WritesBefore (length path.old) (rewritten lead.now path.old)
@@ -176,7 +176,7 @@ fn cut(bytes: &mut Vec<u8>, within: Range<usize>)
 }
 
 /// Puts what stands first and the normal list of the path at a place in the place of the path, and
-/// answers where that ends. It takes no memory.
+/// returns where that ends. It takes no memory.
 pub fn rewrite(bytes: &mut Vec<u8>, at: Place, lead: &str) -> usize
     requires start_le_end { at.start ≤ at.end }
     requires in_bounds { at.end ≤ vec_len bytes.old }

@@ -39,7 +39,7 @@ pub(crate) fn measure(mut left: Way<'_>) -> (usize, &str)
     (size, first)
 }
 
-/// Writes the text so that it ends at a place, and answers where it begins.
+/// Writes the text so that it ends at a place, and returns where it begins.
 #[inline(always)]
 pub fn write_before(buffer: &mut [u8], end: usize, text: &str) -> usize
     requires room { length text.now ≤ end }
@@ -51,7 +51,7 @@ pub fn write_before(buffer: &mut [u8], end: usize, text: &str) -> usize
     start
 }
 
-/// Writes the items, each with a `/` after it, so that they end at a place, and answers where they
+/// Writes the items, each with a `/` after it, so that they end at a place, and returns where they
 /// begin.
 fn write_closed(mut left: Way<'_>, buffer: &mut [u8], end: usize) -> usize
     requires sound { IsWaySound left }
@@ -67,7 +67,7 @@ fn write_closed(mut left: Way<'_>, buffer: &mut [u8], end: usize) -> usize
     start
 }
 
-/// Writes the items with `/` between so that they end at a place, and answers where they begin.
+/// Writes the items with `/` between so that they end at a place, and returns where they begin.
 pub(crate) fn write_items(mut left: Way<'_>, buffer: &mut [u8], end: usize) -> usize
     requires sound { IsWaySound left }
     requires room { length (each_closed (way_left left)) ≤ end + 1 }
@@ -139,7 +139,7 @@ pub(crate) fn lead_in(
 }
 
 // Writes items that are given the last first, each with a `/` after it, so that they end at a
-// place, and answers where they begin.
+// place, and returns where they begin.
 fn write_stacked_closed(items: &[&str], buffer: &mut [u8], end: usize) -> usize
     requires room { length (each_closed (in_order items.now)) ≤ end }
     requires within { end ≤ length buffer.old }
@@ -154,7 +154,7 @@ fn write_stacked_closed(items: &[&str], buffer: &mut [u8], end: usize) -> usize
 }
 
 // Writes items that are given the last first, with `/` between, so that they end at a place, and
-// answers where they begin.
+// returns where they begin.
 fn write_stacked(items: &[&str], buffer: &mut [u8], end: usize) -> usize
     requires room { length (each_closed (in_order items.now)) ≤ end + 1 }
     requires within { end ≤ length buffer.old }
@@ -169,7 +169,7 @@ fn write_stacked(items: &[&str], buffer: &mut [u8], end: usize) -> usize
 }
 
 // Writes what stands first, and items that are given the last first, so that they end at a place,
-// and answers where they begin.
+// and returns where they begin.
 fn write_stacked_text(lead: &str, items: &[&str], buffer: &mut [u8], end: usize) -> usize
     requires room { length (stacked_text lead.now items.now) ≤ end }
     requires within { end ≤ length buffer.old }

@@ -27,12 +27,12 @@ pub struct Composed<'a, R: HeldRule, C: CharSet> {
     rule: PhantomData<(R, C)>,
 }
 
-/// A reference that is not written yet, as `../../b`, which leads from `http://a/b/c/d` to
+/// A reference that is not written yet, such as `../../b`, which leads from `http://a/b/c/d` to
 /// `http://a/b` (RFC 3986 section 4.1).
 pub type ComposedUriRef<'a, C> = Composed<'a, ReferenceRule, C>;
 
-/// A URI that is not written yet, as `http://a/g`, which `../g` resolves to against `http://a/b/c`
-/// (RFC 3986 section 5.2).
+/// A URI that is not written yet, such as `http://a/g`, which `../g` resolves to against
+/// `http://a/b/c` (RFC 3986 section 5.2).
 pub type ComposedUri<'a, C> = Composed<'a, FullReferenceRule, C>;
 
 impl<'a, R: HeldRule, C: CharSet> Model for Composed<'a, R, C> {

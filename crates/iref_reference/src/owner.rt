@@ -35,10 +35,10 @@ pub struct ReferenceBuf<R: HeldRule, C: CharSet> {
     pub(crate) held: Held<R, C>,
 }
 
-/// A reference that owns its text, as `../b?c` (RFC 3986 section 4.1).
+/// A reference that owns its text, such as `../b?c` (RFC 3986 section 4.1).
 pub type UriRefBuf<C> = ReferenceBuf<ReferenceRule, C>;
 
-/// A URI that owns its text, as `http://example.org/a` (RFC 3986 section 3).
+/// A URI that owns its text, such as `http://example.org/a` (RFC 3986 section 3).
 pub type UriBuf<C> = ReferenceBuf<FullReferenceRule, C>;
 
 impl<R: HeldRule + Refuses<String>, C: CharSet> ReferenceBuf<R, C> {

@@ -28,7 +28,7 @@ use std::cmp::Ordering;
 use std::hash::{Hash, Hasher};
 use std::str;
 
-/// What stands for the scheme among the components: of a URI a scheme, as `s` of `s:a`, of a
+/// What stands for the scheme among the components: of a URI a scheme, such as `s` of `s:a`, of a
 /// reference one that may be absent (RFC 3986 section 3.1).
 pub trait SchemePart<'a>: Copy + Ord {
     /// The text of the scheme, if it is there.

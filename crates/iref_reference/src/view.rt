@@ -35,10 +35,10 @@ pub struct Reference<'a, R: HeldRule, C: CharSet> {
     text: View<'a, R, C>,
 }
 
-/// A reference: a URI, or one that is relative to a URI, as `../b?c` (RFC 3986 section 4.1).
+/// A reference: a URI, or one that is relative to a URI, such as `../b?c` (RFC 3986 section 4.1).
 pub type UriRef<'a, C> = Reference<'a, ReferenceRule, C>;
 
-/// A URI: a reference with a scheme, as `http://example.org/a` (RFC 3986 section 3).
+/// A URI: a reference with a scheme, such as `http://example.org/a` (RFC 3986 section 3).
 pub type Uri<'a, C> = Reference<'a, FullReferenceRule, C>;
 
 impl<'a, R: HeldRule + Refuses<&'a str>, C: CharSet> Reference<'a, R, C> {

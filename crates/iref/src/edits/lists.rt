@@ -11,7 +11,7 @@ use crate::edits::{Edit, EditFault};
 use iref_grammar::chars::CharSet;
 use iref_reference::owner::{ReferenceBuf, UriBuf, UriRefBuf};
 
-/// What a list of edits answers: the number of the first that cannot be done, from 0, and why.
+/// What a list of edits returns: the number of the first that cannot be done, from 0, and why.
 pub type Applied = Result<(), (usize, EditFault)>;
 
 // Does one edit, or changes nothing.

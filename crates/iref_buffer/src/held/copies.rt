@@ -9,7 +9,7 @@ use iref_error::Memory;
 use iref_grammar::chars::CharSet;
 use std::alloc::{AllocError, Global};
 
-// Room for the mark before a component and for the guard or the root after it.
+// Room for the delimiter before a component and for the guard or the root after it.
 const MARKS: usize = 3;
 
 impl<R: HeldRule, C: CharSet> Held<R, C> {

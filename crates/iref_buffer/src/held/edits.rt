@@ -164,7 +164,7 @@ impl<R: HeldRule, C: CharSet> Held<R, C> {
         Ok(())
     }
 
-    // The query and its mark, or where they would stand.
+    // The query and its delimiter, or where they would stand.
     fn query_range(&self) -> Range<usize>
         ensures within { IsWithin self.now result }
         ensures replaced { (query : Option Text)
@@ -174,7 +174,7 @@ impl<R: HeldRule, C: CharSet> Held<R, C> {
         self.offsets.path.end..front_end(&self.offsets)
     }
 
-    // The fragment and its mark, or where they would stand.
+    // The fragment and its delimiter, or where they would stand.
     fn fragment_range(&self) -> Range<usize>
         ensures within { IsWithin self.now result }
         ensures replaced { (fragment : Option Text)
@@ -207,7 +207,7 @@ impl<R: HeldRule, C: CharSet> Held<R, C> {
         start + within.start..start + within.end
     }
 
-    // The authority and its mark, or where they would stand.
+    // The authority and its delimiter, or where they would stand.
     fn authority_range(&self) -> Range<usize>
         ensures within { IsWithin self.now result }
         ensures len { result.end - result.start
@@ -247,7 +247,7 @@ impl<R: HeldRule, C: CharSet> Held<R, C> {
         }
     }
 
-    // The scheme and its mark, or where they would stand.
+    // The scheme and its delimiter, or where they would stand.
     fn scheme_range(&self) -> Range<usize>
         ensures within { IsWithin self.now result }
         ensures len { result.end - result.start

@@ -101,7 +101,7 @@ impl<C: CharSet> AuthorityBuf<C> {
         self.as_authority_mut().set_port_u32(port)
     }
 
-    /// As `replace`, by a text: `Invalid` hands one back that is not an authority.
+    /// As `replace`, by a text: `Invalid` returns a text that is not an authority.
     pub fn try_replace<'t>(&mut self, authority: &'t str) -> Tried<InvalidAuthority<&'t str>>
         ensures ok { OnOk result (text_of self.new ≡ authority.now) }
         ensures text { Tests (IsAuthority C.tests) authority.entry (λ error. error.0) result }
@@ -110,7 +110,7 @@ impl<C: CharSet> AuthorityBuf<C> {
         self.as_authority_mut().try_replace(authority)
     }
 
-    /// As `set_user_info`, by a text: `Invalid` hands one back that is not a user info.
+    /// As `set_user_info`, by a text: `Invalid` returns a text that is not a user info.
     pub fn try_set_user_info<'t>(
         &mut self,
         user_info: Option<&'t str>,
@@ -122,7 +122,7 @@ impl<C: CharSet> AuthorityBuf<C> {
         self.as_authority_mut().try_set_user_info(user_info)
     }
 
-    /// As `set_host`, by a text: `Invalid` hands one back that is not a host.
+    /// As `set_host`, by a text: `Invalid` returns a text that is not a host.
     pub fn try_set_host<'t>(&mut self, host: &'t str) -> Tried<InvalidHost<&'t str>>
         ensures edit { EditsOwner (with_host host.now) self.old self.new result }
         ensures text { Tests (IsHost C.tests) host.entry (λ error. error.0) result }
@@ -130,7 +130,7 @@ impl<C: CharSet> AuthorityBuf<C> {
         self.as_authority_mut().try_set_host(host)
     }
 
-    /// As `set_port`, by a text: `Invalid` hands one back that is not a port.
+    /// As `set_port`, by a text: `Invalid` returns a text that is not a port.
     pub fn try_set_port<'t>(&mut self, port: Option<&'t str>) -> Tried<InvalidPort<&'t str>>
         ensures edit { EditsOwner (with_port (option_copied port.entry)) self.old self.new result }
         ensures text { TestsIfSome IsPort port.entry (λ error. error.0) result }

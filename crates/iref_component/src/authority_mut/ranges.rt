@@ -1,4 +1,5 @@
-//! Where the parts of an authority stand in its text, each with its mark (RFC 3986 section 3.2).
+//! Where the parts of an authority stand in its text, each with its delimiter (RFC 3986 section
+//! 3.2).
 ghost use Rattle.std.specs.{Prelude.{◌≡◌, true, [], ◌∷◌, Option}, Option.{option_copied}};
 ghost use Rattle.std.specs.List.{splice};
 ghost use Rattle.iref_grammar.specs.{Rules.{Text}, Grammar.{at_sign, colon}, Texts.{part_then}};
@@ -62,7 +63,7 @@ pub(crate) fn whole_range<C: CharSet>(text: &str) -> Range<usize>
     0..text.len()
 }
 
-// How many bytes the part and its mark have together.
+// How many bytes the part and its delimiter have together.
 fn marked_len(part: Option<&str>) -> usize
     ensures { result ≡ marked_length (option_copied part.entry) }
 {

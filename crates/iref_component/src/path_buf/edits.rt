@@ -90,7 +90,7 @@ impl<C: CharSet> PathBuf<C> {
         self.as_path_mut().pop()
     }
 
-    /// The same, and whether the path changed: an absolute path without segments stays.
+    /// Pops, and returns whether the path changed: an absolute path without segments stays.
     pub fn try_pop(&mut self) -> Result<bool, Memory>
         ensures edit { EditsOwner (step.popped alone) self.old self.new result }
         ensures changed { IfOk result (λ changed. changed ≡ not ((path_value self.old).absolute
@@ -108,7 +108,7 @@ impl<C: CharSet> PathBuf<C> {
     }
 
     /// Puts the path of the normal segments in its place, guarded where that is needed (RFC 3986
-    /// section 5.2.4). Memory is taken only where that path is longer, as `./a:b` for `a:b`.
+    /// section 5.2.4). Memory is taken only where that path is longer, such as `./a:b` for `a:b`.
     pub fn normalize(&mut self) -> Result<(), Memory>
         ensures edit { EditsOwner (step.normalized alone) self.old self.new result }
         ensures shorter { length (spell_path (step.normalized alone (path_value self.old)))

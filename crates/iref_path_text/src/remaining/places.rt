@@ -10,7 +10,7 @@ pub trait Places<T: Copy> {
     /// The items, the one that was put first before the others.
     ghost items: { Self → List T };
 
-    /// Puts an item after the others, or answers that it found no room.
+    /// Puts an item after the others, or returns that it found no room.
     fn put(&mut self, item: T) -> bool
         ensures { result ≡ true → items self.new ≡ items self.old ++ item ∷ [] };
 

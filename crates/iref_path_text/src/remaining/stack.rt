@@ -67,7 +67,7 @@ impl<'a, P: Places<&'a str>> Stack<'a, P> {
         }
     }
 
-    // Puts the names that stay, and answers how many `..` are open before them, and how many they
+    // Puts the names that stay, and returns how many `..` are open before them, and how many they
     // are.
     fn put_names(&mut self, segments: Option<&'a str>) -> (usize, usize)
         requires { self.old.size + length (each_closed (pieces_if_some segments)) < 2 ^ 64 }
@@ -103,7 +103,7 @@ impl<'a, P: Places<&'a str>> Stack<'a, P> {
         }
     }
 
-    // Takes the only item away, if that is an empty one, and answers whether it was.
+    // Takes the only item away, if that is an empty one, and returns whether it was.
     fn drop_lone(&mut self) -> bool
         ensures items { (whole : List Text) → Completes P.items self.old [] whole
             → Completes P.items self.new [] (without_lone_empty whole) }

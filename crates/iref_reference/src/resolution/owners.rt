@@ -50,7 +50,7 @@ impl<C: CharSet> UriRefBuf<C> {
         Ok(())
     }
 
-    /// As `resolve`, by a text: `Invalid` hands one back that is not a URI.
+    /// As `resolve`, by a text: `Invalid` returns a text that is not a URI.
     pub fn try_resolve<'t>(&mut self, base: &'t str) -> Result<(), TryError<InvalidUri<&'t str>>>
         ensures ok { OnOk result (IsResolved base.now
             (reference_buf_text self.old) (reference_buf_text self.new)) }
@@ -76,7 +76,7 @@ impl<C: CharSet> UriRefBuf<C> {
         }
     }
 
-    /// As `into_resolved`, by a text: `Invalid` hands one back that is not a URI, with the
+    /// As `into_resolved`, by a text: `Invalid` returns a text that is not a URI, with the
     /// reference.
     pub fn try_into_resolved<'t>(
         self,
@@ -112,7 +112,7 @@ impl<C: CharSet> UriBuf<C> {
         Ok(())
     }
 
-    /// As `join`, by a text: `Invalid` hands one back that is not a reference.
+    /// As `join`, by a text: `Invalid` returns a text that is not a reference.
     pub fn try_join<'t>(
         &mut self,
         reference: &'t str,

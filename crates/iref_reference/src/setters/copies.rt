@@ -94,7 +94,7 @@ impl<C: CharSet> UriRefBuf<C> {
         }
     }
 
-    /// As `into_with_scheme`, by a text: `Invalid` hands one back that is not a scheme, with the
+    /// As `into_with_scheme`, by a text: `Invalid` returns a text that is not a scheme, with the
     /// reference.
     pub fn try_into_with_scheme<'t>(
         self,
