@@ -2,6 +2,7 @@
 use Rattle.std.proofs.Common.{◌≡◌, ◌&&◌, Bool, true, false, List, [], ◌∷◌, ◌++◌, Option, Some, None, Result, Ok, Err, refl, ap, sym, subst, ◌∙◌, bytes_eq, option_map, option_and_then, MatchResult, IsOkAnd}
 use Rattle.std.specs.List.{find, list_all}
 use Rattle.std.proofs.lemmas.Slice.Eq.{bytes_eq-Decides}
+use Rattle.std.proofs.Math.Bool.{and-false, and-true}
 use Rattle.iref_grammar.specs.Characters.{iri_chars}
 use Rattle.iref_grammar.specs.Rules.{Text}
 use Rattle.iref_model.specs.Edits.{EditStep}
@@ -59,31 +60,23 @@ and_last : (a b v : Bool) → (a && (b && v)) ≡ ((a && b) && v)
 and_last true b v = refl
 and_last false b v = refl
 
-and_true : (v : Bool) → (v && true) ≡ v
-and_true true = refl
-and_true false = refl
-
 all_valid-push : (steps : List EditStep) (step : EditStep) → list_all (is_valid_edit iri_chars) (steps ++ step ∷ []) ≡ (list_all (is_valid_edit iri_chars) steps && is_valid_edit iri_chars step)
-all_valid-push [] step = and_true (is_valid_edit iri_chars step)
+all_valid-push [] step = and-true (is_valid_edit iri_chars step)
 all_valid-push (s ∷ steps) step = ap (λ (b : Bool). is_valid_edit iri_chars s && b) (all_valid-push steps step) ∙ and_last (is_valid_edit iri_chars s) (list_all (is_valid_edit iri_chars) steps) (is_valid_edit iri_chars step)
 
 pub reading_more : (all left rest : List Text) (field : Text) (kept kept_then : List EditStep) (valid : Bool) (step : EditStep) → left ≡ field ∷ rest → read_edit field ≡ Some step → is_valid_edit iri_chars step ≡ true → kept_then ≡ kept ++ step ∷ [] → Reading all left kept valid → Reading all rest kept_then valid
 reading_more all left rest field kept kept_then valid step l e v k r = record {
   steps = r.steps ++ step ∷ [];
   read = next_read read_edit all left rest field r.steps step l e r.read;
-  valid_is = all_valid-push r.steps step ∙ rw (r.valid_is, v) (and_true valid);
+  valid_is = all_valid-push r.steps step ∙ rw (r.valid_is, v) (and-true valid);
   kept_is = λ h. k ∙ ap (λ (s : List EditStep). s ++ step ∷ []) (r.kept_is h);
 }
-
-and_false : (v : Bool) → (v && false) ≡ false
-and_false true = refl
-and_false false = refl
 
 pub reading_invalid : (all left rest : List Text) (field : Text) (kept : List EditStep) (valid : Bool) → left ≡ field ∷ rest → ((step : EditStep) × (read_edit field ≡ Some step) × (is_valid_edit iri_chars step ≡ false)) → Reading all left kept valid → Reading all rest kept false
 reading_invalid all left rest field kept valid l bad r = record {
   steps = r.steps ++ bad.0 ∷ [];
   read = next_read read_edit all left rest field r.steps bad.0 l bad.1 r.read;
-  valid_is = all_valid-push r.steps bad.0 ∙ rw (r.valid_is, bad.2) (and_false valid);
+  valid_is = all_valid-push r.steps bad.0 ∙ rw (r.valid_is, bad.2) (and-false valid);
   kept_is = λ h. absurd (cc);
 }
 

@@ -28,7 +28,7 @@ use Rattle.iref_model.specs.NormalList.{closed}
 use Rattle.iref_model.specs.PathFunctions.{directory, directory_text}
 use Rattle.iref_model.proofs.DirectoryLemmas.{directory-spelled}
 use Rattle.iref_model.proofs.FitsLemmas.{cleared-fits}
-use Rattle.iref_model.proofs.PathGrammarLemmas.{is_segment-empty}
+use Rattle.iref_grammar.proofs.EmptyLemmas.{is_segment_empty}
 use Rattle.iref_model.specs.ReferenceParts.{base_of}
 
 -- ---- the base of a readable reference is readable
@@ -59,7 +59,7 @@ base_of-readable set r h =
     readable_from set (base_of r) (record {
       scheme = parts.scheme;
       authority = parts.authority;
-      segments = directory_in (is_segment set) r.path.segments (is_segment-empty set) parts.segments;
+      segments = directory_in (is_segment set) r.path.segments (is_segment_empty set) parts.segments;
       query = refl;
       fragment = refl;
       follows = fit.0;

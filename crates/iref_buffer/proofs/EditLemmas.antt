@@ -5,6 +5,7 @@ use Rattle.std.specs.List.{splice}
 use Rattle.std.specs.Str.{IsCharBoundary}
 use Rattle.std.proofs.lemmas.Str.{IsCharBoundary-end}
 use Rattle.std.proofs.lemmas.List.{length-append, places, same_lists}
+use Rattle.std.proofs.Math.Nat.{add-sub_cancel_left}
 use Rattle.iref_grammar.specs.Characters.{CharTests, AreAboveAscii}
 use Rattle.iref_grammar.specs.Rules.{Text}
 use Rattle.iref_grammar.specs.Grammar.{colon, question_mark, hash_sign}
@@ -192,11 +193,8 @@ pub authority_length : (text : Text) → (offsets_of text).path.start - authorit
 unfolding offsets_of offsets_in
 authority_length text =
     let authority : Option Text = option_map spell_authority (read_reference text).authority in
-    ap (λ n. path_start (read_reference text) - n) (authority_starts text) ∙ back (authority_mark (read_reference text)) (length (then_part (codes "//") authority))
+    ap (λ n. path_start (read_reference text) - n) (authority_starts text) ∙ add-sub_cancel_left (authority_mark (read_reference text)) (length (then_part (codes "//") authority))
     ∙ sym (marked_len (codes "//") authority)
-  where
-    back : (m n : ℕ) → m + n - m ≡ n
-    back m n = omega arith
 
 pub scheme_length : (text : Text) → authority_start (offsets_of text) - 0 ≡ with_mark 1 (lengths_of (read_reference text)).scheme
 scheme_length text = whole (authority_start (offsets_of text)) ∙ authority_starts text ∙ sym (first_len (read_reference text).scheme)
@@ -212,11 +210,6 @@ scheme_path_length text lead path l e h =
   where
     by : (b a p q : Text) → b ++ a ++ p ≡ a ++ q → length b + length p ≡ length q
     by b a p q h = omega (arith, length-append (b ++ a) p, length-append b a, length-append a q, ap length h)
-
--- the authority that is read from a text, spelled again
-pub authority_spelled : (o : Option Text) → o ≡ option_map spell_authority (option_map read_authority o)
-authority_spelled None = refl
-authority_spelled (Some text) = ap Some (sym (read_authority-spelled text))
 
 pub some_read : (o : Option Text) → is_some (option_map read_authority o) ≡ is_some o
 some_read None = refl

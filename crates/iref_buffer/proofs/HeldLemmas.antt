@@ -6,6 +6,7 @@ use Rattle.std.specs.Str.{IsCharBoundary}
 use Rattle.std.specs.declared.ops.Range.{Range}
 use Rattle.std.proofs.lemmas.Str.{IsCharBoundary-at_seam, IsUtf8-append, IsUtf8-nil, IsUtf8-from_ascii}
 use Rattle.std.proofs.lemmas.List.{append-nil, length-append, places, same_lists}
+use Rattle.iref_mapping.proofs.MappedPlaceLemmas.{around_scheme, around_authority, around_path, around_query, around_fragment}
 use Rattle.iref_grammar.specs.Characters.{CharTests, AreAboveAscii}
 use Rattle.iref_grammar.specs.Rules.{Text, Rule, InUtf8}
 use Rattle.iref_grammar.specs.Grammar.{colon, slash, question_mark, hash_sign}
@@ -94,23 +95,8 @@ record AreUtf8 (t : ComponentTexts) : Type 0 where
   query : IfSome t.query IsUtf8
   fragment : IfSome t.fragment IsUtf8
 
--- the five parts of a spelling, grouped round the one that is looked at
+-- where the path, the query and the fragment begin
 module _ (s a p q f : Text) where
-  around_scheme : s ++ (a ++ p ++ q ++ f) ≡ s ++ a ++ p ++ q ++ f
-  around_scheme = simp append_assoc
-
-  around_authority : s ++ (a ++ (p ++ q ++ f)) ≡ s ++ a ++ p ++ q ++ f
-  around_authority = simp append_assoc
-
-  around_path : (s ++ a) ++ (p ++ (q ++ f)) ≡ s ++ a ++ p ++ q ++ f
-  around_path = simp append_assoc
-
-  around_query : (s ++ a ++ p) ++ (q ++ f) ≡ s ++ a ++ p ++ q ++ f
-  around_query = simp append_assoc
-
-  around_fragment : (s ++ a ++ p ++ q) ++ (f ++ []) ≡ s ++ a ++ p ++ q ++ f
-  around_fragment = simp (append_assoc, append-nil)
-
   path_begins : length s + length a ≡ length (s ++ a)
   path_begins = sym (length-append s a)
 

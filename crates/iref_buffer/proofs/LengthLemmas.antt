@@ -2,6 +2,7 @@
 use Rattle.std.proofs.Common.{◌≡◌, ℕ, ◌+◌, ◌-◌, [], ◌∷◌, ◌++◌, length, refl, sym, ◌∙◌, ap, arith}
 use Rattle.std.specs.Prelude.{codes, Option, Some, None, is_some, option_map}
 use Rattle.std.proofs.lemmas.List.{length-append}
+use Rattle.std.proofs.Math.Nat.{add-sub_cancel_left}
 use Rattle.iref_grammar.specs.declared.offsets.Offsets.{Offsets}
 use Rattle.iref_grammar.specs.Rules.{Text}
 use Rattle.iref_grammar.specs.Grammar.{colon, question_mark, hash_sign}
@@ -23,13 +24,10 @@ unfolding offsets_in
 lengths-offsets_in r = λ i. record {
   scheme = place_holds 0 r.scheme i;
   authority = place_holds (authority_mark r + 2) (option_map spell_authority r.authority) i;
-  path = held (path_start r) (length (spell_path r.path)) i;
+  path = add-sub_cancel_left (path_start r) (length (spell_path r.path)) i;
   query = place_holds (query_mark r + 1) r.query i;
   fragment = place_holds (fragment_mark r + 1) r.fragment i;
 }
-  where
-    held : (start n : ℕ) → start + n - start ≡ n
-    held start n = omega arith
 
 pub lengths-offsets_of : (text : Text) → lengths_at (offsets_of text) ≡ lengths_of (read_reference text)
 unfolding offsets_of

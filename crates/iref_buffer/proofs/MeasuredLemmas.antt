@@ -31,10 +31,6 @@ use Rattle.iref_buffer.specs.declared.measured.MeasuredReference.{MeasuredRefere
 use Rattle.iref_buffer.proofs.EditLemmas.{is_step}
 use Rattle.iref_buffer.proofs.LengthLemmas.{first_len, marked_len, placed-read}
 
-pub authority_spelled : (o : Option Text) → o ≡ option_map spell_authority (option_map read_authority o)
-authority_spelled None = refl
-authority_spelled (Some text) = ap (λ t. Some t) (sym (read_authority-spelled text))
-
 pub some_read : (o : Option Text) → is_some o ≡ is_some (option_map read_authority o)
 some_read None = refl
 some_read (Some text) = refl

@@ -5,6 +5,7 @@ use Rattle.std.proofs.lemmas.List.{places, same_lists, get_or-take, get_or-drop}
 use Rattle.std.specs.List.{list_all, splice, slice_range}
 use Rattle.std.specs.Str.{IsCharBoundary}
 use Rattle.std.specs.declared.ops.Range.{Range}
+use Rattle.iref_edit.proofs.PartLemmas.{slice-length}
 use Rattle.iref_grammar.specs.Characters.{CharTests, AreAboveAscii}
 use Rattle.iref_grammar.specs.Rules.{Text}
 use Rattle.iref_grammar.specs.Tests.{is_path, is_segment}
@@ -48,9 +49,6 @@ read_path-readable set r path h k =
 pub path_text_replaced : (text path : Text) → with_path_text path text ≡ spell (with_path_read path (read_reference text))
 path_text_replaced text path =
     ap (splice text (offsets_of text).path.start (offsets_of text).path.end) (sym (read_path-reads path).spelled) ∙ path_replaced text (read_path path)
-
-slice-length : (bs : Text) (start end : ℕ) → end ≤ length bs → length (slice_range bs start end) ≡ end - start
-slice-length bs start end h = simp (length-take, length-drop) (omega arith)
 
 length-spliced : (bs new : Text) (start end : ℕ) → start ≤ end → end ≤ length bs → length (splice bs start end new) ≡ length bs - (end - start) + length new
 length-spliced bs new start end a b = simp (length-append, length-take, length-drop) (omega arith)

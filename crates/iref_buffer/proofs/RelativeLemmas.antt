@@ -14,13 +14,6 @@ use Rattle.iref_model.specs.Relative.{have_same_path, is_same_place, leading_pat
 use Rattle.iref_model.proofs.PathKeyLemmas.{tie_from_decides}
 use Rattle.iref_path_text.specs.Ways.{path_between}
 use Rattle.iref_buffer.specs.Relatives.{after_path, agree, may_end_here}
-use Rattle.iref_buffer.proofs.MeasuredLemmas.{authority_spelled}
-
-pub whole_spelled : (t : ComponentTexts) → t ≡ spell_components (read_components t)
-whole_spelled t = λ i. record t {
-  authority = authority_spelled t.authority i;
-  path = sym (read_path-reads t.path).spelled i;
-}
 
 path_spelled : (t : ComponentTexts) (p : PathValue) (path : Text) → path ≡ spell_path p → after_path path t ≡ spell_components (with_only_path p (read_components t))
 path_spelled t p path e = ap (λ text. after_path text t) e

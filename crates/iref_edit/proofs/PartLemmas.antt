@@ -9,7 +9,7 @@ use Rattle.iref_edit.specs.Changes.{IsWithin, changed, cut_length, part_at, piec
 splice-within : (bs text : List ℕ) (start end from to : ℕ) → start ≤ from → from ≤ to → to ≤ end → end ≤ length bs → splice bs from to text ≡ splice bs start end (splice (slice_range bs start end) (from - start) (to - start) text)
 splice-within bs text start end from to h1 h2 h3 h4 = same_lists _ _ (search (rules, places)) (λ k d h. grind (arith, places))
 
-slice-length : (bs : List ℕ) (start end : ℕ) → end ≤ length bs → length (slice_range bs start end) ≡ end - start
+pub slice-length : (bs : List ℕ) (start end : ℕ) → end ≤ length bs → length (slice_range bs start end) ≡ end - start
 slice-length bs start end h = simp (length-take, length-drop) (omega arith)
 
 -- what was put in a range of the part is put in the part

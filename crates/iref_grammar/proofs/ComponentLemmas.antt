@@ -23,12 +23,12 @@ unfolding is_authority
 authority_tested set None = refl
 authority_tested set (Some text) = refl
 
-authority_spelled : (o : Option Text) → o ≡ option_map spell_authority (option_map read_authority o)
+pub authority_spelled : (o : Option Text) → o ≡ option_map spell_authority (option_map read_authority o)
 authority_spelled None = refl
 authority_spelled (Some text) = ap (λ t. Some t) (sym (read_authority-spelled text))
 
 -- the texts are those that the reference of them spells
-spell_components-read : (s : ComponentTexts) → s ≡ spell_components (read_components s)
+pub spell_components-read : (s : ComponentTexts) → s ≡ spell_components (read_components s)
 spell_components-read s = λ i. record { scheme = s.scheme; authority = authority_spelled s.authority i; path = sym (read_path-reads s.path).spelled i; query = s.query; fragment = s.fragment }
 
 pub spelled_as_read : (s : ComponentTexts) (r : ReferenceValue) → read_components s ≡ r → s ≡ spell_components r

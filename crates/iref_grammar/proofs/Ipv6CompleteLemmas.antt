@@ -8,6 +8,7 @@ use Rattle.std.specs.Str.Parse.{digits_value}
 use Rattle.std.proofs.lemmas.List.{append-nil}
 use Rattle.std.proofs.lemmas.Bool.Decides.{nat_tests}
 use Rattle.std.proofs.lemmas.Bool.{and_from}
+use Rattle.std.proofs.Math.Bool.{and-false}
 use mathlib.Core.Bool.{true≢false}
 use Rattle.iref_grammar.specs.Rules.{Text}
 use Rattle.iref_grammar.specs.Texts.{is_empty}
@@ -73,22 +74,14 @@ group_pieces-join ((c ∷ p) ∷ q ∷ pieces) h = pieces_at-join 58 (c ∷ p) (
 
 dotted : (a rest : Text) → list_all is_ascii_hexdigit (a ++ 46 ∷ rest) ≡ false
 dotted [] rest = refl
-dotted (c ∷ a) rest = (λ i. is_ascii_hexdigit c && dotted a rest i) ∙ and_false (is_ascii_hexdigit c)
-  where
-    and_false : (b : Bool) → (b && false) ≡ false
-    and_false true = refl
-    and_false false = refl
+dotted (c ∷ a) rest = (λ i. is_ascii_hexdigit c && dotted a rest i) ∙ and-false (is_ascii_hexdigit c)
 
 ipv4_no_group : (text : Text) (n : ℕ) → IsIpv4 text n → group_value text ≡ None
 ipv4_no_group text n v =
     let rest : Text = join_with_byte 46 (decimal v.b ∷ decimal v.c ∷ decimal v.d ∷ []) in
     ap group_value v.spelled ∙ ap (λ b. cond b (Some (digits_value 16 (decimal v.a ++ 46 ∷ rest))) None)
     ((λ i. (not (is_empty (decimal v.a ++ 46 ∷ rest)) && nat_le (length (decimal v.a ++ 46 ∷ rest)) 4) && dotted (decimal v.a) rest i)
-    ∙ and_false (not (is_empty (decimal v.a ++ 46 ∷ rest)) && nat_le (length (decimal v.a ++ 46 ∷ rest)) 4))
-  where
-    and_false : (b : Bool) → (b && false) ≡ false
-    and_false true = refl
-    and_false false = refl
+    ∙ and-false (not (is_empty (decimal v.a ++ 46 ∷ rest)) && nat_le (length (decimal v.a ++ 46 ∷ rest)) 4))
 
 ipv4_lacks_colon : (text : Text) (n : ℕ) → IsIpv4 text n → lacks 58 text ≡ true
 ipv4_lacks_colon text n v =

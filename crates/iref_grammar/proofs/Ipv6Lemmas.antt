@@ -8,6 +8,7 @@ use Rattle.std.specs.Str.Parse.{digits_value}
 use Rattle.std.proofs.lemmas.Bool.Decides.{nat_tests, eqb_tells}
 use Rattle.std.proofs.lemmas.Bool.{eqb-true}
 use Rattle.std.proofs.lemmas.Option.{same_Some}
+use Rattle.std.proofs.Math.Bool.{and-false}
 use mathlib.Core.Bool.{true≢false}
 use Rattle.iref_grammar.specs.Rules.{Text}
 use Rattle.iref_grammar.specs.Texts.{is_empty, begins_with}
@@ -111,11 +112,7 @@ are_last_groups text groups h = elim (last_pieces (group_pieces text) groups h) 
 -- what `::` begins
 pub colons : (text : Text) → begins_with (codes "::") text ≡ true → 58 ∷ 58 ∷ drop 2 text ≡ text
 colons [] h = cc
-colons (a ∷ []) h = absurd (true≢false (sym h ∙ and_false (58 == a)))
-  where
-    and_false : (b : Bool) → (b && false) ≡ false
-    and_false true = refl
-    and_false false = refl
+colons (a ∷ []) h = absurd (true≢false (sym h ∙ and-false (58 == a)))
 colons (a ∷ b ∷ rest) h = elim (eqb_tells 58 a) [
   | inl e ↦ elim (eqb_tells 58 b) [
     | inl f ↦ λ i. e.1 i ∷ f.1 i ∷ rest

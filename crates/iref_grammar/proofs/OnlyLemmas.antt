@@ -5,6 +5,7 @@ use Rattle.std.specs.Char.{char_set_contains}
 use Rattle.std.specs.List.{list_all, join_with_byte}
 use Rattle.std.proofs.lemmas.Bool.Decides.{eqb_tells}
 use Rattle.std.proofs.lemmas.List.{append-nil}
+use Rattle.std.proofs.lemmas.Bool.{not-true}
 use mathlib.Core.Bool.{true≢false}
 use Rattle.iref_grammar.specs.Rules.{Text}
 use Rattle.iref_grammar.specs.Grammar.{hash_sign, slash, colon, question_mark}
@@ -26,11 +27,7 @@ scheme-back s rest h k =
     (λ i. scheme_of (before-part colon s (Some rest) h i) (after-part colon s (Some rest) h i) (s ++ colon ∷ rest)) ∙ ap (λ b. cond b (None, s ++ colon ∷ rest) (Some s, rest)) (held k)
   where
     held : not (char_set_contains s slash) ≡ true → char_set_contains s slash ≡ false
-    held e = by (char_set_contains s slash) e
-      where
-        by : (b : Bool) → not b ≡ true → b ≡ false
-        by true f = sym f
-        by false f = refl
+    held e = not-true (char_set_contains s slash) e
 
 hidden : (front : Text) (o : Option Text) (text : Text) → char_set_contains front slash ≡ true → scheme_of front o text ≡ (None, text)
 hidden front None text h = refl

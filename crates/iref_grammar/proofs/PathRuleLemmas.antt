@@ -4,6 +4,7 @@ use Rattle.std.proofs.Math.Logic.{◌↔◌}
 use Rattle.std.specs.List.{AllByRecursion, concat, join_with_byte}
 use Rattle.std.proofs.lemmas.List.{append-nil}
 use Rattle.std.proofs.lemmas.Bool.{and_from, not-true}
+use Rattle.std.proofs.Math.Bool.{or-true}
 use mathlib.Core.Bool.{true≢false}
 use Rattle.iref_grammar.specs.declared.context.PathContext.{PathContext}
 use Rattle.iref_grammar.specs.Characters.{CharTests, AreAboveAscii}
@@ -188,11 +189,7 @@ module _ (set : CharTests) (above : AreAboveAscii set) where
           let s = (in_utf8-start b bytes).0 z in
           record { path = record { absolute = false; segments = s.0 ∷ s.1 }; segments = (s.2, s.5); follows = refl; reads = relative_reads b s.0 s.1 s.3 s.4; spelled = join-slashed s.0 s.1 ∙ s.6 }
       relative (inr z) =
-          record { path = record { absolute = false; segments = [] }; segments = tt; follows = refl; reads = relative_no_scheme b true (always b); spelled = sym ((in_utf8-empty bytes).0 z) }
-        where
-          always : (a : Bool) → (a || true) ≡ true
-          always true = refl
-          always false = refl
+          record { path = record { absolute = false; segments = [] }; segments = tt; follows = refl; reads = relative_no_scheme b true (or-true b); spelled = sym ((in_utf8-empty bytes).0 z) }
 
       there : (InUtf8 (IsAbsolutePath set) or InUtf8 (IsStart set b or Empty)) bytes → IsPathIn set (record { has_scheme = b; has_authority = false }) bytes
       there (inl z) =

@@ -4,6 +4,7 @@ use Rattle.std.specs.Prelude.{◌==◌}
 use Rattle.std.specs.Bool.{Decides}
 use Rattle.std.proofs.lemmas.Bool.Decides.{Decides-like}
 use Rattle.std.proofs.lemmas.Bool.{eqb-true}
+use Rattle.std.proofs.Math.Bool.{or-true}
 use Rattle.iref_grammar.specs.Characters.{CharTests, AreAboveAscii}
 use Rattle.iref_grammar.specs.Rules.{Text, Rule, Mark, ◌or◌, InUtf8}
 use Rattle.iref_grammar.specs.Grammar.{slash, is_path_char, IsPathChar, IsPath}
@@ -29,11 +30,7 @@ to_path_piece set p (inl one) = by (is_path_char set one.0) refl one.1
 from_path_piece : (set : CharTests) (p : Text) → PathPiece set p → Piece (path_or_slash set) p
 from_path_piece set p (inl (inl one)) = inl (one.0, (λ i. one.1 i || one.0 == slash), one.2)
 from_path_piece set p (inl (inr esc)) = inr esc
-from_path_piece set p (inr mark) = inl (slash, or_true (is_path_char set slash), mark)
-  where
-    or_true : (b : Bool) → (b || true) ≡ true
-    or_true true = refl
-    or_true false = refl
+from_path_piece set p (inr mark) = inl (slash, or-true (is_path_char set slash), mark)
 
 module _ (set : CharTests) (above : AreAboveAscii set) where
   pub Decides-is_path : (bytes : Text) → Decides (is_path set bytes) (InUtf8 (IsPath set) bytes)

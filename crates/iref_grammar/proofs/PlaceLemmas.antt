@@ -5,6 +5,7 @@ use Rattle.std.specs.List.{slice_range}
 use Rattle.std.specs.declared.ops.Range.{Range}
 use Rattle.std.proofs.lemmas.List.{append-nil, length-append}
 use Rattle.std.proofs.Math.Seq.{take-append_seam, drop-append_seam}
+use Rattle.std.proofs.Math.Nat.{add-sub_cancel_left}
 use Rattle.iref_grammar.specs.Rules.{Text}
 use Rattle.iref_grammar.specs.Grammar.{hash_sign, colon, question_mark}
 use Rattle.iref_grammar.specs.Texts.{part_then, then_part}
@@ -19,10 +20,7 @@ text_between : (text before part behind : Text) (start : ℕ) → before ++ (par
 text_between text before part behind start spelled at =
     (λ i. slice_range (sym spelled i) (at i) (at i + length part))
     ∙ ap (take (length before + length part - length before)) (drop-append_seam before (part ++ behind))
-    ∙ ap (λ n. take n (part ++ behind)) (same (length before) (length part)) ∙ take-append_seam part behind
-  where
-    same : (n m : ℕ) → n + m - n ≡ m
-    same n m = omega arith
+    ∙ ap (λ n. take n (part ++ behind)) (add-sub_cancel_left (length before) (length part)) ∙ take-append_seam part behind
 
 -- a part and the delimiter after it, if there is one, at the start
 part_before : (mark : Text) (o : Option Text) (behind : Text) → option_map (text_at (part_then mark o ++ behind)) (option_map (place_from 0) o) ≡ o

@@ -3,6 +3,7 @@ use Rattle.std.proofs.Common.{◌≡◌, Bool, true, false, cond, ◌&&◌, [], 
 use Rattle.std.specs.Prelude.{◌==◌, Option, Some, None, option_map, codes}
 use Rattle.std.specs.Char.{char_set_contains}
 use Rattle.std.proofs.lemmas.Bool.Decides.{eqb_tells}
+use Rattle.std.proofs.Math.Bool.{and-false}
 use mathlib.Core.Bool.{true≢false}
 use Rattle.iref_grammar.specs.Rules.{Text}
 use Rattle.iref_grammar.specs.Grammar.{hash_sign, slash, colon, question_mark}
@@ -27,11 +28,7 @@ split_scheme-joins text = scheme-cut (before (colon ∷ []) text) (after colon t
 -- what `//` begins with
 slashes : (text : Text) → begins_with (codes "//") text ≡ true → slash ∷ slash ∷ drop 2 text ≡ text
 slashes [] h = absurd (true≢false (sym h))
-slashes (a ∷ []) h = absurd (true≢false (sym h ∙ and_false (slash == a)))
-  where
-    and_false : (b : Bool) → (b && false) ≡ false
-    and_false true = refl
-    and_false false = refl
+slashes (a ∷ []) h = absurd (true≢false (sym h ∙ and-false (slash == a)))
 slashes (a ∷ b ∷ rest) h = elim (eqb_tells slash a) [
   | inl e ↦ elim (eqb_tells slash b) [
     | inl f ↦ λ i. e.1 i ∷ f.1 i ∷ rest

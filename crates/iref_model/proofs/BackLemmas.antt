@@ -3,6 +3,7 @@ use Rattle.std.proofs.Common.{◌≡◌, ℕ, zero, suc, Bool, true, false, not,
 use Rattle.std.specs.Prelude.{◌==◌, replicate, codes}
 use Rattle.std.proofs.lemmas.List.{append-nil, reverse-append, replicate_more}
 use Rattle.std.proofs.lemmas.Grind.{reverse_onto}
+use Rattle.std.proofs.Math.Bool.{and-false}
 use Rattle.iref_grammar.specs.Rules.{Text}
 use Rattle.iref_grammar.specs.Texts.{is_empty}
 use Rattle.iref_grammar.specs.PathValue.{PathValue, is_one_empty}
@@ -70,16 +71,8 @@ is_empty-middle [] s back = refl
 is_empty-middle (t ∷ front) s back = refl
 
 not_one : (front : List Text) (s t : Text) → is_one_empty (front ++ s ∷ t ∷ []) ≡ false
-not_one [] s t = by (is_empty s)
-  where
-    by : (b : Bool) → (b && false) ≡ false
-    by true = refl
-    by false = refl
-not_one (u ∷ front) s t = ap (λ b. is_empty u && b) (is_empty-middle front s (t ∷ [])) ∙ by (is_empty u)
-  where
-    by : (b : Bool) → (b && false) ≡ false
-    by true = refl
-    by false = refl
+not_one [] s t = and-false (is_empty s)
+not_one (u ∷ front) s t = ap (λ b. is_empty u && b) (is_empty-middle front s (t ∷ [])) ∙ and-false (is_empty u)
 
 -- one empty item set aside, on either side of a reversal
 pub lone-reverse : (list : List Text) → without_lone_empty (reverse list) ≡ reverse (without_lone_empty list)

@@ -7,6 +7,7 @@ use Rattle.std.proofs.lemmas.List.Sums.{common_prefix_len-le}
 use Rattle.std.proofs.lemmas.List.Folds.{list_all-append}
 use Rattle.std.proofs.lemmas.Bool.{cases_lt}
 use Rattle.std.proofs.Math.Numerals.{one-add}
+use Rattle.std.proofs.Math.Bool.{and-false}
 use mathlib.Core.Bool.{true≢false}
 use Rattle.percent_encoding.specs.Percent.{percent_decode}
 use Rattle.iref_grammar.specs.Rules.{Text}
@@ -64,11 +65,7 @@ divided_last s (t ∷ rest) = λ i. s ∷ divided_last t rest i
 pub long_not_lone : (list : List Text) → 2 ≤ length list → is_one_empty list ≡ false
 long_not_lone [] h = refl
 long_not_lone (s ∷ []) h = absurd (omega arith)
-long_not_lone (s ∷ t ∷ rest) h = by (is_empty s)
-  where
-    by : (b : Bool) → (b && false) ≡ false
-    by true = refl
-    by false = refl
+long_not_lone (s ∷ t ∷ rest) h = and-false (is_empty s)
 
 pub long_without_lone : (list : List Text) → 2 ≤ length list → without_lone_empty list ≡ list
 long_without_lone list h = λ i. cond (long_not_lone list h i) [] list

@@ -15,10 +15,7 @@ use Rattle.iref_grammar.proofs.TextLemmas.{first_of_both, second_of_both}
 use Rattle.iref_model.proofs.PieceLemmas.{pieces-append}
 use Rattle.std.proofs.lemmas.List.Folds.{list_all-append}
 use Rattle.std.proofs.lemmas.Bool.{and_from}
-
-pub is_segment-empty : (set : CharTests) → is_segment set [] ≡ true
-unfolding is_segment is_utf8 chars
-is_segment-empty set = refl
+use Rattle.iref_grammar.proofs.EmptyLemmas.{is_segment_empty}
 
 pub is_segment-dot : (set : CharTests) → is_segment set (codes ".") ≡ true
 unfolding is_segment is_utf8 chars encode_utf8 owed_after is_path_char is_user_info_char is_reg_name_char
@@ -50,7 +47,7 @@ unfolding read_path
 is_path-pieces set above text = is_path-segments set above text ∙ all_of text
   where
     some : (b : Bool) → b ≡ (is_segment set [] && b)
-    some b = (λ i. sym (is_segment-empty set) i && b)
+    some b = (λ i. sym (is_segment_empty set) i && b)
 
     rest : (cs : Text) → list_all (is_segment set) (segments_of cs) ≡ list_all (is_segment set) (pieces_at slash cs)
     rest [] = some true
@@ -77,10 +74,10 @@ path_joined set above front back h k =
     is_path-pieces set above (front ++ slash ∷ back) ∙ ap (list_all (is_segment set)) (pieces-append front back) ∙ list_all-append (is_segment set) (pieces_at slash front) (pieces_at slash back)
     ∙ and_from _ _ (sym (is_path-pieces set above front) ∙ h) (sym (is_path-pieces set above back) ∙ k)
 
-pub ruleset short_segments = (is_segment-empty, is_segment-dot, is_segment-dot_dot)
+pub ruleset short_segments = (is_segment_empty, is_segment-dot, is_segment-dot_dot)
 
 pub ruleset empty_paths = (is_path_empty, is_path-root)
 
 pub is_path-guard : (set : CharTests) → AreAboveAscii set → is_path set (codes "/./") ≡ true
 is_path-guard set above =
-    is_path-pieces set above (codes "/./") ∙ (λ i. is_segment-empty set i && (is_segment-dot set i && (is_segment-empty set i && true)))
+    is_path-pieces set above (codes "/./") ∙ (λ i. is_segment_empty set i && (is_segment-dot set i && (is_segment_empty set i && true)))

@@ -2,6 +2,7 @@
 use Rattle.std.proofs.Common.{◌≡◌, Bool, true, List, refl}
 use Rattle.std.proofs.lemmas.Bool.{and_from, and_parts}
 use Rattle.std.specs.List.{list_all}
+use Rattle.iref_grammar.proofs.EmptyLemmas.{is_segment_empty}
 use Rattle.iref_grammar.specs.declared.context.PathContext.{PathContext}
 use Rattle.iref_grammar.specs.Characters.{CharTests}
 use Rattle.iref_grammar.specs.Rules.{Text}
@@ -10,13 +11,13 @@ use Rattle.iref_grammar.specs.PathValue.{PathValue}
 use Rattle.iref_grammar.specs.Contexts.{fits, is_readable_path}
 use Rattle.iref_model.specs.Guard.{guarded}
 use Rattle.iref_model.specs.PathSteps.{lazy_pushed, popped, pushed, appended, lazy_appended, replaced, joined, normalized, cleared}
-use Rattle.iref_model.proofs.PathGrammarLemmas.{is_segment-empty, is_segment-dot, is_segment-dot_dot}
+use Rattle.iref_model.proofs.PathGrammarLemmas.{is_segment-dot, is_segment-dot_dot}
 use Rattle.iref_model.proofs.GuardLemmas.{guarded-fits}
 use Rattle.iref_model.proofs.FitsLemmas.{lazy_pushed-fits, popped-fits, pushed-fits, appended-fits, lazy_appended-fits, joined-fits, normalized-fits, cleared-fits}
 use Rattle.iref_model.proofs.StepSegmentLemmas.{TakesDots, guarded-in, lazy_pushed-in, popped-in, pushed-in, appended-in, lazy_appended-in, joined-in, normalized-in}
 
 pub is_segment-dots : (set : CharTests) → TakesDots (is_segment set)
-is_segment-dots set = record { empty = is_segment-empty set; dot = is_segment-dot set; parent = is_segment-dot_dot set }
+is_segment-dots set = record { empty = is_segment_empty set; dot = is_segment-dot set; parent = is_segment-dot_dot set }
 
 module _ (set : CharTests) (context : PathContext) where
   abbrev pub is_readable : PathValue → Bool

@@ -3,6 +3,7 @@ use Rattle.std.proofs.Common.{◌≡◌, ℕ, suc, ◌+◌, ◌-◌, Bool, true,
 use Rattle.std.proofs.lemmas.List.{length-reverse}
 use Rattle.std.specs.Prelude.{◌==◌, ◌≢◌, Some, None, codes}
 use Rattle.std.specs.Borrow.{Bor}
+use Rattle.std.proofs.Math.Bool.{and-true}
 use Rattle.iref_grammar.specs.Rules.{Text}
 use Rattle.iref_grammar.specs.PathValue.{PathValue}
 use Rattle.iref_model.specs.NormalList.{is_dot_dot, is_name, counted}
@@ -28,10 +29,6 @@ all_after_read u v s h = λ i. all_items_read (sym h.absolute i) (h.segment i)
 
 -- ---- the last segment is read: whether it stays, and how many `..` are open before it
 
-and_true : (b : Bool) → (b && true) ≡ b
-and_true true = refl
-and_true false = refl
-
 module _ (absolute : Bool) (n m : ℕ) (s : Text) (before : List Text) (m_is : m ≡ counted (is_dot_dot s) (is_name s) n) where
   pub name_given : true ≡ is_name s && (n == 0) → items_read absolute n (s ∷ before) ≡ record { item = s; unread = before } ∷ items_read absolute m before
   name_given e = λ i. item_before (sym e i) s before (items_read absolute (sym m_is i) before)
@@ -42,7 +39,7 @@ module _ (absolute : Bool) (n m : ℕ) (s : Text) (before : List Text) (m_is : m
   pub first_given : (stays : Bool) → stays ≡ is_name s && (n == 0) → n ≡ 0
       → all_items_read absolute (s ∷ before) ≡ record { item = cond stays s []; unread = before } ∷ items_read absolute m before
   first_given stays e none =
-      let name : stays ≡ is_name s = e ∙ (λ i. is_name s && (none i == 0)) ∙ and_true (is_name s) in
+      let name : stays ≡ is_name s = e ∙ (λ i. is_name s && (none i == 0)) ∙ and-true (is_name s) in
       let opened : m ≡ counted (is_dot_dot s) (is_name s) 0 = m_is ∙ ap (counted (is_dot_dot s) (is_name s)) none in
       λ i. record { item = cond (sym name i) s []; unread = before } ∷ items_read absolute (sym opened i) before
 

@@ -2,6 +2,7 @@ use Rattle.std.proofs.Common.{◌+◌, ◌++◌, length, length-append, sym, ap,
 use Rattle.std.specs.Prelude.{codes, option_map}
 use Rattle.std.specs.Option.{option_copied}
 use Rattle.std.specs.List.{splice}
+use Rattle.iref_grammar.proofs.ComponentLemmas.{authority_spelled}
 use Rattle.iref_grammar.specs.Texts.{then_part}
 use Rattle.iref_grammar.specs.Authority.{read_authority}
 use Rattle.iref_grammar.specs.PathValue.{spell_path}
@@ -10,7 +11,7 @@ use Rattle.iref_grammar.proofs.ComponentLemmas.{is_some-copied}
 use Rattle.iref_model.specs.ComponentSteps.{with_authority}
 use Rattle.iref_model.proofs.ReferenceStepLemmas.{with_authority-readable}
 use Rattle.iref_buffer.specs.declared.lengths.Lengths.{Lengths}
-use Rattle.iref_buffer.proofs.EditLemmas.{is_step, steps_or_stays, authority_spelled, authority_read, some_read, with_authority-parts}
+use Rattle.iref_buffer.proofs.EditLemmas.{is_step, steps_or_stays, authority_read, some_read, with_authority-parts}
 use Rattle.iref_buffer.proofs.held.Held.set_authority.Goals as goal
 
 pub step-requires-clause-leaves : goal.step-requires-clause-leaves
