@@ -16,7 +16,7 @@ use Rattle.std.specs.Str.{IsCharBoundary, IsUtf8}
 use Rattle.std.specs.List.{list_all}
 use Rattle.std.proofs.lemmas.Str.{IsCharBoundary-from_take}
 use Rattle.iref_grammar.specs.Characters.{iri_chars, iri_above_ascii}
-use Rattle.iref_grammar.specs.Reference.{is_full_reference}
+use Rattle.iref_grammar.specs.Reference.{is_uri}
 use Rattle.iref_grammar.specs.Rules.{Text}
 use Rattle.iref_grammar.proofs.ReferenceRuleLemmas.{Decides-is_uri}
 use Rattle.iref_grammar.proofs.TextLemmas.{first_of_both, second_of_both}
@@ -138,16 +138,16 @@ module _ (iri : Text) (table : PrefixTable) (set : BTreeSet ℕ) (end len : ℕ)
 
 -- ---- where the IRI cannot be cut, no text ends
 
-text_is_utf8 : (text : Text) → is_full_reference iri_chars text ≡ true → IsUtf8 text
+text_is_utf8 : (text : Text) → is_uri iri_chars text ≡ true → IsUtf8 text
 text_is_utf8 text h = let z = (Decides-is_uri iri_chars iri_above_ascii text).0 h in (z.0, (z.1, z.2))
 
-pub no_text_ends : (iri : Text) (table : PrefixTable) (len : ℕ) → IsUtf8 iri → len ≤ length iri → (IsCharBoundary iri len → ⊥) → list_all (λ (e : PrefixEntry). is_full_reference iri_chars e.iri) table ≡ true
+pub no_text_ends : (iri : Text) (table : PrefixTable) (len : ℕ) → IsUtf8 iri → len ≤ length iri → (IsCharBoundary iri len → ⊥) → list_all (λ (e : PrefixEntry). is_uri iri_chars e.iri) table ≡ true
     → find (has_text (take len iri)) table ≡ None
 no_text_ends iri [] len utf8 inside uncut h = refl
 no_text_ends iri (e ∷ table) len utf8 inside uncut h =
-    by (has_text (take len iri) e) refl (no_text_ends iri table len utf8 inside uncut (second_of_both (is_full_reference iri_chars e.iri) (list_all (λ (x : PrefixEntry). is_full_reference iri_chars x.iri) table) h))
+    by (has_text (take len iri) e) refl (no_text_ends iri table len utf8 inside uncut (second_of_both (is_uri iri_chars e.iri) (list_all (λ (x : PrefixEntry). is_uri iri_chars x.iri) table) h))
   where
     by : (b : Bool) → has_text (take len iri) e ≡ b → find (has_text (take len iri)) table ≡ None → (if b then Some e else find (has_text (take len iri)) table) ≡ None
     by true is others = absurd (uncut (IsCharBoundary-from_take iri len utf8 inside
-        (subst IsUtf8 ((bytes_decides e.iri (take len iri)).0 is) (text_is_utf8 e.iri (first_of_both (is_full_reference iri_chars e.iri) (list_all (λ (x : PrefixEntry). is_full_reference iri_chars x.iri) table) h)))))
+        (subst IsUtf8 ((bytes_decides e.iri (take len iri)).0 is) (text_is_utf8 e.iri (first_of_both (is_uri iri_chars e.iri) (list_all (λ (x : PrefixEntry). is_uri iri_chars x.iri) table) h)))))
     by false is others = others

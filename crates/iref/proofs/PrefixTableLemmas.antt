@@ -5,7 +5,7 @@ use Rattle.std.specs.List.{find, list_any}
 use Rattle.std.specs.Bool.{IsFalse}
 use Rattle.std.proofs.lemmas.Option.{same_Some}
 use Rattle.iref_grammar.specs.Characters.{iri_chars, iri_above_ascii}
-use Rattle.iref_grammar.specs.Reference.{is_full_reference}
+use Rattle.iref_grammar.specs.Reference.{is_uri}
 use Rattle.iref_grammar.specs.Rules.{Text, InUtf8}
 use Rattle.iref_grammar.specs.Grammar.{colon, IsUri}
 use Rattle.iref_grammar.proofs.ReferenceRuleLemmas.{Decides-is_uri}
@@ -37,7 +37,7 @@ pub fresh : (label iri : Text) (table : PrefixTable) → is_label label ≡ true
     → inserted label iri table ≡ Ok (table ++ record { label = label; iri = iri } ∷ [])
 fresh label iri table h k = taken_is label iri table h ∙ ap (λ b. if b then Err Taken else Ok (table ++ record { label = label; iri = iri } ∷ [])) k
 
-pub stays_table : (label iri : Text) (table : PrefixTable) → IsPrefixTable table → is_full_reference iri_chars iri ≡ true → is_label label ≡ true → is_some (find (has_label label) table) ≡ false
+pub stays_table : (label iri : Text) (table : PrefixTable) → IsPrefixTable table → is_uri iri_chars iri ≡ true → is_label label ≡ true → is_some (find (has_label label) table) ≡ false
     → IsPrefixTable (table ++ record { label = label; iri = iri } ∷ [])
 stays_table label iri table t full h k = table-new label iri table (table ++ record { label = label; iri = iri } ∷ []) t full (fresh label iri table h k)
 
@@ -55,7 +55,7 @@ pub compacted_by : (iri : Text) (table : PrefixTable) (o : Option PrefixEntry) �
 unfolding compacted
 compacted_by iri table o h = ap (option_map (λ (e : PrefixEntry). record { label = e.label; rest = drop (length e.iri) iri })) h
 
-pub expands : (iri : Text) (table : PrefixTable) (e : PrefixEntry) → IsPrefixTable table → is_full_reference iri_chars iri ≡ true → longest_fit iri table ≡ Some e
+pub expands : (iri : Text) (table : PrefixTable) (e : PrefixEntry) → IsPrefixTable table → is_uri iri_chars iri ≡ true → longest_fit iri table ≡ Some e
     → expanded (compact_text (record { label = e.label; rest = drop (length e.iri) iri })) table ≡ Ok iri
 expands iri table e t full h = expanded-compacted iri table (record { label = e.label; rest = drop (length e.iri) iri }) t full (compacted_by iri table (Some e) h)
 
@@ -74,14 +74,14 @@ unfolding expanded
 known_label text rest iri table h k = ap (expanded_parts (get (before (colon ∷ []) text) table)) h ∙ ap (λ o. expanded_parts o (Some rest)) k
 
 pub has_colon : (text rest iri : Text) (table : PrefixTable) → after colon text ≡ Some rest → get (before (colon ∷ []) text) table ≡ Some iri → expanded text table ≢ Err NoColon
-has_colon text rest iri table h k e = by (is_full_reference iri_chars (iri ++ rest)) (sym (known_label text rest iri table h k) ∙ e)
+has_colon text rest iri table h k e = by (is_uri iri_chars (iri ++ rest)) (sym (known_label text rest iri table h k) ∙ e)
   where
     by : (b : Bool) → (if b then Ok (iri ++ rest) else Err NotAnIri) ≡ Err NoColon → ⊥
     by true m = cc
     by false m = cc
 
 pub has_known_label : (text rest iri : Text) (table : PrefixTable) → after colon text ≡ Some rest → get (before (colon ∷ []) text) table ≡ Some iri → expanded text table ≢ Err UnknownLabel
-has_known_label text rest iri table h k e = by (is_full_reference iri_chars (iri ++ rest)) (sym (known_label text rest iri table h k) ∙ e)
+has_known_label text rest iri table h k e = by (is_uri iri_chars (iri ++ rest)) (sym (known_label text rest iri table h k) ∙ e)
   where
     by : (b : Bool) → (if b then Ok (iri ++ rest) else Err NotAnIri) ≡ Err UnknownLabel → ⊥
     by true m = cc
@@ -91,7 +91,7 @@ pub iri_text : (text : Text) → InUtf8 (IsUri iri_chars) text → if_iri text �
 iri_text text h = ap (λ b. if b then Ok text else Err NotAnIri) ((Decides-is_uri iri_chars iri_above_ascii text).1 h)
 
 pub no_iri : (text : Text) → (InUtf8 (IsUri iri_chars) text → ⊥) → if_iri text ≡ Err NotAnIri
-no_iri text h = by (is_full_reference iri_chars text) (Decides-is_uri iri_chars iri_above_ascii text).0
+no_iri text h = by (is_uri iri_chars text) (Decides-is_uri iri_chars iri_above_ascii text).0
   where
     by : (b : Bool) → (b ≡ true → InUtf8 (IsUri iri_chars) text) → (if b then Ok text else Err NotAnIri) ≡ Err NotAnIri
     by true m = absurd (h (m refl))

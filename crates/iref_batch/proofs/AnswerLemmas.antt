@@ -1,5 +1,5 @@
 -- Answers to lines.
-use Rattle.std.proofs.Common.{◌≡◌, ◌&&◌, Bool, true, false, refl, sym, subst, ◌∙◌, [], ◌∷◌, ◌++◌, Option, Some, None, Err, ap, option_map, append_assoc, codes}
+use Rattle.std.proofs.Common.{◌≡◌, Bool, true, false, refl, sym, subst, ◌∙◌, [], ◌∷◌, ◌++◌, Option, Some, None, Err, ap, option_map, append_assoc, codes}
 use Rattle.std.proofs.lemmas.Bool.{and_right}
 use Rattle.std.specs.List.{join_with_byte}
 use Rattle.iref_grammar.specs.Rules.{Text, InUtf8}
@@ -10,8 +10,8 @@ use Rattle.iref_grammar.proofs.PathTextLemmas.{Decides-is_path}
 use Rattle.iref_grammar.proofs.ReferenceRuleLemmas.{Decides-is_uri, Decides-is_uri_reference}
 use Rattle.iref_grammar.specs.PathValue.{spell_path, read_path}
 use Rattle.iref_grammar.specs.Contexts.{alone}
-use Rattle.iref_grammar.specs.Reference.{ReferenceValue, is_reference, is_full_reference, read_reference, spell}
-use Rattle.iref_grammar.specs.ComponentTexts.{ComponentTexts, spell_components, read_components}
+use Rattle.iref_grammar.specs.Reference.{ReferenceValue, is_reference, is_uri, read_reference, spell}
+use Rattle.iref_grammar.specs.ComponentTexts.{ComponentTexts, spell_components}
 use Rattle.iref_model.specs.Guard.{guarded}
 use Rattle.iref_model.specs.NormalList.{normal}
 use Rattle.iref_model.specs.Key.{key, are_alike}
@@ -77,10 +77,10 @@ pub no_parts_answer : (text : Text) → ¬ (InUtf8 (IsUriReference iri_chars) te
 unfolding is_valid
 no_parts_answer text h = invalid (Parts text) (no_reference text h)
 
-uri : (text : Text) → InUtf8 (IsUri iri_chars) text → is_full_reference iri_chars text ≡ true
+uri : (text : Text) → InUtf8 (IsUri iri_chars) text → is_uri iri_chars text ≡ true
 uri text h = (Decides-is_uri iri_chars iri_above_ascii text).1 h
 
-no_uri : (text : Text) → ¬ (InUtf8 (IsUri iri_chars) text) → is_full_reference iri_chars text ≡ false
+no_uri : (text : Text) → ¬ (InUtf8 (IsUri iri_chars) text) → is_uri iri_chars text ≡ false
 no_uri text h = false_if_not _ (λ e. h ((Decides-is_uri iri_chars iri_above_ascii text).0 e))
 
 pub resolve_answer : (reference base written : Text) (r b : ReferenceValue) → InUtf8 (IsUriReference iri_chars) reference → InUtf8 (IsUri iri_chars) base → r ≡ read_reference reference → b ≡ read_reference base → written ≡ spell (resolved b r) → answer_if_valid iri_chars (Resolve reference base) ≡ Answered written

@@ -4,7 +4,7 @@ use Rattle.std.specs.Str.{is_utf8}
 use Rattle.std.proofs.lemmas.Bool.{and_left, and_right, false_from_ne_true}
 use Rattle.iref_grammar.specs.Characters.{iri_chars, iri_above_ascii}
 use Rattle.iref_grammar.specs.Grammar.{IsUri}
-use Rattle.iref_grammar.specs.Reference.{is_full_reference}
+use Rattle.iref_grammar.specs.Reference.{is_uri}
 use Rattle.iref_grammar.specs.Rules.{InUtf8, Text}
 use Rattle.iref_grammar.proofs.ReferenceRuleLemmas.{Decides-is_uri}
 use Rattle.iref_mapping.specs.PrefixTable.{PrefixEntry, CompactValue, compacted, compact_text, ExpandRefusal, expanded}
@@ -17,7 +17,7 @@ use Rattle.iref_batch.proofs.PrefixFieldLemmas.{valid_table}
 
 pub unfit_entries : (verb : TableVerb) (text : Text) (es : List PrefixEntry) → are_valid_entries iri_chars es ≡ false → is_valid iri_chars (asked_of verb text es) ≡ false
 unfolding is_valid
-unfit_entries table_verb.Compact text es h = and_right (is_full_reference iri_chars text) _ h
+unfit_entries table_verb.Compact text es h = and_right (is_uri iri_chars text) _ h
 unfit_entries table_verb.Expand text es h = and_right (is_utf8 text) _ h
 
 module _ (es : List PrefixEntry) (v : are_valid_entries iri_chars es ≡ true) where

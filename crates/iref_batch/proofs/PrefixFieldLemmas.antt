@@ -16,7 +16,7 @@ use Rattle.iref_grammar.specs.Characters.{iri_chars, iri_above_ascii}
 use Rattle.iref_grammar.specs.Grammar.{IsUri}
 use Rattle.iref_grammar.specs.Texts.{after, before}
 use Rattle.iref_grammar.proofs.ReferenceRuleLemmas.{Decides-is_uri}
-use Rattle.iref_grammar.specs.Reference.{is_full_reference}
+use Rattle.iref_grammar.specs.Reference.{is_uri}
 use Rattle.iref_grammar.specs.Rules.{InUtf8, Text}
 use Rattle.iref_mapping.specs.PrefixTable.{PrefixEntry, PrefixTable, InsertRefusal, is_label, is_label_char, inserted, inserted_all, unless_refused}
 use Rattle.iref_mapping.proofs.PrefixLemmas.{inserted-ok, inserted-bad_label}
@@ -25,7 +25,7 @@ use Rattle.iref_batch.specs.PrefixFields.{can_insert, entries_read, HasTaken}
 use Rattle.iref_batch.proofs.FieldListLemmas.{nothing_before, next_read, not_read, all_read}
 
 abbrev full : PrefixEntry → Bool
-full e = is_full_reference iri_chars e.iri
+full e = is_uri iri_chars e.iri
 
 inserted_all-append : (es more : List PrefixEntry) (table : PrefixTable) → inserted_all (es ++ more) table ≡ option_and_then (inserted_all more) (inserted_all es table)
 unfolding inserted_all
@@ -102,8 +102,8 @@ no_iri_no_entry table e h = and_left (full e) _ (false_from_ne_true _ (λ i. h (
 pub refused_entry : (table : PrefixTable) (e : PrefixEntry) (refusal : InsertRefusal) → inserted e.label e.iri table ≡ Err refusal → can_insert table e ≡ false
 refused_entry table e refusal h = and_right (full e) _ (ap is_ok h)
 
-pub iri_full : (iri : Text) → InUtf8 (IsUri iri_chars) iri → is_full_reference iri_chars iri ≡ true
-iri_full iri h = (Decides-is_uri iri_chars iri_above_ascii iri).1 h
+pub iri_accepted : (iri : Text) → InUtf8 (IsUri iri_chars) iri → is_uri iri_chars iri ≡ true
+iri_accepted iri h = (Decides-is_uri iri_chars iri_above_ascii iri).1 h
 
 -- a field is read as its label and its IRI
 pub field_read : (field label iri : Text) (value : Option Text) → label ≡ before (equals_sign ∷ []) field → value ≡ after equals_sign field → value ≡ Some iri → read_entry field ≡ Some (record { label = label; iri = iri })

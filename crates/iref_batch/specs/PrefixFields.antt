@@ -2,7 +2,7 @@
 use Rattle.std.specs.Prelude.{◌≡◌, Bool, true, false, ◌&&◌, List, map, Option, Some, None, Ok}
 use Rattle.std.specs.Result.{is_ok}
 use Rattle.iref_grammar.specs.Characters.{iri_chars}
-use Rattle.iref_grammar.specs.Reference.{is_full_reference}
+use Rattle.iref_grammar.specs.Reference.{is_uri}
 use Rattle.iref_grammar.specs.Rules.{Text}
 use Rattle.iref_grammar.specs.IpAddresses.{all_some}
 use Rattle.iref_mapping.specs.PrefixTable.{PrefixEntry, PrefixTable, inserted}
@@ -16,12 +16,12 @@ entries_read fields = all_some (map read_entry fields)
 
 -- the entry has an IRI, and the table takes its label
 abbrev pub can_insert : PrefixTable → PrefixEntry → Bool
-can_insert table e = is_full_reference iri_chars e.iri && is_ok (inserted e.label e.iri table)
+can_insert table e = is_uri iri_chars e.iri && is_ok (inserted e.label e.iri table)
 
 -- the table has taken the entry that was read
 abbrev pub HasTaken : Option PrefixEntry → PrefixTable → PrefixTable → Type 0
 HasTaken read old new =
-    (e : PrefixEntry) × (read ≡ Some e) × (is_full_reference iri_chars e.iri ≡ true) × (inserted e.label e.iri old ≡ Ok new)
+    (e : PrefixEntry) × (read ≡ Some e) × (is_uri iri_chars e.iri ≡ true) × (inserted e.label e.iri old ≡ Ok new)
 
 -- why not: nothing is to be read, or the table cannot take it, or memory was refused
 abbrev pub TakesNot : Option PrefixEntry → PrefixTable → FieldError → Type 0

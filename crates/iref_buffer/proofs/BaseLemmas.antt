@@ -17,13 +17,13 @@ use Rattle.iref_grammar.specs.Authority.{spell_authority}
 use Rattle.iref_grammar.specs.PathValue.{spell_path, read_path}
 use Rattle.iref_grammar.specs.Contexts.{fits}
 use Rattle.iref_grammar.specs.ComponentTexts.{ComponentTexts, AreComponents, read_components}
-use Rattle.iref_grammar.specs.Reference.{ReferenceValue, context_of, is_readable, spell, read_reference, is_reference, is_full_reference}
+use Rattle.iref_grammar.specs.Reference.{ReferenceValue, context_of, is_readable, spell, read_reference, is_reference, is_uri}
 use Rattle.iref_grammar.specs.ComponentOffsets.{offsets_in, path_start}
 use Rattle.iref_grammar.proofs.TextLemmas.{first_of_both, second_of_both}
 use Rattle.iref_grammar.proofs.PathLemmas.{read_path-reads}
 use Rattle.iref_grammar.proofs.ReadablePartsLemmas.{readable_parts, readable_from}
 use Rattle.iref_grammar.proofs.ReadableLemmas.{readable_read}
-use Rattle.iref_grammar.proofs.ComponentLemmas.{full_if_scheme, scheme_if_full, reference_if_full}
+use Rattle.iref_grammar.proofs.ComponentLemmas.{uri_if_scheme, scheme_if_uri, reference_if_uri}
 use Rattle.iref_model.specs.NormalList.{closed}
 use Rattle.iref_model.specs.PathFunctions.{directory, directory_text}
 use Rattle.iref_model.proofs.DirectoryLemmas.{directory-spelled}
@@ -76,9 +76,9 @@ unfolding is_reference
 base_of_in_rule set above text h = ap (is_readable set) (base_of-read set above text h) ∙ base_of-readable set (read_reference text) h
 
 -- and has a scheme where the whole has one
-pub base_of-full : (set : CharTests) (text base : Text) → is_full_reference set text ≡ true → is_reference set base ≡ true → read_reference base ≡ base_of (read_reference text) → is_full_reference set base ≡ true
+pub base_of-full : (set : CharTests) (text base : Text) → is_uri set text ≡ true → is_reference set base ≡ true → read_reference base ≡ base_of (read_reference text) → is_uri set base ≡ true
 unfolding base_of
-base_of-full set text base h k e = full_if_scheme set base k (ap (λ (r : ReferenceValue). is_some r.scheme) e ∙ scheme_if_full set text h)
+base_of-full set text base h k e = uri_if_scheme set base k (ap (λ (r : ReferenceValue). is_some r.scheme) e ∙ scheme_if_uri set text h)
 
 pub ruleset full_base = (base_of-full)
 
@@ -139,7 +139,7 @@ tail_utf8 set t components =
     (part_utf8 question_mark t.query question_utf8 (λ part e. IsUtf8-from_is_utf8 part (first_of_both _ _ (ap (none_or (is_query set)) (sym e) ∙ components.query))))
     (part_utf8 hash_sign t.fragment hash_utf8 (λ part e. IsUtf8-from_is_utf8 part (first_of_both _ _ (ap (none_or (is_fragment set)) (sym e) ∙ components.fragment))))
 
-pub base_of_in_full_rule : (set : CharTests) → AreAboveAscii set → (text : Text) → is_full_reference set text ≡ true → is_full_reference set (spell (base_of (read_reference text))) ≡ true
-base_of_in_full_rule set above text h =
-    let reference = reference_if_full set text h in
+pub base_of_in_uri_rule : (set : CharTests) → AreAboveAscii set → (text : Text) → is_uri set text ≡ true → is_uri set (spell (base_of (read_reference text))) ≡ true
+base_of_in_uri_rule set above text h =
+    let reference = reference_if_uri set text h in
     base_of-full set text (spell (base_of (read_reference text))) h (base_of_in_rule set above text reference) (base_of-read set above text reference)

@@ -15,7 +15,6 @@ use Rattle.iref_grammar.specs.PathValue.{PathValue, spell_path}
 use Rattle.iref_grammar.specs.Reference.{ReferenceValue, spell, read_reference, is_readable, is_reference}
 use Rattle.iref_grammar.specs.ComponentOffsets.{place_from, authority_mark, path_start, query_mark, offsets_in, offsets_of}
 use Rattle.iref_grammar.specs.Tests.{none_or}
-use Rattle.iref_grammar.proofs.AuthorityLemmas.{read_authority-spelled}
 use Rattle.iref_grammar.proofs.ReadableLemmas.{readable_read}
 use Rattle.iref_grammar.proofs.ReferenceCutLemmas.{read_reference-spelled}
 use mathlib.Core.Bool.{true≢false}

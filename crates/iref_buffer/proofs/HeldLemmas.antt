@@ -5,7 +5,7 @@ use Rattle.std.specs.Bool.{Decides}
 use Rattle.std.specs.Str.{IsCharBoundary}
 use Rattle.std.specs.declared.ops.Range.{Range}
 use Rattle.std.proofs.lemmas.Str.{IsCharBoundary-at_seam, IsUtf8-append, IsUtf8-nil, IsUtf8-from_ascii}
-use Rattle.std.proofs.lemmas.List.{append-nil, length-append, places, same_lists}
+use Rattle.std.proofs.lemmas.List.{length-append, places, same_lists}
 use Rattle.iref_mapping.proofs.MappedPlaceLemmas.{around_scheme, around_authority, around_path, around_query, around_fragment}
 use Rattle.iref_grammar.specs.Characters.{CharTests, AreAboveAscii}
 use Rattle.iref_grammar.specs.Rules.{Text, Rule, InUtf8}

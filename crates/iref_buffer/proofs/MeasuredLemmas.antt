@@ -8,14 +8,12 @@ use Rattle.std.proofs.lemmas.List.{append-nil}
 use Rattle.iref_grammar.specs.Rules.{Text}
 use Rattle.iref_grammar.specs.Grammar.{colon, hash_sign, question_mark, slash}
 use Rattle.iref_grammar.specs.Texts.{is_empty, part_then, then_part}
-use Rattle.iref_grammar.specs.Authority.{AuthorityValue, spell_authority, read_authority}
+use Rattle.iref_grammar.specs.Authority.{AuthorityValue, read_authority}
 use Rattle.iref_grammar.specs.PathValue.{PathValue, read_path, segments_of, spell_path}
 use Rattle.iref_grammar.specs.Contexts.{fits}
 use Rattle.iref_grammar.specs.Characters.{AreAboveAscii, CharTests}
-use Rattle.iref_grammar.specs.ComponentOffsets.{offsets_of}
 use Rattle.iref_grammar.specs.Reference.{ReferenceValue, context_of, is_readable, is_reference, read_reference, spell}
 use Rattle.iref_grammar.specs.ComponentTexts.{ComponentTexts, read_components, spell_components}
-use Rattle.iref_grammar.proofs.AuthorityLemmas.{read_authority-spelled}
 use Rattle.iref_grammar.proofs.PathLemmas.{read_path-reads}
 use Rattle.iref_model.specs.ComponentSteps.{guarded_reference}
 use Rattle.iref_model.specs.NormalList.{normal}

@@ -8,7 +8,6 @@ use Rattle.iref_grammar.specs.Rules.{Text}
 use Rattle.iref_grammar.specs.PathValue.{PathValue, read_path, spell_path}
 use Rattle.iref_grammar.specs.ComponentTexts.{ComponentTexts, read_components, spell_components}
 use Rattle.iref_grammar.specs.Reference.{ReferenceValue}
-use Rattle.iref_grammar.proofs.PathLemmas.{read_path-reads}
 use Rattle.iref_model.specs.PathKey.{path_key}
 use Rattle.iref_model.specs.Relative.{have_same_path, is_same_place, leading_path, relative_to, with_only_path}
 use Rattle.iref_model.proofs.PathKeyLemmas.{tie_from_decides}

@@ -1,5 +1,5 @@
 -- What an edit by many segments takes of an iterator, and what it makes of a path.
-use Rattle.std.specs.Prelude.{Bool, false, true, List, Option, None, Result, ◌≡◌, fold, map, IfNone, MatchOption, MatchResult}
+use Rattle.std.specs.Prelude.{Bool, false, true, List, Option, Result, ◌≡◌, fold, map, IfNone, MatchOption, MatchResult}
 use Rattle.std.specs.Borrow.{Bor}
 use Rattle.std.specs.Iterator.{YieldsThen, Drains}
 use Rattle.std.specs.List.{All}

@@ -8,7 +8,7 @@ pub use Rattle.iref_grammar.specs.IpAddresses.{ipv4_value}
 pub use Rattle.iref_grammar.specs.Keys.{fed_bytes, text_order}
 pub use Rattle.iref_grammar.specs.PathValue.{PathValue, read_path, spell_path}
 pub use Rattle.iref_grammar.specs.ComponentOffsets.{offsets_of}
-pub use Rattle.iref_grammar.specs.Reference.{context_of, hierarchy, is_full_reference, is_readable, is_reference, read_reference, ReferenceValue, spell}
+pub use Rattle.iref_grammar.specs.Reference.{context_of, hierarchy, is_uri, is_readable, is_reference, read_reference, ReferenceValue, spell}
 pub use Rattle.iref_grammar.specs.Rules.{AcceptsExactly, InUtf8, Text}
 pub use Rattle.iref_grammar.specs.Tests.{is_fragment, is_host, is_ip_literal, is_ipv4, is_path, is_pct_str, is_port, is_query, is_scheme, is_segment, is_user_info, none_or}
 pub use Rattle.iref_grammar.specs.Texts.{before, is_empty, part_then, then_part}

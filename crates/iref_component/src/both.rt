@@ -99,7 +99,8 @@ impl<S: Storage, R: Rule, C: CharSet> Eq for RuleText<S, R, C> {
 impl<S: Storage, R: Rule, C: CharSet> Hash for RuleText<S, R, C> {
     ghost hash_input = { λ v. R.Key.comparison.fed (R.Key.comparison.key (text_of v)) };
 
-    ghost respects_eq = { λ _ _ same. ap R.Key.comparison.fed (R.Key.comparison.separates _ _ same) };
+    ghost respects_eq = { λ _ _ same.
+        ap R.Key.comparison.fed (R.Key.comparison.separates _ _ same) };
 
     fn hash<H: Hasher>(&self, state: &mut H) {
         R::Key::feed::<C, H>(self.text.text(), state);

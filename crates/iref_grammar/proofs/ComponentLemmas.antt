@@ -10,7 +10,7 @@ use Rattle.iref_grammar.specs.Rules.{Text}
 use Rattle.iref_grammar.specs.Tests.{none_or}
 use Rattle.iref_grammar.specs.Authority.{spell_authority, read_authority, has_authority_parts, is_authority}
 use Rattle.iref_grammar.specs.Contexts.{follows_authority, reads_as_path}
-use Rattle.iref_grammar.specs.Reference.{ReferenceValue, context_of, is_readable, read_reference, is_reference, is_full_reference}
+use Rattle.iref_grammar.specs.Reference.{ReferenceValue, context_of, is_readable, read_reference, is_reference, is_uri}
 use Rattle.iref_grammar.specs.ComponentTexts.{ComponentTexts, spell_components, read_components, AreComponents}
 use Rattle.iref_grammar.proofs.AuthorityLemmas.{read_authority-spelled}
 use Rattle.iref_grammar.proofs.PathLemmas.{read_path-reads}
@@ -39,35 +39,35 @@ pub is_some-copied : (slice : Option (Bor Text)) → is_some slice ≡ is_some (
 is_some-copied None = refl
 is_some-copied (Some text) = refl
 
-pub full_by_scheme : (set : CharTests) (text : Text) (s : ComponentTexts) → read_components s ≡ read_reference text → true ≡ is_reference set text → is_some s.scheme ≡ is_full_reference set text
-unfolding is_full_reference read_reference
-full_by_scheme set text s e h = by (is_some s.scheme) ∙ (λ i. is_some (e i).scheme && h i)
+pub uri_by_scheme : (set : CharTests) (text : Text) (s : ComponentTexts) → read_components s ≡ read_reference text → true ≡ is_reference set text → is_some s.scheme ≡ is_uri set text
+unfolding is_uri read_reference
+uri_by_scheme set text s e h = by (is_some s.scheme) ∙ (λ i. is_some (e i).scheme && h i)
   where
     by : (b : Bool) → b ≡ (b && true)
     by true = refl
     by false = refl
 
-pub not_full : (set : CharTests) (text : Text) → false ≡ is_reference set text → false ≡ is_full_reference set text
-unfolding is_full_reference read_reference
-not_full set text h = by (is_some (read_reference text).scheme) ∙ ap (λ b. is_some (read_reference text).scheme && b) h
+pub not_uri : (set : CharTests) (text : Text) → false ≡ is_reference set text → false ≡ is_uri set text
+unfolding is_uri read_reference
+not_uri set text h = by (is_some (read_reference text).scheme) ∙ ap (λ b. is_some (read_reference text).scheme && b) h
   where
     by : (b : Bool) → false ≡ (b && false)
     by true = refl
     by false = refl
 
-pub full_if_scheme : (set : CharTests) (text : Text) → is_reference set text ≡ true → is_some (read_reference text).scheme ≡ true → is_full_reference set text ≡ true
-unfolding is_full_reference read_reference
-full_if_scheme set text h k = and_from _ _ k h
+pub uri_if_scheme : (set : CharTests) (text : Text) → is_reference set text ≡ true → is_some (read_reference text).scheme ≡ true → is_uri set text ≡ true
+unfolding is_uri read_reference
+uri_if_scheme set text h k = and_from _ _ k h
 
-pub reference_if_full : (set : CharTests) (text : Text) → is_full_reference set text ≡ true → is_reference set text ≡ true
-unfolding is_full_reference
-reference_if_full set text h = (and_parts _ _ h).1
+pub reference_if_uri : (set : CharTests) (text : Text) → is_uri set text ≡ true → is_reference set text ≡ true
+unfolding is_uri
+reference_if_uri set text h = (and_parts _ _ h).1
 
-pub scheme_if_full : (set : CharTests) (text : Text) → is_full_reference set text ≡ true → is_some (read_reference text).scheme ≡ true
-unfolding is_full_reference read_reference
-scheme_if_full set text h = (and_parts _ _ h).0
+pub scheme_if_uri : (set : CharTests) (text : Text) → is_uri set text ≡ true → is_some (read_reference text).scheme ≡ true
+unfolding is_uri read_reference
+scheme_if_uri set text h = (and_parts _ _ h).0
 
-pub ruleset full = (reference_if_full, scheme_if_full)
+pub ruleset full = (reference_if_uri, scheme_if_uri)
 
 module _ (set : CharTests) (above : AreAboveAscii set) where
   pub Decides-AreComponents : (text : Text) (s : ComponentTexts) → read_components s ≡ read_reference text → Decides (is_reference set text) (AreComponents set s)

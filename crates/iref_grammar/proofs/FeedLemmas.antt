@@ -38,8 +38,8 @@ one_more : (h : Text) (x : ℕ) → length (h ++ x ∷ []) ≡ length h + 1
 one_more h x = length-append h (x ∷ [])
 
 -- what the test of a full piece says
-not_full : (n : ℕ) → n < 63 → false ≡ (n == 62) → n < 62
-not_full n low q = grind (arith, nat_tests)
+not_uri : (n : ℕ) → n < 63 → false ≡ (n == 62) → n < 62
+not_uri n low q = grind (arith, nat_tests)
 
 full : (n : ℕ) → true ≡ (n == 62) → n ≡ 62
 full n q = grind (arith, nat_tests)
@@ -59,7 +59,7 @@ starts k (y ∷ b) low =
           (length (k ++ y ∷ []), _, omega (arith, size), omega (arith, size, at), refl)
       | false ↦ λ q.
           let size = one_more k y in
-          let few = not_full (length k) low q in
+          let few = not_uri (length k) low q in
           let rest = starts (k ++ y ∷ []) b (omega (arith, size, few)) in
           (rest.0, rest.1, omega (arith, size, rest.2), rest.3, rest.4)
     ] refl
@@ -75,7 +75,7 @@ starts_more k y b low =
           (length (k ++ y ∷ []), _, omega (arith, size), omega (arith, size, at), refl)
       | false ↦ λ q.
           let size = one_more k y in
-          let few = not_full (length k) low q in
+          let few = not_uri (length k) low q in
           let rest = starts (k ++ y ∷ []) b (omega (arith, size, few)) in
           (rest.0, rest.1, omega (arith, size, rest.2), rest.3, rest.4)
     ] refl
@@ -107,7 +107,7 @@ pieces_determine h (x ∷ a) k (y ∷ b) n low r s e =
           let rest = pieces_determine [] a [] b refl (omega arith) r s here.1 in
           (over (λ i. here.0 i ++ rest.0 i), rest.1)
       | false ↦ λ q d.
-          let few = not_full (length h) low q in
+          let few = not_uri (length h) low q in
           let rest = pieces_determine (h ++ x ∷ []) a (k ++ y ∷ []) b same (omega (arith, size, few)) r s d in
           (over rest.0, rest.1)
     ] refl (e ∙ ap (λ t. concat (next (t == 62) k y b) ++ s) (sym n))

@@ -10,7 +10,7 @@ use Rattle.iref_grammar.specs.Grammar.{is_reg_name_char, is_user_info_char, is_p
 use Rattle.iref_grammar.specs.Tests.{owed_after, is_scheme, is_port, is_user_info, is_reg_name, is_ipvfuture, is_ip_literal, is_host, is_segment, is_path, is_query, is_fragment}
 use Rattle.iref_grammar.specs.Authority.{read_authority, has_authority_parts}
 use Rattle.iref_grammar.specs.PathValue.{read_path}
-use Rattle.iref_grammar.specs.Reference.{read_reference, is_readable, is_reference, is_full_reference}
+use Rattle.iref_grammar.specs.Reference.{read_reference, is_readable, is_reference, is_uri}
 use Rattle.iref_grammar.proofs.Rows.{utf8}
 
 -- ---- references
@@ -66,10 +66,10 @@ references =
 
 abbrev kinds : Text → Bool × Bool × Bool × Bool
 kinds bytes =
-    (is_full_reference uri_chars bytes, is_reference uri_chars bytes, is_full_reference iri_chars bytes, is_reference iri_chars bytes)
+    (is_uri uri_chars bytes, is_reference uri_chars bytes, is_uri iri_chars bytes, is_reference iri_chars bytes)
 
 references_hold : map (λ row. kinds (utf8 row.0)) references ≡ map (λ row. (row.1, row.2, row.3, row.4)) references
-unfolding is_full_reference is_reference is_readable read_reference read_authority read_path has_authority_parts encode_utf8 is_utf8 chars
+unfolding is_uri is_reference is_readable read_reference read_authority read_path has_authority_parts encode_utf8 is_utf8 chars
     owed_after is_scheme is_host is_ip_literal is_ipvfuture ipv4_value ipv6_value is_reg_name is_user_info is_port is_segment is_query is_fragment
     is_reg_name_char is_user_info_char is_path_char is_fragment_char is_query_char
 references_hold = refl

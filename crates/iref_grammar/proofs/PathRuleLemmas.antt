@@ -1,5 +1,5 @@
 -- The path rules: their texts are the spellings of the paths that may stand there.
-use Rattle.std.proofs.Common.{◌≡◌, ℕ, Bool, true, false, not, ◌&&◌, ◌||◌, List, [], ◌∷◌, ◌++◌, refl, sym, ◌∙◌, ap, ◌⊎◌, inl, inr}
+use Rattle.std.proofs.Common.{◌≡◌, Bool, true, false, not, ◌&&◌, ◌||◌, List, [], ◌∷◌, ◌++◌, refl, sym, ◌∙◌, ap, inl, inr}
 use Rattle.std.proofs.Math.Logic.{◌↔◌}
 use Rattle.std.specs.List.{AllByRecursion, concat, join_with_byte}
 use Rattle.std.proofs.lemmas.List.{append-nil}

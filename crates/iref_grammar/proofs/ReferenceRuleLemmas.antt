@@ -15,7 +15,7 @@ use Rattle.iref_grammar.specs.Authority.{AuthorityValue, spell_authority, HasAut
 use Rattle.iref_grammar.specs.Texts.{part_then, then_part}
 use Rattle.iref_grammar.specs.PathValue.{PathValue, spell_path}
 use Rattle.iref_grammar.specs.Contexts.{follows_authority, reads_as_path}
-use Rattle.iref_grammar.specs.Reference.{ReferenceValue, context_of, spell, IsReadable, IsReadAsReference, is_readable, read_reference, is_reference, is_full_reference}
+use Rattle.iref_grammar.specs.Reference.{ReferenceValue, context_of, spell, IsReadable, IsReadAsReference, is_readable, read_reference, is_reference, is_uri}
 use Rattle.iref_grammar.proofs.TextLemmas.{first_of_both, second_of_both}
 use Rattle.iref_grammar.proofs.ReferenceCutLemmas.{regroup, read_reference-spelled}
 use Rattle.iref_grammar.proofs.LeafLemmas.{Decides-is_segment, Decides-is_query, Decides-is_fragment}
@@ -273,11 +273,11 @@ module _ (set : CharTests) (above : AreAboveAscii set) where
     λ z. (in_utf8-uri bytes).1 (record { reference = z.0; readable = z.1; scheme = z.2; spelled = z.3 }),
   )
 
-  pub Decides-is_uri : (bytes : Text) → Decides (is_full_reference set bytes) (InUtf8 (IsUri set) bytes)
-  unfolding read_reference is_full_reference is_readable is_reference
+  pub Decides-is_uri : (bytes : Text) → Decides (is_uri set bytes) (InUtf8 (IsUri set) bytes)
+  unfolding read_reference is_uri is_readable is_reference
   Decides-is_uri bytes = (there, back)
     where
-      there : is_full_reference set bytes ≡ true → InUtf8 (IsUri set) bytes
+      there : is_uri set bytes ≡ true → InUtf8 (IsUri set) bytes
       there h =
           let r = read_reference bytes in
           (in_utf8-uri bytes).1 (record {
@@ -287,7 +287,7 @@ module _ (set : CharTests) (above : AreAboveAscii set) where
             spelled = read_reference-spelled bytes;
           })
 
-      back : InUtf8 (IsUri set) bytes → is_full_reference set bytes ≡ true
+      back : InUtf8 (IsUri set) bytes → is_uri set bytes ≡ true
       back z =
           let s = (in_utf8-uri bytes).0 z in
           let read : read_reference bytes ≡ s.reference = ap read_reference (sym s.spelled) ∙ reference_read s.reference s.readable in

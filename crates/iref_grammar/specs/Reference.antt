@@ -87,5 +87,5 @@ unfoldable pub is_reference : CharTests → Text → Bool
 is_reference set text = is_readable set (read_reference text)
 
 -- a reference with a scheme
-unfoldable pub is_full_reference : CharTests → Text → Bool
-is_full_reference set text = is_some (split_scheme (hierarchy text)).0 && is_reference set text
+unfoldable pub is_uri : CharTests → Text → Bool
+is_uri set text = is_some (split_scheme (hierarchy text)).0 && is_reference set text

@@ -8,14 +8,14 @@ ghost use Rattle.iref_grammar.specs.{ComponentOffsets.{offsets_of, text_at}};
 ghost use Rattle.iref_grammar.specs.PathValue.{spell_path};
 ghost use Rattle.iref_grammar.specs.Reference.{ReferenceValue, IsReadable, IsReadAsReference};
 ghost use Rattle.iref_grammar.specs.Reference.{is_readable, spell, read_reference, is_reference};
-ghost use Rattle.iref_grammar.specs.{Reference.{is_full_reference}, Readings.{HasOneReading}};
+ghost use Rattle.iref_grammar.specs.{Reference.{is_uri}, Readings.{HasOneReading}};
 ghost use Rattle.iref_grammar.specs.ComponentTexts.{ComponentTexts, AreComponents, read_components};
 
 use crate::chars::CharSet;
 
 /// The tests decide the rules `URI` and `URI-reference`, and what it is to be readable.
 pub fn reference_grammar<S: CharSet>()
-    ensures uri { AcceptsExactly (is_full_reference S.tests) (IsUri S.tests) }
+    ensures uri { AcceptsExactly (is_uri S.tests) (IsUri S.tests) }
     ensures reference { AcceptsExactly (is_reference S.tests) (IsUriReference S.tests) }
     ensures readable { (r : ReferenceValue) → (is_readable S.tests r ≡ true)
         ↔ IsReadable S.tests r }

@@ -13,7 +13,7 @@ use Rattle.iref_model.specs.Guard.{guarded}
 use Rattle.iref_grammar.specs.ComponentTexts.{ComponentTexts, spell_components}
 use Rattle.iref_grammar.specs.Contexts.{alone}
 use Rattle.iref_model.specs.NormalList.{normal}
-use Rattle.iref_grammar.specs.Reference.{spell, read_reference, is_reference, is_full_reference}
+use Rattle.iref_grammar.specs.Reference.{spell, read_reference, is_reference, is_uri}
 use Rattle.iref_model.specs.Resolution.{resolved}
 use Rattle.iref_model.specs.Key.{are_alike}
 use Rattle.iref_model.specs.Relative.{relative_to}
@@ -127,17 +127,17 @@ is_valid_edit set Clear = true
 is_valid_edit set Normalize = true
 
 abbrev pub are_valid_entries : CharTests → List PrefixEntry → Bool
-are_valid_entries set entries = list_all (λ (e : PrefixEntry). is_full_reference set e.iri) entries && is_some (inserted_all entries [])
+are_valid_entries set entries = list_all (λ (e : PrefixEntry). is_uri set e.iri) entries && is_some (inserted_all entries [])
 
 unfoldable pub is_valid : CharTests → Request → Bool
 is_valid set (Parts r) = is_reference set r
-is_valid set (Resolve r base) = is_reference set r && is_full_reference set base
+is_valid set (Resolve r base) = is_reference set r && is_uri set base
 is_valid set (Relative target base) = is_reference set target && is_reference set base
 is_valid set (Normal p) = is_path set p
 is_valid set (Equal r s) = is_reference set r && is_reference set s
 is_valid set (Edit r edits) = is_reference set r && list_all (is_valid_edit set) edits
 is_valid set (ToUri r) = is_reference set r
-is_valid set (Compact iri entries) = is_full_reference set iri && are_valid_entries set entries
+is_valid set (Compact iri entries) = is_uri set iri && are_valid_entries set entries
 is_valid set (Expand text entries) = is_utf8 text && are_valid_entries set entries
 
 -- `-` where a part is absent, else `=` and its text

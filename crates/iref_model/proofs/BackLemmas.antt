@@ -7,7 +7,7 @@ use Rattle.std.proofs.Math.Bool.{and-false}
 use Rattle.iref_grammar.specs.Rules.{Text}
 use Rattle.iref_grammar.specs.Texts.{is_empty}
 use Rattle.iref_grammar.specs.PathValue.{PathValue, is_one_empty}
-use Rattle.iref_model.specs.NormalList.{is_dot_dot, is_name, counted, ends_in_dots, without_lone_empty, normal_segments}
+use Rattle.iref_model.specs.NormalList.{is_dot_dot, is_name, counted, without_lone_empty, normal_segments}
 use Rattle.iref_model.specs.NormalReading.{open_before, staying_before, leading_parents, closing, items}
 use Rattle.iref_model.specs.CountedEquality.{ItemRead, last_read, item_before, items_read, all_items_read}
 use Rattle.iref_model.proofs.StayingLemmas.{open_before-append, staying_before-append}

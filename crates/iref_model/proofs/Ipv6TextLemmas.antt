@@ -4,7 +4,7 @@ use Rattle.std.proofs.lemmas.List.{length-take}
 use Rattle.std.proofs.Math.Nat.{pow-suc}
 use native.Mathlib.Nat.{lt_trans}
 use Rattle.std.specs.Prelude.{Some, None, is_some, option_and_then, ◌==◌, nat_le, codes}
-use Rattle.std.specs.List.{AllZip, join_with_byte, list_all}
+use Rattle.std.specs.List.{AllZip, list_all}
 use Rattle.std.specs.Fmt.{digits, digits_onto}
 use Rattle.std.specs.Char.{is_ascii_hexdigit, digit_value}
 use Rattle.std.specs.Str.Parse.{AllDigits}

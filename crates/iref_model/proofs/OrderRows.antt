@@ -1,7 +1,7 @@
 -- Worked rows of what texts are compared by: which are equal, which comes first, and what a hasher is fed; computed
 -- (RFC 3986 section 6.2.2).
 use Prim.Native.String.{String}
-use Rattle.std.specs.Prelude.{◌≡◌, Bool, true, false, ◌&&◌, List, [], ◌∷◌, ◌++◌, map, codes, encode_utf8_all, replicate, refl}
+use Rattle.std.specs.Prelude.{◌≡◌, Bool, true, false, ◌&&◌, List, [], ◌∷◌, map, codes, encode_utf8_all, replicate, refl}
 use Rattle.std.specs.Char.{encode_utf8}
 use Rattle.std.specs.Hash.{HashWrites}
 use Rattle.std.specs.Ordering.{is_eq, is_lt}

@@ -136,8 +136,8 @@ takes_scheme target base full agree = by (have_same_scheme target base) refl tar
     by true e None f false false h = absurd (true≢false (sym (ap is_some (sym f) ∙ some_of_key str_to_ascii_lowercase target.scheme base.scheme (same_scheme target base e) full)))
     by false e None f false false h = absurd (true≢false (sym h))
 
-scheme_of_full : (target base : ReferenceValue) → is_some target.scheme ≡ true → schemes_agree target base ≡ true → (key target).scheme ≡ (key base).scheme
-scheme_of_full target base full agree = by target.scheme (have_same_scheme target base) refl (is_some target.authority || target.path.absolute) full agree
+scheme_of_uri_parts : (target base : ReferenceValue) → is_some target.scheme ≡ true → schemes_agree target base ≡ true → (key target).scheme ≡ (key base).scheme
+scheme_of_uri_parts target base full agree = by target.scheme (have_same_scheme target base) refl (is_some target.authority || target.path.absolute) full agree
   where
     by : (scheme : Option Text) (same : Bool) → have_same_scheme target base ≡ same → (from_base : Bool) → is_some scheme ≡ true → (same || is_none scheme && from_base) ≡ true → (key target).scheme ≡ (key base).scheme
     by scheme true e from_base full h = same_scheme target base e
@@ -160,7 +160,7 @@ resolved-agreeing target base full agree same stand = by target.scheme target.au
     by (Some s) authority path query fragment agree same stand =
         let target = parts (Some s) authority path query fragment in
         let own = resolved-full base target refl stand in
-        let scheme = scheme_of_full target base refl agree in
+        let scheme = scheme_of_uri_parts target base refl agree in
         let authority_same = same_authority target base same in
         own ∙ (λ i. key_of (scheme i) (authority_same i) (path_key path) query fragment)
     by None (Some a) path query fragment agree same stand =

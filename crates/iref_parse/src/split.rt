@@ -208,8 +208,8 @@ pub fn is_reference<C: CharSet>(text: &str) -> bool
 }
 
 /// Whether the text is a reference with a scheme (RFC 3986 section 3).
-pub fn is_full_reference<C: CharSet>(text: &str) -> bool
-    ensures { result ≡ spec.is_full_reference C.tests text.now }
+pub fn is_uri<C: CharSet>(text: &str) -> bool
+    ensures { result ≡ spec.is_uri C.tests text.now }
 {
     match parse_reference::<C>(text) {
         Some(slices) => slices.scheme.is_some(),

@@ -32,8 +32,8 @@ fn same_length_common(mut left: Remaining<'_>, mut right: Remaining<'_>, len: us
     common
 }
 
-/// How many items two lists of this number of items have in common from the front: each pair decodes to
-/// the same bytes.
+/// How many items two lists of this length have in common from the front: each pair decodes to the
+/// same bytes.
 ///
 /// Of `a`, `b`, `c` and `a`, `%62`, `d`, `e` it is 2. Each segment that is left is read once.
 pub fn common_len(

@@ -59,7 +59,7 @@ fn closing_count(closes: bool) -> usize
     usize::from(closes)
 }
 
-/// Whether a list is one empty segment, by its numbers of `..` and of names and its closing segment.
+/// Whether a list is one empty segment: by how many `..` and names it has, and whether it closes.
 fn is_one_empty(parents: usize, names: usize, first: &str, closes: bool) -> bool
     requires { names + 1 < 2 ^ 64 }
     ensures { result

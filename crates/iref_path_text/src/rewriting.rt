@@ -92,8 +92,8 @@ fn move_names(
     (start, open_parents)
 }
 
-// Writes `count` times `..`, with a `/` after each, so that they end at a position, and returns where they
-// begin.
+// Writes `..` this many times, with a `/` after each, so that they end at a position, and returns
+// where they begin.
 fn write_parents(bytes: &mut [u8], count: usize, end: usize) -> usize
     requires room { length (each_closed (replicate count (codes ".."))) ≤ end }
     requires within { end ≤ length bytes.old }

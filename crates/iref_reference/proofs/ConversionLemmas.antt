@@ -2,12 +2,12 @@
 use Rattle.std.specs.Prelude.{◌≡◌, true}
 use Rattle.iref_grammar.specs.Characters.{uri_chars, iri_chars, iri_above_ascii}
 use Rattle.iref_grammar.specs.Rules.{Text}
-use Rattle.iref_grammar.specs.Reference.{is_reference, is_full_reference}
-use Rattle.iref_grammar.proofs.ComponentLemmas.{full_if_scheme, reference_if_full, scheme_if_full}
+use Rattle.iref_grammar.specs.Reference.{is_reference, is_uri}
+use Rattle.iref_grammar.proofs.ComponentLemmas.{uri_if_scheme, reference_if_uri, scheme_if_uri}
 use Rattle.iref_grammar.proofs.WiderLemmas.{uri_reference}
 
 pub iri_reference : (text : Text) → is_reference uri_chars text ≡ true → is_reference iri_chars text ≡ true
 iri_reference = uri_reference iri_chars iri_above_ascii
 
-pub iri : (text : Text) → is_full_reference uri_chars text ≡ true → is_full_reference iri_chars text ≡ true
-iri text h = full_if_scheme iri_chars text (iri_reference text (reference_if_full uri_chars text h)) (scheme_if_full uri_chars text h)
+pub iri : (text : Text) → is_uri uri_chars text ≡ true → is_uri iri_chars text ≡ true
+iri text h = uri_if_scheme iri_chars text (iri_reference text (reference_if_uri uri_chars text h)) (scheme_if_uri uri_chars text h)

@@ -4,8 +4,8 @@ use Rattle.std.specs.Prelude.{Option, Some, None, is_some}
 use Rattle.iref_grammar.specs.Characters.{CharTests}
 use Rattle.iref_grammar.specs.Rules.{Text}
 use Rattle.iref_grammar.specs.Authority.{AuthorityValue}
-use Rattle.iref_grammar.specs.Reference.{ReferenceValue, is_full_reference, is_readable, is_reference, read_reference}
-use Rattle.iref_grammar.proofs.ComponentLemmas.{scheme_if_full}
+use Rattle.iref_grammar.specs.Reference.{ReferenceValue, is_uri, is_readable, is_reference, read_reference}
+use Rattle.iref_grammar.proofs.ComponentLemmas.{scheme_if_uri}
 use Rattle.iref_model.specs.ComponentSteps.{guarded_reference}
 use Rattle.iref_model.specs.Resolution.{resolved, target}
 
@@ -18,8 +18,8 @@ scheme_of_base base r h = by r.scheme r.authority
     by None (Some a) = h
     by None None = h
 
-pub resolved-scheme : (set : CharTests) (text : Text) (base r : ReferenceValue) → base ≡ read_reference text → is_full_reference set text ≡ true → is_some (resolved base r).scheme ≡ true
-resolved-scheme set text base r e h = scheme_of_base base r (ap (λ (b : ReferenceValue). is_some b.scheme) e ∙ scheme_if_full set text h)
+pub resolved-scheme : (set : CharTests) (text : Text) (base r : ReferenceValue) → base ≡ read_reference text → is_uri set text ≡ true → is_some (resolved base r).scheme ≡ true
+resolved-scheme set text base r e h = scheme_of_base base r (ap (λ (b : ReferenceValue). is_some b.scheme) e ∙ scheme_if_uri set text h)
 
 pub readable_slices : (set : CharTests) (text : Text) (value : ReferenceValue) → value ≡ read_reference text → is_reference set text ≡ true → is_readable set value ≡ true
 unfolding is_reference

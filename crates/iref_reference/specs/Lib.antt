@@ -5,7 +5,7 @@ pub use Rattle.iref_grammar.specs.ComponentTexts.{AreComponents, spell_component
 pub use Rattle.iref_grammar.specs.Grammar.{hash_sign, IsUri, IsUriReference}
 pub use Rattle.iref_grammar.specs.PathValue.{spell_path}
 pub use Rattle.iref_grammar.specs.ComponentOffsets.{offsets_of}
-pub use Rattle.iref_grammar.specs.Reference.{hierarchy, is_full_reference, is_reference, read_reference, ReferenceValue, spell}
+pub use Rattle.iref_grammar.specs.Reference.{hierarchy, is_uri, is_reference, read_reference, ReferenceValue, spell}
 pub use Rattle.iref_grammar.specs.Rules.{InUtf8, Text}
 pub use Rattle.iref_grammar.specs.Tests.{is_scheme, none_or}
 pub use Rattle.iref_grammar.specs.Texts.{before}
@@ -19,7 +19,7 @@ pub use Rattle.iref_component.specs.Comparisons.{ComparesBy}
 pub use Rattle.iref_component.specs.Paths.{path_value}
 pub use Rattle.iref_buffer.specs.Steps.{IsStep}
 pub use Rattle.iref_reference.specs.Parts.{key_of_parts, part_texts, parts_value, scheme_key, uri_part_texts, uri_parts_key, uri_parts_value, uri_ref_part_texts, uri_ref_parts_key, uri_ref_parts_value}
-pub use Rattle.iref_reference.specs.References.{BecomesFull, HasSchemeOrRefused, OwnerBecomesFull, ParsesReference, ParsesReferenceBuf, key_of_reference, key_of_reference_buf, reference_buf_text, reference_buf_value, reference_text, reference_value}
+pub use Rattle.iref_reference.specs.References.{BecomesUri, HasSchemeOrRefused, OwnerBecomesUri, ParsesReference, ParsesReferenceBuf, key_of_reference, key_of_reference_buf, reference_buf_text, reference_buf_value, reference_text, reference_value}
 pub mod Comparisons
 pub mod Conversions
 pub mod HandedBack

@@ -9,7 +9,7 @@ ghost use Rattle.iref_reference.specs.References.{reference_buf_text};
 ghost use Rattle.std.specs.Prelude.{◌≡◌, ◌≤◌, ◌++◌, drop, IfOk, length, OnErr, OnOk, true};
 
 use crate::owner::ReferenceBuf;
-use crate::rule::{FullReferenceRule, ReferenceRule};
+use crate::rule::{UriRule, ReferenceRule};
 use iref_buffer::held::{Held, HeldRule};
 use iref_buffer::measured::{MeasuredReference, count_paths};
 use iref_error::Memory;
@@ -33,7 +33,7 @@ pub type ComposedUriRef<'a, C> = Composed<'a, ReferenceRule, C>;
 
 /// A URI that is not written yet, such as `http://a/g`, which `../g` resolves to against
 /// `http://a/b/c` (RFC 3986 section 5.2).
-pub type ComposedUri<'a, C> = Composed<'a, FullReferenceRule, C>;
+pub type ComposedUri<'a, C> = Composed<'a, UriRule, C>;
 
 impl<'a, R: HeldRule, C: CharSet> Model for Composed<'a, R, C> {
     ghost Value = { Text };

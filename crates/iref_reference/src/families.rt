@@ -1,7 +1,7 @@
 //! Conversions between URIs and references, by the names of each family.
 ghost use Rattle.iref_reference.specs.References.{reference_text, reference_value};
 ghost use Rattle.iref_reference.specs.References.{reference_buf_text, reference_buf_value};
-ghost use Rattle.iref_reference.specs.References.{OwnerBecomesFull};
+ghost use Rattle.iref_reference.specs.References.{OwnerBecomesUri};
 ghost use Rattle.std.specs.Prelude.{◌≡◌, true, IfSome, is_some};
 
 use crate::owner::{UriBuf, UriRefBuf};
@@ -35,7 +35,7 @@ impl<'a> UriRef<'a, UriChars> {
         ensures text { IfSome result (λ uri. reference_text uri ≡ reference_text self.now) }
         ensures scheme { is_some result ≡ is_some (reference_value self.now).scheme }
     {
-        self.to_full()
+        self.to_uri_rule()
     }
 }
 
@@ -45,7 +45,7 @@ impl<'a> UriRef<'a, IriChars> {
         ensures text { IfSome result (λ iri. reference_text iri ≡ reference_text self.now) }
         ensures scheme { is_some result ≡ is_some (reference_value self.now).scheme }
     {
-        self.to_full()
+        self.to_uri_rule()
     }
 }
 
@@ -110,14 +110,14 @@ impl UriRefBuf<UriChars> {
         ensures text { IfSome result (λ uri. reference_text uri ≡ reference_buf_text self.now) }
         ensures scheme { is_some result ≡ is_some (reference_buf_value self.now).scheme }
     {
-        self.as_reference().to_full()
+        self.as_reference().to_uri_rule()
     }
 
     /// The URI of the same text, with no copy, or the reference if it has no scheme.
     pub fn try_into_uri(self) -> Result<UriBuf<UriChars>, InvalidUri<Self>>
-        ensures { OwnerBecomesFull (λ error. error.0) self result }
+        ensures { OwnerBecomesUri (λ error. error.0) self result }
     {
-        self.try_into_full()
+        self.try_into_uri_rule()
     }
 }
 
@@ -134,13 +134,13 @@ impl UriRefBuf<IriChars> {
         ensures text { IfSome result (λ iri. reference_text iri ≡ reference_buf_text self.now) }
         ensures scheme { is_some result ≡ is_some (reference_buf_value self.now).scheme }
     {
-        self.as_reference().to_full()
+        self.as_reference().to_uri_rule()
     }
 
     /// The IRI of the same text, with no copy, or the reference if it has no scheme.
     pub fn try_into_iri(self) -> Result<UriBuf<IriChars>, InvalidUri<Self>>
-        ensures { OwnerBecomesFull (λ error. error.0) self result }
+        ensures { OwnerBecomesUri (λ error. error.0) self result }
     {
-        self.try_into_full()
+        self.try_into_uri_rule()
     }
 }

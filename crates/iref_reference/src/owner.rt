@@ -8,12 +8,12 @@ ghost use Rattle.iref_component.specs.{text_of};
 ghost use Rattle.iref_buffer.specs.{is_readable};
 ghost use Rattle.iref_reference.specs.References.{reference_text, reference_value};
 ghost use Rattle.iref_reference.specs.References.{reference_buf_text, reference_buf_value};
-ghost use Rattle.iref_reference.specs.References.{OwnerBecomesFull, ParsesReferenceBuf};
+ghost use Rattle.iref_reference.specs.References.{OwnerBecomesUri, ParsesReferenceBuf};
 ghost use Rattle.iref_reference.specs.Parts.{uri_ref_part_texts, uri_ref_parts_value, part_texts};
 ghost use Rattle.iref_reference.specs.Parts.{parts_value};
 
 use crate::parts::{Parts, UriRefParts};
-use crate::rule::{FullReferenceRule, HasScheme, ReferenceRule};
+use crate::rule::{UriRule, HasScheme, ReferenceRule};
 use crate::view::{Reference, UriRef};
 use iref_buffer::held::{Held, HeldRule};
 use iref_component::authority::Authority;
@@ -39,7 +39,7 @@ pub struct ReferenceBuf<R: HeldRule, C: CharSet> {
 pub type UriRefBuf<C> = ReferenceBuf<ReferenceRule, C>;
 
 /// A URI that owns its text, such as `http://example.org/a` (RFC 3986 section 3).
-pub type UriBuf<C> = ReferenceBuf<FullReferenceRule, C>;
+pub type UriBuf<C> = ReferenceBuf<UriRule, C>;
 
 impl<R: HeldRule + Refuses<String>, C: CharSet> ReferenceBuf<R, C> {
     /// The reference of this text, with no copy, or the text in the rule's error.
@@ -204,8 +204,8 @@ impl<R: HeldRule, C: CharSet> ReferenceBuf<R, C> {
     }
 
     // The URI of the same text, with no copy, or the reference if it has no scheme.
-    pub(crate) fn try_into_full(self) -> Result<UriBuf<C>, InvalidUri<Self>>
-        ensures { OwnerBecomesFull (λ error. error.0) self result }
+    pub(crate) fn try_into_uri_rule(self) -> Result<UriBuf<C>, InvalidUri<Self>>
+        ensures { OwnerBecomesUri (λ error. error.0) self result }
     {
         if self.reference_parts().scheme.is_some() {
             Ok(UriBuf::from_held(self.held.into_rule()))
@@ -276,10 +276,10 @@ impl<C: CharSet> From<UriBuf<C>> for UriRefBuf<C> {
 impl<C: CharSet> TryFrom<UriRefBuf<C>> for UriBuf<C> {
     type Error = InvalidUri<UriRefBuf<C>>;
 
-    ghost try_from_gives = { λ reference result. OwnerBecomesFull (λ e. e.0) reference result };
+    ghost try_from_gives = { λ reference result. OwnerBecomesUri (λ e. e.0) reference result };
 
     fn try_from(reference: UriRefBuf<C>) -> Result<Self, InvalidUri<UriRefBuf<C>>> {
-        reference.try_into_full()
+        reference.try_into_uri_rule()
     }
 }
 

@@ -224,7 +224,7 @@ impl<'a, C: CharSet> UriRefParts<'a, C> {
     }
 
     // The components of a URI, if there is a scheme.
-    pub(crate) fn to_full(&self) -> Option<UriParts<'a, C>>
+    pub(crate) fn to_uri_parts(&self) -> Option<UriParts<'a, C>>
         ensures texts { IfSome result (λ full.
             uri_part_texts full ≡ uri_ref_part_texts self.now) }
         ensures scheme { is_some result ≡ is_some (uri_ref_part_texts self.now).scheme }
@@ -280,7 +280,7 @@ impl<'a, C: CharSet> UriParts<'a, C> {
         let Ok(parts) = UriRefParts::from_bytes(bytes) else {
             return Err(InvalidUri(bytes));
         };
-        match parts.to_full() {
+        match parts.to_uri_parts() {
             Some(full) => Ok(full),
             None => Err(InvalidUri(bytes)),
         }

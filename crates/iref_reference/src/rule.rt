@@ -2,13 +2,13 @@
 //! and 6.2.2).
 ghost use Rattle.std.specs.Prelude.{◌≡◌, true, refl, is_some};
 ghost use Rattle.iref_component.specs.{IsUri, IsUriReference, read_reference, is_reference};
-ghost use Rattle.iref_component.specs.{is_full_reference, Text, CharTests};
+ghost use Rattle.iref_component.specs.{is_uri, Text, CharTests};
 ghost use Rattle.iref_grammar.proofs.EmptyLemmas.{is_reference_empty};
 ghost use Rattle.iref_grammar.proofs.ReferenceRuleLemmas.{Decides-is_uri_reference, Decides-is_uri};
-ghost use Rattle.iref_grammar.proofs.ComponentLemmas.{reference_if_full, scheme_if_full};
-ghost use Rattle.iref_grammar.proofs.ComponentLemmas.{full_if_scheme};
+ghost use Rattle.iref_grammar.proofs.ComponentLemmas.{reference_if_uri, scheme_if_uri};
+ghost use Rattle.iref_grammar.proofs.ComponentLemmas.{uri_if_scheme};
 ghost use Rattle.iref_reference.specs.Comparisons.{by_components};
-ghost use Rattle.iref_buffer.proofs.BaseLemmas.{base_of_in_rule, base_of_in_full_rule};
+ghost use Rattle.iref_buffer.proofs.BaseLemmas.{base_of_in_rule, base_of_in_uri_rule};
 
 use crate::parts::{SchemePart, UriRefParts};
 use iref_buffer::held::HeldRule;
@@ -88,25 +88,25 @@ impl<'a> HasScheme<'a> for ReferenceRule {
 }
 
 /// The rule of references with a scheme: `s:a` is in it, `../b` is not (RFC 3986 section 3).
-pub struct FullReferenceRule;
+pub struct UriRule;
 
-impl Rule for FullReferenceRule {
+impl Rule for UriRule {
     type Key = ReferenceKey;
 
     ghost rule = { IsUri };
 
     ghost decided = { Decides-is_uri };
 
-    ghost test = { is_full_reference };
+    ghost test = { is_uri };
 
     fn accepts<C: CharSet>(text: &str) -> bool {
-        split::is_full_reference::<C>(text)
+        split::is_uri::<C>(text)
     }
 
-    ghost keyed = { reference_if_full };
+    ghost keyed = { reference_if_uri };
 }
 
-impl<T> Refuses<T> for FullReferenceRule {
+impl<T> Refuses<T> for UriRule {
     type Error = InvalidUri<T>;
 
     ghost refused = { λ error. error.0 };
@@ -116,16 +116,16 @@ impl<T> Refuses<T> for FullReferenceRule {
     }
 }
 
-impl HeldRule for FullReferenceRule {
+impl HeldRule for UriRule {
     ghost allows_scheme = { is_some };
 
-    ghost has_allowed_scheme = { scheme_if_full };
+    ghost has_allowed_scheme = { scheme_if_uri };
 
-    ghost by_scheme = { full_if_scheme };
+    ghost by_scheme = { uri_if_scheme };
 
-    ghost references = { reference_if_full };
+    ghost references = { reference_if_uri };
 
-    ghost keeps_bases = { base_of_in_full_rule };
+    ghost keeps_bases = { base_of_in_uri_rule };
 
     #[tactic(auto, using(iref_grammar::proofs::ComponentLemmas::full))]
     fn parse<C: CharSet>(text: &str) -> Option<ReferenceSlices<'_>> {
@@ -136,10 +136,10 @@ impl HeldRule for FullReferenceRule {
     }
 }
 
-impl<'a> HasScheme<'a> for FullReferenceRule {
+impl<'a> HasScheme<'a> for UriRule {
     type Scheme = Scheme<'a>;
 
-    ghost allowed = { scheme_if_full };
+    ghost allowed = { scheme_if_uri };
 }
 
 /// The components, each as it is compared by itself: `HTTP://%61` and `http://a` have one key

@@ -8,11 +8,11 @@ ghost use Rattle.iref_component.specs.{user_info_of, host_of, port_of, base_of, 
 ghost use Rattle.iref_reference.specs.Parts.{part_texts, parts_value, uri_ref_part_texts};
 ghost use Rattle.iref_reference.specs.Parts.{uri_ref_parts_value};
 ghost use Rattle.iref_reference.specs.References.{reference_text, reference_value};
-ghost use Rattle.iref_reference.specs.References.{reference_buf_text, BecomesFull, ParsesReference};
+ghost use Rattle.iref_reference.specs.References.{reference_buf_text, BecomesUri, ParsesReference};
 
 use crate::owner::ReferenceBuf;
 use crate::parts::{Parts, UriRefParts};
-use crate::rule::{FullReferenceRule, HasScheme, ReferenceRule};
+use crate::rule::{UriRule, HasScheme, ReferenceRule};
 use iref_buffer::base::base_text;
 use iref_buffer::held::HeldRule;
 use iref_component::authority::Authority;
@@ -39,7 +39,7 @@ pub struct Reference<'a, R: HeldRule, C: CharSet> {
 pub type UriRef<'a, C> = Reference<'a, ReferenceRule, C>;
 
 /// A URI: a reference with a scheme, such as `http://example.org/a` (RFC 3986 section 3).
-pub type Uri<'a, C> = Reference<'a, FullReferenceRule, C>;
+pub type Uri<'a, C> = Reference<'a, UriRule, C>;
 
 impl<'a, R: HeldRule + Refuses<&'a str>, C: CharSet> Reference<'a, R, C> {
     /// The reference of this text, or the text in the rule's error.
@@ -178,7 +178,7 @@ impl<'a, R: HeldRule, C: CharSet> Reference<'a, R, C> {
     }
 
     // The URI of the same text, if the reference has a scheme.
-    pub(crate) fn to_full(&self) -> Option<Uri<'a, C>>
+    pub(crate) fn to_uri_rule(&self) -> Option<Uri<'a, C>>
         ensures text { IfSome result (λ uri. reference_text uri ≡ reference_text self.now) }
         ensures scheme { is_some result ≡ is_some (reference_value self.now).scheme }
     {
@@ -258,10 +258,10 @@ impl<'a, C: CharSet> From<Uri<'a, C>> for UriRef<'a, C> {
 impl<'a, C: CharSet> TryFrom<UriRef<'a, C>> for Uri<'a, C> {
     type Error = InvalidUri<UriRef<'a, C>>;
 
-    ghost try_from_gives = { λ reference result. BecomesFull (λ error. error.0) reference result };
+    ghost try_from_gives = { λ reference result. BecomesUri (λ error. error.0) reference result };
 
     fn try_from(reference: UriRef<'a, C>) -> Result<Self, InvalidUri<UriRef<'a, C>>> {
-        reference.to_full().ok_or(InvalidUri(reference))
+        reference.to_uri_rule().ok_or(InvalidUri(reference))
     }
 }
 

@@ -2,7 +2,7 @@
 ghost use Rattle.std.specs.Prelude.{◌≡◌, ◌++◌, [], ◌∷◌, true, IfOk, OnOk, OnErr};
 ghost use Rattle.std.specs.String.{string_bytes};
 ghost use Rattle.iref.specs.PrefixIndex.{IsIndexed};
-ghost use Rattle.iref_grammar.specs.{Characters.{iri_chars}, Reference.{is_full_reference}};
+ghost use Rattle.iref_grammar.specs.{Characters.{iri_chars}, Reference.{is_uri}};
 ghost use Rattle.iref_reference.specs.References.{reference_text};
 
 use super::index::Index;
@@ -20,20 +20,20 @@ pub(super) struct Entry {
 
 impl Model for Entry {
     ghost use Rattle.std.specs.{Prelude.{◌≡◌, true}, String.{string_bytes}};
-    ghost use Rattle.iref_grammar.specs.{Characters.{iri_chars}, Reference.{is_full_reference}};
+    ghost use Rattle.iref_grammar.specs.{Characters.{iri_chars}, Reference.{is_uri}};
     ghost use Rattle.iref_mapping.specs.PrefixTable.{PrefixEntry};
 
     ghost Value = { PrefixEntry };
 
     ghost view = { λ e. record { label = string_bytes e.label; iri = string_bytes e.iri } };
 
-    ghost invariant = { λ e. is_full_reference iri_chars (string_bytes e.iri) ≡ true };
+    ghost invariant = { λ e. is_uri iri_chars (string_bytes e.iri) ≡ true };
 }
 
 impl Entry {
     // An entry of copies.
     pub(super) fn new(alloc: Global, label: &str, iri: &str) -> Result<Self, Memory>
-        requires { is_full_reference iri_chars iri.now ≡ true }
+        requires { is_uri iri_chars iri.now ≡ true }
         ensures { IfOk result (λ entry.
             entry ≡ record { label = label.now; iri = iri.now }) }
     {
@@ -62,7 +62,7 @@ pub(super) fn add(
     label: &str,
     iri: &str,
 ) -> Result<(), Memory>
-    requires iri { is_full_reference iri_chars iri.now ≡ true }
+    requires iri { is_uri iri_chars iri.now ≡ true }
     requires indexed { IsIndexed entries.old.items index.old }
     ensures ok { OnOk result (entries.new.items
         ≡ entries.old.items ++ record { label = label.now; iri = iri.now } ∷ []) }

@@ -9,7 +9,7 @@ use iref_buffer::held::HeldRule;
 use iref_component::texts::Scheme;
 use iref_grammar::chars::CharSet;
 use iref_reference::owner::{ReferenceBuf, UriBuf, UriRefBuf};
-use iref_reference::rule::{FullReferenceRule, ReferenceRule};
+use iref_reference::rule::{UriRule, ReferenceRule};
 
 /// A rule of references, with what an edit of the scheme does under it.
 pub trait SetsScheme: HeldRule {
@@ -33,7 +33,7 @@ impl SetsScheme for ReferenceRule {
     }
 }
 
-impl SetsScheme for FullReferenceRule {
+impl SetsScheme for UriRule {
     #[tactic(auto, unfolding(iref_model::specs::Edits::edited, iref_model::specs::Edits::edited_uri))]
     fn set_scheme<C: CharSet>(
         reference: &mut UriBuf<C>,

@@ -61,8 +61,8 @@ impl<C: CharSet, T: Target<PathPart, C>> PathMut<'_, C, T> {
         requires { IsFiniteIterable I.into_iter_gives I.IntoIter.can_next I.IntoIter.remaining
             segments }
         ensures same { IsSameEditor self.old self.new }
-        ensures edit { TriesAppends following C.tests I.into_iter_gives I.IntoIter.next_gives segments
-            (Becomes self.old self.new) result }
+        ensures edit { TriesAppends following C.tests I.into_iter_gives I.IntoIter.next_gives
+            segments (Becomes self.old self.new) result }
     {
         let mut ends_in_dots = false;
         for segment in segments {

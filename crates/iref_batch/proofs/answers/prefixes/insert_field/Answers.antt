@@ -1,7 +1,7 @@
 use Rattle.std.proofs.Common.{◌∙◌, ap, sym}
 use Rattle.std.specs.Option.{option_copied}
 use Rattle.iref_mapping.specs.PrefixTable.{PrefixEntry, BadLabel, Taken, inserted}
-use Rattle.iref_batch.proofs.PrefixFieldLemmas.{field_read, iri_full, no_iri_no_entry, no_text_no_label, refused_entry}
+use Rattle.iref_batch.proofs.PrefixFieldLemmas.{field_read, iri_accepted, no_iri_no_entry, no_text_no_label, refused_entry}
 use Rattle.iref_batch.proofs.answers.prefixes.insert_field.Goals as goal
 
 pub returns-in_default-from_utf8-clause-err : goal.returns-in_default-from_utf8-clause-err
@@ -20,7 +20,7 @@ pub returns-in-Ok-insert-clause-ok : goal.returns-in-Ok-insert-clause-ok
 returns-in-Ok-insert-clause-ok c =
     let e : PrefixEntry = record { label = c.name_and_value.result.0.now; iri = c.in-Some.iri.now } in
     let read = field_read c.args.field.now e.label e.iri (option_copied c.name_and_value.result.1) c.name_and_value.ensures.name c.name_and_value.ensures.value (ap option_copied c.in-Some.is) in
-    (e, read, iri_full e.iri c.in-Ok-from_bytes.ensures.0, (λ i. inserted (sym c.in-Ok.ensures.cases.0 i) (sym c.in-Ok-from_bytes.ensures.1 i) c.args.table.now) ∙ c.in-Ok-insert.ensures.ok)
+    (e, read, iri_accepted e.iri c.in-Ok-from_bytes.ensures.0, (λ i. inserted (sym c.in-Ok.ensures.cases.0 i) (sym c.in-Ok-from_bytes.ensures.1 i) c.args.table.now) ∙ c.in-Ok-insert.ensures.ok)
 
 pub returns-in-Err-BadLabel-clause-err : goal.returns-in-Err-BadLabel-clause-err
 returns-in-Err-BadLabel-clause-err c =

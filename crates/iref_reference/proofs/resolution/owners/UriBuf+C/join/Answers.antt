@@ -1,4 +1,4 @@
-use Rattle.iref_grammar.proofs.ComponentLemmas.{reference_if_full}
+use Rattle.iref_grammar.proofs.ComponentLemmas.{reference_if_uri}
 use Rattle.iref_parse.specs.ReferenceSlices.{value_of}
 use Rattle.iref_reference.proofs.ResolutionLemmas.{readable_slices, resolved-scheme}
 use Rattle.iref_reference.proofs.resolution.owners.UriBuf+C.join.Goals as goal
@@ -7,7 +7,7 @@ pub resolved-requires-clause-base : goal.resolved-requires-clause-base
 resolved-requires-clause-base g c =
     let set = g.C.CharSet.tests in
     readable_slices set c.args.self.now.held (value_of c.slices.result) c.slices.ensures.value
-    (reference_if_full set c.args.self.now.held c.slices.ensures.in_rule)
+    (reference_if_uri set c.args.self.now.held c.slices.ensures.in_rule)
 
 pub resolved-requires-clause-reference : goal.resolved-requires-clause-reference
 resolved-requires-clause-reference g c =

@@ -3,7 +3,7 @@ use Rattle.std.proofs.lemmas.Result.{IfOk-weaker}
 use Rattle.std.specs.Prelude.{is_some}
 use Rattle.iref_grammar.specs.Rules.{Text}
 use Rattle.iref_grammar.specs.Reference.{ReferenceValue, read_reference}
-use Rattle.iref_grammar.proofs.ComponentLemmas.{reference_if_full}
+use Rattle.iref_grammar.proofs.ComponentLemmas.{reference_if_uri}
 use Rattle.iref_parse.specs.ReferenceSlices.{value_of}
 use Rattle.iref_reference.specs.References.{reference_buf_text, reference_buf_value}
 use Rattle.iref_reference.proofs.ResolutionLemmas.{readable_slices, resolved-scheme}
@@ -13,7 +13,7 @@ pub resolved-requires-clause-base : goal.resolved-requires-clause-base
 resolved-requires-clause-base g c =
     let set = g.C.CharSet.tests in
     readable_slices set c.as_str.result.now (value_of c.split_reference-base.result) c.split_reference-base.ensures.value
-    (reference_if_full set c.as_str.result.now c.as_str.ensures.in_rule)
+    (reference_if_uri set c.as_str.result.now c.as_str.ensures.in_rule)
 
 pub resolved-requires-clause-reference : goal.resolved-requires-clause-reference
 resolved-requires-clause-reference g c =
