@@ -89,7 +89,9 @@ fn overwrite(bytes: &mut Vec<u8>, start: usize, text: &[u8])
         ≡ splice bytes.old.items start (start + length text.now) text.now }
     ensures len { vec_len bytes.new ≡ vec_len bytes.old }
 {
-    bytes[start..start + text.len()].copy_from_slice(text);
+    if !text.is_empty() {
+        bytes[start..start + text.len()].copy_from_slice(text);
+    }
 }
 
 impl<P: Part, C: CharSet> Target<P, C> for Vec<u8> {
