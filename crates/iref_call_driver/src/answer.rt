@@ -1,4 +1,4 @@
-//! What a call answers.
+//! The results of calls.
 use crate::hands_back::HandsBack;
 use crate::row::Row;
 use iref::Memory;
@@ -9,31 +9,31 @@ use iref_url::ParseError;
 use std::alloc::{AllocError, AllocFailed};
 use std::io;
 
-/// What a call returns that is not refused.
-#[derive(Clone, Copy, Drop)]
+/// The result of a call that succeeds.
+#[derive(Drop)]
 pub enum Outcome {
     /// It is done.
     Done,
     /// It is done, and whether something changed.
     Changed(bool),
-    /// There is no such value.
+    /// The result is None.
     Nothing,
 }
 
-/// Why a call is refused.
-#[derive(Clone, Copy, Drop)]
+/// Why a call fails.
+#[derive(Drop)]
 pub enum Fault {
-    /// Memory was refused.
+    /// Out of memory.
     Memory,
-    /// The argument was refused, and is handed back.
+    /// A text of the argument is invalid, and the error holds it.
     Invalid,
-    /// Another text than the argument is handed back.
+    /// The error holds another text.
     OtherText,
-    /// The edit of this number is of a part of the authority, and there is none.
+    /// The edit of this number changes a part of the authority, and there is no authority.
     NoAuthority(usize),
-    /// The edit of this number takes the scheme of a URI away.
+    /// The edit of this number removes the scheme of a URI.
     SchemeNeeded(usize),
-    /// The label is none.
+    /// The label is invalid.
     BadLabel,
     /// The label has an entry.
     Taken,
@@ -41,15 +41,15 @@ pub enum Fault {
     NoColon,
     /// The label has no entry.
     UnknownLabel,
-    /// The expanded text is no IRI.
+    /// The expanded text is not an IRI.
     NotAnIri,
-    /// No URL is parsed, or none is taken.
+    /// The text is not a URL, or the URL is not a URI.
     Url,
-    /// There is no such call, or a text of the line is not what the call takes.
+    /// There is no such call, or the call does not take a text of the line.
     NoCall,
 }
 
-/// What a call answers, beside what it leaves or makes.
+/// The result of a call, beside the value that it edits or makes.
 pub type Answer = Result<Outcome, Fault>;
 
 impl From<Memory> for Fault {
@@ -86,7 +86,7 @@ pub fn changed(edited: Result<bool, Memory>) -> Answer {
     }
 }
 
-/// The answer of an edit by the argument of the row.
+/// The answer of an edit by a text of the row.
 pub fn tried<E: HandsBack>(row: &Row<'_>, edited: Result<(), TryError<E>>) -> Answer {
     match edited {
         Ok(()) => Ok(Outcome::Done),
@@ -94,16 +94,16 @@ pub fn tried<E: HandsBack>(row: &Row<'_>, edited: Result<(), TryError<E>>) -> An
     }
 }
 
-/// Why a call by the argument of the row is refused.
+/// Why a call by a text of the row fails.
 pub fn fault_of<E: HandsBack>(row: &Row<'_>, error: TryError<E>) -> Fault {
     match error {
-        TryError::Invalid(error) if error.text() == row.needed() => Fault::Invalid,
+        TryError::Invalid(error) if error.text() == row.refused() => Fault::Invalid,
         TryError::Invalid(_) => Fault::OtherText,
         TryError::Memory => Fault::Memory,
     }
 }
 
-/// What was read of a line, if it could be.
+/// The value of a text of the line.
 pub fn read<T, E: Drop>(read: Result<T, E>) -> Result<T, Fault> {
     match read {
         Ok(value) => Ok(value),
@@ -111,7 +111,7 @@ pub fn read<T, E: Drop>(read: Result<T, E>) -> Result<T, Fault> {
     }
 }
 
-/// Why a list of edits is refused, at the edit of a number.
+/// Why a list of edits fails at the edit of this number.
 pub fn of_edit(number: usize, error: EditFault) -> Fault {
     match error {
         EditFault::NoAuthority => Fault::NoAuthority(number),
@@ -120,7 +120,7 @@ pub fn of_edit(number: usize, error: EditFault) -> Fault {
     }
 }
 
-/// Why an entry is refused.
+/// Why an entry is not added.
 pub fn of_insert(error: PrefixFault) -> Fault {
     match error {
         PrefixFault::BadLabel => Fault::BadLabel,
@@ -147,7 +147,7 @@ pub fn of_parse(error: ParseError) -> Fault {
     }
 }
 
-fn put_outcome(rt: &HostRuntime, outcome: Outcome) -> io::Result<()> {
+fn put_outcome(rt: &HostRuntime, outcome: &Outcome) -> io::Result<()> {
     match outcome {
         Outcome::Done => print!(rt; "ok\t"),
         Outcome::Changed(changed) => print!(rt; "{changed}\t"),
@@ -155,8 +155,8 @@ fn put_outcome(rt: &HostRuntime, outcome: Outcome) -> io::Result<()> {
     }
 }
 
-// The name of a fault that holds no number.
-fn name(fault: Fault) -> &'static str {
+// The name of a fault that has no number and no text.
+fn name(fault: &Fault) -> &'static str {
     match fault {
         Fault::Memory => "memory",
         Fault::BadLabel => "BadLabel",
@@ -171,11 +171,11 @@ fn name(fault: Fault) -> &'static str {
 }
 
 /// Writes the answer to the row.
-pub fn put_answer(rt: &HostRuntime, row: &Row<'_>, answer: Answer) -> io::Result<()> {
+pub fn put_answer(rt: &HostRuntime, row: &Row<'_>, answer: &Answer) -> io::Result<()> {
     match answer {
         Ok(outcome) => put_outcome(rt, outcome),
         Err(Fault::Invalid) => {
-            let text = row.needed();
+            let text = row.refused();
             print!(rt; "invalid\t{text}\t")
         }
         Err(Fault::NoAuthority(number)) => print!(rt; "NoAuthority {number}\t"),

@@ -1,18 +1,14 @@
 //! Edits of authorities.
-use crate::answer::{Answer, Fault, done, read, tried};
+use crate::answer::{Answer, Fault, done, tried};
+use crate::edited::{Direct, Edits};
 use crate::row::Row;
-use crate::step::Owner;
-use crate::subject::{Subject, put};
 use crate::texts::{number_if_some, view, view_if_some};
 use iref::chars::CharSet;
 use iref_buffer::held::HeldRule;
 use iref_component::authority::AuthorityBuf;
 use iref_component::authority_mut::{AuthorityMut, AuthorityPart};
-use iref_component::rule::Refuses;
 use iref_edit::target::Target;
 use iref_reference::owner::ReferenceBuf;
-use std::alloc::Global;
-use std::io;
 use std::marker::PhantomData;
 
 // The edits that an authority and its editor have.
@@ -23,7 +19,7 @@ macro_rules! edited {
             "set_user_info" => done($authority.set_user_info(view_if_some($row.arg)?)),
             "set_host" => done($authority.set_host(view($row.needed())?)),
             "set_port" => done($authority.set_port(view_if_some($row.arg)?)),
-            "set_port_u32" => done($authority.set_port_u32(number_if_some($row.arg)?)),
+            "set_port_u32" => done($authority.set_port_u32(number_if_some($row.arg))),
             "try_replace" => tried($row, $authority.try_replace($row.needed())),
             "try_set_user_info" => tried($row, $authority.try_set_user_info($row.arg)),
             "try_set_host" => tried($row, $authority.try_set_host($row.needed())),
@@ -41,22 +37,14 @@ pub fn edit<C: CharSet, T: Target<AuthorityPart, C>>(
     edited!(authority, row)
 }
 
-impl<C: CharSet> Subject for AuthorityBuf<C> {
-    fn prepared(alloc: Global, row: &Row<'_>) -> Result<Self, Fault> {
-        read(AuthorityBuf::new(row.owned(alloc)?))
-    }
-
-    fn call(&mut self, row: &Row<'_>) -> Answer {
-        edited!(self, row)
-    }
-
-    fn put(&self, rt: &HostRuntime, _row: &Row<'_>) -> io::Result<()> {
-        put(rt, self.as_str())
+impl<C: CharSet> Edits<AuthorityBuf<C>> for Direct {
+    fn edit(authority: &mut AuthorityBuf<C>, row: &Row<'_>) -> Answer {
+        edited!(authority, row)
     }
 }
 
-/// An owner of an authority, alone or in a reference, that is edited in place.
-pub trait AuthorityOwner<C: CharSet>: Target<AuthorityPart, C> + Owner {
+/// A value with an authority that is edited in place.
+pub trait AuthorityOwner<C: CharSet>: Target<AuthorityPart, C> + Sized {
     /// The editor of the authority, if there is one.
     fn authority_editor(&mut self) -> Option<AuthorityMut<'_, C, Self>>;
 }
@@ -67,37 +55,22 @@ impl<C: CharSet> AuthorityOwner<C> for AuthorityBuf<C> {
     }
 }
 
-impl<R: HeldRule + Refuses<String>, C: CharSet> AuthorityOwner<C> for ReferenceBuf<R, C>
-where
-    R::Error: Drop,
-{
+impl<R: HeldRule, C: CharSet> AuthorityOwner<C> for ReferenceBuf<R, C> {
     fn authority_editor(&mut self) -> Option<AuthorityMut<'_, C, Self>> {
         self.authority_mut()
     }
 }
 
-/// An owner whose authority is edited through its editor.
-#[derive(Drop)]
-pub struct AuthorityOf<T: AuthorityOwner<C>, C: CharSet> {
-    owner: T,
+/// The edits through the editor of an authority.
+pub struct OfAuthority<C: CharSet> {
     chars: PhantomData<C>,
 }
 
-impl<T: AuthorityOwner<C> + Drop, C: CharSet> Subject for AuthorityOf<T, C> {
-    fn prepared(alloc: Global, row: &Row<'_>) -> Result<Self, Fault> {
-        let owner = T::of_text(row.owned(alloc)?)?;
-        let chars = PhantomData;
-        Ok(AuthorityOf { owner, chars })
-    }
-
-    fn call(&mut self, row: &Row<'_>) -> Answer {
-        match self.owner.authority_editor() {
+impl<C: CharSet, T: AuthorityOwner<C>> Edits<T> for OfAuthority<C> {
+    fn edit(owner: &mut T, row: &Row<'_>) -> Answer {
+        match owner.authority_editor() {
             Some(mut authority) => edit(&mut authority, row),
             None => Err(Fault::NoCall),
         }
-    }
-
-    fn put(&self, rt: &HostRuntime, _row: &Row<'_>) -> io::Result<()> {
-        self.owner.show(rt)
     }
 }

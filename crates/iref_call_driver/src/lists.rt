@@ -48,7 +48,7 @@ fn authority_edit<'t, C: CharSet>(
         "user" => Ok(Edit::SetUserInfo(view_if_some(value)?)),
         "host" => Ok(Edit::SetHost(view(value.unwrap_or(""))?)),
         "port" => Ok(Edit::SetPort(view_if_some(value)?)),
-        "port-u32" => Ok(Edit::SetPortU32(number_if_some(value)?)),
+        "port-u32" => Ok(Edit::SetPortU32(number_if_some(value))),
         _ => Err(Fault::NoCall),
     }
 }

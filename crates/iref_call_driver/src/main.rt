@@ -7,6 +7,7 @@ mod answer;
 mod authorities;
 mod bytes;
 mod copies;
+mod edited;
 mod families;
 mod handed_back;
 mod hands_back;
@@ -20,11 +21,11 @@ mod step;
 mod subject;
 mod texts;
 mod urls;
-mod views;
 
-use authorities::AuthorityOf;
-use bytes::{AuthorityBytes, PathBytes};
-use families::{Converted, MappedIri, MappedRef};
+use authorities::OfAuthority;
+use bytes::Bytes;
+use edited::{Direct, Edited};
+use families::{MappedIri, MappedRef};
 use handed_back::{OfScheme, Resolving};
 use iref::chars::{CharSet, IriChars, UriChars};
 use iref_component::authority::AuthorityBuf;
@@ -32,27 +33,27 @@ use iref_component::path_buf::PathBuf;
 use iref_reference::owner::{UriBuf, UriRefBuf};
 use lists::Listed;
 use made::Made;
-use paths::PathOf;
+use paths::OfPath;
 use prefixes::Table;
 use row::Row;
 use std::io;
 use subject::answer;
 use urls::{FromUrl, UrlOf};
-use views::Views;
 
 // Answers a line whose call is made on a part of a reference, or on bytes.
 fn answer_of_part<C: CharSet>(rt: &HostRuntime, row: &Row<'_>) -> io::Result<()> {
     match row.on {
-        "AuthorityBuf" => answer::<AuthorityBuf<C>>(rt, row),
-        "AuthorityBuf.as_authority_mut" => answer::<AuthorityOf<AuthorityBuf<C>, C>>(rt, row),
-        "UriRefBuf.authority_mut" => answer::<AuthorityOf<UriRefBuf<C>, C>>(rt, row),
-        "UriBuf.authority_mut" => answer::<AuthorityOf<UriBuf<C>, C>>(rt, row),
-        "AuthorityMut" => answer::<AuthorityBytes<C>>(rt, row),
-        "PathBuf" => answer::<PathBuf<C>>(rt, row),
-        "PathBuf.as_path_mut" => answer::<PathOf<PathBuf<C>, C>>(rt, row),
-        "UriRefBuf.path_mut" => answer::<PathOf<UriRefBuf<C>, C>>(rt, row),
-        "UriBuf.path_mut" => answer::<PathOf<UriBuf<C>, C>>(rt, row),
-        "PathMut" => answer::<PathBytes<C>>(rt, row),
+        "AuthorityBuf" => answer::<Edited<AuthorityBuf<C>, Direct>>(rt, row),
+        "AuthorityBuf.as_authority_mut" => {
+            answer::<Edited<AuthorityBuf<C>, OfAuthority<C>>>(rt, row)
+        }
+        "UriRefBuf.authority_mut" => answer::<Edited<UriRefBuf<C>, OfAuthority<C>>>(rt, row),
+        "UriBuf.authority_mut" => answer::<Edited<UriBuf<C>, OfAuthority<C>>>(rt, row),
+        "PathBuf" => answer::<Edited<PathBuf<C>, Direct>>(rt, row),
+        "PathBuf.as_path_mut" => answer::<Edited<PathBuf<C>, OfPath<C>>>(rt, row),
+        "UriRefBuf.path_mut" => answer::<Edited<UriRefBuf<C>, OfPath<C>>>(rt, row),
+        "UriBuf.path_mut" => answer::<Edited<UriBuf<C>, OfPath<C>>>(rt, row),
+        "AuthorityMut" | "PathMut" => answer::<Bytes<C>>(rt, row),
         _ => answer::<Made<C>>(rt, row),
     }
 }
@@ -60,8 +61,8 @@ fn answer_of_part<C: CharSet>(rt: &HostRuntime, row: &Row<'_>) -> io::Result<()>
 // Answers a line of a family.
 fn answer_of<C: CharSet>(rt: &HostRuntime, row: &Row<'_>) -> io::Result<()> {
     match row.on {
-        "UriRefBuf" => answer::<UriRefBuf<C>>(rt, row),
-        "UriBuf" => answer::<UriBuf<C>>(rt, row),
+        "UriRefBuf" => answer::<Edited<UriRefBuf<C>, Direct>>(rt, row),
+        "UriBuf" => answer::<Edited<UriBuf<C>, Direct>>(rt, row),
         "UriRefBuf list" => answer::<Listed<UriRefBuf<C>, C>>(rt, row),
         "UriBuf list" => answer::<Listed<UriBuf<C>, C>>(rt, row),
         "UriRefBuf taken" => answer::<Resolving<C>>(rt, row),
@@ -69,7 +70,6 @@ fn answer_of<C: CharSet>(rt: &HostRuntime, row: &Row<'_>) -> io::Result<()> {
         "UriBuf URL" => answer::<UrlOf<C>>(rt, row),
         "URL UriBuf" => answer::<FromUrl<UriBuf<C>>>(rt, row),
         "URL UriRefBuf" => answer::<FromUrl<UriRefBuf<C>>>(rt, row),
-        "view" => answer::<Views<C>>(rt, row),
         _ => answer_of_part::<C>(rt, row),
     }
 }
@@ -80,7 +80,6 @@ fn answer_of_iri(rt: &HostRuntime, row: &Row<'_>) -> io::Result<()> {
         "IriRefBuf" => answer::<MappedRef>(rt, row),
         "IriBuf" => answer::<MappedIri>(rt, row),
         "Prefixes" => answer::<Table>(rt, row),
-        "conversions" => answer::<Converted>(rt, row),
         _ => answer_of::<IriChars>(rt, row),
     }
 }

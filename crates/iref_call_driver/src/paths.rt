@@ -1,20 +1,16 @@
 //! Edits of paths.
-use crate::answer::{Answer, Fault, Outcome, changed, done, read, tried};
+use crate::answer::{Answer, Fault, Outcome, changed, done, tried};
+use crate::edited::{Direct, Edits};
 use crate::row::Row;
-use crate::step::Owner;
-use crate::subject::{Subject, put};
 use crate::texts::view;
 use iref::chars::CharSet;
 use iref_buffer::held::HeldRule;
 use iref_component::path::Path;
 use iref_component::path_buf::PathBuf;
 use iref_component::path_mut::PathMut;
-use iref_component::rule::Refuses;
 use iref_component::rules::PathRule;
 use iref_path_text::target::PathTarget;
 use iref_reference::owner::ReferenceBuf;
-use std::alloc::Global;
-use std::io;
 use std::marker::PhantomData;
 
 // The answer of a call that takes no memory.
@@ -66,22 +62,14 @@ pub fn edit<C: CharSet, T: PathTarget<C>>(path: &mut PathMut<'_, C, T>, row: &Ro
     edited!(path, row)
 }
 
-impl<C: CharSet> Subject for PathBuf<C> {
-    fn prepared(alloc: Global, row: &Row<'_>) -> Result<Self, Fault> {
-        read(PathBuf::new(row.owned(alloc)?))
-    }
-
-    fn call(&mut self, row: &Row<'_>) -> Answer {
-        edited!(self, row)
-    }
-
-    fn put(&self, rt: &HostRuntime, _row: &Row<'_>) -> io::Result<()> {
-        put(rt, self.as_str())
+impl<C: CharSet> Edits<PathBuf<C>> for Direct {
+    fn edit(path: &mut PathBuf<C>, row: &Row<'_>) -> Answer {
+        edited!(path, row)
     }
 }
 
-/// An owner of a path, alone or in a reference, that is edited in place.
-pub trait PathOwner<C: CharSet>: PathTarget<C> + Owner {
+/// A value with a path that is edited in place.
+pub trait PathOwner<C: CharSet>: PathTarget<C> + Sized {
     /// The editor of the path.
     fn path_editor(&mut self) -> PathMut<'_, C, Self>;
 }
@@ -92,35 +80,20 @@ impl<C: CharSet> PathOwner<C> for PathBuf<C> {
     }
 }
 
-impl<R: HeldRule + Refuses<String>, C: CharSet> PathOwner<C> for ReferenceBuf<R, C>
-where
-    R::Error: Drop,
-{
+impl<R: HeldRule, C: CharSet> PathOwner<C> for ReferenceBuf<R, C> {
     fn path_editor(&mut self) -> PathMut<'_, C, Self> {
         self.path_mut()
     }
 }
 
-/// An owner whose path is edited through its editor.
-#[derive(Drop)]
-pub struct PathOf<T: PathOwner<C>, C: CharSet> {
-    owner: T,
+/// The edits through the editor of a path.
+pub struct OfPath<C: CharSet> {
     chars: PhantomData<C>,
 }
 
-impl<T: PathOwner<C> + Drop, C: CharSet> Subject for PathOf<T, C> {
-    fn prepared(alloc: Global, row: &Row<'_>) -> Result<Self, Fault> {
-        let owner = T::of_text(row.owned(alloc)?)?;
-        let chars = PhantomData;
-        Ok(PathOf { owner, chars })
-    }
-
-    fn call(&mut self, row: &Row<'_>) -> Answer {
-        let mut path = self.owner.path_editor();
+impl<C: CharSet, T: PathOwner<C>> Edits<T> for OfPath<C> {
+    fn edit(owner: &mut T, row: &Row<'_>) -> Answer {
+        let mut path = owner.path_editor();
         edit(&mut path, row)
-    }
-
-    fn put(&self, rt: &HostRuntime, _row: &Row<'_>) -> io::Result<()> {
-        self.owner.show(rt)
     }
 }

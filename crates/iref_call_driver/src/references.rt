@@ -1,13 +1,13 @@
 //! Edits of references and of URIs.
 use crate::answer::{Answer, Fault, done, read, tried};
+use crate::edited::{Direct, Edits};
 use crate::row::Row;
-use crate::subject::{Subject, put};
+use crate::subject::put;
 use crate::texts::{view, view_if_some};
 use iref::chars::CharSet;
 use iref_buffer::held::HeldRule;
 use iref_reference::owner::{ReferenceBuf, UriBuf, UriRefBuf};
 use iref_reference::view::{Uri, UriRef};
-use std::alloc::Global;
 use std::io;
 use std::ops::Range;
 
@@ -58,41 +58,25 @@ fn edit<R: HeldRule, C: CharSet>(reference: &mut ReferenceBuf<R, C>, row: &Row<'
     }
 }
 
-impl<C: CharSet> Subject for UriRefBuf<C> {
-    fn prepared(alloc: Global, row: &Row<'_>) -> Result<Self, Fault> {
-        read(UriRefBuf::new(row.owned(alloc)?))
-    }
-
-    fn call(&mut self, row: &Row<'_>) -> Answer {
+impl<C: CharSet> Edits<UriRefBuf<C>> for Direct {
+    fn edit(reference: &mut UriRefBuf<C>, row: &Row<'_>) -> Answer {
         match row.call {
-            "set_scheme" => done(self.set_scheme(view_if_some(row.arg)?)),
-            "try_set_scheme" => tried(row, self.try_set_scheme(row.arg)),
-            "resolve" => done(self.resolve(read(Uri::new(row.needed()))?)),
-            "try_resolve" => tried(row, self.try_resolve(row.needed())),
-            _ => edit(self, row),
+            "set_scheme" => done(reference.set_scheme(view_if_some(row.arg)?)),
+            "try_set_scheme" => tried(row, reference.try_set_scheme(row.arg)),
+            "resolve" => done(reference.resolve(read(Uri::new(row.needed()))?)),
+            "try_resolve" => tried(row, reference.try_resolve(row.needed())),
+            _ => edit(reference, row),
         }
-    }
-
-    fn put(&self, rt: &HostRuntime, _row: &Row<'_>) -> io::Result<()> {
-        put_reference(rt, self)
     }
 }
 
-impl<C: CharSet> Subject for UriBuf<C> {
-    fn prepared(alloc: Global, row: &Row<'_>) -> Result<Self, Fault> {
-        read(UriBuf::new(row.owned(alloc)?))
-    }
-
-    fn call(&mut self, row: &Row<'_>) -> Answer {
+impl<C: CharSet> Edits<UriBuf<C>> for Direct {
+    fn edit(uri: &mut UriBuf<C>, row: &Row<'_>) -> Answer {
         match row.call {
-            "set_scheme" => done(self.set_scheme(view(row.needed())?)),
-            "join" => done(self.join(read(UriRef::new(row.needed()))?)),
-            "try_join" => tried(row, self.try_join(row.needed())),
-            _ => edit(self, row),
+            "set_scheme" => done(uri.set_scheme(view(row.needed())?)),
+            "join" => done(uri.join(read(UriRef::new(row.needed()))?)),
+            "try_join" => tried(row, uri.try_join(row.needed())),
+            _ => edit(uri, row),
         }
-    }
-
-    fn put(&self, rt: &HostRuntime, _row: &Row<'_>) -> io::Result<()> {
-        put_reference(rt, self)
     }
 }

@@ -2,7 +2,7 @@
 use std::alloc::{AllocError, Global};
 
 /// A call, and what it is made on.
-#[derive(Clone, Copy, Drop)]
+#[derive(Drop)]
 pub struct Row<'t> {
     /// What the call is made on.
     pub on: &'t str,
@@ -57,6 +57,15 @@ impl<'t> Row<'t> {
     /// The argument, which is empty where there is none.
     pub fn needed(&self) -> &'t str {
         self.arg.unwrap_or("")
+    }
+
+    /// The text that the error of the call holds: the last one of many texts, or else the argument.
+    pub fn refused(&self) -> &'t str {
+        let text = self.needed();
+        match self.call {
+            "try_append" | "try_lazy_append" => text.rsplit_once(' ').unwrap_or(("", text)).1,
+            _ => text,
+        }
     }
 
     // How much room the buffer has: for exactly what is to stand where memory is refused.

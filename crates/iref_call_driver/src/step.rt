@@ -1,4 +1,4 @@
-//! Owners that a call takes, and what it makes of them.
+//! Owned texts that a call takes, and what it makes of them.
 use crate::answer::{Answer, Fault, Outcome, read};
 use crate::references::put_reference;
 use crate::subject::put;
@@ -10,12 +10,12 @@ use iref_component::rule::Refuses;
 use iref_reference::owner::ReferenceBuf;
 use std::io;
 
-/// An owner of a text, which can be written.
+/// A value with a text of its own, which can be written.
 pub trait Owner: Sized {
-    /// The owner of a text of its rule.
+    /// The value of a text in its rule.
     fn of_text(text: String) -> Result<Self, Fault>;
 
-    /// Writes it, which takes no memory.
+    /// Writes the text, which takes no memory.
     fn show(&self, rt: &HostRuntime) -> io::Result<()>;
 }
 
@@ -45,7 +45,7 @@ where
     }
 }
 
-/// What was made of an owner, or the owner, which was handed back for want of memory.
+/// The result of a call that takes an owner. Out of memory, the call returns the owner itself.
 pub fn at_memory<A, B>(made: Result<B, (A, Memory)>) -> Result<B, (A, Fault)> {
     match made {
         Ok(made) => Ok(made),
@@ -53,7 +53,7 @@ pub fn at_memory<A, B>(made: Result<B, (A, Memory)>) -> Result<B, (A, Fault)> {
     }
 }
 
-/// An owner before a call that takes it, or what the call made of it.
+/// The value that a call takes, or what the call made of it.
 #[derive(Drop)]
 pub struct Step<A, B> {
     before: Option<A>,
@@ -61,19 +61,19 @@ pub struct Step<A, B> {
 }
 
 impl<A: Owner + Drop, B: Owner + Drop> Step<A, B> {
-    /// The owner, before the call.
+    /// The value, before the call.
     pub fn before(owner: A) -> Self {
         let before = Some(owner);
         let after = None;
         Step { before, after }
     }
 
-    /// Takes the owner.
+    /// Takes the value out.
     pub fn take(&mut self) -> Result<A, Fault> {
         self.before.take().ok_or(Fault::NoCall)
     }
 
-    /// Keeps what was made, or the owner that was handed back.
+    /// Keeps what was made, or the value that the call returned.
     pub fn settle(&mut self, made: Result<B, (A, Fault)>) -> Answer {
         match made {
             Ok(made) => {
@@ -87,7 +87,7 @@ impl<A: Owner + Drop, B: Owner + Drop> Step<A, B> {
         }
     }
 
-    /// Writes what there is.
+    /// Writes the one that there is.
     pub fn put(&self, rt: &HostRuntime) -> io::Result<()> {
         match (&self.before, &self.after) {
             (Some(owner), _) => owner.show(rt),

@@ -4,7 +4,7 @@ use iref::chars::CharSet;
 use iref_component::rule::Rule;
 use iref_component::view::View;
 
-/// The view of a text.
+/// The borrowed text as a value of its rule.
 pub fn view<R: Rule, C: CharSet>(text: &str) -> Result<View<'_, R, C>, Fault> {
     if R::accepts::<C>(text) {
         Ok(View::new_unchecked(text))
@@ -13,7 +13,7 @@ pub fn view<R: Rule, C: CharSet>(text: &str) -> Result<View<'_, R, C>, Fault> {
     }
 }
 
-/// The view of a text, if there is one.
+/// The same, if there is a text.
 pub fn view_if_some<R: Rule, C: CharSet>(
     text: Option<&str>,
 ) -> Result<Option<View<'_, R, C>>, Fault> {
@@ -23,13 +23,10 @@ pub fn view_if_some<R: Rule, C: CharSet>(
     }
 }
 
-/// The number of decimal digits, if there are any.
-pub fn number_if_some(digits: Option<&str>) -> Result<Option<u32>, Fault> {
+/// The number of decimal digits, if there are any; 0 where no number is written.
+pub fn number_if_some(digits: Option<&str>) -> Option<u32> {
     match digits {
-        Some(digits) => match digits.parse::<u32>() {
-            Ok(number) => Ok(Some(number)),
-            Err(_) => Err(Fault::NoCall),
-        },
-        None => Ok(None),
+        Some(digits) => Some(digits.parse::<u32>().unwrap_or(0)),
+        None => None,
     }
 }
