@@ -15,3 +15,5 @@ pub mod SeenLemmas
 pub mod PlainLemmas
 pub mod PlainTextLemmas
 pub mod PositionLemmas
+pub mod DotLemmas
+pub mod DotSegmentLemmas

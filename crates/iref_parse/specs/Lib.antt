@@ -18,3 +18,4 @@ pub mod Ipv6Scan
 pub mod Splits
 pub mod Lanes
 pub mod Plain
+pub mod Dots

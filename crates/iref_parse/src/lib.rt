@@ -5,6 +5,7 @@ pub mod ascii;
 pub mod authority;
 pub mod cut;
 pub mod decoded;
+pub mod dots;
 pub mod host;
 pub mod ip;
 pub mod ipv6;

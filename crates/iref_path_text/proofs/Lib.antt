@@ -15,3 +15,4 @@ pub mod SuffixLemmas
 pub mod StackLemmas
 pub mod RewritingLemmas
 pub mod WrittenLemmas
+pub mod DotlessLemmas

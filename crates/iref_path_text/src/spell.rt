@@ -1,10 +1,13 @@
 //! The text of a normalized path, which is measured and written from its end (RFC 3986 section
 //! 5.2.4).
 
-ghost use Rattle.std.specs.Prelude.{◌≡◌, ◌+◌, ◌-◌, ◌<◌, ◌≤◌, ◌^◌, ◌||◌, ◌&&◌, ◌==◌};
-ghost use Rattle.std.specs.{Prelude.{true, [], length, IfOk}, List.{join_with_byte}};
+ghost use Rattle.std.specs.Prelude.{◌≡◌, ◌+◌, ◌-◌, ◌<◌, ◌≤◌, ◌^◌, ◌||◌, ◌&&◌, ◌==◌, ◌++◌};
+ghost use Rattle.std.specs.{Prelude.{true, false, [], length, IfOk}, List.{join_with_byte}};
 ghost use Rattle.std.specs.{List.{list_any}, String.{string_bytes}};
 ghost use Rattle.iref_grammar.specs.{is_path_in, colon, slash, read_path, spell_path, is_path};
+ghost use Rattle.iref_grammar.specs.Texts.{pieces_at};
+ghost use Rattle.iref_model.specs.PathSteps.{normalized};
+ghost use Rattle.iref_parse.specs.Dots.{has_dot_segment};
 ghost use Rattle.iref_path_text.specs.{PathParts.{is_path_after}, Remaining.{first_or}};
 ghost use Rattle.iref_path_text.specs.{Spelling.{each_closed, normal_in}, Stacks.{in_order}};
 ghost use Rattle.iref_path_text.specs.{Stacks.{stacked_text}, Ways.{IsWaySound, way_left}};
@@ -12,7 +15,7 @@ ghost use Rattle.iref_path_text.specs.Written.{WritesBefore};
 ghost use Rattle.iref_path_text.specs.Spelling as spelling;
 
 use crate::measured::MeasuredPath;
-use crate::pieces::split_root;
+use crate::pieces::{first_piece, split_root};
 use crate::remaining::places::Places;
 use crate::remaining::stack::Stack;
 use crate::remaining::way::Way;
@@ -20,6 +23,7 @@ use arrayvec::ArrayVec;
 use iref_error::Memory;
 use iref_grammar::chars::CharSet;
 use iref_grammar::context::PathContext;
+use iref_parse::dots::has_dots;
 use smallvec::SmallVec;
 use std::alloc::Global;
 
@@ -218,8 +222,37 @@ fn normal_bytes_by<'a, P: Places<&'a str> + Drop>(
     MeasuredPath::of_items(lead, left, stack.size).bytes(alloc)
 }
 
-// The same. The list of a path that is not too long may take memory, and does without where that is
-// refused.
+// The bytes of both texts. The room is taken once.
+fn both_bytes(alloc: Global, front: &str, back: &str) -> Result<Vec<u8>, Memory>
+    ensures { IfOk result (λ bytes. bytes.items ≡ front.now ++ back.now) }
+{
+    let mut bytes = Vec::with_capacity(alloc, front.len().saturating_add(back.len()))?;
+    bytes.extend_from_slice(front.as_bytes())?;
+    bytes.extend_from_slice(back.as_bytes())?;
+    Ok(bytes)
+}
+
+// The bytes of the normalized path of these segments in its context, where none begins with a dot:
+// they stay as they are.
+fn dotless_bytes(
+    alloc: Global,
+    context: PathContext,
+    absolute: bool,
+    segments: &str,
+) -> Result<Vec<u8>, Memory>
+    requires { has_dot_segment segments.now ≡ false }
+    ensures { IfOk result (λ bytes. bytes.items ≡ spell_path (normalized context (record {
+      absolute = absolute;
+      segments = pieces_at slash segments.now;
+    }))) }
+{
+    let first = first_piece(segments).0;
+    let lead = lead_in(context, absolute, segments.len(), first);
+    both_bytes(alloc, lead, segments)
+}
+
+// The bytes of the normalized path in its context, with a flag of its own. The list of a path that
+// is not too long may take memory, and does without where that is refused.
 fn normal_bytes(
     alloc: Global,
     context: PathContext,
@@ -229,6 +262,11 @@ fn normal_bytes(
     ensures { IfOk result (λ bytes.
         bytes.items ≡ spell_path (normal_in context absolute path.now)) }
 {
+    if let Some(segments) = split_root(path).1 {
+        if !has_dots(segments.as_bytes()) {
+            return dotless_bytes(alloc, context, absolute, segments);
+        }
+    }
     if path.len() <= LONGEST_LISTED {
         return normal_bytes_by(SmallVec::new(alloc), alloc, context, absolute, path);
     }

@@ -1,0 +1,55 @@
+//! Whether a segment of a path begins with a dot.
+ghost use Rattle.std.specs.Prelude.{◌≡◌, ℕ, ◌+◌, ◌≤◌, if◌then◌else◌, length, MatchBool};
+ghost use Rattle.iref_parse.specs.Lanes.{HasLanes};
+ghost use Rattle.iref_parse.specs.Dots.{HasDot, is_slash_dot, has_dot_segment};
+
+use crate::lanes::{both, either, equal_to, is_clear, load};
+use std::simd::prelude::*;
+
+// All bits of a lane where the bytes from it on are `/.`, and else none.
+#[inline(always)]
+fn slash_dots(path: &[u8], at: usize) -> u8x16
+    requires { at + 17 ≤ length path.now }
+    ensures { HasLanes result (λ k. if is_slash_dot path.now (at + k) then 255 else 0) }
+{
+    both(
+        equal_to(load(path, at), b'/'),
+        equal_to(load(path, at + 1), b'.'),
+    )
+}
+
+// The same of a path of few bytes, which are read one by one.
+fn has_few_dots(path: &[u8]) -> bool
+    ensures { MatchBool result (HasDot path.now) (¬ HasDot path.now) }
+{
+    let mut begins = true;
+    for byte in path {
+        if begins && *byte == b'.' {
+            return true;
+        }
+        begins = *byte == b'/';
+    }
+    false
+}
+
+/// Whether a segment of the path begins with a dot, as each `.` and each `..` does. Where none
+/// does, the path has no dot segment.
+#[inline(always)]
+pub fn has_dots(path: &[u8]) -> bool
+    ensures { result ≡ has_dot_segment path.now }
+{
+    let len = path.len();
+    if len < 17 {
+        return has_few_dots(path);
+    }
+    if path[0] == b'.' {
+        return true;
+    }
+    let mut seen = slash_dots(path, len - 17);
+    let mut at = 0;
+    while 17 <= len - at {
+        seen = either(seen, slash_dots(path, at));
+        at += 16;
+    }
+    !is_clear(seen)
+}
