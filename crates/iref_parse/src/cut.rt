@@ -1,11 +1,11 @@
-//! A text cut at the first of a delimiter.
+//! A text cut at the first of a mark.
 
 ghost use Rattle.std.specs.{Prelude.{◌≡◌, ◌<◌, [], ◌∷◌}, Option.{option_copied}};
 ghost use Rattle.iref_grammar.specs.Texts.{before, from_first, after};
 
 use crate::position::position_of;
 
-/// What stands before the first of the delimiter, or all of the text, and what follows it.
+/// What stands before the first of the mark, or all of the text, and what follows it.
 #[inline(always)]
 pub fn cut(text: &str, mark: char) -> (&str, Option<&str>)
     requires { mark < 128 }
@@ -20,8 +20,20 @@ pub fn cut(text: &str, mark: char) -> (&str, Option<&str>)
     }
 }
 
-/// What stands before the first of the delimiter, or all of the text, and the text from the
-/// delimiter on.
+/// The same of bytes.
+#[inline(always)]
+pub fn cut_bytes(text: &[u8], mark: u8) -> (&[u8], Option<&[u8]>)
+    ensures before { result.0.now ≡ before (mark ∷ []) text.now }
+    ensures after { option_copied result.1 ≡ after mark text.now }
+{
+    let (front, rest) = text.split_at(position_of(text, mark));
+    match rest {
+        [] => (front, None),
+        [_, rest @ ..] => (front, Some(rest)),
+    }
+}
+
+/// What stands before the first of the mark, or all of the text, and the text from the mark on.
 #[inline(always)]
 pub fn split_before(text: &str, mark: char) -> (&str, &str)
     requires { mark < 128 }
