@@ -1,38 +1,42 @@
 -- The fields of a line.
-use Rattle.std.proofs.Common.{◌≡◌, ◌==◌, ◌<◌, ℕ, suc, not, Bool, true, false, List, [], ◌∷◌, ◌++◌, Option, Some, None, length, refl, ap, sym, ◌∙◌, arith, bytes_eq, option_and_then, codes, if◌then◌else◌}
+use Rattle.std.proofs.Common.{◌≡◌, ◌==◌, ◌<◌, ◌||◌, ℕ, not, Bool, true, false, List, [], ◌∷◌, ◌++◌, Option, Some, None, length, refl, ap, sym, ◌∙◌, arith, bytes_eq, option_and_then, codes, if◌then◌else◌}
 use Rattle.std.specs.List.{find}
 use Rattle.std.proofs.lemmas.Slice.Eq.{bytes_eq-Decides}
 use Rattle.std.proofs.lemmas.List.Splits.{slice_split_at, slice_split_none, length-slice_split}
 use Rattle.iref_grammar.specs.Rules.{Text}
 use Rattle.std.specs.Char.{char_set_contains}
-use Rattle.iref_grammar.specs.Texts.{after, after_first_char, before, pieces_at, is_empty}
-use Rattle.iref_grammar.proofs.CutLemmas.{after-part, before-lacking, before-part, from_first-lacking}
+use Rattle.std.proofs.lemmas.List.{append-nil}
+use Rattle.std.proofs.lemmas.List.Elements.{All-cons, All-nil}
+use mathlib.Core.Bool.{true≢false}
+use Rattle.iref_grammar.specs.Texts.{after, before, lacks, pieces_at, is_empty, then_part}
+use Rattle.iref_grammar.proofs.CutLemmas.{cut, rest_lacks}
+use Rattle.iref_grammar.proofs.SplitLemmas.{lacks-before}
 use Rattle.iref_lines.specs.Lines.{Request, tab, read_line, read_fields, one_text, all_verbs}
 use Rattle.iref_batch.specs.Gathering.{Lacks}
 use Rattle.iref_batch.specs.Fields.{fields_of}
 
-pub field_and_rest : (text field rest : Text) → Lacks tab field → text ≡ field ++ tab ∷ rest → pieces_at tab text ≡ field ∷ pieces_at tab rest
-field_and_rest text field rest h e = ap (pieces_at tab) e ∙ slice_split_at (λ c. c == tab) field tab rest h refl
+-- a text without the delimiter, character by character
+lacking : (mark : ℕ) (text : Text) → lacks mark text ≡ true → Lacks mark text
+lacking mark [] h = All-nil (λ c. (c == mark) ≡ false)
+lacking mark (c ∷ cs) h = All-cons (λ d. (d == mark) ≡ false) c cs (first (c == mark) h) (lacking mark cs (rest_lacks mark c cs h))
+  where
+    first : (b : Bool) → not (b || char_set_contains cs mark) ≡ true → b ≡ false
+    first true e = absurd (true≢false (sym e))
+    first false e = refl
 
-pub last_field : (text : Text) → Lacks tab text → pieces_at tab text ≡ text ∷ []
-last_field text h = slice_split_none (λ c. c == tab) text h
+-- the first field, and the fields of what follows its TAB
+pub fields_cut : (text field : Text) (rest : Option Text) → field ≡ before (tab ∷ []) text → rest ≡ after tab text → pieces_at tab text ≡ field ∷ fields_of rest
+fields_cut text field rest e f = by rest f
+  where
+    lacks_tab : Lacks tab field
+    lacks_tab = lacking tab field (ap (lacks tab) e ∙ lacks-before (tab ∷ []) tab text refl)
 
--- a name without the delimiter, and what follows the delimiter
-no_mark : (mark : ℕ) (text : Text) → Lacks mark text → char_set_contains text mark ≡ false
-no_mark mark [] h = refl
-no_mark mark (c ∷ cs) h = rw (h 0 0 (omega arith), no_mark mark cs (λ k d lt. h (suc k) d (omega arith))) refl
+    whole : (r : Option Text) → r ≡ after tab text → text ≡ field ++ then_part (tab ∷ []) r
+    whole r g = sym (cut tab text) ∙ (λ i. sym e i ++ then_part (tab ∷ []) (sym g i))
 
-pub name_before : (mark : ℕ) (text name value : Text) → Lacks mark name → text ≡ name ++ mark ∷ value → before (mark ∷ []) text ≡ name
-name_before mark text name value h e = ap (before (mark ∷ [])) e ∙ before-part mark name (Some value) (ap not (no_mark mark name h))
-
-pub value_after : (mark : ℕ) (text name value : Text) → Lacks mark name → text ≡ name ++ mark ∷ value → after mark text ≡ Some value
-value_after mark text name value h e = ap (after mark) e ∙ after-part mark name (Some value) (ap not (no_mark mark name h))
-
-pub name_alone : (mark : ℕ) (text : Text) → Lacks mark text → before (mark ∷ []) text ≡ text
-name_alone mark text h = before-lacking mark text (ap not (no_mark mark text h))
-
-pub no_value : (mark : ℕ) (text : Text) → Lacks mark text → after mark text ≡ None
-no_value mark text h = ap after_first_char (from_first-lacking mark text (ap not (no_mark mark text h)))
+    by : (r : Option Text) → r ≡ after tab text → pieces_at tab text ≡ field ∷ fields_of r
+    by None g = ap (pieces_at tab) (whole None g ∙ append-nil field) ∙ slice_split_none (λ c. c == tab) field lacks_tab
+    by (Some r) g = ap (pieces_at tab) (whole (Some r) g) ∙ slice_split_at (λ c. c == tab) field tab r lacks_tab refl
 
 not_empty : {A : Type 0} (xs : List A) → 0 < length xs → is_empty xs ≡ false
 not_empty [] h = absurd (omega arith)

@@ -1,18 +1,18 @@
 //! The edits that the fields of a line name, each a name, or a name, `=` and a value.
-ghost use Rattle.std.specs.Prelude.{◌≡◌, ◌∷◌, [], Some, true, option_map};
+ghost use Rattle.std.specs.Prelude.{◌≡◌, Some, true, option_map};
 ghost use Rattle.std.specs.Option.{option_copied};
-ghost use Rattle.iref_grammar.specs.{after, before, iri_chars, Tests.{none_or}};
+ghost use Rattle.iref_grammar.specs.{iri_chars, Tests.{none_or}};
 ghost use Rattle.iref.specs.Components.{text_of};
-ghost use Rattle.iref_lines.specs.Lines.{edit_names, equals_sign, is_valid_edit};
+ghost use Rattle.iref_lines.specs.Lines.{edit_names, is_valid_edit};
 ghost use Rattle.iref.specs.EditSteps.{edit_step};
 ghost use Rattle.iref_batch.specs.EditFields.{IsRead, edit_named, path_edit_names};
 ghost use Rattle.iref_lines.specs.Lines as spec;
 
-use super::cut::cut_at;
 use super::request::is_name;
 use iref::chars::CharSet;
 use iref::iri::Edit;
 use iref::rules::{Rule, View};
+use iref_parse::cut::cut_bytes;
 use std::alloc::AllocFailed;
 use std::str;
 
@@ -77,17 +77,6 @@ fn bare<'a>(edit: Edit<'a>, value: Option<&[u8]>) -> Result<Edit<'a>, FieldError
     }
 }
 
-/// The name that begins a field, and its value, if there is a `=`.
-pub fn name_and_value(field: &[u8]) -> (&[u8], Option<&[u8]>)
-    ensures name { result.0.now ≡ before (equals_sign ∷ []) field.now }
-    ensures value { option_copied result.1 ≡ after equals_sign field.now }
-{
-    match cut_at(b'=', field) {
-        Some((name, value)) => (name, Some(value)),
-        None => (field, None),
-    }
-}
-
 // The edit of a path.
 fn path_edit<'a>(name: &[u8], value: Option<&'a [u8]>) -> Result<Edit<'a>, FieldError>
     ensures { IsRead edit_step (is_valid_edit iri_chars)
@@ -144,6 +133,6 @@ fn edit_of<'a>(name: &[u8], value: Option<&'a [u8]>) -> Result<Edit<'a>, FieldEr
 pub fn read_edit(field: &[u8]) -> Result<Edit<'_>, FieldError>
     ensures { IsRead edit_step (is_valid_edit iri_chars) (spec.read_edit field.now) result }
 {
-    let (name, value) = name_and_value(field);
+    let (name, value) = cut_bytes(field, b'=');
     edit_of(name, value)
 }

@@ -6,7 +6,6 @@ ghost use Rattle.iref_grammar.specs.Rules.{Text};
 ghost use Rattle.iref_batch.specs.Runs.{AnswersBegun, EndsWell, EndsEarly};
 
 mod answers;
-mod cut;
 mod edit_fields;
 mod lines;
 mod request;

@@ -3,13 +3,13 @@ ghost use Rattle.std.specs.Prelude.{◌≡◌, ◌++◌, ◌∷◌, [], true, fa
 ghost use Rattle.iref_grammar.specs.{Text, is_empty};
 ghost use Rattle.iref_lines.specs.Lines.{newline};
 ghost use Rattle.iref_batch.specs.Runs.{memory_refused, with_newline, AnswersAll};
-ghost use Rattle.iref_batch.specs.Gathering.{Lacks, Writes, WritesPart, Replies, RepliesPart};
+ghost use Rattle.iref_batch.specs.Gathering.{Cuts, Lacks, Writes, WritesPart, Replies, RepliesPart};
 ghost use Rattle.iref_batch.specs.Gathering.{IsNothing, Holds, InRun, SeesMore, SeesSameLines};
 ghost use Rattle.iref_batch.specs.Gathering.{BreaksOff};
 
 use super::answers::answer_line;
-use super::cut::cut_at;
 use super::streams::{Sink, StreamError};
+use memchr::memchr;
 use std::alloc::Global;
 
 /// How many bytes of replies are gathered before they are written.
@@ -25,6 +25,15 @@ fn empty(bytes: &mut Vec<u8>)
 {
     bytes.clear();
     bytes.shrink_to(KEPT);
+}
+
+/// What stands before the first delimiter in the text, and what stands after it.
+#[inline(always)]
+fn cut_at(mark: u8, text: &[u8]) -> Option<(&[u8], &[u8])>
+    ensures { Cuts mark text.now result }
+{
+    let at = memchr(mark, text)?;
+    Some((&text[..at], &text[at + 1..]))
 }
 
 /// Writes all of the bytes, or a beginning of them before a failed write.

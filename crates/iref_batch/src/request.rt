@@ -8,7 +8,7 @@ ghost use Rattle.iref_lines.specs.Lines.{text_and_edits, text_and_entries};
 ghost use Rattle.iref_mapping.specs.PrefixTable.{PrefixEntry};
 ghost use Rattle.iref_batch.specs.{Fields.{fields_of}, Requests.{request_of}};
 
-use super::cut::{cut_at, cut_near};
+use iref_parse::cut::cut_bytes;
 
 /// What a line asks of a prefix table.
 #[derive(Clone, Copy)]
@@ -42,13 +42,11 @@ pub enum Request<'a> {
 }
 
 /// The first field, and the text of the others, if there are any.
+#[inline(always)]
 fn first_field(text: &[u8]) -> (&[u8], Option<&[u8]>)
     ensures { pieces_at tab text.now ≡ result.0.now ∷ fields_of (option_copied result.1) }
 {
-    match cut_at(b'\t', text) {
-        Some((field, rest)) => (field, Some(rest)),
-        None => (text, None),
-    }
+    cut_bytes(text, b'\t')
 }
 
 /// Takes the first of the fields, if there is one.
@@ -104,22 +102,12 @@ pub fn is_name(name: &[u8], field: &[u8]) -> bool
     name == field
 }
 
-/// The verb, and the text of the fields, if there are any.
-fn verb_and_fields(line: &[u8]) -> (&[u8], Option<&[u8]>)
-    ensures { pieces_at tab line.now ≡ result.0.now ∷ fields_of (option_copied result.1) }
-{
-    match cut_near(b'\t', line) {
-        Some((verb, rest)) => (verb, Some(rest)),
-        None => (line, None),
-    }
-}
-
 /// What a line asks for, if its verb is one of the program's and its fields are as many as that
 /// takes. The fields of edits and of prefix tables are not looked at yet.
 pub fn read_request(line: &[u8]) -> Option<Request<'_>>
     ensures { read_line all_verbs line.now ≡ option_and_then request_of result }
 {
-    let (verb, fields) = verb_and_fields(line);
+    let (verb, fields) = first_field(line);
     if is_name(b"parts", verb) {
         one_field(fields).map(Request::Parts)
     } else if is_name(b"resolve", verb) {

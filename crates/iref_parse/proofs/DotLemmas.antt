@@ -8,7 +8,7 @@ use Rattle.iref_parse.specs.Lanes.{HasLanes}
 use Rattle.iref_parse.specs.Dots.{HasDot, is_slash_dot}
 use Rattle.iref_parse.proofs.SeenLemmas.{Seen, Unmarked, unmarked_from_clear, clear_from_unmarked}
 
--- the mark at place k
+-- the delimiter at place k
 abbrev pub dots_at : List ℕ → ℕ → ℕ
 dots_at path k = cond (is_slash_dot path k) 255 0
 

@@ -1,11 +1,11 @@
-//! A text cut at the first of a mark.
+//! A text cut at the first of a delimiter.
 
 ghost use Rattle.std.specs.{Prelude.{◌≡◌, ◌<◌, [], ◌∷◌}, Option.{option_copied}};
 ghost use Rattle.iref_grammar.specs.Texts.{before, from_first, after};
 
 use crate::position::position_of;
 
-/// What stands before the first of the mark, or all of the text, and what follows it.
+/// What stands before the first of the delimiter, or all of the text, and what follows it.
 #[inline(always)]
 pub fn cut(text: &str, mark: char) -> (&str, Option<&str>)
     requires { mark < 128 }
@@ -33,7 +33,8 @@ pub fn cut_bytes(text: &[u8], mark: u8) -> (&[u8], Option<&[u8]>)
     }
 }
 
-/// What stands before the first of the mark, or all of the text, and the text from the mark on.
+/// What stands before the first of the delimiter, or all of the text, and the text from the
+/// delimiter on.
 #[inline(always)]
 pub fn split_before(text: &str, mark: char) -> (&str, &str)
     requires { mark < 128 }

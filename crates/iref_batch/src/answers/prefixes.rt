@@ -12,11 +12,12 @@ ghost use Rattle.iref_batch.specs.{PrefixFields.{TakesNot}, Requests.{asked_of},
 ghost use Rattle.iref_lines.specs.Lines as spec;
 
 use super::{put_answered, put_refused, put_text};
-use crate::edit_fields::{FieldError, name_and_value};
+use crate::edit_fields::FieldError;
 use crate::request::{TableVerb, next_field};
 use iref::Memory;
 use iref::compact::{Compact, ExpandFault, PrefixFault, Prefixes};
 use iref::iri::Iri;
+use iref_parse::cut::cut_bytes;
 use std::alloc::Global;
 use std::str;
 
@@ -26,7 +27,7 @@ fn insert_field(table: &mut Prefixes, field: &[u8]) -> Result<(), FieldError>
     ensures err { IfErr result (TakesNot (read_entry field.now) table.old) }
     ensures unchanged { OnErr result (table.new ≡ table.old) }
 {
-    let (label, iri) = name_and_value(field);
+    let (label, iri) = cut_bytes(field, b'=');
     let Some(iri) = iri else {
         return Err(FieldError::Command);
     };

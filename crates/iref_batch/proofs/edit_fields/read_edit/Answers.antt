@@ -11,5 +11,5 @@ use Rattle.iref_batch.proofs.edit_fields.read_edit.Goals as goal
 pub returns : goal.returns
 returns c =
     subst (λ (o : Option EditStep). IsRead edit_step (is_valid_edit iri_chars) o c.edit_of.result)
-    (read_is_named c.args.field.now c.name_and_value.result.0.now (option_copied c.name_and_value.result.1) c.name_and_value.ensures.name c.name_and_value.ensures.value)
+    (read_is_named c.args.field.now c.cut_bytes.result.0.now (option_copied c.cut_bytes.result.1) c.cut_bytes.ensures.before c.cut_bytes.ensures.after)
     c.edit_of.ensures

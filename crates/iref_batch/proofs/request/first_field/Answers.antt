@@ -1,8 +1,7 @@
-use Rattle.iref_batch.proofs.FieldLemmas.{field_and_rest, last_field}
+use Rattle.std.specs.Option.{option_copied}
+use Rattle.iref_batch.proofs.FieldLemmas.{fields_cut}
 use Rattle.iref_batch.proofs.request.first_field.Goals as goal
 
-pub returns-in-Some : goal.returns-in-Some
-returns-in-Some c = field_and_rest c.args.text.now c.in-Some.field.now c.in-Some.rest.now c.in-Some.ensures.0 c.in-Some.ensures.1
-
-pub returns-in-None : goal.returns-in-None
-returns-in-None c = last_field c.args.text.now c.in-None.ensures
+pub returns : goal.returns
+returns c =
+    fields_cut c.args.text.now c.cut_bytes.result.0.now (option_copied c.cut_bytes.result.1) c.cut_bytes.ensures.before c.cut_bytes.ensures.after
