@@ -14,7 +14,7 @@ use iref_reference::view::{Reference, Uri, UriRef};
 use iref_url::{ParseError, ToUrl, Url};
 use std::alloc::Global;
 
-// The text of an owner.
+// The text of the copy.
 fn owned<R: HeldRule, C: CharSet>(made: Result<ReferenceBuf<R, C>, Memory>) -> Value {
     match made {
         Ok(reference) => Ok(Some(reference.into_string())),
@@ -47,7 +47,7 @@ pub fn url(url: Result<Url, ParseError>) -> Value {
     }
 }
 
-// What references and URIs are changed to in a copy.
+// The copies of references and of URIs with a component changed.
 fn copied<R: HeldRule, C: CharSet>(
     alloc: Global,
     reference: Reference<'_, R, C>,
@@ -64,7 +64,7 @@ fn copied<R: HeldRule, C: CharSet>(
     }
 }
 
-// What references and URIs are against a base.
+// The copies of references and of URIs that depend on a base.
 fn resolved<R: HeldRule, C: CharSet>(
     alloc: Global,
     reference: Reference<'_, R, C>,
@@ -80,12 +80,12 @@ fn resolved<R: HeldRule, C: CharSet>(
     }
 }
 
-/// What a call on a reference makes.
+/// The text that a call on a reference makes.
 pub fn of_reference<C: CharSet>(alloc: Global, row: &Row<'_>) -> Value {
     copied(alloc, read(UriRef::<'_, C>::new(row.text))?, row)
 }
 
-/// What a call on a URI makes.
+/// The text that a call on a URI makes.
 pub fn of_uri<C: CharSet>(alloc: Global, row: &Row<'_>) -> Value {
     let uri = read(Uri::<'_, C>::new(row.text))?;
     match row.call {

@@ -7,7 +7,7 @@ use iref::{Iri, IriBuf, IriRef, IriRefBuf, Memory, UriBuf, UriRefBuf};
 use std::alloc::Global;
 use std::io;
 
-// What was mapped, or the value beside it.
+// The mapped value, or the error beside the value that was to be mapped.
 fn beside<A: Drop, B>(owner: A, mapped: Result<B, Memory>) -> Result<B, (A, Fault)> {
     match mapped {
         Ok(mapped) => Ok(mapped),
@@ -15,7 +15,7 @@ fn beside<A: Drop, B>(owner: A, mapped: Result<B, Memory>) -> Result<B, (A, Faul
     }
 }
 
-/// A reference of IRIs, or the one of URIs that it is mapped to.
+/// An IRI reference, or the URI reference that it is mapped to.
 #[derive(Drop)]
 pub struct MappedRef {
     alloc: Global,

@@ -1,4 +1,4 @@
-//! Calls that take an owner, and hand it back where they are refused.
+//! Calls that take an owned value, and return it with their error.
 use crate::answer::{Answer, Fault, Outcome, fault_of, read};
 use crate::hands_back::HandsBack;
 use crate::row::Row;
@@ -69,7 +69,7 @@ impl<C: CharSet> Subject for Resolving<C> {
     }
 }
 
-/// A scheme, or the URI that is made of it alone. Where memory is refused the scheme is gone.
+/// A scheme, or the URI that is made of it alone. Out of memory, the scheme is gone.
 #[derive(Drop)]
 pub struct OfScheme<C: CharSet> {
     alloc: Global,

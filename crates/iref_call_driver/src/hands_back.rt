@@ -1,10 +1,10 @@
-//! Errors that hold the text that they refuse.
+//! Errors that hold the invalid text.
 use iref::uri::{
     InvalidAuthority, InvalidFragment, InvalidHost, InvalidPath, InvalidPort, InvalidQuery,
     InvalidScheme, InvalidSegment, InvalidUri, InvalidUriRef, InvalidUserInfo,
 };
 
-/// An error that holds the text that it refuses.
+/// An error that holds the invalid text.
 pub trait HandsBack: Drop {
     /// The text.
     fn text(&self) -> &str;

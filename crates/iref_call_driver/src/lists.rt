@@ -11,7 +11,7 @@ use std::alloc::Global;
 use std::io;
 use std::marker::PhantomData;
 
-/// An owner that lists of edits are made on.
+/// An owned reference that lists of edits are made on.
 pub trait Edited<C: CharSet>: Sized {
     /// Makes the edits.
     fn apply_all(&mut self, edits: &[Edit<'_, C>]) -> Applied;
@@ -29,7 +29,7 @@ impl<C: CharSet> Edited<C> for UriBuf<C> {
     }
 }
 
-/// An owner, and how many of the edits are made.
+/// An owned reference, and how many of the edits are made.
 #[derive(Drop)]
 pub struct Listed<T: Edited<C>, C: CharSet> {
     owner: T,

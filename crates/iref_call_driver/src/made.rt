@@ -17,10 +17,10 @@ use std::alloc::Global;
 use std::io;
 use std::marker::PhantomData;
 
-/// What a call makes: the text of a value, or none where the call answers none.
+/// The text of the value that a call makes, or None where the call returns None.
 pub type Value = Result<Option<String>, Fault>;
 
-/// What a call makes of the view of a text.
+/// The value that a call makes of a borrowed text.
 #[derive(Drop)]
 pub struct Made<C: CharSet> {
     alloc: Global,
@@ -28,7 +28,7 @@ pub struct Made<C: CharSet> {
     chars: PhantomData<C>,
 }
 
-/// The text of an owner.
+/// The text of an owned value.
 pub fn owned<R: Rule, C: CharSet>(made: Result<TextBuf<R, C>, Memory>) -> Value {
     match made {
         Ok(value) => Ok(Some(value.into_string())),
@@ -36,7 +36,7 @@ pub fn owned<R: Rule, C: CharSet>(made: Result<TextBuf<R, C>, Memory>) -> Value 
     }
 }
 
-// The text of an owner, if there is one.
+// The text of an owned value, if there is one.
 fn owned_if_some<R: Rule, C: CharSet>(made: Result<Option<TextBuf<R, C>>, Memory>) -> Value {
     match made {
         Ok(Some(value)) => Ok(Some(value.into_string())),

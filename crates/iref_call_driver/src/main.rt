@@ -1,6 +1,6 @@
-//! Makes the public call that each line names, and writes what it answers: once, and again where
-//! memory was refused. A line is the family, what the call is made on, the call, the text, what
-//! stands where memory is refused, and perhaps an argument, with TABs between.
+//! Makes the public call that each line names, and writes its answer: once, and again where it was
+//! out of memory. A line is the family, the value that the call is made on, the call, the text of
+//! the value, the text out of memory, and perhaps an argument, with TABs between.
 #![tactic(auto)]
 
 mod answer;

@@ -7,7 +7,7 @@ use iref::compact::Prefixes;
 use std::alloc::Global;
 use std::io;
 
-/// A table, the label and the IRI of the row's argument, and what a call makes by them.
+/// A table, the label and the IRI of the row's argument, and the text that a call makes.
 #[derive(Drop)]
 pub struct Table {
     alloc: Global,
@@ -17,7 +17,7 @@ pub struct Table {
     text: Option<String>,
 }
 
-// What is before the `=`, and after it.
+// The text before the `=`, and the text after it.
 fn entry_of(entry: &str) -> (&str, &str) {
     entry.split_once('=').unwrap_or(("", entry))
 }
@@ -58,13 +58,13 @@ impl Table {
         Some(self.table.get(self.label.as_str())?.as_str())
     }
 
-    // The label that the IRI is made short by.
+    // The label of the prefix that shortens the IRI.
     fn short(&self) -> Option<&str> {
         let iri = Iri::new(self.iri.as_str()).ok()?;
         Some(self.table.compact(iri)?.label)
     }
 
-    // The IRI made short, as a text.
+    // The shortened IRI, as a text.
     fn short_text(&self) -> Result<Option<String>, Fault> {
         let iri = read(Iri::new(self.iri.as_str()))?;
         match self.table.compact(iri) {

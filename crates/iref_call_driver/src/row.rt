@@ -1,23 +1,23 @@
 //! The fields of a line.
 use std::alloc::{AllocError, Global};
 
-/// A call, and what it is made on.
+/// A call, and the value that it is made on.
 #[derive(Drop)]
 pub struct Row<'t> {
-    /// What the call is made on.
+    /// The value that the call is made on.
     pub on: &'t str,
     /// The call.
     pub call: &'t str,
-    /// The text of what the call is made on, with marks `<` and `>` round a part that is edited.
+    /// The text of that value, with marks `<` and `>` round a part that is edited.
     pub text: &'t str,
-    /// What stands where memory is refused: `=` if that is the text as it was, `-` if the call takes
-    /// no memory, and else the text, perhaps a space, and what stands after the call made again.
+    /// The text out of memory: `=` if it is unchanged, `-` if the call takes no memory, and else the
+    /// text, and perhaps a space and the text after the call is made again.
     left: &'t str,
     /// The argument, if there is one.
     pub arg: Option<&'t str>,
 }
 
-// What is before the first TAB, and after it.
+// The text before the first TAB, and the text after it.
 fn cut(text: &str) -> (&str, &str) {
     text.split_once('\t').unwrap_or((text, ""))
 }
@@ -68,7 +68,7 @@ impl<'t> Row<'t> {
         }
     }
 
-    // How much room the buffer has: for exactly what is to stand where memory is refused.
+    // How much room the buffer has: for exactly the text out of memory.
     fn room(&self) -> usize {
         match self.left.split_once(' ') {
             Some((stands, _)) => unmarked_len(stands),

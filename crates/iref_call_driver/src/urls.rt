@@ -38,7 +38,7 @@ impl<C: CharSet> Subject for UrlOf<C> {
     }
 }
 
-/// A URL, and the owner of its text.
+/// A URL, and the owned reference of its text.
 #[derive(Drop)]
 pub struct FromUrl<T> {
     url: Option<Url>,
