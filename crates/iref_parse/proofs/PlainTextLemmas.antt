@@ -187,6 +187,15 @@ module _ (set : CharTests) (above : AreAboveAscii set) where
           let byte = byte_of b ((and_parts _ _ k).0) in
           sym (agree_below_at (λ c. is_plain_byte c && not (char_set_contains (hash_sign ∷ []) c)) is_plain_of_queries 256 b refl byte) ∙ k
 
+  pub plain_path_alone : (text : Text) → list_all is_plain_byte text ≡ true → position_or_len (char_set_contains (question_mark ∷ hash_sign ∷ [])) text ≡ length text → is_path set text ≡ true
+  plain_path_alone text h e =
+      plain_path text (weaken _ _ no_mark text (unmarked is_plain_byte (char_set_contains (question_mark ∷ hash_sign ∷ [])) text h e))
+    where
+      no_mark : (b : ℕ) → (is_plain_byte b && not (char_set_contains (question_mark ∷ hash_sign ∷ []) b)) ≡ true → is_plain_of_paths b ≡ true
+      no_mark b k =
+          let byte = byte_of b ((and_parts _ _ k).0) in
+          sym (agree_below_at (λ c. is_plain_byte c && not (char_set_contains (question_mark ∷ hash_sign ∷ []) c)) is_plain_of_paths 256 b refl byte) ∙ k
+
   -- a registered name up to one of the two delimiters, and a port, if any
   pub plain_authority : (text host end : Text) → list_all is_plain_of_authorities text ≡ true → host ≡ before (colon ∷ at_sign ∷ []) text → end ≡ from_first (colon ∷ at_sign ∷ []) text
       → is_port_part end ≡ true → is_authority set text ≡ true

@@ -18,7 +18,7 @@ fn slash_dots(path: &[u8], at: usize) -> u8x16
     )
 }
 
-// The same of a path of few bytes, which are read one by one.
+// Whether a segment of the path begins with a dot. The bytes are read one by one.
 fn has_few_dots(path: &[u8]) -> bool
     ensures { MatchBool result (HasDot path.now) (¬ HasDot path.now) }
 {

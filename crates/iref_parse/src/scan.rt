@@ -1,13 +1,15 @@
 //! Whether a text is in a rule of single characters and escapes.
 
 ghost use Rattle.std.specs.Prelude.{◌≡◌, ◌==◌, ◌&&◌, ◌||◌, ℕ, ◌+◌, ◌<◌, Bool, ◌∷◌, ◌≤◌, chars};
-ghost use Rattle.std.specs.{Prelude.{length, slice_index, IfSome, MatchOption}, List.{list_all}};
+ghost use Rattle.std.specs.{Prelude.{length, slice_index, true, IfSome, MatchOption}, List.{list_all}};
 ghost use Rattle.std.specs.Char.{is_ascii, is_ascii_digit};
 ghost use Rattle.iref_grammar.specs.Grammar as grammar;
 ghost use Rattle.iref_grammar.specs.Tests as test;
 ghost use Rattle.iref_grammar.specs.{slash, is_not_percent, ScansTo};
 
 use crate::ascii::first_rule;
+use crate::plain::is_plain;
+use crate::position::position_of_either;
 use iref_grammar::chars::CharSet;
 use std::marker::PhantomData;
 
@@ -302,12 +304,31 @@ pub fn is_segment<C: CharSet>(text: &str) -> bool
     is_encoded::<SegmentChars<C>>(text)
 }
 
+// Whether the text has 16 bytes at least, and each byte stands for itself in a path.
+#[inline(always)]
+fn is_plain_path<C: CharSet>(text: &str) -> bool
+    ensures { result ≡ true → test.is_path C.tests text.now ≡ true }
+{
+    let bytes = text.as_bytes();
+    if bytes.len() < 16 || !is_plain(bytes) {
+        return false;
+    }
+    position_of_either(bytes, b'?', b'#') == bytes.len()
+}
+
 #[tactic(auto, using(crate::proofs::ScanLemmas::utf8), unfolding(iref_grammar::specs::Tests::is_path))]
+// The same of any path, which is scanned.
+fn is_scanned_path<C: CharSet>(text: &str) -> bool
+    ensures { result ≡ test.is_path C.tests text.now }
+{
+    is_encoded::<PathChars<C>>(text)
+}
+
 /// Whether the text is a path: any text of the characters of segments and `/`.
 pub fn is_path<C: CharSet>(text: &str) -> bool
     ensures { result ≡ test.is_path C.tests text.now }
 {
-    is_encoded::<PathChars<C>>(text)
+    is_plain_path::<C>(text) || is_scanned_path::<C>(text)
 }
 
 #[tactic(auto, using(crate::proofs::ScanLemmas::utf8), unfolding(iref_grammar::specs::Tests::is_query))]

@@ -13,8 +13,8 @@ use Rattle.iref_grammar.specs.Grammar.{slash}
 use Rattle.iref_grammar.specs.Texts.{is_empty, pieces_at}
 use Rattle.iref_grammar.specs.PathValue.{PathValue, is_one_empty, spell_path}
 use Rattle.iref_grammar.proofs.TextLemmas.{join-pieces_at}
-use Rattle.iref_model.specs.NormalList.{is_dot, is_dot_dot, is_name, counted, ends_in_dots, normal_segments, without_lone_empty}
-use Rattle.iref_model.specs.NormalReading.{open_before, staying_before, leading_parents, closing, items}
+use Rattle.iref_model.specs.NormalList.{is_name, counted, ends_in_dots, normal_segments, without_lone_empty}
+use Rattle.iref_model.specs.NormalReading.{open_before, staying_before, leading_parents, closing}
 use Rattle.iref_model.specs.PathSteps.{normalized}
 use Rattle.iref_model.proofs.ItemLemmas.{name_no_parent, normal_segments-is}
 use Rattle.iref_parse.specs.Dots.{begins_with_dot, has_dot_segment, is_some_dotted}
