@@ -9,7 +9,7 @@ ghost use Rattle.iref_reference.specs.References.{reference_buf_text};
 ghost use Rattle.std.specs.Prelude.{◌≡◌, ◌≤◌, ◌++◌, drop, IfOk, length, OnErr, OnOk, true};
 
 use crate::owner::ReferenceBuf;
-use crate::rule::{UriRule, ReferenceRule};
+use crate::rule::{ReferenceRule, UriRule};
 use iref_buffer::held::{Held, HeldRule};
 use iref_buffer::measured::{MeasuredReference, count_paths};
 use iref_error::Memory;

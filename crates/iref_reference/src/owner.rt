@@ -13,7 +13,7 @@ ghost use Rattle.iref_reference.specs.Parts.{uri_ref_part_texts, uri_ref_parts_v
 ghost use Rattle.iref_reference.specs.Parts.{parts_value};
 
 use crate::parts::{Parts, UriRefParts};
-use crate::rule::{UriRule, HasScheme, ReferenceRule};
+use crate::rule::{HasScheme, ReferenceRule, UriRule};
 use crate::view::{Reference, UriRef};
 use iref_buffer::held::{Held, HeldRule};
 use iref_component::authority::Authority;

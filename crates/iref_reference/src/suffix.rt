@@ -21,7 +21,10 @@ use std::alloc::Global;
 pub type Suffix<'a, C> = (PathBuf<C>, Option<Query<'a, C>>, Option<Fragment<'a, C>>);
 
 // Whether the schemes are equal, and the authorities.
-fn share_scheme_and_authority<C: CharSet>(prefix: &UriRefParts<'_, C>, parts: &UriRefParts<'_, C>) -> bool
+fn share_scheme_and_authority<C: CharSet>(
+    prefix: &UriRefParts<'_, C>,
+    parts: &UriRefParts<'_, C>,
+) -> bool
     ensures { result
         ≡ have_same_scheme (uri_ref_parts_value prefix.now) (uri_ref_parts_value parts.now)
         && have_same_authority (uri_ref_parts_value prefix.now) (uri_ref_parts_value parts.now) }

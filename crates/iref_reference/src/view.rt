@@ -12,7 +12,7 @@ ghost use Rattle.iref_reference.specs.References.{reference_buf_text, BecomesUri
 
 use crate::owner::ReferenceBuf;
 use crate::parts::{Parts, UriRefParts};
-use crate::rule::{UriRule, HasScheme, ReferenceRule};
+use crate::rule::{HasScheme, ReferenceRule, UriRule};
 use iref_buffer::base::base_text;
 use iref_buffer::held::HeldRule;
 use iref_component::authority::Authority;

@@ -9,7 +9,7 @@ use iref_buffer::held::HeldRule;
 use iref_component::texts::Scheme;
 use iref_grammar::chars::CharSet;
 use iref_reference::owner::{ReferenceBuf, UriBuf, UriRefBuf};
-use iref_reference::rule::{UriRule, ReferenceRule};
+use iref_reference::rule::{ReferenceRule, UriRule};
 
 /// A rule of references, with what an edit of the scheme does under it.
 pub trait SetsScheme: HeldRule {
