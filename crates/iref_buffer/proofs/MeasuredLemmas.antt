@@ -15,6 +15,7 @@ use Rattle.iref_grammar.specs.Characters.{AreAboveAscii, CharTests}
 use Rattle.iref_grammar.specs.Reference.{ReferenceValue, context_of, is_readable, is_reference, read_reference, spell}
 use Rattle.iref_grammar.specs.ComponentTexts.{ComponentTexts, read_components, spell_components}
 use Rattle.iref_grammar.proofs.PathLemmas.{read_path-reads}
+use Rattle.iref_grammar.proofs.ComponentLemmas.{authority_spelled}
 use Rattle.iref_model.specs.ComponentSteps.{guarded_reference}
 use Rattle.iref_model.specs.NormalList.{normal}
 use Rattle.iref_model.specs.PathSteps.{normalized}

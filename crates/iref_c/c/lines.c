@@ -162,7 +162,7 @@ static void check_written(const struct verb *verb, const struct text *texts) {
     size_t needed = 12345, again = 0;
     uint32_t status = check_length(verb, texts, USUAL, &needed);
     if (status == IREF_SHORT) {
-        expect(needed > USUAL, "a text that fits is told too long", texts[0]);
+        expect(needed > USUAL, "a text that fits is called too long", texts[0]);
         status = check_length(verb, texts, needed, &again);
     }
     if (status != IREF_OK) {
@@ -171,7 +171,7 @@ static void check_written(const struct verb *verb, const struct text *texts) {
     }
     for (size_t less = 0; less <= 2 && less <= needed; less++) {
         status = check_length(verb, texts, needed - less, &again);
-        expect(status == (less ? IREF_SHORT : IREF_OK) && again == needed, "a length is told wrongly", texts[0]);
+        expect(status == (less ? IREF_SHORT : IREF_OK) && again == needed, "a length is wrong", texts[0]);
     }
     expect(check_length(verb, texts, needed + 1, &again) == IREF_OK, "a byte too many is refused", texts[0]);
     expect(check_length(verb, texts, 0, &again) == (needed ? IREF_SHORT : IREF_OK), "an empty buffer", texts[0]);
@@ -326,7 +326,7 @@ static void check_bytes(void) {
 
 #define MOST_FIELDS 64
 
-/* The fields of a line, or so many of them as there is room for. */
+/* The fields of a line, or as many of them as there is room for. */
 static size_t fields_of(const char *line, size_t length, struct text *fields) {
     size_t count = 0;
     const char *end = line + length;

@@ -1,4 +1,4 @@
-//! IRIs that are mapped to URIs.
+//! IRIs that are mapped to URIs, and references that are converted between the families.
 use crate::answer::{Answer, Fault, read};
 use crate::row::Row;
 use crate::step::{Step, at_memory};
@@ -66,5 +66,49 @@ impl Subject for MappedIri {
 
     fn put(&self, rt: &HostRuntime, _row: &Row<'_>) -> io::Result<()> {
         self.step.put(rt)
+    }
+}
+
+/// A reference of IRIs that is converted by move to each owned type of both families, and back.
+#[derive(Drop)]
+pub struct Converted(Step<IriRefBuf, IriRefBuf>);
+
+// Through each conversion.
+fn there_and_back(reference: IriRefBuf) -> Result<IriRefBuf, Fault> {
+    let uri = read(reference.try_into_uri())?;
+    let uri = read(uri.into_uri_ref().try_into_uri())?;
+    let iri = read(uri.into_uri_ref().try_into_iri())?;
+    let reference = read(iri.try_into_uri_ref())?.into_iri_ref();
+    let uri = read(read(reference.try_into_uri_ref())?.try_into_uri())?;
+    let uri = read(uri.into_iri().try_into_uri())?;
+    let iri = read(uri.into_iri_ref().try_into_iri())?;
+    Ok(iri.into_iri_ref())
+}
+
+// The reference, returned by each conversion that refuses it.
+fn refused(reference: IriRefBuf) -> Result<IriRefBuf, Fault> {
+    let reference = reference.try_into_uri_ref().err().ok_or(Fault::NoCall)?.0;
+    let reference = reference.try_into_uri().err().ok_or(Fault::NoCall)?.0;
+    let reference = reference.try_into_iri().err().ok_or(Fault::NoCall)?.0;
+    Ok(reference)
+}
+
+impl Subject for Converted {
+    fn prepared(alloc: Global, row: &Row<'_>) -> Result<Self, Fault> {
+        let reference = read(IriRefBuf::new(row.owned(alloc)?))?;
+        Ok(Converted(Step::before(reference)))
+    }
+
+    fn call(&mut self, row: &Row<'_>) -> Answer {
+        let owner = self.0.take()?;
+        let converted = match row.call {
+            "into" => there_and_back(owner)?,
+            _ => refused(owner)?,
+        };
+        self.0.settle(Ok(converted))
+    }
+
+    fn put(&self, rt: &HostRuntime, _row: &Row<'_>) -> io::Result<()> {
+        self.0.put(rt)
     }
 }

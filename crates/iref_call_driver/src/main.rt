@@ -5,6 +5,7 @@
 
 mod answer;
 mod authorities;
+mod borrowed;
 mod bytes;
 mod copies;
 mod edited;
@@ -23,9 +24,10 @@ mod texts;
 mod urls;
 
 use authorities::OfAuthority;
+use borrowed::Borrowed;
 use bytes::Bytes;
 use edited::{Direct, Edited};
-use families::{MappedIri, MappedRef};
+use families::{Converted, MappedIri, MappedRef};
 use handed_back::{OfScheme, Resolving};
 use iref::chars::{CharSet, IriChars, UriChars};
 use iref_component::authority::AuthorityBuf;
@@ -70,6 +72,7 @@ fn answer_of<C: CharSet>(rt: &HostRuntime, row: &Row<'_>) -> io::Result<()> {
         "UriBuf URL" => answer::<UrlOf<C>>(rt, row),
         "URL UriBuf" => answer::<FromUrl<UriBuf<C>>>(rt, row),
         "URL UriRefBuf" => answer::<FromUrl<UriRefBuf<C>>>(rt, row),
+        "borrowed" => answer::<Borrowed<C>>(rt, row),
         _ => answer_of_part::<C>(rt, row),
     }
 }
@@ -80,6 +83,7 @@ fn answer_of_iri(rt: &HostRuntime, row: &Row<'_>) -> io::Result<()> {
         "IriRefBuf" => answer::<MappedRef>(rt, row),
         "IriBuf" => answer::<MappedIri>(rt, row),
         "Prefixes" => answer::<Table>(rt, row),
+        "conversions" => answer::<Converted>(rt, row),
         _ => answer_of::<IriChars>(rt, row),
     }
 }
