@@ -160,15 +160,6 @@ fn put_answer(line: &[u8], out: &mut Vec<u8>) -> Result<(), Memory>
     put_answer_to(request, out)
 }
 
-/// Puts the answer to the line, and a newline.
-fn put_answer_line(line: &[u8], out: &mut Vec<u8>) -> Result<(), Memory>
-    ensures { Puts (with_newline (line_reply line.now)) out.old.items out.new.items result }
-{
-    put_answer(line, out)?;
-    out.push(b'\n')?;
-    Ok(())
-}
-
 /// Puts the answer to the line, and a newline, after what `out` holds; or leaves it where memory is
 /// refused.
 pub fn answer_line(line: &[u8], out: &mut Vec<u8>) -> Result<(), Memory>
@@ -176,9 +167,9 @@ pub fn answer_line(line: &[u8], out: &mut Vec<u8>) -> Result<(), Memory>
     ensures err { OnErr result (out.new.items ≡ out.old.items) }
 {
     let start = out.len();
-    let Ok(()) = put_answer_line(line, out) else {
+    if put_answer(line, out).is_err() || out.push(b'\n').is_err() {
         out.truncate(start);
         return Err(Memory);
-    };
+    }
     Ok(())
 }
