@@ -42,12 +42,12 @@ HasSchemeOrRefused reference_text uri_text reference input result =
     (λ error. (input error ≡ reference) × ((read_reference (reference_text reference)).scheme ≡ None))
 
 -- the same of views
-abbrev pub BecomesUri : {R C K r k c S D L s l d : _} {E : Type 0} → (E → Reference R C K r k c) → Reference R C K r k c → Result (Reference S D L s l d) E → Type 0
-BecomesUri input reference result = HasSchemeOrRefused reference_text reference_text reference input result
+abbrev pub NarrowsToUri : {R C K r k c S D L s l d : _} {E : Type 0} → (E → Reference R C K r k c) → Reference R C K r k c → Result (Reference S D L s l d) E → Type 0
+NarrowsToUri input reference result = HasSchemeOrRefused reference_text reference_text reference input result
 
 -- and of owners
-abbrev pub OwnerBecomesUri : {R C K S D L : _} {E : Type 0} → (E → ReferenceBuf R C K) → ReferenceBuf R C K → Result (ReferenceBuf S D L) E → Type 0
-OwnerBecomesUri input reference result = HasSchemeOrRefused reference_buf_text reference_buf_text reference input result
+abbrev pub OwnerNarrowsToUri : {R C K S D L : _} {E : Type 0} → (E → ReferenceBuf R C K) → ReferenceBuf R C K → Result (ReferenceBuf S D L) E → Type 0
+OwnerNarrowsToUri input reference result = HasSchemeOrRefused reference_buf_text reference_buf_text reference input result
 
 -- an edit of an owner: at Ok it is this step of the text, and at an Err the text is as it was
 abbrev pub Edits : {R C K : _} {V E : Type 0} → (ReferenceValue → ReferenceValue) → ReferenceBuf R C K → ReferenceBuf R C K → Result V E → Type 0

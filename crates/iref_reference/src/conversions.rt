@@ -5,8 +5,8 @@ ghost use Rattle.iref_grammar.specs.{uri_chars, IsUri, IsUriReference, InUtf8};
 ghost use Rattle.iref_reference.specs.Conversions.{BecomesUri, OwnerBecomesUri, SomeIfIn};
 ghost use Rattle.iref_reference.specs.References.{reference_text, reference_value};
 ghost use Rattle.iref_reference.specs.References.{reference_buf_text, reference_buf_value};
-ghost use Rattle.iref_reference.specs.References.{BecomesUri};
-ghost use Rattle.iref_reference.specs.References.{OwnerBecomesUri, ParsesReferenceBuf};
+ghost use Rattle.iref_reference.specs.References.{NarrowsToUri};
+ghost use Rattle.iref_reference.specs.References.{OwnerNarrowsToUri, ParsesReferenceBuf};
 
 use crate::owner::{ReferenceBuf, UriBuf, UriRefBuf};
 use crate::view::{Reference, Uri, UriRef};
@@ -118,7 +118,7 @@ impl<'a, R: HeldRule> TryFrom<Reference<'a, R, IriChars>> for UriRef<'a, UriChar
 impl<'a> TryFrom<UriRef<'a, UriChars>> for Uri<'a, IriChars> {
     type Error = InvalidIri<UriRef<'a, UriChars>>;
 
-    ghost try_from_gives = { λ reference result. BecomesUri (λ error. error.0) reference result };
+    ghost try_from_gives = { λ reference result. NarrowsToUri (λ error. error.0) reference result };
 
     fn try_from(reference: UriRef<'a, UriChars>) -> Result<Self, InvalidIri<UriRef<'a, UriChars>>> {
         reference.as_iri().ok_or(InvalidIri(reference))
@@ -171,7 +171,7 @@ impl UriRefBuf<UriChars> {
 
     /// The IRI of the same text, with no copy, or the reference if it has no scheme.
     pub fn try_into_iri(self) -> Result<UriBuf<IriChars>, InvalidIri<Self>>
-        ensures { OwnerBecomesUri (λ error. error.0) self result }
+        ensures { OwnerNarrowsToUri (λ error. error.0) self result }
     {
         Ok(self.try_into_uri()?.into_iri())
     }
@@ -262,7 +262,7 @@ impl<R: HeldRule> TryFrom<ReferenceBuf<R, IriChars>> for UriRefBuf<UriChars> {
 impl TryFrom<UriRefBuf<UriChars>> for UriBuf<IriChars> {
     type Error = InvalidIri<UriRefBuf<UriChars>>;
 
-    ghost try_from_gives = { λ reference result. OwnerBecomesUri (λ e. e.0) reference result };
+    ghost try_from_gives = { λ reference result. OwnerNarrowsToUri (λ e. e.0) reference result };
 
     fn try_from(reference: UriRefBuf<UriChars>) -> Result<Self, InvalidIri<UriRefBuf<UriChars>>> {
         reference.try_into_iri()

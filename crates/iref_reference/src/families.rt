@@ -1,7 +1,7 @@
 //! Conversions between URIs and references, by the names of each family.
 ghost use Rattle.iref_reference.specs.References.{reference_text, reference_value};
 ghost use Rattle.iref_reference.specs.References.{reference_buf_text, reference_buf_value};
-ghost use Rattle.iref_reference.specs.References.{OwnerBecomesUri};
+ghost use Rattle.iref_reference.specs.References.{OwnerNarrowsToUri};
 ghost use Rattle.std.specs.Prelude.{◌≡◌, true, IfSome, is_some};
 
 use crate::owner::{UriBuf, UriRefBuf};
@@ -115,7 +115,7 @@ impl UriRefBuf<UriChars> {
 
     /// The URI of the same text, with no copy, or the reference if it has no scheme.
     pub fn try_into_uri(self) -> Result<UriBuf<UriChars>, InvalidUri<Self>>
-        ensures { OwnerBecomesUri (λ error. error.0) self result }
+        ensures { OwnerNarrowsToUri (λ error. error.0) self result }
     {
         self.try_into_uri_rule()
     }
@@ -139,7 +139,7 @@ impl UriRefBuf<IriChars> {
 
     /// The IRI of the same text, with no copy, or the reference if it has no scheme.
     pub fn try_into_iri(self) -> Result<UriBuf<IriChars>, InvalidUri<Self>>
-        ensures { OwnerBecomesUri (λ error. error.0) self result }
+        ensures { OwnerNarrowsToUri (λ error. error.0) self result }
     {
         self.try_into_uri_rule()
     }

@@ -8,7 +8,7 @@ ghost use Rattle.iref_component.specs.{text_of};
 ghost use Rattle.iref_buffer.specs.{is_readable};
 ghost use Rattle.iref_reference.specs.References.{reference_text, reference_value};
 ghost use Rattle.iref_reference.specs.References.{reference_buf_text, reference_buf_value};
-ghost use Rattle.iref_reference.specs.References.{OwnerBecomesUri, ParsesReferenceBuf};
+ghost use Rattle.iref_reference.specs.References.{OwnerNarrowsToUri, ParsesReferenceBuf};
 ghost use Rattle.iref_reference.specs.Parts.{uri_ref_part_texts, uri_ref_parts_value, part_texts};
 ghost use Rattle.iref_reference.specs.Parts.{parts_value};
 
@@ -205,7 +205,7 @@ impl<R: HeldRule, C: CharSet> ReferenceBuf<R, C> {
 
     // The URI of the same text, with no copy, or the reference if it has no scheme.
     pub(crate) fn try_into_uri_rule(self) -> Result<UriBuf<C>, InvalidUri<Self>>
-        ensures { OwnerBecomesUri (λ error. error.0) self result }
+        ensures { OwnerNarrowsToUri (λ error. error.0) self result }
     {
         if self.reference_parts().scheme.is_some() {
             Ok(UriBuf::from_held(self.held.into_rule()))
@@ -276,7 +276,7 @@ impl<C: CharSet> From<UriBuf<C>> for UriRefBuf<C> {
 impl<C: CharSet> TryFrom<UriRefBuf<C>> for UriBuf<C> {
     type Error = InvalidUri<UriRefBuf<C>>;
 
-    ghost try_from_gives = { λ reference result. OwnerBecomesUri (λ e. e.0) reference result };
+    ghost try_from_gives = { λ reference result. OwnerNarrowsToUri (λ e. e.0) reference result };
 
     fn try_from(reference: UriRefBuf<C>) -> Result<Self, InvalidUri<UriRefBuf<C>>> {
         reference.try_into_uri_rule()

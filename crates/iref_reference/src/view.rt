@@ -8,7 +8,7 @@ ghost use Rattle.iref_component.specs.{user_info_of, host_of, port_of, base_of, 
 ghost use Rattle.iref_reference.specs.Parts.{part_texts, parts_value, uri_ref_part_texts};
 ghost use Rattle.iref_reference.specs.Parts.{uri_ref_parts_value};
 ghost use Rattle.iref_reference.specs.References.{reference_text, reference_value};
-ghost use Rattle.iref_reference.specs.References.{reference_buf_text, BecomesUri, ParsesReference};
+ghost use Rattle.iref_reference.specs.References.{reference_buf_text, NarrowsToUri, ParsesReference};
 
 use crate::owner::ReferenceBuf;
 use crate::parts::{Parts, UriRefParts};
@@ -258,7 +258,7 @@ impl<'a, C: CharSet> From<Uri<'a, C>> for UriRef<'a, C> {
 impl<'a, C: CharSet> TryFrom<UriRef<'a, C>> for Uri<'a, C> {
     type Error = InvalidUri<UriRef<'a, C>>;
 
-    ghost try_from_gives = { λ reference result. BecomesUri (λ error. error.0) reference result };
+    ghost try_from_gives = { λ reference result. NarrowsToUri (λ error. error.0) reference result };
 
     fn try_from(reference: UriRef<'a, C>) -> Result<Self, InvalidUri<UriRef<'a, C>>> {
         reference.to_uri_rule().ok_or(InvalidUri(reference))
