@@ -1,4 +1,4 @@
-//! Lists of edits, each one step on the components of an owner (RFC 3986 section 3).
+//! Lists of edits, each one step on the components of an owned value (RFC 3986 section 3).
 ghost use Rattle.std.specs.Prelude.{◌≡◌, ⊤};
 
 mod lists;

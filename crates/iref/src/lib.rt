@@ -72,8 +72,8 @@ pub mod uri {
     /// An authority that owns its text (RFC 3986 section 3.2): `set_port` of `80` makes `h:80` of
     /// `h`.
     pub type AuthorityBuf = iref_component::authority::AuthorityBuf<UriChars>;
-    /// The editor of an authority in a vector of bytes, or in an owner as `UriBuf` (RFC 3986
-    /// section 3.2): at the bytes 2 to 6 of `//h:80/x`, `set_port` of None leaves `//h/x`.
+    /// The editor of an authority in a vector of bytes, or in an owned value such as `UriBuf` (RFC
+    /// 3986 section 3.2): at the bytes 2 to 6 of `//h:80/x`, `set_port` of None leaves `//h/x`.
     pub type AuthorityMut<'a, T = Vec<u8>> = iref_component::authority_mut::AuthorityMut<
         'a,
         UriChars,
@@ -99,8 +99,9 @@ pub mod uri {
     pub type Path<'a> = iref_component::path::Path<'a, UriChars>;
     /// A path that owns its text (RFC 3986 section 3.3): `push` of `c` makes `/a/c` of `/a`.
     pub type PathBuf = iref_component::path_buf::PathBuf<UriChars>;
-    /// The editor of a path in a vector of bytes, or in an owner as `UriBuf` or `PathBuf` (RFC 3986
-    /// section 3.3): at the bytes 8 to 12 of `http://h/a/b?q`, `pop` leaves `http://h/a?q`.
+    /// The editor of a path in a vector of bytes, or in an owned value such as `UriBuf` or
+    /// `PathBuf` (RFC 3986 section 3.3): at the bytes 8 to 12 of `http://h/a/b?q`, `pop` leaves
+    /// `http://h/a?q`.
     pub type PathMut<'a, T = Vec<u8>> = iref_component::path_mut::PathMut<'a, UriChars, T>;
 
     /// A segment of a path (RFC 3986 section 3.3): `b%2Fc` is one, `b/c` is none, and the empty
@@ -176,8 +177,8 @@ pub mod iri {
     /// An authority that owns its text (RFC 3987 section 2.2): `set_port` of `80` makes `é:80` of
     /// `é`.
     pub type AuthorityBuf = iref_component::authority::AuthorityBuf<IriChars>;
-    /// The editor of an authority in a vector of bytes, or in an owner as `IriBuf` (RFC 3987
-    /// section 2.2): at the bytes 2 to 7 of `//é:80/x`, `set_port` of None leaves `//é/x`.
+    /// The editor of an authority in a vector of bytes, or in an owned value such as `IriBuf` (RFC
+    /// 3987 section 2.2): at the bytes 2 to 7 of `//é:80/x`, `set_port` of None leaves `//é/x`.
     pub type AuthorityMut<'a, T = Vec<u8>> = iref_component::authority_mut::AuthorityMut<
         'a,
         IriChars,
@@ -203,8 +204,9 @@ pub mod iri {
     pub type Path<'a> = iref_component::path::Path<'a, IriChars>;
     /// A path that owns its text (RFC 3987 section 2.2): `push` of `ü` makes `/a/ü` of `/a`.
     pub type PathBuf = iref_component::path_buf::PathBuf<IriChars>;
-    /// The editor of a path in a vector of bytes, or in an owner as `IriBuf` or `PathBuf` (RFC 3987
-    /// section 2.2): at the bytes 8 to 13 of `http://h/a/é?q`, `pop` leaves `http://h/a?q`.
+    /// The editor of a path in a vector of bytes, or in an owned value such as `IriBuf` or
+    /// `PathBuf` (RFC 3987 section 2.2): at the bytes 8 to 13 of `http://h/a/é?q`, `pop` leaves
+    /// `http://h/a?q`.
     pub type PathMut<'a, T = Vec<u8>> = iref_component::path_mut::PathMut<'a, IriChars, T>;
 
     /// A segment of a path (RFC 3987 section 2.2): `é%2Fc` is one, `é/c` is none, and the empty

@@ -212,7 +212,7 @@ impl Lines {
         Ok(())
     }
 
-    /// Takes the next bytes of the input, and writes a reply to each line that ends there.
+    /// Takes the next bytes of the input, and writes the answer to each line that ends there.
     pub fn take<W: Sink>(&mut self, block: &[u8], writer: &mut W) -> Result<(), StreamError>
         requires { W.has_failed writer.old ≡ false }
         ensures failed { W.has_failed writer.new ≡ is_err result }

@@ -241,7 +241,7 @@ fn authority_start(offsets: &Offsets) -> usize
     }
 }
 
-// What is at a place.
+// The text of a range.
 fn slice_at<'a>(text: &'a str, place: &Range<usize>) -> &'a str
     requires { IsWithin text.now place.now }
     ensures { result.now ≡ text_at text.now place.now }
@@ -249,7 +249,7 @@ fn slice_at<'a>(text: &'a str, place: &Range<usize>) -> &'a str
     &text[place.start..place.end]
 }
 
-// What is at a place, if there is one.
+// The text of a range, if there is one.
 fn slice_if<'a>(text: &'a str, place: &Option<Range<usize>>) -> Option<&'a str>
     requires { IfSome place.now (IsWithin text.now) }
     ensures { option_copied result ≡ option_map (text_at text.now) place.now }

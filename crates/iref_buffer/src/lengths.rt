@@ -89,7 +89,7 @@ fn add_part(len: usize, mark: usize, part: Option<usize>) -> Result<usize, Alloc
     marked.checked_add(part).ok_or(AllocError)
 }
 
-// How much a place holds, if there is one.
+// The length of a range, if there is one.
 fn place_len(place: &Option<Range<usize>>) -> Option<usize>
     ensures { result ≡ option_map place_len place.now }
 {

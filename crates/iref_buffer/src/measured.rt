@@ -29,8 +29,8 @@ pub struct MeasuredReference<'a> {
     pub(crate) fragment: Option<&'a str>,
 }
 
-/// Refuses a base's path and another one of which the bytes and the steps between cannot be counted,
-/// since no text can hold them.
+/// Refuses a base's path and another one of which the bytes and the steps between cannot be
+/// counted, since no text can hold them.
 pub fn count_paths(base: &str, other: &str) -> Result<(), AllocError>
     ensures { IfOk result (λ _. 3 * length base.now + length other.now + 16 < 2 ^ 64) }
 {
@@ -53,7 +53,7 @@ fn context_after(scheme: Option<&str>, authority: Option<&str>) -> PathContext
     }
 }
 
-// Writes two pieces so that they end at a place, and returns where they begin.
+// Writes two texts so that they end at `end`, and returns where they begin.
 #[tactic(auto, using(iref_path_text::proofs::WrittenLemmas::both_written))]
 fn write_pair(buffer: &mut [u8], end: usize, pair: (&str, &str)) -> usize
     requires room { length (pair.0.now ++ pair.1.now) ≤ end }

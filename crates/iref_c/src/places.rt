@@ -18,7 +18,7 @@ pub struct Place {
     pub is_there: usize,
     /// Where it begins.
     pub start: usize,
-    /// Where it ends: the place of the byte after its last.
+    /// Where it ends: the offset of the byte after its last.
     pub end: usize,
 }
 
@@ -44,7 +44,7 @@ pub struct Places {
     pub fragment: Place,
 }
 
-/// The places of the parts of an authority.
+/// The ranges of the parts of an authority.
 #[derive(Clone, Copy)]
 pub struct AuthorityPlaces {
     /// The user info.
@@ -62,7 +62,7 @@ pub const ABSENT: Place = Place {
     end: 0,
 };
 
-// The place of what may be there.
+// The range of what may be there.
 fn place_of(place: Option<Range<usize>>) -> Place
     ensures { result ≡ place_for_c place }
 {
@@ -129,7 +129,7 @@ fn places_from(start: usize, parts: AuthoritySlices<'_>) -> AuthorityPlaces
     }
 }
 
-// The parts of an authority that is at this place, where there is one.
+// The ranges of the parts of an authority that is at `place`, where there is one.
 fn places_at(place: Place, authority: Option<&str>) -> AuthorityPlaces
     requires fits { place.end < 2 ^ 64 }
     requires ends { IfSome (option_copied authority) (λ text.

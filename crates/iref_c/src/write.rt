@@ -17,7 +17,7 @@ pub fn write_text(text: &[u8], out: &mut [u8], needed: &mut usize) -> u32
     OK
 }
 
-/// The same of a text that is composed: it is written into the buffer at once.
+/// Writes a text that is composed: each byte is written into the buffer once.
 pub fn write_composed<R: HeldRule, C: CharSet>(
     text: &Composed<'_, R, C>,
     out: &mut [u8],

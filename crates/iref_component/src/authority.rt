@@ -54,7 +54,7 @@ impl<'a, C: CharSet> Authority<'a, C> {
 }
 
 impl<C: CharSet> AuthorityBuf<C> {
-    /// The view.
+    /// The borrowed authority.
     pub fn as_authority(&self) -> Authority<'_, C>
         ensures { text_of result ≡ text_of self.now }
     {

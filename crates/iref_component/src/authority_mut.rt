@@ -147,7 +147,7 @@ impl<'a, C: CharSet, T: Target<AuthorityPart, C>> AuthorityMut<'a, C, T> {
         self.place.start..self.place.end
     }
 
-    // Replaces a range of the authority by two pieces, as one edit.
+    // Replaces a range of the authority by two texts, as one edit.
     fn put(&mut self, within: Range<usize>, pieces: (&str, &str)) -> Result<(), Memory>
         requires lies { LiesInBytes self.old }
         requires within { IsWithin (authority_mut_text self.old) within }

@@ -1,4 +1,4 @@
-//! Texts of a rule, borrowed or owned: what views and owners share.
+//! Texts of a rule, borrowed or owned: the calls that both have.
 ghost use Rattle.std.specs.{Prelude.{◌≡◌, length, Some}, Ordering.{on, as_partial_cmp}};
 ghost use Rattle.std.specs.{Ordering.{eq_by_cmp}, Cmp.{on_total, on_equiv, po}};
 ghost use Rattle.std.specs.{Cmp.{partial_equiv_from_equiv, eq_by_cmp_equiv}, Cmp.Rules.{comparing}};
@@ -29,7 +29,7 @@ impl<S: Storage, R: Rule, C: CharSet> RuleText<S, R, C> {
         }
     }
 
-    /// The view.
+    /// The borrowed text.
     pub fn as_view(&self) -> View<'_, R, C>
         ensures { text_of result ≡ text_of self.now }
     {

@@ -1,4 +1,4 @@
-//! What texts are compared by, in their order, and fed to hashers (RFC 3986 section 6.2.2).
+//! What texts are compared by, in their order, and hashed by (RFC 3986 section 6.2.2).
 ghost use Rattle.std.specs.{Prelude.{◌≡◌, fold, true}, Ordering.{eq_by_cmp}};
 ghost use Rattle.std.specs.Str.{str_to_ascii_lowercase};
 ghost use Rattle.percent_encoding.specs.Percent.{percent_decode};
@@ -18,7 +18,7 @@ use std::hash::{Hash, Hasher};
 /// What texts are compared by (RFC 3986 section 6.2.2): of schemes their lower case, so that `HTTP`
 /// and `http` have one key.
 pub trait Key {
-    /// The key of a text, the order of keys, and what a hasher is fed of one.
+    /// The key of a text, the order of keys, and how a key is hashed.
     ghost comparison: { Comparison };
 
     /// The texts that have a key: all, where an impl does not say.

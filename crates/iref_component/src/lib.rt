@@ -1,7 +1,6 @@
 //! The components of references: schemes, authorities and their parts, paths and their segments,
-//! queries and fragments.
-//! Each is a rule of the grammar; its view and its owner are aliases of one type over what holds
-//! the text. Authorities and paths have editors besides.
+//! queries and fragments. Each is a rule of the grammar; its borrowed and its owned text are
+//! aliases of one type over what holds the text. Authorities and paths have editors besides.
 #![tactic(auto)]
 
 pub mod authority;

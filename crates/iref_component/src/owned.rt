@@ -1,4 +1,4 @@
-//! Owned texts of a rule: what the owners share.
+//! Owned texts of a rule: the calls that those of all rules have.
 ghost use Rattle.std.specs.{Prelude.{◌≡◌, true, [], OnOk, OnErr, IsOk}, String.{string_bytes}};
 ghost use Rattle.iref_edit.specs.Changes.{IsNoLonger, IsWithin, changed};
 ghost use Rattle.iref_component.specs.{Makers.{ParsesUtf8}, Components.{text_of}};
@@ -15,7 +15,7 @@ use std::convert::TryFrom;
 use std::marker::PhantomData;
 
 impl<R: Refuses<String>, C: CharSet> TextBuf<R, C> {
-    /// The owner of a text that is in the rule, with no copy, or the text in the rule's error.
+    /// The text, if it is in the rule, with no copy, or else the text in the rule's error.
     pub fn new(text: String) -> Result<Self, R::Error>
         ensures { ParsesUtf8 (R.rule C.tests) text_of R.refused (string_bytes text) text result }
     {
@@ -24,8 +24,8 @@ impl<R: Refuses<String>, C: CharSet> TextBuf<R, C> {
 }
 
 impl<R: Refuses<Vec<u8>>, C: CharSet> TextBuf<R, C> {
-    /// The owner of the UTF-8 of a text that is in the rule, with no copy, or the bytes in the
-    /// rule's error.
+    /// The text of these bytes, if it is UTF-8 and in the rule, with no copy, or else the bytes in
+    /// the rule's error.
     pub fn from_bytes(bytes: Vec<u8>) -> Result<Self, R::Error>
         ensures { ParsesUtf8 (R.rule C.tests) text_of R.refused bytes.items bytes result }
     {
@@ -37,7 +37,7 @@ impl<R: Refuses<Vec<u8>>, C: CharSet> TextBuf<R, C> {
 }
 
 impl<R: Rule, C: CharSet> TextBuf<R, C> {
-    /// The owner of a text that is known to be in the rule.
+    /// The text, which is known to be in the rule.
     pub fn new_unchecked(text: String) -> Self
         requires { R.test C.tests (string_bytes text) ≡ true }
         ensures { text_of result ≡ string_bytes text }
@@ -97,7 +97,7 @@ impl<R: Rule, C: CharSet> TextBuf<R, C> {
 }
 
 impl<R: AllowsEmpty, C: CharSet> TextBuf<R, C> {
-    /// The owner of the empty text, which takes no memory.
+    /// The empty text, which takes no memory.
     pub fn empty(alloc: Global) -> Self
         ensures { text_of result ≡ [] }
     {

@@ -213,7 +213,7 @@ impl<'a, C: CharSet> IntoIterator for Path<'a, C> {
 }
 
 /// Paths are equal where their flags and their normal segments, decoded, are the same; they are in
-/// the order of these, and a hasher is fed them (RFC 3986 section 6.2.2).
+/// the order of these, and they are hashed (RFC 3986 section 6.2.2).
 pub fn paths_compare_by_key<S: Storage, C: CharSet>()
     ensures { ComparesBy (λ p. path_key (path_value p)) path_key_cmp fed_path
         ⟦<RuleText<S, PathRule, C> as Ord>⟧ ⟦<RuleText<S, PathRule, C> as Hash>⟧ }

@@ -22,7 +22,7 @@ use iref_grammar::chars::CharSet;
 pub type PathBuf<C> = TextBuf<PathRule, C>;
 
 impl<C: CharSet> PathBuf<C> {
-    /// The view.
+    /// The borrowed path.
     pub fn as_path(&self) -> Path<'_, C>
         ensures { text_of result ≡ text_of self.now }
     {

@@ -169,7 +169,7 @@ impl<'a, C: CharSet, T: Target<PathPart, C>> PathMut<'a, C, T> {
         Ok(changes)
     }
 
-    /// Puts another path in its place, after what guards it there.
+    /// Replaces the path by another, after what guards it there.
     pub fn replace(&mut self, path: Path<'_, C>) -> Result<(), Memory>
         ensures { EditsBy step.replaced (path_value path.entry) self.old self.new result }
     {

@@ -1,4 +1,4 @@
-//! The rules of the grammar that texts are held to, and what a rule gives its texts.
+//! The rules of the grammar for texts, and what a rule gives its texts.
 ghost use Rattle.std.specs.Prelude.{◌≡◌, Bool, true, []};
 ghost use Rattle.iref_grammar.specs.{CharTests, AreAboveAscii, Text, AcceptsExactly, is_pct_str};
 

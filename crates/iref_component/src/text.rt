@@ -7,7 +7,7 @@ use iref_grammar::chars::CharSet;
 use std::alloc::AllocError;
 use std::marker::PhantomData;
 
-/// What holds a text: of views a [`Borrowed`] one, of owners a `String`.
+/// What holds a text: a [`Borrowed`] one, or a `String`.
 pub trait Storage {
     /// The bytes of the text.
     ghost bytes: { Self → Text };
@@ -17,7 +17,7 @@ pub trait Storage {
         ensures { result.now ≡ bytes self.now };
 }
 
-/// A text that is held elsewhere.
+/// A borrowed text.
 #[derive(Clone, Copy)]
 pub struct Borrowed<'a>(pub(crate) &'a str);
 

@@ -1,4 +1,4 @@
-//! The texts that have no parts, by name: each is the view, or the owner, of its rule.
+//! The texts that have no parts, by name: each is the borrowed, or the owned, text of its rule.
 ghost use Rattle.std.specs.Prelude.{◌≡◌};
 ghost use Rattle.iref_component.specs.Components.{text_of};
 
@@ -53,7 +53,7 @@ pub type Fragment<'a, C> = View<'a, FragmentRule, C>;
 pub type FragmentBuf<C> = TextBuf<FragmentRule, C>;
 
 impl SchemeBuf {
-    /// The view.
+    /// The borrowed text.
     pub fn as_scheme(&self) -> Scheme<'_>
         ensures { text_of result ≡ text_of self.now }
     {
@@ -62,7 +62,7 @@ impl SchemeBuf {
 }
 
 impl<C: CharSet> UserInfoBuf<C> {
-    /// The view.
+    /// The borrowed text.
     pub fn as_user_info(&self) -> UserInfo<'_, C>
         ensures { text_of result ≡ text_of self.now }
     {
@@ -71,7 +71,7 @@ impl<C: CharSet> UserInfoBuf<C> {
 }
 
 impl<C: CharSet> HostBuf<C> {
-    /// The view.
+    /// The borrowed text.
     pub fn as_host(&self) -> Host<'_, C>
         ensures { text_of result ≡ text_of self.now }
     {
@@ -80,7 +80,7 @@ impl<C: CharSet> HostBuf<C> {
 }
 
 impl PortBuf {
-    /// The view.
+    /// The borrowed text.
     pub fn as_port(&self) -> Port<'_>
         ensures { text_of result ≡ text_of self.now }
     {
@@ -89,7 +89,7 @@ impl PortBuf {
 }
 
 impl<C: CharSet> SegmentBuf<C> {
-    /// The view.
+    /// The borrowed text.
     pub fn as_segment(&self) -> Segment<'_, C>
         ensures { text_of result ≡ text_of self.now }
     {
@@ -98,7 +98,7 @@ impl<C: CharSet> SegmentBuf<C> {
 }
 
 impl<C: CharSet> QueryBuf<C> {
-    /// The view.
+    /// The borrowed text.
     pub fn as_query(&self) -> Query<'_, C>
         ensures { text_of result ≡ text_of self.now }
     {
@@ -107,7 +107,7 @@ impl<C: CharSet> QueryBuf<C> {
 }
 
 impl<C: CharSet> FragmentBuf<C> {
-    /// The view.
+    /// The borrowed text.
     pub fn as_fragment(&self) -> Fragment<'_, C>
         ensures { text_of result ≡ text_of self.now }
     {

@@ -14,7 +14,7 @@ use iref_grammar::chars::CharSet;
 /// port `8a` is refused with `Invalid(InvalidPort("8a"))`, and `Memory` says that memory ran out.
 pub type Tried<E> = Result<(), TryError<E>>;
 
-/// The view of a text that is in a rule: `Invalid` returns one that is not, in the rule's error.
+/// The borrowed text that is in a rule: `Invalid` returns one that is not, in the rule's error.
 pub fn read<'t, R: Refuses<&'t str>, C: CharSet>(
     text: &'t str,
 ) -> Result<View<'t, R, C>, TryError<R::Error>>

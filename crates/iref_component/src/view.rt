@@ -1,4 +1,4 @@
-//! Borrowed texts of a rule: what the views of all rules share.
+//! Borrowed texts of a rule: the calls that those of all rules have.
 ghost use Rattle.std.specs.{Prelude.{◌≡◌, true, [], IfOk, option_map}, Option.{option_copied}};
 ghost use Rattle.iref_grammar.specs.{none_or};
 ghost use Rattle.iref_component.specs.{Makers.{ParsesUtf8}, Components.{text_of}};
@@ -14,7 +14,7 @@ use std::marker::PhantomData;
 use std::str;
 
 impl<'a, R: Refuses<&'a str>, C: CharSet> View<'a, R, C> {
-    /// The view of a text that is in the rule, or the text in the rule's error.
+    /// The text, if it is in the rule, or else the text in the rule's error.
     pub fn new(text: &'a str) -> Result<Self, R::Error>
         ensures { ParsesUtf8 (R.rule C.tests) text_of R.refused text.now text.entry result }
     {
@@ -26,7 +26,8 @@ impl<'a, R: Refuses<&'a str>, C: CharSet> View<'a, R, C> {
 }
 
 impl<'a, R: Refuses<&'a [u8]>, C: CharSet> View<'a, R, C> {
-    /// The view of the UTF-8 of a text that is in the rule, or the bytes in the rule's error.
+    /// The text of these bytes, if it is UTF-8 and in the rule, or else the bytes in the rule's
+    /// error.
     pub fn from_bytes(bytes: &'a [u8]) -> Result<Self, R::Error>
         ensures { ParsesUtf8 (R.rule C.tests) text_of R.refused bytes.now bytes.entry result }
     {
@@ -41,7 +42,7 @@ impl<'a, R: Refuses<&'a [u8]>, C: CharSet> View<'a, R, C> {
 }
 
 impl<'a, R: Rule, C: CharSet> View<'a, R, C> {
-    /// The view of a text that is known to be in the rule.
+    /// The text, which is known to be in the rule.
     pub fn new_unchecked(text: &'a str) -> Self
         requires { R.test C.tests text.now ≡ true }
         ensures { text_of result ≡ text.now }
@@ -66,7 +67,7 @@ impl<'a, R: Rule, C: CharSet> View<'a, R, C> {
         self.text.0.as_bytes()
     }
 
-    /// An owner of a copy.
+    /// An owned copy.
     pub fn to_owned(&self, alloc: Global) -> Result<TextBuf<R, C>, Memory>
         ensures { IfOk result (λ copy. text_of copy ≡ text_of self.now) }
     {
@@ -75,7 +76,7 @@ impl<'a, R: Rule, C: CharSet> View<'a, R, C> {
     }
 }
 
-/// The view of a slice that is known to be in the rule, if it is there.
+/// The borrowed text of a slice that is known to be in the rule, if it is there.
 pub fn view_of<R: Rule, C: CharSet>(text: Option<&str>) -> Option<View<'_, R, C>>
     requires { none_or (R.test C.tests) (option_copied text) ≡ true }
     ensures { option_map text_of result ≡ option_copied text.entry }
@@ -83,7 +84,7 @@ pub fn view_of<R: Rule, C: CharSet>(text: Option<&str>) -> Option<View<'_, R, C>
     Some(View::new_unchecked(text?))
 }
 
-/// The slice of a view, if it is there.
+/// The slice of a borrowed text, if it is there.
 pub fn text_of<'a, R: Rule, C: CharSet>(view: Option<View<'a, R, C>>) -> Option<&'a str>
     ensures { option_copied result ≡ option_map text_of view.entry }
 {

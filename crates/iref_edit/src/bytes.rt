@@ -64,7 +64,7 @@ fn close_gap(bytes: &mut Vec<u8>, start: usize, end: usize)
     bytes.truncate(start + (len - end));
 }
 
-// Writes the pieces over what stands where the change begins.
+// Writes the three texts over what stands where the change begins.
 #[tactic(auto, using(crate::proofs::Splices::gaps))]
 fn fill(bytes: &mut Vec<u8>, change: &Change<'_>)
     requires { change.now.within.start + pieces_length change.now ≤ vec_len bytes.old }

@@ -1,11 +1,11 @@
-//! What replaces a range of a text, and where a part stands that is edited so.
+//! What replaces a range of a text, and the range of a part that is edited so.
 ghost use Rattle.std.specs.Prelude.{◌≡◌, ◌+◌, ◌-◌, ◌<◌, ◌≤◌, ◌^◌, IfOk, IsOk};
 ghost use Rattle.iref_edit.specs.Changes.{IsNoLonger, cut_length, pieces_length};
 
 use std::alloc::AllocError;
 use std::ops::Range;
 
-/// Where a part stands in a text, in bytes.
+/// The range of a part in a text, in bytes.
 #[derive(Clone, Copy)]
 pub struct Place {
     /// Where the part begins.
@@ -14,7 +14,7 @@ pub struct Place {
     pub end: usize,
 }
 
-/// A range of a text, and the three pieces that come in its place.
+/// A range of a text, and the three texts that replace it.
 #[derive(Drop)]
 pub struct Change<'a> {
     /// What is taken out, in bytes.
@@ -28,7 +28,7 @@ pub struct Change<'a> {
 }
 
 impl Change<'_> {
-    // How many bytes the pieces have together, if that can be counted.
+    // The length of the three texts together, if it can be counted.
     pub(crate) fn added_len(&self) -> Result<usize, AllocError>
         ensures sum { IfOk result (λ n. n ≡ pieces_length self.now) }
         ensures fits { pieces_length self.now < 2 ^ 64 → IsOk result }
@@ -38,7 +38,7 @@ impl Change<'_> {
         two.checked_add(self.close.len()).ok_or(AllocError)
     }
 
-    /// How many bytes a text of this length has after the change, if that can be counted.
+    /// The length that a text of this length has after the change, if it can be counted.
     pub fn len_after(&self, len: usize) -> Result<usize, AllocError>
         requires ordered { self.now.within.start ≤ self.now.within.end }
         requires in_bounds { cut_length self.now ≤ len }

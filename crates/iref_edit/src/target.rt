@@ -25,7 +25,7 @@ pub trait Part {
         → (part : Text) → test tests context part ≡ true → IsUtf8 part };
 }
 
-/// What holds a part: a vector of bytes, or an owner.
+/// What holds a part: a vector of bytes, or an owned value.
 pub trait Target<P: Part, C: CharSet> {
     /// The bytes.
     ghost text: { Self → Text };

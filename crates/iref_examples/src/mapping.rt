@@ -13,7 +13,7 @@ pub fn are_mapped_alike(a: IriRef<'_>, b: IriRef<'_>, alloc: Global) -> Result<b
     Ok(a.to_uri_ref(alloc)? == b.to_uri_ref(alloc)?)
 }
 
-/// The same of owners, which are taken.
+/// Maps owned values, which are taken.
 pub fn are_owners_mapped_alike(a: IriRefBuf, b: IriRefBuf) -> Result<bool, Memory>
     ensures { IfOk result (λ alike. alike
         ≡ are_alike (reference_buf_value a) (reference_buf_value b)) }

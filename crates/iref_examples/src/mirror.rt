@@ -20,7 +20,7 @@ pub fn from_page(alloc: Global, page: Uri<'_>, link: UriRef<'_>) -> Result<UriRe
     target.as_uri_ref().relative_to(alloc, page.as_uri_ref())
 }
 
-/// The same of texts; None exactly where the page is no URI or the link no reference.
+/// The mirrored link by texts; None exactly where the page is no URI or the link no reference.
 pub fn relinked(alloc: Global, page: &str, link: &str) -> Result<Option<UriRefBuf>, Memory>
     ensures { IfOk result (λ answer. MatchOption answer
         (¬ (InUtf8 (IsUri uri_chars) page.now × InUtf8 (IsUriReference uri_chars) link.now))

@@ -38,7 +38,7 @@ pub fn references_spelled<S: CharSet>()
         ↔ ((r : ReferenceValue) × IsReadable S.tests r × IsSome r.scheme × (spell r ≡ bytes)) }
 {}
 
-/// Each component that is read from a text is at its place in it.
+/// Each component that is read from a text is at its offsets in it.
 pub fn offsets_hold_the_components()
     ensures scheme { (text : Text)
         → option_map (text_at text) (offsets_of text).scheme ≡ (read_reference text).scheme }

@@ -6,7 +6,7 @@ ghost use Rattle.iref_mapping.specs.Mapping.{mapped_byte, mapped, count_escaped}
 use percent_encoding::{AsciiSet, percent_encode_byte, utf8_percent_encode};
 use std::alloc::{AllocError, Allocator};
 
-/// How many bytes the mapping escapes: each takes two more places.
+/// How many bytes the mapping escapes: each takes two more bytes.
 pub fn count_escaped(bytes: &[u8]) -> usize
     ensures { result ≡ count_escaped bytes.now }
 {

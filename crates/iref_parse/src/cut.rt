@@ -20,7 +20,7 @@ pub fn cut(text: &str, mark: char) -> (&str, Option<&str>)
     }
 }
 
-/// The same of bytes.
+/// The bytes before the first of the delimiter, or all of them, and those after it, if it is there.
 #[inline(always)]
 pub fn cut_bytes(text: &[u8], mark: u8) -> (&[u8], Option<&[u8]>)
     ensures before { result.0.now ≡ before (mark ∷ []) text.now }

@@ -44,7 +44,7 @@ pub(crate) fn by_low_half(table: &[u8; 16], v: u8x16) -> u8x16
     u8x16::from_slice(table).swizzle_dyn(v & u8x16::splat(15))
 }
 
-// The same at the high four bits.
+// Reads the table at the high four bits of each lane.
 #[inline(always)]
 pub(crate) fn by_high_half(table: &[u8; 16], v: u8x16) -> u8x16
     ensures { HasLanes result (λ k. slice_index table.now (slice_index v k / 16)) }

@@ -1,4 +1,4 @@
-//! A text fed to a hasher in pieces of 63 bytes, each by one write.
+//! A text hashed in chunks of 63 bytes, each by one write.
 
 ghost use Rattle.std.specs.Prelude.{◌≡◌, ◌<◌, [], ◌∷◌, drop, fold, length, take};
 ghost use Rattle.iref_grammar.specs.Keys.{fed_after};
@@ -34,7 +34,7 @@ impl Piece {
         }
     }
 
-    /// Adds a byte, and feeds the hasher the piece where it is full.
+    /// Adds a byte, and writes the chunk to the hasher where it is full.
     pub fn add<H: Hasher>(&mut self, byte: u8, state: &mut H)
         ensures { (rest : Text) → fold H.write state.new (fed_after self.new rest)
             ≡ fold H.write state.old (fed_after self.old (byte ∷ rest)) }
@@ -48,7 +48,7 @@ impl Piece {
         }
     }
 
-    /// Feeds the hasher the last piece, which ends the text.
+    /// Writes the last chunk to the hasher, which ends the text.
     pub fn end<H: Hasher>(mut self, state: &mut H)
         ensures { state.new ≡ fold H.write state.old (fed_after self []) }
     {

@@ -317,7 +317,7 @@ fn is_plain_path<C: CharSet>(text: &str) -> bool
 }
 
 #[tactic(auto, using(crate::proofs::ScanLemmas::utf8), unfolding(iref_grammar::specs::Tests::is_path))]
-// The same of any path, which is scanned.
+// Whether the text is a path, by a scan of each character.
 fn is_scanned_path<C: CharSet>(text: &str) -> bool
     ensures { result ≡ test.is_path C.tests text.now }
 {

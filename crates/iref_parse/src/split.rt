@@ -44,7 +44,7 @@ fn split_before_either(text: &str, first: u8, second: u8) -> (&str, &str)
     text.split_at(position_of_either(text.as_bytes(), first, second))
 }
 
-// The same byte by byte, which costs less where a delimiter is near.
+// Splits as `split_before_either` does, byte by byte: it costs less where a delimiter is near.
 #[inline(always)]
 fn split_before_near(text: &str, first: u8, second: u8) -> (&str, &str)
     requires first_is_ascii { first < 128 }
@@ -159,7 +159,8 @@ fn is_plain_fragment<C: CharSet>(part: Option<&str>) -> bool
     position_of(text.as_bytes(), b'#') == text.len() || is_fragment::<C>(text)
 }
 
-// Whether each slice of a plain text is in the rule of its component, as the path and the query are.
+// Whether each slice of a plain text is in the rule of its component, as the path and the query
+// are.
 #[tactic(auto, using(crate::proofs::PlainTextLemmas::plain_path, crate::proofs::PlainTextLemmas::plain_query))]
 #[inline(always)]
 fn are_plain_components<C: CharSet>(slices: ReferenceSlices<'_>) -> bool

@@ -1,4 +1,4 @@
-//! The longest common beginning of two normal lists, which are read from the back, and take no
+//! The longest common prefix of two normal lists, which are read from the back, and take no
 //! memory.
 
 ghost use Rattle.std.specs.{List.{common_prefix_len}, Prelude.{◌≡◌, length}};

@@ -178,7 +178,7 @@ impl<'a> MeasuredPath<'a> {
         Ok(bytes)
     }
 
-    /// Writes the text so that it ends at a place, and returns where it begins.
+    /// Writes the text so that it ends at `end`, and returns where it begins.
     pub fn write_before(self, buffer: &mut [u8], end: usize) -> usize
         requires measured { IsMeasured self }
         requires room { length (measured_text self) ≤ end }

@@ -24,7 +24,7 @@ use memchr::memrchr;
 use std::mem;
 use std::ops::Range;
 
-// Where the segment begins that ends, with the `/` after it, at a place.
+// Where the segment begins that ends, with the `/` after it, at `end`.
 fn segment_before(bytes: &[u8], end: usize) -> usize
     requires some { 0 < end }
     requires within { end ≤ length bytes.now + 1 }
@@ -38,8 +38,8 @@ fn segment_before(bytes: &[u8], end: usize) -> usize
     }
 }
 
-// Moves a segment, if it is a name that stays, so that it ends, with a `/` after it, at a place,
-// and returns where that begins.
+// Moves a segment, if it is a name that stays, so that it ends, with a `/` after it, at `end`, and
+// returns where that begins.
 fn move_segment(
     bytes: &mut [u8],
     segment: usize,
@@ -67,7 +67,7 @@ fn move_segment(
     start
 }
 
-// Moves the names that stay before a place, with a `/` after each, so that they end at another, and
+// Moves the names that stay before `unread`, with a `/` after each, so that they end at `end`, and
 // returns where they begin then, and how many `..` are open before them.
 fn move_names(
     bytes: &mut [u8],
@@ -146,7 +146,7 @@ fn write_over(path: &mut [u8], lead: &str) -> usize
     write_before(path, root + start, lead)
 }
 
-// The same of the path at a place. So many bytes stand there then before what is written.
+// Writes it over the path that is at `at`, and returns how many bytes of the path stand before it.
 fn write_at(bytes: &mut [u8], at: Place, lead: &str) -> usize
     requires start_le_end { at.start ≤ at.end }
     requires in_bounds { at.end ≤ length bytes.old }
@@ -175,8 +175,8 @@ fn cut(bytes: &mut Vec<u8>, within: Range<usize>)
     replace(bytes, change).unwrap();
 }
 
-/// Puts what stands first and the normal list of the path at a place in the place of the path, and
-/// returns where that ends. It takes no memory.
+/// Replaces the path that is at `at` by what stands first and the path's normal list, and returns
+/// where that ends. It takes no memory.
 pub fn rewrite(bytes: &mut Vec<u8>, at: Place, lead: &str) -> usize
     requires start_le_end { at.start ≤ at.end }
     requires in_bounds { at.end ≤ vec_len bytes.old }
@@ -190,7 +190,7 @@ pub fn rewrite(bytes: &mut Vec<u8>, at: Place, lead: &str) -> usize
     at.end - unused
 }
 
-/// The same of a text.
+/// Replaces the path that is at `at` of a text, as `rewrite` does.
 pub fn rewrite_text(text: &mut String, at: Place, lead: &str) -> usize
     requires start_le_end { at.start ≤ at.end }
     requires in_bounds { at.end ≤ string_len text.old }

@@ -43,7 +43,7 @@ pub(crate) fn measure(mut left: Way<'_>) -> (usize, &str)
     (size, first)
 }
 
-/// Writes the text so that it ends at a place, and returns where it begins.
+/// Writes the text so that it ends at `end`, and returns where it begins.
 #[inline(always)]
 pub fn write_before(buffer: &mut [u8], end: usize, text: &str) -> usize
     requires room { length text.now ≤ end }
@@ -55,7 +55,7 @@ pub fn write_before(buffer: &mut [u8], end: usize, text: &str) -> usize
     start
 }
 
-/// Writes the items, each with a `/` after it, so that they end at a place, and returns where they
+/// Writes the items, each with a `/` after it, so that they end at `end`, and returns where they
 /// begin.
 fn write_closed(mut left: Way<'_>, buffer: &mut [u8], end: usize) -> usize
     requires sound { IsWaySound left }
@@ -71,7 +71,7 @@ fn write_closed(mut left: Way<'_>, buffer: &mut [u8], end: usize) -> usize
     start
 }
 
-/// Writes the items with `/` between so that they end at a place, and returns where they begin.
+/// Writes the items with `/` between so that they end at `end`, and returns where they begin.
 pub(crate) fn write_items(mut left: Way<'_>, buffer: &mut [u8], end: usize) -> usize
     requires sound { IsWaySound left }
     requires room { length (each_closed (way_left left)) ≤ end + 1 }
@@ -142,8 +142,8 @@ pub(crate) fn lead_in(
     )
 }
 
-// Writes items that are given the last first, each with a `/` after it, so that they end at a
-// place, and returns where they begin.
+// Writes items that are given the last first, each with a `/` after it, so that they end at `end`,
+// and returns where they begin.
 fn write_stacked_closed(items: &[&str], buffer: &mut [u8], end: usize) -> usize
     requires room { length (each_closed (in_order items.now)) ≤ end }
     requires within { end ≤ length buffer.old }
@@ -157,7 +157,7 @@ fn write_stacked_closed(items: &[&str], buffer: &mut [u8], end: usize) -> usize
     start
 }
 
-// Writes items that are given the last first, with `/` between, so that they end at a place, and
+// Writes items that are given the last first, with `/` between, so that they end at `end`, and
 // returns where they begin.
 fn write_stacked(items: &[&str], buffer: &mut [u8], end: usize) -> usize
     requires room { length (each_closed (in_order items.now)) ≤ end + 1 }
@@ -172,7 +172,7 @@ fn write_stacked(items: &[&str], buffer: &mut [u8], end: usize) -> usize
     write_stacked_closed(others, buffer, start)
 }
 
-// Writes what stands first, and items that are given the last first, so that they end at a place,
+// Writes what stands first, and items that are given the last first, so that they end at `end`,
 // and returns where they begin.
 fn write_stacked_text(lead: &str, items: &[&str], buffer: &mut [u8], end: usize) -> usize
     requires room { length (stacked_text lead.now items.now) ≤ end }
@@ -183,8 +183,8 @@ fn write_stacked_text(lead: &str, items: &[&str], buffer: &mut [u8], end: usize)
     write_before(buffer, start, lead)
 }
 
-// What stands first, and items that are given the last first, with `/` between. So many bytes these
-// have with a `/` after each.
+// What stands first, and items that are given the last first, with `/` between. `size` is the
+// length of the items with a `/` after each.
 fn stacked_bytes(alloc: Global, lead: &str, items: &[&str], size: usize) -> Result<Vec<u8>, Memory>
     requires size { size ≡ length (each_closed (in_order items.now)) }
     requires countable { length lead.now + size < 2 ^ 64 }
@@ -200,7 +200,7 @@ fn stacked_bytes(alloc: Global, lead: &str, items: &[&str], size: usize) -> Resu
 const LONGEST_LISTED: usize = 16_384;
 
 // The bytes of the normalized path in its context, with a flag of its own. The segments are read
-// once where each item of the list finds a place here, and else once more.
+// once where each item of the list finds room here, and else once more.
 fn normal_bytes_by<'a, P: Places<&'a str> + Drop>(
     places: P,
     alloc: Global,

@@ -12,7 +12,7 @@ use crate::spell::{first_needs_guard, lead};
 use iref_grammar::chars::CharSet;
 use iref_grammar::context::PathContext;
 
-/// What a step leaves: a beginning of the path's text, in bytes, and three pieces after it.
+/// What a step leaves: a prefix of the path's text, in bytes, and three texts after it.
 #[derive(Clone, Copy)]
 pub struct Step<'a> {
     /// How many bytes stay.
@@ -93,7 +93,7 @@ pub fn cleared<C: CharSet>(context: PathContext, path: &str) -> Step<'static>
     beginning(root_len(split_root(path).0), "")
 }
 
-/// The new path in place of the old one, after what guards it there.
+/// The new path, after what guards it there.
 pub fn replaced<'a, C: CharSet>(context: PathContext, path: &str, new: &'a str) -> Step<'a>
     requires path { is_path_after C.tests context path.now ≡ true }
     requires new { is_path C.tests new.now ≡ true }

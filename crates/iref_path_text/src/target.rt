@@ -14,7 +14,7 @@ use iref_grammar::context::PathContext;
 
 /// What holds a path, and rewrites it in its own bytes: of `/a/../b` it leaves `/b` there.
 pub trait PathTarget<C: CharSet>: Target<PathPart, C> {
-    /// Puts what stands first and the normal list in the place of the path, and returns where that
+    /// Replaces the path by what stands first and the normal list, and returns where that
     /// ends. It takes no memory.
     fn rewrite(&mut self, after: PathContext, at: Place, lead: &str) -> usize
         requires stands { Self.stands (Self.text self.old) after at.start at.end }

@@ -124,7 +124,7 @@ impl<'a, R: HeldRule, C: CharSet> Composed<'a, R, C> {
         Ok(())
     }
 
-    /// An owner of the text. The room is taken once, and each byte is written once.
+    /// An owned value of the text. The room is taken once, and each byte is written once.
     pub fn to_owned(&self, alloc: Global) -> Result<ReferenceBuf<R, C>, Memory>
         ensures { IfOk result (λ owner. reference_buf_text owner ≡ self.now) }
     {

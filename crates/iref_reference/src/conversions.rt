@@ -126,7 +126,7 @@ impl<'a> TryFrom<UriRef<'a, UriChars>> for Uri<'a, IriChars> {
 }
 
 impl<R: HeldRule> ReferenceBuf<R, UriChars> {
-    /// The view of the reference of IRIs of the same text, with the same components.
+    /// The reference of IRIs of the same text, borrowed, with the same components.
     pub fn as_iri_ref(&self) -> UriRef<'_, IriChars>
         ensures text { reference_text result ≡ reference_buf_text self.now }
         ensures value { reference_value result ≡ reference_buf_value self.now }
@@ -144,7 +144,7 @@ impl<R: HeldRule> ReferenceBuf<R, UriChars> {
 }
 
 impl UriBuf<UriChars> {
-    /// The view of the IRI of the same text.
+    /// The IRI of the same text, borrowed.
     pub fn as_iri(&self) -> Uri<'_, IriChars>
         ensures { reference_text result ≡ reference_buf_text self.now }
     {
@@ -161,7 +161,7 @@ impl UriBuf<UriChars> {
 }
 
 impl UriRefBuf<UriChars> {
-    /// The view of the IRI of the same text, if the reference has a scheme.
+    /// The IRI of the same text, borrowed, if the reference has a scheme.
     pub fn as_iri(&self) -> Option<Uri<'_, IriChars>>
         ensures text { IfSome result (λ iri. reference_text iri ≡ reference_buf_text self.now) }
         ensures scheme { is_some result ≡ is_some (reference_buf_value self.now).scheme }
@@ -178,7 +178,8 @@ impl UriRefBuf<UriChars> {
 }
 
 impl<R: HeldRule, C: CharSet> ReferenceBuf<R, C> {
-    // The same text in another rule, or over other characters, if it is in it, or the owner.
+    // The same text in another rule, or over other characters, if it is in it, or else the owned
+    // value.
     fn converted<S: HeldRule, D: CharSet>(self) -> Result<ReferenceBuf<S, D>, Self>
         ensures { ParsesReferenceBuf (S.rule D.tests) (λ owner. owner)
             (reference_buf_text self) self result }
@@ -192,7 +193,7 @@ impl<R: HeldRule, C: CharSet> ReferenceBuf<R, C> {
 }
 
 impl<R: HeldRule> ReferenceBuf<R, IriChars> {
-    /// The view of the URI of the same text, if it is one: it has a scheme and holds ASCII alone.
+    /// The URI of the same text, borrowed, if it is one: it has a scheme and holds ASCII alone.
     pub fn as_uri(&self) -> Option<Uri<'_, UriChars>>
         ensures { SomeIfIn (InUtf8 (IsUri uri_chars)) (reference_buf_text self.now)
             reference_text result }
@@ -200,7 +201,7 @@ impl<R: HeldRule> ReferenceBuf<R, IriChars> {
         self.as_reference().as_uri()
     }
 
-    /// The view of the reference of URIs of the same text, if it is one: it holds ASCII alone.
+    /// The reference of URIs of the same text, borrowed, if it is one: it holds ASCII alone.
     pub fn as_uri_ref(&self) -> Option<UriRef<'_, UriChars>>
         ensures { SomeIfIn (InUtf8 (IsUriReference uri_chars)) (reference_buf_text self.now)
             reference_text result }
@@ -208,14 +209,15 @@ impl<R: HeldRule> ReferenceBuf<R, IriChars> {
         self.as_reference().as_uri_ref()
     }
 
-    /// The URI of the same text, with no copy, or the owner if its text is no URI.
+    /// The URI of the same text, with no copy, or else the owned value, if its text is no URI.
     pub fn try_into_uri(self) -> Result<UriBuf<UriChars>, InvalidUri<Self>>
         ensures { OwnerBecomesUri IsUri (λ error. error.0) self result }
     {
         self.converted().map_err(InvalidUri)
     }
 
-    /// The reference of URIs of the same text, with no copy, or the owner if its text is none.
+    /// The reference of URIs of the same text, with no copy, or else the owned value, if its text
+    /// is none.
     pub fn try_into_uri_ref(self) -> Result<UriRefBuf<UriChars>, InvalidUriRef<Self>>
         ensures { OwnerBecomesUri IsUriReference (λ error. error.0) self result }
     {

@@ -1,4 +1,4 @@
-//! Editors of the parts of owners, in place (RFC 3986 section 3).
+//! Editors of the parts of owned values, in place (RFC 3986 section 3).
 ghost use Rattle.std.specs.{Prelude.{◌≡◌, true, is_some, IfSome}, Borrow.{sem, RestsIfNone}};
 ghost use Rattle.iref_grammar.specs.{context_of, is_reference, offsets_of};
 ghost use Rattle.iref_component.specs.PathEdits.{Borrows, IsEditorOf};

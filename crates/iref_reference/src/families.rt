@@ -50,14 +50,14 @@ impl<'a> UriRef<'a, IriChars> {
 }
 
 impl UriBuf<UriChars> {
-    /// The view.
+    /// The borrowed value.
     pub fn as_uri(&self) -> Uri<'_, UriChars>
         ensures { reference_text result ≡ reference_buf_text self.now }
     {
         self.as_reference()
     }
 
-    /// The view of the reference of the same text, which has a scheme.
+    /// The reference of the same text, borrowed, which has a scheme.
     pub fn as_uri_ref(&self) -> UriRef<'_, UriChars>
         ensures text { reference_text result ≡ reference_buf_text self.now }
         ensures scheme { is_some (reference_value result).scheme ≡ true }
@@ -74,14 +74,14 @@ impl UriBuf<UriChars> {
 }
 
 impl UriBuf<IriChars> {
-    /// The view.
+    /// The borrowed value.
     pub fn as_iri(&self) -> Uri<'_, IriChars>
         ensures { reference_text result ≡ reference_buf_text self.now }
     {
         self.as_reference()
     }
 
-    /// The view of the reference of the same text, which has a scheme.
+    /// The reference of the same text, borrowed, which has a scheme.
     pub fn as_iri_ref(&self) -> UriRef<'_, IriChars>
         ensures text { reference_text result ≡ reference_buf_text self.now }
         ensures scheme { is_some (reference_value result).scheme ≡ true }
@@ -98,14 +98,14 @@ impl UriBuf<IriChars> {
 }
 
 impl UriRefBuf<UriChars> {
-    /// The view.
+    /// The borrowed value.
     pub fn as_uri_ref(&self) -> UriRef<'_, UriChars>
         ensures { reference_text result ≡ reference_buf_text self.now }
     {
         self.as_reference()
     }
 
-    /// The view of the URI of the same text, if the reference has a scheme.
+    /// The URI of the same text, borrowed, if the reference has a scheme.
     pub fn as_uri(&self) -> Option<Uri<'_, UriChars>>
         ensures text { IfSome result (λ uri. reference_text uri ≡ reference_buf_text self.now) }
         ensures scheme { is_some result ≡ is_some (reference_buf_value self.now).scheme }
@@ -122,14 +122,14 @@ impl UriRefBuf<UriChars> {
 }
 
 impl UriRefBuf<IriChars> {
-    /// The view.
+    /// The borrowed value.
     pub fn as_iri_ref(&self) -> UriRef<'_, IriChars>
         ensures { reference_text result ≡ reference_buf_text self.now }
     {
         self.as_reference()
     }
 
-    /// The view of the IRI of the same text, if the reference has a scheme.
+    /// The IRI of the same text, borrowed, if the reference has a scheme.
     pub fn as_iri(&self) -> Option<Uri<'_, IriChars>>
         ensures text { IfSome result (λ iri. reference_text iri ≡ reference_buf_text self.now) }
         ensures scheme { is_some result ≡ is_some (reference_buf_value self.now).scheme }

@@ -66,14 +66,14 @@ impl<R: HeldRule + Refuses<Vec<u8>>, C: CharSet> ReferenceBuf<R, C> {
 }
 
 impl<R: HeldRule, C: CharSet> ReferenceBuf<R, C> {
-    // The owner of a text with its offsets.
+    // The owned value of a text with its offsets.
     pub(crate) fn from_held(held: Held<R, C>) -> Self
         ensures { reference_buf_text result ≡ held }
     {
         ReferenceBuf { held }
     }
 
-    // The view.
+    // The borrowed value.
     pub(crate) fn as_reference(&self) -> Reference<'_, R, C>
         ensures { reference_text result ≡ reference_buf_text self.now }
     {

@@ -1,4 +1,4 @@
-//! Owners edited in place, a component at a time (RFC 3986 sections 3 and 4.2).
+//! Owned values edited in place, a component at a time (RFC 3986 sections 3 and 4.2).
 ghost use Rattle.std.specs.Prelude.{Some, OnOk, IsNone, IsOk, option_map};
 ghost use Rattle.iref_component.specs.{path_value, read_authority, text_of};
 ghost use Rattle.iref_buffer.specs.{with_authority, with_fragment, with_path, with_query};

@@ -189,7 +189,7 @@ impl<'a, R: HeldRule, C: CharSet> Reference<'a, R, C> {
         }
     }
 
-    /// An owner of a copy, with the offsets of the components, found in one scan.
+    /// An owned copy, with the offsets of the components, found in one scan.
     pub fn to_owned(&self, alloc: Global) -> Result<ReferenceBuf<R, C>, Memory>
         ensures { IfOk result (λ copy. reference_buf_text copy ≡ reference_text self.now) }
     {

@@ -12,7 +12,8 @@ use iref_grammar::chars::CharSet;
 use iref_reference::owner::ReferenceBuf;
 use url::Url;
 
-/// An owner that is made of the text of a URL: `UriBuf`, `UriRefBuf`, `IriBuf` and `IriRefBuf`.
+/// An owned value that is made of the text of a URL: `UriBuf`, `UriRefBuf`, `IriBuf` and
+/// `IriRefBuf`.
 pub trait TryFromUrl: Sized {
     /// The rule of its texts.
     ghost rule: { Text → Type 0 };
@@ -20,8 +21,8 @@ pub trait TryFromUrl: Sized {
     /// Its text.
     ghost text: { Self → Text };
 
-    /// The owner of the URL's text, with no copy, or the URL if that text is outside the rule, as
-    /// that of `http://a/[b]`.
+    /// The URL's text as an owned value, with no copy, or the URL if that text is outside the rule,
+    /// as that of `http://a/[b]`.
     fn try_from_url(url: Url) -> Result<Self, FromUrlError>
         ensures { Parses rule (serialize url) text (λ error. error ≡ Invalid url) result };
 }

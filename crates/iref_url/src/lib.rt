@@ -1,5 +1,5 @@
-//! Conversions between the owners of `iref` and the URLs of `url`: a URI keeps its text, a URL is
-//! what the URL Standard makes of one, and not every URL is a URI.
+//! Conversions between the owned values of `iref` and the URLs of `url`: a URI keeps its text, a
+//! URL is what the URL Standard makes of one, and not every URL is a URI.
 #![tactic(auto)]
 
 pub mod error;

@@ -47,7 +47,7 @@ pub(super) fn after_front<'a>(text: &'a str, front: &str) -> Option<&'a str>
     text.strip_prefix(front)
 }
 
-// The pieces one after the other.
+// The texts one after the other.
 pub(super) fn joined(alloc: Global, front: &str, mark: &str, back: &str) -> Result<String, Memory>
     ensures { IfOk result (λ text.
         string_bytes text ≡ front.now ++ mark.now ++ back.now) }

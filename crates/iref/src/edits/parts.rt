@@ -16,7 +16,7 @@ use iref_grammar::chars::CharSet;
 use iref_path_text::target::PathTarget;
 use iref_reference::owner::ReferenceBuf;
 
-/// An owner of a reference whose path is edited in place.
+/// An owned reference whose path is edited in place.
 pub trait PathOwner<C: CharSet>: PathTarget<C> {
     /// The editor of the path.
     fn path_editor(&mut self) -> PathMut<'_, C, Self>
@@ -57,7 +57,7 @@ pub fn edit_path<C: CharSet, T: PathOwner<C>>(
     }
 }
 
-/// An owner of a reference whose authority is edited in place.
+/// An owned reference whose authority is edited in place.
 pub trait AuthorityOwner<C: CharSet>: Target<AuthorityPart, C> {
     /// The editor of the authority, where there is one.
     fn authority_editor(&mut self) -> AuthorityMut<'_, C, Self>

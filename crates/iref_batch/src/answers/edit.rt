@@ -43,7 +43,7 @@ fn copied(alloc: Global, text: &[u8], more: usize) -> Result<Vec<u8>, Memory>
     Ok(bytes)
 }
 
-// Puts the answer to a reference, which is held in these bytes, and edits.
+// Puts the answer to a reference, whose text is in these bytes, and edits.
 fn put_edited(bytes: Vec<u8>, edits: &[Edit<'_>], out: &mut Vec<u8>) -> Result<(), Memory>
     requires { list_all (is_valid_edit iri_chars) (map edit_step edits.now) ≡ true }
     ensures { PutsReply (spec.Edit bytes.items (map edit_step edits.now))

@@ -135,7 +135,7 @@ impl<R: HeldRule, C: CharSet> Held<R, C> {
         self.step(lengths, range, change.lead, change.middle, change.close)
     }
 
-    // Replaces a range of the text by three pieces, which leaves components of these lengths.
+    // Replaces a range of the text by three texts, which leaves components of these lengths.
     pub(super) fn step(
         &mut self,
         lengths: Lengths,
@@ -194,7 +194,7 @@ impl<R: HeldRule, C: CharSet> Held<R, C> {
         self.offsets.path.start..self.offsets.path.end
     }
 
-    // Where a range of what is at a place is in the text.
+    // The range in the text of a range of what is at `place`.
     pub(super) fn part_of(&self, place: Range<usize>, within: &Range<usize>) -> Range<usize>
         requires place { IsWithin self.now place }
         requires within { IsWithin (text_at self.now place) within.now }

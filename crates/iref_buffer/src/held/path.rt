@@ -62,7 +62,7 @@ impl<R: HeldRule, C: CharSet> Held<R, C> {
 }
 
 impl<R: HeldRule, C: CharSet> Held<R, C> {
-    // Puts what stands first and the normal list in the place of the path, where that may stand.
+    // Replaces the path by what stands first and the normal list, where that may stand.
     // It takes no memory.
     fn rewrite_path(&mut self, lead: &str)
         requires shorter { length (rewritten lead.now (path_text self.old))

@@ -99,7 +99,7 @@ impl<C: CharSet> PathBuf<C> {
         self.as_path_mut().try_pop()
     }
 
-    /// Puts another path in its place, after what guards it there.
+    /// Replaces the path by another, after what guards it there.
     pub fn replace(&mut self, path: Path<'_, C>) -> Result<(), Memory>
         ensures { EditsOwner (step.replaced alone (path_value path.entry))
             self.old self.new result }

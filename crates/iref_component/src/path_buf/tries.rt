@@ -55,7 +55,7 @@ impl<C: CharSet> PathBuf<C> {
         self.as_path_mut().try_append(segments)
     }
 
-    /// Puts the path of a text in its place, after what guards it there.
+    /// Replaces the path by that of a text, after what guards it there.
     pub fn try_replace<'t>(&mut self, path: &'t str) -> Tried<InvalidPath<&'t str>>
         ensures edit { EditsOwner (step.replaced alone (read_path path.now))
             self.old self.new result }

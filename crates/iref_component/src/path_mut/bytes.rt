@@ -34,7 +34,7 @@ impl<'a, C: CharSet> PathMut<'a, C, Vec<u8>> {
         }
     }
 
-    /// The same of bytes that are known to be a path.
+    /// The editor of a range of bytes that is known to be a path.
     pub fn new_unchecked(buffer: &'a mut Vec<u8>, range: Range<usize>) -> Self
         requires start_le_end { range.start ≤ range.end }
         requires in_bounds { range.end ≤ vec_len buffer.old }

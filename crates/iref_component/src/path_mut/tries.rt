@@ -76,7 +76,7 @@ impl<C: CharSet, T: Target<PathPart, C>> PathMut<'_, C, T> {
         }
     }
 
-    /// Puts the path of a text in its place, after what guards it there.
+    /// Replaces the path by that of a text, after what guards it there.
     pub fn try_replace<'t>(&mut self, path: &'t str) -> Tried<InvalidPath<&'t str>>
         ensures edit { EditsBy step.replaced (read_path path.now) self.old self.new result }
         ensures text { Tests (IsPath C.tests) path.entry (λ error. error.0) result }

@@ -23,7 +23,7 @@ pub trait Places<T: Copy> {
         ensures { result.now ≡ items self.now };
 }
 
-// Sixteen places in the value.
+// Room for sixteen items in the value.
 impl<'a> Places<&'a str> for ArrayVec<&'a str, 16> {
     ghost items = { λ places. places.items };
 
@@ -41,7 +41,7 @@ impl<'a> Places<&'a str> for ArrayVec<&'a str, 16> {
     }
 }
 
-// Sixteen places in the value, and then as many as there is memory for.
+// Room for sixteen items in the value, and then for as many as there is memory for.
 impl<'a> Places<&'a str> for SmallVec<&'a str, 16> {
     ghost items = { λ places. places.items };
 
@@ -59,7 +59,7 @@ impl<'a> Places<&'a str> for SmallVec<&'a str, 16> {
     }
 }
 
-/// No place: items are measured and not kept.
+/// No room: items are measured and not kept.
 #[derive(Drop)]
 pub struct Nowhere<'a> {
     items: PhantomData<&'a str>,

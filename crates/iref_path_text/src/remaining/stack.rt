@@ -26,7 +26,7 @@ pub struct Stack<'a, P: Places<&'a str>> {
 }
 
 impl<'a, P: Places<&'a str>> Stack<'a, P> {
-    /// No items, and these places for them.
+    /// No items, and this room for them.
     #[inline(always)]
     pub fn new(places: P) -> Self
         requires { P.items places ≡ [] }

@@ -13,7 +13,7 @@ use super::merged::{Merged, survey};
 use crate::common::common_len;
 use crate::pieces::{split_root, without_last};
 
-/// So many `..`, and the last of the items of a list.
+/// A number of `..`, and the last of the items of a list.
 #[derive(Clone, Copy)]
 pub struct Way<'a> {
     up: usize,

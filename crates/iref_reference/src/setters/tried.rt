@@ -1,4 +1,5 @@
-//! Owners edited by texts, each of which is tested before anything grows (RFC 3986 section 3).
+//! Owned values edited by texts, each of which is tested before anything grows (RFC 3986 section
+//! 3).
 ghost use Rattle.std.specs.{Prelude.{option_map}, Option.{option_copied}};
 ghost use Rattle.iref_grammar.specs.Grammar.{IsAuthority, IsFragment, IsPath, IsQuery, IsScheme};
 ghost use Rattle.iref_component.specs.{read_authority, read_path, with_authority, with_fragment};
