@@ -1,4 +1,4 @@
--- The components of a text, each held to the rule of the grammar.
+-- The components of a text, each of which is in its rule of the grammar.
 use Rattle.std.specs.Prelude.{IfSome}
 use Rattle.iref_grammar.specs.Characters.{CharTests}
 use Rattle.iref_grammar.specs.ComponentTexts.{ComponentTexts}

@@ -56,7 +56,7 @@ StopsAt edited edits old new i Memory =
 abbrev pub AppliesEdits : Edited → List EditStep → ReferenceValue → ReferenceValue → Result (Unit {0}) (ℕ × EditFault) → Type 0
 AppliesEdits edited edits old new result = MatchResult result (λ _. AreDone edited edits old new) (λ stop. StopsAt edited edits old new stop.0 stop.1)
 
--- the same of an owner, whose text is the spelling of what it holds then
+-- the same of an owned value, whose text is the spelling of its value then
 abbrev pub AppliesTo : {R C K : _} → Edited → List EditStep → ReferenceBuf R C K → ReferenceBuf R C K → Result (Unit {0}) (ℕ × EditFault) → Type 0
 AppliesTo edited edits old new result =
     AppliesEdits edited edits (reference_buf_value old) (reference_buf_value new) result × (reference_buf_text new ≡ spell (reference_buf_value new))

@@ -64,7 +64,7 @@ RepliesPart line old new gathered =
 abbrev pub IsNothing : Begun → Type 0
 IsNothing begun = (begun.bytes.items ≡ []) × (begun.is_refused ≡ false)
 
--- the bytes of the line begun are held, unless memory was refused for them
+-- the bytes of the line begun are kept, unless memory was refused for them
 abbrev pub Holds : Begun → Text → Type 0
 Holds begun line = begun.is_refused ≡ false → begun.bytes.items ≡ line
 

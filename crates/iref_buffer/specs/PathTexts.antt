@@ -16,7 +16,7 @@ authority_text text =
 abbrev pub path_text : Text → Text
 path_text text = text_at text (offsets_of text).path
 
--- another text in place of the path's
+-- another text instead of the path's
 abbrev pub with_path_text : Text → Text → Text
 with_path_text path text = splice text (offsets_of text).path.start (offsets_of text).path.end path
 

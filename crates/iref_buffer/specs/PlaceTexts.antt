@@ -7,7 +7,7 @@ use Rattle.iref_grammar.specs.Rules.{Text}
 use Rattle.iref_grammar.specs.ComponentTexts.{ComponentTexts}
 use Rattle.iref_grammar.specs.ComponentOffsets.{text_at}
 
--- each place lies in the text, and begins and ends between characters
+-- each range lies in the text, and begins and ends between characters
 pub record AreWithin (text : Text) (offsets : Offsets) : Type 0 where
   pub scheme : IfSome offsets.scheme (IsWithin text)
   pub authority : IfSome offsets.authority (IsWithin text)
@@ -15,7 +15,7 @@ pub record AreWithin (text : Text) (offsets : Offsets) : Type 0 where
   pub query : IfSome offsets.query (IsWithin text)
   pub fragment : IfSome offsets.fragment (IsWithin text)
 
--- what stands at each place
+-- what stands in each range
 abbrev pub texts_at : Text → Offsets → ComponentTexts
 texts_at text offsets = record {
   scheme = option_map (text_at text) offsets.scheme;

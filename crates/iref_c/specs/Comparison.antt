@@ -23,7 +23,7 @@ number_of_order Greater = pos 1
 abbrev pub order_number : ReferenceValue → ReferenceValue → ℤ
 order_number r s = number_of_order (key_cmp (key r) (key s))
 
--- what a hasher of std answers that is fed the key
+-- what a hasher of std returns for the key
 abbrev pub hash_from : DefaultHasher → ReferenceValue → ℕ
 hash_from hasher r = finish (fold write hasher (fed_reference (key r)))
 

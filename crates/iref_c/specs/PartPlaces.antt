@@ -10,7 +10,7 @@ use Rattle.iref_c.specs.declared.places.Place.{Place}
 use Rattle.iref_c.specs.declared.places.Places.{Places}
 use Rattle.iref_c.specs.declared.places.AuthorityPlaces.{AuthorityPlaces}
 
--- the place of what is there, or zeros
+-- the range of what is there, or zeros
 abbrev pub place_for_c : Option (Range ℕ) → Place
 place_for_c None = record { is_there = 0; start = 0; end = 0 }
 place_for_c (Some place) = record { is_there = 1; start = place.start; end = place.end }

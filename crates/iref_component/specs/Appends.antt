@@ -62,7 +62,7 @@ IsSegmentText set item = InUtf8 (IsSegment set) item.now
 abbrev pub RefusesNext : CharTests → Bool → Option (Bor Text) → TryError (InvalidSegment (Bor Text)) → Type 0
 RefusesNext set closes next error = MatchOption next ((error ≡ Memory) × (closes ≡ true)) (λ item. InvalidIfOutside (IsSegmentText set item) (λ invalid. invalid.0 ≡ item) error)
 
--- the same by texts that are tested first: those that were taken are segments, and an error hands back the next if it is none
+-- the same by texts that are tested first: those that were taken are segments, and an error returns the next one if it is no segment
 abbrev pub TriesAppends : {U S V : Type 0} → ListEdit → CharTests → (U → S → Type 0) → (S → Option (Bor Text) → S → Type 0) → U → (PathStep → Type 0) → Result V (TryError (InvalidSegment (Bor Text))) → Type 0
 TriesAppends edit set becomes steps source Becomes result = MatchResult result
     (λ _. TakesAll becomes steps source (λ items. All (IsSegmentText set) items × Becomes (λ context. edit.whole context (item_texts items))))

@@ -5,7 +5,7 @@ use Rattle.iref_component.specs.Components.{text_of}
 use Rattle.iref_component.specs.declared.text.RuleText.{RuleText}
 use Rattle.iref_component.specs.AuthorityTexts.{IsStep}
 
--- an edit of an owner: at Ok it is this step of the text, and at an Err the text is as it was
+-- an edit of an owned authority: at Ok it is this step of the text, and at an Err the text is as it was
 abbrev pub EditsOwner : {S R C K s r k c : _} {V E : Type 0} → (AuthorityValue → AuthorityValue) → RuleText S R C K s r k c → RuleText S R C K s r k c → Result V E → Type 0
 EditsOwner step old new result =
     MatchResult result (λ _. IsStep step (text_of old) (text_of new)) (λ _. text_of new ≡ text_of old)

@@ -34,7 +34,7 @@ authority_mut_text editor = slice_range (edited_bytes editor) editor.place.start
 abbrev pub authority_mut_value : {C T c H : _} → AuthorityMut C T c H → AuthorityValue
 authority_mut_value editor = read_authority (authority_mut_text editor)
 
--- it edits what stands at this place of the bytes, where one is given
+-- it edits what stands in this range of the bytes, where one is given
 pub record IsEditorAt {C T c H : _} (editor : AuthorityMut C T c H) (bytes : Text) (place : Option (Range ℕ)) : Type 0 where
   pub bytes_are : edited_bytes editor ≡ bytes
   pub place_is : place ≡ Some (record { start = editor.place.start; end = editor.place.end })

@@ -18,8 +18,8 @@ use Rattle.iref_grammar.proofs.FeedLemmas.{text_feed_delimits}
 use Rattle.iref_model.proofs.FeedLemmas.{authority_feed_delimits, path_feed_delimits}
 use Rattle.iref_model.proofs.KeyOrderLemmas.{authority_keys_separate, path_keys_separate, texts_separate}
 
--- the key of a text, the order of keys, and what a hasher is fed of a key; the order is total, and keys that differ differ in
--- the order and in what is fed
+-- the key of a text, the order of keys, and the bytes that are hashed of a key; the order is total, and keys that differ differ in
+-- the order and in the bytes that are hashed
 pub record Comparison : Type 1 where
   pub Kept : Type 0
   pub key : Text → Kept
@@ -33,7 +33,7 @@ pub record Comparison : Type 1 where
 abbrev pub by_text : (Text → Text) → Comparison
 by_text key = record { Kept = Text; key = key; order = text_order; fed = fed_bytes; total = nat_list_cmp_total; separates = texts_separate; delimits = text_feed_delimits }
 
--- Values are equal exactly where their keys are the same, and in the order of the keys. A hasher is fed the key, in bytes that
+-- Values are equal exactly where their keys are the same, and in the order of the keys. The key is hashed, in bytes that
 -- determine it: values that are not equal feed different bytes.
 abbrev pub ComparesBy : {V K : Type 0} → (V → K) → (K → K → Ordering) → (K → HashWrites) → OrdMembers V → HashMembers V → Type 0
 ComparesBy {V} key order fed ord hash =

@@ -1,4 +1,4 @@
--- The text of a view or of an owner.
+-- The text of a borrowed or of an owned value.
 use Rattle.iref_grammar.specs.Rules.{Text}
 use Rattle.iref_component.specs.declared.text.RuleText.{RuleText}
 

@@ -89,15 +89,15 @@ Edits step old new result = EditsTo (step (path_mut_context old) (path_mut_value
 abbrev pub EditsBy : {C : _} {T : _} {c : _} {t : _} {X V E : Type 0} → (PathContext → X → PathValue → PathValue) → X → PathMut C T c t → PathMut C T c t → Result V E → Type 0
 EditsBy step by = Edits (λ context. step context by)
 
--- the owner's text spells this path, and is read as it
+-- the owned text spells this path, and is read as it
 pub record SpellsPath {S R C K s r k c : _} (p : RuleText S R C K s r k c) (value : PathValue) : Type 0 where
   pub text : text_of p ≡ spell_path value
   pub read : path_value p ≡ value
 
--- the owner's path, which stands alone, becomes what this step makes of it
+-- the owned path, which stands alone, becomes what this step makes of it
 abbrev pub OwnerBecomes : {S R C K s r k c : _} → RuleText S R C K s r k c → RuleText S R C K s r k c → PathStep → Type 0
 OwnerBecomes old new step = SpellsPath new (step alone (path_value old))
 
--- an edit of an owner: at Ok its path becomes what the step makes of it, and at an Err its text is as it was
+-- an edit of an owned path: at Ok its path becomes what the step makes of it, and at an Err its text is as it was
 abbrev pub EditsOwner : {S R C K s r k c : _} {V E : Type 0} → (PathValue → PathValue) → RuleText S R C K s r k c → RuleText S R C K s r k c → Result V E → Type 0
 EditsOwner step old new result = MatchResult result (λ _. SpellsPath new (step (path_value old))) (λ _. text_of new ≡ text_of old)

@@ -1,4 +1,4 @@
--- What is left of a path after a prefix, in an owner.
+-- What is left of a path after a prefix, as an owned path.
 use Rattle.std.specs.Prelude.{◌≡◌, Option, option_map}
 use Rattle.iref_grammar.specs.PathValue.{PathValue, spell_path}
 use Rattle.iref_model.specs.PathSuffix.{path_suffix}
@@ -6,7 +6,7 @@ use Rattle.iref_component.specs.Components.{text_of}
 use Rattle.iref_component.specs.Paths.{path_value}
 use Rattle.iref_component.specs.declared.text.RuleText.{RuleText}
 
--- there is an owner exactly where there is such a rest; its text spells that, and is read as it
+-- there is an owned path exactly where there is such a rest; its text spells that, and is read as it
 pub record SpellsSuffix {S R C K s r k c : _} (prefix path : PathValue) (found : Option (RuleText S R C K s r k c)) : Type 0 where
   pub text : option_map text_of found ≡ option_map spell_path (path_suffix prefix path)
   pub read : option_map path_value found ≡ path_suffix prefix path

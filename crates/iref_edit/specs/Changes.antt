@@ -1,4 +1,4 @@
--- The pieces of a change, the text after it, and the part at a place.
+-- The new texts of a change, the text after it, and the part in a range.
 use Rattle.std.specs.Prelude.{ℕ, ◌+◌, ◌-◌, ◌≤◌, ◌++◌, length, slice_range}
 use Rattle.std.specs.List.{splice}
 use Rattle.std.specs.Str.{IsCharBoundary}
@@ -13,7 +13,7 @@ pub record IsWithin (text : Text) (range : Range ℕ) : Type 0 where
   pub start : IsCharBoundary text range.start
   pub end : IsCharBoundary text range.end
 
--- what comes in, one piece after the other
+-- what comes in, one text after the other
 abbrev pub pieces : Change → Text
 pieces change = change.lead.now ++ change.middle.now ++ change.close.now
 
@@ -28,7 +28,7 @@ cut_length change = change.within.end - change.within.start
 abbrev pub IsNoLonger : Change → Type 0
 IsNoLonger change = pieces_length change ≤ cut_length change
 
--- the text with this in place of the range
+-- the text with this instead of the range
 abbrev pub replaced : Text → Range ℕ → Text → Text
 replaced text range new = splice text range.start range.end new
 
@@ -36,7 +36,7 @@ replaced text range new = splice text range.start range.end new
 abbrev pub changed : Text → Change → Text
 changed text change = replaced text change.within (pieces change)
 
--- what stands at the place
+-- what stands in the range
 abbrev pub part_at : Text → Place → Text
 part_at text place = slice_range text place.start place.end
 
@@ -44,6 +44,6 @@ part_at text place = slice_range text place.start place.end
 abbrev pub changed_part : Text → Place → Change → Text
 changed_part text place change = changed (part_at text place) change
 
--- the text after a change of what stands at the place
+-- the text after a change of what stands in the range
 abbrev pub changed_at : Text → Place → Change → Text
 changed_at text place change = splice text place.start place.end (changed_part text place change)

@@ -1,4 +1,4 @@
--- What texts are compared by: bytes. Equal keys are equal texts, the order is that of bytes, and what a hasher is fed determines the bytes.
+-- What texts are compared by: bytes. Equal keys are equal texts, the order is that of bytes, and the bytes that are hashed determine the text.
 use Rattle.std.specs.Prelude.{◌≡◌, ℕ, Bool, ◌==◌, List, [], ◌∷◌, ◌++◌, length, if◌then◌else◌}
 use Rattle.std.specs.List.{concat}
 use Rattle.std.specs.Hash.{HashWrites}
@@ -19,16 +19,16 @@ text_order = slice_cmp nat_cmp
 abbrev pub piece : Text → List ℕ
 piece bytes = length bytes ∷ bytes
 
--- what is fed of a text, where some bytes are held already: 63 held bytes are written as one piece, and the last piece has fewer
+-- the bytes of a text that are hashed, where some wait already: 63 bytes are written as one chunk, and the last chunk has fewer
 unfoldable pub fed_after : Text → Text → HashWrites
 fed_after held [] = piece held ∷ []
 fed_after held (b ∷ bs) =
     if length held == 62 then piece (held ++ b ∷ []) ∷ fed_after [] bs else fed_after (held ++ b ∷ []) bs
 
--- what a hasher is fed of a text: pieces of 63 bytes, each in one write after its length; a shorter piece ends the text
+-- the bytes that are hashed of a text: chunks of 63 bytes, each in one write after its length; a shorter chunk ends the text
 abbrev pub fed_bytes : Text → HashWrites
 fed_bytes bytes = fed_after [] bytes
 
--- The bytes that are fed determine the value and where it ends, whatever bytes follow: no two values feed the same bytes.
+-- The bytes that are hashed determine the value and where it ends, whatever bytes follow: no two values have the same bytes.
 abbrev pub IsSelfDelimiting : {T : Type 0} → (T → HashWrites) → Type 0
 IsSelfDelimiting {T} fed = (a b : T) (r s : List ℕ) → concat (fed a) ++ r ≡ concat (fed b) ++ s → (a ≡ b) × (r ≡ s)

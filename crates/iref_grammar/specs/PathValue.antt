@@ -37,7 +37,7 @@ pub record IsReadAs (text : Text) (p : PathValue) : Type 0 where
 
 -- ---- the same, computed
 
--- the pieces between `/`, of which the empty text has none
+-- the segments between `/`, of which the empty text has none
 abbrev pub segments_of : Text → List Text
 segments_of text = if is_empty text then [] else pieces_at slash text
 

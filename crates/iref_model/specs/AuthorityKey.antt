@@ -1,4 +1,4 @@
--- What authorities are compared by, in their order, and fed to hashers (RFC 3986 section 6.2.2).
+-- What authorities are compared by, in their order, and hashed by (RFC 3986 section 6.2.2).
 use Rattle.std.specs.Prelude.{◌++◌, option_map}
 use Rattle.std.specs.Option.{option_cmp}
 use Rattle.std.specs.Hash.{HashWrites, option}
@@ -19,7 +19,7 @@ abbrev pub authority_key_cmp : AuthorityValue → AuthorityValue → Ordering
 authority_key_cmp a b =
     ordering_then (option_cmp text_order a.user_info b.user_info) (ordering_then (text_order a.host b.host) (option_cmp text_order a.port b.port))
 
--- what a hasher is fed: whether there is a user info, and then it; the host; the port as the user info
+-- the bytes that are hashed: whether there is a user info, and then it; the host; the port as the user info
 abbrev pub fed_authority : AuthorityValue → HashWrites
 fed_authority a = option fed_bytes a.user_info ++ fed_bytes a.host ++ option fed_bytes a.port
 

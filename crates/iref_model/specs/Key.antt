@@ -38,7 +38,7 @@ AreAlike r s = key r ≡ key s
 abbrev pub are_alike : ReferenceValue → ReferenceValue → Bool
 are_alike r s = is_eq (key_cmp (key r) (key s))
 
--- what a hasher is fed of a key: component by component, and of one that may be absent whether it is there
+-- the bytes of a key that are hashed: component by component, and of one that may be absent whether it is there
 unfoldable pub fed_reference : ReferenceValue → HashWrites
 fed_reference k =
     option fed_bytes k.scheme ++ option fed_authority k.authority ++ fed_path k.path ++ option fed_bytes k.query ++ option fed_bytes k.fragment

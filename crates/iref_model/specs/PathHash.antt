@@ -1,4 +1,4 @@
--- What a hasher is fed of a path (RFC 3986 section 6.2.2).
+-- The bytes of a path that are hashed (RFC 3986 section 6.2.2).
 use Rattle.std.specs.Prelude.{◌++◌, List, reverse}
 use Rattle.std.specs.List.{flat_map}
 use Rattle.std.specs.Hash.{HashWrites, bool, u8}
@@ -10,6 +10,6 @@ use Rattle.iref_grammar.specs.PathValue.{PathValue}
 abbrev pub fed_from_the_back : List Text → HashWrites
 fed_from_the_back texts = flat_map fed_bytes (reverse texts)
 
--- of a key: the flag, the segments from the last to the first, and 255, with which no piece of a text begins
+-- of a key: the flag, the segments from the last to the first, and 255, with which no chunk of a text begins
 unfoldable pub fed_path : PathValue → HashWrites
 fed_path key = bool key.absolute ++ fed_from_the_back key.segments ++ u8 255

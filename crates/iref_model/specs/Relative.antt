@@ -42,7 +42,7 @@ abbrev pub last_or_empty : List Text → Text
 last_or_empty [] = []
 last_or_empty (s ∷ rest) = if is_empty rest then s else last_or_empty rest
 
--- the segments that lead from a directory to a normal list: up to their common beginning, and down
+-- the segments that lead from a directory to a normal list: up to their longest common prefix, and down
 abbrev pub steps_between : List Text → List Text → List Text
 steps_between directory list =
     let common = common_prefix_len same_decoded directory (all_but_last list) in

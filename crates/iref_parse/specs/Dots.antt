@@ -5,7 +5,7 @@ use Rattle.iref_grammar.specs.Grammar.{slash}
 use Rattle.iref_grammar.specs.Rules.{Text}
 use Rattle.iref_grammar.specs.Texts.{pieces_at}
 
--- `.`, at place k, begins a segment: it is the first byte, or follows a `/`
+-- `.`, at index k, begins a segment: it is the first byte, or follows a `/`
 abbrev pub DotAt : List ℕ → ℕ → Type 0
 DotAt path k = (slice_index path k ≡ 0x2E) × (0 < k → slice_index path (k - 1) ≡ slash)
 

@@ -7,7 +7,7 @@ ghost use Rattle.iref_grammar.specs.Grammar as grammar;
 ghost use Rattle.iref_grammar.specs.Tests as test;
 ghost use Rattle.iref_grammar.specs.{slash, is_not_percent, ScansTo};
 
-use crate::ascii::first_rule;
+use crate::ascii::{PATH, PCT_STR, QUERY, REG_NAME, SEGMENT, USER_INFO, first_rule};
 use crate::plain::is_plain;
 use crate::position::position_of_either;
 use iref_grammar::chars::CharSet;
@@ -89,7 +89,7 @@ impl<C: CharSet> CharRule for RegNameChars<C> {
     }
 
     fn allows_byte(byte: u8) -> bool {
-        first_rule(byte) <= 0
+        first_rule(byte) <= REG_NAME
     }
 }
 
@@ -103,7 +103,7 @@ impl<C: CharSet> CharRule for UserInfoChars<C> {
     }
 
     fn allows_byte(byte: u8) -> bool {
-        first_rule(byte) <= 1
+        first_rule(byte) <= USER_INFO
     }
 }
 
@@ -117,7 +117,7 @@ impl<C: CharSet> CharRule for SegmentChars<C> {
     }
 
     fn allows_byte(byte: u8) -> bool {
-        first_rule(byte) <= 2
+        first_rule(byte) <= SEGMENT
     }
 }
 
@@ -130,7 +130,7 @@ impl<C: CharSet> CharRule for PathChars<C> {
     }
 
     fn allows_byte(byte: u8) -> bool {
-        first_rule(byte) <= 3
+        first_rule(byte) <= PATH
     }
 }
 
@@ -144,7 +144,7 @@ impl<C: CharSet> CharRule for QueryChars<C> {
     }
 
     fn allows_byte(byte: u8) -> bool {
-        first_rule(byte) <= 4
+        first_rule(byte) <= QUERY
     }
 }
 
@@ -158,7 +158,7 @@ impl<C: CharSet> CharRule for FragmentChars<C> {
     }
 
     fn allows_byte(byte: u8) -> bool {
-        first_rule(byte) <= 4
+        first_rule(byte) <= QUERY
     }
 }
 
@@ -171,7 +171,7 @@ impl CharRule for PctStrChars {
     }
 
     fn allows_byte(byte: u8) -> bool {
-        first_rule(byte) <= 5
+        first_rule(byte) <= PCT_STR
     }
 }
 

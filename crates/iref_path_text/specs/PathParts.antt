@@ -15,7 +15,7 @@ use Rattle.iref_path_text.specs.declared.steps.Step.{Step}
 abbrev pub is_path_after : CharTests → PathContext → Text → Bool
 is_path_after set context text = is_path set text && follows_authority context (read_path text)
 
--- the text after a step: a beginning of the old text, and three pieces
+-- the text after a step: a prefix of the old text, and three texts
 abbrev pub step_text : Text → Step → Text
 step_text text step = take step.keep text ++ (step.lead.now ++ step.middle.now ++ step.close.now)
 

@@ -10,7 +10,7 @@ use Rattle.iref_grammar.specs.Texts.{pieces_at}
 use Rattle.iref_model.specs.NormalList.{normal_segments}
 use Rattle.iref_model.specs.NormalReading.{items}
 
--- the segments before a place, where one begins: a `/` stands after each
+-- the segments before an index, where one begins: a `/` stands after each
 abbrev pub pieces_before : Text → ℕ → List Text
 pieces_before text place = if place == 0 then [] else pieces_at slash (take (place - 1) text)
 
@@ -22,6 +22,6 @@ items_text absolute segments = join_with_byte slash (items (record { absolute = 
 abbrev pub rewritten : Text → Text → Text
 rewritten lead path = lead ++ join_with_byte slash (normal_segments (read_path path))
 
--- the text with that in place of the path at a place
+-- the text with that instead of the path in a range
 abbrev pub rewritten_at : Text → Text → Place → Text
 rewritten_at lead text place = splice text place.start place.end (rewritten lead (part_at text place))

@@ -14,6 +14,6 @@ SomeIfIn rule text text_of result = MatchOption result (¬ (rule text)) (λ v. r
 abbrev pub BecomesUri : {R C K r k c S D L s l d : _} {E : Type 0} → (CharTests → Text → Type 0) → (E → Reference R C K r k c) → Reference R C K r k c → Result (Reference S D L s l d) E → Type 0
 BecomesUri rule input iri = ParsesReference (rule uri_chars) input (reference_text iri) iri
 
--- the same of owners
+-- the same of owned values
 abbrev pub OwnerBecomesUri : {R C K S D L : _} {E : Type 0} → (CharTests → Text → Type 0) → (E → ReferenceBuf R C K) → ReferenceBuf R C K → Result (ReferenceBuf S D L) E → Type 0
 OwnerBecomesUri rule input iri = ParsesReferenceBuf (rule uri_chars) input (reference_buf_text iri) iri

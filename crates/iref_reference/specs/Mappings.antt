@@ -10,7 +10,7 @@ use Rattle.iref_reference.specs.References.{key_of_reference_buf, reference_buf_
 abbrev pub IsMapped : Text → Text → Type 0
 IsMapped iri text = (text ≡ mapped iri) × (read_reference text ≡ mapped_reference (read_reference iri))
 
--- the owner holds the mapping of an IRI of this text and key: it has the same key, and the very text where that is in the rule
+-- the owned value is the mapping of an IRI of this text and key: it has the same key, and the very text where that is in the rule
 abbrev pub IsMappingOf : {R C K : _} → (Text → Type 0) → Text → ReferenceValue → ReferenceBuf R C K → Type 0
 IsMappingOf rule iri key uri =
     IsMapped iri (reference_buf_text uri) × (key_of_reference_buf uri ≡ key) × (rule iri → reference_buf_text uri ≡ iri)
