@@ -4,7 +4,7 @@ use Rattle.iref_grammar.specs.Rules.{Text}
 use Rattle.iref_grammar.specs.Reference.{ReferenceValue, read_reference, spell}
 use Rattle.iref_model.specs.Edits as model
 use Rattle.iref_model.specs.Edits.{EditStep, SetScheme, SetAuthority, ReplaceAuthority, SetUserInfo, SetHost, SetPort, SetPortU32, SetQuery, SetFragment, LazyPush, Push, JoinPath, Pop, Clear, Normalize, Edited, edited, edited_uri, edited_from}
-use Rattle.iref_reference.specs.declared.owner.ReferenceBuf.{ReferenceBuf}
+use Rattle.iref_reference.specs.declared.owned.ReferenceBuf.{ReferenceBuf}
 use Rattle.iref_reference.specs.References.{reference_buf_text, reference_buf_value}
 use Rattle.iref.specs.declared.edits.EditFault.{EditFault}
 use Rattle.iref.specs.declared.edits.EditFault.TheVariants.{NoAuthority, SchemeNeeded, Memory}

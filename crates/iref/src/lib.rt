@@ -1,11 +1,15 @@
 //! URIs and IRIs (RFC 3986, RFC 3987).
 #![tactic(auto)]
 
+mod both_families;
 pub mod compact;
 pub mod edits;
 mod errors;
-mod shared;
 
+pub use both_families::{
+    InvalidPort, InvalidScheme, Memory, Offsets, PathContext, Port, PortBuf, PortError, Scheme,
+    SchemeBuf, TryError,
+};
 pub use iref_component::pct;
 pub use iref_error::InvalidPctStr;
 pub use iref_grammar::chars;
@@ -13,45 +17,41 @@ pub use iref_parse::authority::{AuthoritySlices, split_parts as split_authority}
 pub use iref_parse::offsets::offsets_of;
 pub use iref_parse::split::{ReferenceSlices, split_reference};
 pub use iri::{InvalidIri, InvalidIriRef, Iri, IriBuf, IriError, IriRef, IriRefBuf};
-pub use shared::{
-    InvalidPort, InvalidScheme, Memory, Offsets, PathContext, Port, PortBuf, PortError, Scheme,
-    SchemeBuf, TryError,
-};
 pub use uri::{InvalidUri, InvalidUriRef, Uri, UriBuf, UriError, UriRef, UriRefBuf};
 
 /// The names for code that serves all components, or all references.
 pub mod rules {
     pub use iref_buffer::held::HeldRule;
+    pub use iref_component::borrowed::BorrowedText;
     pub use iref_component::rule::Rule;
-    pub use iref_component::view::View;
     pub use iref_reference::composed::Composed;
 }
 
 /// URIs and references of URIs, with their components (RFC 3986 sections 3 and 4.1).
 pub mod uri {
-    pub use crate::edits::{Applied, EditFault, apply_all, apply_all_uri};
-    pub use crate::errors::UriError;
-    pub use crate::shared::{
+    pub use crate::both_families::{
         AuthorityPart, InvalidAuthority, InvalidFragment, InvalidHost, InvalidPath, InvalidPort,
         InvalidQuery, InvalidScheme, InvalidSegment, InvalidUserInfo, Memory, Offsets, PathContext,
         PathPart, PathTarget, Port, PortBuf, PortError, Scheme, SchemeBuf, Steps, Target, TryError,
         new_steps_have_room, path_eq_counted,
     };
+    pub use crate::edits::{Applied, EditFault, apply_all, apply_all_uri};
+    pub use crate::errors::UriError;
     pub use iref_error::{InvalidUri, InvalidUriRef};
     use iref_grammar::chars::UriChars;
 
     /// A URI (RFC 3986 section 3): `http://a/b?q#f` and `urn:isbn:1`, but not `//a/b`, which has no
     /// scheme.
-    pub type Uri<'a> = iref_reference::view::Uri<'a, UriChars>;
+    pub type Uri<'a> = iref_reference::borrowed::Uri<'a, UriChars>;
     /// A reference of URIs (RFC 3986 section 4.1): any URI, and what is relative to one, such as
     /// `//a/b`, `../b`, `?q` and the empty text.
-    pub type UriRef<'a> = iref_reference::view::UriRef<'a, UriChars>;
+    pub type UriRef<'a> = iref_reference::borrowed::UriRef<'a, UriChars>;
     /// A URI that owns its text (RFC 3986 section 3), and is edited in place: `set_query` of `q`
     /// makes `http://a/b?q` of `http://a/b`. It never loses its scheme.
-    pub type UriBuf = iref_reference::owner::UriBuf<UriChars>;
+    pub type UriBuf = iref_reference::owned::UriBuf<UriChars>;
     /// A reference of URIs that owns its text (RFC 3986 section 4.1): `resolve` against
     /// `http://a/b/c` makes `http://a/g` of `../g`.
-    pub type UriRefBuf = iref_reference::owner::UriRefBuf<UriChars>;
+    pub type UriRefBuf = iref_reference::owned::UriRefBuf<UriChars>;
 
     /// The components of a URI (RFC 3986 section 3): of `http://a/b` the scheme `http`, the
     /// authority `a`, the path `/b`, no query and no fragment.
@@ -134,29 +134,29 @@ pub mod uri {
 
 /// IRIs and references of IRIs, with their components (RFC 3987 section 2.2).
 pub mod iri {
-    pub use crate::edits::{Applied, EditFault, apply_all, apply_all_uri};
-    pub use crate::errors::IriError;
-    pub use crate::shared::{
+    pub use crate::both_families::{
         AuthorityPart, InvalidAuthority, InvalidFragment, InvalidHost, InvalidPath, InvalidPort,
         InvalidQuery, InvalidScheme, InvalidSegment, InvalidUserInfo, Memory, Offsets, PathContext,
         PathPart, PathTarget, Port, PortBuf, PortError, Scheme, SchemeBuf, Steps, Target, TryError,
         new_steps_have_room, path_eq_counted,
     };
+    pub use crate::edits::{Applied, EditFault, apply_all, apply_all_uri};
+    pub use crate::errors::IriError;
     pub use iref_error::{InvalidIri, InvalidIriRef};
     use iref_grammar::chars::IriChars;
 
     /// An IRI (RFC 3987 section 2.2): `http://é/b` and each URI, but not `//é/b`, which has no
     /// scheme.
-    pub type Iri<'a> = iref_reference::view::Uri<'a, IriChars>;
+    pub type Iri<'a> = iref_reference::borrowed::Uri<'a, IriChars>;
     /// A reference of IRIs (RFC 3987 section 2.2): any IRI, and what is relative to one, such as
     /// `//é`, `../ü` and the empty text.
-    pub type IriRef<'a> = iref_reference::view::UriRef<'a, IriChars>;
+    pub type IriRef<'a> = iref_reference::borrowed::UriRef<'a, IriChars>;
     /// An IRI that owns its text (RFC 3987 section 2.2): `into_uri` makes the URI `http://a/%C3%A9`
     /// of `http://a/é`. It never loses its scheme.
-    pub type IriBuf = iref_reference::owner::UriBuf<IriChars>;
+    pub type IriBuf = iref_reference::owned::UriBuf<IriChars>;
     /// A reference of IRIs that owns its text (RFC 3987 section 2.2): `resolve` against
     /// `http://a/b/c` makes `http://a/ü` of `../ü`.
-    pub type IriRefBuf = iref_reference::owner::UriRefBuf<IriChars>;
+    pub type IriRefBuf = iref_reference::owned::UriRefBuf<IriChars>;
 
     /// The components of an IRI (RFC 3987 section 2.2): of `http://a/é` the scheme `http`, the
     /// authority `a`, the path `/é`, no query and no fragment.

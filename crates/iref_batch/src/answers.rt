@@ -17,7 +17,7 @@ use edit::put_answer_to_edit;
 use iref::Memory;
 use iref::chars::CharSet;
 use iref::iri::{IriRef, IriRefParts, Path};
-use iref::rules::{Rule, View};
+use iref::rules::{BorrowedText, Rule};
 use prefixes::put_answer_by_table;
 use resolve::{put_answer_to_relative, put_answer_to_resolve};
 
@@ -31,7 +31,7 @@ fn put_text(text: &[u8], out: &mut Vec<u8>) -> Result<(), Memory>
 /// Puts a TAB and the field of a part: `-` where it is absent, else `=` and its text.
 #[inline(always)]
 fn put_part<R: Rule, C: CharSet>(
-    part: Option<View<'_, R, C>>,
+    part: Option<BorrowedText<'_, R, C>>,
     out: &mut Vec<u8>,
 ) -> Result<(), Memory>
     ensures { Puts (tab ∷ part_field (option_map text_of part.entry))

@@ -11,7 +11,7 @@ ghost use Rattle.iref_lines.specs.Lines as spec;
 use super::request::is_name;
 use iref::chars::CharSet;
 use iref::iri::Edit;
-use iref::rules::{Rule, View};
+use iref::rules::{BorrowedText, Rule};
 use iref_parse::cut::cut_bytes;
 use std::alloc::AllocFailed;
 use std::str;
@@ -38,17 +38,19 @@ impl<T: Drop> From<AllocFailed<T>> for FieldError {
 }
 
 // The value of this text, if it is in the rule.
-fn read<R: Rule, C: CharSet>(value: &[u8]) -> Result<View<'_, R, C>, FieldError>
+fn read<R: Rule, C: CharSet>(value: &[u8]) -> Result<BorrowedText<'_, R, C>, FieldError>
     ensures { IsRead text_of (R.test C.tests) (Some value.now) result }
 {
     match str::from_utf8(value) {
-        Ok(text) if R::accepts::<C>(text) => Ok(View::new_unchecked(text)),
+        Ok(text) if R::accepts::<C>(text) => Ok(BorrowedText::new_unchecked(text)),
         _ => Err(FieldError::Invalid),
     }
 }
 
 // The value of an edit that may do without.
-fn optional<R: Rule, C: CharSet>(value: Option<&[u8]>) -> Result<Option<View<'_, R, C>>, FieldError>
+fn optional<R: Rule, C: CharSet>(
+    value: Option<&[u8]>,
+) -> Result<Option<BorrowedText<'_, R, C>>, FieldError>
     ensures { IsRead (option_map text_of) (none_or (R.test C.tests))
         (Some (option_copied value.entry)) result }
 {
@@ -59,7 +61,7 @@ fn optional<R: Rule, C: CharSet>(value: Option<&[u8]>) -> Result<Option<View<'_,
 }
 
 // The value of an edit that needs one.
-fn needed<R: Rule, C: CharSet>(value: Option<&[u8]>) -> Result<View<'_, R, C>, FieldError>
+fn needed<R: Rule, C: CharSet>(value: Option<&[u8]>) -> Result<BorrowedText<'_, R, C>, FieldError>
     ensures { IsRead text_of (R.test C.tests) (option_copied value.entry) result }
 {
     read(value.ok_or(FieldError::Command)?)

@@ -10,8 +10,8 @@ use crate::measured::MeasuredReference;
 use iref_parse::split::ReferenceSlices;
 use iref_path_text::equality::path_texts_eq;
 use iref_path_text::measured::MeasuredPath;
-use iref_path_text::pieces::split_root;
 use iref_path_text::remaining::Remaining;
+use iref_path_text::segments::split_root;
 
 // Whether the empty path may stand for this one, with no query and no fragment after it.
 fn stays_empty(path: &str) -> bool

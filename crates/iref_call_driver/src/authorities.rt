@@ -8,7 +8,7 @@ use iref_buffer::held::HeldRule;
 use iref_component::authority::AuthorityBuf;
 use iref_component::authority_mut::{AuthorityMut, AuthorityPart};
 use iref_edit::target::Target;
-use iref_reference::owner::ReferenceBuf;
+use iref_reference::owned::ReferenceBuf;
 use std::marker::PhantomData;
 
 // The edits that an authority and its editor have.

@@ -8,9 +8,9 @@ use iref::Memory;
 use iref::chars::CharSet;
 use iref::uri::TryError;
 use iref_buffer::held::HeldRule;
-use iref_reference::owner::{ReferenceBuf, UriBuf};
+use iref_reference::borrowed::{Reference, Uri, UriRef};
+use iref_reference::owned::{ReferenceBuf, UriBuf};
 use iref_reference::suffix::Suffix;
-use iref_reference::view::{Reference, Uri, UriRef};
 use iref_url::{ParseError, ToUrl, Url};
 use std::alloc::Global;
 

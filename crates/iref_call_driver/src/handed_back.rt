@@ -7,8 +7,8 @@ use crate::subject::{Subject, put};
 use crate::texts::view;
 use iref::chars::CharSet;
 use iref::uri::{SchemeBuf, TryError};
-use iref_reference::owner::{UriBuf, UriRefBuf};
-use iref_reference::view::Uri;
+use iref_reference::borrowed::Uri;
+use iref_reference::owned::{UriBuf, UriRefBuf};
 use std::alloc::Global;
 use std::io;
 

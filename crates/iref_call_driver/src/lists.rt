@@ -6,7 +6,7 @@ use crate::subject::Subject;
 use crate::texts::{number_if_some, view, view_if_some};
 use iref::chars::CharSet;
 use iref::edits::{Applied, Edit, apply_all, apply_all_uri};
-use iref_reference::owner::{UriBuf, UriRefBuf};
+use iref_reference::owned::{UriBuf, UriRefBuf};
 use std::alloc::Global;
 use std::io;
 use std::marker::PhantomData;

@@ -32,7 +32,7 @@ use handed_back::{OfScheme, Resolving};
 use iref::chars::{CharSet, IriChars, UriChars};
 use iref_component::authority::AuthorityBuf;
 use iref_component::path_buf::PathBuf;
-use iref_reference::owner::{UriBuf, UriRefBuf};
+use iref_reference::owned::{UriBuf, UriRefBuf};
 use lists::Listed;
 use made::Made;
 use paths::OfPath;

@@ -10,7 +10,7 @@ use iref_component::path_buf::PathBuf;
 use iref_component::path_mut::PathMut;
 use iref_component::rules::PathRule;
 use iref_path_text::target::PathTarget;
-use iref_reference::owner::ReferenceBuf;
+use iref_reference::owned::ReferenceBuf;
 use std::marker::PhantomData;
 
 // The answer of a call that takes no memory.

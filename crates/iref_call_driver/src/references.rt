@@ -6,8 +6,8 @@ use crate::subject::put;
 use crate::texts::{view, view_if_some};
 use iref::chars::CharSet;
 use iref_buffer::held::HeldRule;
-use iref_reference::owner::{ReferenceBuf, UriBuf, UriRefBuf};
-use iref_reference::view::{Uri, UriRef};
+use iref_reference::borrowed::{Uri, UriRef};
+use iref_reference::owned::{ReferenceBuf, UriBuf, UriRefBuf};
 use std::io;
 use std::ops::Range;
 

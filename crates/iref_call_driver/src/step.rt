@@ -7,7 +7,7 @@ use iref::chars::CharSet;
 use iref_buffer::held::HeldRule;
 use iref_component::owned::TextBuf;
 use iref_component::rule::Refuses;
-use iref_reference::owner::ReferenceBuf;
+use iref_reference::owned::ReferenceBuf;
 use std::io;
 
 /// A value with a text of its own, which can be written.

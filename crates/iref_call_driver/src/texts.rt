@@ -1,13 +1,13 @@
 //! Arguments of calls, by their texts.
 use crate::answer::Fault;
 use iref::chars::CharSet;
+use iref_component::borrowed::BorrowedText;
 use iref_component::rule::Rule;
-use iref_component::view::View;
 
 /// The borrowed text as a value of its rule.
-pub fn view<R: Rule, C: CharSet>(text: &str) -> Result<View<'_, R, C>, Fault> {
+pub fn view<R: Rule, C: CharSet>(text: &str) -> Result<BorrowedText<'_, R, C>, Fault> {
     if R::accepts::<C>(text) {
-        Ok(View::new_unchecked(text))
+        Ok(BorrowedText::new_unchecked(text))
     } else {
         Err(Fault::NoCall)
     }
@@ -16,7 +16,7 @@ pub fn view<R: Rule, C: CharSet>(text: &str) -> Result<View<'_, R, C>, Fault> {
 /// The same, if there is a text.
 pub fn view_if_some<R: Rule, C: CharSet>(
     text: Option<&str>,
-) -> Result<Option<View<'_, R, C>>, Fault> {
+) -> Result<Option<BorrowedText<'_, R, C>>, Fault> {
     match text {
         Some(text) => Ok(Some(view(text)?)),
         None => Ok(None),

@@ -5,7 +5,7 @@ use crate::row::Row;
 use crate::step::Owner;
 use crate::subject::{Subject, put};
 use iref::chars::CharSet;
-use iref_reference::owner::UriBuf;
+use iref_reference::owned::UriBuf;
 use iref_url::{FromUrlError, ToUrl, TryFromUrl, Url};
 use std::alloc::Global;
 use std::io;

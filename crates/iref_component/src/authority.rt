@@ -8,17 +8,17 @@ ghost use Rattle.iref_model.specs.{authority_key, authority_key_cmp, fed_authori
 mod edits;
 
 use crate::authority_parts::{AuthorityParts, parts_of};
+use crate::borrowed::BorrowedText;
 use crate::owned::TextBuf;
 use crate::rules::AuthorityRule;
 use crate::text::{RuleText, Storage};
 use crate::texts::{Host, Port, UserInfo};
-use crate::view::View;
 use iref_grammar::chars::CharSet;
 use std::hash::Hash;
 
 /// An authority (RFC 3986 section 3.2): that of `//u@h:80/x` is `u@h:80`. `InvalidAuthority` holds
 /// a text that is no authority, such as `h:8a`.
-pub type Authority<'a, C> = View<'a, AuthorityRule, C>;
+pub type Authority<'a, C> = BorrowedText<'a, AuthorityRule, C>;
 /// An authority that owns its text (RFC 3986 section 3.2), such as `u@h`, which is edited in place
 /// to `u@h:80`.
 pub type AuthorityBuf<C> = TextBuf<AuthorityRule, C>;
@@ -58,7 +58,7 @@ impl<C: CharSet> AuthorityBuf<C> {
     pub fn as_authority(&self) -> Authority<'_, C>
         ensures { text_of result ≡ text_of self.now }
     {
-        self.as_view()
+        self.as_borrowed()
     }
 
     /// Its parts, as slices of its text.

@@ -11,12 +11,12 @@ ghost use Rattle.iref_model.specs.{port_text};
 ghost use Rattle.iref_model.specs.AuthoritySteps.{with_user_info, with_host, with_port};
 
 mod ranges;
-mod tried;
+mod try_edits;
 
 use crate::authority::Authority;
+use crate::borrowed::text_of;
 use crate::texts::{Host, Port, UserInfo};
-use crate::view::text_of;
-use iref_edit::change::{Change, Place};
+use iref_edit::change::{Change, Span};
 use iref_edit::target::{Part, Target};
 use iref_edit::text::{marked, marked_after};
 use iref_error::{InvalidAuthority, Memory};
@@ -46,7 +46,7 @@ impl Part for AuthorityPart {
 #[derive(Drop)]
 pub struct AuthorityMut<'a, C: CharSet, T: Target<AuthorityPart, C> = Vec<u8>> {
     target: &'a mut T,
-    place: Place,
+    place: Span,
     chars: PhantomData<C>,
     ghost placed: { T.stands (T.text target.now) tt
         place.start place.end } by { T.one_place _ _ _ _ },
@@ -110,7 +110,7 @@ impl<'a, C: CharSet, T: Target<AuthorityPart, C>> AuthorityMut<'a, C, T> {
         let Range { start, end } = range;
         AuthorityMut {
             target,
-            place: Place { start, end },
+            place: Span { start, end },
             chars: PhantomData,
         }
     }

@@ -5,8 +5,8 @@ ghost use Rattle.iref_component.specs.Comparisons.{ComparesBy};
 ghost use Rattle.iref_grammar.specs.{is_authority, read_authority};
 ghost use Rattle.iref_model.specs.{authority_key_cmp, fed_authority};
 
+use crate::borrowed::borrowed_of;
 use crate::texts::{Host, Port, UserInfo};
-use crate::view::view_of;
 use iref_grammar::chars::CharSet;
 use iref_parse::authority::split_parts;
 use std::alloc::AllocError;
@@ -42,9 +42,9 @@ pub fn parts_of<C: CharSet>(text: &str) -> AuthorityParts<'_, C>
 {
     let slices = split_parts(text);
     AuthorityParts {
-        user_info: view_of(slices.user_info),
+        user_info: borrowed_of(slices.user_info),
         host: Host::new_unchecked(slices.host),
-        port: view_of(slices.port),
+        port: borrowed_of(slices.port),
     }
 }
 

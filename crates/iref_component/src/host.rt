@@ -18,14 +18,14 @@ impl<S: Storage, C: CharSet> RuleText<S, HostRule, C> {
     pub fn is_ip_literal(&self) -> bool
         ensures { result ≡ is_ip_literal (text_of self.now) }
     {
-        host::is_ip_literal(self.as_view().as_str())
+        host::is_ip_literal(self.as_borrowed().as_str())
     }
 
     /// Whether it is an IPv4 address.
     pub fn is_ipv4(&self) -> bool
         ensures { result ≡ is_ipv4 (text_of self.now) }
     {
-        host::is_ipv4(self.as_view().as_str())
+        host::is_ipv4(self.as_borrowed().as_str())
     }
 
     /// Whether it is an IPv6 address in brackets.
@@ -39,14 +39,14 @@ impl<S: Storage, C: CharSet> RuleText<S, HostRule, C> {
     pub fn to_ipv4(&self) -> Option<u32>
         ensures { result ≡ ipv4_value (text_of self.now) }
     {
-        ip::ipv4_value(self.as_view().as_str())
+        ip::ipv4_value(self.as_borrowed().as_str())
     }
 
     /// The number of the IPv6 address in brackets, its first group highest.
     pub fn to_ipv6(&self) -> Option<u128>
         ensures { result ≡ literal_value (text_of self.now) }
     {
-        ip::ipv6_value(host::in_brackets(self.as_view().as_str())?)
+        ip::ipv6_value(host::in_brackets(self.as_borrowed().as_str())?)
     }
 }
 

@@ -8,8 +8,8 @@ ghost use Rattle.iref_component.specs.Comparisons.{Comparison, by_parts, by_segm
 
 use crate::authority_parts::parts_of;
 use iref_grammar::chars::CharSet;
+use iref_parse::chunk::Chunk;
 use iref_parse::decoded::{decoded_cmp, hash_decoded};
-use iref_parse::piece::Piece;
 use iref_path_text::equality::path_texts_eq;
 use iref_path_text::order::{hash_path_text, path_texts_cmp};
 use std::cmp::Ordering;
@@ -75,11 +75,11 @@ impl Key for LowerCase {
     }
 
     fn feed<C: CharSet, H: Hasher>(text: &str, state: &mut H) {
-        let mut piece = Piece::new();
+        let mut chunk = Chunk::new();
         for byte in text.bytes() {
-            piece.add(byte.to_ascii_lowercase(), state);
+            chunk.add(byte.to_ascii_lowercase(), state);
         }
-        piece.end(state);
+        chunk.end(state);
     }
 }
 
@@ -94,11 +94,11 @@ impl Key for SameText {
     }
 
     fn feed<C: CharSet, H: Hasher>(text: &str, state: &mut H) {
-        let mut piece = Piece::new();
+        let mut chunk = Chunk::new();
         for byte in text.bytes() {
-            piece.add(byte, state);
+            chunk.add(byte, state);
         }
-        piece.end(state);
+        chunk.end(state);
     }
 }
 

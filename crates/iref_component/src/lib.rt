@@ -6,7 +6,7 @@
 pub mod authority;
 pub mod authority_mut;
 pub mod authority_parts;
-pub mod both;
+pub mod borrowed;
 mod constants;
 mod from_segments;
 pub mod host;
@@ -24,7 +24,6 @@ pub mod rule;
 pub mod rules;
 pub mod segment;
 pub mod segments;
+pub mod tested;
 pub mod text;
 pub mod texts;
-pub mod tried;
-pub mod view;

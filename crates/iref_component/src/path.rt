@@ -10,6 +10,7 @@ ghost use Rattle.iref_grammar.specs.{alone, is_empty, spell_path};
 ghost use Rattle.iref_model.specs.{fed_path, normal_segments, path_key, path_key_cmp};
 ghost use Rattle.iref_model.specs.PathSuffix.{path_suffix};
 
+use crate::borrowed::BorrowedText;
 use crate::normal::NormalizedSegments;
 use crate::path_buf::PathBuf;
 use crate::rules::PathRule;
@@ -17,12 +18,11 @@ use crate::segment::looks_like_scheme;
 use crate::segments::Segments;
 use crate::text::{RuleText, Storage};
 use crate::texts::Segment;
-use crate::view::View;
 use iref_error::Memory;
 use iref_grammar::chars::CharSet;
 use iref_grammar::context::PathContext;
 use iref_path_text::path_text::{directory_text, parent_text};
-use iref_path_text::pieces::split_root;
+use iref_path_text::segments::split_root;
 use iref_path_text::spell::normalized_text;
 use iref_path_text::suffix::suffix_text;
 use std::alloc::Global;
@@ -30,7 +30,7 @@ use std::hash::Hash;
 
 /// A path (RFC 3986 section 3.3): `/a//b` has the segments `a`, the empty one and `b`.
 /// `InvalidPath` holds a text that is no path, such as `a?b`.
-pub type Path<'a, C> = View<'a, PathRule, C>;
+pub type Path<'a, C> = BorrowedText<'a, PathRule, C>;
 
 impl<S: Storage, C: CharSet> RuleText<S, PathRule, C> {
     /// Whether the path has no segments.
@@ -38,14 +38,14 @@ impl<S: Storage, C: CharSet> RuleText<S, PathRule, C> {
     pub fn is_empty(&self) -> bool
         ensures { result ≡ is_empty (path_value self.now).segments }
     {
-        split_root(self.as_view().as_str()).1.is_none()
+        split_root(self.as_borrowed().as_str()).1.is_none()
     }
 
     /// Whether the path begins with `/`.
     pub fn is_absolute(&self) -> bool
         ensures { result ≡ (path_value self.now).absolute }
     {
-        split_root(self.as_view().as_str()).0
+        split_root(self.as_borrowed().as_str()).0
     }
 
     /// Whether the path does not begin with `/`.
@@ -59,7 +59,7 @@ impl<S: Storage, C: CharSet> RuleText<S, PathRule, C> {
     pub fn segment_count(&self) -> usize
         ensures { result ≡ function.segment_count (path_value self.now) }
     {
-        self.as_view().segments().len()
+        self.as_borrowed().segments().len()
     }
 
     /// The path of the normal segments, with a guard where one is needed (RFC 3986 section 5.2.4).
@@ -72,7 +72,7 @@ impl<S: Storage, C: CharSet> RuleText<S, PathRule, C> {
         ensures equal { IfOk result (λ path.
             path_key (path_value path) ≡ path_key (path_value self.now)) }
     {
-        let path = self.as_view().as_str();
+        let path = self.as_borrowed().as_str();
         let alone = PathContext::default();
         let text = normalized_text::<C>(alloc, alone, self.is_absolute(), path)?;
         Ok(PathBuf::new_unchecked(text))
@@ -87,7 +87,7 @@ impl<S: Storage, C: CharSet> RuleText<S, PathRule, C> {
         ensures none { IsNone (path_suffix (path_value prefix.entry) (path_value self.now))
             → IsOk result }
     {
-        let path = self.as_view().as_str();
+        let path = self.as_borrowed().as_str();
         let text = suffix_text::<C>(alloc, prefix.as_str(), path)?;
         Ok(text.map(|text| PathBuf::new_unchecked(text)))
     }
@@ -96,7 +96,7 @@ impl<S: Storage, C: CharSet> RuleText<S, PathRule, C> {
     pub fn looks_like_scheme(&self) -> bool
         ensures { result ≡ function.looks_like_scheme (text_of self.now) }
     {
-        looks_like_scheme(self.as_view().as_str())
+        looks_like_scheme(self.as_borrowed().as_str())
     }
 }
 

@@ -5,9 +5,9 @@ ghost use Rattle.iref_component.specs.{Components.{text_of}, NormalPaths.{normal
 ghost use Rattle.iref_component.specs.Paths.{path_value, segments_left};
 ghost use Rattle.iref_model.specs.{normal_segments};
 
+mod appends;
 mod edits;
-mod lists;
-mod tries;
+mod try_edits;
 
 use crate::normal::NormalizedSegments;
 use crate::owned::TextBuf;
@@ -26,7 +26,7 @@ impl<C: CharSet> PathBuf<C> {
     pub fn as_path(&self) -> Path<'_, C>
         ensures { text_of result ≡ text_of self.now }
     {
-        self.as_view()
+        self.as_borrowed()
     }
 
     /// The segments.

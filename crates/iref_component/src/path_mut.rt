@@ -7,15 +7,15 @@ ghost use Rattle.iref_grammar.specs.Contexts.{follows_authority};
 ghost use Rattle.iref_path_text.specs.PathParts.{is_path_after, step_text, StepsTo};
 ghost use Rattle.iref_model.specs.PathSteps as step;
 
+mod appends;
 mod bytes;
-mod lists;
 mod normal;
-mod tries;
+mod try_edits;
 
 use crate::path::Path;
 use crate::path_buf::PathBuf;
 use crate::texts::Segment;
-use iref_edit::change::{Change, Place};
+use iref_edit::change::{Change, Span};
 use iref_edit::target::Target;
 use iref_error::Memory;
 use iref_grammar::chars::CharSet;
@@ -33,7 +33,7 @@ use std::ops::Range;
 pub struct PathMut<'a, C: CharSet, T: Target<PathPart, C> = Vec<u8>> {
     target: &'a mut T,
     context: PathContext,
-    place: Place,
+    place: Span,
     chars: PhantomData<C>,
     ghost placed: { T.stands (T.text target.now) context
         place.start place.end } by { T.one_place _ _ _ _ },
@@ -54,7 +54,7 @@ impl<'a, C: CharSet, T: Target<PathPart, C>> PathMut<'a, C, T> {
         PathMut {
             target,
             context,
-            place: Place {
+            place: Span {
                 start: range.start,
                 end: range.end,
             },

@@ -3,10 +3,10 @@ ghost use Rattle.std.specs.Prelude.{◌≡◌};
 ghost use Rattle.percent_encoding.specs.{Iter.{decoded_bytes}, Percent.{percent_decode}};
 ghost use Rattle.iref_component.specs.Components.{text_of};
 
+use crate::borrowed::BorrowedText;
 use crate::owned::TextBuf;
 use crate::rule::Escaped;
 use crate::rules::PctStrRule;
-use crate::view::View;
 pub use iref_error::InvalidPctStr;
 use iref_grammar::chars::{CharSet, UriChars};
 use percent_encoding::{PercentDecode, percent_decode_str};
@@ -14,7 +14,7 @@ use percent_encoding::{PercentDecode, percent_decode_str};
 /// A percent-encoded text (RFC 3986 section 2.1), where each `%` stands before two hexadecimal
 /// digits: `a%20b` decodes to the three bytes of `a b`. `InvalidPctStr` holds any other, such as
 /// `a%2`.
-pub type PctStr<'a> = View<'a, PctStrRule, UriChars>;
+pub type PctStr<'a> = BorrowedText<'a, PctStrRule, UriChars>;
 
 /// A percent-encoded text that owns its text (RFC 3986 section 2.1), such as `%41`, which is equal
 /// to `A`.
@@ -38,7 +38,7 @@ impl PctString {
     }
 }
 
-impl<'a, R: Escaped, C: CharSet> View<'a, R, C> {
+impl<'a, R: Escaped, C: CharSet> BorrowedText<'a, R, C> {
     /// The text as a percent-encoded text.
     pub fn as_pct_str(&self) -> PctStr<'a>
         ensures { text_of result ≡ text_of self.now }
@@ -52,7 +52,7 @@ impl<R: Escaped, C: CharSet> TextBuf<R, C> {
     pub fn as_pct_str(&self) -> PctStr<'_>
         ensures { text_of result ≡ text_of self.now }
     {
-        self.as_view().as_pct_str()
+        self.as_borrowed().as_pct_str()
     }
 
     /// The text as a percent-encoded text, with no copy.

@@ -31,77 +31,77 @@ impl<S: Storage> RuleText<S, PortRule, UriChars> {
     pub fn is_empty(&self) -> bool
         ensures { result ≡ is_empty (text_of self.now) }
     {
-        self.as_view().as_str().is_empty()
+        self.as_borrowed().as_str().is_empty()
     }
 
     /// The number, if it fits a `u8`.
     pub fn as_u8(&self) -> Option<u8>
         ensures { result ≡ result_ok (port_number (2 ^ 8) (text_of self.now)) }
     {
-        u8::try_from(self.as_view()).ok()
+        u8::try_from(self.as_borrowed()).ok()
     }
 
     /// The number, if it fits a `u16`.
     pub fn as_u16(&self) -> Option<u16>
         ensures { result ≡ result_ok (port_number (2 ^ 16) (text_of self.now)) }
     {
-        u16::try_from(self.as_view()).ok()
+        u16::try_from(self.as_borrowed()).ok()
     }
 
     /// The number, if it fits a `u32`.
     pub fn as_u32(&self) -> Option<u32>
         ensures { result ≡ result_ok (port_number (2 ^ 32) (text_of self.now)) }
     {
-        u32::try_from(self.as_view()).ok()
+        u32::try_from(self.as_borrowed()).ok()
     }
 
     /// The number, if it fits a `u64`.
     pub fn as_u64(&self) -> Option<u64>
         ensures { result ≡ result_ok (port_number (2 ^ 64) (text_of self.now)) }
     {
-        u64::try_from(self.as_view()).ok()
+        u64::try_from(self.as_borrowed()).ok()
     }
 
     /// The number, if it fits a `u128`.
     pub fn as_u128(&self) -> Option<u128>
         ensures { result ≡ result_ok (port_number (2 ^ 128) (text_of self.now)) }
     {
-        u128::try_from(self.as_view()).ok()
+        u128::try_from(self.as_borrowed()).ok()
     }
 
     /// The number, if it fits an `i8`.
     pub fn as_i8(&self) -> Option<i8>
         ensures { result ≡ result_ok (signed_port_number (2 ^ 7) (text_of self.now)) }
     {
-        i8::try_from(self.as_view()).ok()
+        i8::try_from(self.as_borrowed()).ok()
     }
 
     /// The number, if it fits an `i16`.
     pub fn as_i16(&self) -> Option<i16>
         ensures { result ≡ result_ok (signed_port_number (2 ^ 15) (text_of self.now)) }
     {
-        i16::try_from(self.as_view()).ok()
+        i16::try_from(self.as_borrowed()).ok()
     }
 
     /// The number, if it fits an `i32`.
     pub fn as_i32(&self) -> Option<i32>
         ensures { result ≡ result_ok (signed_port_number (2 ^ 31) (text_of self.now)) }
     {
-        i32::try_from(self.as_view()).ok()
+        i32::try_from(self.as_borrowed()).ok()
     }
 
     /// The number, if it fits an `i64`.
     pub fn as_i64(&self) -> Option<i64>
         ensures { result ≡ result_ok (signed_port_number (2 ^ 63) (text_of self.now)) }
     {
-        i64::try_from(self.as_view()).ok()
+        i64::try_from(self.as_borrowed()).ok()
     }
 
     /// The number, if it fits an `i128`.
     pub fn as_i128(&self) -> Option<i128>
         ensures { result ≡ result_ok (signed_port_number (2 ^ 127) (text_of self.now)) }
     {
-        i128::try_from(self.as_view()).ok()
+        i128::try_from(self.as_borrowed()).ok()
     }
 }
 

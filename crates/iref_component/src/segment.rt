@@ -14,7 +14,7 @@ impl<S: Storage, C: CharSet> RuleText<S, SegmentRule, C> {
     pub fn looks_like_scheme(&self) -> bool
         ensures { result ≡ function.looks_like_scheme (text_of self.now) }
     {
-        looks_like_scheme(self.as_view().as_str())
+        looks_like_scheme(self.as_borrowed().as_str())
     }
 }
 

@@ -9,7 +9,7 @@ ghost use Rattle.iref_path_text.specs.{pieces_if_some};
 
 use crate::texts::Segment;
 use iref_grammar::chars::CharSet;
-use iref_path_text::pieces::{first_piece, last_piece, piece_count};
+use iref_path_text::segments::{count_segments, first_segment, last_segment};
 use std::marker::PhantomData;
 
 /// The segments of a path that are left, from both ends (RFC 3986 section 3.3): of `/a//b` they are
@@ -46,7 +46,7 @@ impl<'a, C: CharSet> Iterator for Segments<'a, C> {
 
     fn next(&mut self) -> Option<Segment<'a, C>> {
         let text = self.rest?;
-        let (segment, rest) = first_piece(text);
+        let (segment, rest) = first_segment(text);
         self.rest = rest;
         Some(Segment::new_unchecked(segment))
     }
@@ -68,7 +68,7 @@ impl<'a, C: CharSet> DoubleEndedIterator for Segments<'a, C> {
 
     fn next_back(&mut self) -> Option<Segment<'a, C>> {
         let text = self.rest?;
-        let (rest, segment) = last_piece(text);
+        let (rest, segment) = last_segment(text);
         self.rest = rest;
         Some(Segment::new_unchecked(segment))
     }
@@ -76,6 +76,6 @@ impl<'a, C: CharSet> DoubleEndedIterator for Segments<'a, C> {
 
 impl<C: CharSet> ExactSizeIterator for Segments<'_, C> {
     fn len(&self) -> usize {
-        self.rest.map_or(0, |text| piece_count(text))
+        self.rest.map_or(0, |text| count_segments(text))
     }
 }

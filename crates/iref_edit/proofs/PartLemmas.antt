@@ -3,7 +3,7 @@ use Rattle.std.proofs.Common.{◌≡◌, ℕ, ◌+◌, ◌-◌, ◌≤◌, List,
 use Rattle.std.specs.List.{splice, slice_range}
 use Rattle.std.proofs.lemmas.List.{places, same_lists}
 use Rattle.iref_edit.specs.declared.change.Change.{Change}
-use Rattle.iref_edit.specs.declared.change.Place.{Place}
+use Rattle.iref_edit.specs.declared.change.Span.{Span}
 use Rattle.iref_edit.specs.Changes.{IsWithin, changed, cut_length, part_at, pieces, pieces_length}
 
 splice-within : (bs text : List ℕ) (start end from to : ℕ) → start ≤ from → from ≤ to → to ≤ end → end ≤ length bs → splice bs from to text ≡ splice bs start end (splice (slice_range bs start end) (from - start) (to - start) text)
@@ -45,7 +45,7 @@ part_stands text new part start end new_end a b e f = record {
 }
 
 -- how long the part is then
-pub part_len : (text : List ℕ) (change : Change) (place : Place) → place.start ≤ place.end → place.end ≤ length text → IsWithin (part_at text place) change.within
+pub part_len : (text : List ℕ) (change : Change) (place : Span) → place.start ≤ place.end → place.end ≤ length text → IsWithin (part_at text place) change.within
     → place.end - place.start - cut_length change + pieces_length change ≡ length (changed (part_at text place) change)
 part_len text change place a b within =
     let part = part_at text place in

@@ -5,7 +5,7 @@ use Rattle.std.specs.Str.{IsCharBoundary}
 use Rattle.std.specs.declared.ops.Range.{Range}
 use Rattle.iref_grammar.specs.Rules.{Text}
 use Rattle.iref_edit.specs.declared.change.Change.{Change}
-use Rattle.iref_edit.specs.declared.change.Place.{Place}
+use Rattle.iref_edit.specs.declared.change.Span.{Span}
 
 -- the range lies in the text, and begins and ends between characters
 pub record IsWithin (text : Text) (range : Range ℕ) : Type 0 where
@@ -37,13 +37,13 @@ abbrev pub changed : Text → Change → Text
 changed text change = replaced text change.within (pieces change)
 
 -- what stands in the range
-abbrev pub part_at : Text → Place → Text
+abbrev pub part_at : Text → Span → Text
 part_at text place = slice_range text place.start place.end
 
 -- the same after a change
-abbrev pub changed_part : Text → Place → Change → Text
+abbrev pub changed_part : Text → Span → Change → Text
 changed_part text place change = changed (part_at text place) change
 
 -- the text after a change of what stands in the range
-abbrev pub changed_at : Text → Place → Change → Text
+abbrev pub changed_at : Text → Span → Change → Text
 changed_at text place change = splice text place.start place.end (changed_part text place change)

@@ -4,7 +4,7 @@ ghost use Rattle.std.specs.{Prelude.{OnErr, IsOk}, List.{splice}};
 ghost use Rattle.iref_edit.specs.Changes.{IsNoLonger, changed, pieces, pieces_length};
 ghost use Rattle.iref_edit.specs.Edited.{StandsIn, one_place};
 
-use crate::change::{Change, Place};
+use crate::change::{Change, Span};
 use crate::target::{Part, Target};
 use iref_error::Memory;
 use iref_grammar::chars::CharSet;
@@ -107,12 +107,12 @@ impl<P: Part, C: CharSet> Target<P, C> for Vec<u8> {
         *self.allocator()
     }
 
-    fn part(&self, after: P::Context, at: Place) -> &str {
+    fn part(&self, after: P::Context, at: Span) -> &str {
         // What passes the test is text, so no byte is read again.
         unsafe { str::from_utf8_unchecked(&self[at.start..at.end]) }
     }
 
-    fn replace(&mut self, after: P::Context, at: Place, by: Change<'_>) -> Result<usize, Memory> {
+    fn replace(&mut self, after: P::Context, at: Span, by: Change<'_>) -> Result<usize, Memory> {
         let len = by.len_after(at.end - at.start)?;
         let within = at.start + by.within.start..at.start + by.within.end;
         replace(self, Change { within, ..by })?;

@@ -7,7 +7,7 @@ use std::ops::Range;
 
 /// The range of a part in a text, in bytes.
 #[derive(Clone, Copy)]
-pub struct Place {
+pub struct Span {
     /// Where the part begins.
     pub start: usize,
     /// Where it ends.

@@ -4,7 +4,7 @@ ghost use Rattle.std.specs.Str.{IsUtf8};
 ghost use Rattle.iref_grammar.specs.{Characters.{CharTests, AreAboveAscii}, Rules.{Text}};
 ghost use Rattle.iref_edit.specs.Changes.{IsNoLonger, IsWithin, changed_at, changed_part, part_at};
 
-use crate::change::{Change, Place};
+use crate::change::{Change, Span};
 use iref_error::Memory;
 use iref_grammar::chars::CharSet;
 use std::alloc::Global;
@@ -45,14 +45,14 @@ pub trait Target<P: Part, C: CharSet> {
     fn alloc(&self) -> Global;
 
     /// The part.
-    fn part(&self, after: P::Context, at: Place) -> &str
+    fn part(&self, after: P::Context, at: Span) -> &str
         requires { stands (text self.now) after at.start at.end }
         ensures value { result.now ≡ part_at (text self.now) at }
         ensures test { P.test C.tests after result.now ≡ true };
 
     /// Changes the part, and returns where it ends then. All room is taken first: an `Err` changes
     /// nothing, and what makes the part no longer takes no memory.
-    fn replace(&mut self, after: P::Context, at: Place, by: Change<'_>) -> Result<usize, Memory>
+    fn replace(&mut self, after: P::Context, at: Span, by: Change<'_>) -> Result<usize, Memory>
         requires stands { stands (text self.old) after at.start at.end }
         requires within { IsWithin (part_at (text self.old) at) by.within }
         requires test { P.test C.tests after (changed_part (text self.old) at by) ≡ true }

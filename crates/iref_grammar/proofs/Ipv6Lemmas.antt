@@ -57,9 +57,9 @@ record EndsSo (pieces : List Text) (groups : List ℕ) : Type 0 where
 LastPieces : List Text → List ℕ → Type 0
 LastPieces pieces groups = AllZip IsGroup pieces groups ⊎ EndsSo pieces groups
 
-last_piece : (p : Text) (groups : List ℕ) → last_group_values p ≡ Some groups → LastPieces (p ∷ []) groups
+last_segment : (p : Text) (groups : List ℕ) → last_group_values p ≡ Some groups → LastPieces (p ∷ []) groups
 unfolding LastPieces
-last_piece p groups h = by (group_value p) refl (ipv4_value p) refl h
+last_segment p groups h = by (group_value p) refl (ipv4_value p) refl h
   where
     by : (o : Option ℕ) → group_value p ≡ o → (q : Option ℕ) → ipv4_value p ≡ q → option_or (option_map (λ n. n ∷ []) o) (option_map (λ n. n / 65536 ∷ n % 65536 ∷ []) q) ≡ Some groups → AllZip IsGroup (p ∷ []) groups ⊎ EndsSo (p ∷ []) groups
     by (Some n) e q f k = inl (subst (λ xs. AllZip IsGroup (p ∷ []) xs) (same_Some (n ∷ []) groups k) (group_value-sound p n e, tt))
@@ -70,7 +70,7 @@ last_pieces : (pieces : List Text) (groups : List ℕ) → last_groups_of pieces
 unfolding LastPieces
 last_pieces [] [] h = inl tt
 last_pieces [] (n ∷ ns) h = cc
-last_pieces (p ∷ []) groups h = last_piece p groups h
+last_pieces (p ∷ []) groups h = last_segment p groups h
 last_pieces (p ∷ q ∷ pieces) groups h = by (group_value p) refl (last_groups_of (q ∷ pieces)) refl (λ ns. last_pieces (q ∷ pieces) ns) h
   where
     by : (o : Option ℕ) → group_value p ≡ o → (os : Option (List ℕ)) → last_groups_of (q ∷ pieces) ≡ os → ((ns : List ℕ) → last_groups_of (q ∷ pieces) ≡ Some ns → LastPieces (q ∷ pieces) ns)

@@ -3,10 +3,15 @@ ghost use Rattle.std.specs.Prelude.{◌≡◌, slice_index};
 
 /// The rules of characters by number: each allows the ASCII characters of those before it.
 pub(crate) const REG_NAME: u8 = 0;
+
 pub(crate) const USER_INFO: u8 = 1;
+
 pub(crate) const SEGMENT: u8 = 2;
+
 pub(crate) const PATH: u8 = 3;
+
 pub(crate) const QUERY: u8 = 4;
+
 pub(crate) const PCT_STR: u8 = 5;
 
 // Of each byte the first of these rules that allows it. 6 is `%`, and 7 is not ASCII.

@@ -3,6 +3,7 @@
 
 pub mod ascii;
 pub mod authority;
+pub mod chunk;
 pub mod cut;
 pub mod decoded;
 pub mod dots;
@@ -11,7 +12,6 @@ pub mod ip;
 pub mod ipv6;
 mod lanes;
 pub mod offsets;
-pub mod piece;
 mod plain;
 mod position;
 pub mod scan;

@@ -2,7 +2,7 @@
 use Rattle.std.specs.Prelude.{ℕ, Bool, ◌-◌, ◌==◌, List, [], ◌++◌, take, if◌then◌else◌}
 use Rattle.std.specs.List.{join_with_byte, splice}
 use Rattle.iref_edit.specs.Changes.{part_at}
-use Rattle.iref_edit.specs.declared.change.Place.{Place}
+use Rattle.iref_edit.specs.declared.change.Span.{Span}
 use Rattle.iref_grammar.specs.Grammar.{slash}
 use Rattle.iref_grammar.specs.PathValue.{read_path}
 use Rattle.iref_grammar.specs.Rules.{Text}
@@ -23,5 +23,5 @@ abbrev pub rewritten : Text → Text → Text
 rewritten lead path = lead ++ join_with_byte slash (normal_segments (read_path path))
 
 -- the text with that instead of the path in a range
-abbrev pub rewritten_at : Text → Text → Place → Text
+abbrev pub rewritten_at : Text → Text → Span → Text
 rewritten_at lead text place = splice text place.start place.end (rewritten lead (part_at text place))

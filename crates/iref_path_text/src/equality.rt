@@ -6,7 +6,7 @@ ghost use Rattle.iref_path_text.specs.Unread.{AreCounted, HasRoomFor, HaveRoom, 
 ghost use Rattle.iref_path_text.specs.Unread.{IsCountable, items_unread, steps_count, steps_taken};
 
 use crate::names::name_stays;
-use crate::pieces::{last_piece, split_root};
+use crate::segments::{last_segment, split_root};
 use iref_parse::decoded::decoded_eq;
 
 /// How many segments comparisons have read.
@@ -77,7 +77,7 @@ impl<'a> Unread<'a> {
         ensures segment { GivesSegment self.old result self.new }
         ensures counted { IsCounted steps.old self.old steps.new self.new }
     {
-        let (rest, segment) = last_piece(self.rest?);
+        let (rest, segment) = last_segment(self.rest?);
         self.rest = rest;
         steps.tick();
         Some(segment)

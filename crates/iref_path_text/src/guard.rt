@@ -3,7 +3,7 @@ ghost use Rattle.std.specs.Prelude.{◌≡◌, ◌≤◌, ◌++◌, true, length
 ghost use Rattle.iref_model.specs.{read_path, spell_path, guarded};
 ghost use Rattle.iref_path_text.specs.GuardTexts.{guard_text};
 
-use crate::pieces::{first_piece, split_root};
+use crate::segments::{first_segment, split_root};
 use crate::spell::has_colon;
 use iref_grammar::context::PathContext;
 
@@ -15,7 +15,7 @@ pub fn guard_of(context: PathContext, path: &str) -> &'static str
 {
     let (absolute, segments) = split_root(path);
     match segments {
-        Some(segments) => guard_before(context, absolute, first_piece(segments).0),
+        Some(segments) => guard_before(context, absolute, first_segment(segments).0),
         None => "",
     }
 }

@@ -11,10 +11,10 @@ ghost use Rattle.std.specs.Prelude.{◌||◌, ◌&&◌, ◌≡◌, ◌+◌, ◌*
 ghost use Rattle.std.specs.{Prelude.{false, length, true}, List.{join_with_byte}};
 ghost use Rattle.std.specs.String.{string_bytes};
 
-use crate::pieces::{split_root, without_last};
 use crate::remaining::Remaining;
 use crate::remaining::merged::Merged;
 use crate::remaining::way::Way;
+use crate::segments::{split_root, without_last};
 use crate::spell::{lead_in, measure, write_before, write_items};
 use iref_error::Memory;
 use iref_grammar::chars::CharSet;

@@ -8,8 +8,8 @@ ghost use Rattle.iref_model.specs.{path_key, path_key_cmp, fed_from_the_back};
 ghost use Rattle.iref_model.specs.{fed_path};
 ghost use Rattle.iref_path_text.specs.Remaining.{IsSound, decoded_left, normal_left};
 
-use crate::pieces::split_root;
 use crate::remaining::Remaining;
+use crate::segments::split_root;
 use iref_parse::decoded::{decoded_cmp, hash_decoded};
 use std::cmp::Ordering;
 use std::hash::{Hash, Hasher};

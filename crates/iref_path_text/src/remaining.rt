@@ -18,7 +18,7 @@ pub mod stack;
 pub mod way;
 
 use crate::names::{is_name, name_stays};
-use crate::pieces::{first_piece, last_piece, split_root};
+use crate::segments::{first_segment, last_segment, split_root};
 use merged::Merged;
 
 /// The items that are left: first the `..`, then the names that stay, then the empty segment that
@@ -40,7 +40,7 @@ fn ends_in_dots(rest: Option<&str>) -> bool
     ensures { result ≡ list.ends_in_dots (pieces_if_some rest.entry) }
 {
     match rest {
-        Some(text) => !is_name(last_piece(text).1),
+        Some(text) => !is_name(last_segment(text).1),
         None => false,
     }
 }
@@ -147,7 +147,7 @@ impl<'a> Remaining<'a> {
         ensures sound { IsSound self.new }
     {
         while let Some(text) = self.rest {
-            let (segment, rest) = first_piece(text);
+            let (segment, rest) = first_segment(text);
             self.rest = rest;
             if is_name(segment) {
                 match self.fate() {
@@ -176,7 +176,7 @@ impl<'a> Remaining<'a> {
         let mut names: usize = 0;
         let mut settled = self.open_parents == 0;
         while let Some(text) = rest {
-            let (segment, after) = first_piece(text);
+            let (segment, after) = first_segment(text);
             rest = after;
             if is_name(segment) {
                 names += 1;
@@ -208,7 +208,7 @@ impl<'a> Remaining<'a> {
         ensures fewer { IfSome result (λ name. to_read self.new < to_read self.old) }
     {
         while let Some(text) = self.rest {
-            let (rest, segment) = last_piece(text);
+            let (rest, segment) = last_segment(text);
             self.rest = rest;
             if name_stays(segment, &mut self.open_parents) {
                 return Some(segment);

@@ -12,13 +12,13 @@ ghost use Rattle.iref_path_text.specs.Written.{WritesBefore};
 ghost use Rattle.iref_edit.specs.Changes.{part_at};
 
 use crate::names::bytes_stay;
-use crate::pieces::split_root;
 use crate::remaining::leading_parents;
 use crate::remaining::places::Nowhere;
 use crate::remaining::stack::Stack;
+use crate::segments::split_root;
 use crate::spell::{lead_in, write_before};
 use iref_edit::bytes::replace;
-use iref_edit::change::{Change, Place};
+use iref_edit::change::{Change, Span};
 use iref_grammar::context::PathContext;
 use memchr::memrchr;
 use std::mem;
@@ -147,7 +147,7 @@ fn write_over(path: &mut [u8], lead: &str) -> usize
 }
 
 // Writes it over the path that is at `at`, and returns how many bytes of the path stand before it.
-fn write_at(bytes: &mut [u8], at: Place, lead: &str) -> usize
+fn write_at(bytes: &mut [u8], at: Span, lead: &str) -> usize
     requires start_le_end { at.start ≤ at.end }
     requires in_bounds { at.end ≤ length bytes.old }
     requires shorter { length (rewritten lead.now (part_at bytes.old at)) ≤ at.end - at.start }
@@ -177,7 +177,7 @@ fn cut(bytes: &mut Vec<u8>, within: Range<usize>)
 
 /// Replaces the path that is at `at` by what stands first and the path's normal list, and returns
 /// where that ends. It takes no memory.
-pub fn rewrite(bytes: &mut Vec<u8>, at: Place, lead: &str) -> usize
+pub fn rewrite(bytes: &mut Vec<u8>, at: Span, lead: &str) -> usize
     requires start_le_end { at.start ≤ at.end }
     requires in_bounds { at.end ≤ vec_len bytes.old }
     requires shorter { length (rewritten lead.now (part_at bytes.old.items at))
@@ -191,7 +191,7 @@ pub fn rewrite(bytes: &mut Vec<u8>, at: Place, lead: &str) -> usize
 }
 
 /// Replaces the path that is at `at` of a text, as `rewrite` does.
-pub fn rewrite_text(text: &mut String, at: Place, lead: &str) -> usize
+pub fn rewrite_text(text: &mut String, at: Span, lead: &str) -> usize
     requires start_le_end { at.start ≤ at.end }
     requires in_bounds { at.end ≤ string_len text.old }
     requires shorter { length (rewritten lead.now (part_at (string_bytes text.old) at))

@@ -15,10 +15,10 @@ ghost use Rattle.iref_path_text.specs.Written.{WritesBefore};
 ghost use Rattle.iref_path_text.specs.Spelling as spelling;
 
 use crate::measured::MeasuredPath;
-use crate::pieces::{first_piece, split_root};
 use crate::remaining::places::Places;
 use crate::remaining::stack::Stack;
 use crate::remaining::way::Way;
+use crate::segments::{first_segment, split_root};
 use arrayvec::ArrayVec;
 use iref_error::Memory;
 use iref_grammar::chars::CharSet;
@@ -246,7 +246,7 @@ fn dotless_bytes(
       segments = pieces_at slash segments.now;
     }))) }
 {
-    let first = first_piece(segments).0;
+    let first = first_segment(segments).0;
     let lead = lead_in(context, absolute, segments.len(), first);
     both_bytes(alloc, lead, segments)
 }

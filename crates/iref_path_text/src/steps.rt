@@ -7,7 +7,7 @@ ghost use Rattle.iref_path_text.specs.PathParts.{is_path_after, step_text, Steps
 ghost use Rattle.iref_path_text.specs.StepTexts as texts;
 
 use crate::guard::guard_of;
-use crate::pieces::{last_piece, split_root};
+use crate::segments::{last_segment, split_root};
 use crate::spell::{first_needs_guard, lead};
 use iref_grammar::chars::CharSet;
 use iref_grammar::context::PathContext;
@@ -163,7 +163,7 @@ fn pop_text(context: PathContext, path: &str) -> (Step<'static>, bool)
             (push_text(context, path, ".."), false)
         };
     };
-    let (front, last) = last_piece(segments);
+    let (front, last) = last_segment(segments);
     if last == ".." {
         return (push_text(context, path, ".."), false);
     }

@@ -7,7 +7,7 @@ ghost use Rattle.iref_path_text.specs.Rewriting.{rewritten, rewritten_at};
 
 use crate::part::PathPart;
 use crate::rewriting::rewrite;
-use iref_edit::change::Place;
+use iref_edit::change::Span;
 use iref_edit::target::Target;
 use iref_grammar::chars::CharSet;
 use iref_grammar::context::PathContext;
@@ -16,7 +16,7 @@ use iref_grammar::context::PathContext;
 pub trait PathTarget<C: CharSet>: Target<PathPart, C> {
     /// Replaces the path by what stands first and the normal list, and returns where that
     /// ends. It takes no memory.
-    fn rewrite(&mut self, after: PathContext, at: Place, lead: &str) -> usize
+    fn rewrite(&mut self, after: PathContext, at: Span, lead: &str) -> usize
         requires stands { Self.stands (Self.text self.old) after at.start at.end }
         requires shorter { length (rewritten lead.now (part_at (Self.text self.old) at))
             ≤ at.end - at.start }
@@ -32,7 +32,7 @@ pub trait PathTarget<C: CharSet>: Target<PathPart, C> {
 }
 
 impl<C: CharSet> PathTarget<C> for Vec<u8> {
-    fn rewrite(&mut self, after: PathContext, at: Place, lead: &str) -> usize {
+    fn rewrite(&mut self, after: PathContext, at: Span, lead: &str) -> usize {
         rewrite(self, at, lead)
     }
 }

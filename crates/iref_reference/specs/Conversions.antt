@@ -2,8 +2,8 @@
 use Rattle.std.specs.Prelude.{◌≡◌, Option, MatchOption, Result}
 use Rattle.iref_grammar.specs.Characters.{CharTests, uri_chars}
 use Rattle.iref_grammar.specs.Rules.{Text}
-use Rattle.iref_reference.specs.declared.view.Reference.{Reference}
-use Rattle.iref_reference.specs.declared.owner.ReferenceBuf.{ReferenceBuf}
+use Rattle.iref_reference.specs.declared.borrowed.Reference.{Reference}
+use Rattle.iref_reference.specs.declared.owned.ReferenceBuf.{ReferenceBuf}
 use Rattle.iref_reference.specs.References.{reference_text, reference_buf_text, ParsesReference, ParsesReferenceBuf}
 
 -- Some with the same text exactly if that is in the rule, else None

@@ -6,8 +6,8 @@ use Rattle.iref_model.specs.Key.{key}
 use Rattle.iref_component.specs.Components.{text_of}
 use Rattle.iref_component.specs.Makers.{ParsesUtf8}
 use Rattle.iref_buffer.specs.Steps.{IsStep, StepsOrStays}
-use Rattle.iref_reference.specs.declared.view.Reference.{Reference}
-use Rattle.iref_reference.specs.declared.owner.ReferenceBuf.{ReferenceBuf}
+use Rattle.iref_reference.specs.declared.borrowed.Reference.{Reference}
+use Rattle.iref_reference.specs.declared.owned.ReferenceBuf.{ReferenceBuf}
 
 abbrev pub reference_text : {R C K r k c : _} → Reference R C K r k c → Text
 reference_text r = text_of r.text

@@ -7,9 +7,9 @@ ghost use Rattle.iref_reference.specs.Parts.{uri_ref_parts_key, uri_parts_key};
 ghost use Rattle.iref_reference.specs.References.{key_of_reference, key_of_reference_buf};
 ghost use Rattle.iref_model.proofs.KeyOrderLemmas.{keys_total, fed_where_tied};
 
-use crate::owner::ReferenceBuf;
+use crate::borrowed::{Uri, UriRef};
+use crate::owned::ReferenceBuf;
 use crate::parts::{UriParts, UriRefParts};
-use crate::view::{Uri, UriRef};
 use iref_buffer::held::HeldRule;
 use iref_grammar::chars::CharSet;
 use std::cmp::Ordering;

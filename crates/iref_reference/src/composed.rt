@@ -8,7 +8,7 @@ ghost use Rattle.iref_model.specs.{Relative.{relative_to}, Resolution.{resolved}
 ghost use Rattle.iref_reference.specs.References.{reference_buf_text};
 ghost use Rattle.std.specs.Prelude.{◌≡◌, ◌≤◌, ◌++◌, drop, IfOk, length, OnErr, OnOk, true};
 
-use crate::owner::ReferenceBuf;
+use crate::owned::ReferenceBuf;
 use crate::rule::{ReferenceRule, UriRule};
 use iref_buffer::held::{Held, HeldRule};
 use iref_buffer::measured::{MeasuredReference, count_paths};

@@ -8,8 +8,8 @@ ghost use Rattle.iref_reference.specs.References.{reference_buf_text, reference_
 ghost use Rattle.iref_reference.specs.References.{NarrowsToUri};
 ghost use Rattle.iref_reference.specs.References.{OwnerNarrowsToUri, ParsesReferenceBuf};
 
-use crate::owner::{ReferenceBuf, UriBuf, UriRefBuf};
-use crate::view::{Reference, Uri, UriRef};
+use crate::borrowed::{Reference, Uri, UriRef};
+use crate::owned::{ReferenceBuf, UriBuf, UriRefBuf};
 use iref_buffer::held::HeldRule;
 use iref_error::{InvalidIri, InvalidUri, InvalidUriRef};
 use iref_grammar::chars::{CharSet, IriChars, UriChars};

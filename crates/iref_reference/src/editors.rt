@@ -5,14 +5,14 @@ ghost use Rattle.iref_component.specs.PathEdits.{Borrows, IsEditorOf};
 ghost use Rattle.iref_buffer.specs.PathPlaces.{IsPathOf, one_path, path_is_within};
 ghost use Rattle.iref_buffer.specs.AuthorityPlaces.{IsAuthorityOf, one_authority};
 ghost use Rattle.iref_buffer.specs.AuthorityPlaces.{authority_is_within};
-ghost use Rattle.iref_reference.specs.contracts.owner.ReferenceBuf.{the_row};
+ghost use Rattle.iref_reference.specs.contracts.owned.ReferenceBuf.{the_row};
 ghost use Rattle.iref_reference.specs.References.{reference_buf_text, reference_buf_value};
 
-use crate::owner::ReferenceBuf;
+use crate::owned::ReferenceBuf;
 use iref_buffer::held::HeldRule;
 use iref_component::authority_mut::{AuthorityMut, AuthorityPart};
 use iref_component::path_mut::PathMut;
-use iref_edit::change::{Change, Place};
+use iref_edit::change::{Change, Span};
 use iref_edit::target::Target;
 use iref_error::Memory;
 use iref_grammar::chars::CharSet;
@@ -34,17 +34,17 @@ impl<R: HeldRule, C: CharSet> Target<PathPart, C> for ReferenceBuf<R, C> {
         Target::<PathPart, C>::alloc(&self.held)
     }
 
-    fn part(&self, after: PathContext, at: Place) -> &str {
+    fn part(&self, after: PathContext, at: Span) -> &str {
         Target::<PathPart, C>::part(&self.held, after, at)
     }
 
-    fn replace(&mut self, after: PathContext, at: Place, by: Change<'_>) -> Result<usize, Memory> {
+    fn replace(&mut self, after: PathContext, at: Span, by: Change<'_>) -> Result<usize, Memory> {
         Target::<PathPart, C>::replace(&mut self.held, after, at, by)
     }
 }
 
 impl<R: HeldRule, C: CharSet> PathTarget<C> for ReferenceBuf<R, C> {
-    fn rewrite(&mut self, after: PathContext, at: Place, lead: &str) -> usize {
+    fn rewrite(&mut self, after: PathContext, at: Span, lead: &str) -> usize {
         self.held.rewrite(after, at, lead)
     }
 }
@@ -62,11 +62,11 @@ impl<R: HeldRule, C: CharSet> Target<AuthorityPart, C> for ReferenceBuf<R, C> {
         Target::<AuthorityPart, C>::alloc(&self.held)
     }
 
-    fn part(&self, after: (), at: Place) -> &str {
+    fn part(&self, after: (), at: Span) -> &str {
         Target::<AuthorityPart, C>::part(&self.held, after, at)
     }
 
-    fn replace(&mut self, after: (), at: Place, by: Change<'_>) -> Result<usize, Memory> {
+    fn replace(&mut self, after: (), at: Span, by: Change<'_>) -> Result<usize, Memory> {
         Target::<AuthorityPart, C>::replace(&mut self.held, after, at, by)
     }
 }

@@ -4,8 +4,8 @@ ghost use Rattle.iref_reference.specs.References.{reference_buf_text, reference_
 ghost use Rattle.iref_reference.specs.References.{OwnerNarrowsToUri};
 ghost use Rattle.std.specs.Prelude.{◌≡◌, true, IfSome, is_some};
 
-use crate::owner::{UriBuf, UriRefBuf};
-use crate::view::{Uri, UriRef};
+use crate::borrowed::{Uri, UriRef};
+use crate::owned::{UriBuf, UriRefBuf};
 use iref_error::InvalidUri;
 use iref_grammar::chars::{IriChars, UriChars};
 

@@ -7,8 +7,8 @@ ghost use Rattle.iref_reference.specs.References.{reference_buf_text, reference_
 ghost use Rattle.std.specs.{Char.{is_ascii}, List.{list_all}, Prelude.{◌≡◌, IfErr, IfOk, IsOk}};
 ghost use Rattle.std.specs.Prelude.{true};
 
-use crate::owner::{ReferenceBuf, UriBuf, UriRefBuf};
-use crate::view::{Reference, Uri, UriRef};
+use crate::borrowed::{Reference, Uri, UriRef};
+use crate::owned::{ReferenceBuf, UriBuf, UriRefBuf};
 use iref_buffer::held::{Held, HeldRule};
 use iref_error::Memory;
 use iref_grammar::chars::{IriChars, UriChars};

@@ -17,9 +17,9 @@ ghost use Rattle.iref_model.proofs.TieLemmas.{texts_tie};
 
 use iref_component::authority::Authority;
 use iref_component::authority_parts::AuthorityParts;
+use iref_component::borrowed::{borrowed_of, text_of};
 use iref_component::path::Path;
 use iref_component::texts::{Fragment, Query, Scheme};
-use iref_component::view::{text_of, view_of};
 use iref_error::{InvalidUri, InvalidUriRef};
 use iref_grammar::chars::CharSet;
 use iref_parse::split::{ReferenceSlices, parse_reference, split_reference};
@@ -81,7 +81,7 @@ impl<'a> SchemePart<'a> for Option<Scheme<'a>> {
     ghost tie = { lower_case_tie text_of };
 
     fn new(slice: Option<&'a str>) -> Self {
-        view_of(slice)
+        borrowed_of(slice)
     }
 
     fn to_option(self) -> Option<Scheme<'a>> {
@@ -156,10 +156,10 @@ impl<'a, S: SchemePart<'a>, C: CharSet> Parts<'a, S, C> {
     {
         Parts {
             scheme: S::new(slices.scheme),
-            authority: view_of(slices.authority),
+            authority: borrowed_of(slices.authority),
             path: Path::new_unchecked(slices.path),
-            query: view_of(slices.query),
-            fragment: view_of(slices.fragment),
+            query: borrowed_of(slices.query),
+            fragment: borrowed_of(slices.fragment),
         }
     }
 

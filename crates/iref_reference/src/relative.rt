@@ -9,10 +9,10 @@ ghost use Rattle.iref_reference.specs.Relatives.{ClimbsNoMore, IsRelative, Leads
 ghost use Rattle.iref_reference.specs.Relatives.{LeadsToTarget, WritesPathAlone, takes_scheme};
 ghost use Rattle.std.specs.Prelude.{◌≡◌, IfOk, true};
 
+use crate::borrowed::{Reference, UriRef};
 use crate::composed::{Composed, ComposedUriRef};
-use crate::owner::{ReferenceBuf, UriRefBuf};
+use crate::owned::{ReferenceBuf, UriRefBuf};
 use crate::parts::{Parts, SchemePart, UriRefParts};
-use crate::view::{Reference, UriRef};
 use iref_buffer::held::HeldRule;
 use iref_error::Memory;
 use iref_grammar::chars::CharSet;

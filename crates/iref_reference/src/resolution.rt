@@ -10,10 +10,10 @@ ghost use Rattle.std.specs.Prelude.{◌≡◌, IfOk, true};
 
 mod owners;
 
+use crate::borrowed::{Reference, Uri, UriRef};
 use crate::composed::{Composed, ComposedUri};
-use crate::owner::UriBuf;
+use crate::owned::UriBuf;
 use crate::parts::{Parts, SchemePart, UriParts};
-use crate::view::{Reference, Uri, UriRef};
 use iref_buffer::held::HeldRule;
 use iref_error::{InvalidUri, InvalidUriRef, Memory, TryError};
 use iref_grammar::chars::CharSet;

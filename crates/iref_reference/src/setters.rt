@@ -7,14 +7,14 @@ ghost use Rattle.iref_model.specs.ComponentSteps.{with_new_normal_path};
 ghost use Rattle.iref_reference.specs.References.{Edits, reference_buf_value};
 
 pub mod copies;
-mod tried;
+mod try_setters;
 
-use crate::owner::{ReferenceBuf, UriBuf, UriRefBuf};
+use crate::owned::{ReferenceBuf, UriBuf, UriRefBuf};
 use iref_buffer::held::HeldRule;
 use iref_component::authority::Authority;
+use iref_component::borrowed::text_of;
 use iref_component::path::Path;
 use iref_component::texts::{Fragment, Query, Scheme};
-use iref_component::view::text_of;
 use iref_error::Memory;
 use iref_grammar::chars::CharSet;
 

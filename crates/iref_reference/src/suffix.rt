@@ -6,9 +6,9 @@ ghost use Rattle.iref_reference.specs.References.{reference_buf_value};
 ghost use Rattle.iref_reference.specs.ReferenceSuffixes.{SpellsReferenceSuffix};
 ghost use Rattle.std.specs.Prelude.{◌≡◌, ◌&&◌, IfOk, IsNone, IsOk};
 
-use crate::owner::ReferenceBuf;
+use crate::borrowed::{Reference, UriRef};
+use crate::owned::ReferenceBuf;
 use crate::parts::UriRefParts;
-use crate::view::{Reference, UriRef};
 use iref_buffer::held::HeldRule;
 use iref_component::path_buf::PathBuf;
 use iref_component::texts::{Fragment, Query};

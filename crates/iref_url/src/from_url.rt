@@ -9,7 +9,7 @@ use crate::error::FromUrlError;
 use iref_buffer::held::HeldRule;
 use iref_component::rule::Refuses;
 use iref_grammar::chars::CharSet;
-use iref_reference::owner::ReferenceBuf;
+use iref_reference::owned::ReferenceBuf;
 use url::Url;
 
 /// An owned value that is made of the text of a URL: `UriBuf`, `UriRefBuf`, `IriBuf` and

@@ -4,8 +4,8 @@ ghost use Rattle.iref_reference.specs.{Text, reference_text, reference_buf_text}
 ghost use Rattle.url.specs.Parser.{Gives, parse_url};
 
 use iref_grammar::chars::CharSet;
-use iref_reference::owner::UriBuf;
-use iref_reference::view::Uri;
+use iref_reference::borrowed::Uri;
+use iref_reference::owned::UriBuf;
 use std::alloc::Global;
 use url::{ParseError, Url};
 

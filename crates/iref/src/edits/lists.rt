@@ -9,7 +9,7 @@ use crate::edits::parts::{edit_authority, edit_path};
 use crate::edits::schemes::SetsScheme;
 use crate::edits::{Edit, EditFault};
 use iref_grammar::chars::CharSet;
-use iref_reference::owner::{ReferenceBuf, UriBuf, UriRefBuf};
+use iref_reference::owned::{ReferenceBuf, UriBuf, UriRefBuf};
 
 /// What a list of edits returns: the number of the first that cannot be done, from 0, and why.
 pub type Applied = Result<(), (usize, EditFault)>;

@@ -14,7 +14,7 @@ use iref_edit::target::Target;
 use iref_error::Memory;
 use iref_grammar::chars::CharSet;
 use iref_path_text::target::PathTarget;
-use iref_reference::owner::ReferenceBuf;
+use iref_reference::owned::ReferenceBuf;
 
 /// An owned reference whose path is edited in place.
 pub trait PathOwner<C: CharSet>: PathTarget<C> {

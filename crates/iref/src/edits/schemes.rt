@@ -8,7 +8,7 @@ use crate::edits::EditFault;
 use iref_buffer::held::HeldRule;
 use iref_component::texts::Scheme;
 use iref_grammar::chars::CharSet;
-use iref_reference::owner::{ReferenceBuf, UriBuf, UriRefBuf};
+use iref_reference::owned::{ReferenceBuf, UriBuf, UriRefBuf};
 use iref_reference::rule::{ReferenceRule, UriRule};
 
 /// A rule of references, with what an edit of the scheme does under it.

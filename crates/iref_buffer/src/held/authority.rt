@@ -9,7 +9,7 @@ ghost use Rattle.iref_buffer.specs.AuthorityPlaces.{authority_is_within, place_o
 use super::{Held, HeldRule, slice_at};
 use crate::lengths::Lengths;
 use iref_component::authority_mut::AuthorityPart;
-use iref_edit::change::{Change, Place};
+use iref_edit::change::{Change, Span};
 use iref_edit::target::Target;
 use iref_error::Memory;
 use iref_grammar::chars::CharSet;
@@ -29,11 +29,11 @@ impl<R: HeldRule, C: CharSet> Target<AuthorityPart, C> for Held<R, C> {
         *self.text.allocator()
     }
 
-    fn part(&self, after: (), at: Place) -> &str {
+    fn part(&self, after: (), at: Span) -> &str {
         slice_at(self.as_str(), &(at.start..at.end))
     }
 
-    fn replace(&mut self, after: (), at: Place, by: Change<'_>) -> Result<usize, Memory> {
+    fn replace(&mut self, after: (), at: Span, by: Change<'_>) -> Result<usize, Memory> {
         self.replace_in_authority(by)?;
         Ok(self.offsets.path.start)
     }

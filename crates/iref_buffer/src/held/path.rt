@@ -10,14 +10,14 @@ ghost use Rattle.iref_buffer.specs.PathPlaces.{IsPathOf, one_path, path_is_withi
 
 use super::{Held, HeldRule};
 use crate::lengths::Lengths;
-use iref_edit::change::{Change, Place};
+use iref_edit::change::{Change, Span};
 use iref_edit::target::Target;
 use iref_error::Memory;
 use iref_grammar::chars::CharSet;
 use iref_grammar::context::PathContext;
 use iref_path_text::part::PathPart;
-use iref_path_text::pieces::split_root;
 use iref_path_text::rewriting::rewrite_text;
+use iref_path_text::segments::split_root;
 use iref_path_text::spell::normalized_text;
 use iref_path_text::target::PathTarget;
 use std::alloc::Global;
@@ -35,18 +35,18 @@ impl<R: HeldRule, C: CharSet> Target<PathPart, C> for Held<R, C> {
         *self.text.allocator()
     }
 
-    fn part(&self, after: PathContext, at: Place) -> &str {
+    fn part(&self, after: PathContext, at: Span) -> &str {
         self.slices().path
     }
 
-    fn replace(&mut self, after: PathContext, at: Place, by: Change<'_>) -> Result<usize, Memory> {
+    fn replace(&mut self, after: PathContext, at: Span, by: Change<'_>) -> Result<usize, Memory> {
         self.replace_in_path(by)?;
         Ok(self.offsets.path.end)
     }
 }
 
 impl<R: HeldRule, C: CharSet> PathTarget<C> for Held<R, C> {
-    fn rewrite(&mut self, after: PathContext, at: Place, lead: &str) -> usize {
+    fn rewrite(&mut self, after: PathContext, at: Span, lead: &str) -> usize {
         self.rewrite_path(lead);
         self.offsets.path.end
     }
@@ -77,7 +77,7 @@ impl<R: HeldRule, C: CharSet> Held<R, C> {
         let old = self.lengths();
         let range = self.path_range();
         let start = range.start;
-        let place = Place {
+        let place = Span {
             start,
             end: range.end,
         };

@@ -11,9 +11,9 @@ ghost use Rattle.iref_model.specs.AuthoritySteps.{with_user_info, with_host, wit
 
 use crate::authority::{Authority, AuthorityBuf};
 use crate::authority_mut::{AuthorityMut, AuthorityPart};
+use crate::tested::Tried;
 use crate::texts::{Host, Port, UserInfo};
-use crate::tried::Tried;
-use iref_edit::change::{Change, Place};
+use iref_edit::change::{Change, Span};
 use iref_edit::target::Target;
 use iref_error::{InvalidAuthority, InvalidHost, InvalidPort, InvalidUserInfo, Memory};
 use iref_grammar::chars::CharSet;
@@ -32,11 +32,11 @@ impl<C: CharSet> Target<AuthorityPart, C> for AuthorityBuf<C> {
         self.alloc()
     }
 
-    fn part(&self, after: (), at: Place) -> &str {
+    fn part(&self, after: (), at: Span) -> &str {
         self.as_str()
     }
 
-    fn replace(&mut self, after: (), at: Place, by: Change<'_>) -> Result<usize, Memory> {
+    fn replace(&mut self, after: (), at: Span, by: Change<'_>) -> Result<usize, Memory> {
         self.apply(by)?;
         Ok(self.len())
     }

@@ -11,7 +11,7 @@ use crate::path::Path;
 use crate::path_buf::PathBuf;
 use crate::path_mut::PathMut;
 use crate::texts::Segment;
-use iref_edit::change::{Change, Place};
+use iref_edit::change::{Change, Span};
 use iref_edit::target::Target;
 use iref_error::Memory;
 use iref_grammar::chars::CharSet;
@@ -35,18 +35,18 @@ impl<C: CharSet> Target<PathPart, C> for PathBuf<C> {
         self.alloc()
     }
 
-    fn part(&self, after: PathContext, at: Place) -> &str {
+    fn part(&self, after: PathContext, at: Span) -> &str {
         self.as_str()
     }
 
-    fn replace(&mut self, after: PathContext, at: Place, by: Change<'_>) -> Result<usize, Memory> {
+    fn replace(&mut self, after: PathContext, at: Span, by: Change<'_>) -> Result<usize, Memory> {
         self.apply(by)?;
         Ok(self.len())
     }
 }
 
 impl<C: CharSet> PathTarget<C> for PathBuf<C> {
-    fn rewrite(&mut self, after: PathContext, at: Place, lead: &str) -> usize {
+    fn rewrite(&mut self, after: PathContext, at: Span, lead: &str) -> usize {
         let empty = PathBuf::empty(self.alloc());
         let mut text = mem::replace(self, empty).into_string();
         let end = rewrite_text(&mut text, at, lead);

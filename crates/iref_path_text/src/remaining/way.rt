@@ -11,7 +11,7 @@ ghost use Rattle.std.specs.Prelude.{codes, drop, length, replicate};
 use super::Remaining;
 use super::merged::{Merged, survey};
 use crate::common::common_len;
-use crate::pieces::{split_root, without_last};
+use crate::segments::{split_root, without_last};
 
 /// A number of `..`, and the last of the items of a list.
 #[derive(Clone, Copy)]

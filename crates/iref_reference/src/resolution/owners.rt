@@ -7,9 +7,9 @@ ghost use Rattle.iref_reference.specs.References.{reference_buf_text, reference_
 ghost use Rattle.iref_reference.specs.{References.{reference_text}, Resolutions.{IsResolved}};
 ghost use Rattle.std.specs.Prelude.{◌≡◌, IfErr, IfOk, IsSome, OnErr, OnOk};
 
+use crate::borrowed::{Uri, UriRef};
 use crate::composed::Composed;
-use crate::owner::{ReferenceBuf, UriBuf, UriRefBuf};
-use crate::view::{Uri, UriRef};
+use crate::owned::{ReferenceBuf, UriBuf, UriRefBuf};
 use iref_buffer::held::HeldRule;
 use iref_error::{InvalidUri, InvalidUriRef, Memory, TryError};
 use iref_grammar::chars::CharSet;

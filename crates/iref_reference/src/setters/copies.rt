@@ -7,14 +7,14 @@ ghost use Rattle.iref_reference.specs.HandedBack.{TellsInvalidBeside};
 ghost use Rattle.iref_reference.specs.References.{reference_buf_text, reference_text, StepsFrom};
 ghost use Rattle.iref_buffer.specs.Steps.{IsStep};
 
-use crate::owner::{ReferenceBuf, UriBuf, UriRefBuf};
-use crate::view::{Reference, UriRef};
+use crate::borrowed::{Reference, UriRef};
+use crate::owned::{ReferenceBuf, UriBuf, UriRefBuf};
 use iref_buffer::held::{Held, HeldRule};
 use iref_component::authority::Authority;
+use iref_component::borrowed::text_of;
 use iref_component::path::Path;
+use iref_component::tested::read;
 use iref_component::texts::{Fragment, Query, Scheme};
-use iref_component::tried::read;
-use iref_component::view::text_of;
 use iref_error::{InvalidScheme, Memory, TryError};
 use iref_grammar::chars::CharSet;
 use std::alloc::Global;

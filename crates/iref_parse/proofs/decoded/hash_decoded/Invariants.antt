@@ -7,5 +7,5 @@ use Rattle.iref_parse.proofs.decoded.hash_decoded.Given as goal
 -- what is fed so far, held and left are all
 abbrev pub invariant-loop-byte : goal.invariant-loop-byte
 invariant-loop-byte g l =
-    fold g.H.Hasher.write l.state (fed_after l.piece (decoded_bytes l.byte-iterator))
+    fold g.H.Hasher.write l.state (fed_after l.chunk (decoded_bytes l.byte-iterator))
     ≡ fold g.H.Hasher.write l.fn.state (fed_bytes (percent_decode l.text))

@@ -8,7 +8,7 @@ returns-in-Some-clause-spelled c =
     let absolute = c.split_root-absolute.result.0 in
     ap (λ t. t ++ c.args.path.now) c.guard_before.ensures.guard
     ∙ guard_spelled c.args.context c.args.path.now absolute _ _
-    (c.split_root-absolute.ensures.path ∙ (λ i. record { absolute = absolute; segments = (ap pieces_if_some c.in-Some.is ∙ c.first_piece.ensures) i }))
+    (c.split_root-absolute.ensures.path ∙ (λ i. record { absolute = absolute; segments = (ap pieces_if_some c.in-Some.is ∙ c.first_segment.ensures) i }))
 
 pub returns-in-None-clause-spelled : goal.returns-in-None-clause-spelled
 returns-in-None-clause-spelled c =

@@ -35,38 +35,38 @@ returns-else-absolute-clause-empty c =
 pub returns-then-eq-clause-text : goal.returns-then-eq-clause-text
 returns-then-eq-clause-text c =
     let path = c.args.path.now in
-    let e = read_last path _ _ c.in-Some.segments c.last_piece.result.0 c.last_piece.result.1.now c.split_root-absolute.ensures.path c.in-Some.is c.last_piece.ensures in
-    c.push_text-then-eq.ensures.text ∙ ap spell_path (sym (popped_parent c.args.context (read_path path) _ _ c.last_piece.result.1.now e (sym c.if-eq.ensures)))
+    let e = read_last path _ _ c.in-Some.segments c.last_segment.result.0 c.last_segment.result.1.now c.split_root-absolute.ensures.path c.in-Some.is c.last_segment.ensures in
+    c.push_text-then-eq.ensures.text ∙ ap spell_path (sym (popped_parent c.args.context (read_path path) _ _ c.last_segment.result.1.now e (sym c.if-eq.ensures)))
 
 pub returns-then-eq-clause-empty : goal.returns-then-eq-clause-empty
 returns-then-eq-clause-empty c =
     let path = c.args.path.now in
-    let e = read_last path _ _ c.in-Some.segments c.last_piece.result.0 c.last_piece.result.1.now c.split_root-absolute.ensures.path c.in-Some.is c.last_piece.ensures in
-    sym (ap (λ (p : PathValue). is_empty p.segments) (popped_parent c.args.context (read_path path) _ _ c.last_piece.result.1.now e (sym c.if-eq.ensures)) ∙ lazy_some c.args.context (codes "..") (read_path path))
+    let e = read_last path _ _ c.in-Some.segments c.last_segment.result.0 c.last_segment.result.1.now c.split_root-absolute.ensures.path c.in-Some.is c.last_segment.ensures in
+    sym (ap (λ (p : PathValue). is_empty p.segments) (popped_parent c.args.context (read_path path) _ _ c.last_segment.result.1.now e (sym c.if-eq.ensures)) ∙ lazy_some c.args.context (codes "..") (read_path path))
 
 pub returns-in-Some-front-clause-keep : goal.returns-in-Some-front-clause-keep
 returns-in-Some-front-clause-keep c =
     let path = c.args.path.now in
-    let e = read_last path _ _ c.in-Some.segments c.last_piece.result.0 c.last_piece.result.1.now c.split_root-absolute.ensures.path c.in-Some.is c.last_piece.ensures in
+    let e = read_last path _ _ c.in-Some.segments c.last_segment.result.0 c.last_segment.result.1.now c.split_root-absolute.ensures.path c.in-Some.is c.last_segment.ensures in
     let f = read_by path _ _ (Some c.in-Some-front.front) _ e c.in-Some-front.is in
     let size = c.beginning-in-Some-front.ensures.keep ∙ ap (λ n. n + length c.in-Some-front.front.now) c.root_len-root.ensures in
-    (front_cut c.args.context path c.in-Some-front.front.now c.last_piece.result.1.now _ f _ size).place
+    (front_cut c.args.context path c.in-Some-front.front.now c.last_segment.result.1.now _ f _ size).place
 
 pub returns-in-Some-front-clause-text : goal.returns-in-Some-front-clause-text
 returns-in-Some-front-clause-text c =
     let path = c.args.path.now in
-    let e = read_last path _ _ c.in-Some.segments c.last_piece.result.0 c.last_piece.result.1.now c.split_root-absolute.ensures.path c.in-Some.is c.last_piece.ensures in
+    let e = read_last path _ _ c.in-Some.segments c.last_segment.result.0 c.last_segment.result.1.now c.split_root-absolute.ensures.path c.in-Some.is c.last_segment.ensures in
     let f = read_by path _ _ (Some c.in-Some-front.front) _ e c.in-Some-front.is in
     let size = c.beginning-in-Some-front.ensures.keep ∙ ap (λ n. n + length c.in-Some-front.front.now) c.root_len-root.ensures in
     begun path _ c.beginning-in-Some-front.result _ refl refl c.beginning-in-Some-front.ensures.middle c.beginning-in-Some-front.ensures.close
-    ∙ front_text c.args.context path c.in-Some-front.front.now c.last_piece.result.1.now _ f _ _ size (c.beginning-in-Some-front.ensures.lead ∙ c.list_guard.ensures) (sym c.if-eq.ensures)
+    ∙ front_text c.args.context path c.in-Some-front.front.now c.last_segment.result.1.now _ f _ _ size (c.beginning-in-Some-front.ensures.lead ∙ c.list_guard.ensures) (sym c.if-eq.ensures)
 
 pub returns-in-Some-front-clause-empty : goal.returns-in-Some-front-clause-empty
 returns-in-Some-front-clause-empty c =
     let path = c.args.path.now in
-    let e = read_last path _ _ c.in-Some.segments c.last_piece.result.0 c.last_piece.result.1.now c.split_root-absolute.ensures.path c.in-Some.is c.last_piece.ensures in
+    let e = read_last path _ _ c.in-Some.segments c.last_segment.result.0 c.last_segment.result.1.now c.split_root-absolute.ensures.path c.in-Some.is c.last_segment.ensures in
     let f = read_by path _ _ (Some c.in-Some-front.front) _ e c.in-Some-front.is in
-    sym (front_some c.args.context path c.in-Some-front.front.now c.last_piece.result.1.now _ f (sym c.if-eq.ensures))
+    sym (front_some c.args.context path c.in-Some-front.front.now c.last_segment.result.1.now _ f (sym c.if-eq.ensures))
 
 pub returns-in-None-clause-keep : goal.returns-in-None-clause-keep
 returns-in-None-clause-keep c =
@@ -79,17 +79,17 @@ returns-in-None-clause-keep c =
 pub returns-in-None-clause-text : goal.returns-in-None-clause-text
 returns-in-None-clause-text c =
     let path = c.args.path.now in
-    let e = read_last path _ _ c.in-Some.segments c.last_piece.result.0 c.last_piece.result.1.now c.split_root-absolute.ensures.path c.in-Some.is c.last_piece.ensures in
+    let e = read_last path _ _ c.in-Some.segments c.last_segment.result.0 c.last_segment.result.1.now c.split_root-absolute.ensures.path c.in-Some.is c.last_segment.ensures in
     let f = read_by path _ _ None _ e c.in-None.is in
     let flag = ap (λ (p : PathValue). p.absolute) c.split_root-absolute.ensures.path in
     let size = c.beginning-in-None.ensures.keep ∙ c.root_len-root.ensures in
     let cut = cut_at_root path c.split_root-absolute.result.0 c.utf8.path flag in
     begun path [] c.beginning-in-None.result _ size c.beginning-in-None.ensures.lead c.beginning-in-None.ensures.middle c.beginning-in-None.ensures.close
-    ∙ none_text c.args.context path c.last_piece.result.1.now _ f (sym c.if-eq.ensures) _ cut
+    ∙ none_text c.args.context path c.last_segment.result.1.now _ f (sym c.if-eq.ensures) _ cut
 
 pub returns-in-None-clause-empty : goal.returns-in-None-clause-empty
 returns-in-None-clause-empty c =
     let path = c.args.path.now in
-    let e = read_last path _ _ c.in-Some.segments c.last_piece.result.0 c.last_piece.result.1.now c.split_root-absolute.ensures.path c.in-Some.is c.last_piece.ensures in
+    let e = read_last path _ _ c.in-Some.segments c.last_segment.result.0 c.last_segment.result.1.now c.split_root-absolute.ensures.path c.in-Some.is c.last_segment.ensures in
     let f = read_by path _ _ None _ e c.in-None.is in
-    sym (ap (λ (p : PathValue). is_empty p.segments) (none_left c.args.context path c.last_piece.result.1.now _ f (sym c.if-eq.ensures)))
+    sym (ap (λ (p : PathValue). is_empty p.segments) (none_left c.args.context path c.last_segment.result.1.now _ f (sym c.if-eq.ensures)))

@@ -7,5 +7,5 @@ use Rattle.iref_component.proofs.key.LowerCaseKey.feed.Given as goal
 -- what is fed so far, held and left are all
 abbrev pub invariant-loop-byte : goal.invariant-loop-byte
 invariant-loop-byte g l =
-    fold g.H.Hasher.write l.state (fed_after l.piece (str_to_ascii_lowercase (bytes_rest l.byte-iterator)))
+    fold g.H.Hasher.write l.state (fed_after l.chunk (str_to_ascii_lowercase (bytes_rest l.byte-iterator)))
     ≡ fold g.H.Hasher.write l.fn.state (fed_bytes (str_to_ascii_lowercase l.text))

@@ -6,4 +6,4 @@ use Rattle.iref_component.proofs.key.SameTextKey.feed.Given as goal
 -- what is fed so far, held and left are all
 abbrev pub invariant-loop-byte : goal.invariant-loop-byte
 invariant-loop-byte g l =
-    fold g.H.Hasher.write l.state (fed_after l.piece (bytes_rest l.byte-iterator)) ≡ fold g.H.Hasher.write l.fn.state (fed_bytes l.text)
+    fold g.H.Hasher.write l.state (fed_after l.chunk (bytes_rest l.byte-iterator)) ≡ fold g.H.Hasher.write l.fn.state (fed_bytes l.text)

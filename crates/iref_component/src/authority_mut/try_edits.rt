@@ -1,0 +1,60 @@
+//! Authorities edited by texts, each of which is tested before anything grows.
+ghost use Rattle.std.specs.Option.{option_copied};
+ghost use Rattle.iref_component.specs.Tries.{Tests, TestsIfSome};
+ghost use Rattle.iref_grammar.specs.{IsAuthority, IsHost, IsPort, IsUserInfo, read_authority};
+ghost use Rattle.iref_model.specs.AuthoritySteps.{with_user_info, with_host, with_port};
+
+use crate::authority::Authority;
+use crate::authority_mut::{AuthorityMut, AuthorityPart};
+use crate::rules::{AuthorityRule, HostRule, PortRule, UserInfoRule};
+use crate::tested::{Tried, test};
+use crate::texts::Host;
+use iref_edit::target::Target;
+use iref_error::{InvalidAuthority, InvalidHost, InvalidPort, InvalidUserInfo, TryError};
+use iref_grammar::chars::CharSet;
+
+impl<C: CharSet, T: Target<AuthorityPart, C>> AuthorityMut<'_, C, T> {
+    ghost use Rattle.iref_component.specs.AuthorityEdits.{Edits};
+
+    /// As `replace`, by a text: `Invalid` returns a text that is not an authority.
+    pub fn try_replace<'t>(&mut self, authority: &'t str) -> Tried<InvalidAuthority<&'t str>>
+        ensures edit { Edits (λ _. read_authority authority.now) self.old self.new result }
+        ensures text { Tests (IsAuthority C.tests) authority.entry (λ error. error.0) result }
+    {
+        test::<AuthorityRule, C>(Some(authority))?;
+        self.replace(Authority::new_unchecked(authority))
+            .or(Err(TryError::Memory))
+    }
+
+    /// As `set_user_info`, by a text: `Invalid` returns a text that is not a user info.
+    pub fn try_set_user_info<'t>(
+        &mut self,
+        user_info: Option<&'t str>,
+    ) -> Tried<InvalidUserInfo<&'t str>>
+        ensures edit { Edits (with_user_info (option_copied user_info.entry))
+            self.old self.new result }
+        ensures text { TestsIfSome (IsUserInfo C.tests) user_info.entry (λ error. error.0) result }
+    {
+        test::<UserInfoRule, C>(user_info)?;
+        self.put_user_info(user_info).or(Err(TryError::Memory))
+    }
+
+    /// As `set_host`, by a text: `Invalid` returns a text that is not a host.
+    pub fn try_set_host<'t>(&mut self, host: &'t str) -> Tried<InvalidHost<&'t str>>
+        ensures edit { Edits (with_host host.now) self.old self.new result }
+        ensures text { Tests (IsHost C.tests) host.entry (λ error. error.0) result }
+    {
+        test::<HostRule, C>(Some(host))?;
+        self.set_host(Host::new_unchecked(host))
+            .or(Err(TryError::Memory))
+    }
+
+    /// As `set_port`, by a text: `Invalid` returns a text that is not a port.
+    pub fn try_set_port<'t>(&mut self, port: Option<&'t str>) -> Tried<InvalidPort<&'t str>>
+        ensures edit { Edits (with_port (option_copied port.entry)) self.old self.new result }
+        ensures text { TestsIfSome IsPort port.entry (λ error. error.0) result }
+    {
+        test::<PortRule, C>(port)?;
+        self.put_port(port).or(Err(TryError::Memory))
+    }
+}

@@ -1,0 +1,18 @@
+use Rattle.std.proofs.Common.{[], ◌∷◌, ap, ◌∙◌}
+use Rattle.iref_grammar.specs.Grammar.{question_mark}
+use Rattle.iref_grammar.specs.Texts.{before}
+use Rattle.iref_grammar.specs.Reference.{hierarchy, is_reference, read_reference}
+use Rattle.iref_grammar.proofs.FrontLemmas.{read_reference-hierarchy, is_reference-hierarchy}
+use Rattle.iref_reference.specs.References.{reference_text}
+use Rattle.iref_reference.proofs.borrowed.Reference.without_query_and_fragment.Goals as goal
+
+pub new_unchecked-requires : goal.new_unchecked-requires
+new_unchecked-requires g c =
+    let text = c.as_str.result.now in
+    ap (is_reference g.C.CharSet.tests) (c.cut-2.ensures.before ∙ ap (before (question_mark ∷ [])) c.cut.ensures.before)
+    ∙ is_reference-hierarchy g.C.CharSet.tests text (g.met.R.HeldRule.references g.C.CharSet.tests text c.as_str.ensures.in_rule)
+
+pub returns-clause-value : goal.returns-clause-value
+returns-clause-value g c =
+    ap read_reference (c.new_unchecked.ensures ∙ c.cut-2.ensures.before ∙ ap (before (question_mark ∷ [])) c.cut.ensures.before ∙ ap hierarchy c.as_str.ensures.text)
+    ∙ read_reference-hierarchy (reference_text c.args.self.now)
