@@ -159,5 +159,5 @@ module _ (step : Edited) where
     stops_at NoAuthority e = stops_next 0 i (map f xs) (f x) model.NoAuthority old (read_reference before) h here e.1 ∙ outcome model.NoAuthority e.0
     stops_at SchemeNeeded e = stops_next 0 i (map f xs) (f x) model.SchemeNeeded old (read_reference before) h here e.1 ∙ outcome model.SchemeNeeded e.0
     stops_at Memory e =
-        let wants = subst (λ (text : Text). Refuses step (f x) (read_reference text) Memory) (sym e.0) e.1 in
-        (h ∙ ap (λ (text : Text). Ok (read_reference text)) (sym e.0), subst (λ (o : Option EditStep). IsSomeAnd o (λ edit. Refuses step edit (read_reference after) Memory)) (sym here) wants)
+        let refusal = subst (λ (text : Text). Refuses step (f x) (read_reference text) Memory) (sym e.0) e.1 in
+        (h ∙ ap (λ (text : Text). Ok (read_reference text)) (sym e.0), subst (λ (o : Option EditStep). IsSomeAnd o (λ edit. Refuses step edit (read_reference after) Memory)) (sym here) refusal)

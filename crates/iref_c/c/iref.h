@@ -10,7 +10,7 @@
  *
  * What the caller owes. No pointer is NULL, not even one of length 0. What is passed as a text holds that many bytes that
  * can be read, and does not change during the call. What is passed as a buffer holds that many bytes that can be read and
- * written, and each place for a result is aligned as its type is. No buffer or place for a result overlaps anything else
+ * written, and the memory for each result is aligned as its type is. No buffer and no such memory overlaps anything else
  * that is passed. malloc, realloc and free are of one allocator, and iref_normalize_path and iref_to_uri, which alone take
  * memory, are not called from a signal handler, nor in the forked child of a process with threads. Nothing checks any of
  * this.
@@ -44,38 +44,38 @@ extern "C" {
 #define IREF_MEMORY 4         /* memory was refused, or a length cannot be counted */
 
 /* Where a component stands in its text. */
-struct iref_place {
+struct iref_range {
     size_t is_there; /* 1 where there is one, else 0, and then the others are 0 too */
     size_t start;    /* where it begins, in bytes from the beginning of the text */
-    size_t end;      /* where it ends: the place of the byte after its last, so that end - start bytes are in it */
+    size_t end;      /* where it ends: the offset of the byte after its last, so that end - start bytes are in it */
 };
 
-/* Where the components of a text stand, without the marks `:`, `//`, `@`, `?` and `#` between them (RFC 3986 section 3). */
-struct iref_places {
-    struct iref_place scheme;    /* section 3.1 */
-    struct iref_place authority; /* section 3.2: user info, host and port, with `@` and `:` between them */
-    struct iref_place user_info; /* section 3.2.1 */
-    struct iref_place host;      /* section 3.2.2: there where the authority is, and may be empty */
-    struct iref_place port;      /* section 3.2.3: its digits, and may be empty */
-    struct iref_place path;      /* section 3.3: always there, and may be empty */
-    struct iref_place query;     /* section 3.4 */
-    struct iref_place fragment;  /* section 3.5 */
+/* Where the components of a text stand, without the delimiters `:`, `//`, `@`, `?` and `#` between them (RFC 3986 section 3). */
+struct iref_ranges {
+    struct iref_range scheme;    /* section 3.1 */
+    struct iref_range authority; /* section 3.2: user info, host and port, with `@` and `:` between them */
+    struct iref_range user_info; /* section 3.2.1 */
+    struct iref_range host;      /* section 3.2.2: there where the authority is, and may be empty */
+    struct iref_range port;      /* section 3.2.3: its digits, and may be empty */
+    struct iref_range path;      /* section 3.3: always there, and may be empty */
+    struct iref_range query;     /* section 3.4 */
+    struct iref_range fragment;  /* section 3.5 */
 };
 
-/* Whether a text is in a rule, and then the places of its components: IREF_OK or IREF_INVALID. Of `//h:80` the host is
+/* Whether a text is in a rule, and then the ranges of its components: IREF_OK or IREF_INVALID. Of `//h:80` the host is
  * at 2 to 3 and the port at 4 to 6. */
 
 /* A URI: it has a scheme (RFC 3986 section 3). */
-uint32_t iref_parse_uri(const char *text, size_t length, struct iref_places *places);
+uint32_t iref_parse_uri(const char *text, size_t length, struct iref_ranges *ranges);
 
 /* A reference of URIs: a URI, or one that is relative to a URI (RFC 3986 section 4.1). */
-uint32_t iref_parse_uri_reference(const char *text, size_t length, struct iref_places *places);
+uint32_t iref_parse_uri_reference(const char *text, size_t length, struct iref_ranges *ranges);
 
 /* An IRI: a URI with characters beyond ASCII (RFC 3987 section 2.2). */
-uint32_t iref_parse_iri(const char *text, size_t length, struct iref_places *places);
+uint32_t iref_parse_iri(const char *text, size_t length, struct iref_ranges *ranges);
 
 /* A reference of IRIs (RFC 3987 section 2.2). */
-uint32_t iref_parse_iri_reference(const char *text, size_t length, struct iref_places *places);
+uint32_t iref_parse_iri_reference(const char *text, size_t length, struct iref_ranges *ranges);
 
 /* Comparison of references of IRIs (RFC 3986 section 6.2.2): schemes without regard to case, paths with their dots
  * removed, and escapes as the bytes that they stand for; no rule of a scheme is used. The three agree: two references are

@@ -1,6 +1,6 @@
 /*
  * Answers lines by the calls of iref.h, as the program iref_cli does: fields between TABs, of the verbs parts, normal,
- * equal, resolve, relative and to-uri. With the argument `check` it looks at the calls themselves in place of answering,
+ * equal, resolve, relative and to-uri. With the argument `check` it looks at the calls themselves instead of answering,
  * over the same lines, and says what is wrong: buffers too short by one, bytes that are not UTF-8, lengths of zero, and
  * whether equality, order and hash agree.
  */
@@ -65,22 +65,22 @@ static const char *error_of(uint32_t status) {
 static void print_text(struct text text) { fwrite(text.at, 1, text.length, stdout); }
 
 /* TAB, and `=` and the component, or `-` where there is none. */
-static void print_component(struct text text, struct iref_place place) {
-    struct text component = {text.at + place.start, place.end - place.start};
-    fputs(place.is_there ? "\t=" : "\t-", stdout);
-    if (place.is_there) print_text(component);
+static void print_component(struct text text, struct iref_range range) {
+    struct text component = {text.at + range.start, range.end - range.start};
+    fputs(range.is_there ? "\t=" : "\t-", stdout);
+    if (range.is_there) print_text(component);
 }
 
 static void answer_parts(struct text text) {
-    struct iref_places places;
-    uint32_t status = iref_parse_iri_reference(text.at, text.length, &places);
+    struct iref_ranges ranges;
+    uint32_t status = iref_parse_iri_reference(text.at, text.length, &ranges);
     fputs(status == IREF_OK ? "ok" : error_of(status), stdout);
     if (status == IREF_OK) {
-        print_component(text, places.scheme);
-        print_component(text, places.authority);
-        print_component(text, places.path);
-        print_component(text, places.query);
-        print_component(text, places.fragment);
+        print_component(text, ranges.scheme);
+        print_component(text, ranges.authority);
+        print_component(text, ranges.path);
+        print_component(text, ranges.query);
+        print_component(text, ranges.fragment);
     }
 }
 
@@ -177,28 +177,28 @@ static void check_written(const struct verb *verb, const struct text *texts) {
     expect(check_length(verb, texts, 0, &again) == (needed ? IREF_SHORT : IREF_OK), "an empty buffer", texts[0]);
 }
 
-/* Places are within the text, and parts within the authority. */
-static void check_places(struct text text) {
-    struct iref_places places;
-    memset(&places, GUARD, sizeof places);
-    struct iref_places before = places;
-    uint32_t narrow = iref_parse_uri(text.at, text.length, &places);
-    uint32_t uri_reference = iref_parse_uri_reference(text.at, text.length, &places);
-    uint32_t iri = iref_parse_iri(text.at, text.length, &places);
-    uint32_t wide = iref_parse_iri_reference(text.at, text.length, &places);
+/* Ranges are within the text, and parts within the authority. */
+static void check_ranges(struct text text) {
+    struct iref_ranges ranges;
+    memset(&ranges, GUARD, sizeof ranges);
+    struct iref_ranges before = ranges;
+    uint32_t narrow = iref_parse_uri(text.at, text.length, &ranges);
+    uint32_t uri_reference = iref_parse_uri_reference(text.at, text.length, &ranges);
+    uint32_t iri = iref_parse_iri(text.at, text.length, &ranges);
+    uint32_t wide = iref_parse_iri_reference(text.at, text.length, &ranges);
     expect(narrow != IREF_OK || (uri_reference == IREF_OK && iri == IREF_OK), "a URI is in no wider rule", text);
     expect((uri_reference != IREF_OK && iri != IREF_OK) || wide == IREF_OK, "a reference is in no wider rule", text);
     if (wide != IREF_OK) {
         expect(wide == IREF_INVALID, "a status of one text", text);
-        expect(memcmp(&places, &before, sizeof places) == 0, "a refusal changes places", text);
+        expect(memcmp(&ranges, &before, sizeof ranges) == 0, "a refusal changes ranges", text);
         return;
     }
-    expect((iri == IREF_OK) == places.scheme.is_there, "an IRI is a reference with a scheme", text);
-    expect(places.path.is_there && places.path.end <= text.length, "a path is within the text", text);
-    expect(places.host.is_there == places.authority.is_there, "a host is where the authority is", text);
-    size_t end = places.port.is_there ? places.port.end : places.host.end;
-    size_t start = places.user_info.is_there ? places.user_info.start : places.host.start;
-    expect(start == places.authority.start && end == places.authority.end, "parts fill their authority", text);
+    expect((iri == IREF_OK) == ranges.scheme.is_there, "an IRI is a reference with a scheme", text);
+    expect(ranges.path.is_there && ranges.path.end <= text.length, "a path is within the text", text);
+    expect(ranges.host.is_there == ranges.authority.is_there, "a host is where the authority is", text);
+    size_t end = ranges.port.is_there ? ranges.port.end : ranges.host.end;
+    size_t start = ranges.user_info.is_there ? ranges.user_info.start : ranges.host.start;
+    expect(start == ranges.authority.start && end == ranges.authority.end, "parts fill their authority", text);
 }
 
 static uint64_t hash_of(struct text text) {
@@ -286,7 +286,7 @@ static void check_pairs(struct text text) {
 static void check(const struct text *fields, size_t count) {
     struct text texts[2] = {fields[count > 1 ? 1 : 0], fields[count - 1]};
     for (size_t verb = 0; verb < VERB_COUNT; verb++) check_written(&VERBS[verb], texts);
-    for (size_t i = 0; i < count; i++) check_places(fields[i]);
+    for (size_t i = 0; i < count; i++) check_ranges(fields[i]);
     for (size_t i = 0; i < count; i++) check_pairs(fields[i]);
 }
 

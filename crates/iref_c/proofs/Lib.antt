@@ -1,4 +1,4 @@
 pub mod AnswerLemmas
 pub mod ComparisonLemmas
-mod PartPlaceRows
-pub mod PlaceLemmas
+mod PartRangeRows
+pub mod RangeLemmas

@@ -1,3 +1,3 @@
 pub mod Answers
 pub mod Comparison
-pub mod PartPlaces
+pub mod PartRanges

@@ -4,7 +4,7 @@
 
 pub mod comparison;
 pub mod parse;
-pub mod places;
+pub mod ranges;
 pub mod status;
 pub mod store;
 pub mod texts;

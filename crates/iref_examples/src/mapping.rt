@@ -7,7 +7,7 @@ use std::alloc::Global;
 
 /// Whether the mappings of two references are equal: exactly if the references are.
 pub fn are_mapped_alike(a: IriRef<'_>, b: IriRef<'_>, alloc: Global) -> Result<bool, Memory>
-    ensures { IfOk result (λ alike. alike
+    ensures { IfOk result (λ equal. equal
         ≡ are_alike (reference_value a.entry) (reference_value b.entry)) }
 {
     Ok(a.to_uri_ref(alloc)? == b.to_uri_ref(alloc)?)
@@ -15,7 +15,7 @@ pub fn are_mapped_alike(a: IriRef<'_>, b: IriRef<'_>, alloc: Global) -> Result<b
 
 /// Maps owned values, which are taken.
 pub fn are_owners_mapped_alike(a: IriRefBuf, b: IriRefBuf) -> Result<bool, Memory>
-    ensures { IfOk result (λ alike. alike
+    ensures { IfOk result (λ equal. equal
         ≡ are_alike (reference_buf_value a) (reference_buf_value b)) }
 {
     let a = a.into_uri_ref().or(Err(Memory))?;

@@ -22,8 +22,8 @@ first_mapped f g h e None = refl
 first_mapped f g h e (Some x) = ap Some (e x)
 
 -- of what a prefix and a reference are read as, p and q
-module _ (prefix r p q : ReferenceValue) (p_is : p ≡ prefix) (q_is : q ≡ r) (alike : Bool) (alike_is : alike ≡ (have_same_scheme p q && have_same_authority p q)) where
-  whole : (b : Bool) → alike ≡ b → reference_suffix p q ≡ cond b (option_map (with_rest q) (path_suffix p.path q.path)) None
+module _ (prefix r p q : ReferenceValue) (p_is : p ≡ prefix) (q_is : q ≡ r) (same : Bool) (alike_is : same ≡ (have_same_scheme p q && have_same_authority p q)) where
+  whole : (b : Bool) → same ≡ b → reference_suffix p q ≡ cond b (option_map (with_rest q) (path_suffix p.path q.path)) None
   unfolding reference_suffix
   whole b e = ap (λ same. cond same (option_map (with_rest q) (path_suffix p.path q.path)) None) (sym alike_is ∙ e)
 
@@ -31,10 +31,10 @@ module _ (prefix r p q : ReferenceValue) (p_is : p ≡ prefix) (q_is : q ≡ r) 
   suffix_is = λ i. reference_suffix (sym p_is i) (sym q_is i)
 
   -- nothing is left where they differ
-  pub none-left : alike ≡ false → reference_suffix prefix r ≡ None
+  pub none-left : same ≡ false → reference_suffix prefix r ≡ None
   none-left e = suffix_is ∙ whole false e
 
-  module _ (e : alike ≡ true) where
+  module _ (e : same ≡ true) where
     rest : reference_suffix prefix r ≡ option_map (with_rest q) (path_suffix p.path q.path)
     rest = suffix_is ∙ whole true e
 

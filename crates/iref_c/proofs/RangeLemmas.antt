@@ -9,8 +9,8 @@ use Rattle.iref_grammar.specs.declared.offsets.Offsets.{Offsets}
 use Rattle.iref_grammar.specs.Reference.{ReferenceValue}
 use Rattle.iref_grammar.specs.ComponentOffsets.{authority_mark, place_from, offsets_in}
 use Rattle.iref_grammar.proofs.AuthorityLemmas.{read_authority-spelled}
-use Rattle.iref_c.specs.declared.places.Place.{Place}
-use Rattle.iref_c.specs.PartPlaces.{authority_places, place_for_c, places_from}
+use Rattle.iref_c.specs.declared.ranges.ByteRange.{ByteRange}
+use Rattle.iref_c.specs.PartRanges.{authority_ranges, range_for_c, ranges_from}
 
 -- an authority is as long as its parts and their delimiters
 pub length-spelled : (a : AuthorityValue) → length (spell_authority a) ≡ length (part_then (at_sign ∷ []) a.user_info) + length a.host + length (then_part (colon ∷ []) a.port)
@@ -21,23 +21,23 @@ length-spelled a = simp (length-append)
 pub length-read : (text : Text) → length (spell_authority (read_authority text)) ≡ length text
 length-read text = ap length (read_authority-spelled text)
 
--- an authority is where the places of the components say
-pub authority-placed : (r : ReferenceValue) (places : Offsets) (place : Place) → places ≡ offsets_in r → place ≡ place_for_c places.authority
-    → place ≡ place_for_c (option_map (place_from (authority_mark r + 2)) (option_map spell_authority r.authority))
+-- an authority is where the ranges of the components say
+pub authority-placed : (r : ReferenceValue) (ranges : Offsets) (range : ByteRange) → ranges ≡ offsets_in r → range ≡ range_for_c ranges.authority
+    → range ≡ range_for_c (option_map (place_from (authority_mark r + 2)) (option_map spell_authority r.authority))
 unfolding offsets_in
-authority-placed r places place e h = h ∙ ap (λ (o : Offsets). place_for_c o.authority) e
+authority-placed r ranges range e h = h ∙ ap (λ (o : Offsets). range_for_c o.authority) e
 
 -- the range of an authority that is there ends this number of bytes after its start
-pub place-ends : (start : ℕ) (text : Option Text) (place : Place) → place ≡ place_for_c (option_map (place_from start) (option_map spell_authority (option_map read_authority text)))
-    → IfSome text (λ t. place.end ≡ place.start + length t)
-place-ends start None place e = tt
-place-ends start (Some t) place e =
-    let begins : place.start ≡ start = ap (λ p. p.start) e in
-    let ends : place.end ≡ start + length (spell_authority (read_authority t)) = ap (λ p. p.end) e in
+pub range-ends : (start : ℕ) (text : Option Text) (range : ByteRange) → range ≡ range_for_c (option_map (place_from start) (option_map spell_authority (option_map read_authority text)))
+    → IfSome text (λ t. range.end ≡ range.start + length t)
+range-ends start None range e = tt
+range-ends start (Some t) range e =
+    let begins : range.start ≡ start = ap (λ p. p.start) e in
+    let ends : range.end ≡ start + length (spell_authority (read_authority t)) = ap (λ p. p.end) e in
     omega (arith, begins, ends, length-read t)
 
 -- and the parts stand in it from there on
-pub placed-parts : (start : ℕ) (a : Option AuthorityValue) (place : Place) → place ≡ place_for_c (option_map (place_from start) (option_map spell_authority a))
-    → authority_places place.start a ≡ authority_places start a
-placed-parts start None place e = refl
-placed-parts start (Some a) place e = ap (λ p. places_from p.start a) e
+pub placed-parts : (start : ℕ) (a : Option AuthorityValue) (range : ByteRange) → range ≡ range_for_c (option_map (place_from start) (option_map spell_authority a))
+    → authority_ranges range.start a ≡ authority_ranges start a
+placed-parts start None range e = refl
+placed-parts start (Some a) range e = ap (λ p. ranges_from p.start a) e

@@ -5,7 +5,7 @@ ghost use Rattle.iref.specs.{Authority.{read_authority, spell_authority}, Gramma
 ghost use Rattle.iref.specs.{ComponentOffsets.{place_from}, Texts.{part_then, then_part}};
 ghost use Rattle.iref.specs.{AuthoritySlices.{authority_of}, ReferenceSlices.{value_of}};
 ghost use Rattle.iref.specs.Reference.{read_reference, spell};
-ghost use Rattle.iref_c.specs.PartPlaces.{all_places, authority_places, place_for_c, places_from};
+ghost use Rattle.iref_c.specs.PartRanges.{all_ranges, authority_ranges, range_for_c, ranges_from};
 
 use iref::{AuthoritySlices, ReferenceSlices, offsets_of, split_authority, split_reference};
 use std::ops::Range;
@@ -13,7 +13,7 @@ use std::ops::Range;
 /// Where a component stands in its text, in bytes.
 #[repr(C)]
 #[derive(Clone, Copy)]
-pub struct Place {
+pub struct ByteRange {
     /// 1 where the component is there, else 0, and then the others are 0 too.
     pub is_there: usize,
     /// Where it begins.
@@ -25,63 +25,63 @@ pub struct Place {
 /// Where the components of a text stand, without `:`, `//`, `@`, `?` and `#`.
 #[repr(C)]
 #[derive(Clone, Copy)]
-pub struct Places {
+pub struct Ranges {
     /// The scheme (RFC 3986 section 3.1).
-    pub scheme: Place,
+    pub scheme: ByteRange,
     /// The authority (section 3.2).
-    pub authority: Place,
+    pub authority: ByteRange,
     /// The user info of the authority (section 3.2.1).
-    pub user_info: Place,
+    pub user_info: ByteRange,
     /// The host, which is there where the authority is (section 3.2.2).
-    pub host: Place,
+    pub host: ByteRange,
     /// The port (section 3.2.3).
-    pub port: Place,
+    pub port: ByteRange,
     /// The path, which is always there (section 3.3).
-    pub path: Place,
+    pub path: ByteRange,
     /// The query (section 3.4).
-    pub query: Place,
+    pub query: ByteRange,
     /// The fragment (section 3.5).
-    pub fragment: Place,
+    pub fragment: ByteRange,
 }
 
 /// The ranges of the parts of an authority.
 #[derive(Clone, Copy)]
-pub struct AuthorityPlaces {
+pub struct AuthorityRanges {
     /// The user info.
-    pub user_info: Place,
+    pub user_info: ByteRange,
     /// The host.
-    pub host: Place,
+    pub host: ByteRange,
     /// The port.
-    pub port: Place,
+    pub port: ByteRange,
 }
 
 /// A component that is not there.
-pub const ABSENT: Place = Place {
+pub const ABSENT: ByteRange = ByteRange {
     is_there: 0,
     start: 0,
     end: 0,
 };
 
 // The range of what may be there.
-fn place_of(place: Option<Range<usize>>) -> Place
-    ensures { result ≡ place_for_c place }
+fn range_of(range: Option<Range<usize>>) -> ByteRange
+    ensures { result ≡ range_for_c range }
 {
-    match place {
-        Some(place) => Place {
+    match range {
+        Some(range) => ByteRange {
             is_there: 1,
-            start: place.start,
-            end: place.end,
+            start: range.start,
+            end: range.end,
         },
         None => ABSENT,
     }
 }
 
 // A part that begins at `start`.
-fn part_from(start: usize, part: &str) -> Place
+fn part_from(start: usize, part: &str) -> ByteRange
     requires { start + length part.now < 2 ^ 64 }
-    ensures { result ≡ place_for_c (Some (place_from start part.now)) }
+    ensures { result ≡ range_for_c (Some (place_from start part.now)) }
 {
-    Place {
+    ByteRange {
         is_there: 1,
         start,
         end: start + part.len(),
@@ -89,10 +89,10 @@ fn part_from(start: usize, part: &str) -> Place
 }
 
 // A part that may begin at `start`, and where its `@` ends.
-fn part_before(start: usize, part: Option<&str>) -> (Place, usize)
+fn part_before(start: usize, part: Option<&str>) -> (ByteRange, usize)
     requires { start + length (part_then (at_sign ∷ []) (option_copied part)) < 2 ^ 64 }
-    ensures place { result.0
-        ≡ place_for_c (option_map (place_from start) (option_copied part.entry)) }
+    ensures range { result.0
+        ≡ range_for_c (option_map (place_from start) (option_copied part.entry)) }
     ensures end { result.1
         ≡ start + length (part_then (at_sign ∷ []) (option_copied part.entry)) }
 {
@@ -103,10 +103,10 @@ fn part_before(start: usize, part: Option<&str>) -> (Place, usize)
 }
 
 // A part that may follow a `:`, which begins at `start`.
-fn part_after(start: usize, part: Option<&str>) -> Place
+fn part_after(start: usize, part: Option<&str>) -> ByteRange
     requires { start + length (then_part (colon ∷ []) (option_copied part)) < 2 ^ 64 }
     ensures { result
-        ≡ place_for_c (option_map (place_from (start + 1)) (option_copied part.entry)) }
+        ≡ range_for_c (option_map (place_from (start + 1)) (option_copied part.entry)) }
 {
     match part {
         Some(part) => part_from(start + 1, part),
@@ -115,31 +115,31 @@ fn part_after(start: usize, part: Option<&str>) -> Place
 }
 
 // The parts of an authority that begins at `start`.
-fn places_from(start: usize, parts: AuthoritySlices<'_>) -> AuthorityPlaces
+fn ranges_from(start: usize, parts: AuthoritySlices<'_>) -> AuthorityRanges
     requires { start + length (spell_authority (authority_of parts)) < 2 ^ 64 }
-    ensures { result ≡ places_from start (authority_of parts.entry) }
+    ensures { result ≡ ranges_from start (authority_of parts.entry) }
 {
     let (user_info, host_start) = part_before(start, parts.user_info);
     let host = part_from(host_start, parts.host);
     let port = part_after(host.end, parts.port);
-    AuthorityPlaces {
+    AuthorityRanges {
         user_info,
         host,
         port,
     }
 }
 
-// The ranges of the parts of an authority that is at `place`, where there is one.
-fn places_at(place: Place, authority: Option<&str>) -> AuthorityPlaces
-    requires fits { place.end < 2 ^ 64 }
+// The ranges of the parts of an authority that is at `range`, where there is one.
+fn ranges_at(range: ByteRange, authority: Option<&str>) -> AuthorityRanges
+    requires fits { range.end < 2 ^ 64 }
     requires ends { IfSome (option_copied authority) (λ text.
-        place.end ≡ place.start + length text) }
-    ensures { result ≡ authority_places place.start
+        range.end ≡ range.start + length text) }
+    ensures { result ≡ authority_ranges range.start
         (option_map read_authority (option_copied authority.entry)) }
 {
     match authority {
-        Some(authority) => places_from(place.start, split_authority(authority)),
-        None => AuthorityPlaces {
+        Some(authority) => ranges_from(range.start, split_authority(authority)),
+        None => AuthorityRanges {
             user_info: ABSENT,
             host: ABSENT,
             port: ABSENT,
@@ -147,31 +147,31 @@ fn places_at(place: Place, authority: Option<&str>) -> AuthorityPlaces
     }
 }
 
-impl Places {
+impl Ranges {
     // What the slices of a text show.
-    fn of_slices(slices: ReferenceSlices<'_>) -> Places
+    fn of_slices(slices: ReferenceSlices<'_>) -> Ranges
         requires { length (spell (value_of slices)) < 2 ^ 64 }
-        ensures { result ≡ all_places (value_of slices.entry) }
+        ensures { result ≡ all_ranges (value_of slices.entry) }
     {
         let offsets = offsets_of(slices);
-        let authority = place_of(offsets.authority);
-        let parts = places_at(authority, slices.authority);
-        Places {
-            scheme: place_of(offsets.scheme),
+        let authority = range_of(offsets.authority);
+        let parts = ranges_at(authority, slices.authority);
+        Ranges {
+            scheme: range_of(offsets.scheme),
             authority,
             user_info: parts.user_info,
             host: parts.host,
             port: parts.port,
-            path: place_of(Some(offsets.path)),
-            query: place_of(offsets.query),
-            fragment: place_of(offsets.fragment),
+            path: range_of(Some(offsets.path)),
+            query: range_of(offsets.query),
+            fragment: range_of(offsets.fragment),
         }
     }
 
     /// Where the components of a text stand, and the parts of its authority.
-    pub fn of_text(text: &str) -> Places
-        ensures { result ≡ all_places (read_reference text.now) }
+    pub fn of_text(text: &str) -> Ranges
+        ensures { result ≡ all_ranges (read_reference text.now) }
     {
-        Places::of_slices(split_reference(text))
+        Ranges::of_slices(split_reference(text))
     }
 }

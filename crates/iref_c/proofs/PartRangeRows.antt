@@ -3,9 +3,9 @@ use Prim.Native.String.{String}
 use Rattle.std.specs.Prelude.{◌≡◌, ℕ, List, [], ◌∷◌, map, codes, Option, Some, None, option_map, refl}
 use Rattle.iref_grammar.specs.Authority.{read_authority}
 use Rattle.iref_grammar.specs.Reference.{read_reference}
-use Rattle.iref_c.specs.declared.places.Place.{Place}
-use Rattle.iref_c.specs.declared.places.Places.{Places}
-use Rattle.iref_c.specs.PartPlaces.{all_places, place_for_c}
+use Rattle.iref_c.specs.declared.ranges.ByteRange.{ByteRange}
+use Rattle.iref_c.specs.declared.ranges.Ranges.{Ranges}
+use Rattle.iref_c.specs.PartRanges.{all_ranges, range_for_c}
 
 abbrev Ends : Type 0
 Ends = Option (ℕ × ℕ)
@@ -21,14 +21,14 @@ parts =
     ∷ ("s:a@b:1", None, None, None)
     ∷ []
 
-abbrev place : Ends → Place
-place ends = place_for_c (option_map (λ (e : ℕ × ℕ). record { start = e.0; end = e.1 }) ends)
+abbrev range : Ends → ByteRange
+range ends = range_for_c (option_map (λ (e : ℕ × ℕ). record { start = e.0; end = e.1 }) ends)
 
-abbrev stored : Places → Place × Place × Place
-stored places = (places.user_info, places.host, places.port)
+abbrev stored : Ranges → ByteRange × ByteRange × ByteRange
+stored ranges = (ranges.user_info, ranges.host, ranges.port)
 
 parts_hold :
-    map (λ row. stored (all_places (read_reference (codes row.0)))) parts
-    ≡ map (λ row. (place row.1, place row.2, place row.3)) parts
-unfolding all_places read_reference read_authority
+    map (λ row. stored (all_ranges (read_reference (codes row.0)))) parts
+    ≡ map (λ row. (range row.1, range row.2, range row.3)) parts
+unfolding all_ranges read_reference read_authority
 parts_hold = refl
