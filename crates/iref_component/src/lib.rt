@@ -7,6 +7,7 @@ pub mod authority;
 pub mod authority_mut;
 pub mod authority_parts;
 pub mod borrowed;
+pub mod calls;
 mod constants;
 mod from_segments;
 pub mod host;
