@@ -7,6 +7,7 @@ use Rattle.std.proofs.lemmas.List.Elements.{All-head, All-tail, All-push}
 use Rattle.iref_grammar.specs.Rules.{Text}
 use Rattle.iref_grammar.specs.Texts.{pieces_at, all_but_last, is_empty}
 use Rattle.iref_lines.specs.Lines.{newline, lines_of, without_empty_last}
+use Rattle.iref_lines.proofs.OutputLemmas.{without_empty_last-append}
 use Rattle.iref_batch.specs.Runs.{with_newlines, ended_lines}
 use Rattle.iref_batch.specs.Gathering.{IsLine}
 use Rattle.iref_model.proofs.DirectoryLemmas.{all_but_last-snoc}
@@ -27,11 +28,6 @@ ended_lines_of lines begun h l =
     all_but_last-snoc lines begun
 
 -- a text has one piece at least
-without_empty_last-append : (lines : List Text) (piece : Text) (pieces : List Text) → without_empty_last (lines ++ piece ∷ pieces) ≡ lines ++ without_empty_last (piece ∷ pieces)
-without_empty_last-append [] piece pieces = refl
-without_empty_last-append (l ∷ []) piece pieces = refl
-without_empty_last-append (l ∷ k ∷ lines) piece pieces = ap (λ (t : List Text). l ∷ t) (without_empty_last-append (k ∷ lines) piece pieces)
-
 lines-append : (lines pieces : List Text) → 0 < length pieces → without_empty_last (lines ++ pieces) ≡ lines ++ without_empty_last pieces
 lines-append lines [] h = absurd (omega arith)
 lines-append lines (piece ∷ pieces) h = without_empty_last-append lines piece pieces

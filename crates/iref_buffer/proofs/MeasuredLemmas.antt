@@ -91,7 +91,7 @@ some_path (c ∷ cs) h = by (c == slash)
   where
     by : (b : Bool) → is_no_path (cond {A = PathValue} b (record { absolute = true; segments = segments_of cs }) (record { absolute = false; segments = segments_of (c ∷ cs) })) ≡ false
     by true = refl
-    by false = ap is_empty (some_piece (c ∷ cs)).2
+    by false = ap is_empty (some_piece slash (c ∷ cs)).2
 
 module _ (b t : ComponentTexts) (none : (is_some t.scheme || is_some (option_map read_authority t.authority)) ≡ false) where
   abbrev base : ReferenceValue

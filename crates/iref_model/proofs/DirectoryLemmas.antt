@@ -121,8 +121,8 @@ whole_piece text h = pieces_at-join slash text [] (and_from _ true h refl)
 
 segments_cut : (front back : Text) → lacks slash back ≡ true → closed (all_but_last (segments_of (front ++ slash ∷ back))) ≡ segments_of (front ++ slash ∷ [])
 segments_cut front back h =
-    ap (λ xs. closed (all_but_last xs)) (some_text front back ∙ pieces-append front back ∙ ap (λ xs. pieces_at slash front ++ xs) (whole_piece back h))
-    ∙ ap closed (all_but_last-snoc (pieces_at slash front) back) ∙ some_pieces front ∙ sym (some_text front [] ∙ pieces-append front [])
+    ap (λ xs. closed (all_but_last xs)) (some_text front back ∙ pieces-append slash front back ∙ ap (λ xs. pieces_at slash front ++ xs) (whole_piece back h))
+    ∙ ap closed (all_but_last-snoc (pieces_at slash front) back) ∙ some_pieces front ∙ sym (some_text front [] ∙ pieces-append slash front [])
 
 directory-cut : (front back : Text) → lacks slash back ≡ true → directory (read_path (front ++ slash ∷ back)) ≡ read_path (front ++ slash ∷ [])
 unfolding directory read_path

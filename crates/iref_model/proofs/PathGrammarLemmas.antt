@@ -66,12 +66,12 @@ is_path-pieces set above text = is_path-segments set above text ∙ all_of text
 pub path_parts : (set : CharTests) → AreAboveAscii set → (front back : Text) → is_path set (front ++ slash ∷ back) ≡ true → (is_path set front ≡ true) × (is_path set back ≡ true)
 path_parts set above front back h =
     let all : (list_all (is_segment set) (pieces_at slash front) && list_all (is_segment set) (pieces_at slash back)) ≡ true =
-    sym (is_path-pieces set above (front ++ slash ∷ back) ∙ ap (list_all (is_segment set)) (pieces-append front back) ∙ list_all-append (is_segment set) (pieces_at slash front) (pieces_at slash back)) ∙ h in
+    sym (is_path-pieces set above (front ++ slash ∷ back) ∙ ap (list_all (is_segment set)) (pieces-append slash front back) ∙ list_all-append (is_segment set) (pieces_at slash front) (pieces_at slash back)) ∙ h in
     (is_path-pieces set above front ∙ first_of_both _ _ all, is_path-pieces set above back ∙ second_of_both (list_all (is_segment set) (pieces_at slash front)) _ all)
 
 pub path_joined : (set : CharTests) → AreAboveAscii set → (front back : Text) → is_path set front ≡ true → is_path set back ≡ true → is_path set (front ++ slash ∷ back) ≡ true
 path_joined set above front back h k =
-    is_path-pieces set above (front ++ slash ∷ back) ∙ ap (list_all (is_segment set)) (pieces-append front back) ∙ list_all-append (is_segment set) (pieces_at slash front) (pieces_at slash back)
+    is_path-pieces set above (front ++ slash ∷ back) ∙ ap (list_all (is_segment set)) (pieces-append slash front back) ∙ list_all-append (is_segment set) (pieces_at slash front) (pieces_at slash back)
     ∙ and_from _ _ (sym (is_path-pieces set above front) ∙ h) (sym (is_path-pieces set above back) ∙ k)
 
 pub ruleset short_segments = (is_segment_empty, is_segment-dot, is_segment-dot_dot)

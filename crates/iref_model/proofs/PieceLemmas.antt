@@ -1,28 +1,29 @@
--- The pieces of a text around its slashes.
+-- The pieces of a text around a delimiter.
 use Rattle.std.proofs.Common.{◌≡◌, Bool, true, false, cond, List, [], ◌∷◌, ◌++◌, refl, sym, ◌∙◌, ap}
-use Rattle.std.specs.Prelude.{◌==◌}
+use Rattle.std.specs.Prelude.{◌==◌, ℕ}
 use Rattle.std.specs.List.{onto_first}
+use Rattle.std.proofs.lemmas.Bool.{eq-eqb}
+use Rattle.std.proofs.lemmas.List.Splits.{slice_split-cons_yes}
 use Rattle.iref_grammar.specs.Rules.{Text}
-use Rattle.iref_grammar.specs.Grammar.{slash}
 use Rattle.iref_grammar.specs.Texts.{pieces_at}
 
 -- one piece at least
-pub some_piece : (text : Text) → (p : Text) × (ps : List Text) × (pieces_at slash text ≡ p ∷ ps)
-some_piece [] = ([], [], refl)
-some_piece (c ∷ text) = by (c == slash) (some_piece text)
+pub some_piece : (mark : ℕ) (text : Text) → (p : Text) × (ps : List Text) × (pieces_at mark text ≡ p ∷ ps)
+some_piece mark [] = ([], [], refl)
+some_piece mark (c ∷ text) = by (c == mark) (some_piece mark text)
   where
-    by : (b : Bool) → (p : Text) × (ps : List Text) × (pieces_at slash text ≡ p ∷ ps)
-        → (p : Text) × (ps : List Text) × (cond b ([] ∷ pieces_at slash text) (onto_first c (pieces_at slash text)) ≡ p ∷ ps)
-    by true some = ([], pieces_at slash text, refl)
+    by : (b : Bool) → (p : Text) × (ps : List Text) × (pieces_at mark text ≡ p ∷ ps)
+        → (p : Text) × (ps : List Text) × (cond b ([] ∷ pieces_at mark text) (onto_first c (pieces_at mark text)) ≡ p ∷ ps)
+    by true some = ([], pieces_at mark text, refl)
     by false some = (c ∷ some.0, some.1, ap (onto_first c) some.2)
 
-pub pieces-append : (front back : Text) → pieces_at slash (front ++ slash ∷ back) ≡ pieces_at slash front ++ pieces_at slash back
-pieces-append [] back = refl
-pieces-append (c ∷ front) back = by (c == slash) (some_piece front) (pieces-append front back)
+pub pieces-append : (mark : ℕ) (front back : Text) → pieces_at mark (front ++ mark ∷ back) ≡ pieces_at mark front ++ pieces_at mark back
+pieces-append mark [] back = slice_split-cons_yes (λ c. c == mark) mark back (eq-eqb mark mark refl)
+pieces-append mark (c ∷ front) back = by (c == mark) (some_piece mark front) (pieces-append mark front back)
   where
-    by : (b : Bool) → (p : Text) × (ps : List Text) × (pieces_at slash front ≡ p ∷ ps) → pieces_at slash (front ++ slash ∷ back) ≡ pieces_at slash front ++ pieces_at slash back
-        → cond b ([] ∷ pieces_at slash (front ++ slash ∷ back)) (onto_first c (pieces_at slash (front ++ slash ∷ back)))
-        ≡ cond b ([] ∷ pieces_at slash front) (onto_first c (pieces_at slash front)) ++ pieces_at slash back
+    by : (b : Bool) → (p : Text) × (ps : List Text) × (pieces_at mark front ≡ p ∷ ps) → pieces_at mark (front ++ mark ∷ back) ≡ pieces_at mark front ++ pieces_at mark back
+        → cond b ([] ∷ pieces_at mark (front ++ mark ∷ back)) (onto_first c (pieces_at mark (front ++ mark ∷ back)))
+        ≡ cond b ([] ∷ pieces_at mark front) (onto_first c (pieces_at mark front)) ++ pieces_at mark back
     by true some h = ap (λ ps. [] ∷ ps) h
     by false some h =
-        ap (onto_first c) (h ∙ ap (λ ps. ps ++ pieces_at slash back) some.2) ∙ sym (ap (λ ps. onto_first c ps ++ pieces_at slash back) some.2)
+        ap (onto_first c) (h ∙ ap (λ ps. ps ++ pieces_at mark back) some.2) ∙ sym (ap (λ ps. onto_first c ps ++ pieces_at mark back) some.2)

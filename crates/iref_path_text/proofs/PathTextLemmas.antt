@@ -73,8 +73,8 @@ grown (c ∷ front) back h some more = elim (eqb_tells c slash) [
   | inl e ↦ rooted c front e.0 (λ none. more (λ i. e.1 i ∷ none i))
   | inr e ↦
       let split : pieces_at slash (c ∷ front ++ slash ∷ back) ≡ pieces_at slash (c ∷ front) ++ back ∷ [] =
-      pieces-append (c ∷ front) back ∙ ap (λ ps. pieces_at slash (c ∷ front) ++ ps) (pieces-whole back h) in
-      let piece = some_piece (c ∷ front) in
+      pieces-append slash (c ∷ front) back ∙ ap (λ ps. pieces_at slash (c ∷ front) ++ ps) (pieces-whole back h) in
+      let piece = some_piece slash (c ∷ front) in
       subst (λ b. let q : PathValue = cond b (record { absolute = true; segments = segments_of front }) (record { absolute = false; segments = pieces_at slash (c ∷ front) }) in
       (cond b (record { absolute = true; segments = segments_of (front ++ slash ∷ back) }) (record { absolute = false; segments = pieces_at slash (c ∷ front ++ slash ∷ back) }) ≡ one_more q back)
       × ((q.absolute || not (is_empty q.segments)) ≡ true)) (sym e.0)
@@ -86,7 +86,7 @@ grown (c ∷ front) back h some more = elim (eqb_tells c slash) [
     rooted c [] e some = absurd (some refl)
     rooted c (d ∷ front) e some =
         let split : pieces_at slash (d ∷ front ++ slash ∷ back) ≡ pieces_at slash (d ∷ front) ++ back ∷ [] =
-        pieces-append (d ∷ front) back ∙ ap (λ ps. pieces_at slash (d ∷ front) ++ ps) (pieces-whole back h) in
+        pieces-append slash (d ∷ front) back ∙ ap (λ ps. pieces_at slash (d ∷ front) ++ ps) (pieces-whole back h) in
         subst (λ b. let q : PathValue = cond b (record { absolute = true; segments = pieces_at slash (d ∷ front) }) (record { absolute = false; segments = pieces_at slash (c ∷ d ∷ front) }) in
         (cond b (record { absolute = true; segments = pieces_at slash (d ∷ front ++ slash ∷ back) }) (record { absolute = false; segments = pieces_at slash (c ∷ d ∷ front ++ slash ∷ back) }) ≡ one_more q back)
         × ((q.absolute || not (is_empty q.segments)) ≡ true)) (sym e)

@@ -114,7 +114,7 @@ spelled-snoc absolute front last = by absolute
   where
     joined : join_with_byte slash (pieces_at slash front ++ last ∷ []) ≡ front ++ slash ∷ last
     joined =
-        let some = some_piece front in
+        let some = some_piece slash front in
         ap (λ ps. join_with_byte slash (ps ++ last ∷ [])) some.2 ∙ sym (join-snoc some.0 some.1 last)
         ∙ ap (λ ps. join_with_byte slash ps ++ slash ∷ last) (sym some.2) ∙ ap (λ t. t ++ slash ∷ last) (join-pieces_at slash front)
 
@@ -123,7 +123,7 @@ spelled-snoc absolute front last = by absolute
     by false = joined
 
 begins-snoc : (front last : Text) → begins_empty (pieces_at slash front ++ last ∷ []) ≡ begins_empty (pieces_at slash front)
-begins-snoc front last = let some = some_piece front in ap (λ ps. begins_empty (ps ++ last ∷ [])) some.2 ∙ ap begins_empty (sym some.2)
+begins-snoc front last = let some = some_piece slash front in ap (λ ps. begins_empty (ps ++ last ∷ [])) some.2 ∙ ap begins_empty (sym some.2)
 
 spelled-shown : (absolute : Bool) (front : Text) → shows_its_list (path_with absolute (pieces_at slash front)) ≡ true → spell_path (guarded_list (path_with absolute (pieces_at slash front))) ≡ root_text absolute ++ front
 unfolding spell_path guarded_list
@@ -156,7 +156,7 @@ module _ (context : PathContext) (path front last : Text) (absolute : Bool) (e :
 
   pub front_some : is_dot_dot last ≡ false → is_empty (popped context (read_path path)).segments ≡ false
   front_some h =
-      let some = some_piece front in
+      let some = some_piece slash front in
       ap (λ (p : PathValue). is_empty p.segments) (popped_last context (read_path path) absolute (pieces_at slash front) last e h)
       ∙ ap (λ ps. is_empty (guarded_list (path_with absolute ps)).segments) some.2 ∙ guarded_some absolute some.0 some.1
 
