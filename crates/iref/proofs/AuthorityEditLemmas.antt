@@ -16,7 +16,7 @@ use Rattle.iref_component.specs.AuthorityEdits.{authority_mut_value, edited_byte
 use Rattle.iref_buffer.proofs.EditLemmas.{readable_of}
 use Rattle.iref_reference.proofs.AuthorityStepLemmas.{authority_step}
 
--- an optional text that is given by a view is in the rule
+-- an optional text that is given by a borrowed value is in the rule
 pub view_in_rule : {S R C K s r k c : _} (o : Option (RuleText S R C K s r k c)) → none_or (r.test c.tests) (option_map text_of o) ≡ true
 view_in_rule None = refl
 view_in_rule (Some view) = view.in_rule

@@ -3,9 +3,11 @@ use Rattle.std.proofs.Common.{◌≡◌, ◌≤◌, ◌-◌, ◌^◌, length, in
 use Rattle.std.specs.List.{All, AllZip}
 use Rattle.std.proofs.lemmas.List.Concat.{flat_map-append}
 use Rattle.std.proofs.lemmas.List.Elements.{AllZip-push}
+use Rattle.std.proofs.lemmas.Option.{same_Some}
 use Rattle.iref_grammar.specs.Rules.{Text}
 use Rattle.iref_grammar.specs.Texts.{is_empty}
 use Rattle.iref_lines.specs.Lines.{newline, lines_of}
+use Rattle.iref_lines.proofs.OutputLemmas.{lines_of-cut}
 use Rattle.iref_batch.specs.declared.lines.Lines.{Lines}
 use Rattle.iref_batch.specs.Runs.{IsReply, line_reply, with_newline, with_newlines, ended_lines, AnswersAll, AnswersBegun, EndsEarly}
 use Rattle.iref_batch.specs.Gathering.{IsLine, IsNothing, Holds, Writes, WritesPart, RepliesPart, InRun, BreaksOff}
@@ -112,3 +114,13 @@ ended_answered input seen left before reader_failed remaining contents lines man
 
 pub begun_is : (text same before : Text) (contents : Option Text) → text ≡ same → AnswersBegun text before contents → AnswersBegun same before contents
 begun_is text same before contents e a = subst (λ (t : Text). AnswersBegun t before contents) e a
+
+-- the replies to two inputs, of which the first ends where a line ends, are those to both as one
+pub joined : (first second out more : Text) → AnswersAll (with_newline first) [] (Some out) → AnswersAll second [] (Some more) → AnswersAll (with_newline first ++ second) [] (Some (out ++ more))
+joined first second out more f s = record {
+  replies = f.replies ++ s.replies;
+  answered = rw (lines_of-cut first second) (all_zip-append (lines_of (with_newline first)) (lines_of second) f.replies s.replies f.answered s.answered);
+  written =
+      ap Some (ap (λ (t : Text). t ++ more) (same_Some out (with_newlines f.replies) f.written) ∙ ap (λ (t : Text). with_newlines f.replies ++ t) (same_Some more (with_newlines s.replies) s.written)
+      ∙ sym (flat_map-append (λ text. with_newline text) f.replies s.replies));
+}

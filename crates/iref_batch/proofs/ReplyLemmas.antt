@@ -30,6 +30,6 @@ refusal_cut line same a b gathered e w = (memory_refused, inr refl, part_is _ _ 
 pub nothing_begun : (begun : Begun) (line : Text) → IsNothing begun → Holds begun line → line ≡ []
 nothing_begun begun line nothing holds = sym (holds nothing.1) ∙ nothing.0
 
--- a line of which nothing was held before its tail
+-- a line of which nothing was kept before its tail
 pub cut_of_tail : (line tail : Text) (a b : Option Text) (gathered : Text) → line ≡ [] → RepliesPart tail a b gathered → RepliesPart (line ++ tail) a b gathered
 cut_of_tail line tail a b gathered e r = subst (λ (t : Text). RepliesPart (t ++ tail) a b gathered) (sym e) r

@@ -9,6 +9,7 @@ mod answers;
 mod edit_fields;
 mod lines;
 mod request;
+pub mod run_laws;
 mod streams;
 
 use lines::Lines;

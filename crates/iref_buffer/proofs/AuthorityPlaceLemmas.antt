@@ -52,7 +52,7 @@ module _ (set : CharTests) (above : AreAboveAscii set) (text : Text) (h : is_ref
   pub authority_in_rule : is_authority set (authority_part text) ≡ true
   authority_in_rule = ap (none_or (is_authority set)) (sym (authority_spelled_there text has)) ∙ (components_of set above text h).authority
 
--- ---- what is known where a place is
+-- ---- what is known where a range is
 
 pub some_if_placed : (text : Text) (place : Range ℕ) → (offsets_of text).authority ≡ Some place → is_some (read_reference text).authority ≡ true
 unfolding offsets_of offsets_in

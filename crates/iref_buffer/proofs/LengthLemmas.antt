@@ -14,7 +14,7 @@ use Rattle.iref_grammar.specs.ComponentOffsets.{place_from, offsets_in, offsets_
 use Rattle.iref_grammar.proofs.ReferenceCutLemmas.{read_reference-spelled}
 use Rattle.iref_buffer.specs.ComponentLengths.{place_len, place_with_len, with_mark, lengths_at, lengths_of, context_by, placed, total_length}
 
--- a place holds what was put there
+-- a range holds what was put there
 place_holds : (start : ℕ) (o : Option Text) → option_map place_len (option_map (place_from start) o) ≡ option_map length o
 place_holds start None = refl
 place_holds start (Some part) = ap Some (omega arith)

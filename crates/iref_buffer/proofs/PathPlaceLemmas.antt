@@ -71,7 +71,7 @@ normal-guard context p = by (reads_as_path context (made_absolute context p))
     by true = refl
     by false = normal-with_dot (made_absolute context p)
 
--- the path that was made absolute is made normal, in place of the guarded one
+-- the path that was made absolute is made normal, instead of the guarded one
 pub normalized_where_absolute : (p : PathValue) (r : ReferenceValue) → record r { path = normalized (context_of r) (made_absolute (context_of r) p) } ≡ with_new_normal_path p r
 unfolding with_path
 normalized_where_absolute p r = λ i. record r { path = guarded (context_of r) (sym (normal-guard (context_of r) p) i) }

@@ -17,7 +17,7 @@ use Rattle.iref_buffer.specs.Relatives.{after_path, agree, may_end_here}
 path_spelled : (t : ComponentTexts) (p : PathValue) (path : Text) → path ≡ spell_path p → after_path path t ≡ spell_components (with_only_path p (read_components t))
 path_spelled t p path e = ap (λ text. after_path text t) e
 
--- ---- the same place
+-- ---- an equal path
 
 pub none-copied : (none : Bool) (o : Option (Bor Text)) → not none ≡ is_some o → none ≡ is_none (option_copied o)
 none-copied true None h = refl

@@ -1,4 +1,4 @@
--- What an edit by its editor leaves of an owner.
+-- What an edit by its editor leaves of an owned path.
 use Rattle.std.proofs.Common.{◌≡◌, Option, Result, map, length, ap, ◌∙◌}
 use Rattle.std.specs.Borrow.{Bor}
 use Rattle.std.proofs.lemmas.Result.{MatchResult-weaker}

@@ -1,4 +1,4 @@
--- What a hasher is fed of a text determines it.
+-- The bytes of a text that are hashed determine it.
 use Rattle.std.proofs.Common.{◌≡◌, ℕ, suc, ◌+◌, ◌<◌, ◌≤◌, Bool, true, false, List, [], ◌∷◌, ◌++◌, length, refl, sym, ◌∙◌, ap, arith, append_assoc, length-append, ◌==◌, cond}
 use Rattle.std.specs.List.{concat}
 use Rattle.std.specs.Hash.{HashWrites}
@@ -64,7 +64,7 @@ starts k (y ∷ b) low =
           (rest.0, rest.1, omega (arith, size, rest.2), rest.3, rest.4)
     ] refl
 
--- where there is a byte more, the first piece has more than is held
+-- where there is a byte more, the first chunk has more than waits
 starts_more : (k : Text) (y : ℕ) (b : Text) → length k < 63 → Starts (suc (length k)) (concat (fed_after k (y ∷ b)))
 unfolding fed_after
 starts_more k y b low =
@@ -112,6 +112,6 @@ pieces_determine h (x ∷ a) k (y ∷ b) n low r s e =
           (over rest.0, rest.1)
     ] refl (e ∙ ap (λ t. concat (next (t == 62) k y b) ++ s) (sym n))
 
--- what is fed of a text determines it
+-- the bytes of a text that are hashed determine it
 pub text_feed_delimits : IsSelfDelimiting fed_bytes
 text_feed_delimits a b r s e = pieces_determine [] a [] b refl (omega arith) r s e

@@ -1,4 +1,4 @@
--- Each component of a reference stands at its place in the spelling.
+-- Each component of a reference stands in its range of the spelling.
 use Rattle.std.proofs.Common.{◌≡◌, ℕ, ◌+◌, ◌-◌, ◌≤◌, [], ◌∷◌, ◌++◌, length, take, refl, sym, ◌∙◌, ap, subst, arith, append_assoc}
 use Rattle.std.specs.Prelude.{codes, Option, Some, None, IfSome, option_map}
 use Rattle.std.specs.List.{slice_range}
@@ -15,7 +15,7 @@ use Rattle.iref_grammar.specs.Reference.{ReferenceValue, spell, read_reference}
 use Rattle.iref_grammar.specs.ComponentOffsets.{place_from, authority_mark, path_start, offsets_in, offsets_of, text_at}
 use Rattle.iref_grammar.proofs.ReferenceCutLemmas.{read_reference-spelled}
 
--- what stands between two parts of a text stands at its place
+-- what stands between two parts of a text stands in its range
 text_between : (text before part behind : Text) (start : ℕ) → before ++ (part ++ behind) ≡ text → start ≡ length before → text_at text (place_from start part) ≡ part
 text_between text before part behind start spelled at =
     (λ i. slice_range (sym spelled i) (at i) (at i + length part))
@@ -36,7 +36,7 @@ part_after before mark (Some part) behind = ap (λ t. Some t)
     (text_between (before ++ ((mark ++ part) ++ behind)) (before ++ mark) part behind (length before + length mark)
     (append_assoc before mark (part ++ behind) ∙ ap (λ t. before ++ t) (sym (append_assoc mark part behind))) (sym (length-append before mark)))
 
--- a place is within a text
+-- a range is within a text
 abbrev pub IsInside : Text → Range ℕ → Type 0
 IsInside text place = (place.start ≤ place.end) × (place.end ≤ length text)
 

@@ -18,7 +18,7 @@ use Rattle.iref_grammar.proofs.CutLemmas.{before-from_first, before-no, before-y
 use Rattle.iref_grammar.proofs.LackLemmas.{lacks_more}
 use Rattle.iref_grammar.proofs.OnlyLemmas.{scheme-back, no_scheme, no_colon}
 
--- the first place that passes, or the length
+-- the first index that passes, or the length
 pub place_or_len : (p : ℕ → Bool) (text : Text) → unwrap_or (cond (ltb (position_or_len p text) (length text)) (Some (position_or_len p text)) None) (length text) ≡ position_or_len p text
 place_or_len p text = let bound = prefix_len-le-length (λ c. not (p c)) text in grind (arith, common_steps)
 

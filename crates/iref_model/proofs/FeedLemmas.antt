@@ -1,4 +1,4 @@
--- What a hasher is fed of an option, a path, an authority and a reference determines it.
+-- The bytes that are hashed of an option, a path, an authority and a reference determine it.
 use Rattle.std.proofs.Common.{◌≡◌, ℕ, true, false, List, [], ◌∷◌, ◌++◌, reverse, refl, sym, ◌∙◌, ap, arith, append_assoc}
 use Rattle.std.specs.Prelude.{Some, None}
 use Rattle.std.specs.List.{concat, flat_map}
@@ -24,7 +24,7 @@ behind : (us vs : HashWrites) (r : List ℕ) → concat (us ++ vs) ++ r ≡ conc
 behind us vs r = ap (λ l. l ++ r) (concat-append us vs) ∙ append_assoc (concat us) (concat vs) r
 
 module _ {T : Type 0} (F : T → HashWrites) (law : IsSelfDelimiting F) where
-  -- what is fed first is determined, and what follows it is the same
+  -- what is hashed first is determined, and what follows it is the same
   first_fed : (a b : T) (us vs : HashWrites) (r s : List ℕ)
       → concat (F a ++ us) ++ r ≡ concat (F b ++ vs) ++ s → (a ≡ b) × (concat us ++ r ≡ concat vs ++ s)
   first_fed a b us vs r s e = law a b (concat us ++ r) (concat vs ++ s) (sym (behind (F a) us r) ∙ e ∙ behind (F b) vs s)

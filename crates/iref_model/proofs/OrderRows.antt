@@ -1,4 +1,4 @@
--- Worked rows of what texts are compared by: which are equal, which comes first, and what a hasher is fed; computed
+-- Worked rows of what texts are compared by: which are equal, which comes first, and what is hashed; computed
 -- (RFC 3986 section 6.2.2).
 use Prim.Native.String.{String}
 use Rattle.std.specs.Prelude.{◌≡◌, Bool, true, false, ◌&&◌, List, [], ◌∷◌, map, codes, encode_utf8_all, replicate, refl}
@@ -141,7 +141,7 @@ ascending_hold : map (λ row. ascends row.0 row.1) ascending ≡ map (λ row. tr
 unfolding read_reference read_authority read_path normal_segments excess staying_names path_key key key_cmp percent_decode encode_utf8
 ascending_hold = refl
 
--- ---- what a hasher is fed: a list of writes, each a list of bytes
+-- ---- what is hashed: a list of writes, each a list of bytes
 
 abbrev fed_decoded : String → HashWrites
 fed_decoded text = fed_bytes (percent_decode (utf8 text))

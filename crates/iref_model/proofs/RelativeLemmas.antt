@@ -177,7 +177,7 @@ query_kept (Some q) own h = refl
 query_kept None None h = refl
 query_kept None (Some q) h = absurd (true≢false (sym h))
 
--- the empty path leads to the base's own place
+-- the empty path leads to the base's own path
 pub same_place-leads : (target base : ReferenceValue) → stands base → is_same_place target base ≡ true
     → key (resolved base (with_only_path (at_no_root []) target)) ≡ key_under base (path_key target.path) target.query target.fragment
 same_place-leads target base stand h =

@@ -54,7 +54,7 @@ options_tie_through eq f g h a b =
     let tie = options_tie_by eq (λ v. g (f v)) h a b in
     (λ e. option_map_twice f g a ∙ tie.0 e ∙ sym (option_map_twice f g b), λ e. tie.1 (sym (option_map_twice f g a) ∙ e ∙ option_map_twice f g b))
 
--- what is fed of what may be absent
+-- the bytes that are hashed of what may be absent
 pub feeds_by : {A K : Type 0} (fed : K → HashWrites) (key : A → K) (o : Option A) → option (λ v. fed (key v)) o ≡ option fed (option_map key o)
 feeds_by fed key None = refl
 feeds_by fed key (Some v) = refl

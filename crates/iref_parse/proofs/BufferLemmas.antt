@@ -1,4 +1,4 @@
--- A buffer whose first byte is to say how many of those behind it are held.
+-- A buffer whose first byte is to say how many of those behind it are kept.
 use Rattle.std.proofs.Common.{◌≡◌, ℕ, suc, ◌+◌, ◌<◌, true, false, List, [], ◌∷◌, ◌++◌, length, take, drop, set, fold, sym, ◌∙◌, ap, arith, ◌==◌, cond, length-append, length-set}
 use Rattle.std.proofs.lemmas.Bool.Decides.{nat_tests}
 use Rattle.std.proofs.lemmas.List.{drop-set-add, take_more_set, length-take-le, length-drop, take_all}

@@ -8,12 +8,12 @@ use Rattle.iref_parse.specs.Lanes.{HasLanes}
 use Rattle.iref_parse.specs.Dots.{HasDot, is_slash_dot}
 use Rattle.iref_parse.proofs.SeenLemmas.{Seen, Unmarked, unmarked_from_clear, clear_from_unmarked}
 
--- the delimiter at place k
+-- the delimiter at index k
 abbrev pub dots_at : List ℕ → ℕ → ℕ
 dots_at path k = cond (is_slash_dot path k) 255 0
 
 module _ (path : List ℕ) where
-  -- one of the first n places has `/.`, or none is marked
+  -- one of the first n indices has `/.`, or none is marked
   find : (n : ℕ) → ((k : ℕ) × (is_slash_dot path k ≡ true)) ⊎ Unmarked (dots_at path) 0 n
   find zero = inr (λ k low high. absurd (omega arith))
   find (suc n) = by (find n) (is_slash_dot path n) refl
@@ -50,7 +50,7 @@ module _ (path : List ℕ) where
       ⊎_elim (λ below. omega (arith, none k (omega arith) below, marked)) (λ from. omega (arith, dot, get_or_past path (k + 1) 0 (omega arith))) (cases_lt k n))
       (pair_from_dot h)
 
-  -- a vector that saw all places tells whether a segment begins with a dot
+  -- a vector that saw all indices says whether a segment begins with a dot
   pub dots_told : (at : ℕ) (v : List ℕ) → 17 ≤ length path → length path < at + 17 → (get_or path 0 0 ≡ 0x2E → ⊥)
       → Seen (dots_at path) (length path - 1) at v → (b : Bool) → b ≡ list_all (λ x. eqb x 0) v → MatchBool (not b) (HasDot path) (¬ HasDot path)
   dots_told at v long near first seen true e =
@@ -60,6 +60,6 @@ module _ (path : List ℕ) where
       (λ u. absurd (true≢false (sym (clear_from_unmarked (dots_at path) (length path - 1) at v (omega arith) (omega arith) seen u) ∙ sym e)))
       (find (length path - 1))
 
-  -- the places before the last byte, counted from the end
+  -- the indices before the last byte, counted from the end
   pub dots_from_end : (v : List ℕ) → 17 ≤ length path → HasLanes v (λ k. dots_at path (length path - 17 + k)) → HasLanes v (λ k. dots_at path (length path - 1 - 16 + k))
   dots_from_end v long h = record { long = h.long; each = λ k l. h.each k l ∙ ap (dots_at path) (omega arith) }

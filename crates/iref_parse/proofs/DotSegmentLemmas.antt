@@ -75,7 +75,7 @@ later_from_pair (x ∷ xs) (suc k) h =
     by deeper true t = later_after_slash x xs t ∙ first_or_later xs ∙ or_right (begins_with_dot xs) (later xs) deeper
     by deeper false t = later_after_other x xs t ∙ deeper
 
--- an answer by places is the answer by segments
+-- an answer by indices is the answer by segments
 pub by_segments : (path : List ℕ) (r : Bool) → MatchBool r (HasDot path) (¬ HasDot path) → r ≡ has_dot_segment path
 by_segments path true h =
     sym (first_or_later path

@@ -12,7 +12,7 @@ use Rattle.iref_parse.proofs.SeenLemmas.{Seen, unmarked_from_clear, clear_from_u
 pub groups_show : (b : ℕ) → b < 256 → eqb (other_groups LOW HIGH b) 0 ≡ is_plain_byte b
 groups_show b h = agree_below_at (λ b. eqb (other_groups LOW HIGH b) 0) is_plain_byte 256 b refl h
 
--- the mark of the byte at place k
+-- the mark of the byte at index k
 abbrev pub groups_at : List ℕ → ℕ → ℕ
 groups_at bytes k = other_groups LOW HIGH (get_or bytes k 0)
 

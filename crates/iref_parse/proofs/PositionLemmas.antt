@@ -1,4 +1,4 @@
--- The first place that is marked, by marks of 16 at a time.
+-- The first index that is marked, by marks of 16 at a time.
 use Rattle.std.proofs.Common.{◌≡◌, ◌≢◌, ℕ, ◌+◌, ◌-◌, ◌<◌, ◌≤◌, List, [], ◌∷◌, Bool, true, false, cond, eqb, ◌||◌, length, get_or, not, replicate, bit_or, refl, sym, ap, subst, ◌∙◌, arith, ⊎_elim, inl, inr}
 use Rattle.std.specs.Prelude.{◌==◌}
 use Rattle.std.specs.Str.{IsCharBoundary, IsUtf8}
@@ -14,7 +14,7 @@ use Rattle.iref_parse.specs.Lanes.{HasLanes, DifferFirstAt}
 use Rattle.iref_grammar.specs.Texts.{from_first}
 use Rattle.iref_grammar.proofs.SplitLemmas.{begins_with_mark}
 
--- of n places, none before this one is marked
+-- of n indices, none before this one is marked
 pub record IsClearFront (mark : ℕ → ℕ) (n at : ℕ) : Type 0 where
   pub within : at ≤ n
   pub each : (k : ℕ) → k < at → mark k ≡ 0

@@ -7,7 +7,7 @@ use Rattle.std.proofs.lemmas.List.Elements.{All-from_get_or}
 use Rattle.std.proofs.lemmas.Nat.{le_or_l, le_or_r}
 use Rattle.iref_parse.specs.Lanes.{HasLanes}
 
--- no place from i up to j is marked
+-- no index from i up to j is marked
 abbrev pub Unmarked : (ℕ → ℕ) → ℕ → ℕ → Type 0
 Unmarked mark i j = (k : ℕ) → i ≤ k → k < j → mark k ≡ 0
 

@@ -117,7 +117,7 @@ order-cut xs ys us vs n m h k e f =
     cut : (xs ys : List Text) → decoded (take (length ys) xs) ≡ take (length (decoded ys)) (decoded xs)
     cut xs ys = sym (take-map percent_decode (length ys) xs) ∙ ap (λ n. take n (decoded xs)) (sym (length-map ys percent_decode))
 
--- ---- what a hasher is fed from the back
+-- ---- what is hashed from the back
 
 pub fed_before : {S : Type 0} (write : S → List ℕ → S) (s t : S) (xs us : List Text) (x : Text) → xs ≡ us ++ x ∷ [] → t ≡ fold write s (fed_bytes (percent_decode x))
     → fold write t (fed_from_the_back (decoded us)) ≡ fold write s (fed_from_the_back (decoded xs))

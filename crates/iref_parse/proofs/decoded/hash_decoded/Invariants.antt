@@ -4,7 +4,7 @@ use Rattle.percent_encoding.specs.Iter.{decoded_bytes}
 use Rattle.iref_grammar.specs.Keys.{fed_after, fed_bytes}
 use Rattle.iref_parse.proofs.decoded.hash_decoded.Given as goal
 
--- what is fed so far, held and left are all
+-- what is hashed so far, what waits and what is left are all
 abbrev pub invariant-loop-byte : goal.invariant-loop-byte
 invariant-loop-byte g l =
     fold g.H.Hasher.write l.state (fed_after l.chunk (decoded_bytes l.byte-iterator))
