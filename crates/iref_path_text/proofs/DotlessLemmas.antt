@@ -1,10 +1,13 @@
 -- A list in which no segment begins with a dot is its own normal list.
 use Rattle.std.proofs.Common.{◌≡◌, ℕ, ◌+◌, Bool, true, false, not, cond, ◌&&◌, ◌||◌, List, [], ◌∷◌, ◌++◌, length, refl, sym, ◌∙◌, ap, arith}
-use Rattle.std.specs.Prelude.{◌==◌, bytes_eq, codes}
+use Rattle.std.specs.Prelude.{◌==◌, bytes_eq, codes, Option, Some, None}
+use Rattle.std.specs.Option.{unwrap_or}
+use Rattle.std.specs.Borrow.{Bor}
 use Rattle.std.specs.List.{join_with_byte}
 use Rattle.std.proofs.lemmas.Bool.{and_from, false_from_ne_true, not_from_false}
 use Rattle.std.proofs.lemmas.Bool.Decides.{nat_tests}
 use Rattle.std.proofs.lemmas.List.{append-nil}
+use Rattle.std.proofs.lemmas.List.Folds.{list_any-append}
 use Rattle.std.proofs.lemmas.Slice.Eq.{bytes_eq-Decides}
 use mathlib.Core.Bool.{true≢false}
 use Rattle.iref_grammar.specs.declared.context.PathContext.{PathContext}
@@ -17,7 +20,10 @@ use Rattle.iref_model.specs.NormalList.{is_name, counted, ends_in_dots, normal_s
 use Rattle.iref_model.specs.NormalReading.{open_before, staying_before, leading_parents, closing}
 use Rattle.iref_model.specs.PathSteps.{normalized}
 use Rattle.iref_model.proofs.ItemLemmas.{name_no_parent, normal_segments-is}
+use Rattle.iref_model.proofs.PieceLemmas.{pieces-append, some_piece}
 use Rattle.iref_parse.specs.Dots.{begins_with_dot, has_dot_segment, is_some_dotted}
+use Rattle.iref_path_text.specs.Bodies.{after_front}
+use Rattle.iref_path_text.specs.Pieces.{pieces_if_some}
 use Rattle.iref_path_text.specs.Remaining.{first_or}
 use Rattle.iref_path_text.specs.Spelling.{each_closed, lead, lead_in, needs_guard}
 use Rattle.iref_path_text.proofs.SpellLemmas.{length-joined, normalized-spelled}
@@ -101,3 +107,28 @@ dotless-spelled context absolute (c ∷ cs) first rest e h =
     (λ i. some_size (length text) (length (each_closed list)) (some ∙ sym more) context absolute first i ++ sym (join-pieces_at slash text) i)
     ∙ normalized-spelled context p list (length (each_closed list)) first
     (sym (normal_segments-dotless p h ∙ ap (λ b. cond b [] list) (whole_text c cs))) refl (ap (first_or []) (sym e))
+
+-- ---- two texts
+
+-- their segments are those of the text
+pub both_pieces : (front : Option (Bor Text)) (back : Text) → pieces_at slash (after_front front back) ≡ pieces_if_some front ++ pieces_at slash back
+both_pieces None back = refl
+both_pieces (Some front) back = pieces-append front.now back
+
+-- a segment of either begins with a dot
+pub both_dotted : (front back : Text) → (has_dot_segment front || has_dot_segment back) ≡ has_dot_segment (front ++ slash ∷ back)
+both_dotted front back = sym (list_any-append begins_with_dot (pieces_at slash front) (pieces_at slash back)) ∙ sym (ap is_some_dotted (pieces-append front back))
+
+-- the text is not longer than its segments are
+pub both_size : (front : Option (Bor Text)) (back : Text) → length (each_closed (pieces_if_some front ++ pieces_at slash back)) ≡ length (after_front front back) + 1
+both_size front back =
+    let text = after_front front back in
+    let some = some_piece text in
+    ap (λ list. length (each_closed list)) (sym (both_pieces front back) ∙ some.2) ∙ length-joined some.0 some.1
+    ∙ ap (λ list. length (join_with_byte slash list) + 1) (sym some.2) ∙ ap (λ t. length t + 1) (join-pieces_at slash text)
+
+-- they have the first segment of the front text, if there is one
+pub first_of_both_texts : (front : Option (Bor Text)) (back : Bor Text) (first : Text) (rest : List Text) → pieces_at slash (unwrap_or front back).now ≡ first ∷ rest
+    → (others : List Text) × (pieces_at slash (after_front front back.now) ≡ first ∷ others)
+first_of_both_texts None back first rest e = (rest, e)
+first_of_both_texts (Some front) back first rest e = (rest ++ pieces_at slash back.now, pieces-append front.now back.now ∙ ap (λ list. list ++ pieces_at slash back.now) e)

@@ -24,6 +24,7 @@ pub mod StepTexts
 pub mod GuardTexts
 pub mod Merged
 pub mod Ways
+pub mod Bodies
 pub mod MeasuredPaths
 pub mod Suffixes
 pub mod Stacks

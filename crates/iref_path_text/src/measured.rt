@@ -2,23 +2,27 @@
 
 ghost use Rattle.iref_grammar.specs.{alone, slash, read_path, spell_path, is_path, is_empty};
 ghost use Rattle.iref_model.specs.{Guard.{guarded}, PathSteps.{normalized}};
+ghost use Rattle.iref_parse.specs.Dots.{has_dot_segment};
+ghost use Rattle.iref_path_text.specs.Bodies.{after_front};
 ghost use Rattle.iref_path_text.specs.Merged.{merged_list, merged_path, path_after};
 ghost use Rattle.iref_path_text.specs.MeasuredPaths.{IsMeasured, measured_text};
 ghost use Rattle.iref_path_text.specs.{Pieces.{pieces_if_some}, Remaining.{IsSound, normal_left}};
 ghost use Rattle.iref_path_text.specs.{Spelling.{each_closed}, Ways.{IsWaySound, path_between}};
 ghost use Rattle.iref_path_text.specs.{Ways.{way_left}, Written.{WritesBefore}};
 ghost use Rattle.std.specs.Prelude.{◌||◌, ◌&&◌, ◌≡◌, ◌+◌, ◌*◌, ◌<◌, ◌≤◌, ◌^◌, ◌++◌, IfOk};
-ghost use Rattle.std.specs.{Prelude.{false, length, true}, List.{join_with_byte}};
+ghost use Rattle.std.specs.{Prelude.{Some, false, length, true}, List.{join_with_byte}};
 ghost use Rattle.std.specs.String.{string_bytes};
 
+use crate::body::Body;
+use crate::segments::{first_segment, split_root, without_last};
 use crate::remaining::Remaining;
 use crate::remaining::merged::Merged;
 use crate::remaining::way::Way;
-use crate::segments::{split_root, without_last};
-use crate::spell::{lead_in, measure, write_before, write_items};
+use crate::spell::{lead_in, measure, write_before};
 use iref_error::Memory;
 use iref_grammar::chars::CharSet;
 use iref_grammar::context::PathContext;
+use iref_parse::dots::has_dots;
 use std::alloc::Global;
 
 // Nothing stands before the path.
@@ -30,11 +34,9 @@ const ALONE: PathContext = PathContext {
 /// The text of a path: one that is kept, or that of items, which is not written yet.
 #[derive(Clone, Copy)]
 pub struct MeasuredPath<'a> {
-    // What stands first: the root and the guard, or all of the text.
+    // What stands first: the root and the guard.
     lead: &'a str,
-    items: Way<'a>,
-    // How many bytes the items have with a `/` after each.
-    size: usize,
+    body: Body<'a>,
 }
 
 // Whether what follows these segments is absolute: after an authority, what follows none is.
@@ -45,6 +47,17 @@ fn is_merged_absolute(has_authority: bool, absolute: bool, segments: Option<&str
     absolute || has_authority && segments.is_none()
 }
 
+// Whether a segment of the two texts begins with a dot.
+#[tactic(auto, using(crate::proofs::DotlessLemmas::both_dotted))]
+fn have_dots(front: Option<&str>, back: &str) -> bool
+    ensures { result ≡ has_dot_segment (after_front front.entry back.now) }
+{
+    match front {
+        Some(front) => has_dots(front.as_bytes()) | has_dots(back.as_bytes()),
+        None => has_dots(back.as_bytes()),
+    }
+}
+
 impl<'a> MeasuredPath<'a> {
     /// The text as it stands.
     pub fn kept(path: &'a str) -> Self
@@ -52,9 +65,8 @@ impl<'a> MeasuredPath<'a> {
         ensures measured { IsMeasured result }
     {
         MeasuredPath {
-            lead: path,
-            items: Way::all(Merged::none()),
-            size: 0,
+            lead: "",
+            body: Body::Kept(None, path),
         }
     }
 
@@ -96,11 +108,46 @@ impl<'a> MeasuredPath<'a> {
             ≡ spell_path (normalized context (merged_path absolute front.entry back.entry)) }
         ensures measured { IsMeasured result }
     {
+        if let Some(back) = back {
+            if !have_dots(front, back) {
+                return MeasuredPath::dotless(context, absolute, front, back);
+            }
+        }
+        MeasuredPath::read_back(context, absolute, front, back)
+    }
+
+    // The text of these segments, which are read from the back.
+    fn read_back(
+        context: PathContext,
+        absolute: bool,
+        front: Option<&'a str>,
+        back: Option<&'a str>,
+    ) -> Self
+        requires { length (each_closed (merged_list front back)) + 4 < 2 ^ 64 }
+        ensures text { measured_text result
+            ≡ spell_path (normalized context (merged_path absolute front.entry back.entry)) }
+        ensures measured { IsMeasured result }
+    {
         let (items, _count) = Merged::new(absolute, front, back);
         let items = Way::all(items);
         let (size, first) = measure(items);
         let lead = lead_in(context, absolute, size, first);
-        MeasuredPath { lead, items, size }
+        let body = Body::Items(items, size);
+        MeasuredPath { lead, body }
+    }
+
+    // The text of segments of which none begins with a dot: they stay as they are.
+    fn dotless(context: PathContext, absolute: bool, front: Option<&'a str>, back: &'a str) -> Self
+        requires dotless { has_dot_segment (after_front front back.now) ≡ false }
+        requires room { length (after_front front back.now) + 3 < 2 ^ 64 }
+        ensures text { measured_text result ≡ spell_path
+            (normalized context (merged_path absolute front.entry (Some back.entry))) }
+        ensures measured { IsMeasured result }
+    {
+        let first = first_segment(front.unwrap_or(back)).0;
+        let body = Body::Kept(front, back);
+        let lead = lead_in(context, absolute, body.len(), first);
+        MeasuredPath { lead, body }
     }
 
     /// What stands first, and these items, whose size is known.
@@ -114,7 +161,8 @@ impl<'a> MeasuredPath<'a> {
         ensures measured { IsMeasured result }
     {
         let items = Way::all(Merged::behind(items));
-        MeasuredPath { lead, items, size }
+        let body = Body::Items(items, size);
+        MeasuredPath { lead, body }
     }
 
     /// The text of a relative path of these items, which stands alone.
@@ -129,7 +177,8 @@ impl<'a> MeasuredPath<'a> {
     {
         let (size, first) = measure(items);
         let lead = lead_in(ALONE, false, size, first);
-        MeasuredPath { lead, items, size }
+        let body = Body::Items(items, size);
+        MeasuredPath { lead, body }
     }
 
     /// The text of the path that leads from a base's to this one: from the base's directory where
@@ -152,7 +201,7 @@ impl<'a> MeasuredPath<'a> {
         requires { IsMeasured self.now }
         ensures { result ≡ length (measured_text self.now) }
     {
-        self.lead.len() + self.size.saturating_sub(1)
+        self.lead.len() + self.body.len()
     }
 
     /// The text of a path. The room is taken once: an `Err` is that there is none.
@@ -185,7 +234,7 @@ impl<'a> MeasuredPath<'a> {
         requires within { end ≤ length buffer.old }
         ensures { WritesBefore end (measured_text self.entry) buffer.old buffer.new result }
     {
-        let start = write_items(self.items, buffer, end);
+        let start = self.body.write_before(buffer, end);
         write_before(buffer, start, self.lead)
     }
 }

@@ -1,51 +1,12 @@
-use Rattle.std.proofs.Common.{length, arith, ap, ◌∙◌, ◌++◌}
-use Rattle.std.specs.List.{join_with_byte}
-use Rattle.iref_grammar.specs.Grammar.{slash}
-use Rattle.iref_path_text.specs.Merged.{merged_left, merged_list, merged_path}
-use Rattle.iref_path_text.specs.MeasuredPaths.{measured_text}
+use Rattle.std.proofs.Common.{length, arith, ap}
+use Rattle.iref_path_text.specs.Merged.{merged_list}
 use Rattle.iref_path_text.specs.Spelling.{each_closed}
-use Rattle.iref_path_text.specs.Ways.{way_left}
-use Rattle.iref_path_text.proofs.SpellLemmas.{list_size, normal_size, normalized-spelled}
+use Rattle.iref_path_text.proofs.DotlessLemmas.{both_size}
 use Rattle.iref_path_text.proofs.measured.MeasuredPath.of_segments.Goals as goal
 
-pub new-count-requires : goal.new-count-requires
-new-count-requires c =
-    let size = list_size (merged_list c.args.front c.args.back) in
-    let room = c.requires in
-    omega (arith, size, room)
-
-pub all-items-requires-clause-countable : goal.all-items-requires-clause-countable
-all-items-requires-clause-countable c =
-    let most = list_size (merged_left c.new-count.result.0) in
-    let size = normal_size (merged_path c.args.absolute c.args.front c.args.back) in
-    let same = ap (λ list. length (each_closed list)) c.new-count.ensures.items in
-    let room = c.requires in
-    omega (arith, most, size, same, room)
-
-pub measure-size-requires-clause-fits : goal.measure-size-requires-clause-fits
-measure-size-requires-clause-fits c =
-    let size = normal_size (merged_path c.args.absolute c.args.front c.args.back) in
-    let same = ap (λ list. length (each_closed list)) (c.all-items.ensures.items ∙ c.new-count.ensures.items) in
+pub dotless-requires-clause-room : goal.dotless-requires-clause-room
+dotless-requires-clause-room c =
+    let size = both_size c.args.front c.in-Some.back.now in
+    let same = ap (λ back. length (each_closed (merged_list c.args.front back))) c.in-Some.is in
     let room = c.requires in
     omega (arith, size, same, room)
-
-pub returns-clause-text : goal.returns-clause-text
-unfolding measured_text
-returns-clause-text c =
-    let items = way_left c.all-items.result in
-    ap (λ lead. lead ++ join_with_byte slash items) c.lead_in-lead.ensures.text
-    ∙ normalized-spelled c.args.context (merged_path c.args.absolute c.args.front c.args.back) items c.measure-size.result.0 c.measure-size.result.1.now
-    (c.all-items.ensures.items ∙ c.new-count.ensures.items) c.measure-size.ensures.size c.measure-size.ensures.first
-
-pub returns-clause-measured : goal.returns-clause-measured
-returns-clause-measured c =
-    let size = normal_size (merged_path c.args.absolute c.args.front c.args.back) in
-    let same = ap (λ list. length (each_closed list)) (c.all-items.ensures.items ∙ c.new-count.ensures.items) in
-    let measured = c.measure-size.ensures.size in
-    let short = c.lead_in-lead.ensures.short in
-    let room = c.requires in
-    record {
-      sound = c.all-items.ensures.sound;
-      size = measured;
-      countable = omega (arith, size, same, measured, room, short);
-    }
