@@ -113,17 +113,17 @@ dotless-spelled context absolute (c ∷ cs) first rest e h =
 -- their segments are those of the text
 pub both_pieces : (front : Option (Bor Text)) (back : Text) → pieces_at slash (after_front front back) ≡ pieces_if_some front ++ pieces_at slash back
 both_pieces None back = refl
-both_pieces (Some front) back = pieces-append front.now back
+both_pieces (Some front) back = pieces-append slash front.now back
 
 -- a segment of either begins with a dot
 pub both_dotted : (front back : Text) → (has_dot_segment front || has_dot_segment back) ≡ has_dot_segment (front ++ slash ∷ back)
-both_dotted front back = sym (list_any-append begins_with_dot (pieces_at slash front) (pieces_at slash back)) ∙ sym (ap is_some_dotted (pieces-append front back))
+both_dotted front back = sym (list_any-append begins_with_dot (pieces_at slash front) (pieces_at slash back)) ∙ sym (ap is_some_dotted (pieces-append slash front back))
 
 -- the text is not longer than its segments are
 pub both_size : (front : Option (Bor Text)) (back : Text) → length (each_closed (pieces_if_some front ++ pieces_at slash back)) ≡ length (after_front front back) + 1
 both_size front back =
     let text = after_front front back in
-    let some = some_piece text in
+    let some = some_piece slash text in
     ap (λ list. length (each_closed list)) (sym (both_pieces front back) ∙ some.2) ∙ length-joined some.0 some.1
     ∙ ap (λ list. length (join_with_byte slash list) + 1) (sym some.2) ∙ ap (λ t. length t + 1) (join-pieces_at slash text)
 
@@ -131,4 +131,4 @@ both_size front back =
 pub first_of_both_texts : (front : Option (Bor Text)) (back : Bor Text) (first : Text) (rest : List Text) → pieces_at slash (unwrap_or front back).now ≡ first ∷ rest
     → (others : List Text) × (pieces_at slash (after_front front back.now) ≡ first ∷ others)
 first_of_both_texts None back first rest e = (rest, e)
-first_of_both_texts (Some front) back first rest e = (rest ++ pieces_at slash back.now, pieces-append front.now back.now ∙ ap (λ list. list ++ pieces_at slash back.now) e)
+first_of_both_texts (Some front) back first rest e = (rest ++ pieces_at slash back.now, pieces-append slash front.now back.now ∙ ap (λ list. list ++ pieces_at slash back.now) e)

@@ -14,10 +14,10 @@ ghost use Rattle.std.specs.{Prelude.{Some, false, length, true}, List.{join_with
 ghost use Rattle.std.specs.String.{string_bytes};
 
 use crate::body::Body;
-use crate::segments::{first_segment, split_root, without_last};
 use crate::remaining::Remaining;
 use crate::remaining::merged::Merged;
 use crate::remaining::way::Way;
+use crate::segments::{first_segment, split_root, without_last};
 use crate::spell::{lead_in, measure, write_before};
 use iref_error::Memory;
 use iref_grammar::chars::CharSet;

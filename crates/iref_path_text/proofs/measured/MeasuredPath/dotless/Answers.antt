@@ -16,7 +16,7 @@ returns-clause-text c =
     let front = c.args.front in
     let back = c.args.back.now in
     let text = after_front front back in
-    let piece = c.first_piece in
+    let piece = c.first_segment in
     let all = first_of_both_texts front c.args.back piece.result.0.now (pieces_if_some piece.result.1) (ap (λ text. pieces_at slash text.now) (sym c.unwrap_or.ensures) ∙ piece.ensures) in
     ap (λ lead. lead ++ text) c.lead_in-lead.ensures.text
     ∙ (λ i. lead_in c.args.context c.args.absolute (c.len.ensures i) piece.result.0.now ++ text)
