@@ -1,7 +1,6 @@
 -- Answers to lines.
-use Rattle.std.proofs.Common.{◌≡◌, Bool, true, false, refl, sym, subst, ◌∙◌, [], ◌∷◌, ◌++◌, Option, Some, None, Err, ap, option_map, append_assoc, codes}
+use Rattle.std.proofs.Common.{◌≡◌, Bool, true, false, refl, sym, subst, ◌∙◌, [], ◌∷◌, ◌++◌, Option, Some, None, Err, ap, option_map, codes}
 use Rattle.std.proofs.lemmas.Bool.{and_right}
-use Rattle.std.specs.List.{join_with_byte}
 use Rattle.iref_grammar.specs.Rules.{Text, InUtf8}
 use Rattle.iref_grammar.specs.Characters.{iri_chars, iri_above_ascii}
 use Rattle.iref_grammar.specs.Grammar.{IsPath, IsUri, IsUriReference}
@@ -19,7 +18,7 @@ use Rattle.iref_model.proofs.TieLemmas.{references_tie}
 use Rattle.iref_model.specs.Relative.{relative_to}
 use Rattle.iref_model.specs.Resolution.{resolved}
 use Rattle.iref_mapping.specs.Mapping.{mapped}
-use Rattle.iref_lines.specs.Lines.{Request, answer_if_valid, read_line, answer, BadCommand, InvalidText, Answered, Parts, Resolve, Relative, Normal, Equal, ToUri, answer_to, is_valid, answer_text, part_fields, yes_or_no, tab, all_verbs}
+use Rattle.iref_lines.specs.Lines.{Request, answer_if_valid, read_line, answer, BadCommand, InvalidText, Answered, Parts, Resolve, Relative, Normal, Equal, ToUri, answer_to, is_valid, answer_text, part_fields, yes_or_no, all_verbs}
 use Rattle.iref_batch.specs.EditFields.{IsRead, IsRefusal}
 use Rattle.iref_batch.specs.Runs.{line_reply, reply_to}
 use Rattle.iref_batch.specs.declared.edit_fields.FieldError.{FieldError}
@@ -43,14 +42,6 @@ pub refusal : {A : Type 0} (is_fit : A → Bool) (request : A → Request) (read
 refusal is_fit request read field_error.Command unfit h = ap (λ (o : Option _). reply_to (option_map request o)) h
 refusal is_fit request read field_error.Invalid unfit h = ap (λ (o : Option _). reply_to (option_map request o)) h.1 ∙ ap answer_text (invalid (request h.0) (unfit h.0 h.2))
 refusal is_fit request read field_error.Memory unfit h = tt
-
-regroup : (out k a b c d e : Text) → (((((out ++ k) ++ a) ++ b) ++ c) ++ d) ++ e ≡ out ++ (k ++ (a ++ (b ++ (c ++ (d ++ e)))))
-regroup out k a b c d e = simp append_assoc
-
--- five fields are put after one another, each after a TAB
-pub five_fields : (out m0 m1 m2 m3 m4 m5 a b c d e : Text) → m0 ≡ out ++ codes "ok" → m1 ≡ m0 ++ tab ∷ a → m2 ≡ m1 ++ tab ∷ b → m3 ≡ m2 ++ tab ∷ c → m4 ≡ m3 ++ tab ∷ d → m5 ≡ m4 ++ tab ∷ e → m5 ≡ out ++ answer_text (Answered (join_with_byte tab (a ∷ b ∷ c ∷ d ∷ e ∷ [])))
-five_fields out m0 m1 m2 m3 m4 m5 a b c d e e0 e1 e2 e3 e4 e5 =
-    rw (e5, e4, e3, e2, e1, e0) (regroup out (codes "ok") (tab ∷ a) (tab ∷ b) (tab ∷ c) (tab ∷ d) (tab ∷ e))
 
 -- what the tests answer of texts in the grammar, and of others
 false_if_not : (b : Bool) → ¬ (b ≡ true) → b ≡ false

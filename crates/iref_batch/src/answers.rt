@@ -1,5 +1,6 @@
 //! The answer to a line.
-ghost use Rattle.std.specs.Prelude.{◌≡◌, ◌++◌, ◌∷◌, option_map, OnOk, OnErr};
+ghost use Rattle.std.specs.Prelude.{◌≡◌, ◌+◌, ◌≤◌, ◌++◌, ◌∷◌, length, take, option_map};
+ghost use Rattle.std.specs.Prelude.{IfSome, OnOk, OnErr};
 ghost use Rattle.iref.specs.{Components.{text_of}, Parts.{uri_ref_part_texts}, Rules.{Text}};
 ghost use Rattle.iref_lines.specs.Lines.{Answered, answer_text, part_field, part_fields, tab};
 ghost use Rattle.iref_lines.specs.Lines.{yes_or_no, Parts, Normal, Equal, ToUri};
@@ -28,33 +29,79 @@ fn put_text(text: &[u8], out: &mut Vec<u8>) -> Result<(), Memory>
     Ok(out.extend_from_slice(text)?)
 }
 
-/// Puts a TAB and the field of a part: `-` where it is absent, else `=` and its text.
+// How many bytes a TAB and the field of a part have.
 #[inline(always)]
-fn put_part<R: Rule, C: CharSet>(
-    part: Option<BorrowedText<'_, R, C>>,
-    out: &mut Vec<u8>,
-) -> Result<(), Memory>
-    ensures { Puts (tab ∷ part_field (option_map text_of part.entry))
-        out.old.items out.new.items result }
+fn field_len<R: Rule, C: CharSet>(part: Option<BorrowedText<'_, R, C>>) -> Option<usize>
+    ensures { IfSome result (λ n. n ≡ length (part_field (option_map text_of part.entry)) + 1) }
 {
-    let Some(part) = part else {
-        return put_text(b"\t-", out);
-    };
-    put_text(b"\t=", out)?;
-    put_text(part.as_bytes(), out)
+    match part {
+        Some(part) => part.len().checked_add(2),
+        None => Some(2),
+    }
 }
 
-/// Puts the answer whose fields are the parts of a reference.
+// How many bytes there are after these and the answer whose fields are the parts of a reference.
+#[inline(always)]
+fn len_with(len: usize, parts: &IriRefParts<'_>) -> Option<usize>
+    ensures { IfSome result (λ n. n ≡ len + length (answer_text
+        (Answered (part_fields (uri_ref_part_texts parts.now))))) }
+{
+    let len = len.checked_add(2)?;
+    let len = len.checked_add(field_len(parts.scheme)?)?;
+    let len = len.checked_add(field_len(parts.authority)?)?;
+    let len = len.checked_add(field_len(Some(parts.path))?)?;
+    let len = len.checked_add(field_len(parts.query)?)?;
+    len.checked_add(field_len(parts.fragment)?)
+}
+
+// Writes the text at an index of the buffer, and returns where it ends.
+#[inline(always)]
+fn write_at(out: &mut [u8], at: usize, text: &[u8]) -> usize
+    requires { at + length text.now ≤ length out.old }
+    ensures end { result ≡ at + length text.now }
+    ensures front { take result out.new ≡ take at out.old ++ text.now }
+    ensures len { length out.new ≡ length out.old }
+{
+    let end = at + text.len();
+    out[at..end].copy_from_slice(text);
+    end
+}
+
+// Writes a TAB and the field of a part at an index of the buffer, and returns where it ends: `-`
+// where the part is absent, else `=` and its text.
+#[inline(always)]
+fn write_field<R: Rule, C: CharSet>(
+    out: &mut [u8],
+    at: usize,
+    part: Option<BorrowedText<'_, R, C>>,
+) -> usize
+    requires { at + length (part_field (option_map text_of part)) + 1 ≤ length out.old }
+    ensures end { result ≡ at + length (part_field (option_map text_of part.entry)) + 1 }
+    ensures front { take result out.new
+        ≡ take at out.old ++ tab ∷ part_field (option_map text_of part.entry) }
+    ensures len { length out.new ≡ length out.old }
+{
+    let Some(part) = part else {
+        return write_at(out, at, b"\t-");
+    };
+    let at = write_at(out, at, b"\t=");
+    write_at(out, at, part.as_bytes())
+}
+
+/// Puts the answer whose fields are the parts of a reference. The room is taken once.
 fn put_parts(parts: &IriRefParts<'_>, out: &mut Vec<u8>) -> Result<(), Memory>
     ensures { Puts (answer_text (Answered (part_fields (uri_ref_part_texts parts.now))))
         out.old.items out.new.items result }
 {
-    put_text(b"ok", out)?;
-    put_part(parts.scheme, out)?;
-    put_part(parts.authority, out)?;
-    put_part(Some(parts.path), out)?;
-    put_part(parts.query, out)?;
-    put_part(parts.fragment, out)?;
+    let start = out.len();
+    let len = len_with(start, parts).ok_or(Memory)?;
+    out.resize(len, 0)?;
+    let at = write_at(out, start, b"ok");
+    let at = write_field(out, at, parts.scheme);
+    let at = write_field(out, at, parts.authority);
+    let at = write_field(out, at, Some(parts.path));
+    let at = write_field(out, at, parts.query);
+    write_field(out, at, parts.fragment);
     Ok(())
 }
 
@@ -99,10 +146,11 @@ fn put_answer_to_normal(text: &[u8], out: &mut Vec<u8>) -> Result<(), Memory>
     put_answered(normal.as_bytes(), out)
 }
 
-fn yes_or_no(equal: bool) -> &'static [u8]
-    ensures { result.now ≡ yes_or_no equal }
+// The answer that texts are equal, or that they are not.
+fn equality(equal: bool) -> &'static [u8]
+    ensures { result.now ≡ answer_text (Answered (yes_or_no equal)) }
 {
-    if equal { b"yes" } else { b"no" }
+    if equal { b"ok\tyes" } else { b"ok\tno" }
 }
 
 /// Puts the answer to `equal`. A text is read once where it stands twice.
@@ -113,12 +161,12 @@ fn put_answer_to_equal(left: &[u8], right: &[u8], out: &mut Vec<u8>) -> Result<(
         return put_text(b"error invalid", out);
     };
     if left == right {
-        return put_answered(b"yes", out);
+        return put_text(b"ok\tyes", out);
     }
     let Ok(right_parts) = IriRefParts::from_bytes(right) else {
         return put_text(b"error invalid", out);
     };
-    put_answered(yes_or_no(left_parts == right_parts), out)
+    put_text(equality(left_parts == right_parts), out)
 }
 
 /// Puts the answer to `to-uri`.

@@ -15,7 +15,7 @@ returns-in_default c =
 pub returns-then-eq : goal.returns-then-eq
 returns-then-eq c =
     let same : c.args.left.now ≡ c.args.right.now = search rules in
-    rw (same_answer c.args.left.now c.args.right.now same c.in-Ok.ensures.parsed.0) c.put_answered.ensures
+    rw (same_answer c.args.left.now c.args.right.now same c.in-Ok.ensures.parsed.0) c.put_text-then-eq.ensures
 
 pub returns-in_default-from_bytes : goal.returns-in_default-from_bytes
 returns-in_default-from_bytes c =
@@ -34,5 +34,5 @@ returns c =
       equal_answer left right (uri_ref_parts_value a) (uri_ref_parts_value b) c.eq-2.result
           c.in-Ok.ensures.parsed.0 c.in-Ok-from_bytes.ensures.parsed.0
           c.in-Ok.ensures.value c.in-Ok-from_bytes.ensures.value equal,
-      ← c.yes_or_no.ensures,
-    ) c.put_answered-2.ensures
+      ← c.equality.ensures,
+    ) c.put_text-2.ensures
