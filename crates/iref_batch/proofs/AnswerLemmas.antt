@@ -1,5 +1,5 @@
 -- Answers to lines.
-use Rattle.std.proofs.Common.{◌≡◌, Bool, true, false, refl, sym, subst, ◌∙◌, [], ◌∷◌, ◌++◌, Option, Some, None, Err, ap, option_map, codes}
+use Rattle.std.proofs.Common.{◌≡◌, Bool, true, false, refl, sym, subst, ◌∙◌, Option, Some, None, Err, ap, option_map, codes}
 use Rattle.std.proofs.lemmas.Bool.{and_right}
 use Rattle.iref_grammar.specs.Rules.{Text, InUtf8}
 use Rattle.iref_grammar.specs.Characters.{iri_chars, iri_above_ascii}
