@@ -13,18 +13,18 @@ use Rattle.iref_grammar.specs.Texts.{part_then, then_part}
 use Rattle.iref_grammar.specs.Authority.{AuthorityValue, spell_authority, read_authority, is_authority, has_authority_parts}
 use Rattle.iref_grammar.specs.PathValue.{PathValue, spell_path}
 use Rattle.iref_grammar.specs.Reference.{ReferenceValue, spell, read_reference, is_readable, is_reference}
-use Rattle.iref_grammar.specs.ComponentOffsets.{place_from, authority_mark, path_start, query_mark, offsets_in, offsets_of}
+use Rattle.iref_grammar.specs.ComponentOffsets.{range_from, authority_mark, path_start, query_mark, offsets_in, offsets_of}
 use Rattle.iref_grammar.specs.Tests.{none_or}
 use Rattle.iref_grammar.proofs.ReadableLemmas.{readable_read}
 use Rattle.iref_grammar.proofs.ReferenceCutLemmas.{read_reference-spelled}
 use mathlib.Core.Bool.{true≢false}
 use Rattle.iref_model.specs.ComponentSteps.{with_query, with_fragment, with_authority, with_authority_step, with_scheme}
-use Rattle.iref_buffer.specs.AuthorityPlaces.{place_of_authority}
+use Rattle.iref_buffer.specs.AuthorityRanges.{range_of_authority}
 use Rattle.iref_buffer.specs.declared.lengths.Lengths.{Lengths}
 use Rattle.iref_buffer.specs.PathTexts.{authority_text}
 use Rattle.iref_buffer.specs.ComponentLengths.{lengths_of, with_mark, HasLengths}
 use Rattle.iref_buffer.specs.Steps.{StepsOrStays}
-use Rattle.iref_buffer.specs.PlaceTexts.{front_end, authority_start_at, authority_start}
+use Rattle.iref_buffer.specs.RangeTexts.{front_end, authority_start_at, authority_start}
 use Rattle.iref_edit.specs.Changes.{IsWithin}
 use Rattle.iref_buffer.proofs.HeldLemmas.{fragment_marked, offsets_within, front_within, authority_mark_within}
 use Rattle.iref_buffer.proofs.LengthLemmas.{first_len, marked_len}
@@ -130,12 +130,12 @@ module _ (text : Text) where
   unfolding offsets_of offsets_in
   authority_starts = by (authority_mark r) r.authority
     where
-      by : (mark : ℕ) (o : Option AuthorityValue) → authority_start_at (option_map (place_from (mark + 2)) (option_map spell_authority o)) (mark + length (then_part (codes "//") (option_map spell_authority o))) ≡ mark
+      by : (mark : ℕ) (o : Option AuthorityValue) → authority_start_at (option_map (range_from (mark + 2)) (option_map spell_authority o)) (mark + length (then_part (codes "//") (option_map spell_authority o))) ≡ mark
       by mark None = omega arith
       by mark (Some authority) = omega arith
 
   pub authority_part_replaced : (value : AuthorityValue) → is_some r.authority ≡ true
-      → splice text (place_of_authority text).start (place_of_authority text).end (spell_authority value) ≡ spell (with_authority_step (λ a. value) r)
+      → splice text (range_of_authority text).start (range_of_authority text).end (spell_authority value) ≡ spell (with_authority_step (λ a. value) r)
   unfolding spell offsets_of offsets_in
   authority_part_replaced value has = ap (λ t. splice t (authority_mark r + 2) (path_start r) (spell_authority value)) spelled ∙ by r.authority has
     where
@@ -184,7 +184,7 @@ pub authority_after_mark : (text : Text) → IfSome (offsets_of text).authority 
 unfolding offsets_of offsets_in
 authority_after_mark text = by (read_reference text).authority
   where
-    by : (o : Option AuthorityValue) → IfSome (option_map (place_from (authority_mark (read_reference text) + 2)) (option_map spell_authority o)) (λ authority. 2 ≤ authority.start)
+    by : (o : Option AuthorityValue) → IfSome (option_map (range_from (authority_mark (read_reference text) + 2)) (option_map spell_authority o)) (λ authority. 2 ≤ authority.start)
     by None = tt
     by (Some authority) = omega arith
 
@@ -250,7 +250,7 @@ module _ (set : CharTests) (above : AreAboveAscii set) (text : Text) (h : is_ref
   unfolding offsets_of offsets_in
   start_within = by (read_reference text).scheme (offsets_within set above text h).scheme (authority_mark_within set above text h)
     where
-      by : (o : Option Text) → IfSome (option_map (place_from 0) o) (IsWithin text) → IsCharBoundary text (length (part_then (colon ∷ []) o)) → IsCharBoundary text 0
+      by : (o : Option Text) → IfSome (option_map (range_from 0) o) (IsWithin text) → IsCharBoundary text (length (part_then (colon ∷ []) o)) → IsCharBoundary text 0
       by None u v = v
       by (Some part) u v = u.start
 

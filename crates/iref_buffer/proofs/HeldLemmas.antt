@@ -6,7 +6,7 @@ use Rattle.std.specs.Str.{IsCharBoundary}
 use Rattle.std.specs.declared.ops.Range.{Range}
 use Rattle.std.proofs.lemmas.Str.{IsCharBoundary-at_seam, IsUtf8-append, IsUtf8-nil, IsUtf8-from_ascii}
 use Rattle.std.proofs.lemmas.List.{length-append, places, same_lists}
-use Rattle.iref_mapping.proofs.MappedPlaceLemmas.{around_scheme, around_authority, around_path, around_query, around_fragment}
+use Rattle.iref_mapping.proofs.MappedIndexLemmas.{around_scheme, around_authority, around_path, around_query, around_fragment}
 use Rattle.iref_grammar.specs.Characters.{CharTests, AreAboveAscii}
 use Rattle.iref_grammar.specs.Rules.{Text, Rule, InUtf8}
 use Rattle.iref_grammar.specs.Grammar.{colon, slash, question_mark, hash_sign}
@@ -16,22 +16,22 @@ use Rattle.iref_grammar.specs.Authority.{spell_authority}
 use Rattle.iref_grammar.specs.PathValue.{spell_path}
 use Rattle.iref_grammar.specs.Reference.{ReferenceValue, hierarchy, split_scheme, split_authority, spell, read_reference, is_reference}
 use Rattle.iref_grammar.specs.ComponentTexts.{ComponentTexts, AreComponents, spell_components, read_components}
-use Rattle.iref_grammar.specs.ComponentOffsets.{place_from, authority_mark, query_mark, fragment_mark, offsets_in, offsets_of}
+use Rattle.iref_grammar.specs.ComponentOffsets.{range_from, authority_mark, query_mark, fragment_mark, offsets_in, offsets_of}
 use Rattle.iref_grammar.proofs.LeafLemmas.{Decides-is_query, Decides-is_fragment}
 use Rattle.iref_grammar.proofs.PartRuleLemmas.{Decides-is_scheme_bytes}
 use Rattle.iref_grammar.proofs.AuthorityRuleLemmas.{Decides-is_authority}
 use Rattle.iref_grammar.proofs.PathTextLemmas.{Decides-is_path}
 use Rattle.iref_grammar.proofs.ComponentLemmas.{Decides-AreComponents, spelled_as_read}
-use Rattle.iref_grammar.proofs.PlaceLemmas.{scheme_place, authority_place, path_place, query_place, fragment_place}
+use Rattle.iref_grammar.proofs.RangeLemmas.{scheme_range, authority_range, path_range, query_range, fragment_range}
 use Rattle.iref_grammar.proofs.ReferenceCutLemmas.{read_reference-spelled}
-use Rattle.iref_buffer.specs.PlaceTexts.{AreWithin, texts_at, front_end, front_end_at}
+use Rattle.iref_buffer.specs.RangeTexts.{AreWithin, texts_at, front_end, front_end_at}
 use Rattle.iref_edit.specs.Changes.{IsWithin}
 use Rattle.iref_grammar.proofs.FrontLemmas.{read_reference-before_hash, read_reference-hierarchy}
 use Rattle.iref_grammar.specs.declared.offsets.Offsets.{Offsets}
 
 -- what stands at the offsets of a text are its components
 pub texts_at-offsets : (text : Text) → texts_at text (offsets_of text) ≡ spell_components (read_reference text)
-texts_at-offsets text = λ i. record { scheme = scheme_place text i; authority = authority_place text i; path = path_place text i; query = query_place text i; fragment = fragment_place text i }
+texts_at-offsets text = λ i. record { scheme = scheme_range text i; authority = authority_range text i; path = path_range text i; query = query_range text i; fragment = fragment_range text i }
 
 -- the components of a text, as it is cut
 abbrev cut_texts : Text → ComponentTexts
@@ -48,7 +48,7 @@ pub read_components-spelled : (text : Text) → read_components (spell_component
 read_components-spelled text = ap read_components (sym (spelled_as_read (cut_texts text) _ (cut_texts-read text))) ∙ cut_texts-read text
 
 -- a text between two others, of which the later is UTF-8
-within : (text before part behind : Text) (start : ℕ) → before ++ (part ++ behind) ≡ text → start ≡ length before → IsUtf8 part → IsUtf8 behind → IsWithin text (place_from start part)
+within : (text before part behind : Text) (start : ℕ) → before ++ (part ++ behind) ≡ text → start ≡ length before → IsUtf8 part → IsUtf8 behind → IsWithin text (range_from start part)
 within text before part behind start spelled at u v =
     record {
       start_le_end = omega arith;
@@ -60,13 +60,13 @@ within text before part behind start spelled at u v =
     ends = length-append before part ∙ ap (λ n. n + length part) (sym at)
 
 -- a part and the delimiter after it, if there is one, at the start
-within_before : (mark : Text) (o : Option Text) (behind : Text) → IsUtf8 mark → IfSome o IsUtf8 → IsUtf8 behind → IfSome (option_map (place_from 0) o) (IsWithin (part_then mark o ++ behind))
+within_before : (mark : Text) (o : Option Text) (behind : Text) → IsUtf8 mark → IfSome o IsUtf8 → IsUtf8 behind → IfSome (option_map (range_from 0) o) (IsWithin (part_then mark o ++ behind))
 within_before mark None behind m u v = tt
 within_before mark (Some part) behind m u v = within ((part ++ mark) ++ behind) [] part (mark ++ behind) 0 (sym (append_assoc part mark behind)) refl u (IsUtf8-append mark behind m v)
 
 -- a delimiter and the part after it, if there is one
 within_after : (before mark : Text) (o : Option Text) (behind : Text) → IfSome o IsUtf8 → IsUtf8 behind
-    → IfSome (option_map (place_from (length before + length mark)) o) (IsWithin (before ++ (then_part mark o ++ behind)))
+    → IfSome (option_map (range_from (length before + length mark)) o) (IsWithin (before ++ (then_part mark o ++ behind)))
 within_after before mark None behind u v = tt
 within_after before mark (Some part) behind u v =
     within (before ++ ((mark ++ part) ++ behind)) (before ++ mark) part behind (length before + length mark)
@@ -147,16 +147,16 @@ module _ (r : ReferenceValue) (u : AreUtf8 (spell_components r)) where
   spelled_within : AreWithin (spell r) (offsets_in r)
   unfolding spell offsets_in
   spelled_within = record {
-    scheme = subst (λ t. IfSome (option_map (place_from 0) r.scheme) (IsWithin t)) (around_scheme s a p q f)
+    scheme = subst (λ t. IfSome (option_map (range_from 0) r.scheme) (IsWithin t)) (around_scheme s a p q f)
         (within_before (colon ∷ []) r.scheme (a ++ p ++ q ++ f) (utf8_mark colon (lit< tt)) u.scheme (behind_scheme));
-    authority = subst (λ t. IfSome (option_map (place_from (length s + 2)) (option_map spell_authority r.authority)) (IsWithin t)) (around_authority s a p q f)
+    authority = subst (λ t. IfSome (option_map (range_from (length s + 2)) (option_map spell_authority r.authority)) (IsWithin t)) (around_authority s a p q f)
         (within_after s (codes "//") (option_map spell_authority r.authority) (p ++ q ++ f) u.authority behind_authority);
     path = within (s ++ a ++ p ++ q ++ f) (s ++ a) p (q ++ f) (length s + length a) (around_path s a p q f) (path_begins s a p q f) u.path qf_utf8;
-    query = subst (λ n. IfSome (option_map (place_from (n + 1)) r.query) (IsWithin (s ++ a ++ p ++ q ++ f))) (query_begins s a p q f)
-        (subst (λ t. IfSome (option_map (place_from (length (s ++ a ++ p) + 1)) r.query) (IsWithin t)) (around_query s a p q f)
+    query = subst (λ n. IfSome (option_map (range_from (n + 1)) r.query) (IsWithin (s ++ a ++ p ++ q ++ f))) (query_begins s a p q f)
+        (subst (λ t. IfSome (option_map (range_from (length (s ++ a ++ p) + 1)) r.query) (IsWithin t)) (around_query s a p q f)
         (within_after (s ++ a ++ p) (question_mark ∷ []) r.query f u.query f_utf8));
-    fragment = subst (λ n. IfSome (option_map (place_from (n + 1)) r.fragment) (IsWithin (s ++ a ++ p ++ q ++ f))) (fragment_begins s a p q f)
-        (subst (λ t. IfSome (option_map (place_from (length (s ++ a ++ p ++ q) + 1)) r.fragment) (IsWithin t)) (around_fragment s a p q f)
+    fragment = subst (λ n. IfSome (option_map (range_from (n + 1)) r.fragment) (IsWithin (s ++ a ++ p ++ q ++ f))) (fragment_begins s a p q f)
+        (subst (λ t. IfSome (option_map (range_from (length (s ++ a ++ p ++ q) + 1)) r.fragment) (IsWithin t)) (around_fragment s a p q f)
         (within_after (s ++ a ++ p ++ q) (hash_sign ∷ []) r.fragment [] u.fragment IsUtf8-nil));
   }
 
@@ -207,13 +207,13 @@ pub fragment_marked : (r : ReferenceValue) → front_end (offsets_in r) ≡ frag
 unfolding offsets_in
 fragment_marked r = by r.query
   where
-    by : (o : Option Text) → front_end_at (option_map (place_from (query_mark r + 1)) o) (query_mark r) ≡ query_mark r + length (then_part (question_mark ∷ []) o)
+    by : (o : Option Text) → front_end_at (option_map (range_from (query_mark r + 1)) o) (query_mark r) ≡ query_mark r + length (then_part (question_mark ∷ []) o)
     by None = omega arith
     by (Some query) = omega arith
 
-pub front-place : (text : Text) → take (front_end (offsets_of text)) text ≡ before (hash_sign ∷ []) text
+pub front-range : (text : Text) → take (front_end (offsets_of text)) text ≡ before (hash_sign ∷ []) text
 unfolding offsets_of spell
-front-place text =
+front-range text =
     let r = read_reference text in
     let spelled = sym (read_reference-spelled text) in
     (λ i. take (fragment_marked r i) (spelled i))
@@ -221,9 +221,9 @@ front-place text =
     (then_part (question_mark ∷ []) r.query) (then_part (hash_sign ∷ []) r.fragment))
     ∙ ap spell (sym (read_reference-before_hash text)) ∙ read_reference-spelled (before (hash_sign ∷ []) text)
 
-pub hierarchy-place : (text : Text) → take (offsets_of text).path.end text ≡ hierarchy text
+pub hierarchy-range : (text : Text) → take (offsets_of text).path.end text ≡ hierarchy text
 unfolding offsets_of offsets_in spell
-hierarchy-place text =
+hierarchy-range text =
     let r = read_reference text in
     ap (take (query_mark r)) (sym (read_reference-spelled text))
     ∙ sym (hierarchy_of (part_then (colon ∷ []) r.scheme) (then_part (codes "//") (option_map spell_authority r.authority)) (spell_path r.path)
@@ -236,6 +236,6 @@ front_within text offsets w = by offsets.query w.query
   where
     by : (o : Option (Range ℕ)) → IfSome o (IsWithin text) → IsCharBoundary text (front_end_at o offsets.path.end)
     by None u = w.path.end
-    by (Some place) u = u.end
+    by (Some range) u = u.end
 
 pub ruleset spelled = (read_reference-spelled)

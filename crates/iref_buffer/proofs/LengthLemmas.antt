@@ -10,23 +10,23 @@ use Rattle.iref_grammar.specs.Texts.{part_then, then_part}
 use Rattle.iref_grammar.specs.Authority.{AuthorityValue, spell_authority}
 use Rattle.iref_grammar.specs.PathValue.{spell_path}
 use Rattle.iref_grammar.specs.Reference.{ReferenceValue, context_of, spell, read_reference}
-use Rattle.iref_grammar.specs.ComponentOffsets.{place_from, offsets_in, offsets_of, authority_mark, path_start, query_mark, fragment_mark}
+use Rattle.iref_grammar.specs.ComponentOffsets.{range_from, offsets_in, offsets_of, authority_mark, path_start, query_mark, fragment_mark}
 use Rattle.iref_grammar.proofs.ReferenceCutLemmas.{read_reference-spelled}
-use Rattle.iref_buffer.specs.ComponentLengths.{place_len, place_with_len, with_mark, lengths_at, lengths_of, context_by, placed, total_length}
+use Rattle.iref_buffer.specs.ComponentLengths.{range_len, range_with_len, with_mark, lengths_at, lengths_of, context_by, placed, total_length}
 
 -- a range holds what was put there
-place_holds : (start : ℕ) (o : Option Text) → option_map place_len (option_map (place_from start) o) ≡ option_map length o
-place_holds start None = refl
-place_holds start (Some part) = ap Some (omega arith)
+range_holds : (start : ℕ) (o : Option Text) → option_map range_len (option_map (range_from start) o) ≡ option_map length o
+range_holds start None = refl
+range_holds start (Some part) = ap Some (omega arith)
 
 lengths-offsets_in : (r : ReferenceValue) → lengths_at (offsets_in r) ≡ lengths_of r
 unfolding offsets_in
 lengths-offsets_in r = λ i. record {
-  scheme = place_holds 0 r.scheme i;
-  authority = place_holds (authority_mark r + 2) (option_map spell_authority r.authority) i;
+  scheme = range_holds 0 r.scheme i;
+  authority = range_holds (authority_mark r + 2) (option_map spell_authority r.authority) i;
   path = add-sub_cancel_left (path_start r) (length (spell_path r.path)) i;
-  query = place_holds (query_mark r + 1) r.query i;
-  fragment = place_holds (fragment_mark r + 1) r.fragment i;
+  query = range_holds (query_mark r + 1) r.query i;
+  fragment = range_holds (fragment_mark r + 1) r.fragment i;
 }
 
 pub lengths-offsets_of : (text : Text) → lengths_at (offsets_of text) ≡ lengths_of (read_reference text)
@@ -42,18 +42,18 @@ pub marked_len : (mark : Text) (o : Option Text) → with_mark (length mark) (op
 marked_len mark None = refl
 marked_len mark (Some part) = sym (length-append mark part)
 
-place_from_len : (start : ℕ) (o : Option Text) → option_map (place_with_len start) (option_map length o) ≡ option_map (place_from start) o
-place_from_len start None = refl
-place_from_len start (Some part) = refl
+range_from_len : (start : ℕ) (o : Option Text) → option_map (range_with_len start) (option_map length o) ≡ option_map (range_from start) o
+range_from_len start None = refl
+range_from_len start (Some part) = refl
 
 -- where the components stand in terms of the lengths of the parts with their delimiters
 abbrev of_parts : ReferenceValue → ℕ → ℕ → ℕ → Offsets
 of_parts r s a q = record {
-  scheme = option_map (place_from 0) r.scheme;
-  authority = option_map (place_from (s + 2)) (option_map spell_authority r.authority);
-  path = place_from (s + a) (spell_path r.path);
-  query = option_map (place_from (s + a + length (spell_path r.path) + 1)) r.query;
-  fragment = option_map (place_from (s + a + length (spell_path r.path) + q + 1)) r.fragment;
+  scheme = option_map (range_from 0) r.scheme;
+  authority = option_map (range_from (s + 2)) (option_map spell_authority r.authority);
+  path = range_from (s + a) (spell_path r.path);
+  query = option_map (range_from (s + a + length (spell_path r.path) + 1)) r.query;
+  fragment = option_map (range_from (s + a + length (spell_path r.path) + q + 1)) r.fragment;
 }
 
 placed-lengths : (r : ReferenceValue) → placed (lengths_of r) ≡ offsets_in r
@@ -69,11 +69,11 @@ placed-lengths r =
     let a' = with_mark 2 (option_map length authority) in
     let q' = with_mark 1 (option_map length r.query) in
     (λ i. record {
-      scheme = place_from_len 0 r.scheme i;
-      authority = place_from_len (s' + 2) authority i;
-      path = place_from (s' + a') (spell_path r.path);
-      query = place_from_len (s' + a' + n + 1) r.query i;
-      fragment = place_from_len (s' + a' + n + q' + 1) r.fragment i;
+      scheme = range_from_len 0 r.scheme i;
+      authority = range_from_len (s' + 2) authority i;
+      path = range_from (s' + a') (spell_path r.path);
+      query = range_from_len (s' + a' + n + 1) r.query i;
+      fragment = range_from_len (s' + a' + n + q' + 1) r.fragment i;
     })
     ∙ (λ i. at (s i) (a i) (q i))
 

@@ -4,9 +4,9 @@ pub mod LengthLemmas
 pub mod EditLemmas
 pub mod PathEditLemmas
 pub mod LeadLemmas
-pub mod PathPlaceLemmas
+pub mod PathRangeLemmas
 pub mod MeasuredLemmas
 pub mod RelativeLemmas
 pub mod SchemeLemmas
 pub mod MappingLemmas
-pub mod AuthorityPlaceLemmas
+pub mod AuthorityRangeLemmas

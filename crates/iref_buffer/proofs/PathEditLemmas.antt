@@ -15,7 +15,7 @@ use Rattle.iref_grammar.specs.Reference.{ReferenceValue, context_of, spell, read
 use Rattle.iref_grammar.specs.ComponentOffsets.{offsets_of, text_at}
 use Rattle.iref_grammar.proofs.PathLemmas.{read_path-reads}
 use Rattle.iref_grammar.proofs.PathTestLemmas.{is_path-segments}
-use Rattle.iref_grammar.proofs.PlaceLemmas.{path_place}
+use Rattle.iref_grammar.proofs.RangeLemmas.{path_range}
 use Rattle.iref_grammar.proofs.ReadablePartsLemmas.{readable_parts, readable_from}
 use Rattle.iref_model.specs.Guard.{guarded}
 use Rattle.iref_model.specs.ComponentSteps.{with_path}
@@ -68,12 +68,12 @@ cut_in_part text start end i a b w = elim (cases_lt i (end - start)) [
       subst (IsCharBoundary text) (sym at) b
 ]
 
-module _ (text : Text) (place : Range ℕ) (placed : IsWithin text place) (within : Range ℕ) (inside : IsWithin (text_at text place) within) where
+module _ (text : Text) (range : Range ℕ) (placed : IsWithin text range) (within : Range ℕ) (inside : IsWithin (text_at text range) within) where
   abbrev start : ℕ
-  start = place.start
+  start = range.start
 
   abbrev end : ℕ
-  end = place.end
+  end = range.end
 
   -- no more is cut than stands there
   pub part_cut : within.end - within.start ≤ end - start
@@ -86,16 +86,16 @@ module _ (text : Text) (place : Range ℕ) (placed : IsWithin text place) (withi
     end = cut_in_part text start end within.end placed.start_le_end placed.end inside.end;
   }
 
-  pub part_replaced : (pieces : Text) → splice text (start + within.start) (start + within.end) pieces ≡ splice text start end (splice (text_at text place) within.start within.end pieces)
+  pub part_replaced : (pieces : Text) → splice text (start + within.start) (start + within.end) pieces ≡ splice text start end (splice (text_at text range) within.start within.end pieces)
   part_replaced pieces =
       let bound : start + within.end ≤ end = omega (arith, placed.start_le_end, inside.end.0, slice-length text start end placed.end.0) in
       let back : (n : ℕ) → start + n - start ≡ n = λ n. omega arith in
       splice-within text pieces start end (start + within.start) (start + within.end) (omega arith) (omega (arith, inside.start_le_end)) bound placed.end.0
-      ∙ (λ i. splice text start end (splice (text_at text place) (back within.start i) (back within.end i) pieces))
+      ∙ (λ i. splice text start end (splice (text_at text range) (back within.start i) (back within.end i) pieces))
 
 -- the lengths of the path before and after
 pub path_length : (text : Text) → length (path_text text) ≡ length (spell_path (read_reference text).path)
-path_length text = ap length (path_place text)
+path_length text = ap length (path_range text)
 
 pub part_length : (text pieces : Text) (within : Range ℕ) → IsWithin (path_text text) within
     → length (spell_path (read_reference text).path) - (within.end - within.start) + length pieces ≡ length (spell_path (read_path (splice (path_text text) within.start within.end pieces)))

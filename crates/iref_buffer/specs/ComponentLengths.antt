@@ -11,17 +11,17 @@ use Rattle.iref_grammar.specs.PathValue.{spell_path}
 use Rattle.iref_grammar.specs.Reference.{ReferenceValue, read_reference}
 use Rattle.iref_buffer.specs.declared.lengths.Lengths.{Lengths}
 
-abbrev pub place_len : Range ℕ → ℕ
-place_len place = place.end - place.start
+abbrev pub range_len : Range ℕ → ℕ
+range_len range = range.end - range.start
 
 -- of what stands at the offsets
 abbrev pub lengths_at : Offsets → Lengths
 lengths_at offsets = record {
-  scheme = option_map place_len offsets.scheme;
-  authority = option_map place_len offsets.authority;
-  path = place_len offsets.path;
-  query = option_map place_len offsets.query;
-  fragment = option_map place_len offsets.fragment;
+  scheme = option_map range_len offsets.scheme;
+  authority = option_map range_len offsets.authority;
+  path = range_len offsets.path;
+  query = option_map range_len offsets.query;
+  fragment = option_map range_len offsets.fragment;
 }
 
 -- of the components of a reference
@@ -54,8 +54,8 @@ with_mark mark None = 0
 with_mark mark (Some n) = mark + n
 
 -- a part that begins at start
-abbrev pub place_with_len : ℕ → ℕ → Range ℕ
-place_with_len start n = record { start = start; end = start + n }
+abbrev pub range_with_len : ℕ → ℕ → Range ℕ
+range_with_len start n = record { start = start; end = start + n }
 
 abbrev pub path_after : Lengths → ℕ
 path_after l = with_mark 1 l.scheme + with_mark 2 l.authority
@@ -69,11 +69,11 @@ fragment_after l = query_after l + with_mark 1 l.query
 -- the offsets of components of these lengths
 abbrev pub placed : Lengths → Offsets
 placed l = record {
-  scheme = option_map (place_with_len 0) l.scheme;
-  authority = option_map (place_with_len (with_mark 1 l.scheme + 2)) l.authority;
-  path = place_with_len (path_after l) l.path;
-  query = option_map (place_with_len (query_after l + 1)) l.query;
-  fragment = option_map (place_with_len (fragment_after l + 1)) l.fragment;
+  scheme = option_map (range_with_len 0) l.scheme;
+  authority = option_map (range_with_len (with_mark 1 l.scheme + 2)) l.authority;
+  path = range_with_len (path_after l) l.path;
+  query = option_map (range_with_len (query_after l + 1)) l.query;
+  fragment = option_map (range_with_len (fragment_after l + 1)) l.fragment;
 }
 
 -- of the whole text

@@ -16,15 +16,15 @@ pub use Rattle.iref_model.specs.PathFunctions.{directory_text}
 pub use Rattle.iref_model.specs.ReferenceParts.{base_of}
 pub use Rattle.iref_parse.specs.ReferenceSlices.{texts_of, value_of}
 pub use Rattle.iref_component.specs.Makers.{Parses}
-pub use Rattle.iref_buffer.specs.ComponentLengths.{context_by, HasLengths, lengths_at, lengths_of, place_len, place_with_len, placed, total_length, with_mark}
+pub use Rattle.iref_buffer.specs.ComponentLengths.{context_by, HasLengths, lengths_at, lengths_of, range_len, range_with_len, placed, total_length, with_mark}
 pub use Rattle.iref_buffer.specs.PathTexts.{authority_text, path_text, with_path_read, with_path_text}
-pub use Rattle.iref_buffer.specs.PlaceTexts.{AreWithin, authority_start, front_end, texts_at}
+pub use Rattle.iref_buffer.specs.RangeTexts.{AreWithin, authority_start, front_end, texts_at}
 pub use Rattle.iref_edit.specs.Changes.{IsWithin}
-pub mod PlaceTexts
+pub mod RangeTexts
 pub mod ComponentLengths
 pub mod PathTexts
-pub mod PathPlaces
+pub mod PathRanges
 pub mod MeasuredReferences
 pub mod Relatives
-pub mod AuthorityPlaces
+pub mod AuthorityRanges
 pub mod Steps

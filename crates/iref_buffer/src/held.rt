@@ -6,8 +6,8 @@ ghost use Rattle.iref_grammar.specs.{is_reference, offsets_of, hash_sign, CharTe
 ghost use Rattle.iref_grammar.specs.{before, hierarchy, read_reference, spell, Text, InUtf8};
 ghost use Rattle.iref_parse.specs.{texts_of, value_of};
 ghost use Rattle.iref_component.specs.{with_query, with_fragment, Parses, base_of};
-ghost use Rattle.iref_buffer.specs.{ComponentLengths.{lengths_of}, PlaceTexts.{AreWithin}};
-ghost use Rattle.iref_buffer.specs.PlaceTexts.{texts_at, front_end, authority_start};
+ghost use Rattle.iref_buffer.specs.{ComponentLengths.{lengths_of}, RangeTexts.{AreWithin}};
+ghost use Rattle.iref_buffer.specs.RangeTexts.{texts_at, front_end, authority_start};
 ghost use Rattle.iref_edit.specs.Changes.{IsWithin};
 
 mod authority;
@@ -242,20 +242,20 @@ fn authority_start(offsets: &Offsets) -> usize
 }
 
 // The text of a range.
-fn slice_at<'a>(text: &'a str, place: &Range<usize>) -> &'a str
-    requires { IsWithin text.now place.now }
-    ensures { result.now ≡ text_at text.now place.now }
+fn slice_at<'a>(text: &'a str, range: &Range<usize>) -> &'a str
+    requires { IsWithin text.now range.now }
+    ensures { result.now ≡ text_at text.now range.now }
 {
-    &text[place.start..place.end]
+    &text[range.start..range.end]
 }
 
 // The text of a range, if there is one.
-fn slice_if<'a>(text: &'a str, place: &Option<Range<usize>>) -> Option<&'a str>
-    requires { IfSome place.now (IsWithin text.now) }
-    ensures { option_copied result ≡ option_map (text_at text.now) place.now }
+fn slice_if<'a>(text: &'a str, range: &Option<Range<usize>>) -> Option<&'a str>
+    requires { IfSome range.now (IsWithin text.now) }
+    ensures { option_copied result ≡ option_map (text_at text.now) range.now }
 {
-    match place {
-        Some(place) => Some(slice_at(text, place)),
+    match range {
+        Some(range) => Some(slice_at(text, range)),
         None => None,
     }
 }

@@ -1,7 +1,7 @@
 //! How long the components of a reference are, from which their offsets follow.
 ghost use Rattle.std.specs.Prelude.{◌≡◌, ◌+◌, ◌<◌, ◌^◌, IfOk, length, option_map};
 ghost use Rattle.std.specs.Option.{option_copied};
-ghost use Rattle.iref_buffer.specs.ComponentLengths.{place_len, place_with_len, with_mark};
+ghost use Rattle.iref_buffer.specs.ComponentLengths.{range_len, range_with_len, with_mark};
 ghost use Rattle.iref_buffer.specs.ComponentLengths.{lengths_at, context_by, total_length, placed};
 
 use iref_grammar::context::PathContext;
@@ -31,11 +31,11 @@ impl Lengths {
         ensures { result ≡ lengths_at offsets.now }
     {
         Lengths {
-            scheme: place_len(&offsets.scheme),
-            authority: place_len(&offsets.authority),
+            scheme: range_len(&offsets.scheme),
+            authority: range_len(&offsets.authority),
             path: offsets.path.len(),
-            query: place_len(&offsets.query),
-            fragment: place_len(&offsets.fragment),
+            query: range_len(&offsets.query),
+            fragment: range_len(&offsets.fragment),
         }
     }
 
@@ -63,11 +63,11 @@ impl Lengths {
         requires { total_length self ≡ length text.now }
         ensures { result ≡ placed self }
     {
-        let (scheme, authority_mark) = place_first(self.scheme);
-        let (authority, path_start) = place_after(authority_mark, 2, self.authority);
+        let (scheme, authority_mark) = range_first(self.scheme);
+        let (authority, path_start) = range_after(authority_mark, 2, self.authority);
         let query_mark = path_start + self.path;
-        let (query, fragment_mark) = place_after(query_mark, 1, self.query);
-        let (fragment, _) = place_after(fragment_mark, 1, self.fragment);
+        let (query, fragment_mark) = range_after(query_mark, 1, self.query);
+        let (fragment, _) = range_after(fragment_mark, 1, self.fragment);
         Offsets {
             scheme,
             authority,
@@ -90,16 +90,16 @@ fn add_part(len: usize, mark: usize, part: Option<usize>) -> Result<usize, Alloc
 }
 
 // The length of a range, if there is one.
-fn place_len(place: &Option<Range<usize>>) -> Option<usize>
-    ensures { result ≡ option_map place_len place.now }
+fn range_len(range: &Option<Range<usize>>) -> Option<usize>
+    ensures { result ≡ option_map range_len range.now }
 {
-    place.as_ref().map(|place| place.len())
+    range.as_ref().map(|range| range.len())
 }
 
 // Where a part at the start stands, and where its delimiter of one byte ends.
-fn place_first(len: Option<usize>) -> (Option<Range<usize>>, usize)
+fn range_first(len: Option<usize>) -> (Option<Range<usize>>, usize)
     requires { with_mark 1 len < 2 ^ 64 }
-    ensures place { result.0 ≡ option_map (place_with_len 0) len }
+    ensures range { result.0 ≡ option_map (range_with_len 0) len }
     ensures end { result.1 ≡ with_mark 1 len }
 {
     match len {
@@ -109,9 +109,9 @@ fn place_first(len: Option<usize>) -> (Option<Range<usize>>, usize)
 }
 
 // Where a part stands after a delimiter that begins at `start`, and where it ends.
-fn place_after(start: usize, mark: usize, len: Option<usize>) -> (Option<Range<usize>>, usize)
+fn range_after(start: usize, mark: usize, len: Option<usize>) -> (Option<Range<usize>>, usize)
     requires { start + with_mark mark len < 2 ^ 64 }
-    ensures place { result.0 ≡ option_map (place_with_len (start + mark)) len }
+    ensures range { result.0 ≡ option_map (range_with_len (start + mark)) len }
     ensures end { result.1 ≡ start + with_mark mark len }
 {
     match len {

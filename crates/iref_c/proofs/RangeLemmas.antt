@@ -7,7 +7,7 @@ use Rattle.iref_grammar.specs.Texts.{part_then, then_part}
 use Rattle.iref_grammar.specs.Authority.{AuthorityValue, read_authority, spell_authority}
 use Rattle.iref_grammar.specs.declared.offsets.Offsets.{Offsets}
 use Rattle.iref_grammar.specs.Reference.{ReferenceValue}
-use Rattle.iref_grammar.specs.ComponentOffsets.{authority_mark, place_from, offsets_in}
+use Rattle.iref_grammar.specs.ComponentOffsets.{authority_mark, range_from, offsets_in}
 use Rattle.iref_grammar.proofs.AuthorityLemmas.{read_authority-spelled}
 use Rattle.iref_c.specs.declared.ranges.ByteRange.{ByteRange}
 use Rattle.iref_c.specs.PartRanges.{authority_ranges, range_for_c, ranges_from}
@@ -23,12 +23,12 @@ length-read text = ap length (read_authority-spelled text)
 
 -- an authority is where the ranges of the components say
 pub authority-placed : (r : ReferenceValue) (ranges : Offsets) (range : ByteRange) → ranges ≡ offsets_in r → range ≡ range_for_c ranges.authority
-    → range ≡ range_for_c (option_map (place_from (authority_mark r + 2)) (option_map spell_authority r.authority))
+    → range ≡ range_for_c (option_map (range_from (authority_mark r + 2)) (option_map spell_authority r.authority))
 unfolding offsets_in
 authority-placed r ranges range e h = h ∙ ap (λ (o : Offsets). range_for_c o.authority) e
 
 -- the range of an authority that is there ends this number of bytes after its start
-pub range-ends : (start : ℕ) (text : Option Text) (range : ByteRange) → range ≡ range_for_c (option_map (place_from start) (option_map spell_authority (option_map read_authority text)))
+pub range-ends : (start : ℕ) (text : Option Text) (range : ByteRange) → range ≡ range_for_c (option_map (range_from start) (option_map spell_authority (option_map read_authority text)))
     → IfSome text (λ t. range.end ≡ range.start + length t)
 range-ends start None range e = tt
 range-ends start (Some t) range e =
@@ -37,7 +37,7 @@ range-ends start (Some t) range e =
     omega (arith, begins, ends, length-read t)
 
 -- and the parts stand in it from there on
-pub placed-parts : (start : ℕ) (a : Option AuthorityValue) (range : ByteRange) → range ≡ range_for_c (option_map (place_from start) (option_map spell_authority a))
+pub placed-parts : (start : ℕ) (a : Option AuthorityValue) (range : ByteRange) → range ≡ range_for_c (option_map (range_from start) (option_map spell_authority a))
     → authority_ranges range.start a ≡ authority_ranges start a
 placed-parts start None range e = refl
 placed-parts start (Some a) range e = ap (λ p. ranges_from p.start a) e

@@ -4,7 +4,7 @@ use Rattle.std.specs.declared.ops.Range.{Range}
 use Rattle.iref_grammar.specs.Grammar.{at_sign}
 use Rattle.iref_grammar.specs.Texts.{part_then}
 use Rattle.iref_grammar.specs.Authority.{AuthorityValue}
-use Rattle.iref_grammar.specs.ComponentOffsets.{authority_mark, place_from, offsets_in}
+use Rattle.iref_grammar.specs.ComponentOffsets.{authority_mark, range_from, offsets_in}
 use Rattle.iref_grammar.specs.Reference.{ReferenceValue}
 use Rattle.iref_c.specs.declared.ranges.ByteRange.{ByteRange}
 use Rattle.iref_c.specs.declared.ranges.Ranges.{Ranges}
@@ -22,9 +22,9 @@ host_start start a = start + length (part_then (at_sign ∷ []) a.user_info)
 -- the parts of an authority that is spelled from start on (RFC 3986 section 3.2)
 abbrev pub ranges_from : ℕ → AuthorityValue → AuthorityRanges
 ranges_from start a = record {
-  user_info = range_for_c (option_map (place_from start) a.user_info);
-  host = range_for_c (Some (place_from (host_start start a) a.host));
-  port = range_for_c (option_map (place_from (host_start start a + length a.host + 1)) a.port);
+  user_info = range_for_c (option_map (range_from start) a.user_info);
+  host = range_for_c (Some (range_from (host_start start a) a.host));
+  port = range_for_c (option_map (range_from (host_start start a + length a.host + 1)) a.port);
 }
 
 -- the same of an authority that may be absent

@@ -2,7 +2,7 @@
 ghost use Rattle.std.specs.Prelude.{◌≡◌, ◌+◌, ◌<◌, ◌^◌, [], ◌∷◌, length, option_map, IfSome, Some};
 ghost use Rattle.std.specs.Option.{option_copied};
 ghost use Rattle.iref.specs.{Authority.{read_authority, spell_authority}, Grammar.{at_sign, colon}};
-ghost use Rattle.iref.specs.{ComponentOffsets.{place_from}, Texts.{part_then, then_part}};
+ghost use Rattle.iref.specs.{ComponentOffsets.{range_from}, Texts.{part_then, then_part}};
 ghost use Rattle.iref.specs.{AuthoritySlices.{authority_of}, ReferenceSlices.{value_of}};
 ghost use Rattle.iref.specs.Reference.{read_reference, spell};
 ghost use Rattle.iref_c.specs.PartRanges.{all_ranges, authority_ranges, range_for_c, ranges_from};
@@ -79,7 +79,7 @@ fn range_of(range: Option<Range<usize>>) -> ByteRange
 // A part that begins at `start`.
 fn part_from(start: usize, part: &str) -> ByteRange
     requires { start + length part.now < 2 ^ 64 }
-    ensures { result ≡ range_for_c (Some (place_from start part.now)) }
+    ensures { result ≡ range_for_c (Some (range_from start part.now)) }
 {
     ByteRange {
         is_there: 1,
@@ -92,7 +92,7 @@ fn part_from(start: usize, part: &str) -> ByteRange
 fn part_before(start: usize, part: Option<&str>) -> (ByteRange, usize)
     requires { start + length (part_then (at_sign ∷ []) (option_copied part)) < 2 ^ 64 }
     ensures range { result.0
-        ≡ range_for_c (option_map (place_from start) (option_copied part.entry)) }
+        ≡ range_for_c (option_map (range_from start) (option_copied part.entry)) }
     ensures end { result.1
         ≡ start + length (part_then (at_sign ∷ []) (option_copied part.entry)) }
 {
@@ -106,7 +106,7 @@ fn part_before(start: usize, part: Option<&str>) -> (ByteRange, usize)
 fn part_after(start: usize, part: Option<&str>) -> ByteRange
     requires { start + length (then_part (colon ∷ []) (option_copied part)) < 2 ^ 64 }
     ensures { result
-        ≡ range_for_c (option_map (place_from (start + 1)) (option_copied part.entry)) }
+        ≡ range_for_c (option_map (range_from (start + 1)) (option_copied part.entry)) }
 {
     match part {
         Some(part) => part_from(start + 1, part),

@@ -164,5 +164,5 @@ module _ {C T c H : _} {R E : Type 0} (result : Result R E) (text : Text) (old n
   whole_edits step edits =
       MatchResult-weaker result edits.outcome
       (λ _ b. subst (λ t. IsStep step t (edited_bytes new)) bytes
-      (step_of_whole step (edited_bytes old) (edited_bytes new) old.place.start old.place.end new.place.start new.place.end start (end ∙ ap length (sym bytes)) b.bytes b.from b.to b.reads))
+      (step_of_whole step (edited_bytes old) (edited_bytes new) old.range.start old.range.end new.range.start new.range.end start (end ∙ ap length (sym bytes)) b.bytes b.from b.to b.reads))
       (λ _ same. same.bytes ∙ bytes)

@@ -29,20 +29,20 @@ splice_over : (bytes first second : Text) (start end : ℕ) → start ≤ end �
 splice_over bytes first second start end a b = same_lists _ _ (search (rules, places)) (λ k d h. grind (arith, places))
 
 -- no edit yet
-pub no_edit : {C : _} {T : _} {c : _} {t : _} (p : PathMut C T c t) → p.place.start ≤ p.place.end → p.place.end ≤ length (edited_bytes p) → BecomesPath p p (path_mut_value p)
+pub no_edit : {C : _} {T : _} {c : _} {t : _} (p : PathMut C T c t) → p.range.start ≤ p.range.end → p.range.end ≤ length (edited_bytes p) → BecomesPath p p (path_mut_value p)
 no_edit p a b =
     let spelled = (read_path-reads (path_mut_text p)).spelled in record {
-      bytes = sym (splice_same (edited_bytes p) p.place.start p.place.end a b) ∙ ap (splice (edited_bytes p) p.place.start p.place.end) (sym spelled);
+      bytes = sym (splice_same (edited_bytes p) p.range.start p.range.end a b) ∙ ap (splice (edited_bytes p) p.range.start p.range.end) (sym spelled);
       context = refl;
       from = refl;
-      to = sym (slice_len (edited_bytes p) p.place.start p.place.end a b) ∙ ap (λ text. p.place.start + length text) (sym spelled);
+      to = sym (slice_len (edited_bytes p) p.range.start p.range.end a b) ∙ ap (λ text. p.range.start + length text) (sym spelled);
       read = refl;
     }
 
 -- an edit after another
-pub edit_then : {C : _} {T : _} {c : _} {t : _} {p q r : PathMut C T c t} {value next : PathValue} → p.place.start ≤ p.place.end → p.place.end ≤ length (edited_bytes p) → BecomesPath p q value → BecomesPath q r next → BecomesPath p r next
+pub edit_then : {C : _} {T : _} {c : _} {t : _} {p q r : PathMut C T c t} {value next : PathValue} → p.range.start ≤ p.range.end → p.range.end ≤ length (edited_bytes p) → BecomesPath p q value → BecomesPath q r next → BecomesPath p r next
 edit_then {C} {T} {c} {t} {p} {q} {r} {value} {next} h k first second = record {
-  bytes = second.bytes ∙ (λ i. splice (first.bytes i) (first.from i) (first.to i) (spell_path next)) ∙ splice_over (edited_bytes p) (spell_path value) (spell_path next) p.place.start p.place.end h k;
+  bytes = second.bytes ∙ (λ i. splice (first.bytes i) (first.from i) (first.to i) (spell_path next)) ∙ splice_over (edited_bytes p) (spell_path value) (spell_path next) p.range.start p.range.end h k;
   context = second.context ∙ first.context;
   from = second.from ∙ first.from;
   to = second.to ∙ ap (λ start. start + length (spell_path next)) first.from;
@@ -60,7 +60,7 @@ refused_then {C} {T} {c} {t} {p} {q} {r} {value} first same = record {
 }
 
 -- a step after another
-pub next_edit : {C : _} {T : _} {c : _} {t : _} {p q r : PathMut C T c t} {value : PathValue} (next : PathContext → PathValue → PathValue) → p.place.start ≤ p.place.end → p.place.end ≤ length (edited_bytes p) → BecomesPath p q value
+pub next_edit : {C : _} {T : _} {c : _} {t : _} {p q r : PathMut C T c t} {value : PathValue} (next : PathContext → PathValue → PathValue) → p.range.start ≤ p.range.end → p.range.end ≤ length (edited_bytes p) → BecomesPath p q value
     → BecomesPath q r (next (path_mut_context q) (path_mut_value q)) → BecomesPath p r (next (path_mut_context p) value)
 next_edit {C} {T} {c} {t} {p} {q} {r} next h k first second =
     subst (BecomesPath p r) (λ i. next (first.context i) (first.read i)) (edit_then h k first second)

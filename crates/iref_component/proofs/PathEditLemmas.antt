@@ -43,8 +43,8 @@ pub whole_edit : {C : _} {T : _} {c : _} {t : _} {old new : PathMut C T c t} {by
 whole_edit {C} {T} {c} {t} {old} {new} {bytes} {context} step of e =
     let value : step (path_mut_context old) (path_mut_value old) ≡ step context (read_path bytes) =
     (λ i. step (of.context_is i) (read_path (slice_range (of.bytes_are i) (of.from i) (of.to i)))) ∙ ap (λ text. step context (read_path text)) (slice_all bytes 0 (length bytes) refl (omega arith)) in
-    let whole = whole_text (edited_bytes old) (edited_bytes new) (spell_path _) old.place.start old.place.end e.bytes of.from (of.to ∙ sym (ap length of.bytes_are)) in
-    let slice = slice_all (edited_bytes new) new.place.start new.place.end (e.from ∙ of.from) (omega (arith, e.from, e.to, ap length whole)) in
+    let whole = whole_text (edited_bytes old) (edited_bytes new) (spell_path _) old.range.start old.range.end e.bytes of.from (of.to ∙ sym (ap length of.bytes_are)) in
+    let slice = slice_all (edited_bytes new) new.range.start new.range.end (e.from ∙ of.from) (omega (arith, e.from, e.to, ap length whole)) in
     (whole ∙ ap spell_path value, ap read_path (sym slice) ∙ e.read ∙ value)
 
 -- the text that replaces a whole path is one step

@@ -21,28 +21,28 @@ edited_bytes {H = H} editor = H.text editor.target.now
 
 -- where the authority stands
 abbrev pub authority_mut_start : {C T c H : _} → AuthorityMut C T c H → ℕ
-authority_mut_start editor = editor.place.start
+authority_mut_start editor = editor.range.start
 
 abbrev pub authority_mut_end : {C T c H : _} → AuthorityMut C T c H → ℕ
-authority_mut_end editor = editor.place.end
+authority_mut_end editor = editor.range.end
 
 -- the text of the authority
 abbrev pub authority_mut_text : {C T c H : _} → AuthorityMut C T c H → Text
-authority_mut_text editor = slice_range (edited_bytes editor) editor.place.start editor.place.end
+authority_mut_text editor = slice_range (edited_bytes editor) editor.range.start editor.range.end
 
 -- the parts that it is read as
 abbrev pub authority_mut_value : {C T c H : _} → AuthorityMut C T c H → AuthorityValue
 authority_mut_value editor = read_authority (authority_mut_text editor)
 
 -- it edits what stands in this range of the bytes, where one is given
-pub record IsEditorAt {C T c H : _} (editor : AuthorityMut C T c H) (bytes : Text) (place : Option (Range ℕ)) : Type 0 where
+pub record IsEditorAt {C T c H : _} (editor : AuthorityMut C T c H) (bytes : Text) (range : Option (Range ℕ)) : Type 0 where
   pub bytes_are : edited_bytes editor ≡ bytes
-  pub place_is : place ≡ Some (record { start = editor.place.start; end = editor.place.end })
+  pub range_is : range ≡ Some (record { start = editor.range.start; end = editor.range.end })
 
 -- the range lies in the bytes
 pub record LiesInBytes {C T c H : _} (editor : AuthorityMut C T c H) : Type 0 where
-  pub start_le_end : editor.place.start ≤ editor.place.end
-  pub in_bounds : editor.place.end ≤ length (edited_bytes editor)
+  pub start_le_end : editor.range.start ≤ editor.range.end
+  pub in_bounds : editor.range.end ≤ length (edited_bytes editor)
 
 -- it borrows the same target still
 abbrev pub IsSameEditor : {C T c H : _} → AuthorityMut C T c H → AuthorityMut C T c H → Type 0
@@ -50,16 +50,16 @@ IsSameEditor old new = borrowed_name new ≡ borrowed_name old
 
 -- the authority becomes this one, its range is exact, and no other byte changes
 pub record BecomesAuthority {C T c H : _} (old new : AuthorityMut C T c H) (value : AuthorityValue) : Type 0 where
-  pub bytes : edited_bytes new ≡ splice (edited_bytes old) old.place.start old.place.end (spell_authority value)
-  pub from : new.place.start ≡ old.place.start
-  pub to : new.place.end ≡ old.place.start + length (spell_authority value)
+  pub bytes : edited_bytes new ≡ splice (edited_bytes old) old.range.start old.range.end (spell_authority value)
+  pub from : new.range.start ≡ old.range.start
+  pub to : new.range.end ≡ old.range.start + length (spell_authority value)
   pub reads : authority_mut_value new ≡ value
 
 -- nothing changes
 pub record IsUnchanged {C T c H : _} (old new : AuthorityMut C T c H) : Type 0 where
   pub bytes : edited_bytes new ≡ edited_bytes old
-  pub from : new.place.start ≡ old.place.start
-  pub to : new.place.end ≡ old.place.end
+  pub from : new.range.start ≡ old.range.start
+  pub to : new.range.end ≡ old.range.end
 
 -- an edit: it borrows the same target still, at Ok the authority becomes this one, and at an Err nothing changes
 pub record EditsTo {C T c H : _} {V E : Type 0} (value : AuthorityValue) (old new : AuthorityMut C T c H) (result : Result V E) : Type 0 where

@@ -29,14 +29,14 @@ path_mut_context p = p.context
 
 -- where the path stands
 abbrev pub path_mut_start : {C : _} {T : _} {c : _} {t : _} → PathMut C T c t → ℕ
-path_mut_start p = p.place.start
+path_mut_start p = p.range.start
 
 abbrev pub path_mut_end : {C : _} {T : _} {c : _} {t : _} → PathMut C T c t → ℕ
-path_mut_end p = p.place.end
+path_mut_end p = p.range.end
 
 -- the text of the path
 abbrev pub path_mut_text : {C : _} {T : _} {c : _} {t : _} → PathMut C T c t → Text
-path_mut_text p = slice_range (edited_bytes p) p.place.start p.place.end
+path_mut_text p = slice_range (edited_bytes p) p.range.start p.range.end
 
 -- the flag and the list that it is read as
 abbrev pub path_mut_value : {C : _} {T : _} {c : _} {t : _} → PathMut C T c t → PathValue
@@ -46,8 +46,8 @@ path_mut_value p = read_path (path_mut_text p)
 pub record IsEditorOf {C : _} {T : _} {c : _} {t : _} (p : PathMut C T c t) (bytes : Text) (context : PathContext) (start end : ℕ) : Type 0 where
   pub bytes_are : edited_bytes p ≡ bytes
   pub context_is : p.context ≡ context
-  pub from : p.place.start ≡ start
-  pub to : p.place.end ≡ end
+  pub from : p.range.start ≡ start
+  pub to : p.range.end ≡ end
 
 -- it borrows the same target still
 abbrev pub IsSameEditor : {C : _} {T : _} {c : _} {t : _} → PathMut C T c t → PathMut C T c t → Type 0
@@ -55,18 +55,18 @@ IsSameEditor old new = borrowed_name new ≡ borrowed_name old
 
 -- the path becomes this one, its range is exact, and no other byte changes
 pub record BecomesPath {C : _} {T : _} {c : _} {t : _} (old new : PathMut C T c t) (value : PathValue) : Type 0 where
-  pub bytes : edited_bytes new ≡ splice (edited_bytes old) old.place.start old.place.end (spell_path value)
+  pub bytes : edited_bytes new ≡ splice (edited_bytes old) old.range.start old.range.end (spell_path value)
   pub context : new.context ≡ old.context
-  pub from : new.place.start ≡ old.place.start
-  pub to : new.place.end ≡ old.place.start + length (spell_path value)
+  pub from : new.range.start ≡ old.range.start
+  pub to : new.range.end ≡ old.range.start + length (spell_path value)
   pub read : path_mut_value new ≡ value
 
 -- nothing changes
 pub record IsUnchanged {C : _} {T : _} {c : _} {t : _} (old new : PathMut C T c t) : Type 0 where
   pub bytes : edited_bytes new ≡ edited_bytes old
   pub context : new.context ≡ old.context
-  pub from : new.place.start ≡ old.place.start
-  pub to : new.place.end ≡ old.place.end
+  pub from : new.range.start ≡ old.range.start
+  pub to : new.range.end ≡ old.range.end
 
 -- an edit: it borrows the same target still, at Ok the path becomes this one, and at an Err nothing changes
 pub record EditsTo {C : _} {T : _} {c : _} {t : _} {V E : Type 0} (value : PathValue) (old new : PathMut C T c t) (result : Result V E) : Type 0 where

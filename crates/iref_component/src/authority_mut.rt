@@ -46,10 +46,10 @@ impl Part for AuthorityPart {
 #[derive(Drop)]
 pub struct AuthorityMut<'a, C: CharSet, T: Target<AuthorityPart, C> = Vec<u8>> {
     target: &'a mut T,
-    place: Span,
+    range: Span,
     chars: PhantomData<C>,
     ghost placed: { T.stands (T.text target.now) tt
-        place.start place.end } by { T.one_place _ _ _ _ },
+        range.start range.end } by { T.one_range _ _ _ _ },
 }
 
 impl<'a, C: CharSet> AuthorityMut<'a, C, Vec<u8>> {
@@ -110,7 +110,7 @@ impl<'a, C: CharSet, T: Target<AuthorityPart, C>> AuthorityMut<'a, C, T> {
         let Range { start, end } = range;
         AuthorityMut {
             target,
-            place: Span { start, end },
+            range: Span { start, end },
             chars: PhantomData,
         }
     }
@@ -121,7 +121,7 @@ impl<'a, C: CharSet, T: Target<AuthorityPart, C>> AuthorityMut<'a, C, T> {
         ensures in_rule { is_authority C.tests result.now ≡ true }
         ensures lies { LiesInBytes self.now }
     {
-        self.target.part((), self.place)
+        self.target.part((), self.range)
     }
 
     /// The authority.
@@ -135,8 +135,8 @@ impl<'a, C: CharSet, T: Target<AuthorityPart, C>> AuthorityMut<'a, C, T> {
     pub fn into_authority(self) -> Authority<'a, C>
         ensures { text_of result ≡ authority_mut_text self.entry }
     {
-        let AuthorityMut { target, place, .. } = self;
-        Authority::new_unchecked(target.part((), place))
+        let AuthorityMut { target, range, .. } = self;
+        Authority::new_unchecked(target.part((), range))
     }
 
     /// Where the authority stands, in bytes.
@@ -144,7 +144,7 @@ impl<'a, C: CharSet, T: Target<AuthorityPart, C>> AuthorityMut<'a, C, T> {
         ensures start { result.start ≡ authority_mut_start self.now }
         ensures end { result.end ≡ authority_mut_end self.now }
     {
-        self.place.start..self.place.end
+        self.range.start..self.range.end
     }
 
     // Replaces a range of the authority by two texts, as one edit.
@@ -167,7 +167,7 @@ impl<'a, C: CharSet, T: Target<AuthorityPart, C>> AuthorityMut<'a, C, T> {
             middle,
             close: "",
         };
-        self.place.end = self.target.replace((), self.place, change)?;
+        self.range.end = self.target.replace((), self.range, change)?;
         Ok(())
     }
 

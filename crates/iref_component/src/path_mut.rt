@@ -33,10 +33,10 @@ use std::ops::Range;
 pub struct PathMut<'a, C: CharSet, T: Target<PathPart, C> = Vec<u8>> {
     target: &'a mut T,
     context: PathContext,
-    place: Span,
+    range: Span,
     chars: PhantomData<C>,
     ghost placed: { T.stands (T.text target.now) context
-        place.start place.end } by { T.one_place _ _ _ _ },
+        range.start range.end } by { T.one_range _ _ _ _ },
 }
 
 impl<'a, C: CharSet, T: Target<PathPart, C>> PathMut<'a, C, T> {
@@ -54,7 +54,7 @@ impl<'a, C: CharSet, T: Target<PathPart, C>> PathMut<'a, C, T> {
         PathMut {
             target,
             context,
-            place: Span {
+            range: Span {
                 start: range.start,
                 end: range.end,
             },
@@ -67,7 +67,7 @@ impl<'a, C: CharSet, T: Target<PathPart, C>> PathMut<'a, C, T> {
         ensures value { result.now ≡ path_mut_text self.now }
         ensures test { is_path_after C.tests (path_mut_context self.now) result.now ≡ true }
     {
-        self.target.part(self.context, self.place)
+        self.target.part(self.context, self.range)
     }
 
     /// The path.
@@ -82,7 +82,7 @@ impl<'a, C: CharSet, T: Target<PathPart, C>> PathMut<'a, C, T> {
         ensures start { result.start ≡ path_mut_start self.now }
         ensures end { result.end ≡ path_mut_end self.now }
     {
-        self.place.start..self.place.end
+        self.range.start..self.range.end
     }
 
     // The allocator of what holds the path.
@@ -111,7 +111,7 @@ impl<'a, C: CharSet, T: Target<PathPart, C>> PathMut<'a, C, T> {
             middle: step.middle,
             close: step.close,
         };
-        self.place.end = self.target.replace(self.context, self.place, change)?;
+        self.range.end = self.target.replace(self.context, self.range, change)?;
         Ok(())
     }
 

@@ -45,9 +45,9 @@ part_stands text new part start end new_end a b e f = record {
 }
 
 -- how long the part is then
-pub part_len : (text : List ℕ) (change : Change) (place : Span) → place.start ≤ place.end → place.end ≤ length text → IsWithin (part_at text place) change.within
-    → place.end - place.start - cut_length change + pieces_length change ≡ length (changed (part_at text place) change)
-part_len text change place a b within =
-    let part = part_at text place in
+pub part_len : (text : List ℕ) (change : Change) (range : Span) → range.start ≤ range.end → range.end ≤ length text → IsWithin (part_at text range) change.within
+    → range.end - range.start - cut_length change + pieces_length change ≡ length (changed (part_at text range) change)
+part_len text change range a b within =
+    let part = part_at text range in
     let added : length (pieces change) ≡ pieces_length change = simp length-append in
-    omega (arith, added, slice-length text place.start place.end b, length-spliced part (pieces change) change.within.start change.within.end within.start_le_end within.end.0)
+    omega (arith, added, slice-length text range.start range.end b, length-spliced part (pieces change) change.within.start change.within.end within.start_le_end within.end.0)

@@ -38,12 +38,12 @@ changed text change = replaced text change.within (pieces change)
 
 -- what stands in the range
 abbrev pub part_at : Text → Span → Text
-part_at text place = slice_range text place.start place.end
+part_at text range = slice_range text range.start range.end
 
 -- the same after a change
 abbrev pub changed_part : Text → Span → Change → Text
-changed_part text place change = changed (part_at text place) change
+changed_part text range change = changed (part_at text range) change
 
 -- the text after a change of what stands in the range
 abbrev pub changed_at : Text → Span → Change → Text
-changed_at text place change = splice text place.start place.end (changed_part text place change)
+changed_at text range change = splice text range.start range.end (changed_part text range change)

@@ -2,7 +2,7 @@
 ghost use Rattle.std.specs.Prelude.{◌≡◌, ◌+◌, ◌-◌, ◌≤◌, ◌++◌, length, take, drop, vec_len, OnOk};
 ghost use Rattle.std.specs.{Prelude.{OnErr, IsOk}, List.{splice}};
 ghost use Rattle.iref_edit.specs.Changes.{IsNoLonger, changed, pieces, pieces_length};
-ghost use Rattle.iref_edit.specs.Edited.{StandsIn, one_place};
+ghost use Rattle.iref_edit.specs.Edited.{StandsIn, one_range};
 
 use crate::change::{Change, Span};
 use crate::target::{Part, Target};
@@ -99,7 +99,7 @@ impl<P: Part, C: CharSet> Target<P, C> for Vec<u8> {
 
     ghost stands = { StandsIn (P.test C.tests) };
 
-    ghost one_place = { one_place (P.test C.tests) };
+    ghost one_range = { one_range (P.test C.tests) };
 
     ghost is_within = { λ _ _ _ _ stands. (stands.0, stands.1) };
 

@@ -34,7 +34,7 @@ pub trait Target<P: Part, C: CharSet> {
     ghost stands: { Text → P.Context → ℕ → ℕ → Type 0 };
 
     /// There is one proof of it.
-    ghost one_place: { (text : Text) (context : P.Context) (start end : ℕ)
+    ghost one_range: { (text : Text) (context : P.Context) (start end : ℕ)
         → IsProp (stands text context start end) };
 
     /// It is within the bytes.

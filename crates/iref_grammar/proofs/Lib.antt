@@ -24,7 +24,7 @@ pub mod PathLemmas
 pub mod PathRuleLemmas
 pub mod PathTestLemmas
 pub mod ReferenceCutLemmas
-pub mod PlaceLemmas
+pub mod RangeLemmas
 pub mod OnlyLemmas
 pub mod ReadableLemmas
 pub mod ReferenceRuleLemmas

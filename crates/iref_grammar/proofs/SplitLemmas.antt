@@ -19,8 +19,8 @@ use Rattle.iref_grammar.proofs.LackLemmas.{lacks_more}
 use Rattle.iref_grammar.proofs.OnlyLemmas.{scheme-back, no_scheme, no_colon}
 
 -- the first index that passes, or the length
-pub place_or_len : (p : ℕ → Bool) (text : Text) → unwrap_or (cond (ltb (position_or_len p text) (length text)) (Some (position_or_len p text)) None) (length text) ≡ position_or_len p text
-place_or_len p text = let bound = prefix_len-le-length (λ c. not (p c)) text in grind (arith, common_steps)
+pub range_or_len : (p : ℕ → Bool) (text : Text) → unwrap_or (cond (ltb (position_or_len p text) (length text)) (Some (position_or_len p text)) None) (length text) ≡ position_or_len p text
+range_or_len p text = let bound = prefix_len-le-length (λ c. not (p c)) text in grind (arith, common_steps)
 
 -- what stands before the delimiters lacks each of them
 pub lacks-before : (marks : List ℕ) (mark : ℕ) (text : Text) → char_set_contains marks mark ≡ true → lacks mark (before marks text) ≡ true

@@ -11,8 +11,8 @@ use Rattle.iref_grammar.specs.PathValue.{spell_path}
 use Rattle.iref_grammar.specs.Reference.{ReferenceValue, read_reference}
 
 -- a part that begins at start
-abbrev pub place_from : ℕ → Text → Range ℕ
-place_from start part = record { start = start; end = start + length part }
+abbrev pub range_from : ℕ → Text → Range ℕ
+range_from start part = record { start = start; end = start + length part }
 
 -- what stands before the `//`, the path, the `?` and the `#`
 abbrev pub authority_mark : ReferenceValue → ℕ
@@ -30,11 +30,11 @@ fragment_mark r = query_mark r + length (then_part (question_mark ∷ []) r.quer
 -- the components of a reference where it is spelled (RFC 3986 section 5.3)
 unfoldable pub offsets_in : ReferenceValue → Offsets
 offsets_in r = record {
-  scheme = option_map (place_from 0) r.scheme;
-  authority = option_map (place_from (authority_mark r + 2)) (option_map spell_authority r.authority);
-  path = place_from (path_start r) (spell_path r.path);
-  query = option_map (place_from (query_mark r + 1)) r.query;
-  fragment = option_map (place_from (fragment_mark r + 1)) r.fragment;
+  scheme = option_map (range_from 0) r.scheme;
+  authority = option_map (range_from (authority_mark r + 2)) (option_map spell_authority r.authority);
+  path = range_from (path_start r) (spell_path r.path);
+  query = option_map (range_from (query_mark r + 1)) r.query;
+  fragment = option_map (range_from (fragment_mark r + 1)) r.fragment;
 }
 
 -- the components that are read from a text
@@ -43,4 +43,4 @@ offsets_of text = offsets_in (read_reference text)
 
 -- what stands there in a text
 abbrev pub text_at : Text → Range ℕ → Text
-text_at text place = slice_range text place.start place.end
+text_at text range = slice_range text range.start range.end

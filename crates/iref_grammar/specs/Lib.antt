@@ -7,7 +7,7 @@ pub use Rattle.iref_grammar.specs.Grammar.{colon, hash_sign, is_not_percent, IsA
 pub use Rattle.iref_grammar.specs.IpAddresses.{ipv4_value, ipv6_value, IsIpv4, IsIpv6}
 pub use Rattle.iref_grammar.specs.Keys.{fed_after, fed_bytes, IsSelfDelimiting, is_same_text, text_order}
 pub use Rattle.iref_grammar.specs.PathValue.{IsReadAs, read_path, segments_of, shows_its_list, spell_path}
-pub use Rattle.iref_grammar.specs.ComponentOffsets.{place_from, offsets_in, offsets_of, text_at}
+pub use Rattle.iref_grammar.specs.ComponentOffsets.{range_from, offsets_in, offsets_of, text_at}
 pub use Rattle.iref_grammar.specs.Reference.{context_of, hierarchy, is_uri, is_readable, is_reference, IsReadable, IsReadAsReference, read_reference, ReferenceValue, spell}
 pub use Rattle.iref_grammar.specs.Rules.{AcceptsExactly, Empty, InUtf8, Text}
 pub use Rattle.iref_grammar.specs.Tests.{is_fragment, is_host, is_ip_literal, is_ipv4, is_ipv6, is_ipvfuture, is_path, is_pct_str, is_port, is_query, is_reg_name, is_scheme, is_segment, is_user_info, none_or, ScansTo}

@@ -38,11 +38,11 @@ impl PathContext {
 fn from_mark(bytes: &[u8]) -> &[u8]
     ensures { result.now ≡ from_first (codes ":/?#") bytes.now }
 {
-    let place = bytes.iter().position(|byte| *byte == b':'
+    let end = bytes.iter().position(|byte| *byte == b':'
         || *byte == b'/'
         || *byte == b'?'
         || *byte == b'#');
-    &bytes[place.unwrap_or(bytes.len())..]
+    &bytes[end.unwrap_or(bytes.len())..]
 }
 
 // Whether the bytes begin so.

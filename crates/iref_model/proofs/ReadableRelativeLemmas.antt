@@ -61,8 +61,8 @@ pub relative_to-readable : (set : CharTests) (target base : ReferenceValue) → 
 unfolding relative_to Rattle.iref_model.specs.Key.key
 relative_to-readable set target base readable = by (schemes_agree target base && have_same_authority target base) (is_same_place target base) target.path.absolute
   where
-    by : (agree place root : Bool) → is_readable set (cond agree (cond place (with_only_path (at_no_root []) target) (cond root (with_only_path (leading_path target base) target) target)) target) ≡ true
-    by false place root = readable
+    by : (agree range root : Bool) → is_readable set (cond agree (cond range (with_only_path (at_no_root []) target) (cond root (with_only_path (leading_path target base) target) target)) target) ≡ true
+    by false range root = readable
     by true true root = only_path-readable set target (at_no_root []) readable refl refl
     by true false true = only_path-readable set target (leading_path target base) readable (all_leading (is_segment set) (is_segment-dots set) target base (readable_parts set target readable).segments) (leading_path-fits target base)
     by true false false = readable

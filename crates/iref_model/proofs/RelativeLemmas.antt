@@ -242,10 +242,10 @@ unfolding relative_to key
 relative_to-leads target base full stand own =
     by (schemes_agree target base) (have_same_authority target base) (is_same_place target base) target.path.absolute refl refl refl refl
   where
-    by : (agree same place root : Bool) → schemes_agree target base ≡ agree → have_same_authority target base ≡ same → is_same_place target base ≡ place → target.path.absolute ≡ root
-        → key (resolved base (cond (agree && same) (cond place (with_only_path (at_no_root []) target) (cond root (with_only_path (leading_path target base) target) target)) target)) ≡ key (resolved base target)
-    by false same place root e f g h = refl
-    by true false place root e f g h = refl
+    by : (agree same range root : Bool) → schemes_agree target base ≡ agree → have_same_authority target base ≡ same → is_same_place target base ≡ range → target.path.absolute ≡ root
+        → key (resolved base (cond (agree && same) (cond range (with_only_path (at_no_root []) target) (cond root (with_only_path (leading_path target base) target) target)) target)) ≡ key (resolved base target)
+    by false same range root e f g h = refl
+    by true false range root e f g h = refl
     by true true true root e f g h = same_place-leads target base own g ∙ sym (resolved-agreeing target base full e f stand)
     by true true false true e f g h = leading_path-leads target base h ∙ sym (resolved-agreeing target base full e f stand)
     by true true false false e f g h = refl
@@ -267,11 +267,11 @@ pub relative_to-only_path : (target base : ReferenceValue) → schemes_agree tar
 unfolding relative_to key
 relative_to-only_path target base agree same root = by (schemes_agree target base) (have_same_authority target base) (is_same_place target base) target.path.absolute agree same root
   where
-    by : (agree same place root : Bool) → agree ≡ true → same ≡ true → root ≡ true
-        → IsOnlyPath (cond (agree && same) (cond place (with_only_path (at_no_root []) target) (cond root (with_only_path (leading_path target base) target) target)) target)
-    by false same place root e f h = absurd (true≢false (sym e))
-    by true false place root e f h = absurd (true≢false (sym f))
-    by true true place false e f h = absurd (true≢false (sym h))
+    by : (agree same range root : Bool) → agree ≡ true → same ≡ true → root ≡ true
+        → IsOnlyPath (cond (agree && same) (cond range (with_only_path (at_no_root []) target) (cond root (with_only_path (leading_path target base) target) target)) target)
+    by false same range root e f h = absurd (true≢false (sym e))
+    by true false range root e f h = absurd (true≢false (sym f))
+    by true true range false e f h = absurd (true≢false (sym h))
     by true true true true e f h = record { scheme = refl; authority = refl }
     by true true false true e f h = record { scheme = refl; authority = refl }
 
@@ -281,12 +281,12 @@ unfolding relative_to key
 relative_to-no_root target base agree same root base_root =
     by (schemes_agree target base) (have_same_authority target base) (is_same_place target base) target.path.absolute base.path.absolute agree same root base_root
   where
-    by : (agree same place root base_root : Bool) → agree ≡ true → same ≡ true → root ≡ true → base_root ≡ true
-        → (cond (agree && same) (cond place (with_only_path (at_no_root []) target) (cond root (with_only_path (guarded alone (cond base_root (at_no_root (path_down base.path (normal_segments target.path))) (normal target.path))) target) target)) target).path.absolute ≡ false
-    by false same place root base_root e f h k = absurd (true≢false (sym e))
-    by true false place root base_root e f h k = absurd (true≢false (sym f))
-    by true true place false base_root e f h k = absurd (true≢false (sym h))
-    by true true place true false e f h k = absurd (true≢false (sym k))
+    by : (agree same range root base_root : Bool) → agree ≡ true → same ≡ true → root ≡ true → base_root ≡ true
+        → (cond (agree && same) (cond range (with_only_path (at_no_root []) target) (cond root (with_only_path (guarded alone (cond base_root (at_no_root (path_down base.path (normal_segments target.path))) (normal target.path))) target) target)) target).path.absolute ≡ false
+    by false same range root base_root e f h k = absurd (true≢false (sym e))
+    by true false range root base_root e f h k = absurd (true≢false (sym f))
+    by true true range false base_root e f h k = absurd (true≢false (sym h))
+    by true true range true false e f h k = absurd (true≢false (sym k))
     by true true true true true e f h k = refl
     by true true false true true e f h k = relative_guarded (path_down base.path (normal_segments target.path))
 
@@ -309,12 +309,12 @@ answer_parents target base agree same root base_root =
     names true segments e = names-normal segments
     names false segments e = absurd (true≢false (sym e))
 
-    by : (agree same place root base_root : Bool) → agree ≡ true → same ≡ true → root ≡ true → base_root ≡ true → (list : List Text) → are_names list ≡ true
-        → count_parents (cond (agree && same) (cond place (with_only_path (at_no_root []) target) (cond root (with_only_path (guarded alone (cond base_root (at_no_root (path_down base.path list)) (normal target.path))) target) target)) target).path.segments ≤ climb_between (directory_names base.path) list
-    by false same place root base_root e f h k list names = absurd (true≢false (sym e))
-    by true false place root base_root e f h k list names = absurd (true≢false (sym f))
-    by true true place false base_root e f h k list names = absurd (true≢false (sym h))
-    by true true place true false e f h k list names = absurd (true≢false (sym k))
+    by : (agree same range root base_root : Bool) → agree ≡ true → same ≡ true → root ≡ true → base_root ≡ true → (list : List Text) → are_names list ≡ true
+        → count_parents (cond (agree && same) (cond range (with_only_path (at_no_root []) target) (cond root (with_only_path (guarded alone (cond base_root (at_no_root (path_down base.path list)) (normal target.path))) target) target)) target).path.segments ≤ climb_between (directory_names base.path) list
+    by false same range root base_root e f h k list names = absurd (true≢false (sym e))
+    by true false range root base_root e f h k list names = absurd (true≢false (sym f))
+    by true true range false base_root e f h k list names = absurd (true≢false (sym h))
+    by true true range true false e f h k list names = absurd (true≢false (sym k))
     by true true true true true e f h k list names = omega arith
     by true true false true true e f h k list names = (let is = parents_guarded (directory_names base.path) list names in omega (arith, is))
 

@@ -30,14 +30,14 @@ held_size buffer n low = let size = length-drop 1 buffer in length-take-le n (dr
 held_more : (buffer : List ℕ) (n b : ℕ) → n + 1 < length buffer → held_in (set buffer (n + 1) b) (n + 1) ≡ held_in buffer n ++ b ∷ []
 held_more buffer n b low =
     let size = length-drop 1 buffer in
-    let place : n + 1 ≡ 1 + n = omega arith in
-    ap (λ k. take (n + 1) (drop 1 (set buffer k b))) place ∙ ap (take (n + 1)) (drop-set-add 1 buffer n b)
+    let range : n + 1 ≡ 1 + n = omega arith in
+    ap (λ k. take (n + 1) (drop 1 (set buffer k b))) range ∙ ap (take (n + 1)) (drop-set-add 1 buffer n b)
     ∙ take_more_set (drop 1 buffer) n b (omega (arith, size, low))
 
 -- the buffer up to there, with a number in front
 numbered : (buffer : List ℕ) (n v : ℕ) → 0 < length buffer → take (n + 1) (set buffer 0 v) ≡ v ∷ held_in buffer n
 numbered [] n v low = absurd (omega (arith, low))
-numbered (x ∷ xs) n v low = let place : n + 1 ≡ suc n = omega arith in ap (λ k. take k (v ∷ xs)) place
+numbered (x ∷ xs) n v low = let range : n + 1 ≡ suc n = omega arith in ap (λ k. take k (v ∷ xs)) range
 
 module _ {S : Type 0} (write : S → List ℕ → S) where
   -- a byte that fills the piece, one that does not, and the end of the text

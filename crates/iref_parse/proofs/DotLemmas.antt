@@ -1,4 +1,4 @@
--- Places of `/.` and segments that begin with a dot.
+-- Indices of `/.` and segments that begin with a dot.
 use Rattle.std.proofs.Common.{◌≡◌, ℕ, zero, suc, ◌+◌, ◌-◌, ◌<◌, ◌≤◌, List, Bool, true, false, not, cond, eqb, length, get_or, inl, inr, ◌⊎◌, refl, sym, ap, ◌∙◌, arith, ⊎_elim}
 use Rattle.std.specs.Prelude.{MatchBool}
 use Rattle.std.specs.List.{list_all}

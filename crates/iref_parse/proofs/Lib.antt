@@ -7,7 +7,7 @@ pub mod GroupLemmas
 pub mod DoubleColonLemmas
 pub mod Ipv6ScanLemmas
 pub mod LiteralLemmas
-pub mod SlicePlaceLemmas
+pub mod SliceRangeLemmas
 pub mod AuthorityLemmas
 pub mod LaneLemmas
 pub mod DifferLemmas

@@ -87,14 +87,14 @@ guard_by_colon context rooted (c ∷ s) has h e k = k ∙ (λ i. not (sym e i) &
 -- the text up to here
 pub record IsCut (path kept : Text) (n : ℕ) : Type 0 where
   pub taken : take n path ≡ kept
-  pub place : IsCharBoundary path n
+  pub range : IsCharBoundary path n
 
 pub cut_at_slash : (path front back : Text) (n : ℕ) → path ≡ front ++ slash ∷ back → length front ≡ n → IsCut path front n
 cut_at_slash path front back n e size =
     let whole = ap length e ∙ length-append front (slash ∷ back) in
     record {
       taken = ap (take n) e ∙ take_at front (slash ∷ back) n size;
-      place = IsCharBoundary-before_ascii path n (omega (arith, size, whole))
+      range = IsCharBoundary-before_ascii path n (omega (arith, size, whole))
           (let here : get_or path n 0 ≡ slash = (λ i. get_or (e i) (sym size i) 0) ∙ get_or-append_seam front slash back 0 in omega (arith, here));
     }
 
@@ -109,13 +109,13 @@ root_of_path (c ∷ cs) true e = elim (eqb_tells c slash) [
 
 -- its root, without its segments
 pub cut_at_root : (path : Text) (absolute : Bool) → IsUtf8 path → (read_path path).absolute ≡ absolute → IsCut path (cond absolute (slash ∷ []) []) (root_len absolute)
-cut_at_root path false utf8 e = record { taken = refl; place = IsCharBoundary-start path utf8 }
+cut_at_root path false utf8 e = record { taken = refl; range = IsCharBoundary-start path utf8 }
 cut_at_root path true utf8 e =
     let root = root_of_path path true e in
     let whole = ap length root.1 in
     record {
       taken = ap (take 1) root.1;
-      place = IsCharBoundary-after_ascii path 0 utf8 (omega (arith, whole)) (let here : get_or path 0 0 ≡ slash = λ i. get_or (root.1 i) 0 0 in omega (arith, here));
+      range = IsCharBoundary-after_ascii path 0 utf8 (omega (arith, whole)) (let here : get_or path 0 0 ≡ slash = λ i. get_or (root.1 i) 0 0 in omega (arith, here));
     }
 
 pub root_spelled : (absolute : Bool) → cond absolute (slash ∷ []) [] ≡ spell_path (record { absolute = absolute; segments = [] })

@@ -12,7 +12,7 @@ use Rattle.iref_model.specs.NormalReading.{items}
 
 -- the segments before an index, where one begins: a `/` stands after each
 abbrev pub pieces_before : Text → ℕ → List Text
-pieces_before text place = if place == 0 then [] else pieces_at slash (take (place - 1) text)
+pieces_before text index = if index == 0 then [] else pieces_at slash (take (index - 1) text)
 
 -- the items of these segments with `/` between
 abbrev pub items_text : Bool → Text → Text
@@ -24,4 +24,4 @@ rewritten lead path = lead ++ join_with_byte slash (normal_segments (read_path p
 
 -- the text with that instead of the path in a range
 abbrev pub rewritten_at : Text → Text → Span → Text
-rewritten_at lead text place = splice text place.start place.end (rewritten lead (part_at text place))
+rewritten_at lead text range = splice text range.start range.end (rewritten lead (part_at text range))

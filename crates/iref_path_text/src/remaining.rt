@@ -13,7 +13,7 @@ ghost use Rattle.iref_model.specs.NormalList as list;
 
 pub mod listed;
 pub mod merged;
-pub mod places;
+pub mod slots;
 pub mod stack;
 pub mod way;
 

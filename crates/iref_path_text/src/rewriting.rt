@@ -13,7 +13,7 @@ ghost use Rattle.iref_edit.specs.Changes.{part_at};
 
 use crate::names::bytes_stay;
 use crate::remaining::leading_parents;
-use crate::remaining::places::Nowhere;
+use crate::remaining::slots::NoSlots;
 use crate::remaining::stack::Stack;
 use crate::segments::split_root;
 use crate::spell::{lead_in, write_before};
@@ -110,7 +110,7 @@ fn write_parents(bytes: &mut [u8], count: usize, end: usize) -> usize
 // Where the names end that move: one that comes last stays where it is.
 fn moved_end(stays: bool, last: usize, len: usize) -> usize
     requires { last ≤ len }
-    ensures place { result ≡ (if stays then last else len) }
+    ensures index { result ≡ (if stays then last else len) }
     ensures within { result ≤ len }
 {
     if stays { last } else { len }
@@ -151,7 +151,7 @@ fn write_at(bytes: &mut [u8], at: Span, lead: &str) -> usize
     requires start_le_end { at.start ≤ at.end }
     requires in_bounds { at.end ≤ length bytes.old }
     requires shorter { length (rewritten lead.now (part_at bytes.old at)) ≤ at.end - at.start }
-    ensures place { result + length (rewritten lead.now (part_at bytes.old at))
+    ensures index { result + length (rewritten lead.now (part_at bytes.old at))
         ≡ at.end - at.start }
     ensures written { splice bytes.new at.start (at.start + result) []
         ≡ rewritten_at lead.now bytes.old at }
@@ -216,7 +216,7 @@ pub fn normal_lead(context: PathContext, path: &str) -> (&'static str, usize)
     ensures len { result.1 ≡ length (rewritten result.0.now path.now) }
 {
     let (absolute, segments) = split_root(path);
-    let mut stack = Stack::new(Nowhere::new());
+    let mut stack = Stack::new(NoSlots::new());
     stack.read(absolute, segments);
     let lead = lead_in(context, absolute, stack.size, stack.first);
     (lead, lead.len() + stack.size.saturating_sub(1))

@@ -15,7 +15,7 @@ ghost use Rattle.iref_path_text.specs.Written.{WritesBefore};
 ghost use Rattle.iref_path_text.specs.Spelling as spelling;
 
 use crate::measured::MeasuredPath;
-use crate::remaining::places::Places;
+use crate::remaining::slots::Slots;
 use crate::remaining::stack::Stack;
 use crate::remaining::way::Way;
 use crate::segments::{first_segment, split_root};
@@ -201,19 +201,19 @@ const LONGEST_LISTED: usize = 16_384;
 
 // The bytes of the normalized path in its context, with a flag of its own. The segments are read
 // once where each item of the list finds room here, and else once more.
-fn normal_bytes_by<'a, P: Places<&'a str> + Drop>(
-    places: P,
+fn normal_bytes_by<'a, P: Slots<&'a str> + Drop>(
+    slots: P,
     alloc: Global,
     context: PathContext,
     absolute: bool,
     path: &'a str,
 ) -> Result<Vec<u8>, Memory>
-    requires { P.items places ≡ [] }
+    requires { P.items slots ≡ [] }
     ensures { IfOk result (λ bytes.
         bytes.items ≡ spell_path (normal_in context absolute path.now)) }
 {
     let segments = split_root(path).1;
-    let mut stack = Stack::new(places);
+    let mut stack = Stack::new(slots);
     let (left, _count) = stack.read(absolute, segments);
     let lead = lead_in(context, absolute, stack.size, stack.first);
     if stack.is_whole {

@@ -11,8 +11,8 @@ use Rattle.iref_grammar.proofs.ReadableLemmas.{readable_read}
 use Rattle.iref_model.specs.ComponentSteps.{with_authority_step}
 use Rattle.iref_component.specs.declared.authority_mut.AuthorityMut.{AuthorityMut}
 use Rattle.iref_component.specs.AuthorityEdits.{edited_bytes, authority_mut_value, IsEditorAt, BecomesAuthority}
-use Rattle.iref_buffer.specs.AuthorityPlaces.{authority_part}
-use Rattle.iref_buffer.proofs.AuthorityPlaceLemmas.{authority_read_there, place_is, some_if_placed}
+use Rattle.iref_buffer.specs.AuthorityRanges.{authority_part}
+use Rattle.iref_buffer.proofs.AuthorityRangeLemmas.{authority_read_there, range_is, some_if_placed}
 use Rattle.iref_buffer.proofs.EditLemmas.{authority_part_replaced}
 use Rattle.iref_buffer.specs.Steps.{IsStep}
 
@@ -21,8 +21,8 @@ pub authority_step : {C T c H : _} {old new : AuthorityMut C T c H} {text : Text
     → BecomesAuthority old new (step (authority_mut_value old)) → IsStep (with_authority_step step) text (edited_bytes new)
 authority_step {C} {T} {c} {H} {old} {new} {text} set above step h readable of e =
     let r = read_reference text in
-    let there = place_is text _ of.place_is in
-    let has = some_if_placed text _ of.place_is in
+    let there = range_is text _ of.range_is in
+    let has = some_if_placed text _ of.range_is in
     let read = authority_read_there set above text h has in
     let value : authority_mut_value old ≡ read_authority (authority_part text) = λ i. read_authority (slice_range (of.bytes_are i) (there i).start (there i).end) in
     let stepped = step (read_authority (authority_part text)) in

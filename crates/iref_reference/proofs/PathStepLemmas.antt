@@ -7,13 +7,13 @@ use Rattle.iref_grammar.specs.Rules.{Text}
 use Rattle.iref_grammar.specs.PathValue.{PathValue, read_path, spell_path}
 use Rattle.iref_grammar.specs.ComponentOffsets.{offsets_of}
 use Rattle.iref_grammar.specs.Reference.{context_of, is_readable, is_reference, read_reference}
-use Rattle.iref_grammar.proofs.PlaceLemmas.{path_place}
+use Rattle.iref_grammar.proofs.RangeLemmas.{path_range}
 use Rattle.iref_grammar.proofs.ReadableLemmas.{readable_read}
 use Rattle.iref_model.specs.ComponentSteps.{with_path_step}
 use Rattle.iref_component.specs.declared.path_mut.PathMut.{PathMut}
 use Rattle.iref_component.specs.PathEdits.{edited_bytes, path_mut_context, path_mut_value, IsEditorOf, BecomesPath}
 use Rattle.iref_buffer.proofs.EditLemmas.{path_replaced}
-use Rattle.iref_buffer.proofs.PathPlaceLemmas.{path_stands}
+use Rattle.iref_buffer.proofs.PathRangeLemmas.{path_stands}
 use Rattle.iref_buffer.specs.Steps.{IsStep}
 
 pub path_step : {C : _} {T : _} {c : _} {t : _} {old new : PathMut C T c t} {text : Text} (set : CharTests) → AreAboveAscii set → (step : PathContext → PathValue → PathValue)
@@ -24,6 +24,6 @@ path_step {C} {T} {c} {t} {old} {new} {text} set above step h readable of e =
     let r = read_reference text in
     let value : step (path_mut_context old) (path_mut_value old) ≡ step (context_of r) r.path =
     (λ i. step (of.context_is i) (read_path (slice_range (of.bytes_are i) (of.from i) (of.to i))))
-    ∙ ap (step (context_of r)) (ap read_path (path_place text) ∙ (path_stands set above text h).read) in
+    ∙ ap (step (context_of r)) (ap read_path (path_range text) ∙ (path_stands set above text h).read) in
     let spelled = e.bytes ∙ (λ i. splice (of.bytes_are i) (of.from i) (of.to i) (spell_path (value i))) ∙ path_replaced text (step (context_of r) r.path) in
     (spelled, ap read_reference spelled ∙ readable_read set above (with_path_step step r) readable)

@@ -2,9 +2,9 @@
 ghost use Rattle.std.specs.{Prelude.{◌≡◌, true, is_some, IfSome}, Borrow.{sem, RestsIfNone}};
 ghost use Rattle.iref_grammar.specs.{context_of, is_reference, offsets_of};
 ghost use Rattle.iref_component.specs.PathEdits.{Borrows, IsEditorOf};
-ghost use Rattle.iref_buffer.specs.PathPlaces.{IsPathOf, one_path, path_is_within};
-ghost use Rattle.iref_buffer.specs.AuthorityPlaces.{IsAuthorityOf, one_authority};
-ghost use Rattle.iref_buffer.specs.AuthorityPlaces.{authority_is_within};
+ghost use Rattle.iref_buffer.specs.PathRanges.{IsPathOf, one_path, path_is_within};
+ghost use Rattle.iref_buffer.specs.AuthorityRanges.{IsAuthorityOf, one_authority};
+ghost use Rattle.iref_buffer.specs.AuthorityRanges.{authority_is_within};
 ghost use Rattle.iref_reference.specs.contracts.owned.ReferenceBuf.{the_row};
 ghost use Rattle.iref_reference.specs.References.{reference_buf_text, reference_buf_value};
 
@@ -26,7 +26,7 @@ impl<R: HeldRule, C: CharSet> Target<PathPart, C> for ReferenceBuf<R, C> {
 
     ghost stands = { IsPathOf C.tests };
 
-    ghost one_place = { one_path C.tests };
+    ghost one_range = { one_path C.tests };
 
     ghost is_within = { path_is_within C.tests };
 
@@ -54,7 +54,7 @@ impl<R: HeldRule, C: CharSet> Target<AuthorityPart, C> for ReferenceBuf<R, C> {
 
     ghost stands = { λ text _. IsAuthorityOf C.tests text };
 
-    ghost one_place = { λ text _. one_authority C.tests text };
+    ghost one_range = { λ text _. one_authority C.tests text };
 
     ghost is_within = { λ text _. authority_is_within C.tests text };
 
@@ -88,10 +88,10 @@ impl<R: HeldRule, C: CharSet> ReferenceBuf<R, C> {
             (reference_buf_text self.old) (offsets_of (reference_buf_text self.old)).authority) }
         ensures reference { is_reference C.tests (reference_buf_text self.old) ≡ true }
     {
-        let Some(place) = self.held.offsets().authority else {
+        let Some(range) = self.held.offsets().authority else {
             return None;
         };
-        Some(AuthorityMut::of_target(self, place))
+        Some(AuthorityMut::of_target(self, range))
     }
 
     /// The editor of the path: each of its edits is one of the reference, and keeps the other

@@ -2,7 +2,7 @@
 ghost use Rattle.std.specs.Prelude.{Some, OnOk, IsNone, IsOk, option_map};
 ghost use Rattle.iref_component.specs.{path_value, read_authority, text_of};
 ghost use Rattle.iref_buffer.specs.{with_authority, with_fragment, with_path, with_query};
-ghost use Rattle.iref_buffer.specs.{with_scheme, PathPlaces.{RemovesDots}};
+ghost use Rattle.iref_buffer.specs.{with_scheme, PathRanges.{RemovesDots}};
 ghost use Rattle.iref_model.specs.ComponentSteps.{with_new_normal_path};
 ghost use Rattle.iref_reference.specs.References.{Edits, reference_buf_value};
 

@@ -10,15 +10,15 @@ use std::alloc::Global;
 use std::collections::{BTreeMap, BTreeSet};
 
 // Numbers of entries, by texts.
-type Places = BTreeMap<String, usize>;
+type Indices = BTreeMap<String, usize>;
 
 // Where the entries are.
 #[derive(Drop)]
 pub(super) struct Index {
     // of each label its entry
-    labels: Places,
+    labels: Indices,
     // of each text the first entry whose IRI it is
-    texts: Places,
+    texts: Indices,
     // the lengths of the texts, and perhaps others
     lengths: BTreeSet<usize>,
 }
@@ -87,15 +87,15 @@ impl Index {
 }
 
 // Adds a number under a text that has none, and returns whether it had none.
-fn add_first(alloc: Global, places: &mut Places, text: &str, at: usize) -> Result<bool, Memory>
-    ensures ok { OnOk result (Gains places.old places.new text.now at) }
-    ensures new { IfOk result (λ is_new. is_new ≡ not (is_some (get_by_text places.old text.now))) }
-    ensures err { OnErr result (Stays places.old places.new) }
+fn add_first(alloc: Global, indices: &mut Indices, text: &str, at: usize) -> Result<bool, Memory>
+    ensures ok { OnOk result (Gains indices.old indices.new text.now at) }
+    ensures new { IfOk result (λ is_new. is_new ≡ not (is_some (get_by_text indices.old text.now))) }
+    ensures err { OnErr result (Stays indices.old indices.new) }
 {
-    if places.contains_key(text) {
+    if indices.contains_key(text) {
         return Ok(false);
     }
     let key = String::from_str(alloc, text)?;
-    places.insert(key, at)?;
+    indices.insert(key, at)?;
     Ok(true)
 }

@@ -3,8 +3,8 @@ ghost use Rattle.std.specs.Prelude.{◌≡◌, true, is_some, OnErr, OnOk, IsOk}
 ghost use Rattle.iref_component.specs.{is_authority, read_authority, read_reference};
 ghost use Rattle.iref_model.specs.ComponentSteps.{with_authority_step};
 ghost use Rattle.iref_edit.specs.Changes.{IsNoLonger, IsWithin, changed, replaced};
-ghost use Rattle.iref_buffer.specs.AuthorityPlaces.{IsAuthorityOf, one_authority, authority_part};
-ghost use Rattle.iref_buffer.specs.AuthorityPlaces.{authority_is_within, place_of_authority};
+ghost use Rattle.iref_buffer.specs.AuthorityRanges.{IsAuthorityOf, one_authority, authority_part};
+ghost use Rattle.iref_buffer.specs.AuthorityRanges.{authority_is_within, range_of_authority};
 
 use super::{Held, HeldRule, slice_at};
 use crate::lengths::Lengths;
@@ -21,7 +21,7 @@ impl<R: HeldRule, C: CharSet> Target<AuthorityPart, C> for Held<R, C> {
 
     ghost stands = { λ text _. IsAuthorityOf C.tests text };
 
-    ghost one_place = { λ text _. one_authority C.tests text };
+    ghost one_range = { λ text _. one_authority C.tests text };
 
     ghost is_within = { λ text _. authority_is_within C.tests text };
 
@@ -45,7 +45,7 @@ impl<R: HeldRule, C: CharSet> Held<R, C> {
         requires has { is_some (read_reference self.old).authority ≡ true }
         requires within { IsWithin (authority_part self.old) change.within }
         requires in_rule { is_authority C.tests (changed (authority_part self.old) change) ≡ true }
-        ensures text { OnOk result (self.new ≡ replaced self.old (place_of_authority self.old)
+        ensures text { OnOk result (self.new ≡ replaced self.old (range_of_authority self.old)
             (changed (authority_part self.old) change.entry)) }
         ensures value { OnOk result (read_reference self.new ≡ with_authority_step
             (λ old. read_authority (changed (authority_part self.old) change.entry))
@@ -53,24 +53,24 @@ impl<R: HeldRule, C: CharSet> Held<R, C> {
         ensures err { OnErr result (self.new ≡ self.old) }
         ensures shorter { IsNoLonger change.entry → IsOk result }
     {
-        let place = self.authority_place();
+        let range = self.authority_text_range();
         let lengths = Lengths {
-            authority: Some(change.len_after(place.end - place.start)?),
+            authority: Some(change.len_after(range.end - range.start)?),
             ..self.lengths()
         };
-        let range = self.part_of(place, &change.within);
+        let range = self.part_of(range, &change.within);
         self.step(lengths, range, change.lead, change.middle, change.close)
     }
 
     // Where the authority stands.
-    fn authority_place(&self) -> Range<usize>
+    fn authority_text_range(&self) -> Range<usize>
         requires { is_some (read_reference self.now).authority ≡ true }
-        ensures place { result ≡ place_of_authority self.now }
+        ensures range { result ≡ range_of_authority self.now }
         ensures within { IsWithin self.now result }
     {
-        let Some(place) = &self.offsets.authority else {
+        let Some(range) = &self.offsets.authority else {
             unreachable!()
         };
-        place.start..place.end
+        range.start..range.end
     }
 }

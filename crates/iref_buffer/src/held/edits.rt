@@ -130,8 +130,8 @@ impl<R: HeldRule, C: CharSet> Held<R, C> {
             path: change.len_after(old.path)?,
             ..old
         };
-        let place = self.path_range();
-        let range = self.part_of(place, &change.within);
+        let range = self.path_range();
+        let range = self.part_of(range, &change.within);
         self.step(lengths, range, change.lead, change.middle, change.close)
     }
 
@@ -186,7 +186,7 @@ impl<R: HeldRule, C: CharSet> Held<R, C> {
 
     // Where the path stands.
     pub(super) fn path_range(&self) -> Range<usize>
-        ensures place { result ≡ (offsets_of self.now).path }
+        ensures range { result ≡ (offsets_of self.now).path }
         ensures within { IsWithin self.now result }
         ensures replaced { (path : PathValue) → replaced self.now result (spell_path path)
             ≡ spell (record (read_reference self.now) { path = path }) }
@@ -194,16 +194,16 @@ impl<R: HeldRule, C: CharSet> Held<R, C> {
         self.offsets.path.start..self.offsets.path.end
     }
 
-    // The range in the text of a range of what is at `place`.
-    pub(super) fn part_of(&self, place: Range<usize>, within: &Range<usize>) -> Range<usize>
-        requires place { IsWithin self.now place }
-        requires within { IsWithin (text_at self.now place) within.now }
+    // The range in the text of a range within `range`.
+    pub(super) fn part_of(&self, range: Range<usize>, within: &Range<usize>) -> Range<usize>
+        requires range { IsWithin self.now range }
+        requires within { IsWithin (text_at self.now range) within.now }
         ensures within { IsWithin self.now result }
         ensures len { result.end - result.start ≡ within.now.end - within.now.start }
         ensures replaced { (pieces : Text) → replaced self.now result pieces
-            ≡ replaced self.now place (replaced (text_at self.now place) within.now pieces) }
+            ≡ replaced self.now range (replaced (text_at self.now range) within.now pieces) }
     {
-        let start = place.start;
+        let start = range.start;
         start + within.start..start + within.end
     }
 

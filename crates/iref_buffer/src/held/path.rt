@@ -6,7 +6,7 @@ ghost use Rattle.iref_component.specs.{read_reference, spell, is_path, is_empty,
 ghost use Rattle.iref_model.specs.ComponentSteps.{with_new_normal_path};
 ghost use Rattle.iref_path_text.specs.Rewriting.{rewritten};
 ghost use Rattle.iref_buffer.specs.PathTexts.{path_text, with_path_read, with_path_text};
-ghost use Rattle.iref_buffer.specs.PathPlaces.{IsPathOf, one_path, path_is_within, RemovesDots};
+ghost use Rattle.iref_buffer.specs.PathRanges.{IsPathOf, one_path, path_is_within, RemovesDots};
 
 use super::{Held, HeldRule};
 use crate::lengths::Lengths;
@@ -27,7 +27,7 @@ impl<R: HeldRule, C: CharSet> Target<PathPart, C> for Held<R, C> {
 
     ghost stands = { IsPathOf C.tests };
 
-    ghost one_place = { one_path C.tests };
+    ghost one_range = { one_path C.tests };
 
     ghost is_within = { path_is_within C.tests };
 
@@ -77,11 +77,11 @@ impl<R: HeldRule, C: CharSet> Held<R, C> {
         let old = self.lengths();
         let range = self.path_range();
         let start = range.start;
-        let place = Span {
+        let span = Span {
             start,
             end: range.end,
         };
-        let end = rewrite_text(&mut self.text, place, lead);
+        let end = rewrite_text(&mut self.text, span, lead);
         let lengths = Lengths {
             path: end - start,
             ..old

@@ -24,7 +24,7 @@ impl<C: CharSet> Target<AuthorityPart, C> for AuthorityBuf<C> {
 
     ghost stands = { λ text _. IsWhole text };
 
-    ghost one_place = { λ text _. one_whole text };
+    ghost one_range = { λ text _. one_whole text };
 
     ghost is_within = { λ _ _ _ _ stands. whole_is_within stands.0 stands.1 };
 

@@ -27,7 +27,7 @@ impl<C: CharSet> Target<PathPart, C> for PathBuf<C> {
 
     ghost stands = { IsWholePath C.tests };
 
-    ghost one_place = { one_whole_path C.tests };
+    ghost one_range = { one_whole_path C.tests };
 
     ghost is_within = { λ _ _ _ _ stands. whole_is_within stands.0 stands.1 };
 

@@ -30,7 +30,7 @@ impl<C: CharSet, T: PathTarget<C>> PathMut<'_, C, T> {
         if len > path.len() {
             return self.put_normal();
         }
-        self.place.end = self.target.rewrite(self.context, self.place, lead);
+        self.range.end = self.target.rewrite(self.context, self.range, lead);
         Ok(())
     }
 

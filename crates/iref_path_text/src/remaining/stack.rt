@@ -9,12 +9,12 @@ ghost use Rattle.iref_path_text.specs.{Spelling.{each_closed}, Stacks.{Completes
 ghost use Rattle.std.specs.Prelude.{◌≡◌, ◌+◌, ◌<◌, ◌^◌, ◌∷◌, ◌*◌, ◌++◌, List, [], codes, length};
 ghost use Rattle.std.specs.Prelude.{replicate, true};
 
-use super::places::Places;
+use super::slots::Slots;
 use super::{Remaining, closing_count, ends_in_dots, leading_parents};
 
 /// Items, the last first, of which those that come last in the list find room.
 #[derive(Drop)]
-pub struct Stack<'a, P: Places<&'a str>> {
+pub struct Stack<'a, P: Slots<&'a str>> {
     /// The items that found room.
     pub items: P,
     /// How many bytes all of them have with a `/` after each.
@@ -25,15 +25,15 @@ pub struct Stack<'a, P: Places<&'a str>> {
     pub is_whole: bool,
 }
 
-impl<'a, P: Places<&'a str>> Stack<'a, P> {
+impl<'a, P: Slots<&'a str>> Stack<'a, P> {
     /// No items, and this room for them.
     #[inline(always)]
-    pub fn new(places: P) -> Self
-        requires { P.items places ≡ [] }
+    pub fn new(slots: P) -> Self
+        requires { P.items slots ≡ [] }
         ensures { (whole : List Text) → Completes P.items result whole whole }
     {
         Stack {
-            items: places,
+            items: slots,
             size: 0,
             first: "",
             is_whole: true,
@@ -119,8 +119,8 @@ impl<'a, P: Places<&'a str>> Stack<'a, P> {
         true
     }
 
-    /// Puts the items of the path of these segments, and answers what they are read from, and how
-    /// many they are.
+    /// Puts the items of the path of these segments, and returns what they are read from, and their
+    /// number.
     pub fn read(&mut self, absolute: bool, segments: Option<&'a str>) -> (Remaining<'a>, usize)
         requires empty { (whole : List Text) → Completes P.items self.old whole whole }
         requires fits { length (each_closed (pieces_if_some segments)) + 1 < 2 ^ 64 }

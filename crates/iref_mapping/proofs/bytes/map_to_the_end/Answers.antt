@@ -1,6 +1,6 @@
 use Rattle.std.proofs.Common.{◌≡◌, ◌+◌, ◌-◌, ◌++◌, length, take, drop, ap, sym, ◌∙◌, arith}
 use Rattle.iref_mapping.specs.Mapping.{mapped_byte}
-use Rattle.iref_mapping.proofs.HalfMappedLemmas.{half_mapped_none, half_mapped_more, same_byte, step_place, step_within}
+use Rattle.iref_mapping.proofs.HalfMappedLemmas.{half_mapped_none, half_mapped_more, same_byte, step_index, step_within}
 use Rattle.iref_mapping.proofs.bytes.map_to_the_end.Goals as goal
 
 pub loop-left-init : goal.loop-left-init
@@ -10,7 +10,7 @@ pub put_mapped-end-requires-clause-room : goal.put_mapped-end-requires-clause-ro
 put_mapped-end-requires-clause-room c =
     let some : c.loop-left.left - 1 + 1 ≡ c.loop-left.left = omega arith in
     let same = ap (λ b. length (mapped_byte b)) (same_byte _ _ _ _ _ c.loop-left.invariant some) in
-    let place = step_place _ _ _ _ _ c.loop-left.invariant some in
+    let index = step_index _ _ _ _ _ c.loop-left.invariant some in
     omega arith
 
 pub put_mapped-end-requires-clause-within : goal.put_mapped-end-requires-clause-within

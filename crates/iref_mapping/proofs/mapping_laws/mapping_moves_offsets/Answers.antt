@@ -1,4 +1,4 @@
-use Rattle.iref_mapping.proofs.MappedPlaceLemmas.{offsets_of-mapped}
+use Rattle.iref_mapping.proofs.MappedIndexLemmas.{offsets_of-mapped}
 use Rattle.iref_mapping.proofs.mapping_laws.mapping_moves_offsets.Goals as goal
 
 pub returns : goal.returns

@@ -31,7 +31,7 @@ write_before-requires-clause-room c =
     let room = length-append c.args.lead.now (join_with_byte slash (normal_segments (read_path path))) in
     let size = length-drop c.from-root.result path in
     let all = length-take (length path - c.from-root.result) (drop c.from-root.result path) in
-    omega (arith, same, room, size, all, c.write_list-start.ensures.place, c.requires)
+    omega (arith, same, room, size, all, c.write_list-start.ensures.range, c.requires)
 
 pub returns : goal.returns
 returns c =
@@ -46,7 +46,7 @@ returns c =
     let size = length-drop c.from-root.result path in
     let all = length-take (length path - c.from-root.result) (drop c.from-root.result path) in
     record {
-      place = omega (arith, within, same_size, room, size, all, c.write_list-start.ensures.place, c.write_before.ensures.place, c.requires);
+      range = omega (arith, within, same_size, room, size, all, c.write_list-start.ensures.range, c.write_before.ensures.range, c.requires);
       written = c.write_before.ensures.written
           ∙ ap (λ text. lead ++ text)
           (behind_root path c.write_list-start.new.bytes c.from-root.result c.write_list-start.result within (omega (arith, c.write_list-start.ensures.len, size, all))

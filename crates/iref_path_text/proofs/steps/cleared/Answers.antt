@@ -15,5 +15,5 @@ returns-clause-step g c =
     let cut = cut_at_root path absolute c.utf8.path flag in
     let begins = c.beginning.ensures in
     let keep = begins.keep ∙ c.root_len.ensures in
-    steps_by g.C.CharSet.tests g.met.C.CharSet.above_ascii c.args.context _ path _ (cleared-step g.C.CharSet.tests c.args.context (read_path path)) c.requires.path (subst (IsCharBoundary path) (sym keep) cut.place)
+    steps_by g.C.CharSet.tests g.met.C.CharSet.above_ascii c.args.context _ path _ (cleared-step g.C.CharSet.tests c.args.context (read_path path)) c.requires.path (subst (IsCharBoundary path) (sym keep) cut.range)
     (begun path [] c.beginning.result (root_len absolute) keep begins.lead begins.middle begins.close ∙ cleared_text path absolute _ refl cut flag)

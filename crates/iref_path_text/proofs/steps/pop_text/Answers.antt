@@ -50,7 +50,7 @@ returns-in-Some-front-clause-keep c =
     let e = read_last path _ _ c.in-Some.segments c.last_segment.result.0 c.last_segment.result.1.now c.split_root-absolute.ensures.path c.in-Some.is c.last_segment.ensures in
     let f = read_by path _ _ (Some c.in-Some-front.front) _ e c.in-Some-front.is in
     let size = c.beginning-in-Some-front.ensures.keep ∙ ap (λ n. n + length c.in-Some-front.front.now) c.root_len-root.ensures in
-    (front_cut c.args.context path c.in-Some-front.front.now c.last_segment.result.1.now _ f _ size).place
+    (front_cut c.args.context path c.in-Some-front.front.now c.last_segment.result.1.now _ f _ size).range
 
 pub returns-in-Some-front-clause-text : goal.returns-in-Some-front-clause-text
 returns-in-Some-front-clause-text c =
@@ -74,7 +74,7 @@ returns-in-None-clause-keep c =
     let flag = ap (λ (p : PathValue). p.absolute) c.split_root-absolute.ensures.path in
     let size = c.beginning-in-None.ensures.keep ∙ c.root_len-root.ensures in
     let cut = cut_at_root path c.split_root-absolute.result.0 c.utf8.path flag in
-    subst (IsCharBoundary path) (sym size) cut.place
+    subst (IsCharBoundary path) (sym size) cut.range
 
 pub returns-in-None-clause-text : goal.returns-in-None-clause-text
 returns-in-None-clause-text c =

@@ -6,8 +6,8 @@ use Rattle.iref_buffer.proofs.HeldLemmas.{offsets_within}
 use Rattle.iref_buffer.proofs.EditLemmas.{path_replaced}
 use Rattle.iref_buffer.proofs.held.Held.path_range.Goals as goal
 
-pub returns-clause-place : goal.returns-clause-place
-returns-clause-place g c = ap (λ (p : Offsets). p.path) c.self.invariant.1 ∙ ap (λ t. (offsets_of t).path) c.self.view_is
+pub returns-clause-range : goal.returns-clause-range
+returns-clause-range g c = ap (λ (p : Offsets). p.path) c.self.invariant.1 ∙ ap (λ t. (offsets_of t).path) c.self.view_is
 
 pub returns-clause-within : goal.returns-clause-within
 returns-clause-within g c =

@@ -14,7 +14,7 @@ len_after-requires-clause-in_bounds g c =
     omega (arith, len, path_length c.args.self.now, c.requires.within.end.0)
 
 pub part_of-range-requires-clause-within : goal.part_of-range-requires-clause-within
-part_of-range-requires-clause-within g c = subst (λ p. IsWithin (text_at c.args.self.now p) c.args.change.within) (sym c.path_range-place.ensures.place) c.requires.within
+part_of-range-requires-clause-within g c = subst (λ p. IsWithin (text_at c.args.self.now p) c.args.change.within) (sym c.path_range-range.ensures.range) c.requires.within
 
 pub step-requires-clause-leaves : goal.step-requires-clause-leaves
 step-requires-clause-leaves g c =
@@ -23,7 +23,7 @@ step-requires-clause-leaves g c =
     let old = read_reference text in
     let new = pieces c.args.change in
     let path = changed (path_text text) c.args.change in
-    let at = c.path_range-place.ensures.place in
+    let at = c.path_range-range.ensures.range in
     let spelled = c.part_of-range.ensures.replaced new ∙ (λ i. replaced text (at i) (changed (text_at text (at i)) c.args.change)) ∙ path_text_replaced text path in
     let step = is_step set g.met.C.CharSet.above_ascii (g.R.Rule.test set) g.R.HeldRule.allows_scheme (g.met.R.HeldRule.by_scheme set) _ (with_path_read path old) spelled
     (read_path-readable set old path c.lengths-old.ensures.readable c.requires.may_stand) c.lengths-old.ensures.allowed in
@@ -34,7 +34,7 @@ step-requires-clause-leaves g c =
 pub returns-clause-text : goal.returns-clause-text
 returns-clause-text g c =
     let text = c.args.self.now in
-    let at = c.path_range-place.ensures.place in
+    let at = c.path_range-range.ensures.range in
     after_ok c.step.result (λ put. put ∙ c.part_of-range.ensures.replaced (pieces c.args.change) ∙ (λ i. replaced text (at i) (changed (text_at text (at i)) c.args.change))) c.step.ensures.ok
 
 pub returns-clause-value : goal.returns-clause-value
@@ -44,7 +44,7 @@ returns-clause-value g c =
     let old = read_reference text in
     let new = pieces c.args.change in
     let path = changed (path_text text) c.args.change in
-    let at = c.path_range-place.ensures.place in
+    let at = c.path_range-range.ensures.range in
     let spelled = c.part_of-range.ensures.replaced new ∙ (λ i. replaced text (at i) (changed (text_at text (at i)) c.args.change)) ∙ path_text_replaced text path in
     let step = is_step set g.met.C.CharSet.above_ascii (g.R.Rule.test set) g.R.HeldRule.allows_scheme (g.met.R.HeldRule.by_scheme set) _ (with_path_read path old) spelled
     (read_path-readable set old path c.lengths-old.ensures.readable c.requires.may_stand) c.lengths-old.ensures.allowed in

@@ -17,14 +17,14 @@ use Rattle.iref_buffer.proofs.PathEditLemmas.{path_text_replaced, read_path-read
 use Rattle.iref_buffer.proofs.held.Held.rewrite_path.Goals as goal
 
 -- the text with the path rewritten where it stands, and how long this path is
-module _ (bytes text lead : Text) (range : Range ℕ) (view : bytes ≡ text) (place : range ≡ (offsets_of text).path) where
+module _ (bytes text lead : Text) (range : Range ℕ) (view : bytes ≡ text) (range : range ≡ (offsets_of text).path) where
   put : rewritten_at lead bytes (record { start = range.start; end = range.end }) ≡ with_path_text (rewritten lead (path_text text)) text
-  put = λ i. rewritten_at lead (view i) (record { start = (place i).start; end = (place i).end })
+  put = λ i. rewritten_at lead (view i) (record { start = (range i).start; end = (range i).end })
 
   path_len : (end : ℕ) → end ≡ range.start + length (rewritten lead (part_at bytes (record { start = range.start; end = range.end })))
       → end - range.start ≡ length (spell_path (read_path (rewritten lead (path_text text))))
   path_len end e =
-      let path = ap length (λ i. rewritten lead (part_at (view i) (record { start = (place i).start; end = (place i).end }))) in
+      let path = ap length (λ i. rewritten lead (part_at (view i) (record { start = (range i).start; end = (range i).end }))) in
       let spelled = ap length (read_path-reads (rewritten lead (path_text text))).spelled in
       omega (arith, e, path, spelled)
 
@@ -35,7 +35,7 @@ rewrite_text-end-requires-clause-utf8 g c =
     let path = rewritten c.args.lead.now (path_text text) in
     let step = is_step set g.met.C.CharSet.above_ascii (g.R.Rule.test set) g.R.HeldRule.allows_scheme (g.met.R.HeldRule.by_scheme set) (with_path_text path text) (with_path_read path (read_reference text)) (path_text_replaced text path)
     (read_path-readable set (read_reference text) path c.lengths-old.ensures.readable c.requires.may_stand) c.lengths-old.ensures.allowed in
-    subst IsUtf8 (sym (put _ text c.args.lead.now c.path_range-range.result c.self.view_is c.path_range-range.ensures.place))
+    subst IsUtf8 (sym (put _ text c.args.lead.now c.path_range-range.result c.self.view_is c.path_range-range.ensures.range))
     (in_rule_utf8 _ _ ((g.R.Rule.decided set g.met.C.CharSet.above_ascii (with_path_text path text)).0 step.leaves.in_rule))
 
 pub offsets_in-self-inside-requires : goal.offsets_in-self-inside-requires
@@ -46,8 +46,8 @@ offsets_in-self-inside-requires g c =
     let step = is_step set g.met.C.CharSet.above_ascii (g.R.Rule.test set) g.R.HeldRule.allows_scheme (g.met.R.HeldRule.by_scheme set) (with_path_text path text) (with_path_read path (read_reference text)) (path_text_replaced text path)
     (read_path-readable set (read_reference text) path c.lengths-old.ensures.readable c.requires.may_stand) c.lengths-old.ensures.allowed in
     let e = c.rewrite_text-end.ensures in
-    let new = e.bytes ∙ put _ text c.args.lead.now c.path_range-range.result c.self.view_is c.path_range-range.ensures.place in
-    let len = path_len _ text c.args.lead.now c.path_range-range.result c.self.view_is c.path_range-range.ensures.place _ e.end in
+    let new = e.bytes ∙ put _ text c.args.lead.now c.path_range-range.result c.self.view_is c.path_range-range.ensures.range in
+    let len = path_len _ text c.args.lead.now c.path_range-range.result c.self.view_is c.path_range-range.ensures.range _ e.end in
     ap total_length ((λ i. record (c.lengths-old.ensures.lengths i) { path = len i }) ∙ step.leaves.lengths) ∙ total-read (with_path_text path text) ∙ ap length (sym (c.as_str.ensures.value ∙ new))
 
 pub invariant_of-self : goal.invariant_of-self
@@ -58,8 +58,8 @@ invariant_of-self g c =
     let step = is_step set g.met.C.CharSet.above_ascii (g.R.Rule.test set) g.R.HeldRule.allows_scheme (g.met.R.HeldRule.by_scheme set) (with_path_text path text) (with_path_read path (read_reference text)) (path_text_replaced text path)
     (read_path-readable set (read_reference text) path c.lengths-old.ensures.readable c.requires.may_stand) c.lengths-old.ensures.allowed in
     let e = c.rewrite_text-end.ensures in
-    let new = e.bytes ∙ put _ text c.args.lead.now c.path_range-range.result c.self.view_is c.path_range-range.ensures.place in
-    let len = path_len _ text c.args.lead.now c.path_range-range.result c.self.view_is c.path_range-range.ensures.place _ e.end in (
+    let new = e.bytes ∙ put _ text c.args.lead.now c.path_range-range.result c.self.view_is c.path_range-range.ensures.range in
+    let len = path_len _ text c.args.lead.now c.path_range-range.result c.self.view_is c.path_range-range.ensures.range _ e.end in (
       ap (g.R.Rule.test set) new ∙ step.leaves.in_rule,
       c.offsets_in-self-inside.ensures ∙ ap placed ((λ i. record (c.lengths-old.ensures.lengths i) { path = len i }) ∙ step.leaves.lengths) ∙ placed-read (with_path_text path text) ∙ ap offsets_of (sym new),
     )
@@ -71,4 +71,4 @@ returns-clause-value g c =
     let path = rewritten c.args.lead.now (path_text text) in
     let step = is_step set g.met.C.CharSet.above_ascii (g.R.Rule.test set) g.R.HeldRule.allows_scheme (g.met.R.HeldRule.by_scheme set) (with_path_text path text) (with_path_read path (read_reference text)) (path_text_replaced text path)
     (read_path-readable set (read_reference text) path c.lengths-old.ensures.readable c.requires.may_stand) c.lengths-old.ensures.allowed in
-    ap read_reference (c.rewrite_text-end.ensures.bytes ∙ put _ text c.args.lead.now c.path_range-range.result c.self.view_is c.path_range-range.ensures.place) ∙ step.value
+    ap read_reference (c.rewrite_text-end.ensures.bytes ∙ put _ text c.args.lead.now c.path_range-range.result c.self.view_is c.path_range-range.ensures.range) ∙ step.value

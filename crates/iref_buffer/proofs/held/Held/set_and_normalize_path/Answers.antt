@@ -7,9 +7,9 @@ use Rattle.iref_grammar.proofs.PathTestLemmas.{is_path-segments}
 use Rattle.iref_model.specs.ComponentSteps.{with_path, with_new_normal_path}
 use Rattle.iref_model.proofs.ReferenceStepLemmas.{with_new_normal_path-readable}
 use Rattle.iref_buffer.specs.ComponentLengths.{lengths_of}
-use Rattle.iref_buffer.specs.PathPlaces.{RemovesDots}
+use Rattle.iref_buffer.specs.PathRanges.{RemovesDots}
 use Rattle.iref_buffer.proofs.EditLemmas.{after_ok, is_step}
-use Rattle.iref_buffer.proofs.PathPlaceLemmas.{normal_in_place, new_normal_path-parts, removes_dots}
+use Rattle.iref_buffer.proofs.PathRangeLemmas.{normal_in_place, new_normal_path-parts, removes_dots}
 use Rattle.iref_buffer.proofs.held.Held.set_and_normalize_path.Goals as goal
 
 pub step-requires-clause-leaves : goal.step-requires-clause-leaves

@@ -3,22 +3,22 @@ use Rattle.iref_grammar.specs.Grammar.{hash_sign}
 use Rattle.iref_grammar.specs.Texts.{before}
 use Rattle.iref_grammar.specs.Reference.{is_reference, read_reference}
 use Rattle.iref_grammar.proofs.FrontLemmas.{read_reference-before_hash, is_reference-before_hash}
-use Rattle.iref_buffer.proofs.HeldLemmas.{offsets_within, front_within, front-place}
+use Rattle.iref_buffer.proofs.HeldLemmas.{offsets_within, front_within, front-range}
 use Rattle.iref_buffer.proofs.held.Held.without_fragment.Goals as goal
 
 pub range-requires-clause-end_boundary : goal.range-requires-clause-end_boundary
 range-requires-clause-end_boundary g c = search (rules, front_within, offsets_within g.C.CharSet.tests g.met.C.CharSet.above_ascii)
 
 pub returns-clause-text : goal.returns-clause-text
-returns-clause-text g c = search (rules, front-place)
+returns-clause-text g c = search (rules, front-range)
 
 pub returns-clause-value : goal.returns-clause-value
 returns-clause-value g c =
-    let cut : c.range.result.now ≡ before (hash_sign ∷ []) c.args.self.now = search (rules, front-place) in
+    let cut : c.range.result.now ≡ before (hash_sign ∷ []) c.args.self.now = search (rules, front-range) in
     ap read_reference cut ∙ read_reference-before_hash c.args.self.now
 
 pub returns-clause-in_rule : goal.returns-clause-in_rule
 returns-clause-in_rule g c =
-    let cut : c.range.result.now ≡ before (hash_sign ∷ []) c.args.self.now = search (rules, front-place) in
+    let cut : c.range.result.now ≡ before (hash_sign ∷ []) c.args.self.now = search (rules, front-range) in
     let whole : is_reference g.C.CharSet.tests c.args.self.now ≡ true = search (rules, g.met.R.HeldRule.references g.C.CharSet.tests) in
     ap (is_reference g.C.CharSet.tests) cut ∙ is_reference-before_hash g.C.CharSet.tests c.args.self.now whole

@@ -1,22 +1,22 @@
 use Rattle.std.proofs.Common.{rules, ◌≡◌, true, ap, ◌∙◌}
 use Rattle.iref_grammar.specs.Reference.{hierarchy, is_reference, read_reference}
 use Rattle.iref_grammar.proofs.FrontLemmas.{read_reference-hierarchy, is_reference-hierarchy}
-use Rattle.iref_buffer.proofs.HeldLemmas.{offsets_within, hierarchy-place}
+use Rattle.iref_buffer.proofs.HeldLemmas.{offsets_within, hierarchy-range}
 use Rattle.iref_buffer.proofs.held.Held.without_query_and_fragment.Goals as goal
 
 pub range-requires-clause-end_boundary : goal.range-requires-clause-end_boundary
 range-requires-clause-end_boundary g c = search (rules, offsets_within g.C.CharSet.tests g.met.C.CharSet.above_ascii)
 
 pub returns-clause-text : goal.returns-clause-text
-returns-clause-text g c = search (rules, hierarchy-place)
+returns-clause-text g c = search (rules, hierarchy-range)
 
 pub returns-clause-value : goal.returns-clause-value
 returns-clause-value g c =
-    let cut : c.range.result.now ≡ hierarchy c.args.self.now = search (rules, hierarchy-place) in
+    let cut : c.range.result.now ≡ hierarchy c.args.self.now = search (rules, hierarchy-range) in
     ap read_reference cut ∙ read_reference-hierarchy c.args.self.now
 
 pub returns-clause-in_rule : goal.returns-clause-in_rule
 returns-clause-in_rule g c =
-    let cut : c.range.result.now ≡ hierarchy c.args.self.now = search (rules, hierarchy-place) in
+    let cut : c.range.result.now ≡ hierarchy c.args.self.now = search (rules, hierarchy-range) in
     let whole : is_reference g.C.CharSet.tests c.args.self.now ≡ true = search (rules, g.met.R.HeldRule.references g.C.CharSet.tests) in
     ap (is_reference g.C.CharSet.tests) cut ∙ is_reference-hierarchy g.C.CharSet.tests c.args.self.now whole

@@ -40,7 +40,7 @@ write_pair-end-requires-2-clause-room c =
     let room = c.requires.room in
     let fragment = ap length c.marked.ensures.pieces in
     let query = ap length c.marked-2.ensures.pieces in
-    let first = c.write_pair-end.ensures.place in
+    let first = c.write_pair-end.ensures.range in
     omega (arith, size, room, fragment, query, first)
 
 pub write_before-end-requires-clause-room : goal.write_before-end-requires-clause-room
@@ -49,8 +49,8 @@ write_before-end-requires-clause-room c =
     let room = c.requires.room in
     let fragment = ap length c.marked.ensures.pieces in
     let query = ap length c.marked-2.ensures.pieces in
-    let first = c.write_pair-end.ensures.place in
-    let second = c.write_pair-end-2.ensures.place in
+    let first = c.write_pair-end.ensures.range in
+    let second = c.write_pair-end-2.ensures.range in
     omega (arith, size, room, fragment, query, first, second)
 
 pub write_pair-end-requires-3-clause-room : goal.write_pair-end-requires-3-clause-room
@@ -60,9 +60,9 @@ write_pair-end-requires-3-clause-room c =
     let fragment = ap length c.marked.ensures.pieces in
     let query = ap length c.marked-2.ensures.pieces in
     let authority = ap length c.marked-3.ensures.pieces in
-    let first = c.write_pair-end.ensures.place in
-    let second = c.write_pair-end-2.ensures.place in
-    let third = c.write_before-end.ensures.place in
+    let first = c.write_pair-end.ensures.range in
+    let second = c.write_pair-end-2.ensures.range in
+    let third = c.write_before-end.ensures.range in
     omega (arith, size, room, fragment, query, authority, first, second, third)
 
 pub write_pair-requires-clause-room : goal.write_pair-requires-clause-room
@@ -73,10 +73,10 @@ write_pair-requires-clause-room c =
     let query = ap length c.marked-2.ensures.pieces in
     let authority = ap length c.marked-3.ensures.pieces in
     let scheme = ap length c.marked_after.ensures.pieces in
-    let first = c.write_pair-end.ensures.place in
-    let second = c.write_pair-end-2.ensures.place in
-    let third = c.write_before-end.ensures.place in
-    let fourth = c.write_pair-end-3.ensures.place in
+    let first = c.write_pair-end.ensures.range in
+    let second = c.write_pair-end-2.ensures.range in
+    let third = c.write_before-end.ensures.range in
+    let fourth = c.write_pair-end-3.ensures.range in
     omega (arith, size, room, fragment, query, authority, scheme, first, second, third, fourth)
 
 pub returns : goal.returns
@@ -89,11 +89,11 @@ returns c =
     let query = ap length c.marked-2.ensures.pieces in
     let authority = ap length c.marked-3.ensures.pieces in
     let scheme = ap length c.marked_after.ensures.pieces in
-    let first = c.write_pair-end.ensures.place in
-    let second = c.write_pair-end-2.ensures.place in
-    let third = c.write_before-end.ensures.place in
-    let fourth = c.write_pair-end-3.ensures.place in
-    let fifth = c.write_pair.ensures.place in
+    let first = c.write_pair-end.ensures.range in
+    let second = c.write_pair-end-2.ensures.range in
+    let third = c.write_before-end.ensures.range in
+    let fourth = c.write_pair-end-3.ensures.range in
+    let fifth = c.write_pair.ensures.range in
     let start : c.write_pair.result ≡ 0 = omega (arith, size, room, fragment, query, authority, scheme, first, second, third, fourth, fifth) in
     let last = c.write_pair-end.ensures.written ∙ (λ i. c.marked.ensures.pieces i ++ drop_all (length c.args.buffer.now) c.args.buffer.now (omega arith) i) in
     let after_path = c.write_pair-end-2.ensures.written ∙ (λ i. c.marked-2.ensures.pieces i ++ last i) in

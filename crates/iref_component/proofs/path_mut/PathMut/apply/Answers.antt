@@ -10,10 +10,10 @@ pub returns-clause-edit : goal.returns-clause-edit
 returns-clause-edit g c = λ value steps.
     let inside = g.T.Target.is_within _ _ _ _ c.args.self.now.placed in
     let old = edited_bytes c.args.self.now in
-    let start = c.args.self.now.place.start in
+    let start = c.args.self.now.range.start in
     let e = c.in_ok-self.ensures in
     let put = step_spliced (path_mut_text c.args.self.now) c.args.step _ (ap length c.text.ensures.value) ∙ steps.spelled in
-    let bytes = e.text ∙ ap (splice old start c.args.self.now.place.end) put in
+    let bytes = e.text ∙ ap (splice old start c.args.self.now.range.end) put in
     let to = e.end ∙ ap (λ t. start + length t) put in record {
       same = refl;
       outcome = record {
@@ -21,6 +21,6 @@ returns-clause-edit g c = λ value steps.
         context = refl;
         from = refl;
         to = to;
-        read = ap read_path ((part_stands old _ _ start c.args.self.now.place.end _ inside.0 inside.1 bytes to).holds ∙ sym steps.spelled) ∙ steps.read;
+        read = ap read_path ((part_stands old _ _ start c.args.self.now.range.end _ inside.0 inside.1 bytes to).holds ∙ sym steps.spelled) ∙ steps.read;
       };
     }

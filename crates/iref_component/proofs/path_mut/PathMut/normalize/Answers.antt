@@ -28,8 +28,8 @@ returns-clause-edit g c =
     let old = edited_bytes c.args.self.now in
     let path = path_mut_text c.args.self.now in
     let context = path_mut_context c.args.self.now in
-    let start = c.args.self.now.place.start in
-    let end = c.args.self.now.place.end in
+    let start = c.args.self.now.range.start in
+    let end = c.args.self.now.range.end in
     let e = c.rewrite-self.ensures in
     let spelled = (normal_fits g.C.CharSet.tests g.met.C.CharSet.above_ascii context c.text-path.result.now path c.normal_lead-len.result.0.now
     c.text-path.ensures.value c.normal_lead-len.ensures.text c.text-path.ensures.test).0 in
@@ -51,8 +51,8 @@ returns-clause-dots g c = λ authority is_absolute.
     let old = edited_bytes c.args.self.now in
     let path = path_mut_text c.args.self.now in
     let context = path_mut_context c.args.self.now in
-    let start = c.args.self.now.place.start in
-    let end = c.args.self.now.place.end in
+    let start = c.args.self.now.range.start in
+    let end = c.args.self.now.range.end in
     let e = c.rewrite-self.ensures in
     let spelled = (normal_fits g.C.CharSet.tests g.met.C.CharSet.above_ascii context c.text-path.result.now path c.normal_lead-len.result.0.now
     c.text-path.ensures.value c.normal_lead-len.ensures.text c.text-path.ensures.test).0 in

@@ -5,8 +5,8 @@ use Rattle.iref_grammar.specs.declared.offsets.Offsets.{Offsets}
 use Rattle.iref_grammar.specs.Authority.{AuthorityValue, spell_authority}
 use Rattle.iref_grammar.specs.ComponentOffsets.{offsets_of, text_at}
 use Rattle.iref_grammar.specs.Reference.{read_reference}
-use Rattle.iref_grammar.proofs.PlaceLemmas.{authority_place}
-use Rattle.iref_buffer.proofs.AuthorityPlaceLemmas.{some_if_placed}
+use Rattle.iref_grammar.proofs.RangeLemmas.{authority_range}
+use Rattle.iref_buffer.proofs.AuthorityRangeLemmas.{some_if_placed}
 use Rattle.iref_reference.specs.References.{reference_buf_text}
 use Rattle.iref_reference.proofs.owned.ReferenceBuf.authority_mut.Goals as goal
 
@@ -21,7 +21,7 @@ returns-in_default g c =
       (refl, (λ w. tt), refl),
       record {
         unchanged_if_none = tt;
-        some = no_authority (read_reference text).authority (sym (ap (option_map (text_at text)) none) ∙ authority_place text);
+        some = no_authority (read_reference text).authority (sym (ap (option_map (text_at text)) none) ∙ authority_range text);
         same_reference = tt;
         editor = tt;
         reference = g.met.R.HeldRule.references g.C.CharSet.tests text c.offsets.ensures.in_rule;
@@ -31,14 +31,14 @@ returns-in_default g c =
 pub returns : goal.returns
 returns g c =
     let text = reference_buf_text c.args.self.now in
-    let placed : (offsets_of text).authority ≡ Some c.in-Some.place = sym (ap (λ (p : Offsets). p.authority) c.offsets.ensures.offsets) ∙ c.in-Some.is in
+    let placed : (offsets_of text).authority ≡ Some c.in-Some.range = sym (ap (λ (p : Offsets). p.authority) c.offsets.ensures.offsets) ∙ c.in-Some.is in
     let of = c.of_target.ensures in (
       (ap (λ name. some name) (sym of.same_reference), (λ w. refl), tt),
       record {
         unchanged_if_none = tt;
-        some = sym (some_if_placed text c.in-Some.place placed);
+        some = sym (some_if_placed text c.in-Some.range placed);
         same_reference = of.same_reference;
-        editor = record { bytes_are = of.bytes; place_is = placed ∙ (λ i. Some (record { start = sym of.start i; end = sym of.end i })) };
+        editor = record { bytes_are = of.bytes; range_is = placed ∙ (λ i. Some (record { start = sym of.start i; end = sym of.end i })) };
         reference = g.met.R.HeldRule.references g.C.CharSet.tests text c.offsets.ensures.in_rule;
       },
     )

@@ -9,21 +9,21 @@ use Rattle.iref_grammar.specs.Rules.{Text}
 use Rattle.iref_grammar.specs.Texts.{then_part}
 use Rattle.iref_grammar.specs.Tests.{none_or}
 use Rattle.iref_grammar.specs.Authority.{AuthorityValue, has_authority_parts, is_authority, read_authority, spell_authority}
-use Rattle.iref_grammar.specs.ComponentOffsets.{authority_mark, place_from, offsets_in, offsets_of, text_at}
+use Rattle.iref_grammar.specs.ComponentOffsets.{authority_mark, range_from, offsets_in, offsets_of, text_at}
 use Rattle.iref_grammar.specs.Reference.{is_reference, read_reference, spell}
 use Rattle.iref_grammar.proofs.AuthorityLemmas.{read_authority-spelled}
 use Rattle.iref_grammar.proofs.AuthorityRuleLemmas.{authority_read, Decides-has_authority_parts}
-use Rattle.iref_grammar.proofs.PlaceLemmas.{authority_place}
+use Rattle.iref_grammar.proofs.RangeLemmas.{authority_range}
 use Rattle.iref_grammar.proofs.ReadablePartsLemmas.{readable_parts}
 use Rattle.iref_model.specs.ComponentSteps.{with_authority_step}
-use Rattle.iref_buffer.specs.AuthorityPlaces.{authority_part, place_of_authority}
+use Rattle.iref_buffer.specs.AuthorityRanges.{authority_part, range_of_authority}
 use Rattle.iref_buffer.proofs.EditLemmas.{authority_part_replaced, readable_of}
 use Rattle.iref_buffer.proofs.HeldLemmas.{components_of}
 
 -- ---- where it stands
 
 module _ (text : Text) (has : is_some (read_reference text).authority ≡ true) where
-  pub authority_stands : (offsets_of text).authority ≡ Some (place_of_authority text)
+  pub authority_stands : (offsets_of text).authority ≡ Some (range_of_authority text)
   unfolding offsets_of offsets_in
   authority_stands = by (authority_mark (read_reference text)) (read_reference text).authority has
     where
@@ -31,12 +31,12 @@ module _ (text : Text) (has : is_some (read_reference text).authority ≡ true) 
       ends m part = omega (arith, length-append (codes "//") part)
 
       by : (m : ℕ) (o : Option AuthorityValue) → is_some o ≡ true → let spelled = option_map spell_authority o in
-          option_map (place_from (m + 2)) spelled ≡ Some (record { start = m + 2; end = m + length (then_part (codes "//") spelled) })
+          option_map (range_from (m + 2)) spelled ≡ Some (record { start = m + 2; end = m + length (then_part (codes "//") spelled) })
       by m None h = absurd (true≢false (sym h))
       by m (Some a) h = λ i. Some (record { start = m + 2; end = ends m (spell_authority a) i })
 
   pub authority_spelled_there : option_map spell_authority (read_reference text).authority ≡ Some (authority_part text)
-  authority_spelled_there = sym (authority_place text) ∙ ap (option_map (text_at text)) authority_stands
+  authority_spelled_there = sym (authority_range text) ∙ ap (option_map (text_at text)) authority_stands
 
 module _ (set : CharTests) (above : AreAboveAscii set) (text : Text) (h : is_reference set text ≡ true) (has : is_some (read_reference text).authority ≡ true) where
   -- it is read there
@@ -54,39 +54,39 @@ module _ (set : CharTests) (above : AreAboveAscii set) (text : Text) (h : is_ref
 
 -- ---- what is known where a range is
 
-pub some_if_placed : (text : Text) (place : Range ℕ) → (offsets_of text).authority ≡ Some place → is_some (read_reference text).authority ≡ true
+pub some_if_placed : (text : Text) (range : Range ℕ) → (offsets_of text).authority ≡ Some range → is_some (read_reference text).authority ≡ true
 unfolding offsets_of offsets_in
-some_if_placed text place e = by (authority_mark (read_reference text)) (read_reference text).authority e
+some_if_placed text range e = by (authority_mark (read_reference text)) (read_reference text).authority e
   where
-    by : (m : ℕ) (o : Option AuthorityValue) → option_map (place_from (m + 2)) (option_map spell_authority o) ≡ Some place → is_some o ≡ true
+    by : (m : ℕ) (o : Option AuthorityValue) → option_map (range_from (m + 2)) (option_map spell_authority o) ≡ Some range → is_some o ≡ true
     by m None e = cc
     by m (Some a) e = refl
 
-pub place_is : (text : Text) (place : Range ℕ) → (offsets_of text).authority ≡ Some place → place ≡ place_of_authority text
-place_is text place e = let there = authority_stands text (some_if_placed text place e) in cc
+pub range_is : (text : Text) (range : Range ℕ) → (offsets_of text).authority ≡ Some range → range ≡ range_of_authority text
+range_is text range e = let there = authority_stands text (some_if_placed text range e) in cc
 
 -- ---- after an edit
 
 pub authority_text_replaced : (text part : Text) → is_some (read_reference text).authority ≡ true
-    → splice text (place_of_authority text).start (place_of_authority text).end part ≡ spell (with_authority_step (λ a. read_authority part) (read_reference text))
+    → splice text (range_of_authority text).start (range_of_authority text).end part ≡ spell (with_authority_step (λ a. read_authority part) (read_reference text))
 authority_text_replaced text part has =
-    ap (splice text (place_of_authority text).start (place_of_authority text).end) (sym (read_authority-spelled part)) ∙ authority_part_replaced text (read_authority part) has
+    ap (splice text (range_of_authority text).start (range_of_authority text).end) (sym (read_authority-spelled part)) ∙ authority_part_replaced text (read_authority part) has
 
-pub place_of_new_authority : (old new part : Text) → is_some (read_reference old).authority ≡ true → read_reference new ≡ with_authority_step (λ a. read_authority part) (read_reference old)
-    → let start = (place_of_authority old).start in (offsets_of new).authority ≡ Some (record { start = start; end = start + length part })
+pub range_of_new_authority : (old new part : Text) → is_some (read_reference old).authority ≡ true → read_reference new ≡ with_authority_step (λ a. read_authority part) (read_reference old)
+    → let start = (range_of_authority old).start in (offsets_of new).authority ≡ Some (record { start = start; end = start + length part })
 unfolding offsets_of offsets_in
-place_of_new_authority old new part has e =
+range_of_new_authority old new part has e =
     ap (λ r. (offsets_in r).authority) e ∙ by (authority_mark (read_reference old)) (read_reference old).authority has
   where
     by : (m : ℕ) (o : Option AuthorityValue) → is_some o ≡ true
-        → option_map (place_from (m + 2)) (option_map spell_authority (option_map (λ a. read_authority part) o)) ≡ Some (record { start = m + 2; end = m + 2 + length part })
+        → option_map (range_from (m + 2)) (option_map spell_authority (option_map (λ a. read_authority part) o)) ≡ Some (record { start = m + 2; end = m + 2 + length part })
     by m None h = absurd (true≢false (sym h))
-    by m (Some a) h = ap (λ t. Some (place_from (m + 2) t)) (read_authority-spelled part)
+    by m (Some a) h = ap (λ t. Some (range_from (m + 2) t)) (read_authority-spelled part)
 
 pub length_of_new_authority : (o : Option AuthorityValue) (part : Text) → is_some o ≡ true → Some (length part) ≡ option_map length (option_map spell_authority (option_map (λ a. read_authority part) o))
 length_of_new_authority None part h = absurd (true≢false (sym h))
 length_of_new_authority (Some a) part h = ap (λ t. Some (length t)) (sym (read_authority-spelled part))
 
 pub end_of_new_authority : (old new part : Text) → is_some (read_reference old).authority ≡ true → read_reference new ≡ with_authority_step (λ a. read_authority part) (read_reference old)
-    → (offsets_of new).path.start ≡ (place_of_authority old).start + length part
-end_of_new_authority old new part has e = sym (ap (λ (p : Range ℕ). p.end) (place_is new _ (place_of_new_authority old new part has e)))
+    → (offsets_of new).path.start ≡ (range_of_authority old).start + length part
+end_of_new_authority old new part has e = sym (ap (λ (p : Range ℕ). p.end) (range_is new _ (range_of_new_authority old new part has e)))

@@ -7,7 +7,7 @@ use Rattle.iref_grammar.specs.Characters.{CharTests}
 use Rattle.iref_grammar.specs.Rules.{Text}
 use Rattle.iref_grammar.specs.Reference.{is_reference, read_reference}
 use Rattle.iref_grammar.specs.ComponentOffsets.{authority_mark, offsets_of, text_at}
-use Rattle.iref_grammar.proofs.PlaceLemmas.{IsInside, authority_inside}
+use Rattle.iref_grammar.proofs.RangeLemmas.{IsInside, authority_inside}
 
 -- the authority of the reference that the text spells stands there
 abbrev pub IsAuthorityOf : CharTests → Text → ℕ → ℕ → Type 0
@@ -17,12 +17,12 @@ pub one_authority : (set : CharTests) (text : Text) (start end : ℕ) → IsProp
 one_authority set text start end = hlevel props
 
 pub authority_is_within : (set : CharTests) (text : Text) (start end : ℕ) → IsAuthorityOf set text start end → (start ≤ end) × (end ≤ length text)
-authority_is_within set text start end stands = subst (λ place. IfSome place (IsInside text)) stands.1 (authority_inside text)
+authority_is_within set text start end stands = subst (λ range. IfSome range (IsInside text)) stands.1 (authority_inside text)
 
 -- what stands between the `//` and the path
-abbrev pub place_of_authority : Text → Range ℕ
-place_of_authority text = record { start = authority_mark (read_reference text) + 2; end = (offsets_of text).path.start }
+abbrev pub range_of_authority : Text → Range ℕ
+range_of_authority text = record { start = authority_mark (read_reference text) + 2; end = (offsets_of text).path.start }
 
 -- the authority, where there is one
 abbrev pub authority_part : Text → Text
-authority_part text = text_at text (place_of_authority text)
+authority_part text = text_at text (range_of_authority text)

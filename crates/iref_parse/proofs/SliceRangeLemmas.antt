@@ -11,7 +11,7 @@ use Rattle.iref_grammar.specs.Authority.{spell_authority, read_authority}
 use Rattle.iref_grammar.specs.PathValue.{spell_path, read_path}
 use Rattle.iref_grammar.specs.Reference.{spell}
 use Rattle.iref_parse.specs.ReferenceSlices.{value_of}
-use Rattle.iref_grammar.specs.ComponentOffsets.{place_from, offsets_in}
+use Rattle.iref_grammar.specs.ComponentOffsets.{range_from, offsets_in}
 use Rattle.iref_grammar.proofs.AuthorityLemmas.{read_authority-spelled}
 use Rattle.iref_grammar.proofs.PathLemmas.{read_path-reads}
 
@@ -41,21 +41,21 @@ unfolding spell
 length-spelled s = simp (length-append, spelled_authority, spelled_path)
 
 pub offsets_in-slices : (s : ReferenceSlices) → offsets_in (value_of s) ≡ record {
-  scheme = option_map (place_from 0) (option_copied s.scheme);
-  authority = option_map (place_from (scheme_end s + 2)) (option_copied s.authority);
-  path = place_from (authority_end s) s.path.now;
-  query = option_map (place_from (path_end s + 1)) (option_copied s.query);
-  fragment = option_map (place_from (query_end s + 1)) (option_copied s.fragment);
+  scheme = option_map (range_from 0) (option_copied s.scheme);
+  authority = option_map (range_from (scheme_end s + 2)) (option_copied s.authority);
+  path = range_from (authority_end s) s.path.now;
+  query = option_map (range_from (path_end s + 1)) (option_copied s.query);
+  fragment = option_map (range_from (query_end s + 1)) (option_copied s.fragment);
 }
 unfolding offsets_in
 offsets_in-slices s = simp (spelled_authority, spelled_path)
 
 -- the offsets, one after the other
 pub offsets_in-following : (s : ReferenceSlices) (scheme authority query fragment : Option (Range ℕ)) (path : Range ℕ) (mark start tail : ℕ)
-    → scheme ≡ option_map (place_from 0) (option_copied s.scheme) → mark ≡ scheme_end s
-    → authority ≡ option_map (place_from (mark + 2)) (option_copied s.authority) → start ≡ mark + length (then_part (codes "//") (option_copied s.authority))
-    → path ≡ place_from start s.path.now
-    → query ≡ option_map (place_from (path.end + 1)) (option_copied s.query) → tail ≡ path.end + length (then_part (question_mark ∷ []) (option_copied s.query))
-    → fragment ≡ option_map (place_from (tail + 1)) (option_copied s.fragment)
+    → scheme ≡ option_map (range_from 0) (option_copied s.scheme) → mark ≡ scheme_end s
+    → authority ≡ option_map (range_from (mark + 2)) (option_copied s.authority) → start ≡ mark + length (then_part (codes "//") (option_copied s.authority))
+    → path ≡ range_from start s.path.now
+    → query ≡ option_map (range_from (path.end + 1)) (option_copied s.query) → tail ≡ path.end + length (then_part (question_mark ∷ []) (option_copied s.query))
+    → fragment ≡ option_map (range_from (tail + 1)) (option_copied s.fragment)
     → record { scheme = scheme; authority = authority; path = path; query = query; fragment = fragment } ≡ offsets_in (value_of s)
 offsets_in-following s scheme authority query fragment path mark start tail e f g h i j k l = cc (offsets_in-slices s)

@@ -7,7 +7,7 @@ use Rattle.iref_grammar.specs.Rules.{Text}
 use Rattle.iref_grammar.specs.PathValue.{spell_path}
 use Rattle.iref_grammar.specs.Reference.{ReferenceValue, read_reference, is_reference}
 use Rattle.iref_grammar.specs.ComponentOffsets.{offsets_of}
-use Rattle.iref_grammar.proofs.PlaceLemmas.{path_inside}
+use Rattle.iref_grammar.proofs.RangeLemmas.{path_inside}
 use Rattle.iref_model.specs.DotSegments.{RemovesDotSegments}
 
 -- the path of the reference that the text spells, in its context

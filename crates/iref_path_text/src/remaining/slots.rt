@@ -5,8 +5,8 @@ use arrayvec::ArrayVec;
 use smallvec::SmallVec;
 use std::marker::PhantomData;
 
-/// Places for items, of which one may find no room.
-pub trait Places<T: Copy> {
+/// Slots for items, which may be full.
+pub trait Slots<T: Copy> {
     /// The items, the one that was put first before the others.
     ghost items: { Self → List T };
 
@@ -24,8 +24,8 @@ pub trait Places<T: Copy> {
 }
 
 // Room for sixteen items in the value.
-impl<'a> Places<&'a str> for ArrayVec<&'a str, 16> {
-    ghost items = { λ places. places.items };
+impl<'a> Slots<&'a str> for ArrayVec<&'a str, 16> {
+    ghost items = { λ slots. slots.items };
 
     #[inline(always)]
     fn put(&mut self, item: &'a str) -> bool {
@@ -42,8 +42,8 @@ impl<'a> Places<&'a str> for ArrayVec<&'a str, 16> {
 }
 
 // Room for sixteen items in the value, and then for as many as there is memory for.
-impl<'a> Places<&'a str> for SmallVec<&'a str, 16> {
-    ghost items = { λ places. places.items };
+impl<'a> Slots<&'a str> for SmallVec<&'a str, 16> {
+    ghost items = { λ slots. slots.items };
 
     #[inline(always)]
     fn put(&mut self, item: &'a str) -> bool {
@@ -61,18 +61,18 @@ impl<'a> Places<&'a str> for SmallVec<&'a str, 16> {
 
 /// No room: items are measured and not kept.
 #[derive(Drop)]
-pub struct Nowhere<'a> {
+pub struct NoSlots<'a> {
     items: PhantomData<&'a str>,
 }
 
-impl<'a> Nowhere<'a> {
+impl<'a> NoSlots<'a> {
     /// No items.
     pub fn new() -> Self {
-        Nowhere { items: PhantomData }
+        NoSlots { items: PhantomData }
     }
 }
 
-impl<'a> Places<&'a str> for Nowhere<'a> {
+impl<'a> Slots<&'a str> for NoSlots<'a> {
     ghost items = { λ _. [] };
 
     #[inline(always)]

@@ -12,25 +12,25 @@ use Rattle.iref_grammar.specs.Texts.{part_then, then_part}
 use Rattle.iref_grammar.specs.Authority.{spell_authority}
 use Rattle.iref_grammar.specs.PathValue.{spell_path}
 use Rattle.iref_grammar.specs.Reference.{ReferenceValue, spell, read_reference}
-use Rattle.iref_grammar.specs.ComponentOffsets.{place_from, authority_mark, path_start, offsets_in, offsets_of, text_at}
+use Rattle.iref_grammar.specs.ComponentOffsets.{range_from, authority_mark, path_start, offsets_in, offsets_of, text_at}
 use Rattle.iref_grammar.proofs.ReferenceCutLemmas.{read_reference-spelled}
 
 -- what stands between two parts of a text stands in its range
-text_between : (text before part behind : Text) (start : ℕ) → before ++ (part ++ behind) ≡ text → start ≡ length before → text_at text (place_from start part) ≡ part
+text_between : (text before part behind : Text) (start : ℕ) → before ++ (part ++ behind) ≡ text → start ≡ length before → text_at text (range_from start part) ≡ part
 text_between text before part behind start spelled at =
     (λ i. slice_range (sym spelled i) (at i) (at i + length part))
     ∙ ap (take (length before + length part - length before)) (drop-append_seam before (part ++ behind))
     ∙ ap (λ n. take n (part ++ behind)) (add-sub_cancel_left (length before) (length part)) ∙ take-append_seam part behind
 
 -- a part and the delimiter after it, if there is one, at the start
-part_before : (mark : Text) (o : Option Text) (behind : Text) → option_map (text_at (part_then mark o ++ behind)) (option_map (place_from 0) o) ≡ o
+part_before : (mark : Text) (o : Option Text) (behind : Text) → option_map (text_at (part_then mark o ++ behind)) (option_map (range_from 0) o) ≡ o
 part_before mark None behind = refl
 part_before mark (Some part) behind =
     ap (λ t. Some t) (text_between ((part ++ mark) ++ behind) [] part (mark ++ behind) 0 (sym (append_assoc part mark behind)) refl)
 
 -- a delimiter and the part after it, if there is one
 part_after : (before mark : Text) (o : Option Text) (behind : Text)
-    → option_map (text_at (before ++ (then_part mark o ++ behind))) (option_map (place_from (length before + length mark)) o) ≡ o
+    → option_map (text_at (before ++ (then_part mark o ++ behind))) (option_map (range_from (length before + length mark)) o) ≡ o
 part_after before mark None behind = refl
 part_after before mark (Some part) behind = ap (λ t. Some t)
     (text_between (before ++ ((mark ++ part) ++ behind)) (before ++ mark) part behind (length before + length mark)
@@ -38,9 +38,9 @@ part_after before mark (Some part) behind = ap (λ t. Some t)
 
 -- a range is within a text
 abbrev pub IsInside : Text → Range ℕ → Type 0
-IsInside text place = (place.start ≤ place.end) × (place.end ≤ length text)
+IsInside text range = (range.start ≤ range.end) × (range.end ≤ length text)
 
-inside_after : (before mark : Text) (o : Option Text) (behind : Text) → IfSome (option_map (place_from (length before + length mark)) o) (IsInside (before ++ (then_part mark o ++ behind)))
+inside_after : (before mark : Text) (o : Option Text) (behind : Text) → IfSome (option_map (range_from (length before + length mark)) o) (IsInside (before ++ (then_part mark o ++ behind)))
 inside_after before mark None behind = tt
 inside_after before mark (Some part) behind = (omega arith, simp length-append (omega arith))
 
@@ -86,13 +86,13 @@ module _ (r : ReferenceValue) where
   scheme_stands : option_map (text_at (spell r)) (offsets_in r).scheme ≡ r.scheme
   unfolding spell offsets_in
   scheme_stands =
-      ap (λ t. option_map (text_at t) (option_map (place_from 0) r.scheme)) (around_scheme scheme_part authority_part (spell_path r.path) query_part fragment_part)
+      ap (λ t. option_map (text_at t) (option_map (range_from 0) r.scheme)) (around_scheme scheme_part authority_part (spell_path r.path) query_part fragment_part)
       ∙ part_before (colon ∷ []) r.scheme (authority_part ++ spell_path r.path ++ query_part ++ fragment_part)
 
   authority_stands : option_map (text_at (spell r)) (offsets_in r).authority ≡ option_map spell_authority r.authority
   unfolding spell offsets_in
   authority_stands =
-      ap (λ t. option_map (text_at t) (option_map (place_from (authority_mark r + 2)) (option_map spell_authority r.authority)))
+      ap (λ t. option_map (text_at t) (option_map (range_from (authority_mark r + 2)) (option_map spell_authority r.authority)))
       (around_authority scheme_part authority_part (spell_path r.path) query_part fragment_part)
       ∙ part_after scheme_part (codes "//") (option_map spell_authority r.authority) (spell_path r.path ++ query_part ++ fragment_part)
 
@@ -110,7 +110,7 @@ module _ (r : ReferenceValue) where
   authority_inside_spelling : IfSome (offsets_in r).authority (IsInside (spell r))
   unfolding spell offsets_in
   authority_inside_spelling =
-      subst (λ t. IfSome (option_map (place_from (authority_mark r + 2)) (option_map spell_authority r.authority)) (IsInside t))
+      subst (λ t. IfSome (option_map (range_from (authority_mark r + 2)) (option_map spell_authority r.authority)) (IsInside t))
       (sym (around_authority scheme_part authority_part (spell_path r.path) query_part fragment_part))
       (inside_after scheme_part (codes "//") (option_map spell_authority r.authority) (spell_path r.path ++ query_part ++ fragment_part))
 
@@ -118,37 +118,37 @@ module _ (r : ReferenceValue) where
   unfolding spell offsets_in
   query_stands =
       let begins = query_begins scheme_part authority_part (spell_path r.path) query_part fragment_part in
-      (λ i. option_map (text_at (around_query scheme_part authority_part (spell_path r.path) query_part fragment_part i)) (option_map (place_from (begins i + 1)) r.query))
+      (λ i. option_map (text_at (around_query scheme_part authority_part (spell_path r.path) query_part fragment_part i)) (option_map (range_from (begins i + 1)) r.query))
       ∙ part_after (scheme_part ++ authority_part ++ spell_path r.path) (question_mark ∷ []) r.query fragment_part
 
   fragment_stands : option_map (text_at (spell r)) (offsets_in r).fragment ≡ r.fragment
   unfolding spell offsets_in
   fragment_stands =
       let begins = fragment_begins scheme_part authority_part (spell_path r.path) query_part fragment_part in
-      (λ i. option_map (text_at (around_fragment scheme_part authority_part (spell_path r.path) query_part fragment_part i)) (option_map (place_from (begins i + 1)) r.fragment))
+      (λ i. option_map (text_at (around_fragment scheme_part authority_part (spell_path r.path) query_part fragment_part i)) (option_map (range_from (begins i + 1)) r.fragment))
       ∙ part_after (scheme_part ++ authority_part ++ spell_path r.path ++ query_part) (hash_sign ∷ []) r.fragment []
 
 -- the components that are read from a text stand in it at their offsets
 module _ (text : Text) where
-  pub scheme_place : option_map (text_at text) (offsets_of text).scheme ≡ (read_reference text).scheme
+  pub scheme_range : option_map (text_at text) (offsets_of text).scheme ≡ (read_reference text).scheme
   unfolding offsets_of
-  scheme_place = ap (λ t. option_map (text_at t) (offsets_of text).scheme) (sym (read_reference-spelled text)) ∙ scheme_stands (read_reference text)
+  scheme_range = ap (λ t. option_map (text_at t) (offsets_of text).scheme) (sym (read_reference-spelled text)) ∙ scheme_stands (read_reference text)
 
-  pub authority_place : option_map (text_at text) (offsets_of text).authority ≡ option_map spell_authority (read_reference text).authority
+  pub authority_range : option_map (text_at text) (offsets_of text).authority ≡ option_map spell_authority (read_reference text).authority
   unfolding offsets_of
-  authority_place = ap (λ t. option_map (text_at t) (offsets_of text).authority) (sym (read_reference-spelled text)) ∙ authority_stands (read_reference text)
+  authority_range = ap (λ t. option_map (text_at t) (offsets_of text).authority) (sym (read_reference-spelled text)) ∙ authority_stands (read_reference text)
 
-  pub path_place : text_at text (offsets_of text).path ≡ spell_path (read_reference text).path
+  pub path_range : text_at text (offsets_of text).path ≡ spell_path (read_reference text).path
   unfolding offsets_of
-  path_place = ap (λ t. text_at t (offsets_of text).path) (sym (read_reference-spelled text)) ∙ path_stands (read_reference text)
+  path_range = ap (λ t. text_at t (offsets_of text).path) (sym (read_reference-spelled text)) ∙ path_stands (read_reference text)
 
-  pub query_place : option_map (text_at text) (offsets_of text).query ≡ (read_reference text).query
+  pub query_range : option_map (text_at text) (offsets_of text).query ≡ (read_reference text).query
   unfolding offsets_of
-  query_place = ap (λ t. option_map (text_at t) (offsets_of text).query) (sym (read_reference-spelled text)) ∙ query_stands (read_reference text)
+  query_range = ap (λ t. option_map (text_at t) (offsets_of text).query) (sym (read_reference-spelled text)) ∙ query_stands (read_reference text)
 
-  pub fragment_place : option_map (text_at text) (offsets_of text).fragment ≡ (read_reference text).fragment
+  pub fragment_range : option_map (text_at text) (offsets_of text).fragment ≡ (read_reference text).fragment
   unfolding offsets_of
-  fragment_place = ap (λ t. option_map (text_at t) (offsets_of text).fragment) (sym (read_reference-spelled text)) ∙ fragment_stands (read_reference text)
+  fragment_range = ap (λ t. option_map (text_at t) (offsets_of text).fragment) (sym (read_reference-spelled text)) ∙ fragment_stands (read_reference text)
 
   pub path_inside : IsInside text (offsets_of text).path
   unfolding offsets_of

@@ -5,9 +5,9 @@ use Rattle.iref_grammar.specs.declared.offsets.Offsets.{Offsets}
 use Rattle.iref_grammar.specs.ComponentOffsets.{offsets_of}
 use Rattle.iref_grammar.specs.Reference.{is_reference}
 use Rattle.iref_edit.specs.Changes.{IsWithin}
-use Rattle.iref_buffer.proofs.AuthorityPlaceLemmas.{authority_stands, place_is}
+use Rattle.iref_buffer.proofs.AuthorityRangeLemmas.{authority_stands, range_is}
 use Rattle.iref_buffer.proofs.HeldLemmas.{offsets_within}
-use Rattle.iref_buffer.proofs.held.Held.authority_place.Goals as goal
+use Rattle.iref_buffer.proofs.held.Held.authority_text_range.Goals as goal
 
 pub unreachable-requires : goal.unreachable-requires
 unreachable-requires g c =
@@ -16,10 +16,10 @@ unreachable-requires g c =
     let some : (offsets_of c.args.self.now).authority ≡ Some _ = authority_stands c.args.self.now c.requires in
     cc
 
-pub returns-clause-place : goal.returns-clause-place
-returns-clause-place g c =
+pub returns-clause-range : goal.returns-clause-range
+returns-clause-range g c =
     let known = ap (λ (p : Offsets). p.authority) c.self.invariant.1 ∙ ap (λ t. (offsets_of t).authority) c.self.view_is in
-    place_is c.args.self.now c.in-Some.place (sym known ∙ c.in-Some.is)
+    range_is c.args.self.now c.in-Some.range (sym known ∙ c.in-Some.is)
 
 pub returns-clause-within : goal.returns-clause-within
 returns-clause-within g c =

@@ -25,7 +25,7 @@ use Rattle.iref_model.proofs.ReferenceStepLemmas.{with_path-readable, with_norma
 use Rattle.iref_path_text.specs.PathParts.{is_path_after}
 use Rattle.iref_path_text.specs.Remaining.{flagged_path}
 use Rattle.iref_path_text.specs.Spelling.{normal_in}
-use Rattle.iref_buffer.specs.PathPlaces.{RemovesDots}
+use Rattle.iref_buffer.specs.PathRanges.{RemovesDots}
 use Rattle.iref_buffer.proofs.EditLemmas.{readable_of}
 
 -- ---- where it stands
@@ -53,10 +53,10 @@ path_stands set above text h =
 
 -- ---- after an edit
 
-pub place_of_new_path : (old new path : Text) → read_reference new ≡ record (read_reference old) { path = read_path path } → let start = (offsets_of old).path.start in
-    let place : Range ℕ = record { start = start; end = start + length path } in (offsets_of new).path ≡ place
+pub range_of_new_path : (old new path : Text) → read_reference new ≡ record (read_reference old) { path = read_path path } → let start = (offsets_of old).path.start in
+    let range : Range ℕ = record { start = start; end = start + length path } in (offsets_of new).path ≡ range
 unfolding offsets_of offsets_in
-place_of_new_path old new path e =
+range_of_new_path old new path e =
     let start = path_start (read_reference old) in
     let of_len : ℕ → Range ℕ = λ n. record { start = start; end = start + n } in
     ap (λ r. (offsets_in r).path) e ∙ ap of_len (ap length (read_path-reads path).spelled)
