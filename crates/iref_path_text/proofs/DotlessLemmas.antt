@@ -13,19 +13,23 @@ use mathlib.Core.Bool.{true≢false}
 use Rattle.iref_grammar.specs.declared.context.PathContext.{PathContext}
 use Rattle.iref_grammar.specs.Rules.{Text}
 use Rattle.iref_grammar.specs.Grammar.{slash}
-use Rattle.iref_grammar.specs.Texts.{is_empty, pieces_at}
-use Rattle.iref_grammar.specs.PathValue.{PathValue, is_one_empty, spell_path}
+use Rattle.iref_grammar.specs.Texts.{all_but_last, is_empty, pieces_at}
+use Rattle.iref_grammar.specs.PathValue.{PathValue, is_one_empty, read_path, segments_of, spell_path}
 use Rattle.iref_grammar.proofs.TextLemmas.{join-pieces_at}
-use Rattle.iref_model.specs.NormalList.{is_name, counted, ends_in_dots, normal_segments, without_lone_empty}
+use Rattle.iref_model.specs.NormalList.{is_name, counted, ends_in_dots, normal_segments, staying_names, without_lone_empty}
 use Rattle.iref_model.specs.NormalReading.{open_before, staying_before, leading_parents, closing}
 use Rattle.iref_model.specs.PathSteps.{normalized}
+use Rattle.iref_model.specs.Relative.{directory_names, steps_between}
 use Rattle.iref_model.proofs.ItemLemmas.{name_no_parent, normal_segments-is}
 use Rattle.iref_model.proofs.PieceLemmas.{pieces-append, some_piece}
+use Rattle.iref_model.proofs.StayingLemmas.{staying_names-is}
 use Rattle.iref_parse.specs.Dots.{begins_with_dot, has_dot_segment, is_some_dotted}
 use Rattle.iref_path_text.specs.Bodies.{after_front}
 use Rattle.iref_path_text.specs.Pieces.{pieces_if_some}
 use Rattle.iref_path_text.specs.Remaining.{first_or}
 use Rattle.iref_path_text.specs.Spelling.{each_closed, lead, lead_in, needs_guard}
+use Rattle.iref_path_text.specs.Ways.{text_steps}
+use Rattle.iref_path_text.proofs.SlashLemmas.{read-absolute}
 use Rattle.iref_path_text.proofs.SpellLemmas.{length-joined, normalized-spelled}
 
 -- a segment that begins with no dot is a name
@@ -132,3 +136,34 @@ pub first_of_both_texts : (front : Option (Bor Text)) (back : Bor Text) (first :
     → (others : List Text) × (pieces_at slash (after_front front back.now) ≡ first ∷ others)
 first_of_both_texts None back first rest e = (rest, e)
 first_of_both_texts (Some front) back first rest e = (rest ++ pieces_at slash back.now, pieces-append slash front.now back.now ∙ ap (λ list. list ++ pieces_at slash back.now) e)
+
+-- ---- the steps from a directory
+
+dotless_front : (list : List Text) → is_some_dotted list ≡ false → is_some_dotted (all_but_last list) ≡ false
+dotless_front [] h = refl
+dotless_front (s ∷ []) h = refl
+dotless_front (s ∷ t ∷ rest) h =
+    let parts = dotless_parts s (t ∷ rest) h in
+    λ i. parts.first i || dotless_front (t ∷ rest) parts.others i
+
+-- the names of the directory are its segments
+dotless_names : (text : Text) → has_dot_segment text ≡ false → staying_names (all_but_last (segments_of text)) ≡ all_but_last (pieces_at slash text)
+dotless_names [] h = staying_names-is []
+dotless_names (c ∷ cs) h =
+    let front = all_but_last (pieces_at slash (c ∷ cs)) in
+    staying_names-is front ∙ all_stay front (dotless_front (pieces_at slash (c ∷ cs)) h)
+
+-- the steps lead to the segments
+dotless_target : (directory : List Text) (text : Text) → has_dot_segment text ≡ false
+    → steps_between directory (pieces_at slash text) ≡ steps_between directory (normal_segments (record { absolute = true; segments = segments_of text }))
+dotless_target directory [] h = sym (ap (steps_between directory) (normal_segments-dotless (record { absolute = true; segments = [] }) refl))
+dotless_target directory (c ∷ cs) h =
+    let list = pieces_at slash (c ∷ cs) in
+    sym (ap (steps_between directory) (normal_segments-dotless (record { absolute = true; segments = list }) h ∙ ap (λ b. cond b [] list) (whole_text c cs)))
+
+pub dotless-steps : (base path below rest : Text) → base ≡ slash ∷ below → path ≡ slash ∷ rest → has_dot_segment below ≡ false → has_dot_segment rest ≡ false
+    → text_steps below rest ≡ steps_between (directory_names (read_path base)) (normal_segments (read_path path))
+dotless-steps base path below rest e f h k =
+    dotless_target (all_but_last (pieces_at slash below)) rest k
+    ∙ (λ i. steps_between (sym (dotless_names below h) i) (normal_segments (record { absolute = true; segments = segments_of rest })))
+    ∙ (λ i. steps_between (directory_names (sym (read-absolute base below _ e refl) i)) (normal_segments (sym (read-absolute path rest _ f refl) i)))

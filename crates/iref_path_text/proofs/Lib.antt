@@ -16,3 +16,4 @@ pub mod StackLemmas
 pub mod RewritingLemmas
 pub mod WrittenLemmas
 pub mod DotlessLemmas
+pub mod ApartLemmas

@@ -5,13 +5,15 @@ ghost use Rattle.iref_path_text.specs.{Written.{WritesBefore}};
 ghost use Rattle.std.specs.Prelude.{◌≡◌, ◌<◌, ◌≤◌, ◌^◌, length};
 
 use crate::remaining::way::Way;
-use crate::spell::{write_before, write_items};
+use crate::spell::{write_before, write_items, write_parents};
 
 /// What follows the root and the guard.
 #[derive(Clone, Copy)]
 pub enum Body<'a> {
     /// A text, and before it another one with a `/` after it, if there is one.
     Kept(Option<&'a str>, &'a str),
+    /// A number of `..`, each with a `/` after it, and a text.
+    Up(usize, &'a str),
     /// Items with `/` between, and how many bytes they have with a `/` after each.
     Items(Way<'a>, usize),
 }
@@ -52,6 +54,7 @@ impl<'a> Body<'a> {
     {
         match *self {
             Body::Kept(front, back) => joined_len(front, back),
+            Body::Up(up, text) => 3 * up + text.len(),
             Body::Items(_, size) => size.saturating_sub(1),
         }
     }
@@ -65,6 +68,10 @@ impl<'a> Body<'a> {
     {
         match self {
             Body::Kept(front, back) => write_joined(front, back, buffer, end),
+            Body::Up(up, text) => {
+                let start = write_before(buffer, end, text);
+                write_parents(buffer, up, start)
+            }
             Body::Items(items, _) => write_items(items, buffer, end),
         }
     }

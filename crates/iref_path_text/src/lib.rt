@@ -3,6 +3,7 @@
 //! and what edits make of such a text.
 #![tactic(auto)]
 
+pub mod apart;
 pub mod body;
 pub mod common;
 pub mod equality;

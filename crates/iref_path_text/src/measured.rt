@@ -1,18 +1,21 @@
 //! The text of a path, which is measured before it is written (RFC 3986 sections 5.2.3 and 5.2.4).
 
 ghost use Rattle.iref_grammar.specs.{alone, slash, read_path, spell_path, is_path, is_empty};
+ghost use Rattle.iref_grammar.specs.Texts.{pieces_at};
 ghost use Rattle.iref_model.specs.{Guard.{guarded}, PathSteps.{normalized}};
 ghost use Rattle.iref_parse.specs.Dots.{has_dot_segment};
-ghost use Rattle.iref_path_text.specs.Bodies.{after_front};
+ghost use Rattle.iref_path_text.specs.Bodies.{after_front, parents_then};
 ghost use Rattle.iref_path_text.specs.Merged.{merged_list, merged_path, path_after};
 ghost use Rattle.iref_path_text.specs.MeasuredPaths.{IsMeasured, measured_text};
 ghost use Rattle.iref_path_text.specs.{Pieces.{pieces_if_some}, Remaining.{IsSound, normal_left}};
 ghost use Rattle.iref_path_text.specs.{Spelling.{each_closed}, Ways.{IsWaySound, path_between}};
 ghost use Rattle.iref_path_text.specs.{Ways.{way_left}, Written.{WritesBefore}};
 ghost use Rattle.std.specs.Prelude.{◌||◌, ◌&&◌, ◌≡◌, ◌+◌, ◌*◌, ◌<◌, ◌≤◌, ◌^◌, ◌++◌, IfOk};
-ghost use Rattle.std.specs.{Prelude.{Some, false, length, true}, List.{join_with_byte}};
+ghost use Rattle.std.specs.{Prelude.{Some, codes, false, length, replicate, true}};
+ghost use Rattle.std.specs.{List.{join_with_byte}};
 ghost use Rattle.std.specs.String.{string_bytes};
 
+use crate::apart::{behind_roots, first_step, steps_apart};
 use crate::body::Body;
 use crate::remaining::Remaining;
 use crate::remaining::merged::Merged;
@@ -181,6 +184,21 @@ impl<'a> MeasuredPath<'a> {
         MeasuredPath { lead, body }
     }
 
+    // The text of a relative path of a number of `..` and the segments of a text, which stands
+    // alone.
+    fn up(up: usize, path: &'a str) -> Self
+        requires { length (parents_then up path.now) + 4 < 2 ^ 64 }
+        ensures text { measured_text result ≡ spell_path (guarded alone (record {
+          absolute = false;
+          segments = replicate up (codes "..") ++ pieces_at slash path.now;
+        })) }
+        ensures measured { IsMeasured result }
+    {
+        let body = Body::Up(up, path);
+        let lead = lead_in(ALONE, false, body.len() + 1, first_step(up, path));
+        MeasuredPath { lead, body }
+    }
+
     /// The text of the path that leads from a base's to this one: from the base's directory where
     /// both begin at the root, and else the normalized path.
     pub fn between(base: &'a str, path: &'a str) -> Self
@@ -189,11 +207,14 @@ impl<'a> MeasuredPath<'a> {
             ≡ spell_path (path_between (read_path base.now) (read_path path.now)) }
         ensures measured { IsMeasured result }
     {
-        if split_root(base).0 {
-            MeasuredPath::relative(Way::between(base, path))
-        } else {
-            MeasuredPath::normalized(ALONE, path)
+        if !split_root(base).0 {
+            return MeasuredPath::normalized(ALONE, path);
         }
+        if let Some((base, path)) = behind_roots(base, path) {
+            let (up, path) = steps_apart(base, path);
+            return MeasuredPath::up(up, path);
+        }
+        MeasuredPath::relative(Way::between(base, path))
     }
 
     /// How many bytes the text has.

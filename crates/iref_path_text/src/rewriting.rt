@@ -15,12 +15,11 @@ use crate::names::bytes_stay;
 use crate::remaining::leading_parents;
 use crate::remaining::slots::NoSlots;
 use crate::remaining::stack::Stack;
-use crate::segments::split_root;
-use crate::spell::{lead_in, write_before};
+use crate::segments::{last_slash, split_root};
+use crate::spell::{lead_in, write_before, write_parents};
 use iref_edit::bytes::replace;
 use iref_edit::change::{Change, Span};
 use iref_grammar::context::PathContext;
-use memchr::memrchr;
 use std::mem;
 use std::ops::Range;
 
@@ -32,7 +31,7 @@ fn segment_before(bytes: &[u8], end: usize) -> usize
         ++ slice_range bytes.now result (end - 1) ∷ [] }
     ensures less { result < end }
 {
-    match memrchr(b'/', &bytes[..end - 1]) {
+    match last_slash(&bytes[..end - 1]) {
         Some(slash) => slash + 1,
         None => 0,
     }
@@ -90,21 +89,6 @@ fn move_names(
         unread = segment;
     }
     (start, open_parents)
-}
-
-// Writes `..` this many times, with a `/` after each, so that they end at a position, and returns
-// where they begin.
-fn write_parents(bytes: &mut [u8], count: usize, end: usize) -> usize
-    requires room { length (each_closed (replicate count (codes ".."))) ≤ end }
-    requires within { end ≤ length bytes.old }
-    ensures { WritesBefore end (each_closed (replicate count (codes "..")))
-        bytes.old bytes.new result }
-{
-    let mut start = end;
-    for _ in 0..count {
-        start = write_before(bytes, start, "../");
-    }
-    start
 }
 
 // Where the names end that move: one that comes last stays where it is.

@@ -2,7 +2,8 @@
 //! 5.2.4).
 
 ghost use Rattle.std.specs.Prelude.{◌≡◌, ◌+◌, ◌-◌, ◌<◌, ◌≤◌, ◌^◌, ◌||◌, ◌&&◌, ◌==◌, ◌++◌};
-ghost use Rattle.std.specs.{Prelude.{true, false, [], length, IfOk}, List.{join_with_byte}};
+ghost use Rattle.std.specs.{Prelude.{true, false, [], codes, length, replicate, IfOk}};
+ghost use Rattle.std.specs.{List.{join_with_byte}};
 ghost use Rattle.std.specs.{List.{list_any}, String.{string_bytes}};
 ghost use Rattle.iref_grammar.specs.{is_path_in, colon, slash, read_path, spell_path, is_path};
 ghost use Rattle.iref_grammar.specs.Texts.{pieces_at};
@@ -52,6 +53,21 @@ pub fn write_before(buffer: &mut [u8], end: usize, text: &str) -> usize
 {
     let start = end - text.len();
     buffer[start..end].copy_from_slice(text.as_bytes());
+    start
+}
+
+/// Writes `..` this many times, with a `/` after each, so that they end at a position, and returns
+/// where they begin.
+pub(crate) fn write_parents(buffer: &mut [u8], count: usize, end: usize) -> usize
+    requires room { length (each_closed (replicate count (codes ".."))) ≤ end }
+    requires within { end ≤ length buffer.old }
+    ensures { WritesBefore end (each_closed (replicate count (codes "..")))
+        buffer.old buffer.new result }
+{
+    let mut start = end;
+    for _ in 0..count {
+        start = write_before(buffer, start, "../");
+    }
     start
 }
 
