@@ -37,7 +37,7 @@ abbrev pub DoesEdit : {E : Type 0} → EditStep → Text → Text → Result (Un
 DoesEdit edit old new result =
     OnOk result (edited edit (read_reference old) ≡ Ok (read_reference new)) × OnErr result ((new ≡ old) × (may_take_memory edit ≡ true))
 
--- what edits do under a rule that allows these schemes: where it needs one, none takes it away
+-- `edited` where the rule allows an absent scheme, and else `edited_uri`
 abbrev pub edited_in : (Option Text → Bool) → Edited
 edited_in allows = if allows None then edited else edited_uri
 
@@ -56,7 +56,7 @@ StopsAt edited edits old new i Memory =
 abbrev pub AppliesEdits : Edited → List EditStep → ReferenceValue → ReferenceValue → Result (Unit {0}) (ℕ × EditFault) → Type 0
 AppliesEdits edited edits old new result = MatchResult result (λ _. AreDone edited edits old new) (λ stop. StopsAt edited edits old new stop.0 stop.1)
 
--- the same of an owned value, whose text is the spelling of its value then
+-- `AppliesEdits` on an owned value, whose new text is the spelling of its new value
 abbrev pub AppliesTo : {R C K : _} → Edited → List EditStep → ReferenceBuf R C K → ReferenceBuf R C K → Result (Unit {0}) (ℕ × EditFault) → Type 0
 AppliesTo edited edits old new result =
     AppliesEdits edited edits (reference_buf_value old) (reference_buf_value new) result × (reference_buf_text new ≡ spell (reference_buf_value new))

@@ -1,4 +1,4 @@
--- What a list of edits does to the text of an owned value.
+-- The step of the model that each edit stands for.
 use Rattle.std.specs.Prelude.{option_map}
 use Rattle.iref_model.specs.Edits as model
 use Rattle.iref_model.specs.Edits.{EditStep}

@@ -1,5 +1,5 @@
-//! What both families have: texts of ASCII alone, errors, and what holds the part that an editor
-//! edits.
+//! What both families share: types of ASCII alone, errors, offsets, counted equality, and the traits
+//! of editors.
 pub use iref_component::authority_mut::AuthorityPart;
 pub use iref_component::path_equality::{Steps, new_steps_have_room, path_eq_counted};
 pub use iref_component::texts::{Port, PortBuf, Scheme, SchemeBuf};

@@ -95,7 +95,7 @@ impl Compact<'_> {
 
 /// Labels, each with the IRI that it stands for, in the order in which they were inserted: with
 /// `ex` for `http://example.org/`, `compact` of `http://example.org/a` returns `ex` and `a`, and
-/// `expand` of `ex:a` that IRI (RFC 3987 section 2.2).
+/// `expand` of `ex:a` returns that IRI.
 #[derive(Drop)]
 pub struct Prefixes {
     entries: Vec<Entry>,
@@ -135,13 +135,13 @@ impl Prefixes {
     fn find(&self, label: &str) -> Option<&Entry>
         ensures { option_copied result ≡ find (has_label label.now) self.now }
     {
-        let at = self.index.label(label)?;
+        let at = self.index.number_of_label(label)?;
         self.entries.get(at)
     }
 
     // The first entry whose text is the IRI's beginning of this length.
     #[tactic(auto, using(crate::proofs::PrefixIndexLemmas::no_number))]
-    fn beginning(&self, iri: &str, len: usize) -> Option<&Entry>
+    fn entry_of_beginning(&self, iri: &str, len: usize) -> Option<&Entry>
         requires { len ≤ length iri.now }
         ensures { option_copied result ≡ find (has_text (take len iri.now)) self.now }
     {
@@ -149,7 +149,7 @@ impl Prefixes {
         if !iri.is_char_boundary(len) {
             return None;
         }
-        let at = index.text(&iri[..len])?;
+        let at = index.number_of_text(&iri[..len])?;
         self.entries.get(at)
     }
 
@@ -162,7 +162,7 @@ impl Prefixes {
     {
         let mut end = iri.len() + 1;
         while let Some(len) = self.index.length_below(end) {
-            let entry = self.beginning(iri, len);
+            let entry = self.entry_of_beginning(iri, len);
             if entry.is_some() {
                 return entry;
             }
@@ -180,7 +180,8 @@ impl Prefixes {
     }
 
     /// Adds a last entry. A label is an ASCII letter, then ASCII letters, digits, `-` and `_`; it
-    /// differs from all labels that are there, by its text. The table keeps two copies of both.
+    /// differs from all labels that are there, by its text. The table keeps two copies of the
+    /// label, and a second one of the IRI if no entry has it yet.
     ///
     /// # Errors
     ///
@@ -204,8 +205,8 @@ impl Prefixes {
 
     /// The IRI by its longest beginning in the table: the label of the entry whose IRI's text is a
     /// beginning of this one's, and the rest. Where several are as long, the first inserted one
-    /// serves. None where no entry's IRI is a beginning. It takes no memory, and looks once for
-    /// each length, up to this IRI's, that an IRI of the table has.
+    /// serves. None where no entry's IRI is a beginning. It takes no memory, and looks at most once
+    /// for each length, up to this IRI's, of an IRI that was given to `insert`.
     #[tactic(auto, using(crate::proofs::PrefixTableLemmas::compacts))]
     pub fn compact<'a>(&'a self, iri: Iri<'a>) -> Option<Compact<'a>>
         ensures compacted { option_map compact_value result

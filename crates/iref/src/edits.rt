@@ -15,43 +15,44 @@ use std::alloc::AllocError;
 use std::fmt;
 use thiserror::Error;
 
-/// An edit of a reference or of a URI: what is set in it, or what is done to its path. `Pop` leaves
-/// `//h/?q` of `//h/a?q` (RFC 3986 sections 3 and 5.2.4).
+/// An edit of a reference or of a URI: `Pop` turns `//h/a?q` into `//h/?q` (RFC 3986 sections 3 and
+/// 5.2.4).
 #[derive_where(Copy)]
 pub enum Edit<'a, C: CharSet> {
-    /// Replaces the scheme, or takes it away, which a URI refuses.
+    /// Replaces the scheme, or removes it, which a URI refuses.
     SetScheme(Option<Scheme<'a>>),
-    /// Replaces the authority, puts one there, or takes it away.
+    /// Replaces, adds or removes the authority.
     SetAuthority(Option<Authority<'a, C>>),
-    /// Replaces the authority that is there.
+    /// Replaces the authority, which must be present.
     ReplaceAuthority(Authority<'a, C>),
-    /// Replaces the user info of the authority, or takes it away.
+    /// Replaces, adds or removes the user info of the authority.
     SetUserInfo(Option<UserInfo<'a, C>>),
     /// Replaces the host of the authority.
     SetHost(Host<'a, C>),
-    /// Replaces the port of the authority, or takes it away.
+    /// Replaces, adds or removes the port of the authority.
     SetPort(Option<Port<'a>>),
     /// Sets the port to a number, which is written in decimal digits without leading zeros.
     SetPortU32(Option<u32>),
-    /// Replaces the path, guarded where it would be read as something else.
+    /// Replaces the path, made absolute after an authority, and guarded where it would be read as
+    /// something else.
     SetPath(Path<'a, C>),
     /// Sets the path and normalizes it, as one edit (RFC 3986 section 5.2.4).
     SetAndNormalizePath(Path<'a, C>),
-    /// Replaces the query, or takes it away.
+    /// Replaces, adds or removes the query.
     SetQuery(Option<Query<'a, C>>),
-    /// Replaces the fragment, or takes it away.
+    /// Replaces, adds or removes the fragment.
     SetFragment(Option<Fragment<'a, C>>),
-    /// Puts a segment at the end of the path, as it is.
+    /// Appends a segment as it is.
     LazyPush(Segment<'a, C>),
-    /// Follows a segment: `..` takes the last one away.
+    /// Appends a segment, but follows `.` and `..`: `..` turns `foo/bar` into `foo/`.
     Push(Segment<'a, C>),
     /// Follows the segments of a relative path; an absolute one replaces the path.
     JoinPath(Path<'a, C>),
-    /// Takes the last segment away.
+    /// Removes the last segment; a relative path that has none, or ends in `..`, gains a `..`.
     Pop,
-    /// Takes all segments away.
+    /// Removes all segments.
     Clear,
-    /// Puts the normal form of the path in its place.
+    /// Replaces the path by its normal form.
     Normalize,
 }
 
@@ -96,16 +97,17 @@ impl<C: CharSet> fmt::Debug for Edit<'_, C> {
     }
 }
 
-/// Why an edit of a list cannot be done, such as `SetHost` of `s:a` (RFC 3986 section 3.2).
+/// Why an edit of a list is refused: `SetHost` on `s:a` returns `NoAuthority` (RFC 3986 section
+/// 3.2).
 #[derive(Clone, Copy, Debug, PartialEq, Eq, Error)]
 pub enum EditFault {
-    /// The edit is of a part of the authority, and there is none.
+    /// The edit changes a subcomponent of an absent authority.
     #[error("no authority")]
     NoAuthority,
-    /// The edit takes the scheme of a URI away.
+    /// The edit removes the scheme of a URI.
     #[error("a URI needs a scheme")]
     SchemeNeeded,
-    /// A growth was refused, or the new length would pass what a buffer can hold.
+    /// An allocation failed, or the new length exceeds the maximum of a buffer.
     #[error("out of memory")]
     Memory,
 }

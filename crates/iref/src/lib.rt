@@ -19,7 +19,8 @@ pub use iref_parse::split::{ReferenceSlices, split_reference};
 pub use iri::{InvalidIri, InvalidIriRef, Iri, IriBuf, IriError, IriRef, IriRefBuf};
 pub use uri::{InvalidUri, InvalidUriRef, Uri, UriBuf, UriError, UriRef, UriRefBuf};
 
-/// The names for code that serves all components, or all references.
+/// The names for code that is generic over components (`Rule`, `BorrowedText`) or over references
+/// (`HeldRule`, `Composed`).
 pub mod rules {
     pub use iref_buffer::held::HeldRule;
     pub use iref_component::borrowed::BorrowedText;
@@ -46,11 +47,11 @@ pub mod uri {
     /// A reference of URIs (RFC 3986 section 4.1): any URI, and what is relative to one, such as
     /// `//a/b`, `../b`, `?q` and the empty text.
     pub type UriRef<'a> = iref_reference::borrowed::UriRef<'a, UriChars>;
-    /// A URI that owns its text (RFC 3986 section 3), and is edited in place: `set_query` of `q`
-    /// makes `http://a/b?q` of `http://a/b`. It never loses its scheme.
+    /// A URI that owns its text (RFC 3986 section 3), and is edited in place: `set_query` with `q`
+    /// turns `http://a/b` into `http://a/b?q`. It never loses its scheme.
     pub type UriBuf = iref_reference::owned::UriBuf<UriChars>;
     /// A reference of URIs that owns its text (RFC 3986 section 4.1): `resolve` against
-    /// `http://a/b/c` makes `http://a/g` of `../g`.
+    /// `http://a/b/c` turns `../g` into `http://a/g`.
     pub type UriRefBuf = iref_reference::owned::UriRefBuf<UriChars>;
 
     /// The components of a URI (RFC 3986 section 3): of `http://a/b` the scheme `http`, the
@@ -69,11 +70,11 @@ pub mod uri {
 
     /// An authority (RFC 3986 section 3.2): in `//u@h:80/x` it is `u@h:80`, with the host `h`.
     pub type Authority<'a> = iref_component::authority::Authority<'a, UriChars>;
-    /// An authority that owns its text (RFC 3986 section 3.2): `set_port` of `80` makes `h:80` of
-    /// `h`.
+    /// An authority that owns its text (RFC 3986 section 3.2): `set_port` with `80` turns `h` into
+    /// `h:80`.
     pub type AuthorityBuf = iref_component::authority::AuthorityBuf<UriChars>;
     /// The editor of an authority in a vector of bytes, or in an owned value such as `UriBuf` (RFC
-    /// 3986 section 3.2): at the bytes 2 to 6 of `//h:80/x`, `set_port` of None leaves `//h/x`.
+    /// 3986 section 3.2): at the bytes 2 to 6 of `//h:80/x`, `set_port` with None leaves `//h/x`.
     pub type AuthorityMut<'a, T = Vec<u8>> = iref_component::authority_mut::AuthorityMut<
         'a,
         UriChars,
@@ -88,8 +89,8 @@ pub mod uri {
     /// A user info that owns its text (RFC 3986 section 3.2.1), such as `u:p` of `//u:p@h`.
     pub type UserInfoBuf = iref_component::texts::UserInfoBuf<UriChars>;
 
-    /// A host (RFC 3986 section 3.2.2): a name as `a.org`, an address as `10.0.0.1`, or one in
-    /// brackets, such as `[::1]`. In `//u@:80` it is empty.
+    /// A host (RFC 3986 section 3.2.2): a name such as `a.org`, an address such as `10.0.0.1`, or
+    /// one in brackets, such as `[::1]`. In `//u@:80` it is empty.
     pub type Host<'a> = iref_component::texts::Host<'a, UriChars>;
     /// A host that owns its text (RFC 3986 section 3.2.2): that of the IPv6 number 1 is `[::1]`.
     pub type HostBuf = iref_component::texts::HostBuf<UriChars>;
@@ -97,24 +98,25 @@ pub mod uri {
     /// A path (RFC 3986 section 3.3): `/a/b` has the segments `a` and `b`, `a/` the segments `a`
     /// and an empty one.
     pub type Path<'a> = iref_component::path::Path<'a, UriChars>;
-    /// A path that owns its text (RFC 3986 section 3.3): `push` of `c` makes `/a/c` of `/a`.
+    /// A path that owns its text (RFC 3986 section 3.3): `push` with `c` turns `/a` into
+    /// `/a/c`.
     pub type PathBuf = iref_component::path_buf::PathBuf<UriChars>;
     /// The editor of a path in a vector of bytes, or in an owned value such as `UriBuf` or
     /// `PathBuf` (RFC 3986 section 3.3): at the bytes 8 to 12 of `http://h/a/b?q`, `pop` leaves
     /// `http://h/a?q`.
     pub type PathMut<'a, T = Vec<u8>> = iref_component::path_mut::PathMut<'a, UriChars, T>;
 
-    /// A segment of a path (RFC 3986 section 3.3): `b%2Fc` is one, `b/c` is none, and the empty
-    /// text is one.
+    /// A segment of a path (RFC 3986 section 3.3): `b%2Fc` and the empty text are segments, `b/c`
+    /// is not.
     pub type Segment<'a> = iref_component::texts::Segment<'a, UriChars>;
     /// A segment that owns its text (RFC 3986 section 3.3), such as `b` of `a/b`.
     pub type SegmentBuf = iref_component::texts::SegmentBuf<UriChars>;
 
-    /// The segments of a path that are left, from both ends (RFC 3986 section 3.3): of `/a//b` they
+    /// A double-ended iterator over the segments of a path (RFC 3986 section 3.3): of `/a//b` they
     /// are `a`, an empty one and `b`.
     pub type Segments<'a> = iref_component::segments::Segments<'a, UriChars>;
-    /// The segments of a path without its dots that are left, from both ends (RFC 3986 section
-    /// 5.2.4): of `a/../b/./c` they are `b` and `c`.
+    /// A double-ended iterator over the segments of a path's normal form (RFC 3986 section 5.2.4):
+    /// of `a/../b/./c` they are `b` and `c`.
     pub type NormalizedSegments<'a> = iref_component::normal::NormalizedSegments<'a, UriChars>;
 
     /// A query (RFC 3986 section 3.4): in `a?x=1?y` it is `x=1?y`.
@@ -127,8 +129,8 @@ pub mod uri {
     /// A fragment that owns its text (RFC 3986 section 3.5), such as `f` of `a#f`.
     pub type FragmentBuf = iref_component::texts::FragmentBuf<UriChars>;
 
-    /// An edit of a list, for `apply_all`: `Edit::Push` of the segment `b` makes `http://h/a/b` of
-    /// `http://h/a`.
+    /// An edit of a list, for `apply_all`: `Edit::Push` with the segment `b` turns `http://h/a`
+    /// into `http://h/a/b`.
     pub type Edit<'a> = crate::edits::Edit<'a, UriChars>;
 }
 
@@ -151,11 +153,11 @@ pub mod iri {
     /// A reference of IRIs (RFC 3987 section 2.2): any IRI, and what is relative to one, such as
     /// `//é`, `../ü` and the empty text.
     pub type IriRef<'a> = iref_reference::borrowed::UriRef<'a, IriChars>;
-    /// An IRI that owns its text (RFC 3987 section 2.2): `into_uri` makes the URI `http://a/%C3%A9`
-    /// of `http://a/é`. It never loses its scheme.
+    /// An IRI that owns its text (RFC 3987 section 2.2): `into_uri` turns `http://a/é` into the
+    /// URI `http://a/%C3%A9`. It never loses its scheme.
     pub type IriBuf = iref_reference::owned::UriBuf<IriChars>;
     /// A reference of IRIs that owns its text (RFC 3987 section 2.2): `resolve` against
-    /// `http://a/b/c` makes `http://a/ü` of `../ü`.
+    /// `http://a/b/c` turns `../ü` into `http://a/ü`.
     pub type IriRefBuf = iref_reference::owned::UriRefBuf<IriChars>;
 
     /// The components of an IRI (RFC 3987 section 2.2): of `http://a/é` the scheme `http`, the
@@ -174,11 +176,11 @@ pub mod iri {
 
     /// An authority (RFC 3987 section 2.2): in `//u@é:80/x` it is `u@é:80`, with the host `é`.
     pub type Authority<'a> = iref_component::authority::Authority<'a, IriChars>;
-    /// An authority that owns its text (RFC 3987 section 2.2): `set_port` of `80` makes `é:80` of
-    /// `é`.
+    /// An authority that owns its text (RFC 3987 section 2.2): `set_port` with `80` turns `é` into
+    /// `é:80`.
     pub type AuthorityBuf = iref_component::authority::AuthorityBuf<IriChars>;
     /// The editor of an authority in a vector of bytes, or in an owned value such as `IriBuf` (RFC
-    /// 3987 section 2.2): at the bytes 2 to 7 of `//é:80/x`, `set_port` of None leaves `//é/x`.
+    /// 3987 section 2.2): at the bytes 2 to 7 of `//é:80/x`, `set_port` with None leaves `//é/x`.
     pub type AuthorityMut<'a, T = Vec<u8>> = iref_component::authority_mut::AuthorityMut<
         'a,
         IriChars,
@@ -193,8 +195,8 @@ pub mod iri {
     /// A user info that owns its text (RFC 3987 section 2.2), such as `é` of `//é@h`.
     pub type UserInfoBuf = iref_component::texts::UserInfoBuf<IriChars>;
 
-    /// A host (RFC 3987 section 2.2): a name as `é.org`, an address as `10.0.0.1`, or one in
-    /// brackets, such as `[::1]`. In `//u@:80` it is empty.
+    /// A host (RFC 3987 section 2.2): a name such as `é.org`, an address such as `10.0.0.1`, or
+    /// one in brackets, such as `[::1]`. In `//u@:80` it is empty.
     pub type Host<'a> = iref_component::texts::Host<'a, IriChars>;
     /// A host that owns its text (RFC 3987 section 2.2): that of the IPv6 number 1 is `[::1]`.
     pub type HostBuf = iref_component::texts::HostBuf<IriChars>;
@@ -202,28 +204,29 @@ pub mod iri {
     /// A path (RFC 3987 section 2.2): `/é/b` has the segments `é` and `b`, `é/` the segments `é`
     /// and an empty one.
     pub type Path<'a> = iref_component::path::Path<'a, IriChars>;
-    /// A path that owns its text (RFC 3987 section 2.2): `push` of `ü` makes `/a/ü` of `/a`.
+    /// A path that owns its text (RFC 3987 section 2.2): `push` with `ü` turns `/a` into
+    /// `/a/ü`.
     pub type PathBuf = iref_component::path_buf::PathBuf<IriChars>;
     /// The editor of a path in a vector of bytes, or in an owned value such as `IriBuf` or
     /// `PathBuf` (RFC 3987 section 2.2): at the bytes 8 to 13 of `http://h/a/é?q`, `pop` leaves
     /// `http://h/a?q`.
     pub type PathMut<'a, T = Vec<u8>> = iref_component::path_mut::PathMut<'a, IriChars, T>;
 
-    /// A segment of a path (RFC 3987 section 2.2): `é%2Fc` is one, `é/c` is none, and the empty
-    /// text is one.
+    /// A segment of a path (RFC 3987 section 2.2): `é%2Fc` and the empty text are segments, `é/c`
+    /// is not.
     pub type Segment<'a> = iref_component::texts::Segment<'a, IriChars>;
     /// A segment that owns its text (RFC 3987 section 2.2), such as `é` of `a/é`.
     pub type SegmentBuf = iref_component::texts::SegmentBuf<IriChars>;
 
-    /// The segments of a path that are left, from both ends (RFC 3987 section 2.2): of `/é//b` they
+    /// A double-ended iterator over the segments of a path (RFC 3987 section 2.2): of `/é//b` they
     /// are `é`, an empty one and `b`.
     pub type Segments<'a> = iref_component::segments::Segments<'a, IriChars>;
-    /// The segments of a path without its dots that are left, from both ends (RFC 3986 section
-    /// 5.2.4): of `é/../b/./ü` they are `b` and `ü`.
+    /// A double-ended iterator over the segments of a path's normal form (RFC 3986 section 5.2.4):
+    /// of `é/../b/./ü` they are `b` and `ü`.
     pub type NormalizedSegments<'a> = iref_component::normal::NormalizedSegments<'a, IriChars>;
 
-    /// A query (RFC 3987 section 2.2): in `a?é=1` it is `é=1`. Private characters as U+E000 stand
-    /// here alone.
+    /// A query (RFC 3987 section 2.2): in `a?é=1` it is `é=1`. Only a query may hold private
+    /// characters, such as U+E000.
     pub type Query<'a> = iref_component::texts::Query<'a, IriChars>;
     /// A query that owns its text (RFC 3987 section 2.2), such as `é` of `a?é`.
     pub type QueryBuf = iref_component::texts::QueryBuf<IriChars>;
@@ -233,7 +236,7 @@ pub mod iri {
     /// A fragment that owns its text (RFC 3987 section 2.2), such as `é` of `a#é`.
     pub type FragmentBuf = iref_component::texts::FragmentBuf<IriChars>;
 
-    /// An edit of a list, for `apply_all`: `Edit::Push` of the segment `é` makes `http://h/a/é` of
-    /// `http://h/a`.
+    /// An edit of a list, for `apply_all`: `Edit::Push` with the segment `é` turns `http://h/a`
+    /// into `http://h/a/é`.
     pub type Edit<'a> = crate::edits::Edit<'a, IriChars>;
 }

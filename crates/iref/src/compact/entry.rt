@@ -1,4 +1,4 @@
-//! An entry of a prefix table, and texts of labels.
+//! An entry of a prefix table, and how one is added to the table and its index.
 ghost use Rattle.std.specs.Prelude.{◌≡◌, ◌++◌, [], ◌∷◌, true, IfOk, OnOk, OnErr};
 ghost use Rattle.std.specs.String.{string_bytes};
 ghost use Rattle.iref.specs.PrefixIndex.{IsIndexed};

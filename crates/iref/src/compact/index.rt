@@ -35,14 +35,14 @@ impl Index {
     }
 
     // The number of a label's entry.
-    pub(super) fn label(&self, label: &str) -> Option<usize>
+    pub(super) fn number_of_label(&self, label: &str) -> Option<usize>
         ensures { result ≡ get_by_text self.now.labels label.now }
     {
         self.labels.get(label).copied()
     }
 
     // The number of the first entry whose IRI this text is.
-    pub(super) fn text(&self, text: &str) -> Option<usize>
+    pub(super) fn number_of_text(&self, text: &str) -> Option<usize>
         ensures { result ≡ get_by_text self.now.texts text.now }
     {
         self.texts.get(text).copied()

@@ -69,8 +69,8 @@ fn apply_each<R: SetsScheme, C: CharSet>(
 ///
 /// # Errors
 ///
-/// The number of the first edit that cannot be done, from 0, and why: those before it are done.
-/// `NoAuthority` where it is of a part of the authority and there is none, also to take one away.
+/// The number of the first edit that is refused, from 0, and why: those before it are done.
+/// `NoAuthority` if it edits a subcomponent of an absent authority, even to remove it.
 #[tactic(auto, using(iref_buffer::proofs::HeldLemmas::spelled))]
 pub fn apply_all<C: CharSet>(reference: &mut UriRefBuf<C>, edits: &[Edit<'_, C>]) -> Applied
     ensures { AppliesTo edited (map edit_step edits.now) reference.old reference.new result }
@@ -78,7 +78,7 @@ pub fn apply_all<C: CharSet>(reference: &mut UriRefBuf<C>, edits: &[Edit<'_, C>]
     apply_each(reference, edits)
 }
 
-/// As `apply_all`, of a URI: `SchemeNeeded` where an edit takes the scheme away.
+/// Does the edits of a URI as `apply_all` does; `SchemeNeeded` if an edit removes the scheme.
 #[tactic(auto, using(iref_buffer::proofs::HeldLemmas::spelled))]
 pub fn apply_all_uri<C: CharSet>(uri: &mut UriBuf<C>, edits: &[Edit<'_, C>]) -> Applied
     ensures { AppliesTo edited_uri (map edit_step edits.now) uri.old uri.new result }

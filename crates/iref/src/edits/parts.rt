@@ -77,7 +77,7 @@ impl<R: HeldRule, C: CharSet> AuthorityOwner<C> for ReferenceBuf<R, C> {
     }
 }
 
-/// Does an edit of a part of the authority, which is there.
+/// Edits a subcomponent of the authority, or replaces it.
 pub fn edit_authority<C: CharSet, T: AuthorityOwner<C>>(
     owner: &mut T,
     edit: Edit<'_, C>,

@@ -1,4 +1,4 @@
-//! The scheme set by an edit, which a URI keeps.
+//! Edits of the scheme, which a URI cannot lose.
 ghost use Rattle.std.specs.Prelude.{option_map};
 ghost use Rattle.iref_reference.specs.{text_of, reference_buf_text};
 ghost use Rattle.iref_model.specs.Edits.{SetScheme};

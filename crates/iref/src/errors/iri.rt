@@ -1,4 +1,4 @@
-//! Which component of an IRI was refused (RFC 3987 section 2.2).
+//! The errors of all constructors for IRIs (RFC 3987 section 2.2).
 ghost use Rattle.std.specs.Prelude.{◌≡◌, ⊤};
 
 use iref_error::{
@@ -9,8 +9,8 @@ use std::alloc::AllocError;
 use std::error::Error;
 use std::fmt;
 
-/// The component of an IRI that was refused, with the input: `Port(InvalidPort("8a"))` is
-/// printed as `invalid IRI authority port: 8a`.
+/// The error of any constructor for IRIs, with its input, into which `?` converts it:
+/// `Port(InvalidPort("8a"))` is printed as `invalid IRI authority port: 8a`.
 #[derive(Copy, Debug, PartialEq, Eq, Drop)]
 pub enum IriError<T> {
     /// The input is not an IRI.

@@ -1,4 +1,4 @@
-//! Which component of a URI was refused (RFC 3986 section 3).
+//! The errors of all constructors for URIs (RFC 3986 section 3).
 ghost use Rattle.std.specs.Prelude.{◌≡◌, ⊤};
 
 use iref_error::{
@@ -9,8 +9,8 @@ use std::alloc::AllocError;
 use std::error::Error;
 use std::fmt;
 
-/// The component of a URI that was refused, with the input: `Port(InvalidPort("8a"))` is printed as
-/// `invalid URI authority port: 8a`.
+/// The error of any constructor for URIs, with its input, into which `?` converts it:
+/// `Port(InvalidPort("8a"))` is printed as `invalid URI authority port: 8a`.
 #[derive(Copy, Debug, PartialEq, Eq, Drop)]
 pub enum UriError<T> {
     /// The input is not a URI.

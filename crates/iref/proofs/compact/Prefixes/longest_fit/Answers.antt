@@ -8,7 +8,7 @@ returns-then-is_some c =
     let set = c.self.inside.index.lengths in
     record {
       entry = found_there c.args.iri.now c.args.self.now set c.loop-len.end c.in-Some.len (subst (HasLengths set) c.self.view_is c.self.invariant.1.lengths)
-          (search rules) c.loop-len.invariant.in_range c.loop-len.invariant.below c.beginning-entry.result c.beginning-entry.ensures (search rules);
+          (search rules) c.loop-len.invariant.in_range c.loop-len.invariant.below c.entry_of_beginning-entry.result c.entry_of_beginning-entry.ensures (search rules);
       table = subst IsPrefixTable c.self.view_is c.self.invariant.0;
     }
 
@@ -19,7 +19,7 @@ loop-len-preserved c =
     record {
       in_range = omega arith;
       below = not_there c.args.iri.now c.args.self.now set c.loop-len.end c.in-Some.len (subst (HasLengths set) c.self.view_is c.self.invariant.1.lengths)
-          (search rules) c.loop-len.invariant.in_range c.loop-len.invariant.below c.beginning-entry.result c.beginning-entry.ensures (search rules);
+          (search rules) c.loop-len.invariant.in_range c.loop-len.invariant.below c.entry_of_beginning-entry.result c.entry_of_beginning-entry.ensures (search rules);
     }
 
 pub returns : goal.returns

@@ -17,14 +17,14 @@ use Rattle.iref_buffer.proofs.PathEditLemmas.{path_text_replaced, read_path-read
 use Rattle.iref_buffer.proofs.held.Held.rewrite_path.Goals as goal
 
 -- the text with the path rewritten where it stands, and how long this path is
-module _ (bytes text lead : Text) (range : Range ℕ) (view : bytes ≡ text) (range : range ≡ (offsets_of text).path) where
+module _ (bytes text lead : Text) (range : Range ℕ) (view : bytes ≡ text) (at : range ≡ (offsets_of text).path) where
   put : rewritten_at lead bytes (record { start = range.start; end = range.end }) ≡ with_path_text (rewritten lead (path_text text)) text
-  put = λ i. rewritten_at lead (view i) (record { start = (range i).start; end = (range i).end })
+  put = λ i. rewritten_at lead (view i) (record { start = (at i).start; end = (at i).end })
 
   path_len : (end : ℕ) → end ≡ range.start + length (rewritten lead (part_at bytes (record { start = range.start; end = range.end })))
       → end - range.start ≡ length (spell_path (read_path (rewritten lead (path_text text))))
   path_len end e =
-      let path = ap length (λ i. rewritten lead (part_at (view i) (record { start = (range i).start; end = (range i).end }))) in
+      let path = ap length (λ i. rewritten lead (part_at (view i) (record { start = (at i).start; end = (at i).end }))) in
       let spelled = ap length (read_path-reads (rewritten lead (path_text text))).spelled in
       omega (arith, e, path, spelled)
 

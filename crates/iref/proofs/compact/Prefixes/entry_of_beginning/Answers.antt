@@ -7,7 +7,7 @@ use Rattle.std.specs.BTreeMap.{get_by_text}
 use Rattle.iref.specs.PrefixIndex.{has_text}
 use Rattle.iref.proofs.PrefixIndexLemmas.{got_at, number_at}
 use Rattle.iref.proofs.PrefixSearchLemmas.{no_text_ends}
-use Rattle.iref.proofs.compact.Prefixes.beginning.Goals as goal
+use Rattle.iref.proofs.compact.Prefixes.entry_of_beginning.Goals as goal
 
 pub returns-then-not-is_char_boundary : goal.returns-then-not-is_char_boundary
 returns-then-not-is_char_boundary c =
