@@ -27,7 +27,7 @@ use std::fmt;
 use std::marker::PhantomData;
 use std::ops::Range;
 
-/// An authority as a part of a text, which may stand wherever one does.
+/// The authority as the part of a text that an editor edits.
 pub struct AuthorityPart;
 
 impl Part for AuthorityPart {
@@ -171,7 +171,7 @@ impl<'a, C: CharSet, T: Target<AuthorityPart, C>> AuthorityMut<'a, C, T> {
         Ok(())
     }
 
-    // Replaces the user info, or takes it away.
+    // Replaces, adds or removes the user info.
     fn put_user_info(&mut self, user_info: Option<&str>) -> Result<(), Memory>
         requires { none_or (is_user_info C.tests) (option_copied user_info) ≡ true }
         ensures edit { Edits (with_user_info (option_copied user_info.entry))
@@ -182,7 +182,7 @@ impl<'a, C: CharSet, T: Target<AuthorityPart, C>> AuthorityMut<'a, C, T> {
         self.put(within, marked_after(user_info, "@"))
     }
 
-    // Replaces the port, or takes it away.
+    // Replaces, adds or removes the port.
     fn put_port(&mut self, port: Option<&str>) -> Result<(), Memory>
         requires { none_or is_port (option_copied port) ≡ true }
         ensures edit { Edits (with_port (option_copied port.entry)) self.old self.new result }
@@ -201,8 +201,8 @@ impl<'a, C: CharSet, T: Target<AuthorityPart, C>> AuthorityMut<'a, C, T> {
         self.put(within, (authority.as_str(), ""))
     }
 
-    /// Replaces the user info and its `@`, or takes them away, which takes no memory: `u@h` without
-    /// a user info is `h`, and with an empty one `@h`.
+    /// Replaces, adds or removes the user info with its `@`; removing takes no memory: `u@h`
+    /// without a user info is `h`, and with an empty one `@h`.
     pub fn set_user_info(&mut self, user_info: Option<UserInfo<'_, C>>) -> Result<(), Memory>
         ensures edit { Edits (with_user_info (option_map text_of user_info.entry))
             self.old self.new result }
@@ -219,7 +219,7 @@ impl<'a, C: CharSet, T: Target<AuthorityPart, C>> AuthorityMut<'a, C, T> {
         self.put(within, (host.as_str(), ""))
     }
 
-    /// Replaces the port and its `:`, or takes them away, which takes no memory: `h:80` without a
+    /// Replaces, adds or removes the port with its `:`; removing takes no memory: `h:80` without a
     /// port is `h`, and with an empty one `h:`.
     pub fn set_port(&mut self, port: Option<Port<'_>>) -> Result<(), Memory>
         ensures edit { Edits (with_port (option_map text_of port.entry))
@@ -229,8 +229,8 @@ impl<'a, C: CharSet, T: Target<AuthorityPart, C>> AuthorityMut<'a, C, T> {
         self.put_port(text_of(port))
     }
 
-    /// Replaces the port by a number in decimal digits without leading zeros, or takes it away,
-    /// which takes no memory.
+    /// Sets the port to a number, in decimal digits without leading zeros, or removes it, which
+    /// takes no memory.
     #[tactic(auto, using(iref_model::proofs::PortNumberLemmas::written))]
     pub fn set_port_u32(&mut self, port: Option<u32>) -> Result<(), Memory>
         ensures edit { Edits (with_port (option_map port_text port)) self.old self.new result }

@@ -131,7 +131,7 @@ impl<'a, C: CharSet, T: Target<PathPart, C>> PathMut<'a, C, T> {
         })
     }
 
-    /// Puts a segment at the end, as it is: `.` and `..` too.
+    /// Appends a segment as it is, `.` and `..` too.
     pub fn lazy_push(&mut self, segment: Segment<'_, C>) -> Result<(), Memory>
         ensures { EditsBy step.lazy_pushed (text_of segment.entry) self.old self.new result }
     {
@@ -139,8 +139,9 @@ impl<'a, C: CharSet, T: Target<PathPart, C>> PathMut<'a, C, T> {
         self.apply(step)
     }
 
-    /// Follows a segment: `.` closes the path, `..` takes the last segment away and closes it, and
-    /// any other is put at the end (RFC 3986 section 5.2.4). `foo/bar` and `..` give `foo/`.
+    /// Appends a segment, but follows dots (RFC 3986 section 5.2.4): `.` closes the path with a
+    /// `/`, and `..` removes the last segment and closes the path, so that `foo/bar` becomes
+    /// `foo/`.
     pub fn push(&mut self, segment: Segment<'_, C>) -> Result<(), Memory>
         ensures { EditsBy step.pushed (text_of segment.entry) self.old self.new result }
     {
@@ -148,8 +149,8 @@ impl<'a, C: CharSet, T: Target<PathPart, C>> PathMut<'a, C, T> {
         self.apply(step)
     }
 
-    /// Takes the last segment away: where there is none to take, or where it is `..`, a `..` stands
-    /// at the end then. `//a` gives `/./`.
+    /// Removes the last segment. A relative path that has none, or that ends in `..`, gains a `..`.
+    /// `//a` becomes `/./`.
     pub fn pop(&mut self) -> Result<(), Memory>
         ensures { Edits step.popped self.old self.new result }
     {
@@ -169,7 +170,7 @@ impl<'a, C: CharSet, T: Target<PathPart, C>> PathMut<'a, C, T> {
         Ok(changes)
     }
 
-    /// Replaces the path by another, after what guards it there.
+    /// Replaces the path, with a guard where it would be read as something else.
     pub fn replace(&mut self, path: Path<'_, C>) -> Result<(), Memory>
         ensures { EditsBy step.replaced (path_value path.entry) self.old self.new result }
     {
@@ -177,7 +178,7 @@ impl<'a, C: CharSet, T: Target<PathPart, C>> PathMut<'a, C, T> {
         self.apply(step)
     }
 
-    /// Takes the segments away, so that the path is `/` or empty.
+    /// Removes all segments, so that the path is `/` or empty.
     pub fn clear(&mut self)
         ensures same { IsSameEditor self.old self.new }
         ensures value { BecomesPath self.old self.new (step.cleared (path_mut_value self.old)) }

@@ -28,7 +28,7 @@ use std::convert::TryFrom;
 use std::fmt;
 
 /// A reference of a rule: of all references, or of URIs. `//h/a` and `s:a` are references, `s:a`
-/// alone is a URI too; `new` of what is outside the rule is an error that holds it (RFC 3986
+/// alone is a URI too; `new` with a text outside the rule returns an error that holds it (RFC 3986
 /// sections 3 and 4.1).
 #[derive_where(Clone, Copy, PartialEq, Eq, PartialOrd, Ord, Hash)]
 pub struct Reference<'a, R: HeldRule, C: CharSet> {

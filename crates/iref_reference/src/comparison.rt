@@ -73,8 +73,8 @@ pub fn references_compare_by_key<C: CharSet>()
         ⟦<Uri<'static, C> as Ord>⟧ ⟦<Uri<'static, C> as Hash>⟧ }
 {}
 
-/// Owners under any rule are equal, in order and hashed by the key of the reference, as their
-/// views.
+/// Owned values of any rule are equal, in order and hashed by the key of the reference, as borrowed
+/// ones are.
 pub fn owners_compare_by_key<R: HeldRule, C: CharSet>()
     ensures { ComparesBy key_of_reference_buf key_cmp fed_reference
         ⟦<ReferenceBuf<R, C> as Ord>⟧ ⟦<ReferenceBuf<R, C> as Hash>⟧ }

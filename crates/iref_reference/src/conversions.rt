@@ -217,7 +217,7 @@ impl<R: HeldRule> ReferenceBuf<R, IriChars> {
     }
 
     /// The reference of URIs of the same text, with no copy, or else the owned value, if its text
-    /// is none.
+    /// is no reference of URIs.
     pub fn try_into_uri_ref(self) -> Result<UriRefBuf<UriChars>, InvalidUriRef<Self>>
         ensures { OwnerBecomesUri IsUriReference (λ error. error.0) self result }
     {

@@ -62,7 +62,7 @@ impl<R: HeldRule> ReferenceBuf<R, IriChars> {
 
 impl UriRefBuf<IriChars> {
     /// The reference of URIs that it maps to, as `to_uri_ref` says, within its buffer. A text of
-    /// ASCII takes no memory. Where memory is wanted, the reference comes back as it was.
+    /// ASCII takes no memory. If memory runs out, the reference is returned unchanged.
     pub fn into_uri_ref(self) -> Result<UriRefBuf<UriChars>, (Self, Memory)>
         ensures ok { IfOk result (IsMappingOf (InUtf8 (IsUriReference uri_chars))
             (reference_buf_text self) (key_of_reference_buf self)) }
@@ -75,7 +75,7 @@ impl UriRefBuf<IriChars> {
 
 impl UriBuf<IriChars> {
     /// The URI that it maps to, as `to_uri` says, within its buffer. A text of ASCII takes no
-    /// memory. Where memory is wanted, the IRI comes back as it was.
+    /// memory. If memory runs out, the IRI is returned unchanged.
     pub fn into_uri(self) -> Result<UriBuf<UriChars>, (Self, Memory)>
         ensures ok { IfOk result (IsMappingOf (InUtf8 (IsUri uri_chars)) (reference_buf_text self)
             (key_of_reference_buf self)) }

@@ -28,8 +28,8 @@ use std::convert::TryFrom;
 use std::fmt;
 
 /// A reference of a rule that owns its text, and knows where its components are, in bytes: of
-/// `s:/a?q` the query is at 5 to 6. `new` of what is outside the rule is an error that holds it
-/// (RFC 3986 sections 3 and 4.1).
+/// `s:/a?q` the query is at 5 to 6. `new` with a text outside the rule returns an error that holds
+/// it (RFC 3986 sections 3 and 4.1).
 #[derive(Drop)]
 pub struct ReferenceBuf<R: HeldRule, C: CharSet> {
     pub(crate) held: Held<R, C>,

@@ -32,7 +32,7 @@ impl<R: HeldRule, C: CharSet> Reference<'_, R, C> {
         uri.to_owned(alloc)
     }
 
-    /// As `resolved`, by a text: `Invalid` returns a text that is not a URI.
+    /// Does as `resolved` does with a text: `Invalid` holds a text that is not a URI.
     pub fn try_resolved<'t>(
         &self,
         alloc: Global,
@@ -71,7 +71,7 @@ impl<C: CharSet> Uri<'_, C> {
         reference.resolved(alloc, *self)
     }
 
-    /// As `joined`, by a text: `Invalid` returns a text that is not a reference.
+    /// Does as `joined` does with a text: `Invalid` holds a text that is not a reference.
     pub fn try_joined<'t>(
         &self,
         alloc: Global,

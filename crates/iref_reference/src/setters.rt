@@ -19,8 +19,8 @@ use iref_error::Memory;
 use iref_grammar::chars::CharSet;
 
 impl<R: HeldRule, C: CharSet> ReferenceBuf<R, C> {
-    /// Replaces the authority, or takes it away, which takes no memory. Where one comes in, the
-    /// path becomes absolute; where it goes, a path that begins with `//` is guarded.
+    /// Replaces, adds or removes the authority; removing takes no memory. Where one is added, the
+    /// path becomes absolute; where it is removed, a path that begins with `//` is guarded.
     pub fn set_authority(&mut self, authority: Option<Authority<'_, C>>) -> Result<(), Memory>
         ensures set { Edits (with_authority (option_map read_authority
             (option_map text_of authority.entry))) self.old self.new result }
@@ -48,7 +48,7 @@ impl<R: HeldRule, C: CharSet> ReferenceBuf<R, C> {
         self.held.set_and_normalize_path(path.as_str())
     }
 
-    /// Replaces the query, or takes it away, which takes no memory.
+    /// Replaces, adds or removes the query; removing takes no memory.
     pub fn set_query(&mut self, query: Option<Query<'_, C>>) -> Result<(), Memory>
         ensures set { Edits (with_query (option_map text_of query.entry)) self.old self.new
             result }
@@ -57,7 +57,7 @@ impl<R: HeldRule, C: CharSet> ReferenceBuf<R, C> {
         self.held.set_query(text_of(query))
     }
 
-    /// Replaces the fragment, or takes it away, which takes no memory.
+    /// Replaces, adds or removes the fragment; removing takes no memory.
     pub fn set_fragment(&mut self, fragment: Option<Fragment<'_, C>>) -> Result<(), Memory>
         ensures set { Edits (with_fragment (option_map text_of fragment.entry)) self.old self.new
             result }
@@ -68,8 +68,8 @@ impl<R: HeldRule, C: CharSet> ReferenceBuf<R, C> {
 }
 
 impl<C: CharSet> UriRefBuf<C> {
-    /// Replaces the scheme, or takes it away, which takes no memory. Where it goes, a path whose
-    /// first segment holds a `:` is guarded.
+    /// Replaces, adds or removes the scheme; removing takes no memory. Where it is removed, a path
+    /// whose first segment holds a `:` is guarded.
     pub fn set_scheme(&mut self, scheme: Option<Scheme<'_>>) -> Result<(), Memory>
         ensures set { Edits (with_scheme (option_map text_of scheme.entry)) self.old self.new
             result }

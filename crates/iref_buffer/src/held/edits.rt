@@ -25,7 +25,7 @@ use iref_path_text::guard::{guard_of, root_of};
 use std::ops::Range;
 
 impl<R: HeldRule, C: CharSet> Held<R, C> {
-    /// Replaces the query, or takes it away, which takes no memory.
+    /// Replaces, adds or removes the query; removing takes no memory.
     pub fn set_query(&mut self, query: Option<&str>) -> Result<(), Memory>
         requires { none_or (is_query C.tests) (option_copied query) ≡ true }
         ensures set { StepsOrStays (with_query (option_copied query.entry)) self.old self.new
@@ -41,7 +41,7 @@ impl<R: HeldRule, C: CharSet> Held<R, C> {
         self.step(lengths, range, mark, part, "")
     }
 
-    /// Replaces the fragment, or takes it away, which takes no memory.
+    /// Replaces, adds or removes the fragment; removing takes no memory.
     pub fn set_fragment(&mut self, fragment: Option<&str>) -> Result<(), Memory>
         requires { none_or (is_fragment C.tests) (option_copied fragment) ≡ true }
         ensures set { StepsOrStays (with_fragment (option_copied fragment.entry)) self.old self.new
@@ -72,7 +72,7 @@ impl<R: HeldRule, C: CharSet> Held<R, C> {
         self.step(lengths, range, guard, path, "")
     }
 
-    /// Replaces the scheme, or takes it away, which takes no memory. A path whose first segment
+    /// Replaces, adds or removes the scheme; removing takes no memory. A path whose first segment
     /// holds a `:` is guarded where no scheme stands before it any more.
     pub fn set_scheme(&mut self, scheme: Option<&str>) -> Result<(), Memory>
         requires scheme { none_or is_scheme (option_copied scheme) ≡ true }
@@ -93,7 +93,7 @@ impl<R: HeldRule, C: CharSet> Held<R, C> {
         self.step(lengths, range, part, mark, lead)
     }
 
-    /// Replaces the authority, or takes it away, which takes no memory. Where one comes to stand
+    /// Replaces, adds or removes the authority; removing takes no memory. Where one comes to stand
     /// the path becomes absolute, and where it goes a path that begins with `//` is guarded.
     pub fn set_authority(&mut self, authority: Option<&str>) -> Result<(), Memory>
         requires { none_or (is_authority C.tests) (option_copied authority) ≡ true }

@@ -65,8 +65,8 @@ impl<C: CharSet> AuthorityBuf<C> {
         self.as_authority_mut().replace(authority)
     }
 
-    /// Replaces the user info and its `@`, or takes them away, which takes no memory: `u@h` without
-    /// a user info is `h`.
+    /// Replaces, adds or removes the user info with its `@`; removing takes no memory: `u@h`
+    /// without a user info is `h`.
     pub fn set_user_info(&mut self, user_info: Option<UserInfo<'_, C>>) -> Result<(), Memory>
         ensures edit { EditsOwner (with_user_info (option_map text_of user_info.entry))
             self.old self.new result }
@@ -82,7 +82,7 @@ impl<C: CharSet> AuthorityBuf<C> {
         self.as_authority_mut().set_host(host)
     }
 
-    /// Replaces the port and its `:`, or takes them away, which takes no memory: `h:80` without a
+    /// Replaces, adds or removes the port with its `:`; removing takes no memory: `h:80` without a
     /// port is `h`.
     pub fn set_port(&mut self, port: Option<Port<'_>>) -> Result<(), Memory>
         ensures edit { EditsOwner (with_port (option_map text_of port.entry))
@@ -92,8 +92,8 @@ impl<C: CharSet> AuthorityBuf<C> {
         self.as_authority_mut().set_port(port)
     }
 
-    /// Replaces the port by a number in decimal digits without leading zeros, or takes it away,
-    /// which takes no memory.
+    /// Sets the port to a number, in decimal digits without leading zeros, or removes it, which
+    /// takes no memory.
     pub fn set_port_u32(&mut self, port: Option<u32>) -> Result<(), Memory>
         ensures edit { EditsOwner (with_port (option_map port_text port)) self.old self.new result }
         ensures none { IsNone port → IsOk result }
@@ -101,7 +101,7 @@ impl<C: CharSet> AuthorityBuf<C> {
         self.as_authority_mut().set_port_u32(port)
     }
 
-    /// As `replace`, by a text: `Invalid` returns a text that is not an authority.
+    /// Does as `replace` does with a text: `Invalid` holds a text that is not an authority.
     pub fn try_replace<'t>(&mut self, authority: &'t str) -> Tried<InvalidAuthority<&'t str>>
         ensures ok { OnOk result (text_of self.new ≡ authority.now) }
         ensures text { Tests (IsAuthority C.tests) authority.entry (λ error. error.0) result }
@@ -110,7 +110,7 @@ impl<C: CharSet> AuthorityBuf<C> {
         self.as_authority_mut().try_replace(authority)
     }
 
-    /// As `set_user_info`, by a text: `Invalid` returns a text that is not a user info.
+    /// Does as `set_user_info` does with a text: `Invalid` holds a text that is not a user info.
     pub fn try_set_user_info<'t>(
         &mut self,
         user_info: Option<&'t str>,
@@ -122,7 +122,7 @@ impl<C: CharSet> AuthorityBuf<C> {
         self.as_authority_mut().try_set_user_info(user_info)
     }
 
-    /// As `set_host`, by a text: `Invalid` returns a text that is not a host.
+    /// Does as `set_host` does with a text: `Invalid` holds a text that is not a host.
     pub fn try_set_host<'t>(&mut self, host: &'t str) -> Tried<InvalidHost<&'t str>>
         ensures edit { EditsOwner (with_host host.now) self.old self.new result }
         ensures text { Tests (IsHost C.tests) host.entry (λ error. error.0) result }
@@ -130,7 +130,7 @@ impl<C: CharSet> AuthorityBuf<C> {
         self.as_authority_mut().try_set_host(host)
     }
 
-    /// As `set_port`, by a text: `Invalid` returns a text that is not a port.
+    /// Does as `set_port` does with a text: `Invalid` holds a text that is not a port.
     pub fn try_set_port<'t>(&mut self, port: Option<&'t str>) -> Tried<InvalidPort<&'t str>>
         ensures edit { EditsOwner (with_port (option_copied port.entry)) self.old self.new result }
         ensures text { TestsIfSome IsPort port.entry (λ error. error.0) result }

@@ -16,7 +16,7 @@ use iref_grammar::chars::CharSet;
 impl<C: CharSet, T: Target<AuthorityPart, C>> AuthorityMut<'_, C, T> {
     ghost use Rattle.iref_component.specs.AuthorityEdits.{Edits};
 
-    /// As `replace`, by a text: `Invalid` returns a text that is not an authority.
+    /// Does as `replace` does with a text: `Invalid` holds a text that is not an authority.
     pub fn try_replace<'t>(&mut self, authority: &'t str) -> Tried<InvalidAuthority<&'t str>>
         ensures edit { Edits (λ _. read_authority authority.now) self.old self.new result }
         ensures text { Tests (IsAuthority C.tests) authority.entry (λ error. error.0) result }
@@ -26,7 +26,7 @@ impl<C: CharSet, T: Target<AuthorityPart, C>> AuthorityMut<'_, C, T> {
             .or(Err(TryError::Memory))
     }
 
-    /// As `set_user_info`, by a text: `Invalid` returns a text that is not a user info.
+    /// Does as `set_user_info` does with a text: `Invalid` holds a text that is not a user info.
     pub fn try_set_user_info<'t>(
         &mut self,
         user_info: Option<&'t str>,
@@ -39,7 +39,7 @@ impl<C: CharSet, T: Target<AuthorityPart, C>> AuthorityMut<'_, C, T> {
         self.put_user_info(user_info).or(Err(TryError::Memory))
     }
 
-    /// As `set_host`, by a text: `Invalid` returns a text that is not a host.
+    /// Does as `set_host` does with a text: `Invalid` holds a text that is not a host.
     pub fn try_set_host<'t>(&mut self, host: &'t str) -> Tried<InvalidHost<&'t str>>
         ensures edit { Edits (with_host host.now) self.old self.new result }
         ensures text { Tests (IsHost C.tests) host.entry (λ error. error.0) result }
@@ -49,7 +49,7 @@ impl<C: CharSet, T: Target<AuthorityPart, C>> AuthorityMut<'_, C, T> {
             .or(Err(TryError::Memory))
     }
 
-    /// As `set_port`, by a text: `Invalid` returns a text that is not a port.
+    /// Does as `set_port` does with a text: `Invalid` holds a text that is not a port.
     pub fn try_set_port<'t>(&mut self, port: Option<&'t str>) -> Tried<InvalidPort<&'t str>>
         ensures edit { Edits (with_port (option_copied port.entry)) self.old self.new result }
         ensures text { TestsIfSome IsPort port.entry (λ error. error.0) result }

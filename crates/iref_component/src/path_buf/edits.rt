@@ -65,7 +65,7 @@ impl<C: CharSet> PathBuf<C> {
         PathMut::from_path(self)
     }
 
-    /// Puts a segment at the end, as it is: `.` and `..` too.
+    /// Appends a segment as it is, `.` and `..` too.
     pub fn lazy_push(&mut self, segment: Segment<'_, C>) -> Result<(), Memory>
         ensures { EditsOwner (step.lazy_pushed alone (text_of segment.entry))
             self.old self.new result }
@@ -73,8 +73,9 @@ impl<C: CharSet> PathBuf<C> {
         self.as_path_mut().lazy_push(segment)
     }
 
-    /// Follows a segment: `.` closes the path, `..` takes the last segment away and closes it, and
-    /// any other is put at the end (RFC 3986 section 5.2.4). `foo/bar` and `..` give `foo/`.
+    /// Appends a segment, but follows dots (RFC 3986 section 5.2.4): `.` closes the path with a
+    /// `/`, and `..` removes the last segment and closes the path, so that `foo/bar` becomes
+    /// `foo/`.
     pub fn push(&mut self, segment: Segment<'_, C>) -> Result<(), Memory>
         ensures { EditsOwner (step.pushed alone (text_of segment.entry))
             self.old self.new result }
@@ -82,8 +83,8 @@ impl<C: CharSet> PathBuf<C> {
         self.as_path_mut().push(segment)
     }
 
-    /// Takes the last segment away: where there is none to take, or where it is `..`, a `..` stands
-    /// at the end then. `//a` gives `/./`.
+    /// Removes the last segment. A relative path that has none, or that ends in `..`, gains a `..`.
+    /// `//a` becomes `/./`.
     pub fn pop(&mut self) -> Result<(), Memory>
         ensures { EditsOwner (step.popped alone) self.old self.new result }
     {
@@ -99,7 +100,7 @@ impl<C: CharSet> PathBuf<C> {
         self.as_path_mut().try_pop()
     }
 
-    /// Replaces the path by another, after what guards it there.
+    /// Replaces the path, with a guard where it would be read as something else.
     pub fn replace(&mut self, path: Path<'_, C>) -> Result<(), Memory>
         ensures { EditsOwner (step.replaced alone (path_value path.entry))
             self.old self.new result }
@@ -107,8 +108,8 @@ impl<C: CharSet> PathBuf<C> {
         self.as_path_mut().replace(path)
     }
 
-    /// Puts the path of the normal segments in its place, guarded where that is needed (RFC 3986
-    /// section 5.2.4). Memory is taken only where that path is longer, such as `./a:b` for `a:b`.
+    /// Replaces the path by its normal form, guarded where that is needed (RFC 3986 section 5.2.4).
+    /// Memory is taken only where that path is longer, such as `./a:b` for `a:b`.
     pub fn normalize(&mut self) -> Result<(), Memory>
         ensures edit { EditsOwner (step.normalized alone) self.old self.new result }
         ensures shorter { length (spell_path (step.normalized alone (path_value self.old)))
@@ -117,7 +118,7 @@ impl<C: CharSet> PathBuf<C> {
         self.as_path_mut().normalize()
     }
 
-    /// Takes the segments away, so that the path is `/` or empty.
+    /// Removes all segments, so that the path is `/` or empty.
     pub fn clear(&mut self)
         ensures { SpellsPath self.new (step.cleared (path_value self.old)) }
     {

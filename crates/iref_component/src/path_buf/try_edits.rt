@@ -11,7 +11,7 @@ use iref_error::{InvalidPath, InvalidSegment};
 use iref_grammar::chars::CharSet;
 
 impl<C: CharSet> PathBuf<C> {
-    /// Puts a text at the end as a segment, as it is.
+    /// Appends a text as a segment, as it is.
     pub fn try_lazy_push<'t>(&mut self, segment: &'t str) -> Tried<InvalidSegment<&'t str>>
         ensures edit { EditsOwner (step.lazy_pushed alone segment.now) self.old self.new result }
         ensures text { Tests (IsSegment C.tests) segment.entry (λ error. error.0) result }
@@ -19,7 +19,7 @@ impl<C: CharSet> PathBuf<C> {
         self.as_path_mut().try_lazy_push(segment)
     }
 
-    /// Follows a text as a segment, as `push` does.
+    /// Appends a text as a segment, but follows dots, as `push` does.
     pub fn try_push<'t>(&mut self, segment: &'t str) -> Tried<InvalidSegment<&'t str>>
         ensures edit { EditsOwner (step.pushed alone segment.now) self.old self.new result }
         ensures text { Tests (IsSegment C.tests) segment.entry (λ error. error.0) result }
@@ -27,8 +27,8 @@ impl<C: CharSet> PathBuf<C> {
         self.as_path_mut().try_push(segment)
     }
 
-    /// Puts each text at the end as a segment, as it is. The iterator is asked up to its first
-    /// `None`. At an `Err` the segments before the refused text stand.
+    /// Appends each text as a segment, as it is. The iterator is asked up to its first `None`. At
+    /// an `Err` the segments before the refused text stand.
     pub fn try_lazy_append<'t, I>(&mut self, segments: I) -> Tried<InvalidSegment<&'t str>>
     where
         I: IntoIterator<Item = &'t str>,
@@ -40,7 +40,7 @@ impl<C: CharSet> PathBuf<C> {
         self.as_path_mut().try_lazy_append(segments)
     }
 
-    /// Follows each text as a segment, and closes the path after a last `.` or `..`, as `append`
+    /// Appends each text as a segment, and closes the path after a last `.` or `..`, as `append`
     /// does. The iterator is asked up to its first `None`. At an `Err` the segments before the
     /// refused text stand, and the path is not closed: `b`, `c`, `..` and `c/d` after `/a` are
     /// refused at `c/d`, and leave `/a/b`.
@@ -55,7 +55,7 @@ impl<C: CharSet> PathBuf<C> {
         self.as_path_mut().try_append(segments)
     }
 
-    /// Replaces the path by that of a text, after what guards it there.
+    /// Replaces the path by that of a text, with a guard where it would be read as something else.
     pub fn try_replace<'t>(&mut self, path: &'t str) -> Tried<InvalidPath<&'t str>>
         ensures edit { EditsOwner (step.replaced alone (read_path path.now))
             self.old self.new result }

@@ -33,8 +33,8 @@ impl<C: CharSet, T: Target<PathPart, C>> PathMut<'_, C, T> {
         self.apply(step)
     }
 
-    /// Puts each segment at the end, as it is. The iterator is asked up to its first `None`. At an
-    /// `Err` the segments before the refused one stand.
+    /// Appends each segment as it is. The iterator is asked up to its first `None`. At an `Err` the
+    /// segments before the refused one stand.
     pub fn lazy_append<'s, I>(&mut self, segments: I) -> Result<(), Memory>
     where
         I: IntoIterator<Item = Segment<'s, C>>,
@@ -50,9 +50,9 @@ impl<C: CharSet, T: Target<PathPart, C>> PathMut<'_, C, T> {
         Ok(())
     }
 
-    /// Follows each segment, and closes the path after a last `.` or `..`: `..` and `baz` after
-    /// `/foo/bar` give `/foo/baz`. The iterator is asked up to its first `None`. At an `Err` the
-    /// segments before the refused one stand, and the path is not closed.
+    /// Appends each segment as `push` does, and closes the path after a last `.` or `..`: `..` and
+    /// `baz` after `/foo/bar` give `/foo/baz`. The iterator is asked up to its first `None`. At an
+    /// `Err` the segments before the refused one stand, and the path is not closed.
     pub fn append<'s, I>(&mut self, segments: I) -> Result<(), Memory>
     where
         I: IntoIterator<Item = Segment<'s, C>>,
@@ -73,7 +73,7 @@ impl<C: CharSet, T: Target<PathPart, C>> PathMut<'_, C, T> {
         Ok(())
     }
 
-    /// Puts an absolute path in its place, and appends the segments of a relative one to it: `../b`
+    /// Replaces the path by an absolute one, or appends the segments of a relative one: `../b`
     /// after `/x/a` gives `/x/b`. This is one edit, so an `Err` changes nothing.
     pub fn join(&mut self, path: Path<'_, C>) -> Result<(), Memory>
         ensures { EditsBy step.joined (path_value path.entry) self.old self.new result }

@@ -13,9 +13,9 @@ use iref_path_text::spell::normalized_text;
 use iref_path_text::target::PathTarget;
 
 impl<C: CharSet, T: PathTarget<C>> PathMut<'_, C, T> {
-    /// Puts the path of the normal segments in its place, guarded where that is needed (RFC 3986
-    /// section 5.2.4). Under an authority that is what `remove_dot_segments` leaves. Memory is
-    /// taken only where that path is longer, such as `./a:b` for `a:b` and `../` for `..`.
+    /// Replaces the path by its normal form, guarded where that is needed (RFC 3986 section 5.2.4).
+    /// After an authority that is what `remove_dot_segments` leaves. Memory is taken only where
+    /// that path is longer, such as `./a:b` for `a:b` and `../` for `..`.
     pub fn normalize(&mut self) -> Result<(), Memory>
         ensures edit { Edits step.normalized self.old self.new result }
         ensures dots { (path_mut_context self.old).has_authority ≡ true

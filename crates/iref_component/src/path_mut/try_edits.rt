@@ -16,7 +16,7 @@ use iref_path_text::names::is_name;
 use iref_path_text::part::PathPart;
 
 impl<C: CharSet, T: Target<PathPart, C>> PathMut<'_, C, T> {
-    /// Puts a text at the end as a segment, as it is.
+    /// Appends a text as a segment, as it is.
     pub fn try_lazy_push<'t>(&mut self, segment: &'t str) -> Tried<InvalidSegment<&'t str>>
         ensures edit { EditsBy step.lazy_pushed segment.now self.old self.new result }
         ensures text { Tests (IsSegment C.tests) segment.entry (λ error. error.0) result }
@@ -25,7 +25,7 @@ impl<C: CharSet, T: Target<PathPart, C>> PathMut<'_, C, T> {
         self.lazy_push(segment).or(Err(TryError::Memory))
     }
 
-    /// Follows a text as a segment, as `push` does.
+    /// Appends a text as a segment, but follows dots, as `push` does.
     pub fn try_push<'t>(&mut self, segment: &'t str) -> Tried<InvalidSegment<&'t str>>
         ensures edit { EditsBy step.pushed segment.now self.old self.new result }
         ensures text { Tests (IsSegment C.tests) segment.entry (λ error. error.0) result }
@@ -34,8 +34,8 @@ impl<C: CharSet, T: Target<PathPart, C>> PathMut<'_, C, T> {
         self.push(segment).or(Err(TryError::Memory))
     }
 
-    /// Puts each text at the end as a segment, as it is. The iterator is asked up to its first
-    /// `None`. At an `Err` the segments before the refused text stand.
+    /// Appends each text as a segment, as it is. The iterator is asked up to its first `None`. At
+    /// an `Err` the segments before the refused text stand.
     pub fn try_lazy_append<'t, I>(&mut self, segments: I) -> Tried<InvalidSegment<&'t str>>
     where
         I: IntoIterator<Item = &'t str>,
@@ -51,7 +51,7 @@ impl<C: CharSet, T: Target<PathPart, C>> PathMut<'_, C, T> {
         Ok(())
     }
 
-    /// Follows each text as a segment, and closes the path after a last `.` or `..`, as `append`
+    /// Appends each text as a segment, and closes the path after a last `.` or `..`, as `append`
     /// does. The iterator is asked up to its first `None`. At an `Err` the segments before the
     /// refused text stand, and the path is not closed: `b`, `c`, `..` and `c/d` after `/a` are
     /// refused at `c/d`, and leave `/a/b`.
@@ -76,7 +76,7 @@ impl<C: CharSet, T: Target<PathPart, C>> PathMut<'_, C, T> {
         }
     }
 
-    /// Replaces the path by that of a text, after what guards it there.
+    /// Replaces the path by that of a text, with a guard where it would be read as something else.
     pub fn try_replace<'t>(&mut self, path: &'t str) -> Tried<InvalidPath<&'t str>>
         ensures edit { EditsBy step.replaced (read_path path.now) self.old self.new result }
         ensures text { Tests (IsPath C.tests) path.entry (λ error. error.0) result }

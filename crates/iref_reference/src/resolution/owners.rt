@@ -1,5 +1,5 @@
-//! Owners that become what resolution gives (RFC 3986 section 5.2). The result is written into a
-//! buffer of its own, and only then takes the place of the old text.
+//! Owned values that become what they resolve to (RFC 3986 section 5.2). The result is written into
+//! a buffer of its own, and only then takes the place of the old text.
 ghost use Rattle.iref_grammar.specs.{Grammar.{IsUri, IsUriReference}, Rules.{InUtf8}};
 ghost use Rattle.iref_error.specs.Tried.{TellsInvalid};
 ghost use Rattle.iref_reference.specs.HandedBack.{TellsInvalidBeside};
@@ -50,7 +50,7 @@ impl<C: CharSet> UriRefBuf<C> {
         Ok(())
     }
 
-    /// As `resolve`, by a text: `Invalid` returns a text that is not a URI.
+    /// Does as `resolve` does with a text: `Invalid` holds a text that is not a URI.
     pub fn try_resolve<'t>(&mut self, base: &'t str) -> Result<(), TryError<InvalidUri<&'t str>>>
         ensures ok { OnOk result (IsResolved base.now
             (reference_buf_text self.old) (reference_buf_text self.new)) }
@@ -76,7 +76,7 @@ impl<C: CharSet> UriRefBuf<C> {
         }
     }
 
-    /// As `into_resolved`, by a text: `Invalid` returns a text that is not a URI, with the
+    /// Does as `into_resolved` does with a text: `Invalid` holds a text that is not a URI, with the
     /// reference.
     pub fn try_into_resolved<'t>(
         self,
@@ -112,7 +112,7 @@ impl<C: CharSet> UriBuf<C> {
         Ok(())
     }
 
-    /// As `join`, by a text: `Invalid` returns a text that is not a reference.
+    /// Does as `join` does with a text: `Invalid` holds a text that is not a reference.
     pub fn try_join<'t>(
         &mut self,
         reference: &'t str,

@@ -82,7 +82,7 @@ impl<R: HeldRule, C: CharSet> Reference<'_, R, C> {
 
 impl<C: CharSet> UriRefBuf<C> {
     /// The same reference under a scheme, with no copy where the buffer has room: `x` under `s` is
-    /// `s:x`. Where memory is wanted, the reference comes back as it was.
+    /// `s:x`. If memory runs out, the reference is returned unchanged.
     pub fn into_with_scheme(self, scheme: Scheme<'_>) -> Result<UriBuf<C>, (Self, Memory)>
         ensures ok { IfOk result (λ uri. IsStep (with_scheme (Some (text_of scheme.entry)))
             (reference_buf_text self) (reference_buf_text uri)) }
@@ -94,8 +94,8 @@ impl<C: CharSet> UriRefBuf<C> {
         }
     }
 
-    /// As `into_with_scheme`, by a text: `Invalid` returns a text that is not a scheme, with the
-    /// reference.
+    /// Does as `into_with_scheme` does with a text: `Invalid` holds a text that is not a scheme,
+    /// with the reference.
     pub fn try_into_with_scheme<'t>(
         self,
         scheme: &'t str,

@@ -16,7 +16,7 @@ use iref_error::{
 use iref_grammar::chars::CharSet;
 
 impl<R: HeldRule, C: CharSet> ReferenceBuf<R, C> {
-    /// As `set_authority`, by a text: `Invalid` returns a text that is not an authority.
+    /// Does as `set_authority` does with a text: `Invalid` holds a text that is not an authority.
     pub fn try_set_authority<'t>(
         &mut self,
         authority: Option<&'t str>,
@@ -29,7 +29,7 @@ impl<R: HeldRule, C: CharSet> ReferenceBuf<R, C> {
         self.held.set_authority(authority).or(Err(TryError::Memory))
     }
 
-    /// As `set_path`, by a text: `Invalid` returns a text that is not a path.
+    /// Does as `set_path` does with a text: `Invalid` holds a text that is not a path.
     pub fn try_set_path<'t>(&mut self, path: &'t str) -> Tried<InvalidPath<&'t str>>
         ensures set { Edits (with_path (read_path path.now)) self.old self.new result }
         ensures text { Tests (IsPath C.tests) path.entry (λ error. error.0) result }
@@ -38,7 +38,7 @@ impl<R: HeldRule, C: CharSet> ReferenceBuf<R, C> {
         self.held.set_path(path).or(Err(TryError::Memory))
     }
 
-    /// As `set_query`, by a text: `Invalid` returns a text that is not a query.
+    /// Does as `set_query` does with a text: `Invalid` holds a text that is not a query.
     pub fn try_set_query<'t>(&mut self, query: Option<&'t str>) -> Tried<InvalidQuery<&'t str>>
         ensures set { Edits (with_query (option_copied query.entry)) self.old self.new result }
         ensures text { TestsIfSome (IsQuery C.tests) query.entry (λ error. error.0) result }
@@ -47,7 +47,7 @@ impl<R: HeldRule, C: CharSet> ReferenceBuf<R, C> {
         self.held.set_query(query).or(Err(TryError::Memory))
     }
 
-    /// As `set_fragment`, by a text: `Invalid` returns a text that is not a fragment.
+    /// Does as `set_fragment` does with a text: `Invalid` holds a text that is not a fragment.
     pub fn try_set_fragment<'t>(
         &mut self,
         fragment: Option<&'t str>,
@@ -62,7 +62,7 @@ impl<R: HeldRule, C: CharSet> ReferenceBuf<R, C> {
 }
 
 impl<C: CharSet> UriRefBuf<C> {
-    /// As `set_scheme`, by a text: `Invalid` returns a text that is not a scheme.
+    /// Does as `set_scheme` does with a text: `Invalid` holds a text that is not a scheme.
     pub fn try_set_scheme<'t>(&mut self, scheme: Option<&'t str>) -> Tried<InvalidScheme<&'t str>>
         ensures set { Edits (with_scheme (option_copied scheme.entry)) self.old self.new result }
         ensures text { TestsIfSome IsScheme scheme.entry (λ error. error.0) result }
