@@ -16,8 +16,7 @@ use Rattle.iref_grammar.proofs.PathLemmas.{read_path-reads}
 use Rattle.iref_model.specs.Guard.{guarded_list, with_dot}
 use Rattle.iref_model.specs.PathFunctions.{directory_text, parent}
 use Rattle.iref_model.proofs.PieceLemmas.{pieces-append, some_piece}
-use Rattle.iref_path_text.specs.Pieces.{LacksSlash}
-use Rattle.iref_path_text.proofs.SlashLemmas.{pieces-whole}
+use Rattle.iref_path_text.proofs.SlashLemmas.{LacksSlash, pieces-whole}
 use Rattle.iref_model.proofs.PathGrammarLemmas.{path_parts, path_joined, is_path_empty}
 use Rattle.iref_model.proofs.DirectoryLemmas.{all_but_last-snoc}
 use Rattle.iref_model.proofs.FitsLemmas.{is_empty-snoc}

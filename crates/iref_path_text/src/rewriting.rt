@@ -15,11 +15,12 @@ use crate::names::bytes_stay;
 use crate::remaining::leading_parents;
 use crate::remaining::slots::NoSlots;
 use crate::remaining::stack::Stack;
-use crate::segments::{last_slash, split_root};
+use crate::segments::split_root;
 use crate::spell::{lead_in, write_before, write_parents};
 use iref_edit::bytes::replace;
 use iref_edit::change::{Change, Span};
 use iref_grammar::context::PathContext;
+use memchr::memrchr;
 use std::mem;
 use std::ops::Range;
 
@@ -31,7 +32,7 @@ fn segment_before(bytes: &[u8], end: usize) -> usize
         ++ slice_range bytes.now result (end - 1) ∷ [] }
     ensures less { result < end }
 {
-    match last_slash(&bytes[..end - 1]) {
+    match memrchr(b'/', &bytes[..end - 1]) {
         Some(slash) => slash + 1,
         None => 0,
     }

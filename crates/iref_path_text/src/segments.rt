@@ -1,10 +1,10 @@
 //! The segments of a text, taken from either end.
 
 ghost use Rattle.std.specs.Prelude.{◌≡◌, ◌+◌, ◌<◌, ◌≤◌, ◌++◌, ◌∷◌, ◌==◌, [], length, count_by};
-ghost use Rattle.std.specs.Prelude.{true, false, IfNone, IfSome};
+ghost use Rattle.std.specs.Prelude.{true, false};
 ghost use Rattle.iref_grammar.specs.{slash, pieces_at, segments_of, read_path};
 ghost use Rattle.iref_grammar.specs.Texts.{all_but_last};
-ghost use Rattle.iref_path_text.specs.Pieces.{IsLastSlash, LacksSlash, pieces_if_some};
+ghost use Rattle.iref_path_text.specs.Pieces.{pieces_if_some};
 
 /// The first segment, and the text of the others.
 pub fn first_segment(text: &str) -> (&str, Option<&str>)
@@ -16,27 +16,12 @@ pub fn first_segment(text: &str) -> (&str, Option<&str>)
     }
 }
 
-/// The index of the last `/`. Segments are short, so the bytes are read one by one.
-pub(crate) fn last_slash(text: &[u8]) -> Option<usize>
-    ensures some { IfSome result (IsLastSlash text.now) }
-    ensures none { IfNone result (LacksSlash text.now) }
-{
-    let mut end = text.len();
-    while end > 0 {
-        end -= 1;
-        if text[end] == b'/' {
-            return Some(end);
-        }
-    }
-    None
-}
-
 /// The text of the segments before the last one, and the last one.
 pub fn last_segment(text: &str) -> (Option<&str>, &str)
     ensures { pieces_at slash text.now ≡ pieces_if_some result.0 ++ result.1.now ∷ [] }
 {
-    match last_slash(text.as_bytes()) {
-        Some(index) => (Some(&text[..index]), &text[index + 1..]),
+    match text.rsplit_once('/') {
+        Some((rest, segment)) => (Some(rest), segment),
         None => (None, text),
     }
 }
