@@ -6,15 +6,15 @@ use iref::{IriRef, IriRefBuf, Memory};
 use std::alloc::Global;
 
 /// Whether the mappings of two references are equal: exactly if the references are.
-pub fn are_mapped_alike(a: IriRef<'_>, b: IriRef<'_>, alloc: Global) -> Result<bool, Memory>
+pub fn mappings_are_equal(a: IriRef<'_>, b: IriRef<'_>, alloc: Global) -> Result<bool, Memory>
     ensures { IfOk result (λ equal. equal
         ≡ are_alike (reference_value a.entry) (reference_value b.entry)) }
 {
     Ok(a.to_uri_ref(alloc)? == b.to_uri_ref(alloc)?)
 }
 
-/// Maps owned values, which are taken.
-pub fn are_owners_mapped_alike(a: IriRefBuf, b: IriRefBuf) -> Result<bool, Memory>
+/// Whether the mappings of two owned values are equal: the values are taken.
+pub fn owned_mappings_are_equal(a: IriRefBuf, b: IriRefBuf) -> Result<bool, Memory>
     ensures { IfOk result (λ equal. equal
         ≡ are_alike (reference_buf_value a) (reference_buf_value b)) }
 {
