@@ -48,7 +48,8 @@ pub enum Edit<'a, C: CharSet> {
     Push(Segment<'a, C>),
     /// Follows the segments of a relative path; an absolute one replaces the path.
     JoinPath(Path<'a, C>),
-    /// Removes the last segment; a relative path that has none, or ends in `..`, gains a `..`.
+    /// Removes the last segment; a path that ends in `..`, or a relative one without segments,
+    /// gains a `..`.
     Pop,
     /// Removes all segments.
     Clear,

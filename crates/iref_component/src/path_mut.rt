@@ -149,7 +149,8 @@ impl<'a, C: CharSet, T: Target<PathPart, C>> PathMut<'a, C, T> {
         self.apply(step)
     }
 
-    /// Removes the last segment. A relative path that has none, or that ends in `..`, gains a `..`.
+    /// Removes the last segment. A path that ends in `..`, or a relative one without segments, gains
+    /// a `..`.
     /// `//a` becomes `/./`.
     pub fn pop(&mut self) -> Result<(), Memory>
         ensures { Edits step.popped self.old self.new result }

@@ -83,7 +83,8 @@ impl<C: CharSet> PathBuf<C> {
         self.as_path_mut().push(segment)
     }
 
-    /// Removes the last segment. A relative path that has none, or that ends in `..`, gains a `..`.
+    /// Removes the last segment. A path that ends in `..`, or a relative one without segments, gains
+    /// a `..`.
     /// `//a` becomes `/./`.
     pub fn pop(&mut self) -> Result<(), Memory>
         ensures { EditsOwner (step.popped alone) self.old self.new result }
