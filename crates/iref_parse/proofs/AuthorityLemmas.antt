@@ -1,14 +1,15 @@
 -- A host alone, and a host with a port, is an authority.
-use Rattle.std.proofs.Common.{◌≡◌, true, ◌&&◌, ◌||◌, [], ◌∷◌, ◌++◌, append_assoc, sym, ◌∙◌, ap, refl, cond}
-use Rattle.std.specs.Prelude.{Option, Some, None, ◌==◌}
+use Rattle.std.proofs.Common.{◌≡◌, true, ◌&&◌, ◌||◌, [], ◌∷◌, ◌++◌, ◌<◌, ◌≤◌, false, append_assoc, length, get_or, sym, ◌∙◌, ap, arith, refl, cond}
+use Rattle.std.specs.Prelude.{Option, Some, None, codes, ◌==◌}
+use mathlib.Core.Bool.{true≢false}
 use Rattle.std.specs.List.{list_all}
 use Rattle.std.specs.Char.{is_ascii_digit}
 use Rattle.std.proofs.lemmas.List.{append-nil}
 use Rattle.std.proofs.lemmas.Bool.{eqb-true, and_parts}
 use Rattle.iref_grammar.specs.Characters.{CharTests, AreAboveAscii}
 use Rattle.iref_grammar.specs.Rules.{Text}
-use Rattle.iref_grammar.specs.Grammar.{colon, left_bracket, right_bracket}
-use Rattle.iref_grammar.specs.Texts.{lacks, before, after, then_part}
+use Rattle.iref_grammar.specs.Grammar.{colon, slash, left_bracket, right_bracket}
+use Rattle.iref_grammar.specs.Texts.{begins_with, lacks, before, after, then_part}
 use Rattle.iref_grammar.specs.Tests.{is_host, is_port, is_ip_literal, is_ip_address, is_ipvfuture, is_reg_name, in_brackets, ends_here, some_and, none_or}
 use Rattle.iref_grammar.specs.Authority.{AuthorityValue, spell_authority, read_authority, has_authority_parts, is_authority}
 use Rattle.iref_grammar.proofs.CutLemmas.{cut, before-part, after-part}
@@ -61,3 +62,11 @@ address_authority text rest inside end e f g h k set above =
     let spelled : left_bracket ∷ rest ≡ in_its_brackets inside ++ end =
     ap (λ t. left_bracket ∷ t) (sym (cut right_bracket rest) ∙ (λ i. sym f i ++ then_part (right_bracket ∷ []) (sym g i)) ∙ sym (append_assoc inside (right_bracket ∷ []) end)) in
     ap (is_authority set) (e ∙ spelled) ∙ port_after set above (in_its_brackets inside) end host k
+
+-- the second byte of what begins with `//`
+pub second_slash : (text : Text) → begins_with (codes "//") text ≡ true → (2 ≤ length text) × (get_or text 1 0 < 128)
+second_slash [] h = absurd (true≢false (sym h))
+second_slash (a ∷ []) h = absurd (true≢false (sym ((and_parts (slash == a) false h).1)))
+second_slash (a ∷ b ∷ rest) h =
+    let second : b ≡ slash = sym (eqb-true slash b ((and_parts (slash == b) true ((and_parts (slash == a) _ h).1)).0)) in
+    (omega arith, omega (arith, second))

@@ -2,11 +2,12 @@
 use Rattle.std.proofs.Common.{◌≡◌, ◌≢◌, ℕ, ◌+◌, ◌-◌, ◌<◌, ◌≤◌, List, [], ◌∷◌, Bool, true, false, cond, eqb, ◌||◌, length, get_or, not, replicate, bit_or, refl, sym, ap, subst, ◌∙◌, arith, ⊎_elim, inl, inr}
 use Rattle.std.specs.Prelude.{◌==◌}
 use Rattle.std.specs.Str.{IsCharBoundary, IsUtf8}
-use Rattle.std.specs.List.{position_or_len}
+use Rattle.std.specs.List.{list_all, position_or_len}
 use Rattle.std.specs.Char.{char_set_contains}
-use Rattle.std.proofs.lemmas.Bool.{cases_lt, eq-eqb, or_right}
+use Rattle.std.proofs.lemmas.Bool.{cases_lt, eq-eqb, eqb-true, or_right}
 use Rattle.std.proofs.lemmas.Bool.Decides.{eqb_tells}
-use Rattle.std.proofs.lemmas.List.Sums.{position_or_len_is, passes_at_first, prefix_len-le-length}
+use Rattle.std.proofs.lemmas.List.Elements.{All-from_get_or}
+use Rattle.std.proofs.lemmas.List.Sums.{AllPass-from_list_all, list_all-from_AllPass, position_or_len_is, passes_at_first, prefix_len-le-length}
 use Rattle.std.proofs.lemmas.Str.{IsCharBoundary-end, IsCharBoundary-before_ascii, IsUtf8-drop}
 use mathlib.Core.Bool.{true≢false}
 use Rattle.std.proofs.lemmas.Simd.{get_or-replicate}
@@ -24,6 +25,19 @@ module _ (mark : ℕ → ℕ) (n at : ℕ) (old : IsClearFront mark n at) where
   pub IsClearFront-last : 16 ≤ n → n ≤ at + 16 → IsClearFront mark n (n - 16)
   IsClearFront-last long near = record { within = omega arith; each = λ k l. old.each k (omega arith) }
 
+  -- 16 more of which none is marked
+  pub IsClearFront-step : (v : List ℕ) → at + 16 ≤ n → HasLanes v (λ k. mark (at + k)) → list_all (λ x. eqb x 0) v ≡ true → IsClearFront mark n (at + 16)
+  IsClearFront-step v room marks clear =
+      let long = marks.long in
+      record {
+        within = room;
+        each = λ k l. ⊎_elim (λ below. old.each k below)
+            (λ from.
+            let here : k ≡ at + (k - at) = omega arith in
+            ap mark here ∙ sym (marks.each (k - at) (omega arith)) ∙ eqb-true _ 0 (AllPass-from_list_all (λ x. eqb x 0) v clear (k - at) 0 (omega arith)))
+            (cases_lt k at);
+      }
+
   module _ (v : List ℕ) (r : ℕ) (room : at + 16 ≤ n) (marks : HasLanes v (λ k. mark (at + k))) (first : DifferFirstAt v (replicate 16 0) 16 r) where
     pub IsClearFront-more : IsClearFront mark n (at + r)
     IsClearFront-more =
@@ -36,6 +50,17 @@ module _ (mark : ℕ → ℕ) (n at : ℕ) (old : IsClearFront mark n at) where
               ap mark here ∙ sym (marks.each (k - at) (omega arith)) ∙ first.same (k - at) (omega arith) ∙ get_or-replicate 16 (k - at) 0 0 (omega arith))
               (cases_lt k at);
         }
+
+    -- one of the 16 is marked
+    pub IsClearFront-met : list_all (λ x. eqb x 0) v ≡ false → r < 16
+    IsClearFront-met other =
+        let within = first.within in
+        let long = marks.long in
+        ⊎_elim (λ below. below)
+        (λ past.
+        let clear = list_all-from_AllPass (λ x. eqb x 0) v (All-from_get_or (λ x. eqb x 0 ≡ true) v 0 (λ k l. eq-eqb _ 0 (first.same k (omega arith) ∙ get_or-replicate 16 k 0 0 (omega arith)))) in
+        absurd (true≢false (sym clear ∙ other)))
+        (cases_lt r 16)
 
     pub IsClearFront-ends : r < 16 → mark (at + r) ≢ 0
     IsClearFront-ends l e = first.other l (marks.each r l ∙ e ∙ sym (get_or-replicate 16 r 0 0 l))

@@ -3,7 +3,7 @@ ghost use Rattle.std.specs.Prelude.{◌≡◌, ◌+◌, ◌≤◌, [], ◌∷◌
 ghost use Rattle.std.specs.{List.{position_or_len}, Char.{char_set_contains}};
 ghost use Rattle.iref_parse.specs.Lanes.{HasLanes};
 
-use crate::lanes::{common_lanes, either, equal_to, load};
+use crate::lanes::{common_lanes, either, equal_to, is_clear, load};
 use std::simd::prelude::*;
 
 /// The position of the first byte that is one of two, or the length of the text. It is found byte
@@ -40,15 +40,15 @@ pub(crate) fn position_of_either(bytes: &[u8], first: u8, second: u8) -> usize
     if len < 16 {
         return position_near(bytes, first, second);
     }
+    let last = len - 16;
     let mut at = 0;
-    while 16 < len - at {
-        let clear = common_lanes(marks(bytes, at, first, second), u8x16::splat(0));
-        if clear < 16 {
-            return at + clear;
+    while at < last {
+        let found = marks(bytes, at, first, second);
+        if !is_clear(found) {
+            return at + common_lanes(found, u8x16::splat(0));
         }
         at += 16;
     }
-    let last = len - 16;
     last + common_lanes(marks(bytes, last, first, second), u8x16::splat(0))
 }
 

@@ -1,6 +1,6 @@
 //! The one split of a reference into its components (RFC 3986 section 4.1 and appendix B).
 
-ghost use Rattle.std.specs.Prelude.{◌≡◌, ◌<◌, ◌↔◌, [], ◌∷◌, IfSome, is_some, true};
+ghost use Rattle.std.specs.Prelude.{◌≡◌, ◌<◌, ◌↔◌, [], ◌∷◌, IfSome, codes, is_some, true};
 ghost use Rattle.std.specs.{Option.{option_copied}, List.{list_all}};
 ghost use Rattle.iref_grammar.specs.Reference as spec;
 ghost use Rattle.iref_grammar.specs.{hash_sign, question_mark, before, after};
@@ -8,6 +8,7 @@ ghost use Rattle.iref_grammar.specs.{hierarchy, read_reference, is_reference, sp
 ghost use Rattle.iref_grammar.specs.{AreComponents, none_or};
 ghost use Rattle.iref_grammar.specs.Authority as authority;
 ghost use Rattle.iref_grammar.specs.Tests as test;
+ghost use Rattle.iref_grammar.specs.Texts.{begins_with};
 ghost use Rattle.iref_parse.specs.Plain.{ArePlain, is_plain_byte, is_plain_of_authorities};
 ghost use Rattle.iref_parse.specs.{ReferenceSlices.{texts_of, value_of}, Splits.{SplitsBefore}};
 
@@ -67,18 +68,26 @@ fn split_scheme(text: &str) -> (Option<&str>, &str)
     }
 }
 
+// Whether the text begins with `//`.
+#[inline(always)]
+fn begins_with_slashes(text: &str) -> bool
+    ensures { result ≡ begins_with (codes "//") text.now }
+{
+    let bytes = text.as_bytes();
+    bytes.len() >= 2 && bytes[0] == b'/' && bytes[1] == b'/'
+}
+
 // The authority between `//` and the next `/`, and the path.
 #[inline(always)]
 fn split_authority(text: &str) -> (Option<&str>, &str)
     ensures authority { option_copied result.0 ≡ (spec.split_authority text.now).0 }
     ensures path { result.1.now ≡ (spec.split_authority text.now).1 }
 {
-    match text.strip_prefix("//") {
-        Some(rest) => {
-            let (authority, path) = split_before(rest, '/');
-            (Some(authority), path)
-        }
-        None => (None, text),
+    if begins_with_slashes(text) {
+        let (authority, path) = split_before(&text[2..], '/');
+        (Some(authority), path)
+    } else {
+        (None, text)
     }
 }
 
