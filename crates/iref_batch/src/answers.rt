@@ -142,8 +142,8 @@ fn put_answer_to_normal(text: &[u8], out: &mut Vec<u8>) -> Result<(), Memory>
     let Ok(path) = Path::from_bytes(text) else {
         return put_text(b"error invalid", out);
     };
-    let normal = path.normalized(*out.allocator())?;
-    put_answered(normal.as_bytes(), out)
+    put_text(b"ok\t", out)?;
+    path.append_normalized_to(out)
 }
 
 // The answer that texts are equal, or that they are not.

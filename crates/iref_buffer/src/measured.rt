@@ -55,6 +55,7 @@ fn context_after(scheme: Option<&str>, authority: Option<&str>) -> PathContext
 
 // Writes two texts so that they end at `end`, and returns where they begin.
 #[tactic(auto, using(iref_path_text::proofs::WrittenLemmas::both_written))]
+#[inline(always)]
 fn write_pair(buffer: &mut [u8], end: usize, pair: (&str, &str)) -> usize
     requires room { length (pair.0.now ++ pair.1.now) ≤ end }
     requires within { end ≤ length buffer.old }
@@ -62,6 +63,9 @@ fn write_pair(buffer: &mut [u8], end: usize, pair: (&str, &str)) -> usize
         buffer.old buffer.new result }
 {
     let (front, back) = pair;
+    if front.is_empty() && back.is_empty() {
+        return end;
+    }
     let start = write_before(buffer, end, back);
     write_before(buffer, start, front)
 }

@@ -23,7 +23,7 @@ use iref_grammar::chars::CharSet;
 use iref_grammar::context::PathContext;
 use iref_path_text::path_text::{directory_text, parent_text};
 use iref_path_text::segments::split_root;
-use iref_path_text::spell::normalized_text;
+use iref_path_text::spell::{append_normalized, normalized_text};
 use iref_path_text::suffix::suffix_text;
 use std::alloc::Global;
 use std::hash::Hash;
@@ -76,6 +76,12 @@ impl<S: Storage, C: CharSet> RuleText<S, PathRule, C> {
         let alone = PathContext::default();
         let text = normalized_text::<C>(alloc, alone, self.is_absolute(), path)?;
         Ok(PathBuf::new_unchecked(text))
+    }
+
+    /// Appends the normalized path.
+    pub fn append_normalized_to(&self, out: &mut Vec<u8>) -> Result<(), Memory>
+    {
+        append_normalized(PathContext::default(), self.as_borrowed().as_str(), out)
     }
 
     /// What is left of the path after a prefix, as a relative path: of `/foo/bar` after `/foo` it

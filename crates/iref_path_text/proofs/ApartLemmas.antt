@@ -1,7 +1,6 @@
 -- The steps from one text of segments to another: what both begin with does not count.
-use Rattle.std.proofs.Common.{◌≡◌, ℕ, zero, suc, ◌+◌, ◌-◌, ◌*◌, ◌<◌, Bool, true, false, cond, List, [], ◌∷◌, ◌++◌, Option, length, drop, refl, sym, ◌∙◌, ap, arith, append_assoc, length-append}
-use Rattle.std.specs.Prelude.{◌==◌, ◌≢◌, Some, None, codes, count_by, replicate}
-use Rattle.std.specs.Borrow.{Bor}
+use Rattle.std.proofs.Common.{◌≡◌, ℕ, zero, suc, ◌+◌, ◌-◌, ◌*◌, ◌<◌, true, false, cond, List, [], ◌∷◌, ◌++◌, length, drop, refl, sym, ◌∙◌, ap, arith, append_assoc, length-append}
+use Rattle.std.specs.Prelude.{◌==◌, codes, count_by, replicate}
 use Rattle.std.specs.List.{common_prefix_len, join_with_byte}
 use Rattle.std.proofs.lemmas.List.Splits.{length-slice_split}
 use Rattle.iref_grammar.specs.Rules.{Text}
@@ -13,8 +12,6 @@ use Rattle.iref_model.specs.Relative.{last_or_empty, steps_between}
 use Rattle.iref_model.proofs.LeadingLemmas.{divided_last}
 use Rattle.iref_model.proofs.PieceLemmas.{some_piece}
 use Rattle.iref_path_text.specs.Bodies.{parents_then}
-use Rattle.iref_path_text.specs.Pieces.{pieces_if_some}
-use Rattle.iref_path_text.specs.Remaining.{first_or}
 use Rattle.iref_path_text.specs.Spelling.{each_closed}
 use Rattle.iref_path_text.specs.Ways.{text_steps}
 use Rattle.iref_path_text.proofs.SpellLemmas.{length-joined, size-parents}

@@ -31,3 +31,4 @@ pub mod Stacks
 pub mod Listed
 pub mod Rewriting
 pub mod Written
+pub mod Slashes

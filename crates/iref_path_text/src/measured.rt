@@ -7,17 +7,15 @@ ghost use Rattle.iref_parse.specs.Dots.{has_dot_segment};
 ghost use Rattle.iref_path_text.specs.Bodies.{after_front, parents_then};
 ghost use Rattle.iref_path_text.specs.Merged.{merged_list, merged_path, path_after};
 ghost use Rattle.iref_path_text.specs.MeasuredPaths.{IsMeasured, measured_text};
-ghost use Rattle.iref_path_text.specs.{Pieces.{pieces_if_some}, Remaining.{IsSound, normal_left}};
-ghost use Rattle.iref_path_text.specs.{Spelling.{each_closed}, Ways.{IsWaySound, path_between}};
+ghost use Rattle.iref_path_text.specs.{Pieces.{pieces_if_some}, Spelling.{each_closed, normal_in}};
+ghost use Rattle.iref_path_text.specs.Ways.{IsWaySound, path_between};
 ghost use Rattle.iref_path_text.specs.{Ways.{way_left}, Written.{WritesBefore}};
-ghost use Rattle.std.specs.Prelude.{◌||◌, ◌&&◌, ◌≡◌, ◌+◌, ◌*◌, ◌<◌, ◌≤◌, ◌^◌, ◌++◌, IfOk};
+ghost use Rattle.std.specs.Prelude.{◌||◌, ◌&&◌, ◌≡◌, ◌+◌, ◌*◌, ◌<◌, ◌≤◌, ◌^◌, ◌++◌, IfOk, OnErr, OnOk};
 ghost use Rattle.std.specs.{Prelude.{Some, codes, false, length, replicate, true}};
-ghost use Rattle.std.specs.{List.{join_with_byte}};
 ghost use Rattle.std.specs.String.{string_bytes};
 
 use crate::apart::{behind_roots, first_step, steps_apart};
 use crate::body::Body;
-use crate::remaining::Remaining;
 use crate::remaining::merged::Merged;
 use crate::remaining::way::Way;
 use crate::segments::{first_segment, split_root, without_last};
@@ -26,7 +24,7 @@ use iref_error::Memory;
 use iref_grammar::chars::CharSet;
 use iref_grammar::context::PathContext;
 use iref_parse::dots::has_dots;
-use std::alloc::Global;
+use std::alloc::{AllocError, Global};
 
 // Nothing stands before the path.
 const ALONE: PathContext = PathContext {
@@ -61,6 +59,20 @@ fn have_dots(front: Option<&str>, back: &str) -> bool
     }
 }
 
+// Writes what stands first, mostly the root alone, as `write_before` does.
+#[inline(always)]
+fn write_lead(buffer: &mut [u8], end: usize, lead: &str) -> usize
+    requires room { length lead.now ≤ end }
+    requires within { end ≤ length buffer.old }
+    ensures { WritesBefore end lead.now buffer.old buffer.new result }
+{
+    if lead == "/" {
+        write_before(buffer, end, "/")
+    } else {
+        write_before(buffer, end, lead)
+    }
+}
+
 impl<'a> MeasuredPath<'a> {
     /// The text as it stands.
     pub fn kept(path: &'a str) -> Self
@@ -74,16 +86,27 @@ impl<'a> MeasuredPath<'a> {
     }
 
     /// The text of the normalized path in its context.
+    #[inline(always)]
     pub fn normalized(context: PathContext, path: &'a str) -> Self
         ensures text { measured_text result ≡ spell_path (normalized context (read_path path.now)) }
         ensures measured { IsMeasured result }
     {
-        let (absolute, segments) = split_root(path);
+        MeasuredPath::normalized_in(context, split_root(path).0, path)
+    }
+
+    /// The text of the normalized path in its context, with a flag of its own.
+    #[inline(always)]
+    pub(crate) fn normalized_in(context: PathContext, absolute: bool, path: &'a str) -> Self
+        ensures text { measured_text result ≡ spell_path (normal_in context absolute path.now) }
+        ensures measured { IsMeasured result }
+    {
+        let segments = split_root(path).1;
         MeasuredPath::of_segments(context, absolute, None, segments)
     }
 
     /// The text of the normalized path of a reference in the context of its base, to whose
     /// directory a relative path is added (RFC 3986 section 5.2.3).
+    #[inline(always)]
     pub fn normalized_after(context: PathContext, base: &'a str, path: &'a str) -> Self
         requires { length base.now + length path.now + 6 < 2 ^ 64 }
         ensures text { measured_text result ≡ spell_path (normalized context
@@ -120,6 +143,7 @@ impl<'a> MeasuredPath<'a> {
     }
 
     // The text of these segments, which are read from the back.
+    #[inline(always)]
     fn read_back(
         context: PathContext,
         absolute: bool,
@@ -131,11 +155,9 @@ impl<'a> MeasuredPath<'a> {
             ≡ spell_path (normalized context (merged_path absolute front.entry back.entry)) }
         ensures measured { IsMeasured result }
     {
-        let (items, _count) = Merged::new(absolute, front, back);
-        let items = Way::all(items);
-        let (size, first) = measure(items);
-        let lead = lead_in(context, absolute, size, first);
-        let body = Body::Items(items, size);
+        let all = Merged::new(absolute, front, back);
+        let lead = lead_in(context, absolute, all.size, all.first);
+        let body = Body::Items(Way::all(all.items), all.size);
         MeasuredPath { lead, body }
     }
 
@@ -150,21 +172,6 @@ impl<'a> MeasuredPath<'a> {
         let first = first_segment(front.unwrap_or(back)).0;
         let body = Body::Kept(front, back);
         let lead = lead_in(context, absolute, body.len(), first);
-        MeasuredPath { lead, body }
-    }
-
-    /// What stands first, and these items, whose size is known.
-    #[tactic(auto, unfolding(crate::specs::MeasuredPaths::measured_text))]
-    pub(crate) fn of_items(lead: &'a str, items: Remaining<'a>, size: usize) -> Self
-        requires sound { IsSound items }
-        requires size { size ≡ length (each_closed (normal_left items)) }
-        requires countable { length lead.now + size < 2 ^ 64 }
-        ensures text { measured_text result
-            ≡ lead.now ++ join_with_byte slash (normal_left items.entry) }
-        ensures measured { IsMeasured result }
-    {
-        let items = Way::all(Merged::behind(items));
-        let body = Body::Items(items, size);
         MeasuredPath { lead, body }
     }
 
@@ -237,6 +244,21 @@ impl<'a> MeasuredPath<'a> {
         Ok(text)
     }
 
+    /// Appends the text to a vector. The room is taken once, and each byte is written once.
+    #[inline(always)]
+    pub(crate) fn append_to(self, out: &mut Vec<u8>) -> Result<(), Memory>
+        requires { IsMeasured self }
+        ensures ok { OnOk result (out.new.items ≡ out.old.items ++ measured_text self.entry) }
+        ensures err { OnErr result (out.new.items ≡ out.old.items) }
+    {
+        let start = out.len();
+        let len = self.len();
+        let end = start.checked_add(len).ok_or(AllocError)?;
+        out.resize(end, 0)?;
+        self.write_before(&mut out[start..], len);
+        Ok(())
+    }
+
     // The bytes of the text.
     pub(crate) fn bytes(self, alloc: Global) -> Result<Vec<u8>, Memory>
         requires { IsMeasured self }
@@ -256,6 +278,6 @@ impl<'a> MeasuredPath<'a> {
         ensures { WritesBefore end (measured_text self.entry) buffer.old buffer.new result }
     {
         let start = self.body.write_before(buffer, end);
-        write_before(buffer, start, self.lead)
+        write_lead(buffer, start, self.lead)
     }
 }

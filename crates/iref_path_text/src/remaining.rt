@@ -13,8 +13,6 @@ ghost use Rattle.iref_model.specs.NormalList as list;
 
 pub mod listed;
 pub mod merged;
-pub mod slots;
-pub mod stack;
 pub mod way;
 
 use crate::names::{is_name, name_stays};
@@ -77,8 +75,8 @@ impl<'a> Remaining<'a> {
         ensures sound { IsSound result.0 }
     {
         let (absolute, segments) = split_root(path);
-        let (items, count) = Merged::new(absolute, None, segments);
-        (items.back, count)
+        let all = Merged::new(absolute, None, segments);
+        (all.items.back, all.count)
     }
 
     // The items of a list, of which none has been given.

@@ -13,8 +13,7 @@ ghost use Rattle.iref_edit.specs.Changes.{part_at};
 
 use crate::names::bytes_stay;
 use crate::remaining::leading_parents;
-use crate::remaining::slots::NoSlots;
-use crate::remaining::stack::Stack;
+use crate::remaining::merged::Merged;
 use crate::segments::split_root;
 use crate::spell::{lead_in, write_before, write_parents};
 use iref_edit::bytes::replace;
@@ -201,8 +200,7 @@ pub fn normal_lead(context: PathContext, path: &str) -> (&'static str, usize)
     ensures len { result.1 ≡ length (rewritten result.0.now path.now) }
 {
     let (absolute, segments) = split_root(path);
-    let mut stack = Stack::new(NoSlots::new());
-    stack.read(absolute, segments);
-    let lead = lead_in(context, absolute, stack.size, stack.first);
-    (lead, lead.len() + stack.size.saturating_sub(1))
+    let all = Merged::new(absolute, None, segments);
+    let lead = lead_in(context, absolute, all.size, all.first);
+    (lead, lead.len() + all.size.saturating_sub(1))
 }

@@ -1,10 +1,13 @@
 //! The segments of a text, taken from either end.
 
-ghost use Rattle.std.specs.Prelude.{◌≡◌, ◌+◌, ◌<◌, ◌≤◌, ◌++◌, ◌∷◌, ◌==◌, [], length, count_by};
-ghost use Rattle.std.specs.Prelude.{true, false};
+ghost use Rattle.std.specs.Prelude.{◌≡◌, ◌+◌, ◌<◌, ◌≤◌, ◌^◌, ◌++◌, ◌∷◌, ◌==◌, [], length};
+ghost use Rattle.std.specs.Prelude.{true, false, MatchOption, count_by, drop, take};
 ghost use Rattle.iref_grammar.specs.{slash, pieces_at, segments_of, read_path};
 ghost use Rattle.iref_grammar.specs.Texts.{all_but_last};
 ghost use Rattle.iref_path_text.specs.Pieces.{pieces_if_some};
+ghost use Rattle.iref_path_text.specs.Slashes.{IsLastSlash, LacksSlashFrom, slash_mask};
+
+use std::simd::prelude::*;
 
 /// The first segment, and the text of the others.
 pub fn first_segment(text: &str) -> (&str, Option<&str>)
@@ -16,12 +19,56 @@ pub fn first_segment(text: &str) -> (&str, Option<&str>)
     }
 }
 
+// A bit for each of the 16 bytes from an index on that is a `/`.
+#[inline(always)]
+fn slashes(bytes: &[u8], at: usize) -> u64
+    requires { at + 16 ≤ length bytes.now }
+    ensures { result ≡ slash_mask (take 16 (drop at bytes.now)) }
+{
+    u8x16::from_slice(&bytes[at..])
+        .simd_eq(u8x16::splat(b'/'))
+        .to_bitmask()
+}
+
+// The place of the highest bit.
+#[inline(always)]
+fn highest_bit(bits: u64) -> usize
+    requires { 0 < bits }
+    ensures above { 2 ^ result ≤ bits }
+    ensures below { bits < 2 ^ (result + 1) }
+{
+    63 - bits.leading_zeros() as usize
+}
+
+// Where the last `/` is.
+#[inline(always)]
+fn last_slash(bytes: &[u8]) -> Option<usize>
+    ensures { MatchOption result (LacksSlashFrom bytes.now 0) (IsLastSlash bytes.now) }
+{
+    let mut end = bytes.len();
+    while 16 <= end {
+        let bits = slashes(bytes, end - 16);
+        if bits != 0 {
+            return Some(end - 16 + highest_bit(bits));
+        }
+        end -= 16;
+    }
+    while 0 < end {
+        end -= 1;
+        if bytes[end] == b'/' {
+            return Some(end);
+        }
+    }
+    None
+}
+
 /// The text of the segments before the last one, and the last one.
+#[inline(always)]
 pub fn last_segment(text: &str) -> (Option<&str>, &str)
     ensures { pieces_at slash text.now ≡ pieces_if_some result.0 ++ result.1.now ∷ [] }
 {
-    match text.rsplit_once('/') {
-        Some((rest, segment)) => (Some(rest), segment),
+    match last_slash(text.as_bytes()) {
+        Some(at) => (Some(&text[..at]), &text[at + 1..]),
         None => (None, text),
     }
 }

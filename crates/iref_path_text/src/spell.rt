@@ -2,30 +2,22 @@
 //! 5.2.4).
 
 ghost use Rattle.std.specs.Prelude.{◌≡◌, ◌+◌, ◌-◌, ◌<◌, ◌≤◌, ◌^◌, ◌||◌, ◌&&◌, ◌==◌, ◌++◌};
-ghost use Rattle.std.specs.{Prelude.{true, false, [], codes, length, replicate, IfOk}};
+ghost use Rattle.std.specs.Prelude.{true, [], codes, length, replicate, IfOk, OnErr, OnOk};
 ghost use Rattle.std.specs.{List.{join_with_byte}};
 ghost use Rattle.std.specs.{List.{list_any}, String.{string_bytes}};
 ghost use Rattle.iref_grammar.specs.{is_path_in, colon, slash, read_path, spell_path, is_path};
-ghost use Rattle.iref_grammar.specs.Texts.{pieces_at};
 ghost use Rattle.iref_model.specs.PathSteps.{normalized};
-ghost use Rattle.iref_parse.specs.Dots.{has_dot_segment};
 ghost use Rattle.iref_path_text.specs.{PathParts.{is_path_after}, Remaining.{first_or}};
-ghost use Rattle.iref_path_text.specs.{Spelling.{each_closed, normal_in}, Stacks.{in_order}};
-ghost use Rattle.iref_path_text.specs.{Stacks.{stacked_text}, Ways.{IsWaySound, way_left}};
+ghost use Rattle.iref_path_text.specs.Spelling.{each_closed, normal_in};
+ghost use Rattle.iref_path_text.specs.Ways.{IsWaySound, way_left};
 ghost use Rattle.iref_path_text.specs.Written.{WritesBefore};
 ghost use Rattle.iref_path_text.specs.Spelling as spelling;
 
 use crate::measured::MeasuredPath;
-use crate::remaining::slots::Slots;
-use crate::remaining::stack::Stack;
 use crate::remaining::way::Way;
-use crate::segments::{first_segment, split_root};
-use arrayvec::ArrayVec;
 use iref_error::Memory;
 use iref_grammar::chars::CharSet;
 use iref_grammar::context::PathContext;
-use iref_parse::dots::has_dots;
-use smallvec::SmallVec;
 use std::alloc::Global;
 
 /// How many bytes the items have with a `/` after each, and the first of them, or nothing.
@@ -158,137 +150,6 @@ pub(crate) fn lead_in(
     )
 }
 
-// Writes items that are given the last first, each with a `/` after it, so that they end at `end`,
-// and returns where they begin.
-fn write_stacked_closed(items: &[&str], buffer: &mut [u8], end: usize) -> usize
-    requires room { length (each_closed (in_order items.now)) ≤ end }
-    requires within { end ≤ length buffer.old }
-    ensures { WritesBefore end (each_closed (in_order items.now)) buffer.old buffer.new result }
-{
-    let mut start = end;
-    for item in items {
-        start = write_before(buffer, start, "/");
-        start = write_before(buffer, start, item);
-    }
-    start
-}
-
-// Writes items that are given the last first, with `/` between, so that they end at `end`, and
-// returns where they begin.
-fn write_stacked(items: &[&str], buffer: &mut [u8], end: usize) -> usize
-    requires room { length (each_closed (in_order items.now)) ≤ end + 1 }
-    requires within { end ≤ length buffer.old }
-    ensures { WritesBefore end (join_with_byte slash (in_order items.now))
-        buffer.old buffer.new result }
-{
-    let Some((last, others)) = items.split_first() else {
-        return end;
-    };
-    let start = write_before(buffer, end, last);
-    write_stacked_closed(others, buffer, start)
-}
-
-// Writes what stands first, and items that are given the last first, so that they end at `end`,
-// and returns where they begin.
-fn write_stacked_text(lead: &str, items: &[&str], buffer: &mut [u8], end: usize) -> usize
-    requires room { length (stacked_text lead.now items.now) ≤ end }
-    requires within { end ≤ length buffer.old }
-    ensures { WritesBefore end (stacked_text lead.now items.now) buffer.old buffer.new result }
-{
-    let start = write_stacked(items, buffer, end);
-    write_before(buffer, start, lead)
-}
-
-// What stands first, and items that are given the last first, with `/` between. `size` is the
-// length of the items with a `/` after each.
-fn stacked_bytes(alloc: Global, lead: &str, items: &[&str], size: usize) -> Result<Vec<u8>, Memory>
-    requires size { size ≡ length (each_closed (in_order items.now)) }
-    requires countable { length lead.now + size < 2 ^ 64 }
-    ensures { IfOk result (λ bytes. bytes.items ≡ stacked_text lead.now items.now) }
-{
-    let len = lead.len() + size.saturating_sub(1);
-    let mut bytes = vec![in alloc; 0u8; len]?;
-    write_stacked_text(lead, items, &mut bytes, len);
-    Ok(bytes)
-}
-
-// The longest path, in bytes, whose list may take memory while it is read.
-const LONGEST_LISTED: usize = 16_384;
-
-// The bytes of the normalized path in its context, with a flag of its own. The segments are read
-// once where each item of the list finds room here, and else once more.
-fn normal_bytes_by<'a, P: Slots<&'a str> + Drop>(
-    slots: P,
-    alloc: Global,
-    context: PathContext,
-    absolute: bool,
-    path: &'a str,
-) -> Result<Vec<u8>, Memory>
-    requires { P.items slots ≡ [] }
-    ensures { IfOk result (λ bytes.
-        bytes.items ≡ spell_path (normal_in context absolute path.now)) }
-{
-    let segments = split_root(path).1;
-    let mut stack = Stack::new(slots);
-    let (left, _count) = stack.read(absolute, segments);
-    let lead = lead_in(context, absolute, stack.size, stack.first);
-    if stack.is_whole {
-        return stacked_bytes(alloc, lead, stack.items.as_slice(), stack.size);
-    }
-    MeasuredPath::of_items(lead, left, stack.size).bytes(alloc)
-}
-
-// The bytes of both texts. The room is taken once.
-fn both_bytes(alloc: Global, front: &str, back: &str) -> Result<Vec<u8>, Memory>
-    ensures { IfOk result (λ bytes. bytes.items ≡ front.now ++ back.now) }
-{
-    let mut bytes = Vec::with_capacity(alloc, front.len().saturating_add(back.len()))?;
-    bytes.extend_from_slice(front.as_bytes())?;
-    bytes.extend_from_slice(back.as_bytes())?;
-    Ok(bytes)
-}
-
-// The bytes of the normalized path of these segments in its context, where none begins with a dot:
-// they stay as they are.
-fn dotless_bytes(
-    alloc: Global,
-    context: PathContext,
-    absolute: bool,
-    segments: &str,
-) -> Result<Vec<u8>, Memory>
-    requires { has_dot_segment segments.now ≡ false }
-    ensures { IfOk result (λ bytes. bytes.items ≡ spell_path (normalized context (record {
-      absolute = absolute;
-      segments = pieces_at slash segments.now;
-    }))) }
-{
-    let first = first_segment(segments).0;
-    let lead = lead_in(context, absolute, segments.len(), first);
-    both_bytes(alloc, lead, segments)
-}
-
-// The bytes of the normalized path in its context, with a flag of its own. The list of a path that
-// is not too long may take memory, and does without where that is refused.
-fn normal_bytes(
-    alloc: Global,
-    context: PathContext,
-    absolute: bool,
-    path: &str,
-) -> Result<Vec<u8>, Memory>
-    ensures { IfOk result (λ bytes.
-        bytes.items ≡ spell_path (normal_in context absolute path.now)) }
-{
-    if let Some(segments) = split_root(path).1 {
-        if !has_dots(segments.as_bytes()) {
-            return dotless_bytes(alloc, context, absolute, segments);
-        }
-    }
-    if path.len() <= LONGEST_LISTED {
-        return normal_bytes_by(SmallVec::new(alloc), alloc, context, absolute, path);
-    }
-    normal_bytes_by(ArrayVec::new(), alloc, context, absolute, path)
-}
-
 /// The text of the normalized path in its context, with a flag of its own (RFC 3986 section 5.2.4):
 /// a text is read as absolute or relative, whatever it begins with, before its dots are removed.
 ///
@@ -308,8 +169,22 @@ pub fn normalized_text<C: CharSet>(
     ensures reads { IfOk result (λ text. is_path_in C.tests context (string_bytes text) ≡ true) }
     ensures after { IfOk result (λ text. is_path_after C.tests context (string_bytes text) ≡ true) }
 {
-    let bytes = normal_bytes(alloc, context, absolute, path)?;
+    let bytes = MeasuredPath::normalized_in(context, absolute, path).bytes(alloc)?;
     // What spells a path is text, so no byte is read again.
     let text = unsafe { String::from_utf8_unchecked(bytes) };
     Ok(text)
+}
+
+/// Appends the text of the normalized path in its context to a vector (RFC 3986 section 5.2.4).
+/// The room is taken once, and each byte is written once.
+pub fn append_normalized(
+    context: PathContext,
+    path: &str,
+    out: &mut Vec<u8>,
+) -> Result<(), Memory>
+    ensures ok { OnOk result (out.new.items
+        ≡ out.old.items ++ spell_path (normalized context (read_path path.now))) }
+    ensures err { OnErr result (out.new.items ≡ out.old.items) }
+{
+    MeasuredPath::normalized(context, path).append_to(out)
 }

@@ -6,8 +6,9 @@ ghost use Rattle.iref_path_text.specs.Merged.{IsBehind, IsMergeSound, merged_lef
 ghost use Rattle.iref_path_text.specs.Merged.{merged_names, merged_path, open_before_both};
 ghost use Rattle.iref_path_text.specs.{Merged.{to_read_of_both}, Pieces.{text_at}};
 ghost use Rattle.iref_path_text.specs.Remaining.{IsSound, KeepsEnds, first_or, normal_left};
+ghost use Rattle.iref_path_text.specs.Spelling.{each_closed};
 ghost use Rattle.std.specs.{Iterator.{YieldsLastBy}, Prelude.{◌≡◌, ◌+◌, ◌<◌, ◌≤◌, ◌^◌, [], length}};
-ghost use Rattle.std.specs.Prelude.{IfNone, IfSome, None};
+ghost use Rattle.std.specs.Prelude.{◌==◌, IfNone, IfSome, None, codes, if◌then◌else◌};
 ghost use Rattle.iref_model.specs.NormalList as list;
 
 use super::{Remaining, closing_count, ends_in_dots, is_one_empty, leading_parents};
@@ -20,27 +21,69 @@ pub struct Merged<'a> {
     pub(super) back: Remaining<'a>,
 }
 
-/// How many `..` stand first in a relative list, how many names stay, and the first of these, or
-/// nothing.
-pub(super) fn survey<'a>(front: Option<&'a str>, back: Option<&'a str>) -> (usize, usize, &'a str)
-    requires { length (merged_list front back) < 2 ^ 64 }
-    ensures parents { result.0 ≡ open_before (merged_list front.entry back.entry) 0 }
-    ensures names { result.1 ≡ length (staying_before (merged_list front.entry back.entry) 0) }
-    ensures first { result.2.now
+/// What one reading of the segments of a relative list finds.
+#[derive(Clone, Copy)]
+pub(super) struct FoundNames<'a> {
+    /// How many `..` stand first.
+    pub(super) parents: usize,
+    /// How many names stay.
+    pub(super) names: usize,
+    /// How many bytes these have with a `/` after each.
+    pub(super) size: usize,
+    /// The first of these, or nothing.
+    pub(super) first: &'a str,
+}
+
+/// All items of a list, and what was found of them.
+#[derive(Clone, Copy)]
+pub struct Surveyed<'a> {
+    /// The items.
+    pub items: Merged<'a>,
+    /// How many they are.
+    pub count: usize,
+    /// How many bytes they have with a `/` after each.
+    pub size: usize,
+    /// The first of them, or nothing.
+    pub first: &'a str,
+}
+
+/// Reads the segments once.
+#[inline(always)]
+pub(super) fn survey<'a>(front: Option<&'a str>, back: Option<&'a str>) -> FoundNames<'a>
+    requires { length (each_closed (merged_list front back)) < 2 ^ 64 }
+    ensures parents { result.parents ≡ open_before (merged_list front.entry back.entry) 0 }
+    ensures names { result.names ≡ length (staying_before (merged_list front.entry back.entry) 0) }
+    ensures size { result.size
+        ≡ length (each_closed (staying_before (merged_list front.entry back.entry) 0)) }
+    ensures first { result.first.now
         ≡ first_or [] (staying_before (merged_list front.entry back.entry) 0) }
-    ensures fewer { result.0 + result.1 ≤ length (merged_list front.entry back.entry) }
+    ensures fewer { result.parents + result.names ≤ length (merged_list front.entry back.entry) }
 {
     let mut left = Merged {
         front,
         back: Remaining::all(0, back, false),
     };
     let mut names: usize = 0;
+    let mut size: usize = 0;
     let mut first = "";
     while let Some(name) = left.next_back_name() {
         names += 1;
+        size += name.len() + 1;
         first = name;
     }
-    (left.back.open_parents, names, first)
+    FoundNames {
+        parents: left.back.open_parents,
+        names,
+        size,
+        first,
+    }
+}
+
+// The first of a number of `..` and of names that begin with this one.
+fn first_item(parents: usize, name: &str) -> &str
+    ensures { result.now ≡ (if parents == 0 then name.now else codes "..") }
+{
+    if parents == 0 { name } else { ".." }
 }
 
 /// Whether the last segment is `.` or `..`.
@@ -55,25 +98,43 @@ fn both_end_in_dots(front: Option<&str>, back: Option<&str>) -> bool
 }
 
 impl<'a> Merged<'a> {
-    /// All items of the path of these segments, and how many they are. Only a relative list keeps
-    /// the `..` that nothing cancels.
-    pub fn new(absolute: bool, front: Option<&'a str>, back: Option<&'a str>) -> (Self, usize)
-        requires { length (merged_list front back) + 1 < 2 ^ 64 }
-        ensures items { merged_left result.0
+    /// All items of the path of these segments. Only a relative list keeps the `..` that nothing
+    /// cancels.
+    #[inline(always)]
+    pub fn new(absolute: bool, front: Option<&'a str>, back: Option<&'a str>) -> Surveyed<'a>
+        requires { length (each_closed (merged_list front back)) + 1 < 2 ^ 64 }
+        ensures items { merged_left result.items
             ≡ normal_segments (merged_path absolute front.entry back.entry) }
-        ensures count { result.1 ≡ length (merged_left result.0) }
-        ensures behind { front.entry ≡ None → IsBehind result.0 }
-        ensures sound { IsMergeSound result.0 }
+        ensures count { result.count ≡ length (merged_left result.items) }
+        ensures size { result.size ≡ length (each_closed (merged_left result.items)) }
+        ensures first { result.first.now ≡ first_or [] (merged_left result.items) }
+        ensures behind { front.entry ≡ None → IsBehind result.items }
+        ensures sound { IsMergeSound result.items }
     {
-        let (open_parents, names, first) = survey(front, back);
-        let parents = leading_parents(absolute, open_parents);
+        let FoundNames {
+            parents,
+            names,
+            size,
+            first,
+        } = survey(front, back);
+        let parents = leading_parents(absolute, parents);
         let closes = both_end_in_dots(front, back);
         if is_one_empty(parents, names, first, closes) {
-            return (Merged::none(), 0);
+            return Surveyed {
+                items: Merged::none(),
+                count: 0,
+                size: 0,
+                first: "",
+            };
         }
+        let closing = closing_count(closes);
         let back = Remaining::all(parents, back, closes);
-        let count = parents + names + closing_count(closes);
-        (Merged { front, back }, count)
+        Surveyed {
+            items: Merged { front, back },
+            count: parents + names + closing,
+            size: 3 * parents + size + closing,
+            first: first_item(parents, first),
+        }
     }
 
     /// No items.

@@ -31,7 +31,7 @@ fn directory(path: &str) -> (Remaining<'_>, usize)
     ensures fewer { result.1 ≤ length path.now + 1 }
 {
     let rest = without_last(split_root(path).1);
-    let (_open_parents, names, _first) = survey(None, rest);
+    let names = survey(None, rest).names;
     (Remaining::all(0, rest, false), names)
 }
 

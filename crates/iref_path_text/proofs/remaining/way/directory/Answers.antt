@@ -6,14 +6,17 @@ use Rattle.iref_model.specs.Relative.{directory_names}
 use Rattle.iref_model.proofs.StayingLemmas.{staying_names-is}
 use Rattle.iref_path_text.specs.Pieces.{pieces_if_some}
 use Rattle.iref_path_text.specs.Remaining.{IsSound, normal_left}
+use Rattle.iref_path_text.specs.Spelling.{each_closed}
+use Rattle.iref_path_text.proofs.SpellLemmas.{last_size, read_size}
 use Rattle.iref_path_text.proofs.WayLemmas.{fewer_without_last}
 use Rattle.iref_path_text.proofs.remaining.way.directory.Goals as goal
 
-pub survey-open_parents-requires : goal.survey-open_parents-requires
-survey-open_parents-requires c =
-    let rest = ap length c.without_last-rest.ensures in
-    let fewer = fewer_without_last (pieces_if_some c.split_root.result.1) in
-    let all = c.split_root.ensures.fewer in
+pub survey-names-requires : goal.survey-names-requires
+survey-names-requires c =
+    let front = pieces_if_some c.split_root.result.1 in
+    let rest = ap (λ list. length (each_closed list)) c.without_last-rest.ensures in
+    let fewer = last_size front in
+    let all = read_size c.args.path.now _ c.split_root.ensures.path in
     omega (arith, rest, fewer, all)
 
 pub returns-clause-items : goal.returns-clause-items
@@ -35,5 +38,5 @@ returns-clause-fewer c =
     let rest = ap length c.without_last-rest.ensures in
     let fewer = fewer_without_last (pieces_if_some c.split_root.result.1) in
     let all = c.split_root.ensures.fewer in
-    let names = c.survey-open_parents.ensures.fewer in
+    let names = c.survey-names.ensures.fewer in
     omega (arith, rest, fewer, all, names)
