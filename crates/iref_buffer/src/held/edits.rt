@@ -32,13 +32,18 @@ impl<R: HeldRule, C: CharSet> Held<R, C> {
             result }
         ensures none { IsNone query.entry → IsOk result }
     {
-        let lengths = Lengths {
-            query: len_of(query),
-            ..self.lengths()
+        let within = self.query_range();
+        let (lead, middle) = marked("?", query);
+        let close = "";
+        let change = Change {
+            within,
+            lead,
+            middle,
+            close,
         };
-        let range = self.query_range();
-        let (mark, part) = marked("?", query);
-        self.step(lengths, range, mark, part, "")
+        text::replace(&mut self.text, change)?;
+        self.lengths.query = len_of(query);
+        Ok(())
     }
 
     /// Replaces, adds or removes the fragment; removing takes no memory.
@@ -48,13 +53,18 @@ impl<R: HeldRule, C: CharSet> Held<R, C> {
             result }
         ensures none { IsNone fragment.entry → IsOk result }
     {
-        let lengths = Lengths {
-            fragment: len_of(fragment),
-            ..self.lengths()
+        let within = self.fragment_range();
+        let (lead, middle) = marked("#", fragment);
+        let close = "";
+        let change = Change {
+            within,
+            lead,
+            middle,
+            close,
         };
-        let range = self.fragment_range();
-        let (mark, part) = marked("#", fragment);
-        self.step(lengths, range, mark, part, "")
+        text::replace(&mut self.text, change)?;
+        self.lengths.fragment = len_of(fragment);
+        Ok(())
     }
 
     /// Replaces the path, with a guard where it would be read as something else.
@@ -125,14 +135,12 @@ impl<R: HeldRule, C: CharSet> Held<R, C> {
         ensures err { OnErr result (self.new ≡ self.old) }
         ensures shorter { IsNoLonger change.entry → IsOk result }
     {
-        let old = self.lengths();
-        let lengths = Lengths {
-            path: change.len_after(old.path)?,
-            ..old
-        };
+        let len = change.len_after(self.lengths().path)?;
         let range = self.path_range();
-        let range = self.part_of(range, &change.within);
-        self.step(lengths, range, change.lead, change.middle, change.close)
+        let within = self.part_of(range, &change.within);
+        text::replace(&mut self.text, Change { within, ..change })?;
+        self.lengths.path = len;
+        Ok(())
     }
 
     // Replaces a range of the text by three texts, which leaves components of these lengths.
