@@ -1,5 +1,5 @@
 -- The offsets of a reference follow from the lengths of its components.
-use Rattle.std.proofs.Common.{◌≡◌, ℕ, ◌+◌, ◌-◌, [], ◌∷◌, ◌++◌, length, refl, sym, ◌∙◌, ap, arith}
+use Rattle.std.proofs.Common.{◌≡◌, ℕ, ◌+◌, [], ◌∷◌, ◌++◌, length, refl, sym, ◌∙◌, ap, arith}
 use Rattle.std.specs.Prelude.{codes, Option, Some, None, is_some, option_map}
 use Rattle.std.proofs.lemmas.List.{length-append}
 use Rattle.std.proofs.Math.Nat.{add-sub_cancel_left}
@@ -11,8 +11,12 @@ use Rattle.iref_grammar.specs.Authority.{AuthorityValue, spell_authority}
 use Rattle.iref_grammar.specs.PathValue.{spell_path}
 use Rattle.iref_grammar.specs.Reference.{ReferenceValue, context_of, spell, read_reference}
 use Rattle.iref_grammar.specs.ComponentOffsets.{range_from, offsets_in, offsets_of, authority_mark, path_start, query_mark, fragment_mark}
+use Rattle.iref_grammar.proofs.ComponentLemmas.{spelled_as_read}
 use Rattle.iref_grammar.proofs.ReferenceCutLemmas.{read_reference-spelled}
-use Rattle.iref_buffer.specs.ComponentLengths.{range_len, range_with_len, with_mark, lengths_at, lengths_of, context_by, placed, total_length}
+use Rattle.iref_parse.specs.declared.split.ReferenceSlices.{ReferenceSlices}
+use Rattle.iref_parse.specs.ReferenceSlices.{texts_of, value_of}
+use Rattle.iref_buffer.specs.declared.lengths.Lengths.{Lengths}
+use Rattle.iref_buffer.specs.ComponentLengths.{range_len, range_with_len, with_mark, lengths_at, lengths_of, lengths_of_texts, context_by, path_after, query_after, fragment_after, placed, total_length}
 
 -- a range holds what was put there
 range_holds : (start : ℕ) (o : Option Text) → option_map range_len (option_map (range_from start) o) ≡ option_map length o
@@ -29,9 +33,31 @@ lengths-offsets_in r = λ i. record {
   fragment = range_holds (fragment_mark r + 1) r.fragment i;
 }
 
-pub lengths-offsets_of : (text : Text) → lengths_at (offsets_of text) ≡ lengths_of (read_reference text)
+lengths-offsets_of : (text : Text) → lengths_at (offsets_of text) ≡ lengths_of (read_reference text)
 unfolding offsets_of
 lengths-offsets_of text = lengths-offsets_in (read_reference text)
+
+-- components of these lengths are this long where they stand
+length_holds : (start : ℕ) (o : Option ℕ) → option_map range_len (option_map (range_with_len start) o) ≡ o
+length_holds start None = refl
+length_holds start (Some n) = ap Some (add-sub_cancel_left start n)
+
+lengths-placed : (l : Lengths) → lengths_at (placed l) ≡ l
+lengths-placed l = λ i. record {
+  scheme = length_holds 0 l.scheme i;
+  authority = length_holds (with_mark 1 l.scheme + 2) l.authority i;
+  path = add-sub_cancel_left (path_after l) l.path i;
+  query = length_holds (query_after l + 1) l.query i;
+  fragment = length_holds (fragment_after l + 1) l.fragment i;
+}
+
+-- so lengths of which the offsets are those of a text are the lengths of its components
+pub lengths_by_offsets : (l : Lengths) (text : Text) → placed l ≡ offsets_of text → l ≡ lengths_of (read_reference text)
+lengths_by_offsets l text e = sym (lengths-placed l) ∙ ap lengths_at e ∙ lengths-offsets_of text
+
+-- the lengths of the texts of a reference are those of its components
+pub lengths-slices : (s : ReferenceSlices) (r : ReferenceValue) → value_of s ≡ r → lengths_of_texts (texts_of s) ≡ lengths_of r
+lengths-slices s r e = ap lengths_of_texts (spelled_as_read (texts_of s) r e)
 
 -- a part with its delimiter
 pub first_len : (o : Option Text) → with_mark 1 (option_map length o) ≡ length (part_then (colon ∷ []) o)

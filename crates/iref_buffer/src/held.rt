@@ -1,4 +1,4 @@
-//! A text in a rule of references, with the offsets of its components beside it.
+//! A text in a rule of references, with the lengths of its components beside it.
 ghost use Rattle.std.specs.{String.{string_bytes}, Prelude.{◌≡◌, ◌≤◌, Bool, true, [], ◌∷◌, Option}};
 ghost use Rattle.std.specs.{Prelude.{None, IfSome, is_some, option_map}, Option.{option_copied}};
 ghost use Rattle.iref_grammar.specs.{text_at, AreComponents, spell_components, is_readable};
@@ -22,7 +22,6 @@ use crate::lengths::Lengths;
 use iref_component::rule::Rule;
 use iref_grammar::chars::CharSet;
 use iref_grammar::offsets::Offsets;
-use iref_parse::offsets::offsets_of;
 use iref_parse::split::{ReferenceSlices, split_reference};
 use std::alloc::Global;
 use std::fmt;
@@ -58,13 +57,13 @@ pub trait HeldRule: Rule {
         → Self.test tests (spell (base_of (read_reference text))) ≡ true };
 }
 
-/// A text in a rule of references, with the offsets of its components beside it, in bytes: of
-/// `s:/a?q` the path is at 2 to 4. `new` returns a text that is outside the rule (RFC 3986 sections
-/// 3 and 4.1).
+/// A text in a rule of references, with the lengths of its components beside it, in bytes: of
+/// `s:/a?q` they are 1, none, 2, 1 and none. `new` returns a text that is outside the rule (RFC 3986
+/// sections 3 and 4.1).
 #[derive(Drop)]
 pub struct Held<R: HeldRule, C: CharSet> {
     text: String,
-    offsets: Offsets,
+    lengths: Lengths,
     rule: PhantomData<(R, C)>,
 }
 
@@ -74,11 +73,11 @@ impl<R: HeldRule, C: CharSet> Model for Held<R, C> {
     ghost view = { λ h. string_bytes h.text };
 
     ghost invariant = { λ h. (R.test C.tests (string_bytes h.text) ≡ true)
-        × (h.offsets ≡ offsets_of (string_bytes h.text)) };
+        × (h.lengths ≡ lengths_of (read_reference (string_bytes h.text))) };
 }
 
 impl<R: HeldRule, C: CharSet> Held<R, C> {
-    /// The text, if it is in the rule, with the offsets found in one scan, or the text.
+    /// The text, if it is in the rule, with the lengths found in one scan, or the text.
     pub fn new(text: String) -> Result<Self, String>
         ensures { Parses (InUtf8 (R.rule C.tests)) (string_bytes text)
             (λ held. held) (λ input. input ≡ text) result }
@@ -86,25 +85,25 @@ impl<R: HeldRule, C: CharSet> Held<R, C> {
         let Some(slices) = R::parse::<C>(text.as_str()) else {
             return Err(text);
         };
-        let offsets = offsets_of(slices);
+        let lengths = Lengths::of(slices);
         let rule = PhantomData;
         Ok(Held {
             text,
-            offsets,
+            lengths,
             rule,
         })
     }
 
-    /// The text, which is known to be in the rule, with the offsets found in one scan.
+    /// The text, which is known to be in the rule, with the lengths found in one scan.
     pub fn new_unchecked(text: String) -> Self
         requires { R.test C.tests (string_bytes text) ≡ true }
         ensures { result ≡ string_bytes text }
     {
-        let offsets = offsets_of(split_reference(text.as_str()));
+        let lengths = Lengths::of(split_reference(text.as_str()));
         let rule = PhantomData;
         Held {
             text,
-            offsets,
+            lengths,
             rule,
         }
     }
@@ -138,7 +137,7 @@ impl<R: HeldRule, C: CharSet> Held<R, C> {
         ensures offsets { result ≡ offsets_of self.now }
         ensures in_rule { R.test C.tests self.now ≡ true }
     {
-        self.offsets.clone().unwrap()
+        self.lengths.offsets_in(self.text.as_str())
     }
 
     // How long the components are, which are those of a readable reference that the rule allows.
@@ -147,7 +146,7 @@ impl<R: HeldRule, C: CharSet> Held<R, C> {
         ensures readable { is_readable C.tests (read_reference self.now) ≡ true }
         ensures allowed { R.allows_scheme (read_reference self.now).scheme ≡ true }
     {
-        Lengths::at(&self.offsets)
+        self.lengths
     }
 
     /// The components, read at their offsets.
@@ -157,7 +156,7 @@ impl<R: HeldRule, C: CharSet> Held<R, C> {
         ensures components { AreComponents C.tests (texts_of result) }
         ensures in_rule { R.test C.tests self.now ≡ true }
     {
-        slices_at(self.text.as_str(), &self.offsets)
+        slices_at(self.text.as_str(), &self.offsets())
     }
 
     /// The text up to the fragment.
@@ -166,7 +165,7 @@ impl<R: HeldRule, C: CharSet> Held<R, C> {
         ensures value { read_reference result.now ≡ with_fragment None (read_reference self.now) }
         ensures in_rule { is_reference C.tests result.now ≡ true }
     {
-        let end = front_end(&self.offsets);
+        let end = front_end(&self.offsets());
         &self.text.as_str()[..end]
     }
 
@@ -177,7 +176,7 @@ impl<R: HeldRule, C: CharSet> Held<R, C> {
             ≡ with_query None (with_fragment None (read_reference self.now)) }
         ensures in_rule { is_reference C.tests result.now ≡ true }
     {
-        &self.text.as_str()[..self.offsets.path.end]
+        &self.text.as_str()[..self.offsets().path.end]
     }
 
     /// The text up to the end of the path's directory (RFC 3986 section 5.2.3).
@@ -190,16 +189,16 @@ impl<R: HeldRule, C: CharSet> Held<R, C> {
     }
 
     /// The same text under another rule that it is in, of its own characters or of others, with
-    /// its offsets.
+    /// its lengths.
     pub fn into_rule<S: HeldRule, D: CharSet>(self) -> Held<S, D>
         requires { R.test C.tests self ≡ true → S.test D.tests self ≡ true }
         ensures { result ≡ self }
     {
-        let Held { text, offsets, .. } = self;
+        let Held { text, lengths, .. } = self;
         let rule = PhantomData;
         Held {
             text,
-            offsets,
+            lengths,
             rule,
         }
     }

@@ -1,11 +1,13 @@
 //! How long the components of a reference are, from which their offsets follow.
 ghost use Rattle.std.specs.Prelude.{◌≡◌, ◌+◌, ◌<◌, ◌^◌, IfOk, length, option_map};
 ghost use Rattle.std.specs.Option.{option_copied};
-ghost use Rattle.iref_buffer.specs.ComponentLengths.{range_len, range_with_len, with_mark};
-ghost use Rattle.iref_buffer.specs.ComponentLengths.{lengths_at, context_by, total_length, placed};
+ghost use Rattle.iref_buffer.specs.ComponentLengths.{context_by, lengths_of_texts, placed};
+ghost use Rattle.iref_buffer.specs.ComponentLengths.{range_with_len, total_length, with_mark};
+ghost use Rattle.iref_parse.specs.{texts_of};
 
 use iref_grammar::context::PathContext;
 use iref_grammar::offsets::Offsets;
+use iref_parse::split::ReferenceSlices;
 use std::alloc::AllocError;
 use std::ops::Range;
 
@@ -26,16 +28,16 @@ pub struct Lengths {
 }
 
 impl Lengths {
-    /// Of what is at these offsets.
-    pub fn at(offsets: &Offsets) -> Lengths
-        ensures { result ≡ lengths_at offsets.now }
+    /// Of these texts.
+    pub fn of(slices: ReferenceSlices<'_>) -> Lengths
+        ensures { result ≡ lengths_of_texts (texts_of slices.entry) }
     {
         Lengths {
-            scheme: range_len(&offsets.scheme),
-            authority: range_len(&offsets.authority),
-            path: offsets.path.len(),
-            query: range_len(&offsets.query),
-            fragment: range_len(&offsets.fragment),
+            scheme: len_of(slices.scheme),
+            authority: len_of(slices.authority),
+            path: slices.path.len(),
+            query: len_of(slices.query),
+            fragment: len_of(slices.fragment),
         }
     }
 
@@ -87,13 +89,6 @@ fn add_part(len: usize, mark: usize, part: Option<usize>) -> Result<usize, Alloc
     };
     let marked = len.checked_add(mark).ok_or(AllocError)?;
     marked.checked_add(part).ok_or(AllocError)
-}
-
-// The length of a range, if there is one.
-fn range_len(range: &Option<Range<usize>>) -> Option<usize>
-    ensures { result ≡ option_map range_len range.now }
-{
-    range.as_ref().map(|range| range.len())
 }
 
 // Where a part at the start stands, and where its delimiter of one byte ends.

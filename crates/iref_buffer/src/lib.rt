@@ -1,4 +1,4 @@
-//! Texts of references, with the offsets of their components beside them.
+//! Texts of references, with the lengths of their components beside them.
 #![tactic(auto)]
 
 pub mod base;

@@ -35,7 +35,7 @@ impl<R: HeldRule, C: CharSet> Target<AuthorityPart, C> for Held<R, C> {
 
     fn replace(&mut self, after: (), at: Span, by: Change<'_>) -> Result<usize, Memory> {
         self.replace_in_authority(by)?;
-        Ok(self.offsets.path.start)
+        Ok(self.offsets().path.start)
     }
 }
 
@@ -68,9 +68,9 @@ impl<R: HeldRule, C: CharSet> Held<R, C> {
         ensures range { result ≡ range_of_authority self.now }
         ensures within { IsWithin self.now result }
     {
-        let Some(range) = &self.offsets.authority else {
-            unreachable!()
-        };
-        range.start..range.end
+        match self.offsets().authority {
+            Some(range) => range,
+            None => unreachable!(),
+        }
     }
 }

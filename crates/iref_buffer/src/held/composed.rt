@@ -1,4 +1,4 @@
-//! The text of components that are measured, with the offsets of its components (RFC 3986 section
+//! The text of components that are measured, with the lengths of its components (RFC 3986 section
 //! 5.3).
 ghost use Rattle.iref_buffer.specs.MeasuredReferences.{IsComposed, spell_texts};
 ghost use Rattle.iref_buffer.specs.MeasuredReferences.{measured_components};
@@ -21,10 +21,9 @@ impl<R: HeldRule, C: CharSet> Held<R, C> {
         let bytes = components.bytes(alloc)?;
         // What spells a reference is text, so no byte is read again.
         let text = unsafe { String::from_utf8_unchecked(bytes) };
-        let offsets = components.lengths().offsets_in(text.as_str());
         Ok(Held {
             text,
-            offsets,
+            lengths: components.lengths(),
             rule: PhantomData,
         })
     }

@@ -1,4 +1,4 @@
-//! Edits of a held text: each is one step of the reference, and moves the offsets with the text.
+//! Edits of a held text: each is one step of the reference, and keeps the lengths with the text.
 ghost use Rattle.std.specs.Prelude.{◌≡◌, ◌≤◌, ◌<◌, ◌+◌, ◌-◌, ◌^◌, ◌++◌, true, false, [], ◌∷◌};
 ghost use Rattle.std.specs.Prelude.{length, Option, is_some, option_map, codes, OnOk, OnErr, IsOk};
 ghost use Rattle.std.specs.{Prelude.{IsNone}, Option.{option_copied}, List.{splice}};
@@ -32,13 +32,18 @@ impl<R: HeldRule, C: CharSet> Held<R, C> {
             result }
         ensures none { IsNone query.entry → IsOk result }
     {
-        let lengths = Lengths {
-            query: len_of(query),
-            ..self.lengths()
+        let within = self.query_range();
+        let (lead, middle) = marked("?", query);
+        let close = "";
+        let change = Change {
+            within,
+            lead,
+            middle,
+            close,
         };
-        let range = self.query_range();
-        let (mark, part) = marked("?", query);
-        self.step(lengths, range, mark, part, "")
+        text::replace(&mut self.text, change)?;
+        self.lengths.query = len_of(query);
+        Ok(())
     }
 
     /// Replaces, adds or removes the fragment; removing takes no memory.
@@ -48,13 +53,18 @@ impl<R: HeldRule, C: CharSet> Held<R, C> {
             result }
         ensures none { IsNone fragment.entry → IsOk result }
     {
-        let lengths = Lengths {
-            fragment: len_of(fragment),
-            ..self.lengths()
+        let within = self.fragment_range();
+        let (lead, middle) = marked("#", fragment);
+        let close = "";
+        let change = Change {
+            within,
+            lead,
+            middle,
+            close,
         };
-        let range = self.fragment_range();
-        let (mark, part) = marked("#", fragment);
-        self.step(lengths, range, mark, part, "")
+        text::replace(&mut self.text, change)?;
+        self.lengths.fragment = len_of(fragment);
+        Ok(())
     }
 
     /// Replaces the path, with a guard where it would be read as something else.
@@ -125,14 +135,12 @@ impl<R: HeldRule, C: CharSet> Held<R, C> {
         ensures err { OnErr result (self.new ≡ self.old) }
         ensures shorter { IsNoLonger change.entry → IsOk result }
     {
-        let old = self.lengths();
-        let lengths = Lengths {
-            path: change.len_after(old.path)?,
-            ..old
-        };
+        let len = change.len_after(self.lengths().path)?;
         let range = self.path_range();
-        let range = self.part_of(range, &change.within);
-        self.step(lengths, range, change.lead, change.middle, change.close)
+        let within = self.part_of(range, &change.within);
+        text::replace(&mut self.text, Change { within, ..change })?;
+        self.lengths.path = len;
+        Ok(())
     }
 
     // Replaces a range of the text by three texts, which leaves components of these lengths.
@@ -160,7 +168,7 @@ impl<R: HeldRule, C: CharSet> Held<R, C> {
             close,
         };
         text::replace(&mut self.text, change)?;
-        self.offsets = lengths.offsets_in(self.text.as_str());
+        self.lengths = lengths;
         Ok(())
     }
 
@@ -171,7 +179,8 @@ impl<R: HeldRule, C: CharSet> Held<R, C> {
             → splice self.now result.start result.end (then_part (question_mark ∷ []) query)
             ≡ spell (with_query query (read_reference self.now)) }
     {
-        self.offsets.path.end..front_end(&self.offsets)
+        let offsets = self.offsets();
+        offsets.path.end..front_end(&offsets)
     }
 
     // The fragment and its delimiter, or where they would stand.
@@ -181,7 +190,7 @@ impl<R: HeldRule, C: CharSet> Held<R, C> {
             → splice self.now result.start result.end (then_part (hash_sign ∷ []) fragment)
             ≡ spell (with_fragment fragment (read_reference self.now)) }
     {
-        front_end(&self.offsets)..self.text.as_str().len()
+        front_end(&self.offsets())..self.text.as_str().len()
     }
 
     // Where the path stands.
@@ -191,7 +200,7 @@ impl<R: HeldRule, C: CharSet> Held<R, C> {
         ensures replaced { (path : PathValue) → replaced self.now result (spell_path path)
             ≡ spell (record (read_reference self.now) { path = path }) }
     {
-        self.offsets.path.start..self.offsets.path.end
+        self.offsets().path
     }
 
     // The range in the text of a range within `range`.
@@ -218,7 +227,8 @@ impl<R: HeldRule, C: CharSet> Held<R, C> {
             (then_part (codes "//") (option_map spell_authority authority) ++ lead)
             ≡ spell (record (read_reference self.now) { authority = authority; path = path }) }
     {
-        authority_start(&self.offsets)..self.offsets.path.start
+        let offsets = self.offsets();
+        authority_start(&offsets)..offsets.path.start
     }
 
     // What is written before the path where an authority is to stand, or none.
@@ -258,7 +268,7 @@ impl<R: HeldRule, C: CharSet> Held<R, C> {
             → splice self.now result.start result.end (part_then (colon ∷ []) scheme ++ lead)
             ≡ spell (record (read_reference self.now) { scheme = scheme; path = path }) }
     {
-        0..authority_start(&self.offsets)
+        0..authority_start(&self.offsets())
     }
 
     // What is written before the authority and the path where a scheme is to stand, or none.

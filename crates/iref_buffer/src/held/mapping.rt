@@ -34,7 +34,7 @@ impl<R: HeldRule, C: CharSet> Held<R, C> {
         }
         let Held {
             text,
-            offsets,
+            lengths,
             rule,
         } = self;
         let mut bytes = text.into_bytes();
@@ -48,7 +48,7 @@ impl<R: HeldRule, C: CharSet> Held<R, C> {
                 let text = unsafe { String::from_utf8_unchecked(bytes) };
                 Err(Held {
                     text,
-                    offsets,
+                    lengths,
                     rule,
                 })
             }

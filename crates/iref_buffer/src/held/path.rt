@@ -41,14 +41,14 @@ impl<R: HeldRule, C: CharSet> Target<PathPart, C> for Held<R, C> {
 
     fn replace(&mut self, after: PathContext, at: Span, by: Change<'_>) -> Result<usize, Memory> {
         self.replace_in_path(by)?;
-        Ok(self.offsets.path.end)
+        Ok(self.offsets().path.end)
     }
 }
 
 impl<R: HeldRule, C: CharSet> PathTarget<C> for Held<R, C> {
     fn rewrite(&mut self, after: PathContext, at: Span, lead: &str) -> usize {
         self.rewrite_path(lead);
-        self.offsets.path.end
+        self.offsets().path.end
     }
 }
 
@@ -86,7 +86,7 @@ impl<R: HeldRule, C: CharSet> Held<R, C> {
             path: end - start,
             ..old
         };
-        self.offsets = lengths.offsets_in(self.text.as_str());
+        self.lengths = lengths;
     }
 
     /// Sets the path and normalizes it, as one edit.

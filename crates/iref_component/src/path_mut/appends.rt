@@ -1,5 +1,5 @@
 //! Edits of a path in place by many segments (RFC 3986 section 5.2.4).
-ghost use Rattle.std.specs.Iterator.{IsFiniteIterable};
+ghost use Rattle.std.specs.{Iterator.{IsFiniteIterable}, Prelude.{◌≡◌, IfOk}};
 ghost use Rattle.iref_component.specs.Appends.{Appends, following, lazily};
 ghost use Rattle.iref_component.specs.{Components.{text_of}, PathEdits.{Becomes, Edits, EditsBy}};
 ghost use Rattle.iref_component.specs.{PathEdits.{IsSameEditor}, Paths.{path_value}};
@@ -14,6 +14,20 @@ use iref_grammar::chars::CharSet;
 use iref_path_text::names::is_name;
 use iref_path_text::part::PathPart;
 use iref_path_text::steps;
+use std::alloc::Global;
+
+// Room for the `/` or the guard before the first segment that is appended, and the `/` at the end.
+const MARKS: usize = 4;
+
+// A copy of the text, with room for a path of this length to be appended.
+fn copied(alloc: Global, text: &str, more: usize) -> Result<Vec<u8>, Memory>
+    ensures { IfOk result (λ bytes. bytes.items ≡ text.now) }
+{
+    let room = text.len().saturating_add(more).saturating_add(MARKS);
+    let mut bytes = Vec::with_capacity(alloc, room)?;
+    bytes.extend_from_slice(text.as_bytes())?;
+    Ok(bytes)
+}
 
 impl<C: CharSet, T: Target<PathPart, C>> PathMut<'_, C, T> {
     // Follows a segment, without closing the path.
@@ -81,7 +95,7 @@ impl<C: CharSet, T: Target<PathPart, C>> PathMut<'_, C, T> {
         if path.is_absolute() {
             return self.replace(path);
         }
-        let mut bytes = String::from_str(self.alloc(), self.text())?.into_bytes();
+        let mut bytes = copied(self.alloc(), self.text(), path.as_str().len())?;
         let len = bytes.len();
         let mut copy: PathMut<'_, C> = PathMut::of_target(&mut bytes, self.context, 0..len);
         copy.append(path)?;

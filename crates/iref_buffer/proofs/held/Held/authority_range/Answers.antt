@@ -1,19 +1,17 @@
-use Rattle.std.proofs.Common.{sym}
-use Rattle.std.specs.String.{string_bytes}
 use Rattle.iref_buffer.proofs.EditLemmas.{authority_within, authority_after_mark, authority_length, authority_replaced}
 use Rattle.iref_buffer.proofs.held.Held.authority_range.Goals as goal
 
 pub authority_start-requires : goal.authority_start-requires
-authority_start-requires g c = rw c.self.invariant.1 (authority_after_mark (string_bytes c.self.inside.text))
+authority_start-requires g c = rw c.offsets-offsets.ensures.offsets (authority_after_mark c.args.self.now)
 
 pub returns-clause-within : goal.returns-clause-within
 returns-clause-within g c =
     let set = g.C.CharSet.tests in
-    let text = string_bytes c.self.inside.text in
-    rw (c.authority_start.ensures, c.self.invariant.1, sym c.self.view_is) (authority_within set g.met.C.CharSet.above_ascii text (g.met.R.HeldRule.references set text c.self.invariant.0))
+    let text = c.args.self.now in
+    rw (c.authority_start.ensures, c.offsets-offsets.ensures.offsets) (authority_within set g.met.C.CharSet.above_ascii text (g.met.R.HeldRule.references set text c.offsets-offsets.ensures.in_rule))
 
 pub returns-clause-len : goal.returns-clause-len
-returns-clause-len g c = rw (c.authority_start.ensures, c.self.invariant.1, sym c.self.view_is) (authority_length (string_bytes c.self.inside.text))
+returns-clause-len g c = rw (c.authority_start.ensures, c.offsets-offsets.ensures.offsets) (authority_length c.args.self.now)
 
 pub returns-clause-replaced : goal.returns-clause-replaced
-returns-clause-replaced g c = rw (c.authority_start.ensures, c.self.invariant.1, sym c.self.view_is) (authority_replaced (string_bytes c.self.inside.text))
+returns-clause-replaced g c = rw (c.authority_start.ensures, c.offsets-offsets.ensures.offsets) (authority_replaced c.args.self.now)

@@ -1,15 +1,13 @@
 use Rattle.std.proofs.Common.{ap, ◌∙◌, subst, ◌≡◌, true}
 use Rattle.std.specs.String.{string_bytes}
 use Rattle.iref_grammar.specs.Reference.{read_reference, is_readable}
-use Rattle.iref_buffer.specs.ComponentLengths.{lengths_at, lengths_of}
-use Rattle.iref_buffer.proofs.LengthLemmas.{lengths-offsets_of}
+use Rattle.iref_buffer.specs.ComponentLengths.{lengths_of}
 use Rattle.iref_buffer.proofs.EditLemmas.{readable_of}
 use Rattle.iref_buffer.proofs.held.Held.lengths.Goals as goal
 
 pub returns-clause-lengths : goal.returns-clause-lengths
 returns-clause-lengths g c =
-    c.at.ensures ∙ ap lengths_at c.self.invariant.1 ∙ lengths-offsets_of (string_bytes c.self.inside.text)
-    ∙ ap (λ text. lengths_of (read_reference text)) c.self.view_is
+    c.self.invariant.1 ∙ ap (λ text. lengths_of (read_reference text)) c.self.view_is
 
 pub returns-clause-readable : goal.returns-clause-readable
 returns-clause-readable g c =

@@ -1,14 +1,12 @@
-use Rattle.std.proofs.Common.{sym}
-use Rattle.std.specs.String.{string_bytes}
 use Rattle.iref_buffer.proofs.EditLemmas.{query_within, query_replaced}
 use Rattle.iref_buffer.proofs.held.Held.query_range.Goals as goal
 
 pub returns-clause-within : goal.returns-clause-within
 returns-clause-within g c =
     let set = g.C.CharSet.tests in
-    let text = string_bytes c.self.inside.text in
-    rw (c.front_end.ensures, c.self.invariant.1, sym c.self.view_is) (query_within set g.met.C.CharSet.above_ascii text (g.met.R.HeldRule.references set text c.self.invariant.0))
+    let text = c.args.self.now in
+    rw (c.front_end.ensures, c.offsets-offsets.ensures.offsets) (query_within set g.met.C.CharSet.above_ascii text (g.met.R.HeldRule.references set text c.offsets-offsets.ensures.in_rule))
 
 pub returns-clause-replaced : goal.returns-clause-replaced
 returns-clause-replaced g c =
-    rw (c.front_end.ensures, c.self.invariant.1, sym c.self.view_is) (query_replaced (string_bytes c.self.inside.text))
+    rw (c.front_end.ensures, c.offsets-offsets.ensures.offsets) (query_replaced c.args.self.now)

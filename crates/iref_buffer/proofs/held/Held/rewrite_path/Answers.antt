@@ -8,11 +8,10 @@ use Rattle.iref_grammar.specs.Reference.{read_reference}
 use Rattle.iref_grammar.specs.Rules.{Text}
 use Rattle.iref_grammar.proofs.PathLemmas.{read_path-reads}
 use Rattle.iref_path_text.specs.Rewriting.{rewritten, rewritten_at}
-use Rattle.iref_buffer.specs.ComponentLengths.{placed, total_length}
+use Rattle.iref_buffer.specs.ComponentLengths.{lengths_of}
 use Rattle.iref_buffer.specs.PathTexts.{path_text, with_path_read, with_path_text}
 use Rattle.iref_buffer.proofs.EditLemmas.{is_step}
 use Rattle.iref_buffer.proofs.HeldLemmas.{in_rule_utf8}
-use Rattle.iref_buffer.proofs.LengthLemmas.{placed-read, total-read}
 use Rattle.iref_buffer.proofs.PathEditLemmas.{path_text_replaced, read_path-readable}
 use Rattle.iref_buffer.proofs.held.Held.rewrite_path.Goals as goal
 
@@ -38,18 +37,6 @@ rewrite_text-end-requires-clause-utf8 g c =
     subst IsUtf8 (sym (put _ text c.args.lead.now c.path_range-range.result c.self.view_is c.path_range-range.ensures.range))
     (in_rule_utf8 _ _ ((g.R.Rule.decided set g.met.C.CharSet.above_ascii (with_path_text path text)).0 step.leaves.in_rule))
 
-pub offsets_in-self-inside-requires : goal.offsets_in-self-inside-requires
-offsets_in-self-inside-requires g c =
-    let set = g.C.CharSet.tests in
-    let text = c.args.self.now in
-    let path = rewritten c.args.lead.now (path_text text) in
-    let step = is_step set g.met.C.CharSet.above_ascii (g.R.Rule.test set) g.R.HeldRule.allows_scheme (g.met.R.HeldRule.by_scheme set) (with_path_text path text) (with_path_read path (read_reference text)) (path_text_replaced text path)
-    (read_path-readable set (read_reference text) path c.lengths-old.ensures.readable c.requires.may_stand) c.lengths-old.ensures.allowed in
-    let e = c.rewrite_text-end.ensures in
-    let new = e.bytes ∙ put _ text c.args.lead.now c.path_range-range.result c.self.view_is c.path_range-range.ensures.range in
-    let len = path_len _ text c.args.lead.now c.path_range-range.result c.self.view_is c.path_range-range.ensures.range _ e.end in
-    ap total_length ((λ i. record (c.lengths-old.ensures.lengths i) { path = len i }) ∙ step.leaves.lengths) ∙ total-read (with_path_text path text) ∙ ap length (sym (c.as_str.ensures.value ∙ new))
-
 pub invariant_of-self : goal.invariant_of-self
 invariant_of-self g c =
     let set = g.C.CharSet.tests in
@@ -61,7 +48,7 @@ invariant_of-self g c =
     let new = e.bytes ∙ put _ text c.args.lead.now c.path_range-range.result c.self.view_is c.path_range-range.ensures.range in
     let len = path_len _ text c.args.lead.now c.path_range-range.result c.self.view_is c.path_range-range.ensures.range _ e.end in (
       ap (g.R.Rule.test set) new ∙ step.leaves.in_rule,
-      c.offsets_in-self-inside.ensures ∙ ap placed ((λ i. record (c.lengths-old.ensures.lengths i) { path = len i }) ∙ step.leaves.lengths) ∙ placed-read (with_path_text path text) ∙ ap offsets_of (sym new),
+      (λ i. record (c.lengths-old.ensures.lengths i) { path = len i }) ∙ step.leaves.lengths ∙ ap (λ t. lengths_of (read_reference t)) (sym new),
     )
 
 pub returns-clause-value : goal.returns-clause-value

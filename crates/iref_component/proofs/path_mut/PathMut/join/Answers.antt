@@ -26,7 +26,7 @@ put-requires-clause-reads g c = λ old_reads.
     let set = g.C.CharSet.tests in
     let above = g.met.C.CharSet.above_ascii in
     let taken = c.in_ok-append.ensures.edit in
-    let bytes = ap (λ v. v.items) c.into_bytes-bytes.ensures.value ∙ c.in_ok-from_str.ensures.ok ∙ c.text.ensures.value in
+    let bytes = c.in_ok-bytes.ensures ∙ c.text.ensures.value in
     let items = items_drained text_of segments_left _ taken.1 taken.3 ∙ taken.2.0 in
     let value = copy_edit (λ context. appended context (map text_of taken.1)) c.of_target-copy.ensures.editor (search rules) taken.4 in
     let read = ap read_path c.text-2.ensures.value ∙ value ∙ (λ i. appended (path_mut_context p) (items i) (read_path (bytes i))) in
@@ -37,7 +37,7 @@ pub returns : goal.returns
 returns g c =
     let p = c.args.self.now in
     let taken = c.in_ok-append.ensures.edit in
-    let bytes = ap (λ v. v.items) c.into_bytes-bytes.ensures.value ∙ c.in_ok-from_str.ensures.ok ∙ c.text.ensures.value in
+    let bytes = c.in_ok-bytes.ensures ∙ c.text.ensures.value in
     let items = items_drained text_of segments_left _ taken.1 taken.3 ∙ taken.2.0 in
     let value = copy_edit (λ context. appended context (map text_of taken.1)) c.of_target-copy.ensures.editor (search rules) taken.4 in
     let read = ap read_path c.text-2.ensures.value ∙ value ∙ (λ i. appended (path_mut_context p) (items i) (read_path (bytes i))) in

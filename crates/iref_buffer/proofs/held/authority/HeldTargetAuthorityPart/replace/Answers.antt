@@ -1,11 +1,9 @@
 use Rattle.std.proofs.Common.{◌≡◌, ◌+◌, true, length, sym, ap, subst, ◌∙◌}
 use Rattle.std.specs.Prelude.{Some}
-use Rattle.std.specs.String.{string_bytes}
 use Rattle.std.specs.declared.ops.Range.{Range}
 use Rattle.iref_grammar.specs.declared.offsets.Offsets.{Offsets}
 use Rattle.iref_grammar.specs.Authority.{is_authority}
-use Rattle.iref_grammar.specs.ComponentOffsets.{offsets_of, text_at}
-use Rattle.iref_grammar.specs.Reference.{is_reference}
+use Rattle.iref_grammar.specs.ComponentOffsets.{text_at}
 use Rattle.iref_edit.specs.Changes.{IsWithin, changed, replaced}
 use Rattle.iref_buffer.specs.AuthorityRanges.{authority_part}
 use Rattle.iref_buffer.proofs.AuthorityRangeLemmas.{end_of_new_authority, range_is, range_of_new_authority, some_if_placed}
@@ -34,8 +32,8 @@ returns-clause-stands g c =
     let has = some_if_placed text _ c.requires.stands.1 in
     let start = sym (ap (λ (p : Range _). p.start) (range_is text _ c.requires.stands.1)) in
     let part = changed (authority_part text) c.args.by in
-    let ends = ap (λ (p : Offsets). p.path.start) c.self.invariant.1 ∙ ap (λ t. (offsets_of t).path.start) c.self.view_is ∙ end_of_new_authority text new part has c.in_ok-replace_in_authority.ensures.value in (
-      subst (λ t. is_reference set t ≡ true) c.self.view_is (g.met.R.HeldRule.references set (string_bytes c.self.inside.text) c.self.invariant.0),
+    let ends = ap (λ (p : Offsets). p.path.start) c.offsets.ensures.offsets ∙ end_of_new_authority text new part has c.in_ok-replace_in_authority.ensures.value in (
+      g.met.R.HeldRule.references set _ c.offsets.ensures.in_rule,
       range_of_new_authority text new part has c.in_ok-replace_in_authority.ensures.value ∙ (λ i. Some (record { start = start i; end = sym ends i })),
     )
 
@@ -46,5 +44,5 @@ returns-clause-end g c =
     let has = some_if_placed text _ c.requires.stands.1 in
     let same = sym (range_is text _ c.requires.stands.1) in
     let part = changed (authority_part text) c.args.by in
-    ap (λ (p : Offsets). p.path.start) c.self.invariant.1 ∙ ap (λ t. (offsets_of t).path.start) c.self.view_is ∙ end_of_new_authority text new part has c.in_ok-replace_in_authority.ensures.value
+    ap (λ (p : Offsets). p.path.start) c.offsets.ensures.offsets ∙ end_of_new_authority text new part has c.in_ok-replace_in_authority.ensures.value
     ∙ (λ i. (same i).start + length (changed (text_at text (same i)) c.args.by))

@@ -1,12 +1,10 @@
-use Rattle.std.proofs.Common.{◌≡◌, true, ◌+◌, length, sym, ap, subst, ◌∙◌}
+use Rattle.std.proofs.Common.{◌≡◌, true, ◌+◌, length, sym, ap, ◌∙◌}
 use Rattle.std.specs.Prelude.{is_some}
 use Rattle.std.specs.List.{slice_range}
 use Rattle.iref_edit.specs.Changes.{changed}
-use Rattle.std.specs.String.{string_bytes}
 use Rattle.iref_grammar.specs.declared.offsets.Offsets.{Offsets}
 use Rattle.iref_grammar.specs.Contexts.{is_path_in}
-use Rattle.iref_grammar.specs.ComponentOffsets.{offsets_of}
-use Rattle.iref_grammar.specs.Reference.{read_reference, context_of, is_reference}
+use Rattle.iref_grammar.specs.Reference.{read_reference, context_of}
 use Rattle.iref_grammar.proofs.RangeLemmas.{path_range}
 use Rattle.iref_buffer.specs.PathTexts.{path_text}
 use Rattle.iref_buffer.proofs.PathRangeLemmas.{path_stands, range_of_new_path}
@@ -32,9 +30,9 @@ returns-clause-stands g c =
     let value = c.in_ok-replace_in_path.ensures.value in
     let path = changed (path_text text) c.args.by in
     let range = range_of_new_path text c.replace_in_path.new.self path value in (
-      subst (λ t. is_reference set t ≡ true) c.self.view_is (g.met.R.HeldRule.references set (string_bytes c.self.inside.text) c.self.invariant.0),
+      g.met.R.HeldRule.references set _ c.offsets.ensures.in_rule,
       s.1 ∙ sym (ap (λ p. p.start) range),
-      ap (λ (p : Offsets). p.path.end) c.self.invariant.1 ∙ ap (λ t. (offsets_of t).path.end) c.self.view_is,
+      ap (λ (p : Offsets). p.path.end) c.offsets.ensures.offsets,
       s.3 ∙ sym (ap (λ r. is_some r.scheme) value),
       s.4 ∙ sym (ap (λ r. is_some r.authority) value),
     )
@@ -45,5 +43,5 @@ returns-clause-end g c =
     let s = c.requires.stands in
     let path = changed (path_text text) c.args.by in
     let range = range_of_new_path text c.replace_in_path.new.self path c.in_ok-replace_in_path.ensures.value in
-    ap (λ (p : Offsets). p.path.end) c.self.invariant.1 ∙ ap (λ t. (offsets_of t).path.end) c.self.view_is ∙ ap (λ p. p.end) range
+    ap (λ (p : Offsets). p.path.end) c.offsets.ensures.offsets ∙ ap (λ p. p.end) range
     ∙ (λ i. sym s.1 i + length (changed (slice_range text (sym s.1 i) (sym s.2 i)) c.args.by))
