@@ -123,9 +123,8 @@ fn after_front<C: CharSet>(text: &[u8]) -> Option<&[u8]>
     }
 }
 
-/// Whether the bytes are found to be the UTF-8 of plain bytes, escapes and characters that the set
-/// has beyond ASCII.
-pub(crate) fn is_encoded_text<C: CharSet>(text: &[u8]) -> bool
+// Whether the bytes are found to be such a text, from the front on.
+fn is_encoded_rest<C: CharSet>(text: &[u8]) -> bool
     ensures { result ≡ true → are_encoded (is_plain_char C.tests) text.now ≡ true }
 {
     let mut rest = text;
@@ -136,4 +135,16 @@ pub(crate) fn is_encoded_text<C: CharSet>(text: &[u8]) -> bool
         }
     }
     true
+}
+
+/// Whether the bytes are found to be the UTF-8 of plain bytes, escapes and characters that the set
+/// has beyond ASCII. Most often all are plain.
+#[inline(always)]
+pub(crate) fn is_encoded_text<C: CharSet>(text: &[u8]) -> bool
+    ensures { result ≡ true → are_encoded (is_plain_char C.tests) text.now ≡ true }
+{
+    match after_plain::<C>(text) {
+        Some(rest) => rest.is_empty() || is_encoded_rest::<C>(rest),
+        None => is_encoded_rest::<C>(text),
+    }
 }

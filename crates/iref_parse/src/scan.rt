@@ -304,13 +304,16 @@ pub fn is_segment<C: CharSet>(text: &str) -> bool
     is_encoded::<SegmentChars<C>>(text)
 }
 
-// Whether the text is found to be a path by one scan, in which each byte is read once.
+// Whether the text has 16 bytes at least, and is found to be a path by a scan of vectors.
 #[inline(always)]
 fn is_encoded_path<C: CharSet>(text: &str) -> bool
     ensures { result ≡ true → test.is_path C.tests text.now ≡ true }
 {
     let bytes = text.as_bytes();
-    is_encoded_text::<C>(bytes) && position_of_either(bytes, b'?', b'#') == bytes.len()
+    if bytes.len() < 16 || !is_encoded_text::<C>(bytes) {
+        return false;
+    }
+    position_of_either(bytes, b'?', b'#') == bytes.len()
 }
 
 #[tactic(auto, using(crate::proofs::ScanLemmas::utf8), unfolding(iref_grammar::specs::Tests::is_path))]

@@ -1,7 +1,7 @@
 //! The one split of a reference into its components (RFC 3986 section 4.1 and appendix B).
 
-ghost use Rattle.std.specs.Prelude.{◌≡◌, ◌<◌, ◌↔◌, [], ◌∷◌, IfSome, codes, is_some, true};
-ghost use Rattle.std.specs.{Option.{option_copied}};
+ghost use Rattle.std.specs.Prelude.{◌≡◌, ◌<◌, ◌↔◌, [], ◌∷◌, IfSome, MatchOption, codes, is_some, true};
+ghost use Rattle.std.specs.{Option.{option_copied}, Str.{IsUtf8}};
 ghost use Rattle.iref_grammar.specs.Reference as spec;
 ghost use Rattle.iref_grammar.specs.{hash_sign, question_mark, before, after};
 ghost use Rattle.iref_grammar.specs.{hierarchy, read_reference, is_reference, spell_components};
@@ -182,13 +182,13 @@ fn are_encoded_components<C: CharSet>(slices: ReferenceSlices<'_>) -> bool
         && is_encoded_fragment::<C>(slices.fragment)
 }
 
-// Whether each slice of the text is in the rule of its component.
+// Whether each slice is in the rule of its component. Those of an encoded text are, but few.
 #[inline(always)]
-fn are_components<C: CharSet>(text: &str, slices: ReferenceSlices<'_>) -> bool
-    requires { texts_of slices ≡ spell_components (read_reference text.now) }
+fn are_components<C: CharSet>(slices: ReferenceSlices<'_>, is_encoded: bool) -> bool
+    requires { is_encoded ≡ true → AreEncoded C.tests (texts_of slices) }
     ensures { (result ≡ true) ↔ AreComponents C.tests (texts_of slices.entry) }
 {
-    if is_encoded_text::<C>(text.as_bytes()) {
+    if is_encoded {
         are_encoded_components::<C>(slices)
     } else {
         are_scanned_components::<C>(slices)
@@ -204,28 +204,23 @@ pub fn parse_reference<C: CharSet>(text: &str) -> Option<ReferenceSlices<'_>>
     ensures components { IfSome result (λ s. AreComponents C.tests (texts_of s)) }
 {
     let slices = split_reference(text);
-    if are_components::<C>(text, slices) {
+    if are_components::<C>(slices, is_encoded_text::<C>(text.as_bytes())) {
         Some(slices)
     } else {
         None
     }
 }
 
-// The components of bytes of UTF-8 that are a reference, by a scan of each.
-fn parse_scanned<C: CharSet>(bytes: &[u8]) -> Option<ReferenceSlices<'_>>
-    ensures accepted { is_some result ≡ is_reference C.tests bytes.now }
-    ensures value { IfSome result (λ s. value_of s ≡ read_reference bytes.now) }
-    ensures texts { IfSome result (λ s. texts_of s ≡ spell_components (read_reference bytes.now)) }
-    ensures components { IfSome result (λ s. AreComponents C.tests (texts_of s)) }
+// The bytes as a text, if they are UTF-8. What is encoded is, so no byte is read again.
+#[inline(always)]
+fn text_of(bytes: &[u8], is_encoded: bool) -> Option<&str>
+    requires { is_encoded ≡ true → IsUtf8 bytes.now }
+    ensures { MatchOption result (¬ (IsUtf8 bytes.now)) (λ text. text.now ≡ bytes.now) }
 {
-    let Ok(text) = str::from_utf8(bytes) else {
-        return None;
-    };
-    let slices = split_reference(text);
-    if are_scanned_components::<C>(slices) {
-        Some(slices)
+    if is_encoded {
+        Some(unsafe { str::from_utf8_unchecked(bytes) })
     } else {
-        None
+        str::from_utf8(bytes).ok()
     }
 }
 
@@ -238,12 +233,9 @@ pub fn parse_bytes<C: CharSet>(bytes: &[u8]) -> Option<ReferenceSlices<'_>>
     ensures texts { IfSome result (λ s. texts_of s ≡ spell_components (read_reference bytes.now)) }
     ensures components { IfSome result (λ s. AreComponents C.tests (texts_of s)) }
 {
-    if !is_encoded_text::<C>(bytes) {
-        return parse_scanned::<C>(bytes);
-    }
-    // What is encoded is UTF-8, so no byte is read again.
-    let slices = split_reference(unsafe { str::from_utf8_unchecked(bytes) });
-    if are_encoded_components::<C>(slices) {
+    let is_encoded = is_encoded_text::<C>(bytes);
+    let slices = split_reference(text_of(bytes, is_encoded)?);
+    if are_components::<C>(slices, is_encoded) {
         Some(slices)
     } else {
         None

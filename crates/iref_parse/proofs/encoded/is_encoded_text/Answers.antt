@@ -4,7 +4,7 @@ use Rattle.iref_parse.specs.Encoded.{is_plain_char}
 use Rattle.iref_parse.proofs.EncodedTextLemmas.{encoded_nothing}
 use Rattle.iref_parse.proofs.encoded.is_encoded_text.Goals as goal
 
-pub returns : goal.returns
-returns g c = λ e.
-    let nothing : length c.loop-rest.rest.now ≡ 0 = grind (arith, nat_tests, c.is_empty.ensures, c.loop-rest-test.false) in
-    c.loop-rest.invariant (encoded_nothing (is_plain_char g.C.CharSet.tests) c.loop-rest.rest.now nothing)
+pub returns-then-is_empty : goal.returns-then-is_empty
+returns-then-is_empty g c = λ e.
+    let nothing : length c.in-Some.rest.now ≡ 0 = grind (arith, nat_tests, c.is_empty.ensures, e) in
+    c.in-Some.ensures.encoded (encoded_nothing (is_plain_char g.C.CharSet.tests) c.in-Some.rest.now nothing)

@@ -7,11 +7,11 @@ use Rattle.iref_parse.specs.Encoded.{are_encoded, is_plain_char}
 use Rattle.iref_parse.proofs.PlainTextLemmas.{encoded_path}
 use Rattle.iref_parse.proofs.scan.is_encoded_path.Goals as goal
 
-pub returns-then-is_encoded_text : goal.returns-then-is_encoded_text
-returns-then-is_encoded_text g c = λ e.
+pub returns : goal.returns
+returns g c = λ e.
     let set = g.C.CharSet.tests in
     let text = c.args.text.now in
     let same = c.as_bytes-bytes.ensures.value in
-    let encoded : are_encoded (is_plain_char set) text ≡ true = ap (are_encoded (is_plain_char set)) (sym same) ∙ c.is_encoded_text.ensures c.if-is_encoded_text.true in
+    let encoded : are_encoded (is_plain_char set) text ≡ true = ap (are_encoded (is_plain_char set)) (sym same) ∙ c.is_encoded_text.ensures c.if-not-is_encoded_text.false in
     encoded_path set g.met.C.CharSet.above_ascii text encoded
     (ap (position_or_len (char_set_contains (question_mark ∷ hash_sign ∷ []))) (sym same) ∙ sym c.position_of_either.ensures ∙ eqb-true _ _ e ∙ ap length same)
