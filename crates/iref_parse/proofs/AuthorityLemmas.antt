@@ -10,14 +10,12 @@ use Rattle.iref_grammar.specs.Characters.{CharTests, AreAboveAscii}
 use Rattle.iref_grammar.specs.Rules.{Text}
 use Rattle.iref_grammar.specs.Grammar.{colon, slash, left_bracket, right_bracket}
 use Rattle.iref_grammar.specs.Texts.{begins_with, lacks, before, after, then_part}
-use Rattle.iref_grammar.specs.Tests.{is_host, is_port, is_ip_literal, is_ip_address, is_ipvfuture, is_reg_name, in_brackets, ends_here, some_and, none_or}
+use Rattle.iref_grammar.specs.Tests.{is_host, is_port, is_ip_literal, is_ip_address, is_ipv6, is_ipvfuture, is_reg_name, in_brackets, ends_here, some_and, none_or}
 use Rattle.iref_grammar.specs.Authority.{AuthorityValue, spell_authority, read_authority, has_authority_parts, is_authority}
 use Rattle.iref_grammar.proofs.CutLemmas.{cut, before-part, after-part}
 use Rattle.iref_grammar.proofs.HostLemmas.{before_lacks}
 use Rattle.iref_grammar.proofs.AuthorityLemmas.{read_authority-back, delimited_authority}
 use Rattle.iref_parse.specs.AuthoritySlices.{is_port_part}
-use Rattle.iref_parse.specs.Ipv6Scan.{is_plain_ipv6}
-use Rattle.iref_parse.proofs.Ipv6ScanLemmas.{plain_address}
 
 abbrev without_user_info : Text → Option Text → AuthorityValue
 without_user_info host port = record { user_info = None; host = host; port = port }
@@ -47,15 +45,15 @@ port_after set above host (c ∷ port) h k =
 abbrev in_its_brackets : Text → Text
 in_its_brackets inside = left_bracket ∷ (inside ++ right_bracket ∷ [])
 
-address_host : (set : CharTests) (inside : Text) → lacks right_bracket inside ≡ true → is_plain_ipv6 inside ≡ true → is_host set (in_its_brackets inside) ≡ true
+address_host : (set : CharTests) (inside : Text) → lacks right_bracket inside ≡ true → is_ipv6 inside ≡ true → is_host set (in_its_brackets inside) ≡ true
 unfolding is_host is_ip_literal
 address_host set inside h k =
     let read : in_brackets (in_its_brackets inside) ≡ Some inside = λ i. cond (ends_here (after-part right_bracket inside (Some []) h i)) (Some (before-part right_bracket inside (Some []) h i)) None in
-    let literal : is_ip_literal (in_its_brackets inside) ≡ true = ap (some_and is_ip_address) read ∙ (λ i. plain_address inside k i || is_ipvfuture inside) in
+    let literal : is_ip_literal (in_its_brackets inside) ≡ true = ap (some_and is_ip_address) read ∙ (λ i. k i || is_ipvfuture inside) in
     λ i. literal i || is_reg_name set (in_its_brackets inside)
 
 -- an address in brackets, read up to its `]`
-pub address_authority : (text rest inside end : Text) → text ≡ left_bracket ∷ rest → inside ≡ before (right_bracket ∷ []) rest → Some end ≡ after right_bracket rest → is_plain_ipv6 inside ≡ true → is_port_part end ≡ true
+pub address_authority : (text rest inside end : Text) → text ≡ left_bracket ∷ rest → inside ≡ before (right_bracket ∷ []) rest → Some end ≡ after right_bracket rest → is_ipv6 inside ≡ true → is_port_part end ≡ true
     → (set : CharTests) → AreAboveAscii set → is_authority set text ≡ true
 address_authority text rest inside end e f g h k set above =
     let host = address_host set inside (ap (lacks right_bracket) f ∙ before_lacks right_bracket rest) h in

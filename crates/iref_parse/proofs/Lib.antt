@@ -17,3 +17,5 @@ pub mod PlainTextLemmas
 pub mod PositionLemmas
 pub mod DotLemmas
 pub mod DotSegmentLemmas
+pub mod EncodedTextLemmas
+pub mod WideLemmas

@@ -1,12 +1,12 @@
 -- The tables of plain bytes, checked entry by entry.
-use Rattle.std.proofs.Common.{◌≡◌, ℕ, ◌+◌, ◌<◌, ◌≤◌, List, Bool, true, false, eqb, length, get_or, refl, sym, ◌∙◌, arith, Fits, w8}
-use Rattle.std.specs.List.{list_all}
-use Rattle.std.proofs.lemmas.Bool.{agree_below_at, eqb-true, eq-eqb}
-use Rattle.std.proofs.lemmas.List.Sums.{AllPass-from_list_all, list_all-from_AllPass}
-use Rattle.std.proofs.lemmas.List.Elements.{All-from_get_or}
+use Rattle.std.proofs.Common.{◌≡◌, ◌≢◌, ℕ, ◌+◌, ◌<◌, ◌≤◌, List, true, false, eqb, length, get_or, refl, sym, ap, ◌∙◌, arith, Fits, w8, ⊎_elim, inl, inr}
+use Rattle.std.specs.List.{prefix_len}
+use Rattle.std.proofs.lemmas.Bool.{agree_below_at, cases_lt, eq-eqb}
+use Rattle.std.proofs.lemmas.Bool.Decides.{eqb_tells}
+use Rattle.std.proofs.lemmas.List.Sums.{prefix_len_is}
 use Rattle.iref_parse.specs.declared.plain.TheConstants.{LOW, HIGH}
 use Rattle.iref_parse.specs.Plain.{is_plain_byte, other_groups}
-use Rattle.iref_parse.proofs.SeenLemmas.{Seen, unmarked_from_clear, clear_from_unmarked}
+use Rattle.iref_parse.proofs.PositionLemmas.{IsClearFront}
 
 -- the tables give no group exactly to the plain bytes
 pub groups_show : (b : ℕ) → b < 256 → eqb (other_groups LOW HIGH b) 0 ≡ is_plain_byte b
@@ -16,21 +16,24 @@ groups_show b h = agree_below_at (λ b. eqb (other_groups LOW HIGH b) 0) is_plai
 abbrev pub groups_at : List ℕ → ℕ → ℕ
 groups_at bytes k = other_groups LOW HIGH (get_or bytes k 0)
 
-same_truth : (a b : Bool) → (a ≡ true → b ≡ true) → (b ≡ true → a ≡ true) → a ≡ b
-same_truth true b f g = sym (f refl)
-same_truth false true f g = g refl
-same_truth false false f g = refl
+-- the bytes before this index are plain
+pub record IsPlainFront (bytes : List ℕ) (at : ℕ) : Type 0 where
+  pub within : at ≤ length bytes
+  pub each : (k : ℕ) → k < at → is_plain_byte (get_or bytes k 0) ≡ true
 
--- a vector that saw all shows whether each byte is plain
-pub all_plain : (bytes : List ℕ) (at : ℕ) (v : List ℕ) → ((k : ℕ) → Fits w8 (get_or bytes k 0)) → 16 ≤ length bytes → length bytes < at + 16
-    → Seen (groups_at bytes) (length bytes) at v → list_all (λ x. eqb x 0) v ≡ list_all is_plain_byte bytes
-all_plain bytes at v fit long near seen =
-    let n = length bytes in
+pub IsPlainFront-more : (bytes : List ℕ) (at : ℕ) → IsPlainFront bytes at → at < length bytes → is_plain_byte (get_or bytes at 0) ≡ true → IsPlainFront bytes (at + 1)
+IsPlainFront-more bytes at old l e = record {
+  within = omega arith;
+  each = λ k m. ⊎_elim (λ below. old.each k below) (λ from. let here : k ≡ at = omega arith in ap (λ n. is_plain_byte (get_or bytes n 0)) here ∙ e) (cases_lt k at);
+}
+
+pub plain_front_is : (bytes : List ℕ) (at : ℕ) → IsPlainFront bytes at → (at < length bytes → is_plain_byte (get_or bytes at 0) ≡ false) → at ≡ prefix_len is_plain_byte bytes
+plain_front_is bytes at h other = sym (prefix_len_is is_plain_byte bytes at 0 h.within h.each other)
+
+-- the front in which no byte has a mark
+pub plain_front_from_clear : (bytes : List ℕ) (at : ℕ) → ((k : ℕ) → Fits w8 (get_or bytes k 0)) → IsClearFront (groups_at bytes) (length bytes) at → (at < length bytes → groups_at bytes at ≢ 0)
+    → at ≡ prefix_len is_plain_byte bytes
+plain_front_from_clear bytes at fit h other =
     let shows : (k : ℕ) → eqb (groups_at bytes k) 0 ≡ is_plain_byte (get_or bytes k 0) = λ k. groups_show (get_or bytes k 0) (fit k).fits in
-    same_truth _ _
-    (λ e.
-    let none = unmarked_from_clear (groups_at bytes) n at v long near seen e in
-    list_all-from_AllPass is_plain_byte bytes (All-from_get_or (λ b. is_plain_byte b ≡ true) bytes 0 (λ k l. sym (shows k) ∙ eq-eqb _ 0 (none k (omega arith) l))))
-    (λ e.
-    clear_from_unmarked (groups_at bytes) n at v long near seen
-    (λ k low high. eqb-true _ 0 (shows k ∙ AllPass-from_list_all is_plain_byte bytes e k 0 high)))
+    plain_front_is bytes at (record { within = h.within; each = λ k l. sym (shows k) ∙ eq-eqb _ 0 (h.each k l) })
+    (λ l. elim (eqb_tells (groups_at bytes at) 0) [ inl e ↦ absurd (other l e.1) | inr e ↦ sym (shows at) ∙ e.0 ])

@@ -1,207 +1,270 @@
--- The components of a plain text are plain, and what is plain is in its rule.
-use Rattle.std.proofs.Common.{List, ◌++◌, ◌≡◌, ℕ, ◌<◌, Bool, true, false, not, ◌&&◌, ◌||◌, [], ◌∷◌, length, take, drop, refl, sym, ◌∙◌, ap, subst, arith, inl, inr}
+-- The components of a text of plain bytes, escapes and characters beyond ASCII are in their rules.
+use Rattle.std.proofs.Common.{List, ◌++◌, ◌≡◌, ℕ, ◌<◌, Bool, true, false, not, ◌&&◌, ◌||◌, [], ◌∷◌, length, take, drop, IsUtf8, refl, sym, ◌∙◌, ap, subst, arith, inl, inr}
 use Rattle.std.specs.Prelude.{◌==◌, Option, Some, None, codes, if◌then◌else◌}
-use Rattle.std.specs.Char.{is_ascii, char_set_contains}
-use Rattle.std.specs.Str.{IsAscii}
-use Rattle.std.specs.List.{list_all, position_or_len}
-use Rattle.std.proofs.lemmas.Bool.{agree_below_at, ltb-true, and_parts, and_from, ne_eqb, not_from_false, or_right, cases_lt}
+use Rattle.std.specs.Char.{is_ascii, is_ascii_alphanumeric, char_set_contains}
+use Rattle.std.specs.List.{position_or_len}
+use Rattle.std.proofs.lemmas.Bool.{agree_below_at, eqb-true, ltb-true, and_parts, or_right}
 use Rattle.std.proofs.lemmas.Bool.Decides.{eqb_tells, nat_tests}
-use Rattle.std.proofs.lemmas.List.{get_or_past, take-append-drop}
-use Rattle.std.proofs.lemmas.List.Folds.{list_all-append}
-use Rattle.std.proofs.lemmas.List.Sums.{AllPass-from_list_all, list_all-from_AllPass, fails_before_first}
-use Rattle.std.proofs.lemmas.Str.{IsUtf8-from_ascii, is_utf8-from_IsUtf8, chars-IsAscii}
+use Rattle.std.proofs.lemmas.List.{take_all}
+use mathlib.Core.Bool.{true≢false}
 use Rattle.iref_grammar.specs.Characters.{CharTests, AreAboveAscii}
 use Rattle.iref_grammar.specs.Rules.{Text}
-use Rattle.iref_grammar.specs.Grammar.{colon, at_sign, slash, question_mark, hash_sign, percent_sign, is_not_percent, is_reg_name_char, is_path_char, is_query_char, is_fragment_char}
+use Rattle.iref_grammar.specs.Grammar.{colon, at_sign, slash, question_mark, hash_sign, percent_sign, is_not_percent, is_sub_delim, is_reg_name_char, is_user_info_char, is_path_char, is_query_char, is_fragment_char}
 use Rattle.iref_grammar.specs.Texts.{before, from_first, after, after_first_char, begins_with}
-use Rattle.iref_grammar.specs.Tests.{is_encoded, is_encoded_after, in_utf8, is_reg_name, is_host, is_ip_literal, is_path, is_query, is_fragment, none_or}
+use Rattle.iref_grammar.specs.Tests.{is_reg_name, is_host, is_ip_literal, is_path, is_query, is_fragment, none_or}
 use Rattle.iref_grammar.specs.Authority.{is_authority}
-use Rattle.iref_grammar.specs.Reference.{read_reference, hierarchy, scheme_of, split_scheme, split_authority}
+use Rattle.iref_grammar.specs.Reference.{is_reference, read_reference, hierarchy, scheme_of, split_scheme, split_authority}
 use Rattle.iref_grammar.specs.ComponentTexts.{ComponentTexts, spell_components}
 use Rattle.iref_grammar.proofs.ComponentLemmas.{spelled_as_read}
-use Rattle.iref_grammar.proofs.CutLemmas.{before-no, before-yes, before-from_first}
-use Rattle.iref_grammar.proofs.EncodedLemmas.{by_char}
-use Rattle.iref_parse.specs.Plain.{is_plain_byte, is_plain_of_queries, is_plain_of_paths, is_plain_of_authorities, ArePlain}
+use Rattle.iref_grammar.proofs.CutLemmas.{before-from_first}
+use Rattle.iref_grammar.proofs.ReferenceRuleLemmas.{Decides-is_uri_reference}
+use Rattle.iref_grammar.proofs.SplitLemmas.{begins_with_mark}
+use Rattle.iref_parse.specs.Plain.{is_plain_byte}
+use Rattle.iref_parse.specs.Encoded.{is_plain_char, but, is_authority_char, are_encoded, AreEncoded}
 use Rattle.iref_parse.proofs.AsciiLemmas.{listed, allowed, reg_name_byte, path_byte, query_byte, fragment_byte}
 use Rattle.iref_parse.specs.AuthoritySlices.{is_port_part}
 use Rattle.iref_parse.proofs.AuthorityLemmas.{port_after}
-
--- ---- parts of a list whose items pass
-
-parts_pass : (p : ℕ → Bool) (n : ℕ) (text : Text) → list_all p text ≡ true → (list_all p (take n text) ≡ true) × (list_all p (drop n text) ≡ true)
-parts_pass p n text h = and_parts _ _ (sym (list_all-append p (take n text) (drop n text)) ∙ ap (list_all p) (take-append-drop n text) ∙ h)
-
-rest_passes : (p : ℕ → Bool) (text : Text) → list_all p text ≡ true → none_or (list_all p) (after_first_char text) ≡ true
-rest_passes p [] h = refl
-rest_passes p (c ∷ cs) h = (and_parts _ _ h).1
-
-after_passes : (p : ℕ → Bool) (mark : ℕ) (text : Text) → list_all p text ≡ true → none_or (list_all p) (after mark text) ≡ true
-after_passes p mark text h = rest_passes p (from_first (mark ∷ []) text) ((parts_pass p _ text h).1)
-
--- what stands before the delimiter is not the delimiter
-before_passes : (p : ℕ → Bool) (mark : ℕ) (text : Text) → list_all p text ≡ true → list_all (λ b. p b && not (b == mark)) (before (mark ∷ []) text) ≡ true
-before_passes p mark [] h = refl
-before_passes p mark (c ∷ cs) h = elim (eqb_tells mark c) [
-  | inl e ↦ ap (list_all (λ b. p b && not (b == mark))) (before-yes (mark ∷ []) c cs (λ i. e.0 i || false))
-  | inr e ↦
-      let parts = and_parts (p c) (list_all p cs) h in
-      ap (list_all (λ b. p b && not (b == mark))) (before-no (mark ∷ []) c cs (λ i. e.0 i || false))
-      ∙ and_from _ _ (and_from _ _ parts.0 (not_from_false _ (ne_eqb c mark (λ f. e.1 (sym f))))) (before_passes p mark cs parts.1)
-]
-
-before_marks_pass : (p : ℕ → Bool) (marks : List ℕ) (text : Text) → list_all p text ≡ true → list_all (λ b. p b && not (char_set_contains marks b)) (before marks text) ≡ true
-before_marks_pass p marks [] h = refl
-before_marks_pass p marks (c ∷ cs) h = let parts = and_parts (p c) (list_all p cs) h in by (char_set_contains marks c) refl parts.0 (before_marks_pass p marks cs parts.1)
-  where
-    by : (b : Bool) → char_set_contains marks c ≡ b → p c ≡ true → list_all (λ d. p d && not (char_set_contains marks d)) (before marks cs) ≡ true → list_all (λ d. p d && not (char_set_contains marks d)) (before marks (c ∷ cs)) ≡ true
-    by true e first rest = ap (list_all (λ d. p d && not (char_set_contains marks d))) (before-yes marks c cs e)
-    by false e first rest = ap (list_all (λ d. p d && not (char_set_contains marks d))) (before-no marks c cs e) ∙ and_from _ _ (and_from _ _ first (not_from_false _ e)) rest
-
--- ---- the components
-
-scheme_rest_passes : (p : ℕ → Bool) (text : Text) → list_all p text ≡ true → list_all p (split_scheme text).1 ≡ true
-scheme_rest_passes p text h = by (after colon text) (after_passes p colon text h)
-  where
-    by : (o : Option Text) → none_or (list_all p) o ≡ true → list_all p (scheme_of (before (colon ∷ []) text) o text).1 ≡ true
-    by None k = h
-    by (Some rest) k = choose (char_set_contains (before (colon ∷ []) text) slash)
-      where
-        choose : (b : Bool) → list_all p (if◌then◌else◌ {A = Option Text × Text} b (None, text) (Some (before (colon ∷ []) text), rest)).1 ≡ true
-        choose true = h
-        choose false = k
-
-record AreHierarchyPlain (parts : Option Text × Text) : Type 0 where
-  authority : none_or (list_all is_plain_of_authorities) parts.0 ≡ true
-  path : list_all is_plain_of_paths parts.1 ≡ true
-
-split_authority_passes : (text : Text) → list_all is_plain_of_paths text ≡ true → AreHierarchyPlain (split_authority text)
-split_authority_passes text h = choose (begins_with (codes "//") text)
-  where
-    rest : list_all is_plain_of_paths (drop 2 text) ≡ true
-    rest = (parts_pass is_plain_of_paths 2 text h).1
-
-    choose : (b : Bool) → AreHierarchyPlain (if b then (Some (before (slash ∷ []) (drop 2 text)), from_first (slash ∷ []) (drop 2 text)) else (None, text))
-    choose true = record { authority = before_passes is_plain_of_paths slash (drop 2 text) rest; path = (parts_pass is_plain_of_paths _ (drop 2 text) rest).1 }
-    choose false = record { authority = refl; path = h }
-
-cut_as_read : Text → ComponentTexts
-cut_as_read text =
-    let front = split_scheme (hierarchy text) in
-    let middle = split_authority front.1 in
-    record { scheme = front.0; authority = middle.0; path = middle.1; query = after question_mark (before (hash_sign ∷ []) text); fragment = after hash_sign text }
-
-pub components_of_plain : (text : Text) → list_all is_plain_byte text ≡ true → ArePlain (spell_components (read_reference text))
-unfolding read_reference cut_as_read
-components_of_plain text h =
-    let queries = before_passes is_plain_byte hash_sign text h in
-    let paths = before_passes is_plain_of_queries question_mark (before (hash_sign ∷ []) text) queries in
-    let middle = split_authority_passes (split_scheme (hierarchy text)).1 (scheme_rest_passes is_plain_of_paths (hierarchy text) paths) in
-    subst ArePlain (spelled_as_read (cut_as_read text) (read_reference text) refl) (record {
-      authority = middle.authority;
-      path = middle.path;
-      query = after_passes is_plain_of_queries question_mark (before (hash_sign ∷ []) text) queries;
-      fragment = after_passes is_plain_byte hash_sign text h;
-    })
-
--- ---- the rules
+use Rattle.iref_parse.proofs.EncodedTextLemmas.{IsDelimiter, encoded_wider, encoded_before, encoded_from_first, encoded_past_one}
 
 plain_below : (b : ℕ) → is_plain_byte b ≡ true → b < 128
 plain_below b h = ltb-true b 128 ((and_parts _ _ h).0)
 
--- characters that stand for themselves
-encoded_alone : (test : ℕ → Bool) (text : Text) → list_all (allowed test) text ≡ true → is_encoded test text ≡ true
-encoded_alone test [] h = refl
-encoded_alone test (c ∷ cs) h =
-    let parts = and_parts (allowed test c) (list_all (allowed test) cs) h in
-    let alone = and_parts (is_not_percent c) (test c) ((and_parts (is_ascii c) _ parts.0).1) in
-    ap (λ o. is_encoded_after test o cs) (by_char test c (other c alone.0) ∙ ap (λ b. if b then Some 0 else None) alone.1) ∙ encoded_alone test cs parts.1
-  where
-    other : (d : ℕ) → is_not_percent d ≡ true → (d == percent_sign) ≡ false
-    other d e = grind (arith, nat_tests, e)
+-- a plain byte is a character that stands for itself
+pub plain_stands_for_itself : (set : CharTests) (c : ℕ) → is_plain_byte c ≡ true → (c < 128) × ((c == percent_sign) ≡ false) × (is_plain_char set c ≡ true)
+plain_stands_for_itself set c h =
+    let low = plain_below c h in
+    let other = (and_parts (is_plain_byte c) (is_not_percent c) (sym (agree_below_at is_plain_byte (λ b. is_plain_byte b && is_not_percent b) 128 c refl low) ∙ h)).1 in
+    (low, grind (arith, nat_tests, other), ap (λ b. b || set.extra c) h)
 
-all_ascii : (test : ℕ → Bool) (text : Text) → list_all (allowed test) text ≡ true → IsAscii text
-all_ascii test text h i = elim (cases_lt i (length text)) [
-  | inl below ↦ ltb-true _ 128 ((and_parts _ _ (AllPass-from_list_all (allowed test) text h i 0 below)).0)
-  | inr past ↦ omega (arith, get_or_past text i 0 past)
+-- ---- the delimiters
+
+one_of : (mark c : ℕ) → char_set_contains (mark ∷ []) c ≡ true → mark ≡ c
+one_of mark c h = elim (eqb_tells mark c) [ inl e ↦ e.1 | inr e ↦ absurd (true≢false (sym h ∙ (λ i. e.0 i || false))) ]
+
+is_delimiter : (mark : ℕ) → IsDelimiter mark → (c : ℕ) → char_set_contains (mark ∷ []) c ≡ true → IsDelimiter c
+is_delimiter mark d c h = subst IsDelimiter (one_of mark c h) d
+
+at_hash : IsDelimiter hash_sign
+at_hash = record { low = omega arith; no_percent = refl; no_digit = refl }
+
+at_question : IsDelimiter question_mark
+at_question = record { low = omega arith; no_percent = refl; no_digit = refl }
+
+at_slash : IsDelimiter slash
+at_slash = record { low = omega arith; no_percent = refl; no_digit = refl }
+
+at_colon : IsDelimiter colon
+at_colon = record { low = omega arith; no_percent = refl; no_digit = refl }
+
+ends_host : (c : ℕ) → char_set_contains (colon ∷ at_sign ∷ []) c ≡ true → IsDelimiter c
+ends_host c h = elim (eqb_tells colon c) [
+  | inl e ↦ subst IsDelimiter e.1 at_colon
+  | inr e ↦ subst IsDelimiter (one_of at_sign c ((λ i. sym e.0 i || (at_sign == c || false)) ∙ h)) (record { low = omega arith; no_percent = refl; no_digit = refl })
 ]
 
-in_utf8_alone : (test : ℕ → Bool) (text : Text) → list_all (allowed test) text ≡ true → in_utf8 (is_encoded test) text ≡ true
-in_utf8_alone test text h =
-    let ascii = all_ascii test text h in
-    and_from _ _ (is_utf8-from_IsUtf8 text (IsUtf8-from_ascii text ascii)) (ap (is_encoded test) (chars-IsAscii text ascii) ∙ encoded_alone test text h)
+ends_path : (c : ℕ) → char_set_contains (question_mark ∷ hash_sign ∷ []) c ≡ true → IsDelimiter c
+ends_path c h = elim (eqb_tells question_mark c) [
+  | inl e ↦ subst IsDelimiter e.1 at_question
+  | inr e ↦ subst IsDelimiter (one_of hash_sign c ((λ i. sym e.0 i || (hash_sign == c || false)) ∙ h)) at_hash
+]
 
--- each byte that passes is one that the rule has
-weaken : (p q : ℕ → Bool) → ((b : ℕ) → p b ≡ true → q b ≡ true) → (text : Text) → list_all p text ≡ true → list_all q text ≡ true
-weaken p q f [] h = refl
-weaken p q f (c ∷ cs) h = let parts = and_parts (p c) (list_all p cs) h in and_from _ _ (f c parts.0) (weaken p q f cs parts.1)
-
-byte_of : (b : ℕ) → is_plain_byte b ≡ true → b < 256
-byte_of b h = let low = plain_below b h in omega arith
+-- ---- the characters of the rules
 
 module _ (set : CharTests) (above : AreAboveAscii set) where
-  path_alone : (b : ℕ) → is_plain_of_paths b ≡ true → allowed (λ c. is_path_char set c || c == slash) b ≡ true
-  path_alone b h =
-      let byte = byte_of b ((and_parts _ _ ((and_parts _ _ h).0)).0) in
-      sym (path_byte set above b byte) ∙ (and_parts (is_plain_of_paths b) (listed 3 b) (sym (agree_below_at is_plain_of_paths (λ c. is_plain_of_paths c && listed 3 c) 256 b refl byte) ∙ h)).1
+  by_table : (n b : ℕ) (rule : ℕ → Bool) (p : Bool) → listed n b ≡ allowed rule b → (p && listed n b) ≡ true → rule b ≡ true
+  by_table n b rule p e h = (and_parts (is_not_percent b) (rule b) ((and_parts (is_ascii b) _ (sym e ∙ (and_parts p (listed n b) h).1)).1)).1
 
-  query_alone : (b : ℕ) → is_plain_of_queries b ≡ true → allowed (is_query_char set) b ≡ true
-  query_alone b h =
-      let byte = byte_of b ((and_parts _ _ h).0) in
-      sym (query_byte set above b byte) ∙ (and_parts (is_plain_of_queries b) (listed 4 b) (sym (agree_below_at is_plain_of_queries (λ c. is_plain_of_queries c && listed 4 c) 256 b refl byte) ∙ h)).1
+  -- each character is plain or of the set
+  by_kind : (c : ℕ) (rest : Bool → Bool) (rule : Bool) → rest (is_plain_char set c) ≡ true → ((b : Bool) → rest b ≡ true → b ≡ true) → (is_plain_byte c ≡ true → rest (is_plain_byte c) ≡ true → rule ≡ true) → (set.extra c ≡ true → rule ≡ true) → rule ≡ true
+  by_kind c rest rule h has plain extra = by (is_plain_byte c) refl
+    where
+      by : (b : Bool) → is_plain_byte c ≡ b → rule ≡ true
+      by true e = plain e (ap rest (e ∙ sym (ap (λ b. b || set.extra c) e)) ∙ h)
+      by false e = extra (sym (ap (λ b. b || set.extra c) e) ∙ has (is_plain_char set c) h)
 
-  fragment_alone : (b : ℕ) → is_plain_of_queries b ≡ true → allowed (is_fragment_char set) b ≡ true
-  fragment_alone b h =
-      let byte = byte_of b ((and_parts _ _ h).0) in
-      sym (fragment_byte set above b byte) ∙ (and_parts (is_plain_of_queries b) (listed 4 b) (sym (agree_below_at is_plain_of_queries (λ c. is_plain_of_queries c && listed 4 c) 256 b refl byte) ∙ h)).1
+  some_true : (a b d : Bool) → ((a || b || true) || d) ≡ true
+  some_true true true d = refl
+  some_true true false d = refl
+  some_true false true d = refl
+  some_true false false d = refl
 
-  abbrev is_host_byte : ℕ → Bool
-  is_host_byte b = is_plain_of_authorities b && not (char_set_contains (colon ∷ at_sign ∷ []) b)
+  extra_reg_name : (c : ℕ) → set.extra c ≡ true → is_reg_name_char set c ≡ true
+  unfolding is_reg_name_char
+  extra_reg_name c h = ap (λ b. (is_ascii_alphanumeric c || char_set_contains (codes "-._~") c || b) || is_sub_delim c) h ∙ some_true (is_ascii_alphanumeric c) (char_set_contains (codes "-._~") c) (is_sub_delim c)
 
-  host_byte_alone : (b : ℕ) → is_host_byte b ≡ true → allowed (is_reg_name_char set) b ≡ true
-  host_byte_alone b h =
-      let byte = byte_of b ((and_parts _ _ ((and_parts _ _ ((and_parts _ _ ((and_parts _ _ h).0)).0)).0)).0) in
-      sym (reg_name_byte set above b byte) ∙ (and_parts (is_host_byte b) (listed 0 b) (sym (agree_below_at is_host_byte (λ c. is_host_byte c && listed 0 c) 256 b refl byte) ∙ h)).1
+  extra_path : (c : ℕ) → set.extra c ≡ true → is_path_char set c ≡ true
+  unfolding is_path_char is_user_info_char
+  extra_path c h = ap (λ b. (b || c == colon) || c == at_sign) (extra_reg_name c h)
 
-  pub plain_path : (text : Text) → list_all is_plain_of_paths text ≡ true → is_path set text ≡ true
+  extra_fragment : (c : ℕ) → set.extra c ≡ true → is_fragment_char set c ≡ true
+  unfolding is_fragment_char
+  extra_fragment c h = ap (λ b. b || c == slash || c == question_mark) (extra_path c h)
+
+  extra_query : (c : ℕ) → set.extra c ≡ true → is_query_char set c ≡ true
+  unfolding is_query_char
+  extra_query c h = ap (λ b. b || set.private c) (extra_fragment c h)
+
+  -- but those that the delimiters hold
+  abbrev without : List ℕ → ℕ → Bool → Bool
+  without marks c b = b && not (char_set_contains marks c)
+
+  path_char : (c : ℕ) → but (question_mark ∷ []) (but (hash_sign ∷ []) (is_plain_char set)) c ≡ true → (is_path_char set c || c == slash) ≡ true
+  path_char c h =
+      by_kind c (λ b. without (question_mark ∷ []) c (without (hash_sign ∷ []) c b)) (is_path_char set c || c == slash) h (λ b k. (and_parts _ _ ((and_parts _ _ k).0)).0)
+      (λ plain k.
+      let low = plain_below c plain in
+      let p = but (question_mark ∷ []) (but (hash_sign ∷ []) is_plain_byte) in
+      by_table 3 c (λ d. is_path_char set d || d == slash) (p c) (path_byte set above c (omega arith)) (sym (agree_below_at p (λ b. p b && listed 3 b) 128 c refl low) ∙ k))
+      (λ e. ap (λ b. b || c == slash) (extra_path c e))
+
+  query_char : (c : ℕ) → but (hash_sign ∷ []) (is_plain_char set) c ≡ true → is_query_char set c ≡ true
+  query_char c h =
+      by_kind c (λ b. without (hash_sign ∷ []) c b) (is_query_char set c) h (λ b k. (and_parts _ _ k).0)
+      (λ plain k.
+      let low = plain_below c plain in
+      let p = but (hash_sign ∷ []) is_plain_byte in
+      by_table 4 c (is_query_char set) (p c) (query_byte set above c (omega arith)) (sym (agree_below_at p (λ b. p b && listed 4 b) 128 c refl low) ∙ k))
+      (extra_query c)
+
+  fragment_char : (c : ℕ) → but (hash_sign ∷ []) (is_plain_char set) c ≡ true → is_fragment_char set c ≡ true
+  fragment_char c h =
+      by_kind c (λ b. without (hash_sign ∷ []) c b) (is_fragment_char set c) h (λ b k. (and_parts _ _ k).0)
+      (λ plain k.
+      let low = plain_below c plain in
+      let p = but (hash_sign ∷ []) is_plain_byte in
+      by_table 4 c (is_fragment_char set) (p c) (fragment_byte set above c (omega arith)) (sym (agree_below_at p (λ b. p b && listed 4 b) 128 c refl low) ∙ k))
+      (extra_fragment c)
+
+  host_char : (c : ℕ) → but (colon ∷ at_sign ∷ []) (is_authority_char set) c ≡ true → is_reg_name_char set c ≡ true
+  host_char c h =
+      by_kind c (λ b. without (colon ∷ at_sign ∷ []) c (without (slash ∷ []) c (without (question_mark ∷ []) c (without (hash_sign ∷ []) c b)))) (is_reg_name_char set c) h
+      (λ b k. (and_parts _ _ ((and_parts _ _ ((and_parts _ _ ((and_parts _ _ k).0)).0)).0)).0)
+      (λ plain k.
+      let low = plain_below c plain in
+      let p = but (colon ∷ at_sign ∷ []) (but (slash ∷ []) (but (question_mark ∷ []) (but (hash_sign ∷ []) is_plain_byte))) in
+      by_table 0 c (is_reg_name_char set) (p c) (reg_name_byte set above c (omega arith)) (sym (agree_below_at p (λ b. p b && listed 0 b) 128 c refl low) ∙ k))
+      (extra_reg_name c)
+
+  -- ---- the components
+
+  after_encoded : (test : ℕ → Bool) (mark : ℕ) → IsDelimiter mark → (text : Text) → are_encoded test text ≡ true → none_or (are_encoded test) (after mark text) ≡ true
+  after_encoded test mark d text h = by (from_first (mark ∷ []) text) refl
+    where
+      by : (t : Text) → from_first (mark ∷ []) text ≡ t → none_or (are_encoded test) (after_first_char t) ≡ true
+      by [] e = refl
+      by (c ∷ rest) e =
+          encoded_past_one test c rest (is_delimiter mark d c (begins_with_mark (mark ∷ []) text c rest e))
+          (ap (are_encoded test) (sym e) ∙ encoded_from_first (mark ∷ []) (is_delimiter mark d) test text h)
+
+  scheme_rest_encoded : (test : ℕ → Bool) (text : Text) → are_encoded test text ≡ true → are_encoded test (split_scheme text).1 ≡ true
+  scheme_rest_encoded test text h = by (after colon text) (after_encoded test colon at_colon text h)
+    where
+      by : (o : Option Text) → none_or (are_encoded test) o ≡ true → are_encoded test (scheme_of (before (colon ∷ []) text) o text).1 ≡ true
+      by None k = h
+      by (Some rest) k = choose (char_set_contains (before (colon ∷ []) text) slash)
+        where
+          choose : (b : Bool) → are_encoded test (if◌then◌else◌ {A = Option Text × Text} b (None, text) (Some (before (colon ∷ []) text), rest)).1 ≡ true
+          choose true = h
+          choose false = k
+
+  past_slashes : (test : ℕ → Bool) (text : Text) → begins_with (codes "//") text ≡ true → are_encoded test text ≡ true → are_encoded test (drop 2 text) ≡ true
+  past_slashes test [] e h = absurd (true≢false (sym e))
+  past_slashes test (a ∷ []) e h = absurd (true≢false (sym ((and_parts (slash == a) false e).1)))
+  past_slashes test (a ∷ b ∷ rest) e h =
+      let parts = and_parts (slash == a) _ e in
+      let first = eqb-true slash a parts.0 in
+      let second = eqb-true slash b ((and_parts (slash == b) true parts.1).0) in
+      encoded_past_one test b rest (subst IsDelimiter second at_slash) (encoded_past_one test a (b ∷ rest) (subst IsDelimiter first at_slash) h)
+
+  is_path_text : (text : Text) → are_encoded (but (question_mark ∷ []) (but (hash_sign ∷ []) (is_plain_char set))) text ≡ true → is_path set text ≡ true
   unfolding is_path
-  plain_path text h = in_utf8_alone _ text (weaken _ _ path_alone text h)
+  is_path_text = encoded_wider (but (question_mark ∷ []) (but (hash_sign ∷ []) (is_plain_char set))) (λ c. is_path_char set c || c == slash) path_char
 
-  pub plain_query : (query : Option Text) → none_or (list_all is_plain_of_queries) query ≡ true → none_or (is_query set) query ≡ true
+  is_query_text : (text : Text) → are_encoded (but (hash_sign ∷ []) (is_plain_char set)) text ≡ true → is_query set text ≡ true
   unfolding is_query
-  plain_query None h = refl
-  plain_query (Some text) h = in_utf8_alone _ text (weaken _ _ query_alone text h)
+  is_query_text = encoded_wider (but (hash_sign ∷ []) (is_plain_char set)) (is_query_char set) query_char
 
-  -- of which none is one of the delimiters
-  unmarked : (p test : ℕ → Bool) (text : Text) → list_all p text ≡ true → position_or_len test text ≡ length text → list_all (λ b. p b && not (test b)) text ≡ true
-  unmarked p test text h e =
-      list_all-from_AllPass (λ b. p b && not (test b)) text
-      (λ k d l. and_from _ _ (AllPass-from_list_all p text h k d l) (not_from_false _ (fails_before_first test text k d (omega (arith, e, l)))))
+  some_query : (query : Option Text) → none_or (are_encoded (but (hash_sign ∷ []) (is_plain_char set))) query ≡ true → none_or (is_query set) query ≡ true
+  some_query None h = refl
+  some_query (Some text) h = is_query_text text h
 
-  pub plain_fragment : (text : Text) → list_all is_plain_byte text ≡ true → position_or_len (char_set_contains (hash_sign ∷ [])) text ≡ length text → is_fragment set text ≡ true
+  record IsHierarchyEncoded (parts : Option Text × Text) : Type 0 where
+    authority : none_or (are_encoded (is_authority_char set)) parts.0 ≡ true
+    path : is_path set parts.1 ≡ true
+
+  split_authority_encoded : (text : Text) → are_encoded (but (question_mark ∷ []) (but (hash_sign ∷ []) (is_plain_char set))) text ≡ true → IsHierarchyEncoded (split_authority text)
+  split_authority_encoded text h = choose (begins_with (codes "//") text) refl
+    where
+      test : ℕ → Bool
+      test = but (question_mark ∷ []) (but (hash_sign ∷ []) (is_plain_char set))
+
+      choose : (b : Bool) → begins_with (codes "//") text ≡ b → IsHierarchyEncoded (if b then (Some (before (slash ∷ []) (drop 2 text)), from_first (slash ∷ []) (drop 2 text)) else (None, text))
+      choose true e =
+          let rest = past_slashes test text e h in record {
+            authority = encoded_before (slash ∷ []) (is_delimiter slash at_slash) test (drop 2 text) rest;
+            path = is_path_text _ (encoded_from_first (slash ∷ []) (is_delimiter slash at_slash) test (drop 2 text) rest);
+          }
+      choose false e = record { authority = refl; path = is_path_text text h }
+
+  cut_as_read : Text → ComponentTexts
+  cut_as_read text =
+      let front = split_scheme (hierarchy text) in
+      let middle = split_authority front.1 in
+      record { scheme = front.0; authority = middle.0; path = middle.1; query = after question_mark (before (hash_sign ∷ []) text); fragment = after hash_sign text }
+
+  pub components_of_encoded : (text : Text) → are_encoded (is_plain_char set) text ≡ true → AreEncoded set (spell_components (read_reference text))
+  unfolding read_reference cut_as_read
+  components_of_encoded text h =
+      let queries = encoded_before (hash_sign ∷ []) (is_delimiter hash_sign at_hash) (is_plain_char set) text h in
+      let paths = encoded_before (question_mark ∷ []) (is_delimiter question_mark at_question) (but (hash_sign ∷ []) (is_plain_char set)) (before (hash_sign ∷ []) text) queries in
+      let middle = split_authority_encoded (split_scheme (hierarchy text)).1 (scheme_rest_encoded (but (question_mark ∷ []) (but (hash_sign ∷ []) (is_plain_char set))) (hierarchy text) paths) in
+      subst (AreEncoded set) (spelled_as_read (cut_as_read text) (read_reference text) refl) (record {
+        authority = middle.authority;
+        path = middle.path;
+        query = some_query (after question_mark (before (hash_sign ∷ []) text)) (after_encoded (but (hash_sign ∷ []) (is_plain_char set)) question_mark at_question (before (hash_sign ∷ []) text) queries);
+        fragment = after_encoded (is_plain_char set) hash_sign at_hash text h;
+      })
+
+  -- ---- texts without a delimiter
+
+  uncut : (marks : List ℕ) (text : Text) → position_or_len (char_set_contains marks) text ≡ length text → before marks text ≡ text
+  uncut marks text e = ap (λ n. take n text) e ∙ take_all (length text) text (omega arith)
+
+  pub encoded_fragment : (text : Text) → are_encoded (is_plain_char set) text ≡ true → position_or_len (char_set_contains (hash_sign ∷ [])) text ≡ length text → is_fragment set text ≡ true
   unfolding is_fragment
-  plain_fragment text h e =
-      in_utf8_alone _ text (weaken _ _ fragment_alone text (weaken _ _ not_the_mark text (unmarked is_plain_byte (char_set_contains (hash_sign ∷ [])) text h e)))
-    where
-      not_the_mark : (b : ℕ) → (is_plain_byte b && not (char_set_contains (hash_sign ∷ []) b)) ≡ true → is_plain_of_queries b ≡ true
-      not_the_mark b k =
-          let byte = byte_of b ((and_parts _ _ k).0) in
-          sym (agree_below_at (λ c. is_plain_byte c && not (char_set_contains (hash_sign ∷ []) c)) is_plain_of_queries 256 b refl byte) ∙ k
+  encoded_fragment text h e =
+      encoded_wider (but (hash_sign ∷ []) (is_plain_char set)) (is_fragment_char set) fragment_char text
+      (ap (are_encoded (but (hash_sign ∷ []) (is_plain_char set))) (sym (uncut (hash_sign ∷ []) text e)) ∙ encoded_before (hash_sign ∷ []) (is_delimiter hash_sign at_hash) (is_plain_char set) text h)
 
-  pub plain_path_alone : (text : Text) → list_all is_plain_byte text ≡ true → position_or_len (char_set_contains (question_mark ∷ hash_sign ∷ [])) text ≡ length text → is_path set text ≡ true
-  plain_path_alone text h e =
-      plain_path text (weaken _ _ no_mark text (unmarked is_plain_byte (char_set_contains (question_mark ∷ hash_sign ∷ [])) text h e))
+  both_cut : (c : ℕ) → but (question_mark ∷ hash_sign ∷ []) (is_plain_char set) c ≡ true → but (question_mark ∷ []) (but (hash_sign ∷ []) (is_plain_char set)) c ≡ true
+  both_cut c h = by (is_plain_char set c) (question_mark == c) (hash_sign == c) h
     where
-      no_mark : (b : ℕ) → (is_plain_byte b && not (char_set_contains (question_mark ∷ hash_sign ∷ []) b)) ≡ true → is_plain_of_paths b ≡ true
-      no_mark b k =
-          let byte = byte_of b ((and_parts _ _ k).0) in
-          sym (agree_below_at (λ c. is_plain_byte c && not (char_set_contains (question_mark ∷ hash_sign ∷ []) c)) is_plain_of_paths 256 b refl byte) ∙ k
+      by : (p q r : Bool) → (p && not (q || (r || false))) ≡ true → ((p && not (r || false)) && not (q || false)) ≡ true
+      by true false false k = refl
+      by true true r k = absurd (true≢false (sym k))
+      by true false true k = absurd (true≢false (sym k))
+      by false q r k = absurd (true≢false (sym k))
+
+  pub encoded_path : (text : Text) → are_encoded (is_plain_char set) text ≡ true → position_or_len (char_set_contains (question_mark ∷ hash_sign ∷ [])) text ≡ length text → is_path set text ≡ true
+  encoded_path text h e =
+      is_path_text text
+      (encoded_wider (but (question_mark ∷ hash_sign ∷ []) (is_plain_char set)) (but (question_mark ∷ []) (but (hash_sign ∷ []) (is_plain_char set))) both_cut text
+      (ap (are_encoded (but (question_mark ∷ hash_sign ∷ []) (is_plain_char set))) (sym (uncut (question_mark ∷ hash_sign ∷ []) text e)) ∙ encoded_before (question_mark ∷ hash_sign ∷ []) ends_path (is_plain_char set) text h))
 
   -- a registered name up to one of the two delimiters, and a port, if any
-  pub plain_authority : (text host end : Text) → list_all is_plain_of_authorities text ≡ true → host ≡ before (colon ∷ at_sign ∷ []) text → end ≡ from_first (colon ∷ at_sign ∷ []) text
+  pub encoded_authority : (text host end : Text) → are_encoded (is_authority_char set) text ≡ true → host ≡ before (colon ∷ at_sign ∷ []) text → end ≡ from_first (colon ∷ at_sign ∷ []) text
       → is_port_part end ≡ true → is_authority set text ≡ true
   unfolding is_host is_reg_name
-  plain_authority text host end h e f port =
+  encoded_authority text host end h e f port =
       let front = before (colon ∷ at_sign ∷ []) text in
-      let name : is_reg_name set host ≡ true = ap (is_reg_name set) e ∙ in_utf8_alone (is_reg_name_char set) front (weaken is_host_byte (allowed (is_reg_name_char set)) host_byte_alone front (before_marks_pass is_plain_of_authorities (colon ∷ at_sign ∷ []) text h)) in
+      let name : is_reg_name set host ≡ true = ap (is_reg_name set) e ∙ encoded_wider (but (colon ∷ at_sign ∷ []) (is_authority_char set)) (is_reg_name_char set) host_char front (encoded_before (colon ∷ at_sign ∷ []) ends_host (is_authority_char set) text h) in
       ap (is_authority set) (sym (before-from_first (colon ∷ at_sign ∷ []) text) ∙ (λ i. sym e i ++ sym f i))
       ∙ port_after set above host end (or_right (is_ip_literal host) (is_reg_name set host) name) port
+
+  -- what is no UTF-8 is no reference
+  pub no_reference : (bytes : Text) → (IsUtf8 bytes → ⊥) → false ≡ is_reference set bytes
+  no_reference bytes invalid = by (is_reference set bytes) refl
+    where
+      by : (b : Bool) → is_reference set bytes ≡ b → false ≡ is_reference set bytes
+      by true e = let z = (Decides-is_uri_reference set above bytes).0 e in absurd (invalid (z.0, (z.1, z.2)))
+      by false e = sym e

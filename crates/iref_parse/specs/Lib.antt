@@ -19,3 +19,4 @@ pub mod Splits
 pub mod Lanes
 pub mod Plain
 pub mod Dots
+pub mod Encoded

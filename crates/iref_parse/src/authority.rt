@@ -9,7 +9,7 @@ ghost use Rattle.iref_parse.specs.AuthoritySlices.{authority_of, is_port_part};
 
 use crate::cut::{cut, split_before};
 use crate::host::is_host;
-use crate::ipv6::is_plain_ipv6;
+use crate::ipv6::is_ipv6;
 use crate::scan::{are_digits, is_port, is_user_info};
 use iref_grammar::chars::CharSet;
 
@@ -74,8 +74,8 @@ pub(crate) fn is_port_part(bytes: &[u8]) -> bool
     *first == b':' && are_digits(port)
 }
 
-// Whether the text is an IPv6 address of groups alone in brackets, and a port, if any.
-fn is_plain_address(text: &str) -> bool
+// Whether the text is an IPv6 address in brackets, and a port, if any.
+fn is_ipv6_and_port(text: &str) -> bool
     ensures { result ≡ true → (set : CharTests) → AreAboveAscii set
         → authority.is_authority set text.now ≡ true }
 {
@@ -83,7 +83,7 @@ fn is_plain_address(text: &str) -> bool
         return false;
     };
     match cut(rest, ']') {
-        (inside, Some(end)) => { is_plain_ipv6(inside.as_bytes()) && is_port_part(end.as_bytes()) }
+        (inside, Some(end)) => is_ipv6(inside) && is_port_part(end.as_bytes()),
         (_, None) => false,
     }
 }
@@ -104,7 +104,7 @@ fn are_parts<C: CharSet>(parts: AuthoritySlices<'_>) -> bool
 pub fn is_authority<C: CharSet>(text: &str) -> bool
     ensures { result ≡ authority.is_authority C.tests text.now }
 {
-    if is_plain_address(text) {
+    if is_ipv6_and_port(text) {
         return true;
     }
     is_host::<C>(text) || are_parts::<C>(split_parts(text))

@@ -62,16 +62,24 @@ fn opens_with_gap(bytes: &[u8]) -> bool
 
 /// Whether the bytes are an IPv6 address of which no part is written as an IPv4 address.
 #[inline(always)]
-pub(crate) fn is_plain_ipv6(bytes: &[u8]) -> bool
+fn is_plain_ipv6(bytes: &[u8]) -> bool
     ensures { result ≡ scan.is_plain_ipv6 bytes.now }
 {
     has_groups(bytes, 7, 0) || opens_with_gap(bytes)
 }
 
+// Whether the text is an IPv6 address, by its number.
+fn has_ipv6_value(text: &str) -> bool
+    ensures { result ≡ test.is_ipv6 text.now }
+{
+    ipv6_value(text).is_some()
+}
+
 /// Whether the text is an IPv6 address, without brackets.
 #[tactic(auto, using(crate::proofs::Ipv6ScanLemmas::plain_address))]
+#[inline(always)]
 pub fn is_ipv6(text: &str) -> bool
     ensures { result ≡ test.is_ipv6 text.now }
 {
-    is_plain_ipv6(text.as_bytes()) || ipv6_value(text).is_some()
+    is_plain_ipv6(text.as_bytes()) || has_ipv6_value(text)
 }

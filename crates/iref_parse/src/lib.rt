@@ -7,6 +7,7 @@ pub mod chunk;
 pub mod cut;
 pub mod decoded;
 pub mod dots;
+mod encoded;
 pub mod host;
 pub mod ip;
 pub mod ipv6;

@@ -1,10 +1,10 @@
-//! Whether each byte of a text is one of a path, `?` or `#`.
+//! How many bytes of a text, from its front on, are of a path, `?` or `#`.
 ghost use Rattle.std.specs.Prelude.{◌≡◌, ℕ, ◌+◌, ◌≤◌, length, slice_index};
-ghost use Rattle.std.specs.List.{list_all};
+ghost use Rattle.std.specs.List.{prefix_len};
 ghost use Rattle.iref_parse.specs.Lanes.{HasLanes};
 ghost use Rattle.iref_parse.specs.Plain as plain;
 
-use crate::lanes::{both, by_high_half, by_low_half, either, is_clear, load};
+use crate::lanes::{both, by_high_half, by_low_half, common_lanes, is_clear, load};
 use std::simd::prelude::*;
 
 /// By the low half of a byte, the groups of high halves with which it is not plain.
@@ -24,15 +24,9 @@ fn is_plain_byte(byte: u8) -> bool
     LOW[usize::from(byte % 16)] & HIGH[usize::from(byte / 16)] == 0
 }
 
-fn are_few_plain(bytes: &[u8]) -> bool
-    ensures { result ≡ list_all plain.is_plain_byte bytes.now }
-{
-    bytes.iter().all(|byte| is_plain_byte(*byte))
-}
-
 // A lane is 0 where the byte is plain.
 #[inline(always)]
-pub(crate) fn marks(bytes: &[u8], at: usize) -> u8x16
+fn marks(bytes: &[u8], at: usize) -> u8x16
     requires { at + 16 ≤ length bytes.now }
     ensures { HasLanes result (λ k. plain.other_groups LOW HIGH (slice_index bytes.now (at + k))) }
 {
@@ -40,20 +34,35 @@ pub(crate) fn marks(bytes: &[u8], at: usize) -> u8x16
     both(by_low_half(&LOW, v), by_high_half(&HIGH, v))
 }
 
-/// Whether each byte is one of a path, `?` or `#`.
+// How many plain bytes stand first. The bytes are read one by one.
 #[inline(always)]
-pub fn is_plain(bytes: &[u8]) -> bool
-    ensures { result ≡ list_all plain.is_plain_byte bytes.now }
+fn few_plain_first(bytes: &[u8]) -> usize
+    ensures { result ≡ prefix_len plain.is_plain_byte bytes.now }
+{
+    let mut at = 0;
+    while at < bytes.len() && is_plain_byte(bytes[at]) {
+        at += 1;
+    }
+    at
+}
+
+/// How many bytes stand first that are of a path, `?` or `#`.
+#[inline(always)]
+pub(crate) fn plain_first(bytes: &[u8]) -> usize
+    ensures { result ≡ prefix_len plain.is_plain_byte bytes.now }
 {
     let len = bytes.len();
     if len < 16 {
-        return are_few_plain(bytes);
+        return few_plain_first(bytes);
     }
-    let mut seen = marks(bytes, len - 16);
+    let last = len - 16;
     let mut at = 0;
-    while 16 <= len - at {
-        seen = either(seen, marks(bytes, at));
+    while at < last {
+        let found = marks(bytes, at);
+        if !is_clear(found) {
+            return at + common_lanes(found, u8x16::splat(0));
+        }
         at += 16;
     }
-    is_clear(seen)
+    last + common_lanes(marks(bytes, last), u8x16::splat(0))
 }

@@ -8,7 +8,7 @@ ghost use Rattle.iref_grammar.specs.Tests as test;
 ghost use Rattle.iref_grammar.specs.{slash, is_not_percent, ScansTo};
 
 use crate::ascii::{PATH, PCT_STR, QUERY, REG_NAME, SEGMENT, USER_INFO, first_rule};
-use crate::plain::is_plain;
+use crate::encoded::is_encoded_text;
 use crate::position::position_of_either;
 use iref_grammar::chars::CharSet;
 use std::marker::PhantomData;
@@ -304,13 +304,13 @@ pub fn is_segment<C: CharSet>(text: &str) -> bool
     is_encoded::<SegmentChars<C>>(text)
 }
 
-// Whether the text has 16 bytes at least, and each byte stands for itself in a path.
+// Whether the text has 16 bytes at least, and is found to be a path by a scan of vectors.
 #[inline(always)]
-fn is_plain_path<C: CharSet>(text: &str) -> bool
+fn is_encoded_path<C: CharSet>(text: &str) -> bool
     ensures { result ≡ true → test.is_path C.tests text.now ≡ true }
 {
     let bytes = text.as_bytes();
-    if bytes.len() < 16 || !is_plain(bytes) {
+    if bytes.len() < 16 || !is_encoded_text::<C>(bytes) {
         return false;
     }
     position_of_either(bytes, b'?', b'#') == bytes.len()
@@ -328,7 +328,7 @@ fn is_scanned_path<C: CharSet>(text: &str) -> bool
 pub fn is_path<C: CharSet>(text: &str) -> bool
     ensures { result ≡ test.is_path C.tests text.now }
 {
-    is_plain_path::<C>(text) || is_scanned_path::<C>(text)
+    is_encoded_path::<C>(text) || is_scanned_path::<C>(text)
 }
 
 #[tactic(auto, using(crate::proofs::ScanLemmas::utf8), unfolding(iref_grammar::specs::Tests::is_query))]

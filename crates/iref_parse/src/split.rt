@@ -1,7 +1,7 @@
 //! The one split of a reference into its components (RFC 3986 section 4.1 and appendix B).
 
-ghost use Rattle.std.specs.Prelude.{◌≡◌, ◌<◌, ◌↔◌, [], ◌∷◌, IfSome, codes, is_some, true};
-ghost use Rattle.std.specs.{Option.{option_copied}, List.{list_all}};
+ghost use Rattle.std.specs.Prelude.{◌≡◌, ◌<◌, ◌↔◌, [], ◌∷◌, IfSome, MatchOption, codes, is_some, true};
+ghost use Rattle.std.specs.{Option.{option_copied}, Str.{IsUtf8}};
 ghost use Rattle.iref_grammar.specs.Reference as spec;
 ghost use Rattle.iref_grammar.specs.{hash_sign, question_mark, before, after};
 ghost use Rattle.iref_grammar.specs.{hierarchy, read_reference, is_reference, spell_components};
@@ -9,15 +9,17 @@ ghost use Rattle.iref_grammar.specs.{AreComponents, none_or};
 ghost use Rattle.iref_grammar.specs.Authority as authority;
 ghost use Rattle.iref_grammar.specs.Tests as test;
 ghost use Rattle.iref_grammar.specs.Texts.{begins_with};
-ghost use Rattle.iref_parse.specs.Plain.{ArePlain, is_plain_byte, is_plain_of_authorities};
+ghost use Rattle.iref_parse.specs.Encoded.{AreEncoded, are_encoded};
+ghost use Rattle.iref_parse.specs.Encoded.{is_authority_char, is_plain_char};
 ghost use Rattle.iref_parse.specs.{ReferenceSlices.{texts_of, value_of}, Splits.{SplitsBefore}};
 
 use crate::authority::{is_authority, is_port_part};
 use crate::cut::{cut, split_before};
-use crate::plain::is_plain;
+use crate::encoded::is_encoded_text;
 use crate::position::{position_near, position_of, position_of_either};
 use crate::scan::{is_fragment, is_path, is_query, is_scheme};
 use iref_grammar::chars::CharSet;
+use std::str;
 
 /// The components of a reference, as slices of its text (RFC 3986 appendix B): of `s://h/p?q#f`
 /// they are `s`, `h`, `/p`, `q` and `f`.
@@ -142,11 +144,11 @@ fn are_scanned_components<C: CharSet>(slices: ReferenceSlices<'_>) -> bool
             .is_none_or(|fragment| is_fragment::<C>(fragment))
 }
 
-// Whether the authority, of plain bytes, is in its rule. Up to the first `:` or `@` it is a
+// Whether the authority, which is encoded, is in its rule. Up to the first `:` or `@` it is a
 // registered name.
 #[inline(always)]
-fn is_plain_authority<C: CharSet>(part: Option<&str>) -> bool
-    requires { none_or (list_all is_plain_of_authorities) (option_copied part) ≡ true }
+fn is_encoded_authority<C: CharSet>(part: Option<&str>) -> bool
+    requires { none_or (are_encoded (is_authority_char C.tests)) (option_copied part) ≡ true }
     ensures { result ≡ none_or (authority.is_authority C.tests) (option_copied part.entry) }
 {
     let Some(text) = part else {
@@ -156,10 +158,10 @@ fn is_plain_authority<C: CharSet>(part: Option<&str>) -> bool
     is_port_part(end.as_bytes()) || is_authority::<C>(text)
 }
 
-// Whether the fragment, of plain bytes, is in its rule, as it is without `#`.
+// Whether the fragment, which is encoded, is in its rule, as it is without `#`.
 #[inline(always)]
-fn is_plain_fragment<C: CharSet>(part: Option<&str>) -> bool
-    requires { none_or (list_all is_plain_byte) (option_copied part) ≡ true }
+fn is_encoded_fragment<C: CharSet>(part: Option<&str>) -> bool
+    requires { none_or (are_encoded (is_plain_char C.tests)) (option_copied part) ≡ true }
     ensures { result ≡ none_or (test.is_fragment C.tests) (option_copied part.entry) }
 {
     let Some(text) = part else {
@@ -168,27 +170,26 @@ fn is_plain_fragment<C: CharSet>(part: Option<&str>) -> bool
     position_of(text.as_bytes(), b'#') == text.len() || is_fragment::<C>(text)
 }
 
-// Whether each slice of a plain text is in the rule of its component, as the path and the query
+// Whether each slice of an encoded text is in the rule of its component, as the path and the query
 // are.
-#[tactic(auto, using(crate::proofs::PlainTextLemmas::plain_path, crate::proofs::PlainTextLemmas::plain_query))]
 #[inline(always)]
-fn are_plain_components<C: CharSet>(slices: ReferenceSlices<'_>) -> bool
-    requires { ArePlain (texts_of slices) }
+fn are_encoded_components<C: CharSet>(slices: ReferenceSlices<'_>) -> bool
+    requires { AreEncoded C.tests (texts_of slices) }
     ensures { (result ≡ true) ↔ AreComponents C.tests (texts_of slices.entry) }
 {
     slices.scheme.is_none_or(|scheme| is_scheme(scheme))
-        && is_plain_authority::<C>(slices.authority)
-        && is_plain_fragment::<C>(slices.fragment)
+        && is_encoded_authority::<C>(slices.authority)
+        && is_encoded_fragment::<C>(slices.fragment)
 }
 
-// Whether each slice of the text is in the rule of its component.
+// Whether each slice is in the rule of its component. Those of an encoded text are, but few.
 #[inline(always)]
-fn are_components<C: CharSet>(text: &str, slices: ReferenceSlices<'_>) -> bool
-    requires { texts_of slices ≡ spell_components (read_reference text.now) }
+fn are_components<C: CharSet>(slices: ReferenceSlices<'_>, is_encoded: bool) -> bool
+    requires { is_encoded ≡ true → AreEncoded C.tests (texts_of slices) }
     ensures { (result ≡ true) ↔ AreComponents C.tests (texts_of slices.entry) }
 {
-    if is_plain(text.as_bytes()) {
-        are_plain_components::<C>(slices)
+    if is_encoded {
+        are_encoded_components::<C>(slices)
     } else {
         are_scanned_components::<C>(slices)
     }
@@ -203,7 +204,38 @@ pub fn parse_reference<C: CharSet>(text: &str) -> Option<ReferenceSlices<'_>>
     ensures components { IfSome result (λ s. AreComponents C.tests (texts_of s)) }
 {
     let slices = split_reference(text);
-    if are_components::<C>(text, slices) {
+    if are_components::<C>(slices, is_encoded_text::<C>(text.as_bytes())) {
+        Some(slices)
+    } else {
+        None
+    }
+}
+
+// The bytes as a text, if they are UTF-8. What is encoded is, so no byte is read again.
+#[inline(always)]
+fn text_of(bytes: &[u8], is_encoded: bool) -> Option<&str>
+    requires { is_encoded ≡ true → IsUtf8 bytes.now }
+    ensures { MatchOption result (¬ (IsUtf8 bytes.now)) (λ text. text.now ≡ bytes.now) }
+{
+    if is_encoded {
+        Some(unsafe { str::from_utf8_unchecked(bytes) })
+    } else {
+        str::from_utf8(bytes).ok()
+    }
+}
+
+/// The components of bytes of UTF-8 that are a reference (RFC 3986 section 4.1). Most often each
+/// byte is read once.
+#[inline(always)]
+pub fn parse_bytes<C: CharSet>(bytes: &[u8]) -> Option<ReferenceSlices<'_>>
+    ensures accepted { is_some result ≡ is_reference C.tests bytes.now }
+    ensures value { IfSome result (λ s. value_of s ≡ read_reference bytes.now) }
+    ensures texts { IfSome result (λ s. texts_of s ≡ spell_components (read_reference bytes.now)) }
+    ensures components { IfSome result (λ s. AreComponents C.tests (texts_of s)) }
+{
+    let is_encoded = is_encoded_text::<C>(bytes);
+    let slices = split_reference(text_of(bytes, is_encoded)?);
+    if are_components::<C>(slices, is_encoded) {
         Some(slices)
     } else {
         None

@@ -22,11 +22,10 @@ use iref_component::path::Path;
 use iref_component::texts::{Fragment, Query, Scheme};
 use iref_error::{InvalidUri, InvalidUriRef};
 use iref_grammar::chars::CharSet;
-use iref_parse::split::{ReferenceSlices, parse_reference, split_reference};
+use iref_parse::split::{ReferenceSlices, parse_bytes, split_reference};
 use std::alloc::AllocError;
 use std::cmp::Ordering;
 use std::hash::{Hash, Hasher};
-use std::str;
 
 /// What stands for the scheme among the components: of a URI a scheme, such as `s` of `s:a`, of a
 /// reference one that may be absent (RFC 3986 section 3.1).
@@ -252,10 +251,7 @@ impl<'a, C: CharSet> UriRefParts<'a, C> {
         ensures readable { IfOk result (λ parts.
             is_readable C.tests (uri_ref_parts_value parts) ≡ true) }
     {
-        let Ok(text) = str::from_utf8(bytes) else {
-            return Err(InvalidUriRef(bytes));
-        };
-        match parse_reference::<C>(text) {
+        match parse_bytes::<C>(bytes) {
             Some(slices) => Ok(UriRefParts::from_slices(slices)),
             None => Err(InvalidUriRef(bytes)),
         }

@@ -1,0 +1,150 @@
+//! Whether a text is of plain bytes, of escapes and of the characters that a set has beyond ASCII.
+ghost use Rattle.std.specs.Prelude.{◌≡◌, ◌+◌, ◌<◌, ◌≤◌, true, length, encode_utf8};
+ghost use Rattle.std.specs.Prelude.{IfSome, ◌∷◌, [], slice_index};
+ghost use Rattle.iref_parse.specs.Encoded.{are_encoded, is_plain_char, BeginsWide, StepsTo};
+
+use crate::plain::plain_first;
+use iref_grammar::chars::CharSet;
+
+// The low six bits of a byte that continues a character.
+#[inline(always)]
+fn low_bits(byte: u8) -> Option<u32>
+    ensures { IfSome result (λ low. (byte ≡ 128 + low) × (low < 64)) }
+{
+    if byte / 64 == 2 {
+        Some(u32::from(byte % 64))
+    } else {
+        None
+    }
+}
+
+// The character of two bytes, if they are one.
+#[inline(always)]
+fn of_two(first: u8, second: u8) -> Option<u32>
+    requires { first < 224 }
+    ensures { IfSome result (λ code. (128 ≤ code) × (encode_utf8 code ≡ first ∷ second ∷ [])) }
+{
+    if first < 194 {
+        return None;
+    }
+    Some(u32::from(first - 192) * 64 + low_bits(second)?)
+}
+
+// The code of three bytes, if they are one's. It may be a surrogate's.
+#[inline(always)]
+fn of_three(first: u8, second: u8, third: u8) -> Option<u32>
+    requires least { 224 ≤ first }
+    requires most { first < 240 }
+    ensures { IfSome result (λ code. (128 ≤ code)
+        × (encode_utf8 code ≡ first ∷ second ∷ third ∷ [])) }
+{
+    let high = u32::from(first - 224) * 64 + low_bits(second)?;
+    if high < 32 {
+        return None;
+    }
+    Some(high * 64 + low_bits(third)?)
+}
+
+// The code of four bytes, if they are one's. It may be beyond the last character's.
+#[inline(always)]
+fn of_four(first: u8, second: u8, third: u8, fourth: u8) -> Option<u32>
+    requires { 240 ≤ first }
+    ensures { IfSome result (λ code. (128 ≤ code)
+        × (encode_utf8 code ≡ first ∷ second ∷ third ∷ fourth ∷ [])) }
+{
+    let high = u32::from(first - 240) * 64 + low_bits(second)?;
+    if high < 16 {
+        return None;
+    }
+    Some((high * 64 + low_bits(third)?) * 64 + low_bits(fourth)?)
+}
+
+// The code of the first character, which is beyond ASCII, and what follows it.
+#[inline(always)]
+fn split_wide(text: &[u8]) -> Option<(u32, &[u8])>
+    ensures { IfSome result (λ found. BeginsWide found.0 text.now found.1.now) }
+{
+    match text {
+        [a, b, rest @ ..] if *a < 224 => Some((of_two(*a, *b)?, rest)),
+        [a, b, c, rest @ ..] if 224 <= *a && *a < 240 => Some((of_three(*a, *b, *c)?, rest)),
+        [a, b, c, d, rest @ ..] if 240 <= *a => Some((of_four(*a, *b, *c, *d)?, rest)),
+        _ => None,
+    }
+}
+
+// What follows the first character, if the set has it beyond ASCII.
+#[inline(always)]
+fn after_extra<C: CharSet>(text: &[u8]) -> Option<&[u8]>
+    ensures { IfSome result (λ rest. StepsTo (is_plain_char C.tests) text.now rest.now) }
+{
+    let (code, rest) = split_wide(text)?;
+    if C::is_extra(char::from_u32(code)?) {
+        Some(rest)
+    } else {
+        None
+    }
+}
+
+// What follows the first three bytes, of which the first is `%`, if they are an escape.
+#[inline(always)]
+fn after_escape<C: CharSet>(text: &[u8]) -> Option<&[u8]>
+    requires { slice_index text.now 0 ≡ 37 }
+    ensures { IfSome result (λ rest. StepsTo (is_plain_char C.tests) text.now rest.now) }
+{
+    match text {
+        [_, high, low, rest @ ..] if high.is_ascii_hexdigit() && low.is_ascii_hexdigit() => {
+            Some(rest)
+        }
+        _ => None,
+    }
+}
+
+// What follows the plain bytes that stand first, if there are any.
+#[inline(always)]
+fn after_plain<C: CharSet>(text: &[u8]) -> Option<&[u8]>
+    ensures { IfSome result (λ rest. StepsTo (is_plain_char C.tests) text.now rest.now) }
+{
+    let len = plain_first(text);
+    if len > 0 { Some(&text[len..]) } else { None }
+}
+
+// What follows the first bytes, if they are plain, an escape or a character of the set.
+#[inline(always)]
+fn after_front<C: CharSet>(text: &[u8]) -> Option<&[u8]>
+    requires { 0 < length text.now }
+    ensures { IfSome result (λ rest. StepsTo (is_plain_char C.tests) text.now rest.now) }
+{
+    if text[0] >= 128 {
+        after_extra::<C>(text)
+    } else if text[0] == b'%' {
+        after_escape::<C>(text)
+    } else {
+        after_plain::<C>(text)
+    }
+}
+
+// Whether the bytes are found to be such a text, from the front on.
+fn is_encoded_rest<C: CharSet>(text: &[u8]) -> bool
+    ensures { result ≡ true → are_encoded (is_plain_char C.tests) text.now ≡ true }
+{
+    let mut rest = text;
+    while !rest.is_empty() {
+        match after_front::<C>(rest) {
+            Some(after) => rest = after,
+            None => return false,
+        }
+    }
+    true
+}
+
+/// Whether the bytes are found to be the UTF-8 of plain bytes, escapes and characters that the set
+/// has beyond ASCII. Most often all are plain.
+#[inline(always)]
+pub(crate) fn is_encoded_text<C: CharSet>(text: &[u8]) -> bool
+    ensures { result ≡ true → are_encoded (is_plain_char C.tests) text.now ≡ true }
+{
+    match after_plain::<C>(text) {
+        Some(rest) => rest.is_empty() || is_encoded_rest::<C>(rest),
+        None => is_encoded_rest::<C>(text),
+    }
+}
