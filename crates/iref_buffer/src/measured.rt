@@ -53,9 +53,10 @@ fn context_after(scheme: Option<&str>, authority: Option<&str>) -> PathContext
     }
 }
 
-// Writes two texts so that they end at `end`, and returns where they begin.
-#[tactic(auto, using(iref_path_text::proofs::WrittenLemmas::both_written))]
+// Writes two texts so that they end at `end`, and returns where they begin. Two empty ones cost no
+// call.
 #[inline(always)]
+#[tactic(auto, using(iref_path_text::proofs::WrittenLemmas::both_written))]
 fn write_pair(buffer: &mut [u8], end: usize, pair: (&str, &str)) -> usize
     requires room { length (pair.0.now ++ pair.1.now) ≤ end }
     requires within { end ≤ length buffer.old }

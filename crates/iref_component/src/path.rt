@@ -1,6 +1,6 @@
 //! Paths (RFC 3986 section 3.3).
-ghost use Rattle.std.specs.Prelude.{◌≡◌, ◌<◌, ◌^◌, not, [], IfOk, IsNone, IsOk, length};
-ghost use Rattle.std.specs.Prelude.{codes, option_map};
+ghost use Rattle.std.specs.Prelude.{◌≡◌, ◌<◌, ◌^◌, ◌++◌, not, [], IfOk, IsNone, IsOk, length};
+ghost use Rattle.std.specs.Prelude.{OnErr, OnOk, codes, option_map};
 ghost use Rattle.iref_model.specs.PathFunctions as function;
 ghost use Rattle.iref_model.specs.PathSteps as step;
 ghost use Rattle.iref_component.specs.{Comparisons.{ComparesBy}, Components.{text_of}};
@@ -78,8 +78,12 @@ impl<S: Storage, C: CharSet> RuleText<S, PathRule, C> {
         Ok(PathBuf::new_unchecked(text))
     }
 
-    /// Appends the normalized path.
+    /// Appends the text of the normalized path to a vector. The room is taken once, and each byte
+    /// is written once.
     pub fn append_normalized_to(&self, out: &mut Vec<u8>) -> Result<(), Memory>
+        ensures ok { OnOk result (out.new.items
+            ≡ out.old.items ++ spell_path (step.normalized alone (path_value self.now))) }
+        ensures err { OnErr result (out.new.items ≡ out.old.items) }
     {
         append_normalized(PathContext::default(), self.as_borrowed().as_str(), out)
     }
@@ -144,8 +148,8 @@ impl<'a, C: CharSet> Path<'a, C> {
 
     /// The normal segments: the `..` that nothing cancels stand first where the path is relative.
     ///
-    /// This reads the path once, from its end. Up to sixteen normal segments are kept in the value,
-    /// and nothing is read again for them. Where there are more, the back reads each segment once
+    /// This reads the path from its end, to count them. Up to sixteen normal segments are then read
+    /// once more, and kept in the value. Where there are more, the back reads each segment once
     /// more; the front looks ahead from each name for the `..` that takes it, as far as all that is
     /// left where none does: so `a/x/../` repeated costs the square of its length from the front.
     pub fn normalized_segments(&self) -> NormalizedSegments<'a, C>

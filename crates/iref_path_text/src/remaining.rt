@@ -34,6 +34,7 @@ pub struct Remaining<'a> {
 }
 
 /// Whether the last segment is `.` or `..`.
+#[inline(always)]
 fn ends_in_dots(rest: Option<&str>) -> bool
     ensures { result ≡ list.ends_in_dots (pieces_if_some rest.entry) }
 {
@@ -51,6 +52,7 @@ pub(crate) fn leading_parents(absolute: bool, open_parents: usize) -> usize
 }
 
 /// How many segments close a list.
+#[inline(always)]
 fn closing_count(closes: bool) -> usize
     ensures { result ≡ (if closes then 1 else 0) }
 {
@@ -58,6 +60,7 @@ fn closing_count(closes: bool) -> usize
 }
 
 /// Whether a list is one empty segment: by how many `..` and names it has, and whether it closes.
+#[inline(always)]
 fn is_one_empty(parents: usize, names: usize, first: &str, closes: bool) -> bool
     requires { names + 1 < 2 ^ 64 }
     ensures { result

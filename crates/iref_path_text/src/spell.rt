@@ -177,11 +177,7 @@ pub fn normalized_text<C: CharSet>(
 
 /// Appends the text of the normalized path in its context to a vector (RFC 3986 section 5.2.4).
 /// The room is taken once, and each byte is written once.
-pub fn append_normalized(
-    context: PathContext,
-    path: &str,
-    out: &mut Vec<u8>,
-) -> Result<(), Memory>
+pub fn append_normalized(context: PathContext, path: &str, out: &mut Vec<u8>) -> Result<(), Memory>
     ensures ok { OnOk result (out.new.items
         ≡ out.old.items ++ spell_path (normalized context (read_path path.now))) }
     ensures err { OnErr result (out.new.items ≡ out.old.items) }

@@ -80,6 +80,7 @@ pub(super) fn survey<'a>(front: Option<&'a str>, back: Option<&'a str>) -> Found
 }
 
 // The first of a number of `..` and of names that begin with this one.
+#[inline(always)]
 fn first_item(parents: usize, name: &str) -> &str
     ensures { result.now ≡ (if parents == 0 then name.now else codes "..") }
 {
@@ -87,6 +88,7 @@ fn first_item(parents: usize, name: &str) -> &str
 }
 
 /// Whether the last segment is `.` or `..`.
+#[inline(always)]
 fn both_end_in_dots(front: Option<&str>, back: Option<&str>) -> bool
     ensures { result ≡ list.ends_in_dots (merged_list front.entry back.entry) }
 {

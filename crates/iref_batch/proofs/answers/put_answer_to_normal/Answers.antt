@@ -1,6 +1,16 @@
+use Rattle.std.proofs.Common.{◌≡◌, ◌++◌, Ok, Err, Result, ap, append_assoc, refl, rules, ◌∙◌}
+use Rattle.std.specs.Prelude.{OnErr, OnOk, codes}
+use Rattle.iref_grammar.specs.Rules.{Text}
+use Rattle.iref_batch.specs.Gathering.{Puts}
 use Rattle.iref_batch.proofs.AnswerLemmas.{normal_answer, no_normal_answer}
 use Rattle.iref.specs.Components.{text_of}
 use Rattle.iref_batch.proofs.answers.put_answer_to_normal.Goals as goal
+
+-- one text, and then another behind it
+put_behind : {E : Type 0} (head text old mid new : Text) (result : Result (Unit {0}) E) → mid ≡ old ++ head → OnOk result (new ≡ mid ++ text) → OnErr result (new ≡ mid)
+    → Puts (head ++ text) old new result
+put_behind head text old mid new (Ok x) put ok err = (ok ∙ ap (λ before. before ++ text) put ∙ append_assoc old head text, search rules)
+put_behind head text old mid new (Err x) put ok err = (search rules, (head, err ∙ put))
 
 pub returns-in_default : goal.returns-in_default
 returns-in_default c =
@@ -10,8 +20,6 @@ returns-in_default c =
 pub returns : goal.returns
 returns c =
     let text = c.args.text.now in
-    rw (
-      normal_answer text (text_of c.in-Ok.path) _ c.in-Ok.ensures.0
-          c.in-Ok.ensures.1 c.in_ok-normal.ensures.text,
-      ← c.as_bytes.ensures,
-    ) c.put_answered.ensures
+    let put = c.in_ok-put_text.ensures.0 in
+    rw (normal_answer text (text_of c.in-Ok.path) _ c.in-Ok.ensures.0 c.in-Ok.ensures.1 refl)
+    (put_behind (codes "ok\t") _ _ _ _ c.append_normalized_to.result put c.append_normalized_to.ensures.ok c.append_normalized_to.ensures.err)

@@ -31,7 +31,7 @@ returns-clause-text c =
     ap (λ text. text ++ join_with_byte slash (normal_segments (read_path c.args.path.now))) c.lead_in-lead.ensures.text
     ∙ (λ i. lead ++ join_with_byte slash (normal_segments (same i)))
     ∙ normalized-spelled c.args.context p (normal_segments p) all.size all.first.now refl (c.new-all.ensures.size ∙ ap (λ list. length (each_closed list)) c.new-all.ensures.items)
-        (c.new-all.ensures.first ∙ ap (first_or []) c.new-all.ensures.items)
+    (c.new-all.ensures.first ∙ ap (first_or []) c.new-all.ensures.items)
     ∙ (λ i. spell_path (normalized c.args.context (sym same i)))
 
 pub returns-clause-len : goal.returns-clause-len

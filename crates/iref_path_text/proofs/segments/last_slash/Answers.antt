@@ -13,7 +13,7 @@ overflow_add-result c =
     let text = c.args.bytes.now in
     let start = c.loop-end.end - 16 in
     let found = slash_at_highest c.highest_bit.result (take 16 (drop start text)) (subst (λ m. 2 ^ c.highest_bit.result ≤ m) c.slashes-bits.ensures c.highest_bit.ensures.above)
-        (subst (λ m. m < 2 ^ (c.highest_bit.result + 1)) c.slashes-bits.ensures c.highest_bit.ensures.below) in
+    (subst (λ m. m < 2 ^ (c.highest_bit.result + 1)) c.slashes-bits.ensures c.highest_bit.ensures.below) in
     let whole = last_slash_there text start (omega (arith, c.loop-end-test.true, c.loop-end.invariant.within)) (behind text c.loop-end.end c.loop-end-test.true c.loop-end.invariant.behind) c.highest_bit.result found in
     omega (arith, whole.within, c.loop-end.invariant.within, c.loop-end.auto.end-fits)
 
@@ -22,7 +22,7 @@ returns-then-bits-ne0 c =
     let text = c.args.bytes.now in
     let start = c.loop-end.end - 16 in
     let found = slash_at_highest c.highest_bit.result (take 16 (drop start text)) (subst (λ m. 2 ^ c.highest_bit.result ≤ m) c.slashes-bits.ensures c.highest_bit.ensures.above)
-        (subst (λ m. m < 2 ^ (c.highest_bit.result + 1)) c.slashes-bits.ensures c.highest_bit.ensures.below) in
+    (subst (λ m. m < 2 ^ (c.highest_bit.result + 1)) c.slashes-bits.ensures c.highest_bit.ensures.below) in
     last_slash_there text start (omega (arith, c.loop-end-test.true, c.loop-end.invariant.within)) (behind text c.loop-end.end c.loop-end-test.true c.loop-end.invariant.behind) c.highest_bit.result found
 
 pub loop-end-preserved : goal.loop-end-preserved

@@ -68,35 +68,35 @@ is_one_empty-requires c =
 pub overflow_add-result : goal.overflow_add-result
 overflow_add-result c =
     let most = count_most (merged_list c.args.front c.args.back) c.args.absolute c.both_end_in_dots-closes.result c.survey-parents.result.parents c.leading_parents-parents.result c.survey-parents.result.names c.survey-parents.result.size c.closing_count-closing.result
-        c.survey-parents.ensures.parents c.leading_parents-parents.ensures c.survey-parents.ensures.names c.survey-parents.ensures.size c.closing_count-closing.ensures in
+    c.survey-parents.ensures.parents c.leading_parents-parents.ensures c.survey-parents.ensures.names c.survey-parents.ensures.size c.closing_count-closing.ensures in
     let room = c.requires in
     omega (arith, most, room)
 
 pub overflow_add-result-2 : goal.overflow_add-result-2
 overflow_add-result-2 c =
     let most = count_most (merged_list c.args.front c.args.back) c.args.absolute c.both_end_in_dots-closes.result c.survey-parents.result.parents c.leading_parents-parents.result c.survey-parents.result.names c.survey-parents.result.size c.closing_count-closing.result
-        c.survey-parents.ensures.parents c.leading_parents-parents.ensures c.survey-parents.ensures.names c.survey-parents.ensures.size c.closing_count-closing.ensures in
+    c.survey-parents.ensures.parents c.leading_parents-parents.ensures c.survey-parents.ensures.names c.survey-parents.ensures.size c.closing_count-closing.ensures in
     let room = c.requires in
     omega (arith, most, room)
 
 pub overflow_mul-result : goal.overflow_mul-result
 overflow_mul-result c =
     let most = size_most (merged_list c.args.front c.args.back) c.args.absolute c.both_end_in_dots-closes.result c.survey-parents.result.parents c.leading_parents-parents.result c.survey-parents.result.names c.survey-parents.result.size c.closing_count-closing.result
-        c.survey-parents.ensures.parents c.leading_parents-parents.ensures c.survey-parents.ensures.names c.survey-parents.ensures.size c.closing_count-closing.ensures in
+    c.survey-parents.ensures.parents c.leading_parents-parents.ensures c.survey-parents.ensures.names c.survey-parents.ensures.size c.closing_count-closing.ensures in
     let room = c.requires in
     omega (arith, most, room)
 
 pub overflow_add-result-3 : goal.overflow_add-result-3
 overflow_add-result-3 c =
     let most = size_most (merged_list c.args.front c.args.back) c.args.absolute c.both_end_in_dots-closes.result c.survey-parents.result.parents c.leading_parents-parents.result c.survey-parents.result.names c.survey-parents.result.size c.closing_count-closing.result
-        c.survey-parents.ensures.parents c.leading_parents-parents.ensures c.survey-parents.ensures.names c.survey-parents.ensures.size c.closing_count-closing.ensures in
+    c.survey-parents.ensures.parents c.leading_parents-parents.ensures c.survey-parents.ensures.names c.survey-parents.ensures.size c.closing_count-closing.ensures in
     let room = c.requires in
     omega (arith, most, room)
 
 pub overflow_add-result-4 : goal.overflow_add-result-4
 overflow_add-result-4 c =
     let most = size_most (merged_list c.args.front c.args.back) c.args.absolute c.both_end_in_dots-closes.result c.survey-parents.result.parents c.leading_parents-parents.result c.survey-parents.result.names c.survey-parents.result.size c.closing_count-closing.result
-        c.survey-parents.ensures.parents c.leading_parents-parents.ensures c.survey-parents.ensures.names c.survey-parents.ensures.size c.closing_count-closing.ensures in
+    c.survey-parents.ensures.parents c.leading_parents-parents.ensures c.survey-parents.ensures.names c.survey-parents.ensures.size c.closing_count-closing.ensures in
     let room = c.requires in
     omega (arith, most, room)
 
