@@ -1,5 +1,5 @@
 use Rattle.std.proofs.Common.{rules}
-use Rattle.iref_component.proofs.normal.NormalizedSegmentsIterator.size_hint.Goals as goal
+use Rattle.iref_reference.proofs.composed.Composed.write_to.Goals as goal
 
 pub returns : goal.returns
 returns g c = search rules
