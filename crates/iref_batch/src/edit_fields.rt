@@ -9,11 +9,11 @@ ghost use Rattle.iref_batch.specs.EditFields.{IsRead, edit_named, path_edit_name
 ghost use Rattle.iref_lines.specs.Lines as spec;
 
 use super::request::is_name;
+use iref::Memory;
 use iref::chars::CharSet;
 use iref::iri::Edit;
 use iref::rules::{BorrowedText, Rule};
 use iref_parse::cut::cut_bytes;
-use std::alloc::AllocFailed;
 use std::str;
 
 /// Why fields are no list of edits: `frobnicate=x` is no command, `port=x` is invalid.
@@ -27,12 +27,12 @@ pub enum FieldError {
     Memory,
 }
 
-impl<T: Drop> From<AllocFailed<T>> for FieldError {
+impl From<Memory> for FieldError {
     ghost use Rattle.iref_batch.specs.declared.edit_fields.FieldError.TheVariants as field_error;
 
     ghost from_gives = { λ _ error. error ≡ field_error.Memory };
 
-    fn from(_: AllocFailed<T>) -> FieldError {
+    fn from(_: Memory) -> FieldError {
         FieldError::Memory
     }
 }

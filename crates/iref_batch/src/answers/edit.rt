@@ -1,12 +1,9 @@
 //! The answer to `edit`.
-ghost use Rattle.std.specs.Prelude.{◌≡◌, ◌∷◌, true, map, IfOk};
-ghost use Rattle.std.specs.{List.{list_all}, Option.{option_copied}};
-ghost use Rattle.iref_grammar.specs.{iri_chars};
-ghost use Rattle.iref_lines.specs.Lines.{is_valid_edit, text_and_edits};
-ghost use Rattle.iref_lines.specs.Lines as spec;
-ghost use Rattle.iref_batch.specs.{EditFields.{IsRead, edits_read}, Fields.{fields_of}};
-ghost use Rattle.iref_batch.specs.{Gathering.{Puts, PutsReply}, Runs.{reply_to}};
-ghost use Rattle.iref.specs.EditSteps.{edit_step};
+ghost use Rattle.std.specs.{Option.{option_copied}, Prelude.{◌≡◌, [], ◌∷◌, IfOk}};
+ghost use Rattle.iref_lines.specs.Lines.{text_and_edits};
+ghost use Rattle.iref_batch.specs.EditFields.{ChecksEdits, EditsBy, LeavesAfter};
+ghost use Rattle.iref_batch.specs.{Fields.{fields_of}, Gathering.{Puts}, Runs.{reply_to}};
+ghost use Rattle.iref.specs.{EditSteps.{edit_step}, References.{reference_buf_value}};
 
 use super::{put_answered, put_refused, put_text};
 use crate::edit_fields::{FieldError, read_edit};
@@ -15,23 +12,56 @@ use iref::Memory;
 use iref::iri::{Edit, EditFault, IriRefBuf, apply_all};
 use std::alloc::Global;
 
-// The edits that the fields name. All fields are read, since one that is no edit at all goes
-// before values outside their grammar.
-fn read_edits<'a>(alloc: Global, fields: Option<&'a [u8]>) -> Result<Vec<Edit<'a>>, FieldError>
-    ensures { IsRead (λ edits. map edit_step edits.items) (list_all (is_valid_edit iri_chars))
-        (edits_read (fields_of (option_copied fields.entry))) result }
+// Why the fields name no edits, if they do not. Their values may be outside their grammar.
+fn check_edits(fields: Option<&[u8]>) -> Result<(), FieldError>
+    ensures { ChecksEdits (fields_of (option_copied fields.entry)) result }
 {
-    let mut edits = Vec::new(alloc);
-    let mut are_valid = true;
     let mut left = fields;
     while let Some(field) = next_field(&mut left) {
         match read_edit(field) {
-            Ok(edit) => edits.push(edit)?,
+            Ok(_) => {}
+            Err(FieldError::Invalid) => {}
+            Err(error) => return Err(error),
+        }
+    }
+    Ok(())
+}
+
+// Does the edit, and returns whether it is not refused.
+fn edit_once(reference: &mut IriRefBuf, edit: Edit<'_>) -> Result<bool, Memory>
+    ensures { IfOk result (λ done. LeavesAfter done (edit_step edit.entry ∷ [])
+        (reference_buf_value reference.old) (reference_buf_value reference.new)) }
+{
+    match apply_all(reference, &[edit]) {
+        Ok(()) => Ok(true),
+        Err((_, EditFault::NoAuthority)) => Ok(false),
+        Err((_, EditFault::SchemeNeeded)) => Ok(false),
+        Err((_, EditFault::Memory)) => Err(Memory),
+    }
+}
+
+// Does the edits that the fields name, up to the first that is refused, and returns whether none
+// is. All fields are read, since one that is no edit at all goes before values outside their
+// grammar, and these go before a refused edit.
+fn edit_by(reference: &mut IriRefBuf, fields: Option<&[u8]>) -> Result<bool, FieldError>
+    ensures { EditsBy (fields_of (option_copied fields.entry))
+        (reference_buf_value reference.old) (reference_buf_value reference.new) result }
+{
+    let mut are_valid = true;
+    let mut are_done = true;
+    let mut left = fields;
+    while let Some(field) = next_field(&mut left) {
+        match read_edit(field) {
+            Ok(edit) => {
+                if are_done {
+                    are_done = edit_once(reference, edit)?;
+                }
+            }
             Err(FieldError::Invalid) => are_valid = false,
             Err(error) => return Err(error),
         }
     }
-    are_valid.then_some(edits).ok_or(FieldError::Invalid)
+    are_valid.then_some(are_done).ok_or(FieldError::Invalid)
 }
 
 // A copy of the text, with room for more bytes.
@@ -43,23 +73,6 @@ fn copied(alloc: Global, text: &[u8], more: usize) -> Result<Vec<u8>, Memory>
     Ok(bytes)
 }
 
-// Puts the answer to a reference, whose text is in these bytes, and edits.
-fn put_edited(bytes: Vec<u8>, edits: &[Edit<'_>], out: &mut Vec<u8>) -> Result<(), Memory>
-    requires { list_all (is_valid_edit iri_chars) (map edit_step edits.now) ≡ true }
-    ensures { PutsReply (spec.Edit bytes.items (map edit_step edits.now))
-        out.old.items out.new.items result }
-{
-    let Ok(mut reference) = IriRefBuf::from_bytes(bytes) else {
-        return put_text(b"error invalid", out);
-    };
-    match apply_all(&mut reference, edits) {
-        Ok(()) => put_answered(reference.as_bytes(), out),
-        Err((_, EditFault::NoAuthority)) => put_text(b"error edit", out),
-        Err((_, EditFault::SchemeNeeded)) => put_text(b"error edit", out),
-        Err((_, EditFault::Memory)) => Err(Memory),
-    }
-}
-
 /// Puts the answer to `edit`.
 pub fn put_answer_to_edit(
     text: &[u8],
@@ -69,11 +82,17 @@ pub fn put_answer_to_edit(
     ensures { Puts (reply_to (text_and_edits (text.now ∷ fields_of (option_copied fields.entry))))
         out.old.items out.new.items result }
 {
-    let alloc = *out.allocator();
-    let edits = match read_edits(alloc, fields) {
-        Ok(edits) => edits,
-        Err(error) => return put_refused(error, out),
-    };
     let more = fields.map_or(0, |fields| fields.len());
-    put_edited(copied(alloc, text, more)?, edits.as_slice(), out)
+    let bytes = copied(*out.allocator(), text, more)?;
+    let Ok(mut reference) = IriRefBuf::from_bytes(bytes) else {
+        return match check_edits(fields) {
+            Ok(()) => put_text(b"error invalid", out),
+            Err(error) => put_refused(error, out),
+        };
+    };
+    match edit_by(&mut reference, fields) {
+        Ok(true) => put_answered(reference.as_bytes(), out),
+        Ok(false) => put_text(b"error edit", out),
+        Err(error) => put_refused(error, out),
+    }
 }

@@ -7,10 +7,10 @@ ghost use Rattle.iref_buffer.specs.AuthorityRanges.{IsAuthorityOf, one_authority
 ghost use Rattle.iref_buffer.specs.AuthorityRanges.{authority_is_within, range_of_authority};
 
 use super::{Held, HeldRule, slice_at};
-use crate::lengths::Lengths;
 use iref_component::authority_mut::AuthorityPart;
 use iref_edit::change::{Change, Span};
 use iref_edit::target::Target;
+use iref_edit::text;
 use iref_error::Memory;
 use iref_grammar::chars::CharSet;
 use std::alloc::Global;
@@ -54,12 +54,11 @@ impl<R: HeldRule, C: CharSet> Held<R, C> {
         ensures shorter { IsNoLonger change.entry → IsOk result }
     {
         let range = self.authority_text_range();
-        let lengths = Lengths {
-            authority: Some(change.len_after(range.end - range.start)?),
-            ..self.lengths()
-        };
-        let range = self.part_of(range, &change.within);
-        self.step(lengths, range, change.lead, change.middle, change.close)
+        let len = change.len_after(range.end - range.start)?;
+        let within = self.part_of(range, &change.within);
+        text::replace(&mut self.text, Change { within, ..change })?;
+        self.lengths.authority = Some(len);
+        Ok(())
     }
 
     // Where the authority stands.

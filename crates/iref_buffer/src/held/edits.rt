@@ -93,14 +93,19 @@ impl<R: HeldRule, C: CharSet> Held<R, C> {
     {
         let old = self.lengths();
         let lead = self.scheme_lead(scheme.is_some());
-        let lengths = Lengths {
-            scheme: len_of(scheme),
-            path: lead.len() + old.path,
-            ..old
-        };
-        let range = self.scheme_range();
+        let len = lead.len() + old.path;
+        let within = self.scheme_range();
         let (part, mark) = marked_after(scheme, ":");
-        self.step(lengths, range, part, mark, lead)
+        let change = Change {
+            within,
+            lead: part,
+            middle: mark,
+            close: lead,
+        };
+        text::replace(&mut self.text, change)?;
+        self.lengths.scheme = len_of(scheme);
+        self.lengths.path = len;
+        Ok(())
     }
 
     /// Replaces, adds or removes the authority; removing takes no memory. Where one comes to stand
@@ -113,14 +118,19 @@ impl<R: HeldRule, C: CharSet> Held<R, C> {
     {
         let old = self.lengths();
         let lead = self.authority_lead(authority.is_some());
-        let lengths = Lengths {
-            authority: len_of(authority),
-            path: lead.len() + old.path,
-            ..old
-        };
-        let range = self.authority_range();
+        let len = lead.len() + old.path;
+        let within = self.authority_range();
         let (mark, part) = marked("//", authority);
-        self.step(lengths, range, mark, part, lead)
+        let change = Change {
+            within,
+            lead: mark,
+            middle: part,
+            close: lead,
+        };
+        text::replace(&mut self.text, change)?;
+        self.lengths.authority = len_of(authority);
+        self.lengths.path = len;
+        Ok(())
     }
 
     /// Makes a change of the path, where the path that this leaves may stand.
