@@ -13,6 +13,7 @@ ghost use Rattle.iref_model.specs.NormalList as list;
 
 pub mod listed;
 pub mod merged;
+pub mod stack;
 pub mod way;
 
 use crate::names::{is_name, name_stays};

@@ -1,8 +1,8 @@
 //! A path rewritten over its own bytes, from the back (RFC 3986 section 5.2.4). What is written
 //! never passes what is not yet read.
 
-ghost use Rattle.std.specs.Prelude.{◌≡◌, ◌+◌, ◌-◌, ◌<◌, ◌≤◌, ◌^◌, ◌∷◌, ◌++◌, [], codes};
-ghost use Rattle.std.specs.Prelude.{false, length, replicate, slice_range, take, vec_len};
+ghost use Rattle.std.specs.Prelude.{◌≡◌, ◌+◌, ◌-◌, ◌<◌, ◌≤◌, ◌^◌, ◌∷◌, ◌++◌, []};
+ghost use Rattle.std.specs.Prelude.{false, length, slice_range, take, vec_len};
 ghost use Rattle.std.specs.{Prelude.{if◌then◌else◌}, List.{splice}, Str.{IsUtf8}};
 ghost use Rattle.std.specs.String.{string_bytes, string_len};
 ghost use Rattle.iref_model.specs.{read_path, spell_path, open_before, staying_before, normalized};

@@ -8,16 +8,20 @@ ghost use Rattle.std.specs.{List.{list_any}, String.{string_bytes}};
 ghost use Rattle.iref_grammar.specs.{is_path_in, colon, slash, read_path, spell_path, is_path};
 ghost use Rattle.iref_model.specs.PathSteps.{normalized};
 ghost use Rattle.iref_path_text.specs.{PathParts.{is_path_after}, Remaining.{first_or}};
-ghost use Rattle.iref_path_text.specs.Spelling.{each_closed, normal_in};
+ghost use Rattle.iref_path_text.specs.{Spelling.{each_closed, normal_in}, Stacks.{in_order}};
+ghost use Rattle.iref_path_text.specs.Stacks.{stacked_text};
 ghost use Rattle.iref_path_text.specs.Ways.{IsWaySound, way_left};
 ghost use Rattle.iref_path_text.specs.Written.{WritesBefore};
 ghost use Rattle.iref_path_text.specs.Spelling as spelling;
 
 use crate::measured::MeasuredPath;
+use crate::remaining::stack::Stack;
 use crate::remaining::way::Way;
+use crate::segments::split_root;
 use iref_error::Memory;
 use iref_grammar::chars::CharSet;
 use iref_grammar::context::PathContext;
+use iref_parse::dots::has_dots;
 use std::alloc::Global;
 
 /// How many bytes the items have with a `/` after each, and the first of them, or nothing.
@@ -150,6 +154,86 @@ pub(crate) fn lead_in(
     )
 }
 
+// Writes items that are given the last first, each with a `/` after it, so that they end at `end`,
+// and returns where they begin.
+fn write_stacked_closed(items: &[&str], buffer: &mut [u8], end: usize) -> usize
+    requires room { length (each_closed (in_order items.now)) ≤ end }
+    requires within { end ≤ length buffer.old }
+    ensures { WritesBefore end (each_closed (in_order items.now)) buffer.old buffer.new result }
+{
+    let mut start = end;
+    for item in items {
+        start = write_before(buffer, start, "/");
+        start = write_before(buffer, start, item);
+    }
+    start
+}
+
+// Writes items that are given the last first, with `/` between, so that they end at `end`, and
+// returns where they begin.
+fn write_stacked(items: &[&str], buffer: &mut [u8], end: usize) -> usize
+    requires room { length (each_closed (in_order items.now)) ≤ end + 1 }
+    requires within { end ≤ length buffer.old }
+    ensures { WritesBefore end (join_with_byte slash (in_order items.now))
+        buffer.old buffer.new result }
+{
+    let Some((last, others)) = items.split_first() else {
+        return end;
+    };
+    let start = write_before(buffer, end, last);
+    write_stacked_closed(others, buffer, start)
+}
+
+// Writes what stands first, and items that are given the last first, so that they end at `end`,
+// and returns where they begin.
+fn write_stacked_text(lead: &str, items: &[&str], buffer: &mut [u8], end: usize) -> usize
+    requires room { length (stacked_text lead.now items.now) ≤ end }
+    requires within { end ≤ length buffer.old }
+    ensures { WritesBefore end (stacked_text lead.now items.now) buffer.old buffer.new result }
+{
+    let start = write_stacked(items, buffer, end);
+    write_before(buffer, start, lead)
+}
+
+// What stands first, and items that are given the last first, with `/` between. `size` is the
+// length of the items with a `/` after each.
+fn stacked_bytes(alloc: Global, lead: &str, items: &[&str], size: usize) -> Result<Vec<u8>, Memory>
+    requires size { size ≡ length (each_closed (in_order items.now)) }
+    requires countable { length lead.now + size < 2 ^ 64 }
+    ensures { IfOk result (λ bytes. bytes.items ≡ stacked_text lead.now items.now) }
+{
+    let len = lead.len() + size.saturating_sub(1);
+    let mut bytes = vec![in alloc; 0u8; len]?;
+    write_stacked_text(lead, items, &mut bytes, len);
+    Ok(bytes)
+}
+
+// The longest path, in bytes, whose items may take memory while it is read.
+const LONGEST_STACKED: usize = 16_384;
+
+// The bytes of the normalized path in its context, with a flag of its own. The items of a path that
+// is not too long are put on a stack, so that it is read once; without memory for the stack it is
+// read twice.
+fn normal_bytes(
+    alloc: Global,
+    context: PathContext,
+    absolute: bool,
+    path: &str,
+) -> Result<Vec<u8>, Memory>
+    ensures { IfOk result (λ bytes.
+        bytes.items ≡ spell_path (normal_in context absolute path.now)) }
+{
+    if path.len() <= LONGEST_STACKED && has_dots(path.as_bytes()) {
+        let mut stack = Stack::new(alloc);
+        stack.read(absolute, split_root(path).1);
+        if stack.is_whole {
+            let lead = lead_in(context, absolute, stack.size, stack.first);
+            return stacked_bytes(alloc, lead, stack.items.as_slice(), stack.size);
+        }
+    }
+    MeasuredPath::normalized_in(context, absolute, path).bytes(alloc)
+}
+
 /// The text of the normalized path in its context, with a flag of its own (RFC 3986 section 5.2.4):
 /// a text is read as absolute or relative, whatever it begins with, before its dots are removed.
 ///
@@ -169,7 +253,7 @@ pub fn normalized_text<C: CharSet>(
     ensures reads { IfOk result (λ text. is_path_in C.tests context (string_bytes text) ≡ true) }
     ensures after { IfOk result (λ text. is_path_after C.tests context (string_bytes text) ≡ true) }
 {
-    let bytes = MeasuredPath::normalized_in(context, absolute, path).bytes(alloc)?;
+    let bytes = normal_bytes(alloc, context, absolute, path)?;
     // What spells a path is text, so no byte is read again.
     let text = unsafe { String::from_utf8_unchecked(bytes) };
     Ok(text)
