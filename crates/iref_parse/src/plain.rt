@@ -1,5 +1,5 @@
 //! How many bytes of a text, from its front on, are of a path, `?` or `#`.
-ghost use Rattle.std.specs.Prelude.{◌≡◌, ℕ, ◌+◌, ◌≤◌, length, slice_index};
+ghost use Rattle.std.specs.Prelude.{◌≡◌, ◌+◌, ◌≤◌, length, slice_index};
 ghost use Rattle.std.specs.List.{prefix_len};
 ghost use Rattle.iref_parse.specs.Lanes.{HasLanes};
 ghost use Rattle.iref_parse.specs.Plain as plain;
