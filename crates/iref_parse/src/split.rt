@@ -224,8 +224,8 @@ fn text_of(bytes: &[u8], is_encoded: bool) -> Option<&str>
     }
 }
 
-/// The components of bytes of UTF-8 that are a reference (RFC 3986 section 4.1). Most often each
-/// byte is read once.
+/// The components of bytes of UTF-8 that are a reference (RFC 3986 section 4.1). Most often one
+/// pass tests the bytes and decodes them.
 #[inline(always)]
 pub fn parse_bytes<C: CharSet>(bytes: &[u8]) -> Option<ReferenceSlices<'_>>
     ensures accepted { is_some result ≡ is_reference C.tests bytes.now }

@@ -30,7 +30,7 @@ fn slashes(bytes: &[u8], at: usize) -> u64
         .to_bitmask()
 }
 
-// The place of the highest bit.
+// The index of the highest bit.
 #[inline(always)]
 fn highest_bit(bits: u64) -> usize
     requires { 0 < bits }
