@@ -7,3 +7,15 @@ pub mod PrefixIndexLemmas
 pub mod PrefixSearchLemmas
 pub mod PrefixTextLemmas
 pub mod PrefixTableLemmas
+-- lemmas about the words of contracts, for callers that list this crate alone
+pub use Rattle.iref_grammar.proofs.AuthorityLemmas
+pub use Rattle.iref_grammar.proofs.CutLemmas
+pub use Rattle.iref_grammar.proofs.PathTextLemmas
+pub use Rattle.iref_grammar.proofs.ReferenceCutLemmas
+pub use Rattle.iref_grammar.proofs.ReferenceRuleLemmas
+pub use Rattle.iref_grammar.proofs.SplitLemmas
+pub use Rattle.iref_model.proofs.DirectoryLemmas
+pub use Rattle.iref_model.proofs.KeyOrderLemmas
+pub use Rattle.iref_model.proofs.PartTieLemmas
+pub use Rattle.iref_model.proofs.TieLemmas
+pub use Rattle.iref_mapping.proofs.PrefixLemmas

@@ -14,6 +14,7 @@ pub use Rattle.iref_grammar.specs.IpAddresses
 pub use Rattle.iref_grammar.specs.Keys
 pub use Rattle.iref_grammar.specs.PathValue
 pub use Rattle.iref_grammar.specs.ComponentOffsets
+pub use Rattle.iref_grammar.specs.declared.offsets.Offsets
 pub use Rattle.iref_grammar.specs.Reference
 pub use Rattle.iref_grammar.specs.Rules
 pub use Rattle.iref_grammar.specs.Tests
@@ -23,6 +24,7 @@ pub use Rattle.iref_model.specs.AuthoritySteps
 pub use Rattle.iref_model.specs.ComponentSteps
 pub use Rattle.iref_model.specs.CountedEquality
 pub use Rattle.iref_model.specs.Edits
+pub use Rattle.iref_model.specs.Guard
 pub use Rattle.iref_model.specs.HostNumbers
 pub use Rattle.iref_model.specs.Key
 pub use Rattle.iref_model.specs.NormalList

@@ -1,23 +1,23 @@
 -- Answers to lines.
 use Rattle.std.proofs.Common.{◌≡◌, Bool, true, false, refl, sym, subst, ◌∙◌, Option, Some, None, Err, ap, option_map, codes}
 use Rattle.std.proofs.lemmas.Bool.{and_right}
-use Rattle.iref_grammar.specs.Rules.{Text, InUtf8}
-use Rattle.iref_grammar.specs.Characters.{iri_chars, iri_above_ascii}
-use Rattle.iref_grammar.specs.Grammar.{IsPath, IsUri, IsUriReference}
-use Rattle.iref_grammar.specs.Tests.{is_path}
-use Rattle.iref_grammar.proofs.PathTextLemmas.{Decides-is_path}
-use Rattle.iref_grammar.proofs.ReferenceRuleLemmas.{Decides-is_uri, Decides-is_uri_reference}
-use Rattle.iref_grammar.specs.PathValue.{spell_path, read_path}
-use Rattle.iref_grammar.specs.Contexts.{alone}
-use Rattle.iref_grammar.specs.Reference.{ReferenceValue, is_reference, is_uri, read_reference, spell}
-use Rattle.iref_grammar.specs.ComponentTexts.{ComponentTexts, spell_components}
-use Rattle.iref_model.specs.Guard.{guarded}
-use Rattle.iref_model.specs.NormalList.{normal}
-use Rattle.iref_model.specs.Key.{key, are_alike}
-use Rattle.iref_model.proofs.TieLemmas.{references_tie}
-use Rattle.iref_model.specs.Relative.{relative_to}
-use Rattle.iref_model.specs.Resolution.{resolved}
-use Rattle.iref_mapping.specs.Mapping.{mapped}
+use Rattle.iref.specs.Rules.{Text, InUtf8}
+use Rattle.iref.specs.Characters.{iri_chars, iri_above_ascii}
+use Rattle.iref.specs.Grammar.{IsPath, IsUri, IsUriReference}
+use Rattle.iref.specs.Tests.{is_path}
+use Rattle.iref.proofs.PathTextLemmas.{Decides-is_path}
+use Rattle.iref.proofs.ReferenceRuleLemmas.{Decides-is_uri, Decides-is_uri_reference}
+use Rattle.iref.specs.PathValue.{spell_path, read_path}
+use Rattle.iref.specs.Contexts.{alone}
+use Rattle.iref.specs.Reference.{ReferenceValue, is_reference, is_uri, read_reference, spell}
+use Rattle.iref.specs.ComponentTexts.{ComponentTexts, spell_components}
+use Rattle.iref.specs.Guard.{guarded}
+use Rattle.iref.specs.NormalList.{normal}
+use Rattle.iref.specs.Key.{key, are_alike}
+use Rattle.iref.proofs.TieLemmas.{references_tie}
+use Rattle.iref.specs.Relative.{relative_to}
+use Rattle.iref.specs.Resolution.{resolved}
+use Rattle.iref.specs.Mapping.{mapped}
 use Rattle.iref_lines.specs.Lines.{Request, answer_if_valid, read_line, answer, BadCommand, InvalidText, Answered, Parts, Resolve, Relative, Normal, Equal, ToUri, answer_to, is_valid, answer_text, part_fields, yes_or_no, all_verbs}
 use Rattle.iref_batch.specs.EditFields.{IsRead, IsRefusal}
 use Rattle.iref_batch.specs.Runs.{line_reply, reply_to}

@@ -2,11 +2,11 @@
 use Rattle.std.proofs.Common.{◌≡◌, ℕ, true, false, List, Option, Some, Ok, Err, refl, ap, subst, sym, ◌∙◌, option_map}
 use Rattle.std.specs.List.{list_all}
 use Rattle.std.proofs.lemmas.Bool.{and_right}
-use Rattle.iref_grammar.specs.Characters.{iri_chars}
-use Rattle.iref_grammar.specs.Grammar.{IsUriReference}
-use Rattle.iref_grammar.specs.Reference.{ReferenceValue, is_reference, read_reference, spell}
-use Rattle.iref_grammar.specs.Rules.{InUtf8, Text}
-use Rattle.iref_model.specs.Edits.{EditStep, EditRefusal, EditsOutcome, edited, edited_all}
+use Rattle.iref.specs.Characters.{iri_chars}
+use Rattle.iref.specs.Grammar.{IsUriReference}
+use Rattle.iref.specs.Reference.{ReferenceValue, is_reference, read_reference, spell}
+use Rattle.iref.specs.Rules.{InUtf8, Text}
+use Rattle.iref.specs.Edits.{EditStep, EditRefusal, EditsOutcome, edited, edited_all}
 use Rattle.iref_lines.specs.Lines.{Edit, LineAnswer, Answered, InvalidText, RefusedEdit, answer_if_valid, answer_text, answer_to, edits_answer, is_valid, is_valid_edit}
 use Rattle.iref.specs.EditAnswers.{AreDone}
 use Rattle.iref_batch.specs.Runs.{reply_to}

@@ -3,11 +3,11 @@ use Rattle.std.proofs.Common.{◌≡◌, ◌&&◌, Bool, true, false, List, [], 
 use Rattle.std.specs.List.{find, list_all}
 use Rattle.std.proofs.lemmas.Slice.Eq.{bytes_eq-Decides}
 use Rattle.std.proofs.Math.Bool.{and-false, and-true}
-use Rattle.iref_grammar.specs.Characters.{iri_chars}
-use Rattle.iref_grammar.specs.Rules.{Text}
-use Rattle.iref_model.specs.Edits.{EditStep}
+use Rattle.iref.specs.Characters.{iri_chars}
+use Rattle.iref.specs.Rules.{Text}
+use Rattle.iref.specs.Edits.{EditStep}
 use Rattle.iref_lines.specs.Lines.{edit_names, equals_sign, read_edit, is_valid_edit}
-use Rattle.iref_grammar.specs.Texts.{after, before}
+use Rattle.iref.specs.Texts.{after, before}
 use Rattle.iref_batch.specs.declared.edit_fields.FieldError.{FieldError}
 use Rattle.iref_batch.specs.declared.edit_fields.FieldError.TheVariants.{Command, Invalid, Memory}
 use Rattle.iref_batch.proofs.FieldListLemmas.{nothing_before, next_read, not_read, all_read}

@@ -1,9 +1,9 @@
 -- Edits that are done as their fields are read.
 use Rattle.std.proofs.Common.{◌≡◌, ℕ, ◌+◌, Bool, true, false, List, [], ◌∷◌, ◌++◌, Some, None, Result, Ok, Err, refl, ap, ◌∙◌, option_map}
-use Rattle.iref_grammar.specs.Characters.{iri_chars}
-use Rattle.iref_grammar.specs.Rules.{Text}
-use Rattle.iref_grammar.specs.Reference.{ReferenceValue}
-use Rattle.iref_model.specs.Edits.{EditStep, EditRefusal, edited, edited_from, unless_refused}
+use Rattle.iref.specs.Characters.{iri_chars}
+use Rattle.iref.specs.Rules.{Text}
+use Rattle.iref.specs.Reference.{ReferenceValue}
+use Rattle.iref.specs.Edits.{EditStep, EditRefusal, edited, edited_from, unless_refused}
 use Rattle.iref_lines.specs.Lines.{read_edit, is_valid_edit}
 use Rattle.iref_batch.specs.declared.edit_fields.FieldError.TheVariants.{Invalid}
 use Rattle.iref_batch.specs.EditFields.{EditsBy, LeavesAfter, edits_read}

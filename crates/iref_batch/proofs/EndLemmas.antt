@@ -4,8 +4,8 @@ use Rattle.std.specs.List.{All, AllZip}
 use Rattle.std.proofs.lemmas.List.Concat.{flat_map-append}
 use Rattle.std.proofs.lemmas.List.Elements.{AllZip-push}
 use Rattle.std.proofs.lemmas.Option.{same_Some}
-use Rattle.iref_grammar.specs.Rules.{Text}
-use Rattle.iref_grammar.specs.Texts.{is_empty}
+use Rattle.iref.specs.Rules.{Text}
+use Rattle.iref.specs.Texts.{is_empty}
 use Rattle.iref_lines.specs.Lines.{newline, lines_of}
 use Rattle.iref_lines.proofs.OutputLemmas.{lines_of-cut}
 use Rattle.iref_batch.specs.declared.lines.Lines.{Lines}

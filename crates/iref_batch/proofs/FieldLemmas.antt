@@ -3,14 +3,14 @@ use Rattle.std.proofs.Common.{◌≡◌, ◌==◌, ◌<◌, ◌||◌, ℕ, not, 
 use Rattle.std.specs.List.{find}
 use Rattle.std.proofs.lemmas.Slice.Eq.{bytes_eq-Decides}
 use Rattle.std.proofs.lemmas.List.Splits.{slice_split_at, slice_split_none, length-slice_split}
-use Rattle.iref_grammar.specs.Rules.{Text}
+use Rattle.iref.specs.Rules.{Text}
 use Rattle.std.specs.Char.{char_set_contains}
 use Rattle.std.proofs.lemmas.List.{append-nil}
 use Rattle.std.proofs.lemmas.List.Elements.{All-cons, All-nil}
 use mathlib.Core.Bool.{true≢false}
-use Rattle.iref_grammar.specs.Texts.{after, before, lacks, pieces_at, is_empty, then_part}
-use Rattle.iref_grammar.proofs.CutLemmas.{cut, rest_lacks}
-use Rattle.iref_grammar.proofs.SplitLemmas.{lacks-before}
+use Rattle.iref.specs.Texts.{after, before, lacks, pieces_at, is_empty, then_part}
+use Rattle.iref.proofs.CutLemmas.{cut, rest_lacks}
+use Rattle.iref.proofs.SplitLemmas.{lacks-before}
 use Rattle.iref_lines.specs.Lines.{Request, tab, read_line, read_fields, one_text, all_verbs}
 use Rattle.iref_batch.specs.Gathering.{Lacks}
 use Rattle.iref_batch.specs.Fields.{fields_of}

@@ -1,7 +1,7 @@
 -- Fields that are read one after the other.
 use Rattle.std.proofs.Common.{◌≡◌, List, [], ◌∷◌, ◌++◌, Option, Some, None, refl, ap, sym, ◌∙◌, append_assoc, append-nil, option_map, option_and_then, map}
-use Rattle.iref_grammar.specs.Rules.{Text}
-use Rattle.iref_grammar.specs.IpAddresses.{all_some}
+use Rattle.iref.specs.Rules.{Text}
+use Rattle.iref.specs.IpAddresses.{all_some}
 
 module _ {A : Type 0} where
   pub nothing_before : (read : Option (List A)) → read ≡ option_map (λ more. [] ++ more) read

@@ -1,7 +1,7 @@
 -- How a run reads its input.
 use Rattle.std.proofs.Common.{◌≡◌, ◌<◌, ◌≤◌, ◌+◌, ◌-◌, ◌^◌, ℕ, Bool, true, false, [], ◌++◌, Option, Some, None, length, take, refl, ap, sym, subst, ◌∙◌, append_assoc, append-nil, arith, length-append, length-take}
 use Rattle.std.specs.Io.KnownBytes.{Consumes, IsAtEnd, Keeps}
-use Rattle.iref_grammar.specs.Rules.{Text}
+use Rattle.iref.specs.Rules.{Text}
 use Rattle.iref_batch.specs.declared.lines.Lines.{Lines}
 use Rattle.iref_batch.specs.Runs.{AnswersAll, AnswersBegun, EndsWell, EndsEarly}
 use Rattle.iref_batch.specs.Gathering.{IsNothing, InRun, SeesMore, BreaksOff}

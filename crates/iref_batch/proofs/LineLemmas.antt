@@ -4,13 +4,13 @@ use Rattle.std.specs.List.{All}
 use Rattle.std.proofs.lemmas.List.{flat_map_more}
 use Rattle.std.proofs.lemmas.List.Splits.{slice_split_at, slice_split_none, length-slice_split}
 use Rattle.std.proofs.lemmas.List.Elements.{All-head, All-tail, All-push}
-use Rattle.iref_grammar.specs.Rules.{Text}
-use Rattle.iref_grammar.specs.Texts.{pieces_at, all_but_last, is_empty}
+use Rattle.iref.specs.Rules.{Text}
+use Rattle.iref.specs.Texts.{pieces_at, all_but_last, is_empty}
 use Rattle.iref_lines.specs.Lines.{newline, lines_of, without_empty_last}
 use Rattle.iref_lines.proofs.OutputLemmas.{without_empty_last-append}
 use Rattle.iref_batch.specs.Runs.{with_newlines, ended_lines}
 use Rattle.iref_batch.specs.Gathering.{IsLine}
-use Rattle.iref_model.proofs.DirectoryLemmas.{all_but_last-snoc}
+use Rattle.iref.proofs.DirectoryLemmas.{all_but_last-snoc}
 
 with_newlines-front : (line rest : Text) (lines : List Text) → with_newlines (line ∷ lines) ++ rest ≡ line ++ newline ∷ (with_newlines lines ++ rest)
 with_newlines-front line rest lines = simp append_assoc

@@ -2,12 +2,12 @@
 use Rattle.std.proofs.Common.{◌≡◌, true, false, List, Option, Result, refl, ap, sym, ◌∙◌, option_map}
 use Rattle.std.specs.Str.{is_utf8}
 use Rattle.std.proofs.lemmas.Bool.{and_left, and_right, false_from_ne_true}
-use Rattle.iref_grammar.specs.Characters.{iri_chars, iri_above_ascii}
-use Rattle.iref_grammar.specs.Grammar.{IsUri}
-use Rattle.iref_grammar.specs.Reference.{is_uri}
-use Rattle.iref_grammar.specs.Rules.{InUtf8, Text}
-use Rattle.iref_grammar.proofs.ReferenceRuleLemmas.{Decides-is_uri}
-use Rattle.iref_mapping.specs.PrefixTable.{PrefixEntry, CompactValue, compacted, compact_text, ExpandRefusal, expanded}
+use Rattle.iref.specs.Characters.{iri_chars, iri_above_ascii}
+use Rattle.iref.specs.Grammar.{IsUri}
+use Rattle.iref.specs.Reference.{is_uri}
+use Rattle.iref.specs.Rules.{InUtf8, Text}
+use Rattle.iref.proofs.ReferenceRuleLemmas.{Decides-is_uri}
+use Rattle.iref.specs.PrefixTable.{PrefixEntry, CompactValue, compacted, compact_text, ExpandRefusal, expanded}
 use Rattle.iref_lines.specs.Lines.{Compact, Expand, Answered, InvalidText, answer_if_valid, answer_to, are_valid_entries, expanded_answer, is_valid, part_field}
 use Rattle.iref_batch.specs.Requests.{asked_of}
 use Rattle.iref_batch.specs.declared.request.TableVerb.{TableVerb}

@@ -12,14 +12,14 @@ use Rattle.std.specs.Char.{is_ascii_alphabetic}
 use Rattle.std.specs.Str.{IsUtf8}
 use Rattle.std.proofs.lemmas.List.Folds.{list_all-append}
 use Rattle.std.proofs.lemmas.Option.{same_Some}
-use Rattle.iref_grammar.specs.Characters.{iri_chars, iri_above_ascii}
-use Rattle.iref_grammar.specs.Grammar.{IsUri}
-use Rattle.iref_grammar.specs.Texts.{after, before}
-use Rattle.iref_grammar.proofs.ReferenceRuleLemmas.{Decides-is_uri}
-use Rattle.iref_grammar.specs.Reference.{is_uri}
-use Rattle.iref_grammar.specs.Rules.{InUtf8, Text}
-use Rattle.iref_mapping.specs.PrefixTable.{PrefixEntry, PrefixTable, InsertRefusal, is_label, is_label_char, inserted, inserted_all, unless_refused}
-use Rattle.iref_mapping.proofs.PrefixLemmas.{inserted-ok, inserted-bad_label}
+use Rattle.iref.specs.Characters.{iri_chars, iri_above_ascii}
+use Rattle.iref.specs.Grammar.{IsUri}
+use Rattle.iref.specs.Texts.{after, before}
+use Rattle.iref.proofs.ReferenceRuleLemmas.{Decides-is_uri}
+use Rattle.iref.specs.Reference.{is_uri}
+use Rattle.iref.specs.Rules.{InUtf8, Text}
+use Rattle.iref.specs.PrefixTable.{PrefixEntry, PrefixTable, InsertRefusal, is_label, is_label_char, inserted, inserted_all, unless_refused}
+use Rattle.iref.proofs.PrefixLemmas.{inserted-ok, inserted-bad_label}
 use Rattle.iref_lines.specs.Lines.{equals_sign, are_valid_entries, read_entry, table_of}
 use Rattle.iref_batch.specs.PrefixFields.{can_insert, entries_read, HasTaken}
 use Rattle.iref_batch.proofs.FieldListLemmas.{nothing_before, next_read, not_read, all_read}

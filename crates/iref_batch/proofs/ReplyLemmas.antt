@@ -1,6 +1,6 @@
 -- Replies gathered and written.
 use Rattle.std.proofs.Common.{◌≡◌, ◌++◌, [], Option, refl, inl, inr, subst, sym, ◌∙◌, ap}
-use Rattle.iref_grammar.specs.Rules.{Text}
+use Rattle.iref.specs.Rules.{Text}
 use Rattle.iref_batch.specs.declared.lines.Begun.{Begun}
 use Rattle.iref_batch.specs.Runs.{line_reply, memory_refused, with_newline}
 use Rattle.iref_batch.specs.Gathering.{Writes, WritesPart, Replies, RepliesPart, IsNothing, Holds}

@@ -2,8 +2,8 @@
 use Rattle.std.proofs.Common.{◌≡◌, ◌==◌, true, false, List, [], ◌∷◌, ◌++◌, Option, Some, length, length-append, ◌<◌, arith, refl, ap, sym, subst, ◌∙◌, append_assoc, append-nil}
 use Rattle.std.proofs.lemmas.List.{flat_map_more}
 use Rattle.std.proofs.lemmas.List.Elements.{All-nil, All-append, All-push, AllZip-push}
-use Rattle.iref_grammar.specs.Rules.{Text}
-use Rattle.iref_grammar.specs.Texts.{is_empty}
+use Rattle.iref.specs.Rules.{Text}
+use Rattle.iref.specs.Texts.{is_empty}
 use Rattle.iref_lines.specs.Lines.{newline}
 use Rattle.iref_batch.specs.declared.lines.Begun.{Begun}
 use Rattle.iref_batch.specs.declared.lines.Gathered.{Gathered}

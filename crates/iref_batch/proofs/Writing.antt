@@ -3,7 +3,7 @@ use Rattle.std.proofs.Common.{◌≡◌, ◌==◌, ◌-◌, ◌++◌, ℕ, true,
 use Rattle.std.proofs.lemmas.List.{take_rest, nil_from_length}
 use Rattle.std.proofs.lemmas.Bool.{eqb-true}
 use Rattle.std.specs.Io.KnownBytes.{Appends, Keeps}
-use Rattle.iref_grammar.specs.Rules.{Text}
+use Rattle.iref.specs.Rules.{Text}
 use Rattle.iref_batch.specs.Gathering.{Writes, WritesPart, Gains}
 
 pub writes_from_appends : (text : Text) (old new : Option Text) → Appends old new text → Writes text old new

@@ -1,11 +1,11 @@
 -- What the fields of a line are read as: edits, with their values.
 use Rattle.std.specs.Prelude.{◌≡◌, ℕ, Bool, true, false, List, map, drop, Option, Some, None, Result, Ok, Err, bytes_eq, option_and_then}
 use Rattle.std.specs.List.{find, list_all}
-use Rattle.iref_grammar.specs.Rules.{Text}
-use Rattle.iref_grammar.specs.IpAddresses.{all_some}
-use Rattle.iref_grammar.specs.Characters.{iri_chars}
-use Rattle.iref_grammar.specs.Reference.{ReferenceValue}
-use Rattle.iref_model.specs.Edits.{EditStep, EditRefusal, edited_all}
+use Rattle.iref.specs.Rules.{Text}
+use Rattle.iref.specs.IpAddresses.{all_some}
+use Rattle.iref.specs.Characters.{iri_chars}
+use Rattle.iref.specs.Reference.{ReferenceValue}
+use Rattle.iref.specs.Edits.{EditStep, EditRefusal, edited_all}
 use Rattle.iref_lines.specs.Lines.{BadCommand, InvalidText, answer_text, edit_names, is_valid_edit, read_edit}
 use Rattle.iref_batch.specs.declared.edit_fields.FieldError.{FieldError}
 use Rattle.iref_batch.specs.declared.edit_fields.FieldError.TheVariants.{Command, Invalid, Memory}

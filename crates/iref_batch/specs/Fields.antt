@@ -1,7 +1,7 @@
 -- The fields of a line that are left to read.
 use Rattle.std.specs.Prelude.{List, [], Option, Some, None}
-use Rattle.iref_grammar.specs.Rules.{Text}
-use Rattle.iref_grammar.specs.Texts.{pieces_at}
+use Rattle.iref.specs.Rules.{Text}
+use Rattle.iref.specs.Texts.{pieces_at}
 use Rattle.iref_lines.specs.Lines.{tab}
 
 -- the fields of the text, if there is one

@@ -2,8 +2,8 @@
 use Rattle.std.specs.Prelude.{◌≡◌, ◌==◌, ℕ, true, false, List, [], ◌++◌, ◌∷◌, Option, Some, None, Result, OnOk, OnErr}
 use Rattle.std.specs.Borrow.{Bor}
 use Rattle.std.specs.List.{All, AllZip}
-use Rattle.iref_grammar.specs.Rules.{Text}
-use Rattle.iref_grammar.specs.Texts.{is_empty}
+use Rattle.iref.specs.Rules.{Text}
+use Rattle.iref.specs.Texts.{is_empty}
 use Rattle.iref_lines.specs.Lines.{Request, newline, lines_of}
 use Rattle.iref_batch.specs.declared.lines.Begun.{Begun}
 use Rattle.iref_batch.specs.declared.lines.Lines.{Lines}

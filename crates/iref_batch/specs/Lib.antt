@@ -6,5 +6,5 @@ pub mod Requests
 pub mod Runs
 pub mod StdStreams
 -- the words of contracts, for callers that list this crate alone
-pub use Rattle.iref_grammar.specs.Rules
+pub use Rattle.iref.specs.Rules
 pub use Rattle.iref_lines.specs.Lines

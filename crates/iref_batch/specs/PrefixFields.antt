@@ -1,11 +1,11 @@
 -- What the fields of a line are read as: entries of a prefix table.
 use Rattle.std.specs.Prelude.{◌≡◌, Bool, true, false, ◌&&◌, List, map, Option, Some, None, Ok}
 use Rattle.std.specs.Result.{is_ok}
-use Rattle.iref_grammar.specs.Characters.{iri_chars}
-use Rattle.iref_grammar.specs.Reference.{is_uri}
-use Rattle.iref_grammar.specs.Rules.{Text}
-use Rattle.iref_grammar.specs.IpAddresses.{all_some}
-use Rattle.iref_mapping.specs.PrefixTable.{PrefixEntry, PrefixTable, inserted}
+use Rattle.iref.specs.Characters.{iri_chars}
+use Rattle.iref.specs.Reference.{is_uri}
+use Rattle.iref.specs.Rules.{Text}
+use Rattle.iref.specs.IpAddresses.{all_some}
+use Rattle.iref.specs.PrefixTable.{PrefixEntry, PrefixTable, inserted}
 use Rattle.iref_lines.specs.Lines.{read_entry}
 use Rattle.iref_batch.specs.declared.edit_fields.FieldError.{FieldError}
 use Rattle.iref_batch.specs.declared.edit_fields.FieldError.TheVariants.{Command, Invalid, Memory}

@@ -1,8 +1,8 @@
 -- What the program has read of a line.
 use Rattle.std.specs.Prelude.{◌∷◌, List, Option, Some}
 use Rattle.std.specs.Option.{option_copied}
-use Rattle.iref_grammar.specs.Rules.{Text}
-use Rattle.iref_mapping.specs.PrefixTable.{PrefixEntry}
+use Rattle.iref.specs.Rules.{Text}
+use Rattle.iref.specs.PrefixTable.{PrefixEntry}
 use Rattle.iref_lines.specs.Lines as spec
 use Rattle.iref_batch.specs.Fields.{fields_of}
 use Rattle.iref_batch.specs.declared.request.Request.{Request}

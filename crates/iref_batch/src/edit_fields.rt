@@ -1,7 +1,7 @@
 //! The edits that the fields of a line name, each a name, or a name, `=` and a value.
 ghost use Rattle.std.specs.Prelude.{◌≡◌, Some, true, option_map};
 ghost use Rattle.std.specs.Option.{option_copied};
-ghost use Rattle.iref_grammar.specs.{iri_chars, Tests.{none_or}};
+ghost use Rattle.iref.specs.{Tests.{none_or}, Characters.{iri_chars}};
 ghost use Rattle.iref.specs.Components.{text_of};
 ghost use Rattle.iref_lines.specs.Lines.{edit_names, is_valid_edit};
 ghost use Rattle.iref.specs.EditSteps.{edit_step};
@@ -13,7 +13,7 @@ use iref::Memory;
 use iref::chars::CharSet;
 use iref::iri::Edit;
 use iref::rules::{BorrowedText, Rule};
-use iref_parse::cut::cut_bytes;
+use iref_lines::cut_bytes;
 use std::str;
 
 /// Why fields are no list of edits: `frobnicate=x` is no command, `port=x` is invalid.

@@ -2,7 +2,7 @@
 #![tactic(auto)]
 
 ghost use Rattle.std.specs.Prelude.{◌≡◌, Some, true, false, OnOk, OnErr};
-ghost use Rattle.iref_grammar.specs.Rules.{Text};
+ghost use Rattle.iref.specs.Rules.{Text};
 ghost use Rattle.iref_batch.specs.Runs.{AnswersBegun, EndsWell, EndsEarly};
 
 mod answers;

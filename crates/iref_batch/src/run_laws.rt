@@ -1,7 +1,7 @@
 //! Laws of runs: each is the contract of a function that does nothing.
 
 ghost use Rattle.std.specs.Prelude.{[], ◌++◌, Some};
-ghost use Rattle.iref_grammar.specs.Rules.{Text};
+ghost use Rattle.iref.specs.Rules.{Text};
 ghost use Rattle.iref_batch.specs.Runs.{AnswersAll, with_newline};
 
 /// A file is cut where a line ends, and its two pieces are answered by two runs. What they write,

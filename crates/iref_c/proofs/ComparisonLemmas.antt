@@ -7,8 +7,8 @@ use Rattle.std.specs.Ordering.{is_eq}
 use Rattle.std.specs.declared.cmp.Ordering.{Ordering}
 use Rattle.std.specs.declared.cmp.Ordering.TheVariants.{Less, Equal, Greater}
 use Rattle.iref.specs.Key.{are_alike, key, key_cmp}
-use Rattle.iref_grammar.specs.Reference.{ReferenceValue}
-use Rattle.iref_model.proofs.KeyOrderLemmas.{fed_where_tied}
+use Rattle.iref.specs.Reference.{ReferenceValue}
+use Rattle.iref.proofs.KeyOrderLemmas.{fed_where_tied}
 use Rattle.iref_c.specs.Comparison.{equal_number, hash_from, number_of_equality, number_of_order, order_number}
 
 true_if_one : (b : Bool) → number_of_equality b ≡ 1 → b ≡ true

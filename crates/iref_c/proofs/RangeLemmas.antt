@@ -1,14 +1,14 @@
 -- Where the parts of an authority stand, by the lengths of its slices.
 use Rattle.std.proofs.Common.{◌≡◌, ℕ, ◌+◌, [], ◌∷◌, length, refl, ap, ◌∙◌, length-append, arith}
 use Rattle.std.specs.Prelude.{Option, Some, None, IfSome, option_map}
-use Rattle.iref_grammar.specs.Rules.{Text}
-use Rattle.iref_grammar.specs.Grammar.{at_sign, colon}
-use Rattle.iref_grammar.specs.Texts.{part_then, then_part}
-use Rattle.iref_grammar.specs.Authority.{AuthorityValue, read_authority, spell_authority}
-use Rattle.iref_grammar.specs.declared.offsets.Offsets.{Offsets}
-use Rattle.iref_grammar.specs.Reference.{ReferenceValue}
-use Rattle.iref_grammar.specs.ComponentOffsets.{authority_mark, range_from, offsets_in}
-use Rattle.iref_grammar.proofs.AuthorityLemmas.{read_authority-spelled}
+use Rattle.iref.specs.Rules.{Text}
+use Rattle.iref.specs.Grammar.{at_sign, colon}
+use Rattle.iref.specs.Texts.{part_then, then_part}
+use Rattle.iref.specs.Authority.{AuthorityValue, read_authority, spell_authority}
+use Rattle.iref.specs.Offsets.{Offsets}
+use Rattle.iref.specs.Reference.{ReferenceValue}
+use Rattle.iref.specs.ComponentOffsets.{authority_mark, range_from, offsets_in}
+use Rattle.iref.proofs.AuthorityLemmas.{read_authority-spelled}
 use Rattle.iref_c.specs.declared.ranges.ByteRange.{ByteRange}
 use Rattle.iref_c.specs.PartRanges.{authority_ranges, range_for_c, ranges_from}
 

@@ -1,9 +1,9 @@
 -- What the calls answer: a status, and what they leave in what the caller lends them.
 use Rattle.std.specs.Prelude.{◌≡◌, ℕ, ⊤, ◌<◌, ◌≤◌, ◌++◌, ◌⊎◌, length, drop}
-use Rattle.iref_grammar.specs.Characters.{iri_chars}
-use Rattle.iref_grammar.specs.Grammar.{IsUriReference}
-use Rattle.iref_grammar.specs.Reference.{ReferenceValue, read_reference}
-use Rattle.iref_grammar.specs.Rules.{InUtf8, Rule, Text}
+use Rattle.iref.specs.Characters.{iri_chars}
+use Rattle.iref.specs.Grammar.{IsUriReference}
+use Rattle.iref.specs.Reference.{ReferenceValue, read_reference}
+use Rattle.iref.specs.Rules.{InUtf8, Rule, Text}
 use Rattle.iref_c.specs.declared.status.TheConstants.{OK, INVALID, SECOND_INVALID, SHORT, MEMORY}
 
 -- A call on two texts, of which each is in its rule or not: where both are, it is done. Else its status says which is the

@@ -1,5 +1,6 @@
 //! Equality, order and hash of references, which agree (RFC 3986 section 6.2.2).
-ghost use Rattle.iref_grammar.specs.{iri_chars, IsUriReference, ReferenceValue};
+ghost use Rattle.iref.specs.{Characters.{iri_chars}, Grammar.{IsUriReference}};
+ghost use Rattle.iref.specs.Reference.{ReferenceValue};
 ghost use Rattle.iref_c.specs.{Answers.{StoresOf, StoresOfTwo}, Comparison.{equal_number}};
 ghost use Rattle.iref_c.specs.Comparison.{hash_from, hash_number, keyed_hash_number};
 ghost use Rattle.iref_c.specs.Comparison.{number_of_order, order_number};

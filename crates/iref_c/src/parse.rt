@@ -1,6 +1,6 @@
 //! Whether a text is in a rule, with the ranges of its components (RFC 3986 sections 3 and 4.1,
 //! RFC 3987 section 2.2).
-ghost use Rattle.iref_grammar.specs.{iri_chars, uri_chars, IsUri, IsUriReference};
+ghost use Rattle.iref.specs.{Characters.{iri_chars, uri_chars}, Grammar.{IsUri, IsUriReference}};
 ghost use Rattle.iref_c.specs.{Answers.{StoresOf}, PartRanges.{all_ranges}};
 
 use crate::ranges::Ranges;

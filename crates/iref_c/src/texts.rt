@@ -1,8 +1,9 @@
 //! Texts that are written into the caller's buffer: normal paths, resolution, relative references
 //! and the mapping to URIs (RFC 3986 section 5.2, RFC 3987 section 3.1).
 ghost use Rattle.iref.specs.{Mapping.{mapped}, Relative.{relative_to}, Resolution.{resolved}};
-ghost use Rattle.iref_grammar.specs.{iri_chars, alone, IsPath, IsUri, read_path, spell_path};
-ghost use Rattle.iref_grammar.specs.{read_reference, spell, InUtf8};
+ghost use Rattle.iref.specs.{Characters.{iri_chars}, Contexts.{alone}, Grammar.{IsPath, IsUri}};
+ghost use Rattle.iref.specs.PathValue.{read_path, spell_path};
+ghost use Rattle.iref.specs.{Reference.{read_reference, spell}, Rules.{InUtf8}};
 ghost use Rattle.iref_c.specs.Answers.{IsReference, Writes};
 ghost use Rattle.std.specs.Prelude.{⊤};
 ghost use Rattle.iref.specs.PathSteps as step;

@@ -1,5 +1,5 @@
 use Rattle.std.proofs.Common.{◌≡◌, [], false, Some}
-use Rattle.iref_grammar.specs.Rules.{Text}
+use Rattle.iref.specs.Rules.{Text}
 use Rattle.iref_batch.proofs.InputLemmas.{InInput}
 use Rattle.iref_batch.proofs.run.Given as goal
 

@@ -1,7 +1,7 @@
 use Rattle.std.proofs.Common.{◌≡◌, ◌∙◌, rules}
 use Rattle.std.proofs.lemmas.Bool.Decides.{same_from_decides}
-use Rattle.iref_model.proofs.TieLemmas.{references_tie}
-use Rattle.iref_model.proofs.PartTieLemmas.{lower_case_tie, parts_tie}
+use Rattle.iref.proofs.TieLemmas.{references_tie}
+use Rattle.iref.proofs.PartTieLemmas.{lower_case_tie, parts_tie}
 use Rattle.iref.specs.Components.{text_of}
 use Rattle.iref.specs.Parts.{uri_ref_parts_value}
 use Rattle.iref_batch.proofs.AnswerLemmas.{no_left_answer, no_right_answer, same_answer, equal_answer}

@@ -1,6 +1,6 @@
 use Rattle.std.proofs.Common.{◌≡◌, ◌++◌, Ok, Err, Result, ap, append_assoc, refl, rules, ◌∙◌}
 use Rattle.std.specs.Prelude.{OnErr, OnOk, codes}
-use Rattle.iref_grammar.specs.Rules.{Text}
+use Rattle.iref.specs.Rules.{Text}
 use Rattle.iref_batch.specs.Gathering.{Puts}
 use Rattle.iref_batch.proofs.AnswerLemmas.{normal_answer, no_normal_answer}
 use Rattle.iref.specs.Components.{text_of}

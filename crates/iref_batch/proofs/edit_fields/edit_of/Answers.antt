@@ -1,9 +1,9 @@
 use Rattle.std.proofs.Common.{◌≡◌, refl, rules, subst, codes, Option, Some, Err, MatchResult, IsOkAnd, option_map}
 use Rattle.std.specs.Option.{option_copied}
-use Rattle.iref_grammar.specs.Characters.{iri_chars}
-use Rattle.iref_grammar.specs.Tests.{none_or, is_fragment, is_host, is_path, is_port, is_query, is_scheme, is_user_info}
-use Rattle.iref_grammar.specs.Authority.{is_authority}
-use Rattle.iref_model.specs.Edits.{EditStep, SetScheme, SetAuthority, ReplaceAuthority, SetUserInfo, SetHost, SetPort, SetPath, SetAndNormalizePath, SetQuery, SetFragment}
+use Rattle.iref.specs.Characters.{iri_chars}
+use Rattle.iref.specs.Tests.{none_or, is_fragment, is_host, is_path, is_port, is_query, is_scheme, is_user_info}
+use Rattle.iref.specs.Authority.{is_authority}
+use Rattle.iref.specs.Edits.{EditStep, SetScheme, SetAuthority, ReplaceAuthority, SetUserInfo, SetHost, SetPort, SetPath, SetAndNormalizePath, SetQuery, SetFragment}
 use Rattle.iref_lines.specs.Lines.{edit_names, is_valid_edit}
 use Rattle.iref.specs.Components.{text_of}
 use Rattle.iref.specs.declared.edits.Edit.TheVariants as edit

@@ -1,8 +1,8 @@
 use Rattle.std.proofs.Common.{◌≡◌, refl, rules, subst, codes, Option, Err, MatchResult, IsOkAnd, option_map}
 use Rattle.std.specs.Option.{option_copied}
-use Rattle.iref_grammar.specs.Characters.{iri_chars}
-use Rattle.iref_grammar.specs.Tests.{is_path, is_segment}
-use Rattle.iref_model.specs.Edits.{EditStep, LazyPush, Push, JoinPath}
+use Rattle.iref.specs.Characters.{iri_chars}
+use Rattle.iref.specs.Tests.{is_path, is_segment}
+use Rattle.iref.specs.Edits.{EditStep, LazyPush, Push, JoinPath}
 use Rattle.iref_lines.specs.Lines.{is_valid_edit}
 use Rattle.iref.specs.Components.{text_of}
 use Rattle.iref.specs.declared.edits.Edit.TheVariants as edit

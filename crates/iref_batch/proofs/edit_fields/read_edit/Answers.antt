@@ -1,7 +1,7 @@
 use Rattle.std.proofs.Common.{subst, Option}
 use Rattle.std.specs.Option.{option_copied}
-use Rattle.iref_grammar.specs.Characters.{iri_chars}
-use Rattle.iref_model.specs.Edits.{EditStep}
+use Rattle.iref.specs.Characters.{iri_chars}
+use Rattle.iref.specs.Edits.{EditStep}
 use Rattle.iref_lines.specs.Lines.{is_valid_edit}
 use Rattle.iref_batch.specs.EditFields.{IsRead}
 use Rattle.iref.specs.EditSteps.{edit_step}

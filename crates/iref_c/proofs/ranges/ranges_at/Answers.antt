@@ -1,5 +1,5 @@
 use Rattle.std.proofs.Common.{length, ap, ◌∙◌, arith}
-use Rattle.iref_grammar.specs.Authority.{spell_authority}
+use Rattle.iref.specs.Authority.{spell_authority}
 use Rattle.iref_c.proofs.RangeLemmas.{length-read}
 use Rattle.iref_c.proofs.ranges.ranges_at.Goals as goal
 

@@ -1,9 +1,9 @@
 use Rattle.std.proofs.Common.{Bool, subst, sym, ◌∙◌}
 use Rattle.std.specs.Option.{option_copied}
 use Rattle.std.specs.List.{list_all}
-use Rattle.iref_grammar.specs.Characters.{iri_chars}
-use Rattle.iref_grammar.specs.Rules.{Text}
-use Rattle.iref_grammar.proofs.ReferenceCutLemmas.{read_reference-spelled}
+use Rattle.iref.specs.Characters.{iri_chars}
+use Rattle.iref.specs.Rules.{Text}
+use Rattle.iref.proofs.ReferenceCutLemmas.{read_reference-spelled}
 use Rattle.iref_lines.specs.Lines.{Edit, is_valid_edit}
 use Rattle.iref.specs.References.{reference_buf_text, reference_buf_value}
 use Rattle.iref_batch.specs.EditFields.{LeavesAfter, edits_read}

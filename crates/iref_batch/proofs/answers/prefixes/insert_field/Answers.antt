@@ -1,6 +1,6 @@
 use Rattle.std.proofs.Common.{◌∙◌, ap, sym}
 use Rattle.std.specs.Option.{option_copied}
-use Rattle.iref_mapping.specs.PrefixTable.{PrefixEntry, BadLabel, Taken, inserted}
+use Rattle.iref.specs.PrefixTable.{PrefixEntry, BadLabel, Taken, inserted}
 use Rattle.iref_batch.proofs.PrefixFieldLemmas.{field_read, iri_accepted, no_iri_no_entry, no_text_no_label, refused_entry}
 use Rattle.iref_batch.proofs.answers.prefixes.insert_field.Goals as goal
 

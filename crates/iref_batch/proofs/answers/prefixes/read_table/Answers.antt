@@ -1,6 +1,6 @@
 use Rattle.std.proofs.Common.{sym, subst, true}
 use Rattle.std.specs.Option.{option_copied}
-use Rattle.iref_mapping.specs.PrefixTable.{PrefixTable}
+use Rattle.iref.specs.PrefixTable.{PrefixTable}
 use Rattle.iref_batch.specs.Fields.{fields_of}
 use Rattle.iref_batch.proofs.PrefixFieldLemmas.{Reading, reading_begun, reading_more, reading_invalid}
 use Rattle.iref_batch.proofs.answers.prefixes.read_table.Goals as goal
