@@ -1,6 +1,6 @@
 //! The answer to a line.
 ghost use Rattle.std.specs.Prelude.{◌≡◌, ◌+◌, ◌≤◌, ◌++◌, ◌∷◌, length, take, option_map};
-ghost use Rattle.std.specs.Prelude.{IfSome, OnOk, OnErr};
+ghost use Rattle.std.specs.Prelude.{IfSome, OnOk, OnErr, option_and_then};
 ghost use Rattle.iref.specs.{Components.{text_of}, Parts.{uri_ref_part_texts}, Rules.{Text}};
 ghost use Rattle.iref_lines.specs.Lines.{Answered, answer_text, part_field, part_fields, tab};
 ghost use Rattle.iref_lines.specs.Lines.{yes_or_no, Parts, Normal, Equal, ToUri};
@@ -182,30 +182,23 @@ fn put_answer_to_to_uri(text: &[u8], out: &mut Vec<u8>) -> Result<(), Memory>
     put_answered(mapping.as_bytes(), out)
 }
 
-/// Puts the answer to a request.
-fn put_answer_to(request: Request<'_>, out: &mut Vec<u8>) -> Result<(), Memory>
-    ensures { Puts (reply_to (request_of request.entry)) out.old.items out.new.items result }
+/// Puts the answer to what a line asks for, if it asks for something.
+#[inline(always)]
+fn put_answer(request: Option<Request<'_>>, out: &mut Vec<u8>) -> Result<(), Memory>
+    ensures { Puts (reply_to (option_and_then request_of request.entry))
+        out.old.items out.new.items result }
 {
     match request {
-        Request::Parts(text) => put_answer_to_parts(text, out),
-        Request::Resolve(reference, base) => put_answer_to_resolve(reference, base, out),
-        Request::Relative(target, base) => put_answer_to_relative(target, base, out),
-        Request::Normal(text) => put_answer_to_normal(text, out),
-        Request::Equal(left, right) => put_answer_to_equal(left, right, out),
-        Request::Edit(text, fields) => put_answer_to_edit(text, fields, out),
-        Request::ToUri(text) => put_answer_to_to_uri(text, out),
-        Request::ByTable(verb, text, fields) => put_answer_by_table(verb, text, fields, out),
+        None => put_text(b"error command", out),
+        Some(Request::Parts(text)) => put_answer_to_parts(text, out),
+        Some(Request::Resolve(reference, base)) => put_answer_to_resolve(reference, base, out),
+        Some(Request::Relative(target, base)) => put_answer_to_relative(target, base, out),
+        Some(Request::Normal(text)) => put_answer_to_normal(text, out),
+        Some(Request::Equal(left, right)) => put_answer_to_equal(left, right, out),
+        Some(Request::Edit(text, fields)) => put_answer_to_edit(text, fields, out),
+        Some(Request::ToUri(text)) => put_answer_to_to_uri(text, out),
+        Some(Request::ByTable(verb, text, fields)) => put_answer_by_table(verb, text, fields, out),
     }
-}
-
-/// Puts the answer to the line.
-fn put_answer(line: &[u8], out: &mut Vec<u8>) -> Result<(), Memory>
-    ensures { Puts (line_reply line.now) out.old.items out.new.items result }
-{
-    let Some(request) = read_request(line) else {
-        return put_text(b"error command", out);
-    };
-    put_answer_to(request, out)
 }
 
 /// Puts the answer to the line, and a newline, after what `out` holds; or leaves it where memory is
@@ -215,7 +208,7 @@ pub fn answer_line(line: &[u8], out: &mut Vec<u8>) -> Result<(), Memory>
     ensures err { OnErr result (out.new.items ≡ out.old.items) }
 {
     let start = out.len();
-    if put_answer(line, out).is_err() || out.push(b'\n').is_err() {
+    if put_answer(read_request(line), out).is_err() || out.push(b'\n').is_err() {
         out.truncate(start);
         return Err(Memory);
     }
