@@ -1,6 +1,5 @@
 use Rattle.std.proofs.Common.{sym, ap, ◌∙◌, subst}
-use Rattle.iref_edit.specs.Changes.{IsWithin}
-use Rattle.iref_edit.specs.Changes.{changed}
+use Rattle.iref_edit.specs.Changes.{IsWithin, changed}
 use Rattle.iref_grammar.specs.Contexts.{follows_authority}
 use Rattle.iref_grammar.specs.PathValue.{read_path}
 use Rattle.iref_grammar.specs.Tests.{is_path}
