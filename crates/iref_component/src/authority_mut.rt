@@ -1,12 +1,11 @@
 //! Edits of an authority in place (RFC 3986 section 3.2).
 ghost use Rattle.std.specs.Prelude.{◌≡◌, ◌≤◌, ◌+◌, ◌-◌, ◌++◌, true, length, slice_range, vec_len};
 ghost use Rattle.std.specs.{Prelude.{Some, IfOk, IsOk, IsNone, option_map}, Borrow.{sem}};
-ghost use Rattle.std.specs.{Borrow.{RestsIfErr}, Option.{option_copied}};
+ghost use Rattle.std.specs.Borrow.{RestsIfErr};
 ghost use Rattle.iref_edit.specs.Changes.{IsWithin, replaced};
 ghost use Rattle.iref_component.specs.AuthorityTexts.{SpellsAuthority, authority_is_text};
 ghost use Rattle.iref_component.specs.{Components.{text_of}, Makers.{ParsesUtf8}};
-ghost use Rattle.iref_grammar.specs.{AuthorityValue, IsAuthority, is_authority, is_port};
-ghost use Rattle.iref_grammar.specs.{is_user_info, none_or, read_authority};
+ghost use Rattle.iref_grammar.specs.{AuthorityValue, IsAuthority, is_authority, read_authority};
 ghost use Rattle.iref_model.specs.{port_text};
 ghost use Rattle.iref_model.specs.AuthoritySteps.{with_user_info, with_host, with_port};
 
@@ -171,27 +170,6 @@ impl<'a, C: CharSet, T: Target<AuthorityPart, C>> AuthorityMut<'a, C, T> {
         Ok(())
     }
 
-    // Replaces, adds or removes the user info.
-    fn put_user_info(&mut self, user_info: Option<&str>) -> Result<(), Memory>
-        requires { none_or (is_user_info C.tests) (option_copied user_info) ≡ true }
-        ensures edit { Edits (with_user_info (option_copied user_info.entry))
-            self.old self.new result }
-        ensures none { IsNone user_info.entry → IsOk result }
-    {
-        let within = user_info_range::<C>(self.text());
-        self.put(within, marked_after(user_info, "@"))
-    }
-
-    // Replaces, adds or removes the port.
-    fn put_port(&mut self, port: Option<&str>) -> Result<(), Memory>
-        requires { none_or is_port (option_copied port) ≡ true }
-        ensures edit { Edits (with_port (option_copied port.entry)) self.old self.new result }
-        ensures none { IsNone port.entry → IsOk result }
-    {
-        let within = port_range::<C>(self.text());
-        self.put(within, marked(":", port))
-    }
-
     /// Replaces the authority, and nothing that stands before or after it.
     pub fn replace(&mut self, authority: Authority<'_, C>) -> Result<(), Memory>
         ensures { Edits (λ _. read_authority (text_of authority.entry))
@@ -208,7 +186,8 @@ impl<'a, C: CharSet, T: Target<AuthorityPart, C>> AuthorityMut<'a, C, T> {
             self.old self.new result }
         ensures none { IsNone user_info.entry → IsOk result }
     {
-        self.put_user_info(text_of(user_info))
+        let within = user_info_range::<C>(self.text());
+        self.put(within, marked_after(text_of(user_info), "@"))
     }
 
     /// Replaces the host: of `u@h:80` what stands before the `:80` and after the `u@`.
@@ -226,7 +205,8 @@ impl<'a, C: CharSet, T: Target<AuthorityPart, C>> AuthorityMut<'a, C, T> {
             self.old self.new result }
         ensures none { IsNone port.entry → IsOk result }
     {
-        self.put_port(text_of(port))
+        let within = port_range::<C>(self.text());
+        self.put(within, marked(":", text_of(port)))
     }
 
     /// Sets the port to a number, in decimal digits without leading zeros, or removes it, which
@@ -237,8 +217,8 @@ impl<'a, C: CharSet, T: Target<AuthorityPart, C>> AuthorityMut<'a, C, T> {
         ensures none { IsNone port → IsOk result }
     {
         match port {
-            Some(number) => self.put_port(Some(Buffer::new().format(number))),
-            None => self.put_port(None),
+            Some(number) => self.set_port(Some(Port::new_unchecked(Buffer::new().format(number)))),
+            None => self.set_port(None),
         }
     }
 }

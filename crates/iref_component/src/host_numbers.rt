@@ -18,15 +18,8 @@ pub(crate) fn ipv4_string(alloc: Global, number: u32) -> Result<String, Memory>
         number / 0x1_0000 % 0x100,
         number / 0x100 % 0x100,
         number % 0x100
-    )?;
-    Ok(text)
-}
-
-// Where a run of zero groups begins, and how many they are.
-#[derive(Clone, Copy)]
-struct Run {
-    start: usize,
-    len: usize,
+    );
+    text.or(Err(Memory))
 }
 
 // How many zero groups are at the front.
@@ -36,24 +29,21 @@ fn zeros_at_front(groups: &[u16]) -> usize
     groups.iter().take_while(|group| **group == 0).count()
 }
 
-// The first of the longest runs of zero groups.
-fn longest_zero_run(groups: &[u16]) -> Run
-    ensures start { result.start ≡ run_start groups.now }
-    ensures len { result.len ≡ longest_run groups.now }
-    ensures within { result.start + result.len ≤ length groups.now }
+// Where the first of the longest runs of zero groups begins, and how many groups it has.
+fn longest_zero_run(groups: &[u16]) -> (usize, usize)
+    ensures start { result.0 ≡ run_start groups.now }
+    ensures len { result.1 ≡ longest_run groups.now }
+    ensures within { result.0 + result.1 ≤ length groups.now }
 {
     let [_, rest @ ..] = groups else {
-        return Run { start: 0, len: 0 };
+        return (0, 0);
     };
     let len = zeros_at_front(groups);
-    let later = longest_zero_run(rest);
-    if len < later.len {
-        Run {
-            start: later.start + 1,
-            len: later.len,
-        }
+    let (start, later) = longest_zero_run(rest);
+    if len < later {
+        (start + 1, later)
     } else {
-        Run { start: 0, len }
+        (0, len)
     }
 }
 
@@ -77,13 +67,13 @@ fn push_address(text: &mut String, groups: &[u16]) -> Result<(), AllocError>
     ensures { IfOk result
         (λ _. string_bytes text.new ≡ string_bytes text.old ++ ipv6_text groups.now) }
 {
-    let run = longest_zero_run(groups);
-    if run.len < 2 {
+    let (start, len) = longest_zero_run(groups);
+    if len < 2 {
         return push_groups(text, groups);
     }
-    push_groups(text, &groups[..run.start])?;
+    push_groups(text, &groups[..start])?;
     text.push_str("::")?;
-    push_groups(text, &groups[run.start + run.len..])
+    push_groups(text, &groups[start + len..])
 }
 
 // The eight groups of a number, the highest first.

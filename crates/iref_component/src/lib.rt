@@ -9,7 +9,6 @@ pub mod authority_parts;
 pub mod borrowed;
 pub mod calls;
 mod constants;
-mod from_segments;
 pub mod host;
 mod host_numbers;
 pub mod key;

@@ -19,7 +19,10 @@ impl<R: Refuses<String>, C: CharSet> TextBuf<R, C> {
     pub fn new(text: String) -> Result<Self, R::Error>
         ensures { ParsesUtf8 (R.rule C.tests) text_of R.refused (string_bytes text) text result }
     {
-        RuleText::read(text).map_err(|text| R::refuse(text))
+        match RuleText::read(text) {
+            Ok(text) => Ok(text),
+            Err(text) => Err(R::refuse(text)),
+        }
     }
 }
 
@@ -29,9 +32,13 @@ impl<R: Refuses<Vec<u8>>, C: CharSet> TextBuf<R, C> {
     pub fn from_bytes(bytes: Vec<u8>) -> Result<Self, R::Error>
         ensures { ParsesUtf8 (R.rule C.tests) text_of R.refused bytes.items bytes result }
     {
-        match String::from_utf8(bytes) {
-            Ok(text) => RuleText::read(text).map_err(|text| R::refuse(text.into_bytes())),
-            Err(error) => Err(R::refuse(error.into_bytes())),
+        let text = match String::from_utf8(bytes) {
+            Ok(text) => text,
+            Err(error) => return Err(R::refuse(error.into_bytes())),
+        };
+        match RuleText::read(text) {
+            Ok(text) => Ok(text),
+            Err(text) => Err(R::refuse(text.into_bytes())),
         }
     }
 }
@@ -76,7 +83,7 @@ impl<R: Rule, C: CharSet> TextBuf<R, C> {
         ensures err { OnErr result (text_of self.new ≡ text_of self.old) }
         ensures shorter { IsNoLonger change.entry → IsOk result }
     {
-        Ok(replace(&mut self.text, change)?)
+        replace(&mut self.text, change).or(Err(Memory))
     }
 
     /// The text, with no copy.

@@ -98,8 +98,10 @@ impl<S: Storage, C: CharSet> RuleText<S, PathRule, C> {
             → IsOk result }
     {
         let path = self.as_borrowed().as_str();
-        let text = suffix_text::<C>(alloc, prefix.as_str(), path)?;
-        Ok(text.map(|text| PathBuf::new_unchecked(text)))
+        match suffix_text::<C>(alloc, prefix.as_str(), path)? {
+            Some(text) => Ok(Some(PathBuf::new_unchecked(text))),
+            None => Ok(None),
+        }
     }
 
     /// Whether what stands before the first `:` is a scheme (RFC 3986 section 4.2).

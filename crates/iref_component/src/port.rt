@@ -22,7 +22,7 @@ impl Port<'_> {
         if digits.is_empty() {
             return Err(PortError::Empty);
         }
-        digits.parse::<u128>().map_err(|_| PortError::OutOfRange)
+        digits.parse::<u128>().or(Err(PortError::OutOfRange))
     }
 }
 

@@ -76,6 +76,9 @@ impl<'a, C: CharSet> DoubleEndedIterator for Segments<'a, C> {
 
 impl<C: CharSet> ExactSizeIterator for Segments<'_, C> {
     fn len(&self) -> usize {
-        self.rest.map_or(0, |text| count_segments(text))
+        match self.rest {
+            Some(text) => count_segments(text),
+            None => 0,
+        }
     }
 }

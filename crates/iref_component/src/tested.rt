@@ -21,7 +21,10 @@ pub fn read<'t, R: Refuses<&'t str>, C: CharSet>(
     ensures ok { IfOk result (λ view. text_of view ≡ text.now) }
     ensures text { Tests (R.rule C.tests) text.entry R.refused result }
 {
-    BorrowedText::new(text).map_err(TryError::Invalid)
+    match BorrowedText::new(text) {
+        Ok(view) => Ok(view),
+        Err(error) => Err(TryError::Invalid(error)),
+    }
 }
 
 /// Whether the text, if there is one, is in a rule: `Invalid` returns one that is not, in the

@@ -5,6 +5,7 @@ pub mod DigitLemmas
 pub mod OctetLemmas
 pub mod GroupLemmas
 pub mod DoubleColonLemmas
+pub mod Ipv4ScanLemmas
 pub mod Ipv6ScanLemmas
 pub mod LiteralLemmas
 pub mod SliceRangeLemmas

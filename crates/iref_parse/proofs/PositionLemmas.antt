@@ -1,5 +1,5 @@
 -- The first index that is marked, by marks of 16 at a time.
-use Rattle.std.proofs.Common.{◌≡◌, ◌≢◌, ℕ, ◌+◌, ◌-◌, ◌<◌, ◌≤◌, List, [], ◌∷◌, Bool, true, false, cond, eqb, ◌||◌, length, get_or, not, replicate, bit_or, refl, sym, ap, subst, ◌∙◌, arith, ⊎_elim, inl, inr}
+use Rattle.std.proofs.Common.{◌≡◌, ◌≢◌, ℕ, ◌+◌, ◌-◌, ◌<◌, ◌≤◌, List, [], ◌∷◌, ◌++◌, take, drop, Bool, true, false, cond, eqb, ◌||◌, length, get_or, not, replicate, bit_or, refl, sym, ap, subst, ◌∙◌, arith, ⊎_elim, inl, inr}
 use Rattle.std.specs.Prelude.{◌==◌}
 use Rattle.std.specs.Str.{IsCharBoundary, IsUtf8}
 use Rattle.std.specs.List.{list_all, position_or_len}
@@ -9,6 +9,7 @@ use Rattle.std.proofs.lemmas.Bool.Decides.{eqb_tells}
 use Rattle.std.proofs.lemmas.List.Elements.{All-from_get_or}
 use Rattle.std.proofs.lemmas.List.Sums.{AllPass-from_list_all, list_all-from_AllPass, position_or_len_is, passes_at_first, prefix_len-le-length}
 use Rattle.std.proofs.lemmas.Str.{IsCharBoundary-end, IsCharBoundary-before_ascii, IsUtf8-drop}
+use Rattle.std.proofs.lemmas.List.{get_or_append_left, get_or-append_right, get_or-take, get_or-drop, length-take-le}
 use mathlib.Core.Bool.{true≢false}
 use Rattle.std.proofs.lemmas.Simd.{get_or-replicate}
 use Rattle.iref_parse.specs.Lanes.{HasLanes, DifferFirstAt}
@@ -101,6 +102,52 @@ pub position_from_clear : (first second : ℕ) (bytes : List ℕ) (at : ℕ) →
     → at ≡ position_or_len (char_set_contains (first ∷ second ∷ [])) bytes
 position_from_clear first second bytes at h other =
     sym (position_or_len_is (char_set_contains (first ∷ second ∷ [])) bytes at 0 h.within (λ k l. clear_if _ (h.each k l)) (λ l. marked_if _ (other l)))
+
+-- the first eight bytes and the last eight, of 8 to 15
+module _ (first second : ℕ) (bytes : List ℕ) (least : 8 ≤ length bytes) (most : length bytes < 16) where
+  abbrev pub ends : List ℕ
+  ends = take 8 bytes ++ drop (length bytes - 8) bytes
+
+  low_end : (k : ℕ) → k < 8 → get_or bytes k 0 ≡ get_or ends k 0
+  low_end k l = sym (get_or_append_left (take 8 bytes) (drop (length bytes - 8) bytes) 0 k (omega (arith, l, length-take-le 8 bytes least)) ∙ get_or-take 8 bytes k 0 l)
+
+  high_end : (k : ℕ) → length bytes ≤ k + 8 → get_or bytes k 0 ≡ get_or ends (k + 16 - length bytes) 0
+  high_end k l =
+      let lane : length bytes - 8 + (k + 16 - length bytes - 8) ≡ k = omega arith in
+      sym (get_or-append_right (take 8 bytes) (drop (length bytes - 8) bytes) 8 (k + 16 - length bytes) 0 (length-take-le 8 bytes least) (omega arith)
+      ∙ get_or-drop (length bytes - 8) bytes (k + 16 - length bytes - 8) 0 ∙ ap (λ i. get_or bytes i 0) lane)
+
+  module _ (v : List ℕ) (r : ℕ) (marks : HasLanes v (λ k. either_at first second ends (0 + k))) (differ : DifferFirstAt v (replicate 16 0) 16 r) where
+    abbrev mark : List ℕ → ℕ → ℕ
+    mark = either_at first second
+
+    none : IsClearFront (mark ends) 16 0
+    none = record { within = omega arith; each = λ k l. absurd (omega arith) }
+
+    clear : IsClearFront (mark ends) 16 (0 + r)
+    clear = IsClearFront-more (mark ends) 16 0 none v r (omega arith) marks differ
+
+    met : r < 16 → mark ends r ≢ 0
+    met l e = let here : 0 + r ≡ r = omega arith in IsClearFront-ends (mark ends) 16 0 none v r (omega arith) marks differ l (ap (mark ends) here ∙ e)
+
+    same : (i j : ℕ) → get_or bytes i 0 ≡ get_or ends j 0 → mark bytes i ≡ mark ends j
+    same i j e = ap (λ x. all_bits_if (char_set_contains (first ∷ second ∷ []) x)) e
+
+    pub position_at_low_end : r < 8 → r ≡ position_or_len (char_set_contains (first ∷ second ∷ [])) bytes
+    position_at_low_end low =
+        position_from_clear first second bytes r (record { within = omega arith; each = λ k l. same k k (low_end k (omega arith)) ∙ clear.each k (omega arith) }) (λ l e. met (omega arith) (sym (same r r (low_end r low)) ∙ e))
+
+    pub position_at_high_end : 8 ≤ r → r + length bytes - 16 ≡ position_or_len (char_set_contains (first ∷ second ∷ [])) bytes
+    position_at_high_end high =
+        let within = differ.within in
+        let at = r + length bytes - 16 in
+        let lane : at + 16 - length bytes ≡ r = omega arith in
+        position_from_clear first second bytes at
+        (record {
+          within = omega arith;
+          each = λ k l. ⊎_elim (λ low. same k k (low_end k low) ∙ clear.each k (omega arith)) (λ from. same k (k + 16 - length bytes) (high_end k (omega arith)) ∙ clear.each (k + 16 - length bytes) (omega arith)) (cases_lt k 8);
+        })
+        (λ l e. met (omega arith) (ap (mark ends) (sym lane) ∙ sym (same at (at + 16 - length bytes) (high_end at (omega arith))) ∙ e))
 
 -- one mark is two that are the same
 pub position_of_one : (mark : ℕ) (text : List ℕ) → position_or_len (char_set_contains (mark ∷ mark ∷ [])) text ≡ position_or_len (char_set_contains (mark ∷ [])) text

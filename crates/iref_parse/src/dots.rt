@@ -22,12 +22,12 @@ fn slash_dots(path: &[u8], at: usize) -> u8x16
 fn has_few_dots(path: &[u8]) -> bool
     ensures { MatchBool result (HasDot path.now) (¬ HasDot path.now) }
 {
-    let mut begins = true;
-    for byte in path {
-        if begins && *byte == b'.' {
+    let mut at = 0;
+    while at < path.len() {
+        if path[at] == b'.' && (at == 0 || path[at - 1] == b'/') {
             return true;
         }
-        begins = *byte == b'/';
+        at += 1;
     }
     false
 }

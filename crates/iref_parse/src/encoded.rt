@@ -123,10 +123,20 @@ fn after_front<C: CharSet>(text: &[u8]) -> Option<&[u8]>
     }
 }
 
-// Whether the bytes are found to be such a text, from the front on.
+// Whether an escape or a character beyond ASCII begins with the byte.
+#[inline(always)]
+fn is_percent_or_wide(byte: u8) -> bool {
+    byte >= 128 || byte == b'%'
+}
+
+// Whether the bytes are found to be such a text, from the front on. The first byte, if any,
+// is not plain.
 fn is_encoded_rest<C: CharSet>(text: &[u8]) -> bool
     ensures { result ≡ true → are_encoded (is_plain_char C.tests) text.now ≡ true }
 {
+    if !text.is_empty() && !is_percent_or_wide(text[0]) {
+        return false;
+    }
     let mut rest = text;
     while !rest.is_empty() {
         match after_front::<C>(rest) {

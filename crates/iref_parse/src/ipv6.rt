@@ -1,23 +1,42 @@
 //! Whether a text is an IPv6 address (RFC 3986 section 3.2.2), most often in one scan.
 
-ghost use Rattle.std.specs.Prelude.{◌≡◌};
+ghost use Rattle.std.specs.Prelude.{◌≡◌, ◌<◌, drop};
 ghost use Rattle.iref_grammar.specs.Tests as test;
 ghost use Rattle.iref_parse.specs.Ipv6Scan as scan;
 
 use crate::ip::ipv6_value;
 
-// Whether the bytes continue a group that has this number of digits, and end in groups for which
-// there is room.
-fn ends_in_groups(bytes: &[u8], room: u8, digits: u8) -> bool
-    ensures { result ≡ scan.ends_in_groups room digits bytes.now }
+// Whether the bytes continue an octet, and end an IPv4 address with this number of further octets.
+// The octet has digits if it is begun.
+fn ends_in_octets(bytes: &[u8], room: u8, is_begun: bool, octet: u16) -> bool
+    requires { octet < 256 }
+    ensures { result ≡ scan.ends_in_octets room is_begun octet bytes.now }
 {
     let Some((first, others)) = bytes.split_first() else {
+        return room == 0 && is_begun;
+    };
+    if first.is_ascii_digit() {
+        let next = octet * 10 + u16::from(*first - b'0');
+        !(is_begun && octet == 0) && next < 256 && ends_in_octets(others, room, true, next)
+    } else {
+        *first == b'.' && is_begun && room > 0 && ends_in_octets(others, room - 1, false, 0)
+    }
+}
+
+// Whether the first bytes are digits of a group, and the bytes end in groups for which there is
+// room.
+fn ends_in_groups(group: &[u8], digits: usize, room: u8) -> bool
+    ensures { result ≡ scan.ends_in_groups room group.now digits (drop digits group.now) }
+{
+    let Some(byte) = group.get(digits) else {
         return digits > 0;
     };
-    if first.is_ascii_hexdigit() {
-        digits < 4 && ends_in_groups(others, room, digits + 1)
+    if byte.is_ascii_hexdigit() {
+        digits < 4 && ends_in_groups(group, digits + 1, room)
+    } else if *byte == b':' {
+        digits > 0 && room > 0 && ends_in_groups(&group[digits + 1..], 0, room - 1)
     } else {
-        *first == b':' && digits > 0 && room > 0 && ends_in_groups(others, room - 1, 0)
+        *byte == b'.' && room > 0 && ends_in_octets(group, 3, false, 0)
     }
 }
 
@@ -25,25 +44,25 @@ fn ends_in_groups(bytes: &[u8], room: u8, digits: u8) -> bool
 fn is_after_gap(bytes: &[u8], room: u8) -> bool
     ensures { result ≡ scan.is_after_gap room bytes.now }
 {
-    bytes.is_empty() || (room > 0 && ends_in_groups(bytes, room - 1, 0))
+    bytes.is_empty() || (room > 0 && ends_in_groups(bytes, 0, room - 1))
 }
 
-// Whether the bytes continue a group that has this number of digits, and fill the room for groups
-// or hold `::`.
-fn has_groups(bytes: &[u8], room: u8, digits: u8) -> bool
-    ensures { result ≡ scan.has_groups room digits bytes.now }
+// Whether the first bytes are digits of a group, and the bytes fill the room for groups or hold
+// `::`.
+fn has_groups(group: &[u8], digits: usize, room: u8) -> bool
+    ensures { result ≡ scan.has_groups room group.now digits (drop digits group.now) }
 {
-    let Some((first, others)) = bytes.split_first() else {
+    let Some(byte) = group.get(digits) else {
         return room == 0 && digits > 0;
     };
-    if first.is_ascii_hexdigit() {
-        digits < 4 && has_groups(others, room, digits + 1)
-    } else if *first != b':' {
-        false
+    if byte.is_ascii_hexdigit() {
+        digits < 4 && has_groups(group, digits + 1, room)
+    } else if *byte != b':' {
+        *byte == b'.' && room == 1 && ends_in_octets(group, 3, false, 0)
     } else if digits > 0 {
-        room > 0 && has_groups(others, room - 1, 0)
+        room > 0 && has_groups(&group[digits + 1..], 0, room - 1)
     } else {
-        room < 7 && is_after_gap(others, room)
+        room < 7 && is_after_gap(&group[1..], room)
     }
 }
 
@@ -60,12 +79,12 @@ fn opens_with_gap(bytes: &[u8]) -> bool
     *first == b':' && *second == b':' && is_after_gap(rest, 7)
 }
 
-/// Whether the bytes are an IPv6 address of which no part is written as an IPv4 address.
+// Whether the bytes are found to be an IPv6 address in one scan.
 #[inline(always)]
-fn is_plain_ipv6(bytes: &[u8]) -> bool
-    ensures { result ≡ scan.is_plain_ipv6 bytes.now }
+fn is_scanned_ipv6(bytes: &[u8]) -> bool
+    ensures { result ≡ scan.is_scanned_ipv6 bytes.now }
 {
-    has_groups(bytes, 7, 0) || opens_with_gap(bytes)
+    has_groups(bytes, 0, 7) || opens_with_gap(bytes)
 }
 
 // Whether the text is an IPv6 address, by its number.
@@ -76,10 +95,10 @@ fn has_ipv6_value(text: &str) -> bool
 }
 
 /// Whether the text is an IPv6 address, without brackets.
-#[tactic(auto, using(crate::proofs::Ipv6ScanLemmas::plain_address))]
+#[tactic(auto, using(crate::proofs::Ipv6ScanLemmas::scanned_address))]
 #[inline(always)]
 pub fn is_ipv6(text: &str) -> bool
     ensures { result ≡ test.is_ipv6 text.now }
 {
-    is_plain_ipv6(text.as_bytes()) || has_ipv6_value(text)
+    is_scanned_ipv6(text.as_bytes()) || has_ipv6_value(text)
 }

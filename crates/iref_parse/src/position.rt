@@ -1,5 +1,5 @@
 //! Where the first of two bytes stands.
-ghost use Rattle.std.specs.Prelude.{◌≡◌, ◌+◌, ◌≤◌, [], ◌∷◌, if◌then◌else◌, length, slice_index};
+ghost use Rattle.std.specs.Prelude.{◌≡◌, ◌+◌, ◌-◌, ◌<◌, ◌≤◌, [], ◌∷◌, ◌++◌, take, drop, if◌then◌else◌, length, slice_index};
 ghost use Rattle.std.specs.{List.{position_or_len}, Char.{char_set_contains}};
 ghost use Rattle.iref_parse.specs.Lanes.{HasLanes};
 
@@ -31,6 +31,47 @@ fn marks(bytes: &[u8], at: usize, first: u8, second: u8) -> u8x16
     either(equal_to(v, first), equal_to(v, second))
 }
 
+// The first eight bytes and the last eight, which may be some of the first.
+#[inline(always)]
+fn ends_of(bytes: &[u8]) -> [u8; 16]
+    requires { 8 ≤ length bytes.now }
+    ensures { result ≡ take 8 bytes.now ++ drop (length bytes.now - 8) bytes.now }
+{
+    let mut ends = [0; 16];
+    ends[..8].copy_from_slice(&bytes[..8]);
+    ends[8..].copy_from_slice(&bytes[bytes.len() - 8..]);
+    ends
+}
+
+// The position of the first byte that is one of two, or the length, of 8 to 15 bytes.
+#[inline(always)]
+fn position_in_ends(bytes: &[u8], first: u8, second: u8) -> usize
+    requires least { 8 ≤ length bytes.now }
+    requires most { length bytes.now < 16 }
+    ensures { result ≡ position_or_len (char_set_contains (first ∷ second ∷ [])) bytes.now }
+{
+    let found = marks(&ends_of(bytes), 0, first, second);
+    let lane = common_lanes(found, u8x16::splat(0));
+    if lane < 8 {
+        lane
+    } else {
+        lane + bytes.len() - 16
+    }
+}
+
+// The position of the first byte that is one of two, or the length, of at most 15 bytes.
+#[inline(always)]
+fn position_in_few(bytes: &[u8], first: u8, second: u8) -> usize
+    requires { length bytes.now < 16 }
+    ensures { result ≡ position_or_len (char_set_contains (first ∷ second ∷ [])) bytes.now }
+{
+    if bytes.len() < 8 {
+        position_near(bytes, first, second)
+    } else {
+        position_in_ends(bytes, first, second)
+    }
+}
+
 /// The position of the first byte that is one of two, or the length of the text.
 #[inline(always)]
 pub(crate) fn position_of_either(bytes: &[u8], first: u8, second: u8) -> usize
@@ -38,7 +79,7 @@ pub(crate) fn position_of_either(bytes: &[u8], first: u8, second: u8) -> usize
 {
     let len = bytes.len();
     if len < 16 {
-        return position_near(bytes, first, second);
+        return position_in_few(bytes, first, second);
     }
     let last = len - 16;
     let mut at = 0;

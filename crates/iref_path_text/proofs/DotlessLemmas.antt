@@ -27,7 +27,7 @@ use Rattle.iref_parse.specs.Dots.{begins_with_dot, has_dot_segment, is_some_dott
 use Rattle.iref_path_text.specs.Bodies.{after_front}
 use Rattle.iref_path_text.specs.Pieces.{pieces_if_some}
 use Rattle.iref_path_text.specs.Remaining.{first_or}
-use Rattle.iref_path_text.specs.Spelling.{each_closed, lead, lead_in, needs_guard}
+use Rattle.iref_path_text.specs.Spelling.{each_closed, first_needs_guard, lead, lead_in, needs_guard}
 use Rattle.iref_path_text.specs.Ways.{text_steps}
 use Rattle.iref_path_text.proofs.SlashLemmas.{read-absolute}
 use Rattle.iref_path_text.proofs.SpellLemmas.{length-joined, normalized-spelled}
@@ -95,6 +95,12 @@ whole_text c cs = by (pieces_at slash (c ∷ cs)) (join-pieces_at slash (c ∷ c
 some_size : (n m : ℕ) → (n == 0) ≡ (m == 0) → (context : PathContext) (absolute : Bool) (first : Text) → lead_in context absolute n first ≡ lead_in context absolute m first
 some_size n m h context absolute first = λ i. cond (h i) (lead absolute false) (lead (absolute || context.has_authority) (needs_guard context absolute first))
 
+-- after an authority no first segment needs a guard
+pub unguarded : (context : PathContext) (absolute : Bool) (n : ℕ) (s t : Text) → context.has_authority ≡ true → lead_in context absolute n s ≡ lead_in context absolute n t
+unguarded context absolute n s t h =
+    let same : needs_guard context absolute s ≡ needs_guard context absolute t = ap (λ b. not b && first_needs_guard context absolute s) h ∙ sym (ap (λ b. not b && first_needs_guard context absolute t) h) in
+    λ i. cond (n == 0) (lead absolute false) (lead (absolute || context.has_authority) (same i))
+
 -- the text of the segments, after what stands first, spells the normalized path
 pub dotless-spelled : (context : PathContext) (absolute : Bool) (text first : Text) (rest : List Text) → pieces_at slash text ≡ first ∷ rest → has_dot_segment text ≡ false
     → lead_in context absolute (length text) first ++ text ≡ spell_path (normalized context (record { absolute = absolute; segments = pieces_at slash text }))
@@ -132,10 +138,11 @@ both_size front back =
     ∙ ap (λ list. length (join_with_byte slash list) + 1) (sym some.2) ∙ ap (λ t. length t + 1) (join-pieces_at slash text)
 
 -- they have the first segment of the front text, if there is one
-pub first_of_both_texts : (front : Option (Bor Text)) (back : Bor Text) (first : Text) (rest : List Text) → pieces_at slash (unwrap_or front back).now ≡ first ∷ rest
-    → (others : List Text) × (pieces_at slash (after_front front back.now) ≡ first ∷ others)
-first_of_both_texts None back first rest e = (rest, e)
-first_of_both_texts (Some front) back first rest e = (rest ++ pieces_at slash back.now, pieces-append slash front.now back.now ∙ ap (λ list. list ++ pieces_at slash back.now) e)
+pub first_of_both_texts : (front : Option (Bor Text)) (back : Bor Text) → first_or [] (pieces_at slash (unwrap_or front back).now) ≡ first_or [] (pieces_at slash (after_front front back.now))
+first_of_both_texts None back = refl
+first_of_both_texts (Some front) back =
+    let some = some_piece slash front.now in
+    ap (first_or []) some.2 ∙ sym (ap (first_or []) (pieces-append slash front.now back.now ∙ ap (λ list. list ++ pieces_at slash back.now) some.2))
 
 -- ---- the steps from a directory
 

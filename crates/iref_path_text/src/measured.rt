@@ -11,8 +11,10 @@ ghost use Rattle.iref_path_text.specs.{Pieces.{pieces_if_some}, Spelling.{each_c
 ghost use Rattle.iref_path_text.specs.Ways.{IsWaySound, path_between};
 ghost use Rattle.iref_path_text.specs.{Ways.{way_left}, Written.{WritesBefore}};
 ghost use Rattle.std.specs.Prelude.{◌||◌, ◌&&◌, ◌≡◌, ◌+◌, ◌*◌, ◌<◌, ◌≤◌, ◌^◌, ◌++◌, IfOk, OnErr, OnOk};
-ghost use Rattle.std.specs.{Prelude.{Some, codes, false, length, replicate, true}};
+ghost use Rattle.std.specs.Prelude.{Bool, Some, [], codes, false, length, replicate, true, ℕ};
 ghost use Rattle.std.specs.String.{string_bytes};
+ghost use Rattle.iref_path_text.specs.Remaining.{first_or};
+ghost use Rattle.iref_path_text.specs.Spelling as spelling;
 
 use crate::apart::{behind_roots, first_step, steps_apart};
 use crate::body::Body;
@@ -57,6 +59,19 @@ fn have_dots(front: Option<&str>, back: &str) -> bool
         Some(front) => has_dots(front.as_bytes()) | has_dots(back.as_bytes()),
         None => has_dots(back.as_bytes()),
     }
+}
+
+// The first segment of a text, which decides on a guard. After an authority none is needed, and the
+// text is returned unread.
+#[inline(always)]
+fn first_to_guard(context: PathContext, text: &str) -> &str
+    ensures { (absolute : Bool) (size : ℕ) → spelling.lead_in context absolute size result.now
+        ≡ spelling.lead_in context absolute size (first_or [] (pieces_at slash text.now)) }
+{
+    if context.has_authority {
+        return text;
+    }
+    first_segment(text).0
 }
 
 // Writes what stands first, mostly the root alone, as `write_before` does.
@@ -169,7 +184,7 @@ impl<'a> MeasuredPath<'a> {
             (normalized context (merged_path absolute front.entry (Some back.entry))) }
         ensures measured { IsMeasured result }
     {
-        let first = first_segment(front.unwrap_or(back)).0;
+        let first = first_to_guard(context, front.unwrap_or(back));
         let body = Body::Kept(front, back);
         let lead = lead_in(context, absolute, body.len(), first);
         MeasuredPath { lead, body }

@@ -6,6 +6,7 @@ ghost use Rattle.iref_model.specs.AuthoritySteps.{with_user_info, with_host, wit
 
 use crate::authority::Authority;
 use crate::authority_mut::{AuthorityMut, AuthorityPart};
+use crate::borrowed::borrowed_of;
 use crate::rules::{AuthorityRule, HostRule, PortRule, UserInfoRule};
 use crate::tested::{Tried, test};
 use crate::texts::Host;
@@ -36,7 +37,8 @@ impl<C: CharSet, T: Target<AuthorityPart, C>> AuthorityMut<'_, C, T> {
         ensures text { TestsIfSome (IsUserInfo C.tests) user_info.entry (λ error. error.0) result }
     {
         test::<UserInfoRule, C>(user_info)?;
-        self.put_user_info(user_info).or(Err(TryError::Memory))
+        self.set_user_info(borrowed_of(user_info))
+            .or(Err(TryError::Memory))
     }
 
     /// Does as `set_host` does with a text: `Invalid` holds a text that is not a host.
@@ -55,6 +57,6 @@ impl<C: CharSet, T: Target<AuthorityPart, C>> AuthorityMut<'_, C, T> {
         ensures text { TestsIfSome IsPort port.entry (λ error. error.0) result }
     {
         test::<PortRule, C>(port)?;
-        self.put_port(port).or(Err(TryError::Memory))
+        self.set_port(borrowed_of(port)).or(Err(TryError::Memory))
     }
 }

@@ -6,7 +6,6 @@ ghost use Rattle.iref_component.specs.{PathEdits.{SpellsPath}, Paths.{path_value
 ghost use Rattle.iref_grammar.specs.{alone};
 ghost use Rattle.iref_model.specs.PathSteps as step;
 
-use crate::from_segments::text_of_segments;
 use crate::path::Path;
 use crate::path_buf::PathBuf;
 use crate::texts::Segment;
@@ -62,7 +61,10 @@ impl<C: CharSet> PathBuf<C> {
         ensures { IfOk result (λ path. TakesAll I.into_iter_gives I.IntoIter.next_gives segments
             (λ items. SpellsPath path (step.from_segments absolute (map text_of items)))) }
     {
-        let text = text_of_segments::<C, I>(alloc, absolute, segments)?;
-        Ok(PathBuf::new_unchecked(text))
+        let mut path = Path::<C>::without_segments(absolute).to_owned(alloc)?;
+        for segment in segments {
+            path.push(segment)?;
+        }
+        Ok(path)
     }
 }

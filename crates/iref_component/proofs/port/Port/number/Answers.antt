@@ -8,7 +8,7 @@ pub returns : goal.returns
 returns c =
     let digits = c.as_str-digits.result.now in
     let some : 0 < length digits = grind (arith, nat_tests) in
-    port_number-parsed digits c.parse.result c.map_err.result c.parse.ensures.value.0 c.as_str-digits.ensures.in_rule some (search rules)
+    port_number-parsed digits c.parse.result c.or.result c.parse.ensures.value.0 c.as_str-digits.ensures.in_rule some (search rules)
     ∙ ap (port_number (2 ^ 128)) c.as_str-digits.ensures.text
 
 pub returns-then-is_empty : goal.returns-then-is_empty

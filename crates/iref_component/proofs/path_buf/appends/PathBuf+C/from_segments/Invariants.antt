@@ -1,0 +1,12 @@
+use Rattle.std.proofs.Common.{map}
+use Rattle.iref_component.specs.Components.{text_of}
+use Rattle.iref_component.specs.PathEdits.{SpellsPath}
+use Rattle.iref_model.specs.PathSteps.{from_segments}
+use Rattle.iref_component.proofs.path_buf.appends.PathBuf+C.from_segments.Given as goal
+
+abbrev pub invariant-loop-segment : goal.invariant-loop-segment
+invariant-loop-segment g l = record {
+  can : (goal.iterator-loop-segment g).can_next l.segment-iterator;
+  ends : (goal.iterator-loop-segment g).is_finite l.segment-iterator;
+  path : SpellsPath l.path (from_segments l.absolute (map text_of l.yielded));
+}
