@@ -79,7 +79,10 @@ fn overwrite(bytes: &mut Vec<u8>, start: usize, text: &[u8])
         ≡ splice bytes.old.items start (start + length text.now) text.now }
     ensures len { vec_len bytes.new ≡ vec_len bytes.old }
 {
-    if !text.is_empty() {
+    // A delimiter is mostly one byte.
+    if text.len() == 1 {
+        bytes[start] = text[0];
+    } else if !text.is_empty() {
         bytes[start..start + text.len()].copy_from_slice(text);
     }
 }
