@@ -3,14 +3,14 @@
 ghost use Rattle.iref_buffer.specs.ComponentLengths.{lengths_of_texts};
 ghost use Rattle.iref_buffer.specs.MeasuredReferences.{IsReady, spell_texts, measured_components};
 ghost use Rattle.iref_grammar.specs.{ComponentTexts.{spell_components}, Reference.{context_of}};
+ghost use Rattle.iref_grammar.specs.{Grammar.{colon}, Texts.{part_then, then_part}};
 ghost use Rattle.iref_model.specs.{fits, normal, resolved, ComponentSteps.{guarded_reference}};
 ghost use Rattle.iref_parse.specs.ReferenceSlices.{value_of};
 ghost use Rattle.iref_path_text.specs.Written.{WritesBefore};
-ghost use Rattle.std.specs.{Option.{option_copied}, Prelude.{◌≡◌, ◌+◌, ◌*◌, ◌<◌, ◌≤◌, ◌^◌, ◌++◌}};
-ghost use Rattle.std.specs.Prelude.{IfOk, is_some, length, true};
+ghost use Rattle.std.specs.{Option.{option_copied}, Prelude.{◌≡◌, ◌+◌, ◌*◌, ◌<◌, ◌≤◌, ◌^◌}};
+ghost use Rattle.std.specs.Prelude.{[], ◌∷◌, IfOk, is_some, length, true};
 
 use crate::lengths::{Lengths, len_of};
-use iref_edit::text::{marked, marked_after};
 use iref_error::Memory;
 use iref_grammar::context::PathContext;
 use iref_parse::split::ReferenceSlices;
@@ -53,22 +53,40 @@ fn context_after(scheme: Option<&str>, authority: Option<&str>) -> PathContext
     }
 }
 
-// Writes two texts so that they end at `end`, and returns where they begin. Two empty ones cost no
-// call.
+// Writes a delimiter and a part so that they end at `end`, or nothing, and returns where they begin.
 #[inline(always)]
 #[tactic(auto, using(iref_path_text::proofs::WrittenLemmas::both_written))]
-fn write_pair(buffer: &mut [u8], end: usize, pair: (&str, &str)) -> usize
-    requires room { length (pair.0.now ++ pair.1.now) ≤ end }
+fn write_marked(buffer: &mut [u8], end: usize, mark: &str, part: Option<&str>) -> usize
+    requires room { length (then_part mark.now (option_copied part)) ≤ end }
     requires within { end ≤ length buffer.old }
-    ensures { WritesBefore end (pair.entry.0.now ++ pair.entry.1.now)
+    ensures { WritesBefore end (then_part mark.entry.now (option_copied part.entry))
         buffer.old buffer.new result }
 {
-    let (front, back) = pair;
-    if front.is_empty() && back.is_empty() {
-        return end;
+    match part {
+        Some(part) => {
+            let start = write_before(buffer, end, part);
+            write_before(buffer, start, mark)
+        }
+        None => end,
     }
-    let start = write_before(buffer, end, back);
-    write_before(buffer, start, front)
+}
+
+// Writes a scheme and its delimiter so, or nothing.
+#[inline(always)]
+#[tactic(auto, using(iref_path_text::proofs::WrittenLemmas::both_written))]
+fn write_scheme(buffer: &mut [u8], end: usize, scheme: Option<&str>) -> usize
+    requires room { length (part_then (colon ∷ []) (option_copied scheme)) ≤ end }
+    requires within { end ≤ length buffer.old }
+    ensures { WritesBefore end (part_then (colon ∷ []) (option_copied scheme.entry))
+        buffer.old buffer.new result }
+{
+    match scheme {
+        Some(scheme) => {
+            let start = write_before(buffer, end, ":");
+            write_before(buffer, start, scheme)
+        }
+        None => end,
+    }
 }
 
 impl<'a> MeasuredReference<'a> {
@@ -143,29 +161,28 @@ impl<'a> MeasuredReference<'a> {
         }
     }
 
-    /// The bytes of the text.
-    pub fn bytes(self, alloc: Global) -> Result<Vec<u8>, Memory>
-        requires { IsReady self }
-        ensures { IfOk result (λ bytes.
-            bytes.items ≡ spell_texts (measured_components self.entry)) }
+    /// The bytes of the text, which is this long.
+    pub fn bytes(&self, alloc: Global, len: usize) -> Result<Vec<u8>, Memory>
+        requires ready { IsReady self.now }
+        requires len { len ≡ length (spell_texts (measured_components self.now)) }
+        ensures { IfOk result (λ bytes. bytes.items ≡ spell_texts (measured_components self.now)) }
     {
-        let len = self.lengths().total()?;
         let mut bytes = vec![in alloc; 0u8; len]?;
         self.write(&mut bytes);
         Ok(bytes)
     }
 
     /// Fills the buffer with the text, from its end.
-    pub fn write(self, buffer: &mut [u8])
-        requires ready { IsReady self }
-        requires room { length (spell_texts (measured_components self)) ≡ length buffer.old }
-        ensures { buffer.new ≡ spell_texts (measured_components self.entry) }
+    pub fn write(&self, buffer: &mut [u8])
+        requires ready { IsReady self.now }
+        requires room { length (spell_texts (measured_components self.now)) ≡ length buffer.old }
+        ensures { buffer.new ≡ spell_texts (measured_components self.now) }
     {
         let end = buffer.len();
-        let end = write_pair(buffer, end, marked("#", self.fragment));
-        let end = write_pair(buffer, end, marked("?", self.query));
+        let end = write_marked(buffer, end, "#", self.fragment);
+        let end = write_marked(buffer, end, "?", self.query);
         let end = self.path.write_before(buffer, end);
-        let end = write_pair(buffer, end, marked("//", self.authority));
-        write_pair(buffer, end, marked_after(self.scheme, ":"));
+        let end = write_marked(buffer, end, "//", self.authority);
+        write_scheme(buffer, end, self.scheme);
     }
 }

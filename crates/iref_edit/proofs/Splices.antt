@@ -1,5 +1,5 @@
 -- Lists after a move and two overwrites, seen as one splice.
-use Rattle.std.proofs.Common.{◌≡◌, ℕ, ◌+◌, ◌-◌, ◌≤◌, List, ◌++◌, length, take, drop, replicate, refl, sym, ap, ◌∙◌, length-append, arith, rules}
+use Rattle.std.proofs.Common.{◌≡◌, ℕ, ◌+◌, ◌-◌, ◌≤◌, List, ◌++◌, length, take, replicate, refl, sym, ap, ◌∙◌, length-append, arith, rules}
 use Rattle.std.specs.List.{splice, copy_within}
 use Rattle.std.proofs.lemmas.List.{places, same_lists}
 
@@ -14,22 +14,15 @@ splice-thrice bs a b c start h =
     ap (λ xs. splice xs (start + (length a + length b)) (start + (length a + length b) + length c) c) (splice-again bs a b start (length a) refl (omega arith))
     ∙ splice-again bs (a ++ b) c start (length a + length b) (sym (length-append a b)) (omega arith)
 
-pub gap-filled : (old gap xs : List ℕ) (start end more n : ℕ) → take end gap ≡ take end old → drop (end + more) gap ≡ drop end old → start ≤ end → end + more ≡ start + n
-    → splice gap start (start + n) xs ≡ splice old start end xs
-gap-filled old gap xs start end more n before behind h e =
-    let front : take start gap ≡ take start old = sym (take-take gap start end h) ∙ ap (take start) before ∙ take-take old start end h in
-    λ i. front i ++ (xs ++ (ap (λ m. drop m gap) (sym e) ∙ behind) i)
-  where
-    take-take : (ys : List ℕ) (m n : ℕ) → m ≤ n → take m (take n ys) ≡ take m ys
-    take-take ys m n h = same_lists _ _ (search (rules, places)) (λ k d h. grind (arith, places))
+pub grown : (bs xs : List ℕ) (start end len more added x : ℕ) → start ≤ end → end ≤ len → len ≡ length bs → end + more ≡ start + added
+    → splice (copy_within (bs ++ replicate more x) end len (end + more)) start (start + added) xs ≡ splice bs start end xs
+grown bs xs start end len more added x h1 h2 h3 h4 = same_lists _ _ (search (rules, places)) (λ k d h. grind (arith, places))
 
-pub take-copy_within : (bs : List ℕ) (start end len : ℕ) → start ≤ end → end ≤ len → len ≡ length bs → take (start + (len - end)) (copy_within bs end len start) ≡ take start bs ++ drop end bs
-take-copy_within bs start end len h1 h2 h3 = same_lists _ _ (search (rules, places)) (λ k d h. grind (arith, places))
+pub shrunk : (bs xs : List ℕ) (start end len added : ℕ) → start + added ≤ end → end ≤ len → len ≡ length bs
+    → splice (take (len - (end - start - added)) (copy_within bs end len (start + added))) start (start + added) xs ≡ splice bs start end xs
+shrunk bs xs start end len added h1 h2 h3 = same_lists _ _ (search (rules, places)) (λ k d h. grind (arith, places))
 
-pub take-gap : (bs : List ℕ) (end len more x : ℕ) → end ≤ len → len ≡ length bs → take end (copy_within (bs ++ replicate more x) end len (end + more)) ≡ take end bs
-take-gap bs end len more x h1 h2 = same_lists _ _ (search (rules, places)) (λ k d h. grind (arith, places))
+pub level : (bs xs : List ℕ) (start end added : ℕ) → start + added ≡ end → splice bs start (start + added) xs ≡ splice bs start end xs
+level bs xs start end added e = ap (λ m. splice bs start m xs) e
 
-pub drop-gap : (bs : List ℕ) (end len more x : ℕ) → end ≤ len → len ≡ length bs → drop (end + more) (copy_within (bs ++ replicate more x) end len (end + more)) ≡ drop end bs
-drop-gap bs end len more x h1 h2 = same_lists _ _ (search (rules, places)) (λ k d h. grind (arith, places))
-
-pub ruleset gaps = (splice-thrice, gap-filled, take-copy_within, take-gap, drop-gap)
+pub ruleset gaps = (splice-thrice, grown, shrunk, level)

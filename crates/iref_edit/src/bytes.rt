@@ -1,6 +1,7 @@
 //! A range of a vector of bytes replaced in place.
-ghost use Rattle.std.specs.Prelude.{◌≡◌, ◌+◌, ◌-◌, ◌≤◌, ◌++◌, length, take, drop, vec_len, OnOk};
+ghost use Rattle.std.specs.Prelude.{◌≡◌, ◌+◌, ◌≤◌, length, vec_len, OnOk};
 ghost use Rattle.std.specs.{Prelude.{OnErr, IsOk}, List.{splice}};
+ghost use Rattle.iref_grammar.specs.Rules.{Text};
 ghost use Rattle.iref_edit.specs.Changes.{IsNoLonger, changed, pieces, pieces_length};
 ghost use Rattle.iref_edit.specs.Edited.{StandsIn, one_range};
 
@@ -22,46 +23,35 @@ pub fn replace(bytes: &mut Vec<u8>, change: Change<'_>) -> Result<(), AllocError
     ensures shorter { IsNoLonger change.entry → IsOk result }
 {
     let added = change.added_len()?;
-    let start = change.within.start;
-    let end = change.within.end;
-    let cut = end - start;
-    if cut < added {
-        open_gap(bytes, end, added - cut)?;
-        fill(bytes, &change);
-    } else {
-        close_gap(bytes, start + added, end);
-        fill(bytes, &change);
-    }
+    move_tail(bytes, change.within.start, change.within.end, added)?;
+    fill(bytes, &change);
     Ok(())
 }
 
-// Puts `more` bytes of any value before `end`.
+// Moves what follows a range, so that as many bytes stand in the range as are added. Where it stays,
+// no byte is read.
 #[tactic(auto, using(crate::proofs::Splices::gaps))]
-fn open_gap(bytes: &mut Vec<u8>, end: usize, more: usize) -> Result<(), AllocError>
-    requires in_bounds { end ≤ vec_len bytes.old }
-    ensures before { OnOk result (take end bytes.new.items ≡ take end bytes.old.items) }
-    ensures after { OnOk result (drop (end + more) bytes.new.items ≡ drop end bytes.old.items) }
-    ensures len { OnOk result (vec_len bytes.new ≡ vec_len bytes.old + more) }
-    ensures err { OnErr result (bytes.new.items ≡ bytes.old.items) }
-{
-    let len = bytes.len();
-    bytes.reserve(more)?;
-    bytes.resize(len + more, 0)?;
-    bytes.copy_within(end..len, end + more);
-    Ok(())
-}
-
-// Takes the bytes from `start` to `end` away.
-#[tactic(auto, using(crate::proofs::Splices::gaps))]
-fn close_gap(bytes: &mut Vec<u8>, start: usize, end: usize)
+fn move_tail(bytes: &mut Vec<u8>, start: usize, end: usize, added: usize) -> Result<(), AllocError>
     requires start_le_end { start ≤ end }
     requires in_bounds { end ≤ vec_len bytes.old }
-    ensures items { bytes.new.items ≡ take start bytes.old.items ++ drop end bytes.old.items }
-    ensures len { vec_len bytes.new + end ≡ vec_len bytes.old + start }
+    ensures moved { OnOk result ((new : Text) → splice bytes.new.items start (start + added) new
+        ≡ splice bytes.old.items start end new) }
+    ensures len { OnOk result (vec_len bytes.new + end ≡ vec_len bytes.old + start + added) }
+    ensures err { OnErr result (bytes.new.items ≡ bytes.old.items) }
+    ensures shorter { start + added ≤ end → IsOk result }
 {
     let len = bytes.len();
-    bytes.copy_within(end..len, start);
-    bytes.truncate(start + (len - end));
+    let cut = end - start;
+    if cut < added {
+        let more = added - cut;
+        bytes.reserve(more)?;
+        bytes.resize(len + more, 0)?;
+        bytes.copy_within(end..len, end + more);
+    } else if added < cut {
+        bytes.copy_within(end..len, start + added);
+        bytes.truncate(len - (cut - added));
+    }
+    Ok(())
 }
 
 // Writes the three texts over what stands where the change begins.
@@ -89,7 +79,10 @@ fn overwrite(bytes: &mut Vec<u8>, start: usize, text: &[u8])
         ≡ splice bytes.old.items start (start + length text.now) text.now }
     ensures len { vec_len bytes.new ≡ vec_len bytes.old }
 {
-    if !text.is_empty() {
+    // A delimiter is mostly one byte.
+    if text.len() == 1 {
+        bytes[start] = text[0];
+    } else if !text.is_empty() {
         bytes[start..start + text.len()].copy_from_slice(text);
     }
 }

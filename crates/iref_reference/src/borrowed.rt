@@ -153,8 +153,8 @@ impl<'a, R: HeldRule, C: CharSet> Reference<'a, R, C> {
         ensures text { reference_text result ≡ before (hash_sign ∷ []) (reference_text self.now) }
         ensures value { reference_value result ≡ with_fragment None (reference_value self.now) }
     {
-        let (front, _) = cut(self.as_str(), '#');
-        UriRef::new_unchecked(front)
+        let (head, _) = cut(self.as_str(), '#');
+        UriRef::new_unchecked(head)
     }
 
     /// The reference up to its query and its fragment: of `a?b#c`, `a`.

@@ -128,7 +128,7 @@ impl<'a, R: HeldRule, C: CharSet> Composed<'a, R, C> {
     pub fn to_owned(&self, alloc: Global) -> Result<ReferenceBuf<R, C>, Memory>
         ensures { IfOk result (λ owner. reference_buf_text owner ≡ self.now) }
     {
-        let held = Held::of_components(alloc, self.components)?;
+        let held = Held::of_components(alloc, &self.components, self.len)?;
         Ok(ReferenceBuf::from_held(held))
     }
 }

@@ -2,7 +2,7 @@
 //! 5.3).
 ghost use Rattle.iref_buffer.specs.MeasuredReferences.{IsComposed, spell_texts};
 ghost use Rattle.iref_buffer.specs.MeasuredReferences.{measured_components};
-ghost use Rattle.std.specs.Prelude.{◌≡◌, IfOk};
+ghost use Rattle.std.specs.Prelude.{◌≡◌, IfOk, length};
 
 use super::{Held, HeldRule};
 use crate::measured::MeasuredReference;
@@ -12,13 +12,18 @@ use std::alloc::Global;
 use std::marker::PhantomData;
 
 impl<R: HeldRule, C: CharSet> Held<R, C> {
-    /// The text of these components, which is in the rule. The room is taken once, and each byte is
-    /// written once.
-    pub fn of_components(alloc: Global, components: MeasuredReference<'_>) -> Result<Self, Memory>
-        requires { IsComposed (R.test C.tests) components }
-        ensures { IfOk result (λ held. held ≡ spell_texts (measured_components components.entry)) }
+    /// The text of these components, which is in the rule and this long. The room is taken once, and
+    /// each byte is written once.
+    pub fn of_components(
+        alloc: Global,
+        components: &MeasuredReference<'_>,
+        len: usize,
+    ) -> Result<Self, Memory>
+        requires composed { IsComposed (R.test C.tests) components.now }
+        requires len { len ≡ length (spell_texts (measured_components components.now)) }
+        ensures { IfOk result (λ held. held ≡ spell_texts (measured_components components.now)) }
     {
-        let bytes = components.bytes(alloc)?;
+        let bytes = components.bytes(alloc, len)?;
         // What spells a reference is text, so no byte is read again.
         let text = unsafe { String::from_utf8_unchecked(bytes) };
         Ok(Held {

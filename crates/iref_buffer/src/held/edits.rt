@@ -2,6 +2,7 @@
 ghost use Rattle.std.specs.Prelude.{◌≡◌, ◌≤◌, ◌<◌, ◌+◌, ◌-◌, ◌^◌, ◌++◌, true, false, [], ◌∷◌};
 ghost use Rattle.std.specs.Prelude.{length, Option, is_some, option_map, codes, OnOk, OnErr, IsOk};
 ghost use Rattle.std.specs.{Prelude.{IsNone}, Option.{option_copied}, List.{splice}};
+ghost use Rattle.std.specs.String.{string_bytes};
 ghost use Rattle.iref_grammar.specs.ComponentOffsets.{offsets_of, text_at};
 ghost use Rattle.iref_component.specs.{Text, colon, question_mark, hash_sign, AuthorityValue};
 ghost use Rattle.iref_component.specs.{spell_authority, read_authority, is_authority, part_then};
@@ -22,7 +23,32 @@ use iref_error::Memory;
 use iref_grammar::chars::CharSet;
 use iref_grammar::context::PathContext;
 use iref_path_text::guard::{guard_of, root_of};
+use std::alloc::AllocError;
 use std::ops::Range;
+
+// Replaces a range of a text by a delimiter and a part, or removes it, which takes no memory.
+fn put_marked(
+    text: &mut String,
+    within: Range<usize>,
+    mark: &str,
+    part: Option<&str>,
+) -> Result<(), AllocError>
+    requires { IsWithin (string_bytes text.old) within }
+    ensures ok { OnOk result (string_bytes text.new ≡ replaced (string_bytes text.old) within
+        (then_part mark.now (option_copied part.entry))) }
+    ensures err { OnErr result (string_bytes text.new ≡ string_bytes text.old) }
+    ensures none { IsNone part.entry → IsOk result }
+{
+    let (lead, middle) = marked(mark, part);
+    let close = "";
+    let change = Change {
+        within,
+        lead,
+        middle,
+        close,
+    };
+    text::replace(text, change)
+}
 
 impl<R: HeldRule, C: CharSet> Held<R, C> {
     /// Replaces, adds or removes the query; removing takes no memory.
@@ -33,15 +59,7 @@ impl<R: HeldRule, C: CharSet> Held<R, C> {
         ensures none { IsNone query.entry → IsOk result }
     {
         let within = self.query_range();
-        let (lead, middle) = marked("?", query);
-        let close = "";
-        let change = Change {
-            within,
-            lead,
-            middle,
-            close,
-        };
-        text::replace(&mut self.text, change)?;
+        put_marked(&mut self.text, within, "?", query)?;
         self.lengths.query = len_of(query);
         Ok(())
     }
@@ -54,15 +72,7 @@ impl<R: HeldRule, C: CharSet> Held<R, C> {
         ensures none { IsNone fragment.entry → IsOk result }
     {
         let within = self.fragment_range();
-        let (lead, middle) = marked("#", fragment);
-        let close = "";
-        let change = Change {
-            within,
-            lead,
-            middle,
-            close,
-        };
-        text::replace(&mut self.text, change)?;
+        put_marked(&mut self.text, within, "#", fragment)?;
         self.lengths.fragment = len_of(fragment);
         Ok(())
     }

@@ -9,13 +9,13 @@ pub from_utf8_unchecked-text-requires : goal.from_utf8_unchecked-text-requires
 from_utf8_unchecked-text-requires g c =
     let set = g.C.CharSet.tests in
     let bytes = c.in_ok-bytes.bytes.items in
-    in_rule_utf8 _ bytes ((g.R.Rule.decided set g.met.C.CharSet.above_ascii bytes).0 (ap (g.R.Rule.test set) c.in_ok-bytes.ensures ∙ c.requires.in_rule))
+    in_rule_utf8 _ bytes ((g.R.Rule.decided set g.met.C.CharSet.above_ascii bytes).0 (ap (g.R.Rule.test set) c.in_ok-bytes.ensures ∙ c.requires.composed.in_rule))
 
 pub invariant_of-result : goal.invariant_of-result
 invariant_of-result g c =
     let put = ap (λ v. v.items) c.from_utf8_unchecked-text.ensures.value ∙ c.in_ok-bytes.ensures in (
-      ap (g.R.Rule.test g.C.CharSet.tests) put ∙ c.requires.in_rule,
-      c.lengths.ensures ∙ lengths_by_offsets _ _ c.requires.offsets ∙ ap (λ t. lengths_of (read_reference t)) (sym put),
+      ap (g.R.Rule.test g.C.CharSet.tests) put ∙ c.requires.composed.in_rule,
+      c.lengths.ensures ∙ lengths_by_offsets _ _ c.requires.composed.offsets ∙ ap (λ t. lengths_of (read_reference t)) (sym put),
     )
 
 pub returns : goal.returns

@@ -1,7 +1,8 @@
-use Rattle.std.proofs.Common.{◌≡◌, ◌++◌, [], true, ap, subst, sym, ◌∙◌}
+use Rattle.std.proofs.Common.{◌≡◌, [], ◌∷◌, true, ap, subst, sym, ◌∙◌}
 use Rattle.std.specs.Option.{option_copied}
 use Rattle.std.specs.List.{splice}
-use Rattle.std.proofs.lemmas.List.{append-nil}
+use Rattle.iref_grammar.specs.Grammar.{hash_sign}
+use Rattle.iref_grammar.specs.Texts.{then_part}
 use Rattle.iref_grammar.specs.Reference.{read_reference}
 use Rattle.iref_model.specs.ComponentSteps.{with_fragment}
 use Rattle.iref_model.proofs.ReferenceStepLemmas.{with_fragment-readable}
@@ -17,10 +18,10 @@ invariant_of-self-2 g c =
     let known = subst (λ t. test t ≡ true) c.self.view_is c.self.invariant.0 in
     let fragment = option_copied c.args.fragment in
     let range = c.fragment_range-within.result in
-    let spelled = ap (splice text range.start range.end) (append-nil _ ∙ c.marked.ensures.pieces) ∙ c.fragment_range-within.ensures.replaced fragment in
+    let spelled = c.fragment_range-within.ensures.replaced fragment in
     let step = is_step set g.met.C.CharSet.above_ascii test g.R.HeldRule.allows_scheme (g.met.R.HeldRule.by_scheme set) _ (with_fragment fragment (read_reference text)) spelled
     (with_fragment-readable set fragment (read_reference text) c.requires (readable_of set text (g.met.R.HeldRule.references set text known))) (g.met.R.HeldRule.has_allowed_scheme set text known) in
-    let put = c.in_ok-replace.ensures.ok ∙ ap (λ t. splice t range.start range.end (c.marked.result.0.now ++ c.marked.result.1.now ++ [])) c.self.view_is in
+    let put = c.in_ok-put_marked.ensures.ok ∙ ap (λ t. splice t range.start range.end (then_part (hash_sign ∷ []) fragment)) c.self.view_is in
     let lengths = c.self.invariant.1 ∙ ap (λ t. lengths_of (read_reference t)) c.self.view_is in (
       ap test put ∙ step.leaves.in_rule,
       (λ i. record (lengths i) { fragment = c.len_of-self-inside.ensures i }) ∙ step.leaves.lengths ∙ ap (λ t. lengths_of (read_reference t)) (sym put),
@@ -34,8 +35,8 @@ returns-clause-set g c =
     let known = subst (λ t. test t ≡ true) c.self.view_is c.self.invariant.0 in
     let fragment = option_copied c.args.fragment in
     let range = c.fragment_range-within.result in
-    let spelled = ap (splice text range.start range.end) (append-nil _ ∙ c.marked.ensures.pieces) ∙ c.fragment_range-within.ensures.replaced fragment in
+    let spelled = c.fragment_range-within.ensures.replaced fragment in
     let step = is_step set g.met.C.CharSet.above_ascii test g.R.HeldRule.allows_scheme (g.met.R.HeldRule.by_scheme set) _ (with_fragment fragment (read_reference text)) spelled
     (with_fragment-readable set fragment (read_reference text) c.requires (readable_of set text (g.met.R.HeldRule.references set text known))) (g.met.R.HeldRule.has_allowed_scheme set text known) in
-    let put = c.in_ok-replace.ensures.ok ∙ ap (λ t. splice t range.start range.end (c.marked.result.0.now ++ c.marked.result.1.now ++ [])) c.self.view_is in
+    let put = c.in_ok-put_marked.ensures.ok ∙ ap (λ t. splice t range.start range.end (then_part (hash_sign ∷ []) fragment)) c.self.view_is in
     (put ∙ spelled, ap read_reference put ∙ step.value)

@@ -27,77 +27,48 @@ whole : (t : MeasuredReference) → length (spell_texts (measured_components t))
 unfolding spell_texts
 whole t = parts_length (s t) (a t) (measured_text t.path) (q t) (f t)
 
-pub write_pair-end-requires-clause-room : goal.write_pair-end-requires-clause-room
-write_pair-end-requires-clause-room c =
-    let size = whole c.args.self in
-    let room = c.requires.room in
-    let fragment = ap length c.marked.ensures.pieces in
-    omega (arith, size, room, fragment)
+pub write_marked-end-requires-clause-room : goal.write_marked-end-requires-clause-room
+write_marked-end-requires-clause-room c = omega (arith, whole c.args.self.now, c.requires.room)
 
-pub write_pair-end-requires-2-clause-room : goal.write_pair-end-requires-2-clause-room
-write_pair-end-requires-2-clause-room c =
-    let size = whole c.args.self in
-    let room = c.requires.room in
-    let fragment = ap length c.marked.ensures.pieces in
-    let query = ap length c.marked-2.ensures.pieces in
-    let first = c.write_pair-end.ensures.range in
-    omega (arith, size, room, fragment, query, first)
+pub write_marked-end-requires-2-clause-room : goal.write_marked-end-requires-2-clause-room
+write_marked-end-requires-2-clause-room c = omega (arith, whole c.args.self.now, c.requires.room, c.write_marked-end.ensures.range)
 
 pub write_before-end-requires-clause-room : goal.write_before-end-requires-clause-room
 write_before-end-requires-clause-room c =
-    let size = whole c.args.self in
-    let room = c.requires.room in
-    let fragment = ap length c.marked.ensures.pieces in
-    let query = ap length c.marked-2.ensures.pieces in
-    let first = c.write_pair-end.ensures.range in
-    let second = c.write_pair-end-2.ensures.range in
-    omega (arith, size, room, fragment, query, first, second)
+    let first = c.write_marked-end.ensures.range in
+    let second = c.write_marked-end-2.ensures.range in
+    omega (arith, whole c.args.self.now, c.requires.room, first, second)
 
-pub write_pair-end-requires-3-clause-room : goal.write_pair-end-requires-3-clause-room
-write_pair-end-requires-3-clause-room c =
-    let size = whole c.args.self in
-    let room = c.requires.room in
-    let fragment = ap length c.marked.ensures.pieces in
-    let query = ap length c.marked-2.ensures.pieces in
-    let authority = ap length c.marked-3.ensures.pieces in
-    let first = c.write_pair-end.ensures.range in
-    let second = c.write_pair-end-2.ensures.range in
+pub write_marked-end-requires-3-clause-room : goal.write_marked-end-requires-3-clause-room
+write_marked-end-requires-3-clause-room c =
+    let first = c.write_marked-end.ensures.range in
+    let second = c.write_marked-end-2.ensures.range in
     let third = c.write_before-end.ensures.range in
-    omega (arith, size, room, fragment, query, authority, first, second, third)
+    omega (arith, whole c.args.self.now, c.requires.room, first, second, third)
 
-pub write_pair-requires-clause-room : goal.write_pair-requires-clause-room
-write_pair-requires-clause-room c =
-    let size = whole c.args.self in
-    let room = c.requires.room in
-    let fragment = ap length c.marked.ensures.pieces in
-    let query = ap length c.marked-2.ensures.pieces in
-    let authority = ap length c.marked-3.ensures.pieces in
-    let scheme = ap length c.marked_after.ensures.pieces in
-    let first = c.write_pair-end.ensures.range in
-    let second = c.write_pair-end-2.ensures.range in
+pub write_scheme-requires-clause-room : goal.write_scheme-requires-clause-room
+write_scheme-requires-clause-room c =
+    let first = c.write_marked-end.ensures.range in
+    let second = c.write_marked-end-2.ensures.range in
     let third = c.write_before-end.ensures.range in
-    let fourth = c.write_pair-end-3.ensures.range in
-    omega (arith, size, room, fragment, query, authority, scheme, first, second, third, fourth)
+    let fourth = c.write_marked-end-3.ensures.range in
+    omega (arith, whole c.args.self.now, c.requires.room, first, second, third, fourth)
 
 pub returns : goal.returns
 unfolding spell_texts
 returns c =
-    let t = c.args.self in
+    let t = c.args.self.now in
     let size = parts_length (s t) (a t) (measured_text t.path) (q t) (f t) in
     let room = c.requires.room in
-    let fragment = ap length c.marked.ensures.pieces in
-    let query = ap length c.marked-2.ensures.pieces in
-    let authority = ap length c.marked-3.ensures.pieces in
-    let scheme = ap length c.marked_after.ensures.pieces in
-    let first = c.write_pair-end.ensures.range in
-    let second = c.write_pair-end-2.ensures.range in
+    let first = c.write_marked-end.ensures.range in
+    let second = c.write_marked-end-2.ensures.range in
     let third = c.write_before-end.ensures.range in
-    let fourth = c.write_pair-end-3.ensures.range in
-    let fifth = c.write_pair.ensures.range in
-    let start : c.write_pair.result ≡ 0 = omega (arith, size, room, fragment, query, authority, scheme, first, second, third, fourth, fifth) in
-    let last = c.write_pair-end.ensures.written ∙ (λ i. c.marked.ensures.pieces i ++ drop_all (length c.args.buffer.now) c.args.buffer.now (omega arith) i) in
-    let after_path = c.write_pair-end-2.ensures.written ∙ (λ i. c.marked-2.ensures.pieces i ++ last i) in
+    let fourth = c.write_marked-end-3.ensures.range in
+    let fifth = c.write_scheme.ensures.range in
+    let start : c.write_scheme.result ≡ 0 = omega (arith, size, room, first, second, third, fourth, fifth) in
+    let last = c.write_marked-end.ensures.written ∙ ap (λ tail. f t ++ tail) (drop_all (length c.args.buffer.now) c.args.buffer.now (omega arith)) in
+    let after_path = c.write_marked-end-2.ensures.written ∙ ap (λ tail. q t ++ tail) last in
     let path = c.write_before-end.ensures.written ∙ ap (λ tail. measured_text t.path ++ tail) after_path in
-    let after_scheme = c.write_pair-end-3.ensures.written ∙ (λ i. c.marked-3.ensures.pieces i ++ path i) in
-    sym (ap (λ n. drop n c.write_pair.new.buffer) start) ∙ c.write_pair.ensures.written ∙ (λ i. c.marked_after.ensures.pieces i ++ after_scheme i)
+    let after_scheme = c.write_marked-end-3.ensures.written ∙ ap (λ tail. a t ++ tail) path in
+    sym (ap (λ n. drop n c.write_scheme.new.buffer) start) ∙ c.write_scheme.ensures.written ∙ ap (λ tail. s t ++ tail) after_scheme
     ∙ parts_joined (s t) (a t) (measured_text t.path) (q t) (f t)

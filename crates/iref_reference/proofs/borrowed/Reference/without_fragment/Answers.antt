@@ -12,6 +12,9 @@ new_unchecked-requires g c =
     ap (is_reference g.C.CharSet.tests) c.cut.ensures.before
     ∙ is_reference-before_hash g.C.CharSet.tests text (g.met.R.HeldRule.references g.C.CharSet.tests text c.as_str.ensures.in_rule)
 
+pub returns-clause-text : goal.returns-clause-text
+returns-clause-text g c = c.new_unchecked.ensures ∙ c.cut.ensures.before ∙ ap (before (hash_sign ∷ [])) c.as_str.ensures.text
+
 pub returns-clause-value : goal.returns-clause-value
 returns-clause-value g c =
     ap read_reference (c.new_unchecked.ensures ∙ c.cut.ensures.before ∙ ap (before (hash_sign ∷ [])) c.as_str.ensures.text)
