@@ -114,7 +114,7 @@ impl Model for Prefixes {
 }
 
 impl Prefixes {
-    /// The empty table.
+    /// The empty table: `compact` finds nothing in it.
     pub fn new(alloc: Global) -> Self
         ensures { result ≡ [] }
     {
@@ -123,7 +123,7 @@ impl Prefixes {
         Prefixes { entries, index }
     }
 
-    /// How many entries the table has.
+    /// How many entries the table has: after one `insert`, 1.
     pub fn len(&self) -> usize
         ensures { result ≡ length self.now }
     {
@@ -171,7 +171,8 @@ impl Prefixes {
         None
     }
 
-    /// The IRI of a label, if the label has an entry.
+    /// The IRI of a label, if the label has an entry: after `insert` of `ex` with `http://ex.org/`,
+    /// of `ex` that IRI.
     #[tactic(auto, unfolding(iref_mapping::specs::PrefixTable::get))]
     pub fn get(&self, label: &str) -> Option<Iri<'_>>
         ensures { option_map reference_text result ≡ get label.now self.now }

@@ -92,7 +92,7 @@ label_bytes (c ∷ cs) h =
 label_utf8 : (label : Text) → is_label label ≡ true → IsUtf8 label
 label_utf8 label h = IsUtf8-from_ascii label (IsAscii-from_all label (λ k d l. label_byte _ (AllPass-from_list_all is_label_char label (label_bytes label h) k d l)))
 
--- no table takes an entry whose label is no text, or whose IRI is none
+-- no table takes an entry whose label is no text, or whose IRI is not one
 pub no_text_no_label : (table : PrefixTable) (e : PrefixEntry) → ¬ (IsUtf8 e.label) → can_insert table e ≡ false
 no_text_no_label table e h = and_right (full e) _ (ap is_ok ((inserted-bad_label e.label e.iri table).1 (false_from_ne_true _ (λ i. h (label_utf8 e.label i)))))
 

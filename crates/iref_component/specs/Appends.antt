@@ -58,7 +58,7 @@ item_texts items = map (λ item. item.now) items
 abbrev pub IsSegmentText : CharTests → Bor Text → Type 0
 IsSegmentText set item = InUtf8 (IsSegment set) item.now
 
--- the error says whether the next text is a segment, and holds it where it is none; where no text is left, memory ran out, and the path is to be closed
+-- the error says whether the next text is a segment, and holds it where it is not one; where no text is left, memory ran out, and the path is to be closed
 abbrev pub RefusesNext : CharTests → Bool → Option (Bor Text) → TryError (InvalidSegment (Bor Text)) → Type 0
 RefusesNext set closes next error = MatchOption next ((error ≡ Memory) × (closes ≡ true)) (λ item. InvalidIfOutside (IsSegmentText set item) (λ invalid. invalid.0 ≡ item) error)
 

@@ -24,7 +24,8 @@ pub type Authority<'a, C> = BorrowedText<'a, AuthorityRule, C>;
 pub type AuthorityBuf<C> = TextBuf<AuthorityRule, C>;
 
 impl<'a, C: CharSet> Authority<'a, C> {
-    /// Its parts, as slices of its text.
+    /// Its parts, as slices of its text (RFC 3986 section 3.2): of `u@h:80` the user info `u`, the
+    /// host `h` and the port `80`.
     pub fn parts(&self) -> AuthorityParts<'a, C>
         ensures { parts_value result ≡ read_authority (text_of self.now) }
     {
@@ -38,7 +39,7 @@ impl<'a, C: CharSet> Authority<'a, C> {
         self.parts().user_info
     }
 
-    /// The host.
+    /// The host (RFC 3986 section 3.2.2): of `u@h:80`, `h`.
     pub fn host(&self) -> Host<'a, C>
         ensures { text_of result ≡ (read_authority (text_of self.now)).host }
     {
@@ -54,14 +55,15 @@ impl<'a, C: CharSet> Authority<'a, C> {
 }
 
 impl<C: CharSet> AuthorityBuf<C> {
-    /// The borrowed authority.
+    /// The borrowed authority, such as `u@h`.
     pub fn as_authority(&self) -> Authority<'_, C>
         ensures { text_of result ≡ text_of self.now }
     {
         self.as_borrowed()
     }
 
-    /// Its parts, as slices of its text.
+    /// Its parts, as slices of its text (RFC 3986 section 3.2): of `u@h:80` the user info `u`, the
+    /// host `h` and the port `80`.
     pub fn parts(&self) -> AuthorityParts<'_, C>
         ensures { parts_value result ≡ read_authority (text_of self.now) }
     {
@@ -75,7 +77,7 @@ impl<C: CharSet> AuthorityBuf<C> {
         self.parts().user_info
     }
 
-    /// The host.
+    /// The host (RFC 3986 section 3.2.2): of `u@h:80`, `h`.
     pub fn host(&self) -> Host<'_, C>
         ensures { text_of result ≡ (read_authority (text_of self.now)).host }
     {

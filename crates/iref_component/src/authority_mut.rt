@@ -56,7 +56,8 @@ impl<'a, C: CharSet> AuthorityMut<'a, C, Vec<u8>> {
     ghost use Rattle.iref_component.specs.AuthorityEdits.{authority_mut_start, authority_mut_end};
     ghost use Rattle.iref_component.specs.{AuthorityEdits.{authority_mut_text}, Rows.{bytes_row}};
 
-    /// The editor of the authority in a range of the bytes, or what stands in the range.
+    /// The editor of the authority in a range of the bytes: of `//h:80/x` that at 2 to 6. The error
+    /// holds the bytes of a range that are no authority, such as `/x`.
     pub fn new(
         bytes: &'a mut Vec<u8>,
         range: Range<usize>,
@@ -78,7 +79,8 @@ impl<'a, C: CharSet> AuthorityMut<'a, C, Vec<u8>> {
         }
     }
 
-    /// The editor of the authority in a range of the bytes that is known to hold one.
+    /// The editor of the authority in a range of the bytes that is known to hold one, as that of
+    /// `//h:80/x` at 2 to 6.
     pub fn new_unchecked(bytes: &'a mut Vec<u8>, range: Range<usize>) -> Self
         requires start_le_end { range.start ≤ range.end }
         requires in_bounds { range.end ≤ vec_len bytes.old }
@@ -123,14 +125,14 @@ impl<'a, C: CharSet, T: Target<AuthorityPart, C>> AuthorityMut<'a, C, T> {
         self.target.part((), self.range)
     }
 
-    /// The authority.
+    /// The authority: at 2 to 6 of `//h:80/x`, `h:80`.
     pub fn as_authority(&self) -> Authority<'_, C>
         ensures { text_of result ≡ authority_mut_text self.now }
     {
         Authority::new_unchecked(self.text())
     }
 
-    /// The authority, for as long as its target is borrowed.
+    /// The authority, for as long as its target is borrowed: at 2 to 6 of `//h:80/x`, `h:80`.
     pub fn into_authority(self) -> Authority<'a, C>
         ensures { text_of result ≡ authority_mut_text self.entry }
     {
@@ -138,7 +140,8 @@ impl<'a, C: CharSet, T: Target<AuthorityPart, C>> AuthorityMut<'a, C, T> {
         Authority::new_unchecked(target.part((), range))
     }
 
-    /// Where the authority stands, in bytes.
+    /// Where the authority stands, in bytes: in `//h:80/x` at 2 to 6, and after `set_port` with
+    /// None at 2 to 3.
     pub fn range(&self) -> Range<usize>
         ensures start { result.start ≡ authority_mut_start self.now }
         ensures end { result.end ≡ authority_mut_end self.now }
@@ -170,7 +173,8 @@ impl<'a, C: CharSet, T: Target<AuthorityPart, C>> AuthorityMut<'a, C, T> {
         Ok(())
     }
 
-    /// Replaces the authority, and nothing that stands before or after it.
+    /// Replaces the authority, and nothing that stands before or after it: in `//h:80/x`, by `g`,
+    /// it leaves `//g/x`. At `Memory` nothing has changed.
     pub fn replace(&mut self, authority: Authority<'_, C>) -> Result<(), Memory>
         ensures { Edits (λ _. read_authority (text_of authority.entry))
             self.old self.new result }
@@ -210,7 +214,7 @@ impl<'a, C: CharSet, T: Target<AuthorityPart, C>> AuthorityMut<'a, C, T> {
     }
 
     /// Sets the port to a number, in decimal digits without leading zeros, or removes it, which
-    /// takes no memory.
+    /// takes no memory: `h` with 80 becomes `h:80`. At `Memory` nothing has changed.
     #[tactic(auto, using(iref_model::proofs::PortNumberLemmas::written))]
     pub fn set_port_u32(&mut self, port: Option<u32>) -> Result<(), Memory>
         ensures edit { Edits (with_port (option_map port_text port)) self.old self.new result }

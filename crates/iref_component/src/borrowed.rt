@@ -14,7 +14,8 @@ use std::marker::PhantomData;
 use std::str;
 
 impl<'a, R: Refuses<&'a str>, C: CharSet> BorrowedText<'a, R, C> {
-    /// The text, if it is in the rule, or else the text in the rule's error.
+    /// The text, if it is in the rule: `Segment::new` takes `b%2Fc`. The rule's error holds any
+    /// other text, such as `b/c`.
     pub fn new(text: &'a str) -> Result<Self, R::Error>
         ensures { ParsesUtf8 (R.rule C.tests) text_of R.refused text.now text.entry result }
     {
@@ -26,8 +27,8 @@ impl<'a, R: Refuses<&'a str>, C: CharSet> BorrowedText<'a, R, C> {
 }
 
 impl<'a, R: Refuses<&'a [u8]>, C: CharSet> BorrowedText<'a, R, C> {
-    /// The text of these bytes, if it is UTF-8 and in the rule, or else the bytes in the rule's
-    /// error.
+    /// The text of these bytes, if it is UTF-8 and in the rule: `Segment::from_bytes` takes those
+    /// of `b%2Fc`. The rule's error holds any other bytes, such as 255 alone.
     pub fn from_bytes(bytes: &'a [u8]) -> Result<Self, R::Error>
         ensures { ParsesUtf8 (R.rule C.tests) text_of R.refused bytes.now bytes.entry result }
     {
@@ -42,7 +43,7 @@ impl<'a, R: Refuses<&'a [u8]>, C: CharSet> BorrowedText<'a, R, C> {
 }
 
 impl<'a, R: Rule, C: CharSet> BorrowedText<'a, R, C> {
-    /// The text, which is known to be in the rule.
+    /// The text, which is known to be in the rule, as `b` is a segment. Nothing is read.
     pub fn new_unchecked(text: &'a str) -> Self
         requires { R.test C.tests text.now ≡ true }
         ensures { text_of result ≡ text.now }
@@ -52,7 +53,7 @@ impl<'a, R: Rule, C: CharSet> BorrowedText<'a, R, C> {
         BorrowedText { text, rule }
     }
 
-    /// The text.
+    /// The text: of the segment `b`, `b`.
     pub fn as_str(&self) -> &'a str
         ensures text { result.now ≡ text_of self.now }
         ensures in_rule { R.test C.tests result.now ≡ true }
@@ -60,14 +61,15 @@ impl<'a, R: Rule, C: CharSet> BorrowedText<'a, R, C> {
         self.text.0
     }
 
-    /// The bytes of the text.
+    /// The bytes of the text: of the segment `b` the byte 98.
     pub fn as_bytes(&self) -> &'a [u8]
         ensures { result.now ≡ text_of self.now }
     {
         self.text.0.as_bytes()
     }
 
-    /// An owned copy.
+    /// An owned copy: of the `Segment` `b`, the `SegmentBuf` `b`. Out of memory, it returns
+    /// `Memory`.
     pub fn to_owned(&self, alloc: Global) -> Result<TextBuf<R, C>, Memory>
         ensures { IfOk result (λ copy. text_of copy ≡ text_of self.now) }
     {
@@ -92,7 +94,7 @@ pub fn text_of<'a, R: Rule, C: CharSet>(view: Option<BorrowedText<'a, R, C>>) ->
 }
 
 impl<R: AllowsEmpty, C: CharSet> BorrowedText<'_, R, C> {
-    /// The empty text.
+    /// The empty text, where the rule takes it: `Query::empty()` is the query of `a?`.
     pub fn empty() -> Self
         ensures { text_of result ≡ [] }
     {

@@ -29,14 +29,14 @@ impl<S: Storage, R: Rule, C: CharSet> RuleText<S, R, C> {
         }
     }
 
-    /// The borrowed text.
+    /// The borrowed text: of the `SegmentBuf` `b`, the `Segment` `b`.
     pub fn as_borrowed(&self) -> BorrowedText<'_, R, C>
         ensures { text_of result ≡ text_of self.now }
     {
         BorrowedText::new_unchecked(self.text.text())
     }
 
-    /// How many bytes the text has.
+    /// How many bytes the text has: `a%20` has 4.
     pub fn len(&self) -> usize
         ensures { result ≡ length (text_of self.now) }
     {
@@ -45,7 +45,7 @@ impl<S: Storage, R: Rule, C: CharSet> RuleText<S, R, C> {
 }
 
 impl<S: Storage, R: Escaped, C: CharSet> RuleText<S, R, C> {
-    /// Whether the text is empty.
+    /// Whether the text is empty: so is the second segment of `a/`.
     pub fn is_empty(&self) -> bool
         ensures { result ≡ is_empty (text_of self.now) }
     {

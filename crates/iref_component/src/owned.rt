@@ -15,7 +15,8 @@ use std::convert::TryFrom;
 use std::marker::PhantomData;
 
 impl<R: Refuses<String>, C: CharSet> TextBuf<R, C> {
-    /// The text, if it is in the rule, with no copy, or else the text in the rule's error.
+    /// The text, if it is in the rule, with no copy: `SegmentBuf::new` takes `b%2Fc`. The rule's
+    /// error holds any other text, such as `b/c`.
     pub fn new(text: String) -> Result<Self, R::Error>
         ensures { ParsesUtf8 (R.rule C.tests) text_of R.refused (string_bytes text) text result }
     {
@@ -27,8 +28,9 @@ impl<R: Refuses<String>, C: CharSet> TextBuf<R, C> {
 }
 
 impl<R: Refuses<Vec<u8>>, C: CharSet> TextBuf<R, C> {
-    /// The text of these bytes, if it is UTF-8 and in the rule, with no copy, or else the bytes in
-    /// the rule's error.
+    /// The text of these bytes, if it is UTF-8 and in the rule, with no copy:
+    /// `SegmentBuf::from_bytes` takes those of `b%2Fc`. The rule's error holds any other bytes,
+    /// such as 255 alone.
     pub fn from_bytes(bytes: Vec<u8>) -> Result<Self, R::Error>
         ensures { ParsesUtf8 (R.rule C.tests) text_of R.refused bytes.items bytes result }
     {
@@ -44,7 +46,7 @@ impl<R: Refuses<Vec<u8>>, C: CharSet> TextBuf<R, C> {
 }
 
 impl<R: Rule, C: CharSet> TextBuf<R, C> {
-    /// The text, which is known to be in the rule.
+    /// The text, which is known to be in the rule, as `b` is a segment. Nothing is read.
     pub fn new_unchecked(text: String) -> Self
         requires { R.test C.tests (string_bytes text) ≡ true }
         ensures { text_of result ≡ string_bytes text }
@@ -53,7 +55,7 @@ impl<R: Rule, C: CharSet> TextBuf<R, C> {
         TextBuf { text, rule }
     }
 
-    /// The text.
+    /// The text: of the segment `b`, `b`.
     pub fn as_str(&self) -> &str
         ensures text { result.now ≡ text_of self.now }
         ensures in_rule { R.test C.tests result.now ≡ true }
@@ -61,7 +63,7 @@ impl<R: Rule, C: CharSet> TextBuf<R, C> {
         self.text.as_str()
     }
 
-    /// The bytes of the text.
+    /// The bytes of the text: of the segment `b` the byte 98.
     pub fn as_bytes(&self) -> &[u8]
         ensures { result.now ≡ text_of self.now }
     {
@@ -86,7 +88,7 @@ impl<R: Rule, C: CharSet> TextBuf<R, C> {
         replace(&mut self.text, change).or(Err(Memory))
     }
 
-    /// The text, with no copy.
+    /// The text, with no copy: of the segment `b`, `b`.
     pub fn into_string(self) -> String
         ensures text { string_bytes result ≡ text_of self }
         ensures in_rule { R.test C.tests (string_bytes result) ≡ true }
@@ -95,7 +97,7 @@ impl<R: Rule, C: CharSet> TextBuf<R, C> {
         text
     }
 
-    /// The bytes of the text, with no copy.
+    /// The bytes of the text, with no copy: of the segment `b` the byte 98.
     pub fn into_bytes(self) -> Vec<u8>
         ensures { result.items ≡ text_of self }
     {
@@ -104,7 +106,7 @@ impl<R: Rule, C: CharSet> TextBuf<R, C> {
 }
 
 impl<R: AllowsEmpty, C: CharSet> TextBuf<R, C> {
-    /// The empty text, which takes no memory.
+    /// The empty text, where the rule takes it, as `QueryBuf::empty`. It takes no memory.
     pub fn empty(alloc: Global) -> Self
         ensures { text_of result ≡ [] }
     {

@@ -33,7 +33,7 @@ use std::hash::Hash;
 pub type Path<'a, C> = BorrowedText<'a, PathRule, C>;
 
 impl<S: Storage, C: CharSet> RuleText<S, PathRule, C> {
-    /// Whether the path has no segments.
+    /// Whether the path has no segments: `/` and the empty path have none, `//` has two.
     #[tactic(auto, using(iref_path_text::proofs::SlashLemmas::some_pieces))]
     pub fn is_empty(&self) -> bool
         ensures { result ≡ is_empty (path_value self.now).segments }
@@ -55,15 +55,15 @@ impl<S: Storage, C: CharSet> RuleText<S, PathRule, C> {
         !self.is_absolute()
     }
 
-    /// How many segments the path has.
+    /// How many segments the path has: `/a//b` has three, `a/` two.
     pub fn segment_count(&self) -> usize
         ensures { result ≡ function.segment_count (path_value self.now) }
     {
         self.as_borrowed().segments().len()
     }
 
-    /// The path of the normal segments, with a guard where one is needed (RFC 3986 section 5.2.4).
-    /// It is equal to this path.
+    /// The path of the normal segments, with a guard where one is needed (RFC 3986 section 5.2.4):
+    /// of `a/../b:c`, `./b:c`. It is equal to this path. Out of memory, it returns `Memory`.
     pub fn normalized(&self, alloc: Global) -> Result<PathBuf<C>, Memory>
         ensures text { IfOk result (λ path.
             text_of path ≡ spell_path (step.normalized alone (path_value self.now))) }
@@ -113,14 +113,14 @@ impl<S: Storage, C: CharSet> RuleText<S, PathRule, C> {
 }
 
 impl<'a, C: CharSet> Path<'a, C> {
-    /// The relative path without segments.
+    /// The relative path without segments, which is that of `?q`.
     pub fn empty_relative() -> Self
         ensures { text_of result ≡ [] }
     {
         Path::empty()
     }
 
-    /// The absolute path without segments.
+    /// The absolute path without segments: `/`.
     #[tactic(auto, using(iref_model::proofs::PathGrammarLemmas::empty_paths))]
     pub fn empty_absolute() -> Self
         ensures { text_of result ≡ codes "/" }
@@ -140,7 +140,7 @@ impl<'a, C: CharSet> Path<'a, C> {
         }
     }
 
-    /// The segments.
+    /// The segments (RFC 3986 section 3.3): of `/a//b` they are `a`, an empty one and `b`.
     pub fn segments(&self) -> Segments<'a, C>
         ensures left { segments_left result ≡ (path_value self.now).segments }
         ensures fits { length (segments_left result) < 2 ^ 64 }
@@ -148,7 +148,8 @@ impl<'a, C: CharSet> Path<'a, C> {
         Segments::of_text(split_root(self.as_str()).1)
     }
 
-    /// The normal segments: the `..` that nothing cancels stand first where the path is relative.
+    /// The normal segments: of `a/../b/./c` they are `b` and `c`. The `..` that nothing cancels
+    /// stand first where the path is relative.
     ///
     /// This reads the path from its end, to count them. Up to sixteen normal segments are then read
     /// once more, and kept in the value. Where there are more, the back reads each segment once
@@ -160,21 +161,21 @@ impl<'a, C: CharSet> Path<'a, C> {
         NormalizedSegments::of_text(self.as_str())
     }
 
-    /// The first segment.
+    /// The first segment: of `/a/b`, `a`.
     pub fn first(&self) -> Option<Segment<'a, C>>
         ensures { option_map text_of result ≡ function.first (path_value self.now) }
     {
         self.segments().next()
     }
 
-    /// The last segment.
+    /// The last segment: of `/a/b`, `b`; of `a/`, an empty one.
     pub fn last(&self) -> Option<Segment<'a, C>>
         ensures { option_map text_of result ≡ function.last (path_value self.now) }
     {
         self.segments().next_back()
     }
 
-    /// The last segment unless it is empty.
+    /// The last segment unless it is empty: of `/a/b`, `b`; of `a/`, None.
     #[tactic(auto, unfolding(iref_model::specs::PathFunctions::file_name))]
     pub fn file_name(&self) -> Option<Segment<'a, C>>
         ensures { option_map text_of result ≡ function.file_name (path_value self.now) }
@@ -192,7 +193,8 @@ impl<'a, C: CharSet> Path<'a, C> {
         Path::new_unchecked(directory_text::<C>(self.as_str()))
     }
 
-    /// The path without its last segment, but for the empty path and one relative segment.
+    /// The path without its last segment, but for the empty path and one relative segment: of
+    /// `/a/b`, `/a`; of `a`, None.
     pub fn parent(&self) -> Option<Self>
         ensures { option_map path_value result ≡ function.parent (path_value self.now) }
     {
@@ -200,7 +202,8 @@ impl<'a, C: CharSet> Path<'a, C> {
         Some(Path::new_unchecked(text))
     }
 
-    /// The parent, or else the empty path that is absolute where this one is.
+    /// The parent, or else the empty path that is absolute where this one is: of `/a/b`, `/a`; of
+    /// `a`, the empty path; of `/`, `/`.
     #[tactic(auto, unfolding(iref_model::specs::PathFunctions::parent_or_empty))]
     pub fn parent_or_empty(&self) -> Self
         ensures { path_value result ≡ function.parent_or_empty (path_value self.now) }

@@ -22,14 +22,14 @@ use iref_grammar::chars::CharSet;
 pub type PathBuf<C> = TextBuf<PathRule, C>;
 
 impl<C: CharSet> PathBuf<C> {
-    /// The borrowed path.
+    /// The borrowed path, such as `/a`.
     pub fn as_path(&self) -> Path<'_, C>
         ensures { text_of result ≡ text_of self.now }
     {
         self.as_borrowed()
     }
 
-    /// The segments.
+    /// The segments (RFC 3986 section 3.3): of `/a//b` they are `a`, an empty one and `b`.
     pub fn segments(&self) -> Segments<'_, C>
         ensures left { segments_left result ≡ (path_value self.now).segments }
         ensures fits { length (segments_left result) < 2 ^ 64 }
@@ -44,21 +44,21 @@ impl<C: CharSet> PathBuf<C> {
         self.as_path().normalized_segments()
     }
 
-    /// The first segment.
+    /// The first segment: of `/a/b`, `a`.
     pub fn first(&self) -> Option<Segment<'_, C>>
         ensures { option_map text_of result ≡ function.first (path_value self.now) }
     {
         self.as_path().first()
     }
 
-    /// The last segment.
+    /// The last segment: of `/a/b`, `b`; of `a/`, an empty one.
     pub fn last(&self) -> Option<Segment<'_, C>>
         ensures { option_map text_of result ≡ function.last (path_value self.now) }
     {
         self.as_path().last()
     }
 
-    /// The last segment unless it is empty.
+    /// The last segment unless it is empty: of `/a/b`, `b`; of `a/`, None.
     pub fn file_name(&self) -> Option<Segment<'_, C>>
         ensures { option_map text_of result ≡ function.file_name (path_value self.now) }
     {
@@ -74,14 +74,16 @@ impl<C: CharSet> PathBuf<C> {
         self.as_path().directory()
     }
 
-    /// The path without its last segment, but for the empty path and one relative segment.
+    /// The path without its last segment, but for the empty path and one relative segment: of
+    /// `/a/b`, `/a`; of `a`, None.
     pub fn parent(&self) -> Option<Path<'_, C>>
         ensures { option_map path_value result ≡ function.parent (path_value self.now) }
     {
         self.as_path().parent()
     }
 
-    /// The parent, or else the empty path that is absolute where this one is.
+    /// The parent, or else the empty path that is absolute where this one is: of `/a/b`, `/a`; of
+    /// `a`, the empty path; of `/`, `/`.
     pub fn parent_or_empty(&self) -> Path<'_, C>
         ensures { path_value result ≡ function.parent_or_empty (path_value self.now) }
     {

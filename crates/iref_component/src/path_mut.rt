@@ -70,14 +70,14 @@ impl<'a, C: CharSet, T: Target<PathPart, C>> PathMut<'a, C, T> {
         self.target.part(self.context, self.range)
     }
 
-    /// The path.
+    /// The path: at 8 to 12 of `http://h/a/b?q`, `/a/b`.
     pub fn as_path(&self) -> Path<'_, C>
         ensures { text_of result ≡ path_mut_text self.now }
     {
         Path::new_unchecked(self.text())
     }
 
-    /// Where the path stands, in bytes.
+    /// Where the path stands, in bytes: in `http://h/a/b?q` at 8 to 12, and after `pop` at 8 to 10.
     pub fn range(&self) -> Range<usize>
         ensures start { result.start ≡ path_mut_start self.now }
         ensures end { result.end ≡ path_mut_end self.now }
@@ -131,7 +131,8 @@ impl<'a, C: CharSet, T: Target<PathPart, C>> PathMut<'a, C, T> {
         })
     }
 
-    /// Appends a segment as it is, `.` and `..` too.
+    /// Appends a segment as it is, `.` and `..` too: `a` with `..` becomes `a/..`. At `Memory`
+    /// nothing has changed.
     pub fn lazy_push(&mut self, segment: Segment<'_, C>) -> Result<(), Memory>
         ensures { EditsBy step.lazy_pushed (text_of segment.entry) self.old self.new result }
     {
@@ -159,7 +160,8 @@ impl<'a, C: CharSet, T: Target<PathPart, C>> PathMut<'a, C, T> {
         self.apply(step)
     }
 
-    /// Pops, and returns whether the path changed: an absolute path without segments stays.
+    /// Pops, and returns whether the path changed: `/a` becomes `/`, an absolute path without
+    /// segments stays. At `Memory` nothing has changed.
     pub fn try_pop(&mut self) -> Result<bool, Memory>
         ensures edit { Edits step.popped self.old self.new result }
         ensures changed { IfOk result (λ changed. changed ≡ not ((path_mut_value self.old).absolute
@@ -171,7 +173,8 @@ impl<'a, C: CharSet, T: Target<PathPart, C>> PathMut<'a, C, T> {
         Ok(changes)
     }
 
-    /// Replaces the path, with a guard where it would be read as something else.
+    /// Replaces the path, with a guard where it would be read as something else: alone, `x` by
+    /// `1:2` is `./1:2`. At `Memory` nothing has changed.
     pub fn replace(&mut self, path: Path<'_, C>) -> Result<(), Memory>
         ensures { EditsBy step.replaced (path_value path.entry) self.old self.new result }
     {
@@ -192,7 +195,7 @@ impl<'a, C: CharSet, T: Target<PathPart, C>> PathMut<'a, C, T> {
 impl<'a, C: CharSet> PathMut<'a, C, PathBuf<C>> {
     ghost use Rattle.iref_component.specs.PathEdits.{Borrows, IsEditorOf};
 
-    /// The editor of a path that stands alone.
+    /// The editor of a path that stands alone: `pop` turns `/a/b` into `/a`.
     pub fn from_path(path: &'a mut PathBuf<C>) -> Self
         ensures same_reference { Borrows result path.entry.ghost_name }
         ensures editor { IsEditorOf result (text_of path.old) alone
@@ -201,7 +204,8 @@ impl<'a, C: CharSet> PathMut<'a, C, PathBuf<C>> {
         PathMut::from_path_with_context(path, PathContext::default())
     }
 
-    /// The editor of a path, with what it is to stand after.
+    /// The editor of a path, with what it is to stand after: after a scheme, `push` with `1:2`
+    /// turns the empty path into `1:2`, and else into `./1:2`.
     pub fn from_path_with_context(path: &'a mut PathBuf<C>, context: PathContext) -> Self
         requires { follows_authority context (path_value path.old) ≡ true }
         ensures same_reference { Borrows result path.entry.ghost_name }

@@ -21,7 +21,8 @@ pub type PctStr<'a> = BorrowedText<'a, PctStrRule, UriChars>;
 pub type PctString = TextBuf<PctStrRule, UriChars>;
 
 impl<'a> PctStr<'a> {
-    /// The bytes that the text decodes to, each escape one byte. They take no memory.
+    /// The bytes that the text decodes to, each escape one byte: of `a%2Fb` those of `a/b`. They
+    /// take no memory.
     pub fn bytes(&self) -> PercentDecode<'a>
         ensures { decoded_bytes result ≡ percent_decode (text_of self.now) }
     {
@@ -30,7 +31,8 @@ impl<'a> PctStr<'a> {
 }
 
 impl PctString {
-    /// The bytes that the text decodes to, each escape one byte. They take no memory.
+    /// The bytes that the text decodes to, each escape one byte: of `a%2Fb` those of `a/b`. They
+    /// take no memory.
     pub fn bytes(&self) -> PercentDecode<'_>
         ensures { decoded_bytes result ≡ percent_decode (text_of self.now) }
     {
@@ -39,7 +41,7 @@ impl PctString {
 }
 
 impl<'a, R: Escaped, C: CharSet> BorrowedText<'a, R, C> {
-    /// The text as a percent-encoded text.
+    /// The text as a percent-encoded text: of the query `a%41`, one that decodes to `aA`.
     pub fn as_pct_str(&self) -> PctStr<'a>
         ensures { text_of result ≡ text_of self.now }
     {
@@ -48,14 +50,15 @@ impl<'a, R: Escaped, C: CharSet> BorrowedText<'a, R, C> {
 }
 
 impl<R: Escaped, C: CharSet> TextBuf<R, C> {
-    /// The text as a percent-encoded text.
+    /// The text as a percent-encoded text: of the query `a%41`, one that decodes to `aA`.
     pub fn as_pct_str(&self) -> PctStr<'_>
         ensures { text_of result ≡ text_of self.now }
     {
         self.as_borrowed().as_pct_str()
     }
 
-    /// The text as a percent-encoded text, with no copy.
+    /// The text as a percent-encoded text, with no copy: of the query `a%41`, one that decodes to
+    /// `aA`.
     pub fn into_pct_string(self) -> PctString
         ensures { text_of result ≡ text_of self }
     {

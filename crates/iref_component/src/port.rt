@@ -27,7 +27,7 @@ impl Port<'_> {
 }
 
 impl<S: Storage> RuleText<S, PortRule, UriChars> {
-    /// Whether the text is empty.
+    /// Whether the text is empty: so is the port of `//h:`.
     pub fn is_empty(&self) -> bool
         ensures { result ≡ is_empty (text_of self.now) }
     {
@@ -206,35 +206,40 @@ impl TryFrom<Port<'_>> for i128 {
 }
 
 impl PortBuf {
-    /// The port of this number, in decimal digits without leading zeros.
+    /// The port of this number, in decimal digits without leading zeros: of 80, `80`. Out of
+    /// memory, it returns `Memory`.
     pub fn from_u8(alloc: Global, number: u8) -> Result<Self, Memory>
         ensures { IfOk result (λ port. text_of port ≡ port_text number) }
     {
         PortBuf::from_u128(alloc, number as u128)
     }
 
-    /// The port of this number, in decimal digits without leading zeros.
+    /// The port of this number, in decimal digits without leading zeros: of 80, `80`. Out of
+    /// memory, it returns `Memory`.
     pub fn from_u16(alloc: Global, number: u16) -> Result<Self, Memory>
         ensures { IfOk result (λ port. text_of port ≡ port_text number) }
     {
         PortBuf::from_u128(alloc, number as u128)
     }
 
-    /// The port of this number, in decimal digits without leading zeros.
+    /// The port of this number, in decimal digits without leading zeros: of 80, `80`. Out of
+    /// memory, it returns `Memory`.
     pub fn from_u32(alloc: Global, number: u32) -> Result<Self, Memory>
         ensures { IfOk result (λ port. text_of port ≡ port_text number) }
     {
         PortBuf::from_u128(alloc, number as u128)
     }
 
-    /// The port of this number, in decimal digits without leading zeros.
+    /// The port of this number, in decimal digits without leading zeros: of 80, `80`. Out of
+    /// memory, it returns `Memory`.
     pub fn from_u64(alloc: Global, number: u64) -> Result<Self, Memory>
         ensures { IfOk result (λ port. text_of port ≡ port_text number) }
     {
         PortBuf::from_u128(alloc, number as u128)
     }
 
-    /// The port of this number, in decimal digits without leading zeros.
+    /// The port of this number, in decimal digits without leading zeros: of 80, `80`. Out of
+    /// memory, it returns `Memory`.
     #[tactic(auto, using(iref_model::proofs::PortNumberLemmas::written))]
     pub fn from_u128(alloc: Global, number: u128) -> Result<Self, Memory>
         ensures { IfOk result (λ port. text_of port ≡ port_text number) }

@@ -53,7 +53,7 @@ pub type Fragment<'a, C> = BorrowedText<'a, FragmentRule, C>;
 pub type FragmentBuf<C> = TextBuf<FragmentRule, C>;
 
 impl SchemeBuf {
-    /// The borrowed text.
+    /// The borrowed text, such as `http`.
     pub fn as_scheme(&self) -> Scheme<'_>
         ensures { text_of result ≡ text_of self.now }
     {
@@ -62,7 +62,7 @@ impl SchemeBuf {
 }
 
 impl<C: CharSet> UserInfoBuf<C> {
-    /// The borrowed text.
+    /// The borrowed text, such as `u:p`.
     pub fn as_user_info(&self) -> UserInfo<'_, C>
         ensures { text_of result ≡ text_of self.now }
     {
@@ -71,7 +71,7 @@ impl<C: CharSet> UserInfoBuf<C> {
 }
 
 impl<C: CharSet> HostBuf<C> {
-    /// The borrowed text.
+    /// The borrowed text, such as `a.org`.
     pub fn as_host(&self) -> Host<'_, C>
         ensures { text_of result ≡ text_of self.now }
     {
@@ -80,7 +80,7 @@ impl<C: CharSet> HostBuf<C> {
 }
 
 impl PortBuf {
-    /// The borrowed text.
+    /// The borrowed text, such as `80`.
     pub fn as_port(&self) -> Port<'_>
         ensures { text_of result ≡ text_of self.now }
     {
@@ -89,7 +89,7 @@ impl PortBuf {
 }
 
 impl<C: CharSet> SegmentBuf<C> {
-    /// The borrowed text.
+    /// The borrowed text, such as `b%2Fc`.
     pub fn as_segment(&self) -> Segment<'_, C>
         ensures { text_of result ≡ text_of self.now }
     {
@@ -98,7 +98,7 @@ impl<C: CharSet> SegmentBuf<C> {
 }
 
 impl<C: CharSet> QueryBuf<C> {
-    /// The borrowed text.
+    /// The borrowed text, such as `x=1`.
     pub fn as_query(&self) -> Query<'_, C>
         ensures { text_of result ≡ text_of self.now }
     {
@@ -107,7 +107,7 @@ impl<C: CharSet> QueryBuf<C> {
 }
 
 impl<C: CharSet> FragmentBuf<C> {
-    /// The borrowed text.
+    /// The borrowed text, such as `b/c`.
     pub fn as_fragment(&self) -> Fragment<'_, C>
         ensures { text_of result ≡ text_of self.now }
     {

@@ -23,7 +23,8 @@ use iref::uri::{
 };
 use std::alloc::{AllocError, Global};
 
-/// The components of a reference, as slices of its text; None exactly where the text is none.
+/// The components of a reference, as slices of its text; None exactly where the text is no
+/// reference.
 pub fn parts_of(text: &str) -> Option<UriRefParts<'_>>
     ensures { MatchOption result (¬ (InUtf8 (IsUriReference uri_chars) text.now))
         (λ parts. InUtf8 (IsUriReference uri_chars) text.now

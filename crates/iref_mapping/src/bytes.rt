@@ -4,7 +4,7 @@ ghost use Rattle.std.specs.String.{string_bytes};
 ghost use Rattle.iref_mapping.specs.Mapping.{mapped_byte, mapped, count_escaped};
 
 use percent_encoding::{AsciiSet, percent_encode_byte, utf8_percent_encode};
-use std::alloc::{AllocError, Allocator};
+use std::alloc::{AllocError, Global};
 
 /// How many bytes the mapping escapes: each takes two more bytes.
 pub fn count_escaped(bytes: &[u8]) -> usize
@@ -14,7 +14,7 @@ pub fn count_escaped(bytes: &[u8]) -> usize
 }
 
 /// The mapping of a text: of `é%41`, `%C3%A9%41`. Its room is taken once.
-pub fn mapped<A: Allocator>(alloc: A, text: &str) -> Result<String<A>, AllocError>
+pub fn mapped(alloc: Global, text: &str) -> Result<String, AllocError>
     ensures { IfOk result (λ copy. string_bytes copy ≡ mapped text.now) }
 {
     let more = count_escaped(text.as_bytes())
@@ -62,7 +62,7 @@ fn map_to_the_end(buffer: &mut [u8], from: usize)
 
 /// Maps bytes within their buffer; `escaped` of them are escaped. The room is taken once, and
 /// nothing changes where it is refused.
-pub fn map_in_place<A: Allocator>(bytes: &mut Vec<u8, A>, escaped: usize) -> Result<(), AllocError>
+pub fn map_in_place(bytes: &mut Vec<u8>, escaped: usize) -> Result<(), AllocError>
     requires { escaped ≡ count_escaped bytes.old.items }
     ensures ok { OnOk result (bytes.new.items ≡ mapped bytes.old.items) }
     ensures err { OnErr result (bytes.new.items ≡ bytes.old.items) }

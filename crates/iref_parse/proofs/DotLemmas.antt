@@ -51,11 +51,11 @@ module _ (path : List ℕ) where
       (pair_from_dot h)
 
   -- a vector that saw all indices says whether a segment begins with a dot
-  pub dots_told : (at : ℕ) (v : List ℕ) → 17 ≤ length path → length path < at + 17 → (get_or path 0 0 ≡ 0x2E → ⊥)
+  pub dots_found : (at : ℕ) (v : List ℕ) → 17 ≤ length path → length path < at + 17 → (get_or path 0 0 ≡ 0x2E → ⊥)
       → Seen (dots_at path) (length path - 1) at v → (b : Bool) → b ≡ list_all (λ x. eqb x 0) v → MatchBool (not b) (HasDot path) (¬ HasDot path)
-  dots_told at v long near first seen true e =
+  dots_found at v long near first seen true e =
       no_dot (length path - 1) (omega arith) first (unmarked_from_clear (dots_at path) (length path - 1) at v (omega arith) (omega arith) seen (sym e))
-  dots_told at v long near first seen false e =
+  dots_found at v long near first seen false e =
       ⊎_elim (λ f. dot_from_pair f.0 f.1)
       (λ u. absurd (true≢false (sym (clear_from_unmarked (dots_at path) (length path - 1) at v (omega arith) (omega arith) seen u) ∙ sym e)))
       (find (length path - 1))

@@ -85,9 +85,9 @@ module _ (u v l r : Unread) (s t : Bor Text) (left : all_items_unread u ≡ item
       (subst (λ b. IsAnswer (cond b (items_compared (items_unread l) (items_unread r)) apart) false l r) h (refl, refl, refl))
 
   -- they do not, so the others decide
-  pub first_alike : (equal : Bool) (x y : Unread) → true ≡ same_decoded s.now t.now → IsAnswer (items_compared (items_unread l) (items_unread r)) equal x y
+  pub first_same : (equal : Bool) (x y : Unread) → true ≡ same_decoded s.now t.now → IsAnswer (items_compared (items_unread l) (items_unread r)) equal x y
       → IsAnswer (items_compared (all_items_unread u) (all_items_unread v)) equal x y
-  first_alike equal x y h answer = subst (λ c. IsAnswer c equal x y) (sym compared_first)
+  first_same equal x y h answer = subst (λ c. IsAnswer c equal x y) (sym compared_first)
       (subst (λ b. IsAnswer (cond b (items_compared (items_unread l) (items_unread r)) apart) equal x y) h answer)
 
 -- the same paths

@@ -247,7 +247,7 @@ impl<'a> MeasuredPath<'a> {
         self.lead.len() + self.body.len()
     }
 
-    /// The text of a path. The room is taken once: an `Err` is that there is none.
+    /// The text of a path. The room is taken once; out of memory, it returns an `Err`.
     pub fn to_text<C: CharSet>(self, alloc: Global) -> Result<String, Memory>
         requires measured { IsMeasured self }
         requires path { is_path C.tests (measured_text self) ≡ true }

@@ -238,7 +238,7 @@ fn normal_bytes(
 /// a text is read as absolute or relative, whatever it begins with, before its dots are removed.
 ///
 /// After an authority `//b/.` becomes `//b/`, and `../b` that is to be absolute `/b`; standing
-/// alone, `a/../b:c` becomes `./b:c`. The room is taken once: an `Err` is that there is none.
+/// alone, `a/../b:c` becomes `./b:c`. The room is taken once; out of memory, it returns an `Err`.
 pub fn normalized_text<C: CharSet>(
     alloc: Global,
     context: PathContext,

@@ -39,7 +39,7 @@ fn rest_after<'a>(prefix: &str, path: &'a str) -> Option<Way<'a>>
 /// `/foo` it is `bar`. None where the normal list of the prefix is not a beginning of the path's,
 /// segment by segment after decoding, or where only one of both is absolute; that takes no memory.
 ///
-/// The room is taken once: an `Err` is that there is none.
+/// The room is taken once; out of memory, it returns an `Err`.
 pub fn suffix_text<C: CharSet>(
     alloc: Global,
     prefix: &str,

@@ -22,10 +22,10 @@ first_mapped f g h e None = refl
 first_mapped f g h e (Some x) = ap Some (e x)
 
 -- of what a prefix and a reference are read as, p and q
-module _ (prefix r p q : ReferenceValue) (p_is : p ≡ prefix) (q_is : q ≡ r) (same : Bool) (alike_is : same ≡ (have_same_scheme p q && have_same_authority p q)) where
+module _ (prefix r p q : ReferenceValue) (p_is : p ≡ prefix) (q_is : q ≡ r) (same : Bool) (same_is : same ≡ (have_same_scheme p q && have_same_authority p q)) where
   whole : (b : Bool) → same ≡ b → reference_suffix p q ≡ cond b (option_map (with_rest q) (path_suffix p.path q.path)) None
   unfolding reference_suffix
-  whole b e = ap (λ same. cond same (option_map (with_rest q) (path_suffix p.path q.path)) None) (sym alike_is ∙ e)
+  whole b e = ap (λ same. cond same (option_map (with_rest q) (path_suffix p.path q.path)) None) (sym same_is ∙ e)
 
   suffix_is : reference_suffix prefix r ≡ reference_suffix p q
   suffix_is = λ i. reference_suffix (sym p_is i) (sym q_is i)

@@ -42,7 +42,8 @@ pub type UriRef<'a, C> = Reference<'a, ReferenceRule, C>;
 pub type Uri<'a, C> = Reference<'a, UriRule, C>;
 
 impl<'a, R: HeldRule + Refuses<&'a str>, C: CharSet> Reference<'a, R, C> {
-    /// The reference of this text, or the text in the rule's error.
+    /// The reference of this text (RFC 3986 section 4.1): `UriRef::new` takes `../b?c`. The error
+    /// of a text outside the rule, such as `a b`, holds that text.
     pub fn new(text: &'a str) -> Result<Self, R::Error>
         ensures { ParsesReference (R.rule C.tests) R.refused text.now text.entry result }
     {
@@ -54,7 +55,8 @@ impl<'a, R: HeldRule + Refuses<&'a str>, C: CharSet> Reference<'a, R, C> {
 }
 
 impl<'a, R: HeldRule + Refuses<&'a [u8]>, C: CharSet> Reference<'a, R, C> {
-    /// The reference of these bytes of UTF-8, or the bytes in the rule's error.
+    /// The reference of these bytes of UTF-8 (RFC 3986 section 4.1): `UriRef::from_bytes` takes
+    /// those of `../b?c`. The error of other bytes, such as those of `a b`, holds them.
     pub fn from_bytes(bytes: &'a [u8]) -> Result<Self, R::Error>
         ensures { ParsesReference (R.rule C.tests) R.refused bytes.now bytes.entry result }
     {
@@ -66,7 +68,8 @@ impl<'a, R: HeldRule + Refuses<&'a [u8]>, C: CharSet> Reference<'a, R, C> {
 }
 
 impl<'a, R: HeldRule, C: CharSet> Reference<'a, R, C> {
-    /// The reference of a text that is known to be one of the rule.
+    /// The reference of a text that is known to be one of the rule, as `s:a` is a URI. Nothing is
+    /// read.
     pub fn new_unchecked(text: &'a str) -> Self
         requires { R.test C.tests text.now ≡ true }
         ensures { reference_text result ≡ text.now }
@@ -75,7 +78,7 @@ impl<'a, R: HeldRule, C: CharSet> Reference<'a, R, C> {
         Reference { text }
     }
 
-    /// The text.
+    /// The text: of the URI `s:a`, `s:a`.
     pub fn as_str(&self) -> &'a str
         ensures text { result.now ≡ reference_text self.now }
         ensures in_rule { R.test C.tests result.now ≡ true }
@@ -83,7 +86,7 @@ impl<'a, R: HeldRule, C: CharSet> Reference<'a, R, C> {
         self.text.as_str()
     }
 
-    /// The bytes of the text.
+    /// The bytes of the text: of `s:a` they are 115, 58 and 97.
     pub fn as_bytes(&self) -> &'a [u8]
         ensures { result.now ≡ reference_text self.now }
     {
@@ -98,7 +101,7 @@ impl<'a, R: HeldRule, C: CharSet> Reference<'a, R, C> {
         UriRefParts::of_text(self.as_str())
     }
 
-    /// The authority, if the reference has one.
+    /// The authority, if the reference has one (RFC 3986 section 3.2): of `//u@h:80/a`, `u@h:80`.
     pub fn authority(&self) -> Option<Authority<'a, C>>
         ensures { option_map text_of result
             ≡ option_map spell_authority (reference_value self.now).authority }
@@ -106,42 +109,45 @@ impl<'a, R: HeldRule, C: CharSet> Reference<'a, R, C> {
         self.reference_parts().authority
     }
 
-    /// The user info, if the reference has an authority with one (RFC 3986 section 3.2.1).
+    /// The user info, if the reference has an authority with one (RFC 3986 section 3.2.1): of
+    /// `//u@h/a`, `u`.
     pub fn user_info(&self) -> Option<UserInfo<'a, C>>
         ensures { option_map text_of result ≡ user_info_of (reference_value self.now) }
     {
         self.reference_parts().authority_parts()?.user_info
     }
 
-    /// The host, if the reference has an authority (RFC 3986 section 3.2.2).
+    /// The host, if the reference has an authority (RFC 3986 section 3.2.2): of `//u@h:80/a`, `h`.
     pub fn host(&self) -> Option<Host<'a, C>>
         ensures { option_map text_of result ≡ host_of (reference_value self.now) }
     {
         Some(self.reference_parts().authority_parts()?.host)
     }
 
-    /// The port, if the reference has an authority with one (RFC 3986 section 3.2.3).
+    /// The port, if the reference has an authority with one (RFC 3986 section 3.2.3): of
+    /// `//h:80/a`, `80`.
     pub fn port(&self) -> Option<Port<'a>>
         ensures { option_map text_of result ≡ port_of (reference_value self.now) }
     {
         self.reference_parts().authority_parts()?.port
     }
 
-    /// The path, which may be empty.
+    /// The path, which may be empty (RFC 3986 section 3.3): of `//h/a?q`, `/a`.
     pub fn path(&self) -> Path<'a, C>
         ensures { text_of result ≡ spell_path (reference_value self.now).path }
     {
         self.reference_parts().path
     }
 
-    /// The query, if the reference has one.
+    /// The query, if the reference has one (RFC 3986 section 3.4): of `a?q#f`, `q`; of `a?`, an
+    /// empty one.
     pub fn query(&self) -> Option<Query<'a, C>>
         ensures { option_map text_of result ≡ (reference_value self.now).query }
     {
         self.reference_parts().query
     }
 
-    /// The fragment, if the reference has one.
+    /// The fragment, if the reference has one (RFC 3986 section 3.5): of `a?q#f`, `f`.
     pub fn fragment(&self) -> Option<Fragment<'a, C>>
         ensures { option_map text_of result ≡ (reference_value self.now).fragment }
     {
@@ -189,7 +195,8 @@ impl<'a, R: HeldRule, C: CharSet> Reference<'a, R, C> {
         }
     }
 
-    /// An owned copy, with the offsets of the components, found in one scan.
+    /// An owned copy, with the offsets of the components, found in one scan: of `s:/a` the path is
+    /// at 2 to 4. Out of memory, it returns `Memory`.
     pub fn to_owned(&self, alloc: Global) -> Result<ReferenceBuf<R, C>, Memory>
         ensures { IfOk result (λ copy. reference_buf_text copy ≡ reference_text self.now) }
     {
@@ -198,7 +205,9 @@ impl<'a, R: HeldRule, C: CharSet> Reference<'a, R, C> {
 }
 
 impl<'a, R: HasScheme<'a>, C: CharSet> Reference<'a, R, C> {
-    /// The components, as slices of the text: they are those of the one reference that spells it.
+    /// The components, as slices of the text (RFC 3986 section 3): of `//h/a?q` no scheme, the
+    /// authority `h`, the path `/a`, the query `q` and no fragment. No other reference spells this
+    /// text.
     #[tactic(auto, using(iref_buffer::proofs::HeldLemmas::spelled))]
     pub fn parts(&self) -> Parts<'a, R::Scheme, C>
         ensures texts { part_texts R.Scheme.text result
@@ -210,7 +219,7 @@ impl<'a, R: HasScheme<'a>, C: CharSet> Reference<'a, R, C> {
         Parts::of_text(self.as_str())
     }
 
-    /// The scheme: of a reference, if it has one.
+    /// The scheme (RFC 3986 section 3.1): of the URI `s:a`, `s`. A reference may have none, as `a`.
     pub fn scheme(&self) -> R::Scheme
         ensures { R.Scheme.text result ≡ (reference_value self.now).scheme }
     {
@@ -219,7 +228,7 @@ impl<'a, R: HasScheme<'a>, C: CharSet> Reference<'a, R, C> {
 }
 
 impl<R: HeldRule + AllowsEmpty, C: CharSet> Reference<'_, R, C> {
-    /// The empty reference.
+    /// The empty reference (RFC 3986 section 4.4), which is equal to `a/..`.
     pub fn empty() -> Self
         ensures { reference_text result ≡ [] }
     {

@@ -90,21 +90,22 @@ impl<'a, R: HeldRule, C: CharSet> Composed<'a, R, C> {
         Composed::of_components(MeasuredReference::relative_to(agrees, target, base))
     }
 
-    /// How many bytes the text has.
+    /// How many bytes the text has: `http://a/g` has 10.
     pub fn len(&self) -> usize
         ensures { result ≡ length self.now }
     {
         self.len
     }
 
-    /// Whether the text is empty.
+    /// Whether the text is empty: that of `s:` relative to `s:` is.
     pub fn is_empty(&self) -> bool
         ensures { result ≡ is_empty self.now }
     {
         self.len == 0
     }
 
-    /// Writes the text first into a buffer, whose other bytes stay as they are.
+    /// Writes the text first into a buffer, whose other bytes stay as they are: `s:g` in `abcde`
+    /// leaves `s:gde`.
     pub fn write_to(&self, buffer: &mut [u8])
         requires { length self.now ≤ length buffer.old }
         ensures { buffer.new ≡ self.now ++ drop (length self.now) buffer.old }
@@ -112,7 +113,8 @@ impl<'a, R: HeldRule, C: CharSet> Composed<'a, R, C> {
         self.components.write(&mut buffer[..self.len]);
     }
 
-    /// Appends the text to a vector. The room is taken once, and each byte is written once.
+    /// Appends the text to a vector: with `s:g`, `ok` becomes `oks:g`. The room is taken once, and
+    /// each byte is written once. At `Memory` the vector is as it was.
     pub fn append_to(&self, out: &mut Vec<u8>) -> Result<(), Memory>
         ensures ok { OnOk result (out.new.items ≡ out.old.items ++ self.now) }
         ensures err { OnErr result (out.new.items ≡ out.old.items) }
@@ -124,7 +126,8 @@ impl<'a, R: HeldRule, C: CharSet> Composed<'a, R, C> {
         Ok(())
     }
 
-    /// An owned value of the text. The room is taken once, and each byte is written once.
+    /// An owned value of the text, such as `s:g`. The room is taken once, and each byte is written
+    /// once. Out of memory, it returns `Memory`.
     pub fn to_owned(&self, alloc: Global) -> Result<ReferenceBuf<R, C>, Memory>
         ensures { IfOk result (λ owner. reference_buf_text owner ≡ self.now) }
     {

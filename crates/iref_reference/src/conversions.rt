@@ -16,7 +16,7 @@ use iref_grammar::chars::{CharSet, IriChars, UriChars};
 use std::convert::TryFrom;
 
 impl<'a, R: HeldRule> Reference<'a, R, UriChars> {
-    /// The reference of IRIs of the same text, with the same components.
+    /// The reference of IRIs of the same text, with the same components: `a?q` is one, too.
     #[tactic(auto, using(crate::proofs::ConversionLemmas::iri_reference))]
     pub fn as_iri_ref(&self) -> UriRef<'a, IriChars>
         ensures text { reference_text result ≡ reference_text self.now }
@@ -27,7 +27,7 @@ impl<'a, R: HeldRule> Reference<'a, R, UriChars> {
 }
 
 impl<'a> Uri<'a, UriChars> {
-    /// The IRI of the same text.
+    /// The IRI of the same text: each URI is one, such as `s:a`.
     #[tactic(auto, using(crate::proofs::ConversionLemmas::iri))]
     pub fn as_iri(&self) -> Uri<'a, IriChars>
         ensures { reference_text result ≡ reference_text self.now }
@@ -37,7 +37,7 @@ impl<'a> Uri<'a, UriChars> {
 }
 
 impl<'a> UriRef<'a, UriChars> {
-    /// The IRI of the same text, if the reference has a scheme.
+    /// The IRI of the same text, if the reference has a scheme, as `s:a` has; of `a`, None.
     pub fn as_iri(&self) -> Option<Uri<'a, IriChars>>
         ensures text { IfSome result (λ iri. reference_text iri ≡ reference_text self.now) }
         ensures scheme { is_some result ≡ is_some (reference_value self.now).scheme }
@@ -62,7 +62,8 @@ impl<'a, R: HeldRule, C: CharSet> Reference<'a, R, C> {
 }
 
 impl<'a, R: HeldRule> Reference<'a, R, IriChars> {
-    /// The URI of the same text, if it is one: it has a scheme and holds ASCII alone.
+    /// The URI of the same text, if it is one: it has a scheme and holds ASCII alone, as `s:a`; of
+    /// `s:é`, None.
     pub fn as_uri(&self) -> Option<Uri<'a, UriChars>>
         ensures { SomeIfIn (InUtf8 (IsUri uri_chars)) (reference_text self.now)
             reference_text result }
@@ -70,7 +71,8 @@ impl<'a, R: HeldRule> Reference<'a, R, IriChars> {
         self.converted()
     }
 
-    /// The reference of URIs of the same text, if it is one: it holds ASCII alone.
+    /// The reference of URIs of the same text, if it is one: it holds ASCII alone, as `a`; of `é`,
+    /// None.
     pub fn as_uri_ref(&self) -> Option<UriRef<'a, UriChars>>
         ensures { SomeIfIn (InUtf8 (IsUriReference uri_chars)) (reference_text self.now)
             reference_text result }
@@ -126,7 +128,8 @@ impl<'a> TryFrom<UriRef<'a, UriChars>> for Uri<'a, IriChars> {
 }
 
 impl<R: HeldRule> ReferenceBuf<R, UriChars> {
-    /// The reference of IRIs of the same text, borrowed, with the same components.
+    /// The reference of IRIs of the same text, borrowed, with the same components: `a?q` is one,
+    /// too.
     pub fn as_iri_ref(&self) -> UriRef<'_, IriChars>
         ensures text { reference_text result ≡ reference_buf_text self.now }
         ensures value { reference_value result ≡ reference_buf_value self.now }
@@ -134,7 +137,7 @@ impl<R: HeldRule> ReferenceBuf<R, UriChars> {
         self.as_reference().as_iri_ref()
     }
 
-    /// The reference of IRIs of the same text, with no copy.
+    /// The reference of IRIs of the same text, with no copy: `a?q` is one, too.
     #[tactic(auto, using(crate::proofs::ConversionLemmas::iri_reference))]
     pub fn into_iri_ref(self) -> UriRefBuf<IriChars>
         ensures { reference_buf_text result ≡ reference_buf_text self }
@@ -144,14 +147,14 @@ impl<R: HeldRule> ReferenceBuf<R, UriChars> {
 }
 
 impl UriBuf<UriChars> {
-    /// The IRI of the same text, borrowed.
+    /// The IRI of the same text, borrowed: each URI is one, such as `s:a`.
     pub fn as_iri(&self) -> Uri<'_, IriChars>
         ensures { reference_text result ≡ reference_buf_text self.now }
     {
         self.as_reference().as_iri()
     }
 
-    /// The IRI of the same text, with no copy.
+    /// The IRI of the same text, with no copy: each URI is one, such as `s:a`.
     #[tactic(auto, using(crate::proofs::ConversionLemmas::iri))]
     pub fn into_iri(self) -> UriBuf<IriChars>
         ensures { reference_buf_text result ≡ reference_buf_text self }
@@ -161,7 +164,8 @@ impl UriBuf<UriChars> {
 }
 
 impl UriRefBuf<UriChars> {
-    /// The IRI of the same text, borrowed, if the reference has a scheme.
+    /// The IRI of the same text, borrowed, if the reference has a scheme, as `s:a` has; of `a`,
+    /// None.
     pub fn as_iri(&self) -> Option<Uri<'_, IriChars>>
         ensures text { IfSome result (λ iri. reference_text iri ≡ reference_buf_text self.now) }
         ensures scheme { is_some result ≡ is_some (reference_buf_value self.now).scheme }
@@ -169,7 +173,8 @@ impl UriRefBuf<UriChars> {
         self.as_reference().as_iri()
     }
 
-    /// The IRI of the same text, with no copy, or the reference if it has no scheme.
+    /// The IRI of the same text, with no copy, if the reference has a scheme, as `s:a` has.
+    /// `InvalidIri` holds one without, such as `a`.
     pub fn try_into_iri(self) -> Result<UriBuf<IriChars>, InvalidIri<Self>>
         ensures { OwnerNarrowsToUri (λ error. error.0) self result }
     {
@@ -193,7 +198,8 @@ impl<R: HeldRule, C: CharSet> ReferenceBuf<R, C> {
 }
 
 impl<R: HeldRule> ReferenceBuf<R, IriChars> {
-    /// The URI of the same text, borrowed, if it is one: it has a scheme and holds ASCII alone.
+    /// The URI of the same text, borrowed, if it is one: it has a scheme and holds ASCII alone, as
+    /// `s:a`; of `s:é`, None.
     pub fn as_uri(&self) -> Option<Uri<'_, UriChars>>
         ensures { SomeIfIn (InUtf8 (IsUri uri_chars)) (reference_buf_text self.now)
             reference_text result }
@@ -201,7 +207,8 @@ impl<R: HeldRule> ReferenceBuf<R, IriChars> {
         self.as_reference().as_uri()
     }
 
-    /// The reference of URIs of the same text, borrowed, if it is one: it holds ASCII alone.
+    /// The reference of URIs of the same text, borrowed, if it is one: it holds ASCII alone, as
+    /// `a`; of `é`, None.
     pub fn as_uri_ref(&self) -> Option<UriRef<'_, UriChars>>
         ensures { SomeIfIn (InUtf8 (IsUriReference uri_chars)) (reference_buf_text self.now)
             reference_text result }
@@ -209,15 +216,16 @@ impl<R: HeldRule> ReferenceBuf<R, IriChars> {
         self.as_reference().as_uri_ref()
     }
 
-    /// The URI of the same text, with no copy, or else the owned value, if its text is no URI.
+    /// The URI of the same text, with no copy, if it is one, as `s:a`. `InvalidUri` holds another
+    /// owned value, such as `s:é`.
     pub fn try_into_uri(self) -> Result<UriBuf<UriChars>, InvalidUri<Self>>
         ensures { OwnerBecomesUri IsUri (λ error. error.0) self result }
     {
         self.converted().map_err(InvalidUri)
     }
 
-    /// The reference of URIs of the same text, with no copy, or else the owned value, if its text
-    /// is no reference of URIs.
+    /// The reference of URIs of the same text, with no copy, if it is one, as `a`. `InvalidUriRef`
+    /// holds another owned value, such as `é`.
     pub fn try_into_uri_ref(self) -> Result<UriRefBuf<UriChars>, InvalidUriRef<Self>>
         ensures { OwnerBecomesUri IsUriReference (λ error. error.0) self result }
     {

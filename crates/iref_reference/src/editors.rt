@@ -74,7 +74,8 @@ impl<R: HeldRule, C: CharSet> Target<AuthorityPart, C> for ReferenceBuf<R, C> {
 impl<R: HeldRule, C: CharSet> ReferenceBuf<R, C> {
     ghost use Rattle.iref_component.specs.AuthorityEdits as authority;
 
-    /// The editor of the authority, if there is one: each of its edits is one of the reference, and
+    /// The editor of the authority, if there is one (RFC 3986 section 3.2): on `//h/a?q`,
+    /// `set_port` with `80` leaves `//h:80/a?q`. Each of its edits is one of the reference, and
     /// keeps the other components as they are.
     pub fn authority_mut(&mut self) -> Option<AuthorityMut<'_, C, ReferenceBuf<R, C>>>
         ensures* unchanged_if_none { sem 𝓛 (RestsIfNone (the_row R.row C.row R.Key.row
@@ -94,8 +95,9 @@ impl<R: HeldRule, C: CharSet> ReferenceBuf<R, C> {
         Some(AuthorityMut::of_target(self, range))
     }
 
-    /// The editor of the path: each of its edits is one of the reference, and keeps the other
-    /// components as they are.
+    /// The editor of the path (RFC 3986 section 3.3): on `http://h/a?q`, `push` with `b` leaves
+    /// `http://h/a/b?q`. Each of its edits is one of the reference, and keeps the other components
+    /// as they are.
     pub fn path_mut(&mut self) -> PathMut<'_, C, ReferenceBuf<R, C>>
         ensures same_reference { Borrows result self.entry.ghost_name }
         ensures editor { IsEditorOf result (reference_buf_text self.old)

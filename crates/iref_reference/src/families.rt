@@ -10,7 +10,7 @@ use iref_error::InvalidUri;
 use iref_grammar::chars::{IriChars, UriChars};
 
 impl<'a> Uri<'a, UriChars> {
-    /// The reference of the same text, which has a scheme.
+    /// The reference of the same text, which has a scheme: of the URI `s:a`, the reference `s:a`.
     pub fn as_uri_ref(&self) -> UriRef<'a, UriChars>
         ensures text { reference_text result ≡ reference_text self.now }
         ensures scheme { is_some (reference_value result).scheme ≡ true }
@@ -20,7 +20,7 @@ impl<'a> Uri<'a, UriChars> {
 }
 
 impl<'a> Uri<'a, IriChars> {
-    /// The reference of the same text, which has a scheme.
+    /// The reference of the same text, which has a scheme: of the IRI `s:é`, the reference `s:é`.
     pub fn as_iri_ref(&self) -> UriRef<'a, IriChars>
         ensures text { reference_text result ≡ reference_text self.now }
         ensures scheme { is_some (reference_value result).scheme ≡ true }
@@ -30,7 +30,7 @@ impl<'a> Uri<'a, IriChars> {
 }
 
 impl<'a> UriRef<'a, UriChars> {
-    /// The URI of the same text, if the reference has a scheme.
+    /// The URI of the same text, if the reference has a scheme, as `s:a` has; of `a`, None.
     pub fn as_uri(&self) -> Option<Uri<'a, UriChars>>
         ensures text { IfSome result (λ uri. reference_text uri ≡ reference_text self.now) }
         ensures scheme { is_some result ≡ is_some (reference_value self.now).scheme }
@@ -40,7 +40,7 @@ impl<'a> UriRef<'a, UriChars> {
 }
 
 impl<'a> UriRef<'a, IriChars> {
-    /// The IRI of the same text, if the reference has a scheme.
+    /// The IRI of the same text, if the reference has a scheme, as `s:é` has; of `é`, None.
     pub fn as_iri(&self) -> Option<Uri<'a, IriChars>>
         ensures text { IfSome result (λ iri. reference_text iri ≡ reference_text self.now) }
         ensures scheme { is_some result ≡ is_some (reference_value self.now).scheme }
@@ -50,14 +50,15 @@ impl<'a> UriRef<'a, IriChars> {
 }
 
 impl UriBuf<UriChars> {
-    /// The borrowed value.
+    /// The borrowed URI, such as `s:a`.
     pub fn as_uri(&self) -> Uri<'_, UriChars>
         ensures { reference_text result ≡ reference_buf_text self.now }
     {
         self.as_reference()
     }
 
-    /// The reference of the same text, borrowed, which has a scheme.
+    /// The reference of the same text, borrowed, which has a scheme: of the URI `s:a`, the
+    /// reference `s:a`.
     pub fn as_uri_ref(&self) -> UriRef<'_, UriChars>
         ensures text { reference_text result ≡ reference_buf_text self.now }
         ensures scheme { is_some (reference_value result).scheme ≡ true }
@@ -65,7 +66,7 @@ impl UriBuf<UriChars> {
         self.as_reference().to_reference()
     }
 
-    /// The reference of the same text, with no copy.
+    /// The reference of the same text, with no copy: of the URI `s:a`, the reference `s:a`.
     pub fn into_uri_ref(self) -> UriRefBuf<UriChars>
         ensures { reference_buf_text result ≡ reference_buf_text self }
     {
@@ -74,14 +75,15 @@ impl UriBuf<UriChars> {
 }
 
 impl UriBuf<IriChars> {
-    /// The borrowed value.
+    /// The borrowed IRI, such as `s:é`.
     pub fn as_iri(&self) -> Uri<'_, IriChars>
         ensures { reference_text result ≡ reference_buf_text self.now }
     {
         self.as_reference()
     }
 
-    /// The reference of the same text, borrowed, which has a scheme.
+    /// The reference of the same text, borrowed, which has a scheme: of the IRI `s:é`, the
+    /// reference `s:é`.
     pub fn as_iri_ref(&self) -> UriRef<'_, IriChars>
         ensures text { reference_text result ≡ reference_buf_text self.now }
         ensures scheme { is_some (reference_value result).scheme ≡ true }
@@ -89,7 +91,7 @@ impl UriBuf<IriChars> {
         self.as_reference().to_reference()
     }
 
-    /// The reference of the same text, with no copy.
+    /// The reference of the same text, with no copy: of the IRI `s:é`, the reference `s:é`.
     pub fn into_iri_ref(self) -> UriRefBuf<IriChars>
         ensures { reference_buf_text result ≡ reference_buf_text self }
     {
@@ -98,14 +100,15 @@ impl UriBuf<IriChars> {
 }
 
 impl UriRefBuf<UriChars> {
-    /// The borrowed value.
+    /// The borrowed reference, such as `a?q`.
     pub fn as_uri_ref(&self) -> UriRef<'_, UriChars>
         ensures { reference_text result ≡ reference_buf_text self.now }
     {
         self.as_reference()
     }
 
-    /// The URI of the same text, borrowed, if the reference has a scheme.
+    /// The URI of the same text, borrowed, if the reference has a scheme, as `s:a` has; of `a`,
+    /// None.
     pub fn as_uri(&self) -> Option<Uri<'_, UriChars>>
         ensures text { IfSome result (λ uri. reference_text uri ≡ reference_buf_text self.now) }
         ensures scheme { is_some result ≡ is_some (reference_buf_value self.now).scheme }
@@ -113,7 +116,8 @@ impl UriRefBuf<UriChars> {
         self.as_reference().to_uri_rule()
     }
 
-    /// The URI of the same text, with no copy, or the reference if it has no scheme.
+    /// The URI of the same text, with no copy, if the reference has a scheme, as `s:a` has.
+    /// `InvalidUri` holds one without, such as `a`.
     pub fn try_into_uri(self) -> Result<UriBuf<UriChars>, InvalidUri<Self>>
         ensures { OwnerNarrowsToUri (λ error. error.0) self result }
     {
@@ -122,14 +126,15 @@ impl UriRefBuf<UriChars> {
 }
 
 impl UriRefBuf<IriChars> {
-    /// The borrowed value.
+    /// The borrowed reference, such as `é?q`.
     pub fn as_iri_ref(&self) -> UriRef<'_, IriChars>
         ensures { reference_text result ≡ reference_buf_text self.now }
     {
         self.as_reference()
     }
 
-    /// The IRI of the same text, borrowed, if the reference has a scheme.
+    /// The IRI of the same text, borrowed, if the reference has a scheme, as `s:é` has; of `é`,
+    /// None.
     pub fn as_iri(&self) -> Option<Uri<'_, IriChars>>
         ensures text { IfSome result (λ iri. reference_text iri ≡ reference_buf_text self.now) }
         ensures scheme { is_some result ≡ is_some (reference_buf_value self.now).scheme }
@@ -137,7 +142,8 @@ impl UriRefBuf<IriChars> {
         self.as_reference().to_uri_rule()
     }
 
-    /// The IRI of the same text, with no copy, or the reference if it has no scheme.
+    /// The IRI of the same text, with no copy, if the reference has a scheme, as `s:é` has.
+    /// `InvalidIri` holds one without, such as `é`.
     pub fn try_into_iri(self) -> Result<UriBuf<IriChars>, InvalidUri<Self>>
         ensures { OwnerNarrowsToUri (λ error. error.0) self result }
     {

@@ -42,7 +42,8 @@ pub type UriRefBuf<C> = ReferenceBuf<ReferenceRule, C>;
 pub type UriBuf<C> = ReferenceBuf<UriRule, C>;
 
 impl<R: HeldRule + Refuses<String>, C: CharSet> ReferenceBuf<R, C> {
-    /// The reference of this text, with no copy, or the text in the rule's error.
+    /// The reference of this text, with no copy (RFC 3986 section 4.1): `UriRefBuf::new` takes
+    /// `../b?c`. The error of a text outside the rule, such as `a b`, holds that text.
     pub fn new(text: String) -> Result<Self, R::Error>
         ensures { ParsesReferenceBuf (R.rule C.tests) R.refused (string_bytes text) text result }
     {
@@ -54,7 +55,9 @@ impl<R: HeldRule + Refuses<String>, C: CharSet> ReferenceBuf<R, C> {
 }
 
 impl<R: HeldRule + Refuses<Vec<u8>>, C: CharSet> ReferenceBuf<R, C> {
-    /// The reference of these bytes of UTF-8, with no copy, or the bytes in the rule's error.
+    /// The reference of these bytes of UTF-8, with no copy (RFC 3986 section 4.1):
+    /// `UriRefBuf::from_bytes` takes those of `../b?c`. The error of other bytes, such as those of
+    /// `a b`, holds them.
     pub fn from_bytes(bytes: Vec<u8>) -> Result<Self, R::Error>
         ensures { ParsesReferenceBuf (R.rule C.tests) R.refused bytes.items bytes result }
     {
@@ -80,7 +83,7 @@ impl<R: HeldRule, C: CharSet> ReferenceBuf<R, C> {
         Reference::new_unchecked(self.as_str())
     }
 
-    /// The text.
+    /// The text: of the URI `s:a`, `s:a`.
     pub fn as_str(&self) -> &str
         ensures text { result.now ≡ reference_buf_text self.now }
         ensures in_rule { R.test C.tests result.now ≡ true }
@@ -88,14 +91,15 @@ impl<R: HeldRule, C: CharSet> ReferenceBuf<R, C> {
         self.held.as_str()
     }
 
-    /// The bytes of the text.
+    /// The bytes of the text: of `s:a` they are 115, 58 and 97.
     pub fn as_bytes(&self) -> &[u8]
         ensures { result.now ≡ reference_buf_text self.now }
     {
         self.as_str().as_bytes()
     }
 
-    /// Where the components are, in bytes: those of the one reference that spells the text.
+    /// Where the components are, in bytes (RFC 3986 section 3): of `s:/a?q` the path is at 2 to 4,
+    /// the query at 5 to 6. No other reference spells this text.
     pub fn offsets(&self) -> Offsets
         ensures { result ≡ offsets_of (reference_buf_text self.now) }
     {
@@ -111,7 +115,7 @@ impl<R: HeldRule, C: CharSet> ReferenceBuf<R, C> {
         UriRefParts::from_slices(self.held.slices())
     }
 
-    /// The authority, if the reference has one.
+    /// The authority, if the reference has one (RFC 3986 section 3.2): of `//u@h:80/a`, `u@h:80`.
     pub fn authority(&self) -> Option<Authority<'_, C>>
         ensures { option_map text_of result
             ≡ option_map spell_authority (reference_buf_value self.now).authority }
@@ -119,42 +123,45 @@ impl<R: HeldRule, C: CharSet> ReferenceBuf<R, C> {
         self.reference_parts().authority
     }
 
-    /// The user info, if the reference has an authority with one (RFC 3986 section 3.2.1).
+    /// The user info, if the reference has an authority with one (RFC 3986 section 3.2.1): of
+    /// `//u@h/a`, `u`.
     pub fn user_info(&self) -> Option<UserInfo<'_, C>>
         ensures { option_map text_of result ≡ user_info_of (reference_buf_value self.now) }
     {
         self.reference_parts().authority_parts()?.user_info
     }
 
-    /// The host, if the reference has an authority (RFC 3986 section 3.2.2).
+    /// The host, if the reference has an authority (RFC 3986 section 3.2.2): of `//u@h:80/a`, `h`.
     pub fn host(&self) -> Option<Host<'_, C>>
         ensures { option_map text_of result ≡ host_of (reference_buf_value self.now) }
     {
         Some(self.reference_parts().authority_parts()?.host)
     }
 
-    /// The port, if the reference has an authority with one (RFC 3986 section 3.2.3).
+    /// The port, if the reference has an authority with one (RFC 3986 section 3.2.3): of
+    /// `//h:80/a`, `80`.
     pub fn port(&self) -> Option<Port<'_>>
         ensures { option_map text_of result ≡ port_of (reference_buf_value self.now) }
     {
         self.reference_parts().authority_parts()?.port
     }
 
-    /// The path, which may be empty.
+    /// The path, which may be empty (RFC 3986 section 3.3): of `//h/a?q`, `/a`.
     pub fn path(&self) -> Path<'_, C>
         ensures { text_of result ≡ spell_path (reference_buf_value self.now).path }
     {
         self.reference_parts().path
     }
 
-    /// The query, if the reference has one.
+    /// The query, if the reference has one (RFC 3986 section 3.4): of `a?q#f`, `q`; of `a?`, an
+    /// empty one.
     pub fn query(&self) -> Option<Query<'_, C>>
         ensures { option_map text_of result ≡ (reference_buf_value self.now).query }
     {
         self.reference_parts().query
     }
 
-    /// The fragment, if the reference has one.
+    /// The fragment, if the reference has one (RFC 3986 section 3.5): of `a?q#f`, `f`.
     pub fn fragment(&self) -> Option<Fragment<'_, C>>
         ensures { option_map text_of result ≡ (reference_buf_value self.now).fragment }
     {
@@ -188,7 +195,7 @@ impl<R: HeldRule, C: CharSet> ReferenceBuf<R, C> {
         Reference::new_unchecked(self.held.base_text())
     }
 
-    /// The text, with no copy.
+    /// The text, with no copy: of the URI `s:a`, `s:a`.
     pub fn into_string(self) -> String
         ensures text { string_bytes result ≡ reference_buf_text self }
         ensures in_rule { R.test C.tests (string_bytes result) ≡ true }
@@ -196,7 +203,7 @@ impl<R: HeldRule, C: CharSet> ReferenceBuf<R, C> {
         self.held.into_string()
     }
 
-    /// The bytes of the text, with no copy.
+    /// The bytes of the text, with no copy: of `s:a` they are 115, 58 and 97.
     pub fn into_bytes(self) -> Vec<u8>
         ensures { result.items ≡ reference_buf_text self }
     {
@@ -216,7 +223,9 @@ impl<R: HeldRule, C: CharSet> ReferenceBuf<R, C> {
 }
 
 impl<'a, R: HasScheme<'a>, C: CharSet> ReferenceBuf<R, C> {
-    /// The components, as slices of the text: they are those of the one reference that spells it.
+    /// The components, as slices of the text (RFC 3986 section 3): of `//h/a?q` no scheme, the
+    /// authority `h`, the path `/a`, the query `q` and no fragment. No other reference spells this
+    /// text.
     #[tactic(auto, using(iref_buffer::proofs::HeldLemmas::spelled))]
     pub fn parts(&'a self) -> Parts<'a, R::Scheme, C>
         ensures texts { part_texts R.Scheme.text result
@@ -228,7 +237,7 @@ impl<'a, R: HasScheme<'a>, C: CharSet> ReferenceBuf<R, C> {
         Parts::from_slices(self.held.slices())
     }
 
-    /// The scheme: of a reference, if it has one.
+    /// The scheme (RFC 3986 section 3.1): of the URI `s:a`, `s`. A reference may have none, as `a`.
     pub fn scheme(&'a self) -> R::Scheme
         ensures { R.Scheme.text result ≡ (reference_buf_value self.now).scheme }
     {
@@ -237,7 +246,7 @@ impl<'a, R: HasScheme<'a>, C: CharSet> ReferenceBuf<R, C> {
 }
 
 impl<C: CharSet> UriRefBuf<C> {
-    /// The empty reference, which takes no memory.
+    /// The empty reference (RFC 3986 section 4.4), which is equal to `a/..`. It takes no memory.
     #[tactic(auto, using(iref_grammar::proofs::EmptyLemmas::is_reference_empty))]
     pub fn empty(alloc: Global) -> Self
         ensures { reference_buf_text result ≡ [] }

@@ -129,7 +129,8 @@ pub type UriRefParts<'a, C> = Parts<'a, Option<Scheme<'a>>, C>;
 pub type UriParts<'a, C> = Parts<'a, Scheme<'a>, C>;
 
 impl<'a, S: SchemePart<'a>, C: CharSet> Parts<'a, S, C> {
-    /// The parts of the authority, if there is one (RFC 3986 section 3.2).
+    /// The parts of the authority, if there is one (RFC 3986 section 3.2): of `u@h:80` the user
+    /// info `u`, the host `h` and the port `80`.
     pub fn authority_parts(&self) -> Option<AuthorityParts<'a, C>>
         ensures { option_map authority_parts_value result
             ≡ (parts_value S.text self.now).authority }

@@ -19,8 +19,10 @@ use iref_error::Memory;
 use iref_grammar::chars::CharSet;
 
 impl<R: HeldRule, C: CharSet> ReferenceBuf<R, C> {
-    /// Replaces, adds or removes the authority; removing takes no memory. Where one is added, the
-    /// path becomes absolute; where it is removed, a path that begins with `//` is guarded.
+    /// Replaces, adds or removes the authority (RFC 3986 section 3.2); removing takes no memory.
+    /// Where one is added, the path becomes absolute: `a` with `h` becomes `//h/a`. Where it is
+    /// removed, a path that begins with `//` is guarded: `//h//a` becomes `/.//a`. At `Memory`
+    /// nothing has changed.
     pub fn set_authority(&mut self, authority: Option<Authority<'_, C>>) -> Result<(), Memory>
         ensures set { Edits (with_authority (option_map read_authority
             (option_map text_of authority.entry))) self.old self.new result }
@@ -29,7 +31,8 @@ impl<R: HeldRule, C: CharSet> ReferenceBuf<R, C> {
         self.held.set_authority(text_of(authority))
     }
 
-    /// Replaces the path, with a guard where it would be read as something else.
+    /// Replaces the path, with a guard where it would be read as something else (RFC 3986 section
+    /// 3.3): `x` with `1:2` becomes `./1:2`. At `Memory` nothing has changed.
     pub fn set_path(&mut self, path: Path<'_, C>) -> Result<(), Memory>
         ensures { Edits (with_path (path_value path.entry)) self.old self.new result }
     {
@@ -48,7 +51,8 @@ impl<R: HeldRule, C: CharSet> ReferenceBuf<R, C> {
         self.held.set_and_normalize_path(path.as_str())
     }
 
-    /// Replaces, adds or removes the query; removing takes no memory.
+    /// Replaces, adds or removes the query (RFC 3986 section 3.4): `a` with `q` becomes `a?q`.
+    /// Removing takes no memory. At `Memory` nothing has changed.
     pub fn set_query(&mut self, query: Option<Query<'_, C>>) -> Result<(), Memory>
         ensures set { Edits (with_query (option_map text_of query.entry)) self.old self.new
             result }
@@ -57,7 +61,8 @@ impl<R: HeldRule, C: CharSet> ReferenceBuf<R, C> {
         self.held.set_query(text_of(query))
     }
 
-    /// Replaces, adds or removes the fragment; removing takes no memory.
+    /// Replaces, adds or removes the fragment (RFC 3986 section 3.5): `a` with `f` becomes `a#f`.
+    /// Removing takes no memory. At `Memory` nothing has changed.
     pub fn set_fragment(&mut self, fragment: Option<Fragment<'_, C>>) -> Result<(), Memory>
         ensures set { Edits (with_fragment (option_map text_of fragment.entry)) self.old self.new
             result }
@@ -68,8 +73,9 @@ impl<R: HeldRule, C: CharSet> ReferenceBuf<R, C> {
 }
 
 impl<C: CharSet> UriRefBuf<C> {
-    /// Replaces, adds or removes the scheme; removing takes no memory. Where it is removed, a path
-    /// whose first segment holds a `:` is guarded.
+    /// Replaces, adds or removes the scheme (RFC 3986 section 3.1); removing takes no memory. Where
+    /// it is removed, a path whose first segment holds a `:` is guarded: `s:a:b` becomes `./a:b`.
+    /// At `Memory` nothing has changed.
     pub fn set_scheme(&mut self, scheme: Option<Scheme<'_>>) -> Result<(), Memory>
         ensures set { Edits (with_scheme (option_map text_of scheme.entry)) self.old self.new
             result }
@@ -80,7 +86,8 @@ impl<C: CharSet> UriRefBuf<C> {
 }
 
 impl<C: CharSet> UriBuf<C> {
-    /// Replaces the scheme.
+    /// Replaces the scheme (RFC 3986 section 3.1): `http://a` with `s` becomes `s://a`. At `Memory`
+    /// nothing has changed.
     pub fn set_scheme(&mut self, scheme: Scheme<'_>) -> Result<(), Memory>
         ensures { Edits (with_scheme (Some (text_of scheme.entry))) self.old self.new result }
     {

@@ -1,4 +1,4 @@
-//! Owners of the text of a URL.
+//! Owned values of the text of a URL.
 ghost use Rattle.std.specs.Prelude.{◌≡◌};
 ghost use Rattle.iref_buffer.specs.{Text, InUtf8, Parses};
 ghost use Rattle.iref_reference.specs.References.{reference_buf_text};

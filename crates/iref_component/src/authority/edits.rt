@@ -46,7 +46,7 @@ impl<C: CharSet> AuthorityBuf<C> {
     ghost use Rattle.iref_component.specs.AuthorityEdits.{Borrows, edited_bytes};
     ghost use Rattle.iref_component.specs.AuthorityEdits.{authority_mut_start, authority_mut_end};
 
-    /// The editor of all of it.
+    /// The editor of all of it: with it, `set_port` with `80` turns `h` into `h:80`.
     pub fn as_authority_mut(&mut self) -> AuthorityMut<'_, C, AuthorityBuf<C>>
         ensures same_reference { Borrows result self.entry.ghost_name }
         ensures bytes { edited_bytes result ≡ text_of self.old }
@@ -57,7 +57,8 @@ impl<C: CharSet> AuthorityBuf<C> {
         AuthorityMut::of_target(self, 0..end)
     }
 
-    /// Replaces the authority, in the room of the old one where it fits.
+    /// Replaces the authority, in the room of the old one where it fits: `u@h:80` by `g` is `g`. At
+    /// `Memory` nothing has changed.
     pub fn replace(&mut self, authority: Authority<'_, C>) -> Result<(), Memory>
         ensures ok { OnOk result (text_of self.new ≡ text_of authority.entry) }
         ensures err { OnErr result (text_of self.new ≡ text_of self.old) }
@@ -75,7 +76,8 @@ impl<C: CharSet> AuthorityBuf<C> {
         self.as_authority_mut().set_user_info(user_info)
     }
 
-    /// Replaces the host.
+    /// Replaces the host (RFC 3986 section 3.2.2): `u@h:80` with `g` becomes `u@g:80`. At `Memory`
+    /// nothing has changed.
     pub fn set_host(&mut self, host: Host<'_, C>) -> Result<(), Memory>
         ensures { EditsOwner (with_host (text_of host.entry)) self.old self.new result }
     {
@@ -93,7 +95,7 @@ impl<C: CharSet> AuthorityBuf<C> {
     }
 
     /// Sets the port to a number, in decimal digits without leading zeros, or removes it, which
-    /// takes no memory.
+    /// takes no memory: `h` with 80 becomes `h:80`. At `Memory` nothing has changed.
     pub fn set_port_u32(&mut self, port: Option<u32>) -> Result<(), Memory>
         ensures edit { EditsOwner (with_port (option_map port_text port)) self.old self.new result }
         ensures none { IsNone port → IsOk result }

@@ -56,7 +56,7 @@ impl<C: CharSet> PathTarget<C> for PathBuf<C> {
 }
 
 impl<C: CharSet> PathBuf<C> {
-    /// The editor of the path.
+    /// The editor of the path: with it, `push` with `b` turns `/a` into `/a/b`.
     pub fn as_path_mut(&mut self) -> PathMut<'_, C, PathBuf<C>>
         ensures same_reference { Borrows result self.entry.ghost_name }
         ensures editor { IsEditorOf result (text_of self.old) alone
@@ -65,7 +65,8 @@ impl<C: CharSet> PathBuf<C> {
         PathMut::from_path(self)
     }
 
-    /// Appends a segment as it is, `.` and `..` too.
+    /// Appends a segment as it is, `.` and `..` too: `a` with `..` becomes `a/..`. At `Memory`
+    /// nothing has changed.
     pub fn lazy_push(&mut self, segment: Segment<'_, C>) -> Result<(), Memory>
         ensures { EditsOwner (step.lazy_pushed alone (text_of segment.entry))
             self.old self.new result }
@@ -92,7 +93,8 @@ impl<C: CharSet> PathBuf<C> {
         self.as_path_mut().pop()
     }
 
-    /// Pops, and returns whether the path changed: an absolute path without segments stays.
+    /// Pops, and returns whether the path changed: `/a` becomes `/`, an absolute path without
+    /// segments stays. At `Memory` nothing has changed.
     pub fn try_pop(&mut self) -> Result<bool, Memory>
         ensures edit { EditsOwner (step.popped alone) self.old self.new result }
         ensures changed { IfOk result (λ changed. changed ≡ not ((path_value self.old).absolute
@@ -101,7 +103,8 @@ impl<C: CharSet> PathBuf<C> {
         self.as_path_mut().try_pop()
     }
 
-    /// Replaces the path, with a guard where it would be read as something else.
+    /// Replaces the path, with a guard where it would be read as something else: alone, `x` by
+    /// `1:2` is `./1:2`. At `Memory` nothing has changed.
     pub fn replace(&mut self, path: Path<'_, C>) -> Result<(), Memory>
         ensures { EditsOwner (step.replaced alone (path_value path.entry))
             self.old self.new result }

@@ -11,7 +11,8 @@ use iref_error::{InvalidPath, InvalidSegment};
 use iref_grammar::chars::CharSet;
 
 impl<C: CharSet> PathBuf<C> {
-    /// Appends a text as a segment, as it is.
+    /// Appends a text as a segment, as it is: `a` with `..` becomes `a/..`. `Invalid` holds a text
+    /// that is no segment, such as `b/c`.
     pub fn try_lazy_push<'t>(&mut self, segment: &'t str) -> Tried<InvalidSegment<&'t str>>
         ensures edit { EditsOwner (step.lazy_pushed alone segment.now) self.old self.new result }
         ensures text { Tests (IsSegment C.tests) segment.entry (λ error. error.0) result }
@@ -55,7 +56,8 @@ impl<C: CharSet> PathBuf<C> {
         self.as_path_mut().try_append(segments)
     }
 
-    /// Replaces the path by that of a text, with a guard where it would be read as something else.
+    /// Replaces the path by that of a text, with a guard where it would be read as something else:
+    /// alone, `x` by `1:2` is `./1:2`. `Invalid` holds a text that is no path, such as `a?b`.
     pub fn try_replace<'t>(&mut self, path: &'t str) -> Tried<InvalidPath<&'t str>>
         ensures edit { EditsOwner (step.replaced alone (read_path path.now))
             self.old self.new result }

@@ -14,8 +14,9 @@ use iref_grammar::context::PathContext;
 use std::ops::Range;
 
 impl<'a, C: CharSet> PathMut<'a, C, Vec<u8>> {
-    /// The editor of the path in a range of the bytes, by what stands before it, or the bytes of
-    /// the range.
+    /// The editor of the path in a range of the bytes, by what stands before it: of
+    /// `http://h/a/b?q` that at 8 to 12. The error holds the bytes of a range that are no path,
+    /// such as `?q`.
     pub fn new(buffer: &'a mut Vec<u8>, range: Range<usize>) -> Result<Self, InvalidPath<&'a [u8]>>
         requires start_le_end { range.start ≤ range.end }
         requires in_bounds { range.end ≤ vec_len buffer.old }
@@ -34,7 +35,8 @@ impl<'a, C: CharSet> PathMut<'a, C, Vec<u8>> {
         }
     }
 
-    /// The editor of a range of bytes that is known to be a path.
+    /// The editor of a range of bytes that is known to be a path, as that of `http://h/a/b?q` at 8
+    /// to 12.
     pub fn new_unchecked(buffer: &'a mut Vec<u8>, range: Range<usize>) -> Self
         requires start_le_end { range.start ≤ range.end }
         requires in_bounds { range.end ≤ vec_len buffer.old }

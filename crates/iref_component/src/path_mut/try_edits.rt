@@ -16,7 +16,8 @@ use iref_path_text::names::is_name;
 use iref_path_text::part::PathPart;
 
 impl<C: CharSet, T: Target<PathPart, C>> PathMut<'_, C, T> {
-    /// Appends a text as a segment, as it is.
+    /// Appends a text as a segment, as it is: `a` with `..` becomes `a/..`. `Invalid` holds a text
+    /// that is no segment, such as `b/c`.
     pub fn try_lazy_push<'t>(&mut self, segment: &'t str) -> Tried<InvalidSegment<&'t str>>
         ensures edit { EditsBy step.lazy_pushed segment.now self.old self.new result }
         ensures text { Tests (IsSegment C.tests) segment.entry (λ error. error.0) result }
@@ -76,7 +77,8 @@ impl<C: CharSet, T: Target<PathPart, C>> PathMut<'_, C, T> {
         }
     }
 
-    /// Replaces the path by that of a text, with a guard where it would be read as something else.
+    /// Replaces the path by that of a text, with a guard where it would be read as something else:
+    /// alone, `x` by `1:2` is `./1:2`. `Invalid` holds a text that is no path, such as `a?b`.
     pub fn try_replace<'t>(&mut self, path: &'t str) -> Tried<InvalidPath<&'t str>>
         ensures edit { EditsBy step.replaced (read_path path.now) self.old self.new result }
         ensures text { Tests (IsPath C.tests) path.entry (λ error. error.0) result }

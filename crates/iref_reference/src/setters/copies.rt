@@ -60,7 +60,7 @@ impl<R: HeldRule, C: CharSet> Reference<'_, R, C> {
         Ok(copy)
     }
 
-    /// A copy with another query or none.
+    /// A copy with another query or none: of `a?q`, with `r`, `a?r`.
     pub fn with_query(&self, alloc: Global, query: Option<Query<'_, C>>) -> Copied<R, C>
         ensures { StepsFrom (with_query (option_map text_of query.entry)) self.now result }
     {
@@ -69,7 +69,7 @@ impl<R: HeldRule, C: CharSet> Reference<'_, R, C> {
         Ok(copy)
     }
 
-    /// A copy with another fragment or none.
+    /// A copy with another fragment or none: of `a#f`, with none, `a`.
     pub fn with_fragment(&self, alloc: Global, fragment: Option<Fragment<'_, C>>) -> Copied<R, C>
         ensures { StepsFrom (with_fragment (option_map text_of fragment.entry))
             self.now result }

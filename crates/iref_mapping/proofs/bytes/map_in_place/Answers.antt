@@ -19,7 +19,7 @@ grown old room now from count f k e long =
     long ∙ (λ i. f i + 2 * k i) ∙ sym (ap (λ t. length (mapped t)) front ∙ length-mapped old)
 
 pub map_to_the_end-requires-clause-room : goal.map_to_the_end-requires-clause-room
-map_to_the_end-requires-clause-room g c =
+map_to_the_end-requires-clause-room c =
     let n = (length c.as_slice-from.result.now) + 2 * c.args.escaped in
     grown c.args.bytes.now.items (replicate (n - vec_len c.reserve.new.self) 0) c.as_mut_slice.result.now (length c.as_slice-from.result.now) c.args.escaped
     (ap length c.as_slice-from.ensures.value) c.requires

@@ -3,7 +3,7 @@ use Rattle.std.specs.Cmp.{booleans_Decides}
 use Rattle.std.proofs.lemmas.Bool.{not-false, not-true}
 use Rattle.iref_model.proofs.CountedLemmas.{flags_apart}
 use Rattle.iref_path_text.specs.Unread.{path_unread}
-use Rattle.iref_path_text.proofs.UnreadLemmas.{counted_by_items, first_alike, first_apart, of_paths}
+use Rattle.iref_path_text.proofs.UnreadLemmas.{counted_by_items, first_same, first_apart, of_paths}
 use Rattle.iref_path_text.proofs.equality.path_texts_eq_counted.Goals as goal
 
 pub returns-then-left-right-clause-counted : goal.returns-then-left-right-clause-counted
@@ -33,7 +33,7 @@ returns-clause-counted c =
     let done = c.items_eq in
     of_paths u v _ _ c.new-left.ensures.path c.new-right.ensures.path done.result _
     (counted_by_items u v ((booleans_Decides _ _).0 (not-false _ c.if-left-right.false)) done.result done.new.left done.new.right
-    (first_alike u v left.new.self right.new.self left.result right.result left.ensures.item right.ensures.item done.result done.new.left done.new.right c.if-not-decoded_eq.ensures done.ensures.answer)
+    (first_same u v left.new.self right.new.self left.result right.result left.ensures.item right.ensures.item done.result done.new.left done.new.right c.if-not-decoded_eq.ensures done.ensures.answer)
     c.args.steps.now done.new.steps (record {
       left_shorter = omega (arith, left.ensures.counted, done.ensures.counted);
       right_shorter = omega (arith, right.ensures.counted, done.ensures.counted);
