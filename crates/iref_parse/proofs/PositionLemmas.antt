@@ -103,51 +103,53 @@ pub position_from_clear : (first second : ℕ) (bytes : List ℕ) (at : ℕ) →
 position_from_clear first second bytes at h other =
     sym (position_or_len_is (char_set_contains (first ∷ second ∷ [])) bytes at 0 h.within (λ k l. clear_if _ (h.each k l)) (λ l. marked_if _ (other l)))
 
--- the first eight bytes and the last eight, of 8 to 15
-module _ (first second : ℕ) (bytes : List ℕ) (least : 8 ≤ length bytes) (most : length bytes < 16) where
-  abbrev pub ends : List ℕ
-  ends = take 8 bytes ++ drop (length bytes - 8) bytes
+-- the first eight bytes and the last eight, which may be some of the first
+abbrev pub ends : List ℕ → List ℕ
+ends bytes = take 8 bytes ++ drop (length bytes - 8) bytes
 
-  low_end : (k : ℕ) → k < 8 → get_or bytes k 0 ≡ get_or ends k 0
+module _ (bytes : List ℕ) (least : 8 ≤ length bytes) where
+  pub low_end : (k : ℕ) → k < 8 → get_or bytes k 0 ≡ get_or (ends bytes) k 0
   low_end k l = sym (get_or_append_left (take 8 bytes) (drop (length bytes - 8) bytes) 0 k (omega (arith, l, length-take-le 8 bytes least)) ∙ get_or-take 8 bytes k 0 l)
 
-  high_end : (k : ℕ) → length bytes ≤ k + 8 → get_or bytes k 0 ≡ get_or ends (k + 16 - length bytes) 0
+  pub high_end : (k : ℕ) → length bytes ≤ k + 8 → get_or bytes k 0 ≡ get_or (ends bytes) (k + 16 - length bytes) 0
   high_end k l =
       let lane : length bytes - 8 + (k + 16 - length bytes - 8) ≡ k = omega arith in
       sym (get_or-append_right (take 8 bytes) (drop (length bytes - 8) bytes) 8 (k + 16 - length bytes) 0 (length-take-le 8 bytes least) (omega arith)
       ∙ get_or-drop (length bytes - 8) bytes (k + 16 - length bytes - 8) 0 ∙ ap (λ i. get_or bytes i 0) lane)
 
-  module _ (v : List ℕ) (r : ℕ) (marks : HasLanes v (λ k. either_at first second ends (0 + k))) (differ : DifferFirstAt v (replicate 16 0) 16 r) where
-    abbrev mark : List ℕ → ℕ → ℕ
-    mark = either_at first second
+-- of 8 to 15 bytes, the first lane that is marked tells the first position
+module _ (first second : ℕ) (bytes : List ℕ) (least : 8 ≤ length bytes) (most : length bytes < 16) (v : List ℕ) (r : ℕ) (marks : HasLanes v (λ k. either_at first second (ends bytes) (0 + k)))
+    (differ : DifferFirstAt v (replicate 16 0) 16 r) where
+  abbrev mark : List ℕ → ℕ → ℕ
+  mark = either_at first second
 
-    none : IsClearFront (mark ends) 16 0
-    none = record { within = omega arith; each = λ k l. absurd (omega arith) }
+  none : IsClearFront (mark (ends bytes)) 16 0
+  none = record { within = omega arith; each = λ k l. absurd (omega arith) }
 
-    clear : IsClearFront (mark ends) 16 (0 + r)
-    clear = IsClearFront-more (mark ends) 16 0 none v r (omega arith) marks differ
+  clear : IsClearFront (mark (ends bytes)) 16 (0 + r)
+  clear = IsClearFront-more (mark (ends bytes)) 16 0 none v r (omega arith) marks differ
 
-    met : r < 16 → mark ends r ≢ 0
-    met l e = let here : 0 + r ≡ r = omega arith in IsClearFront-ends (mark ends) 16 0 none v r (omega arith) marks differ l (ap (mark ends) here ∙ e)
+  met : r < 16 → mark (ends bytes) r ≢ 0
+  met l e = let here : 0 + r ≡ r = omega arith in IsClearFront-ends (mark (ends bytes)) 16 0 none v r (omega arith) marks differ l (ap (mark (ends bytes)) here ∙ e)
 
-    same : (i j : ℕ) → get_or bytes i 0 ≡ get_or ends j 0 → mark bytes i ≡ mark ends j
-    same i j e = ap (λ x. all_bits_if (char_set_contains (first ∷ second ∷ []) x)) e
+  same : (i j : ℕ) → get_or bytes i 0 ≡ get_or (ends bytes) j 0 → mark bytes i ≡ mark (ends bytes) j
+  same i j e = ap (λ x. all_bits_if (char_set_contains (first ∷ second ∷ []) x)) e
 
-    pub position_at_low_end : r < 8 → r ≡ position_or_len (char_set_contains (first ∷ second ∷ [])) bytes
-    position_at_low_end low =
-        position_from_clear first second bytes r (record { within = omega arith; each = λ k l. same k k (low_end k (omega arith)) ∙ clear.each k (omega arith) }) (λ l e. met (omega arith) (sym (same r r (low_end r low)) ∙ e))
+  pub position_at_low_end : r < 8 → r ≡ position_or_len (char_set_contains (first ∷ second ∷ [])) bytes
+  position_at_low_end low =
+      position_from_clear first second bytes r (record { within = omega arith; each = λ k l. same k k (low_end bytes least k (omega arith)) ∙ clear.each k (omega arith) }) (λ l e. met (omega arith) (sym (same r r (low_end bytes least r low)) ∙ e))
 
-    pub position_at_high_end : 8 ≤ r → r + length bytes - 16 ≡ position_or_len (char_set_contains (first ∷ second ∷ [])) bytes
-    position_at_high_end high =
-        let within = differ.within in
-        let at = r + length bytes - 16 in
-        let lane : at + 16 - length bytes ≡ r = omega arith in
-        position_from_clear first second bytes at
-        (record {
-          within = omega arith;
-          each = λ k l. ⊎_elim (λ low. same k k (low_end k low) ∙ clear.each k (omega arith)) (λ from. same k (k + 16 - length bytes) (high_end k (omega arith)) ∙ clear.each (k + 16 - length bytes) (omega arith)) (cases_lt k 8);
-        })
-        (λ l e. met (omega arith) (ap (mark ends) (sym lane) ∙ sym (same at (at + 16 - length bytes) (high_end at (omega arith))) ∙ e))
+  pub position_at_high_end : 8 ≤ r → r + length bytes - 16 ≡ position_or_len (char_set_contains (first ∷ second ∷ [])) bytes
+  position_at_high_end high =
+      let within = differ.within in
+      let at = r + length bytes - 16 in
+      let lane : at + 16 - length bytes ≡ r = omega arith in
+      position_from_clear first second bytes at
+      (record {
+        within = omega arith;
+        each = λ k l. ⊎_elim (λ low. same k k (low_end bytes least k low) ∙ clear.each k (omega arith)) (λ from. same k (k + 16 - length bytes) (high_end bytes least k (omega arith)) ∙ clear.each (k + 16 - length bytes) (omega arith)) (cases_lt k 8);
+      })
+      (λ l e. met (omega arith) (ap (mark (ends bytes)) (sym lane) ∙ sym (same at (at + 16 - length bytes) (high_end bytes least at (omega arith))) ∙ e))
 
 -- one mark is two that are the same
 pub position_of_one : (mark : ℕ) (text : List ℕ) → position_or_len (char_set_contains (mark ∷ mark ∷ [])) text ≡ position_or_len (char_set_contains (mark ∷ [])) text

@@ -40,6 +40,19 @@ module _ (mark : ℕ → ℕ) where
     zero = λ h. zero_from_unmarked (n - 16) v marks (λ k low high. h k (omega arith) (omega arith));
   }
 
+  -- the first eight and the last eight, of 8 to 15
+  pub Seen-ends : (n : ℕ) (v : List ℕ) → 8 ≤ n → n < 16 → length v ≡ 16 → ((k : ℕ) → k < 8 → get_or v k 0 ≡ mark k) → ((k : ℕ) → k < n → n ≤ k + 8 → get_or v (k + 16 - n) 0 ≡ mark k) → Seen mark n 0 v
+  Seen-ends n v least most long low high = record {
+    long = long;
+    front = λ z k from below. absurd (omega arith);
+    back = λ z k from below. ⊎_elim (λ early. sym (low k early) ∙ z k (omega arith)) (λ late. sym (high k below (omega arith)) ∙ z (k + 16 - n) (omega arith)) (cases_lt k 8);
+    zero = λ h k l. ⊎_elim (λ early. low k early ∙ h k (omega arith) (omega arith))
+        (λ late.
+        let lane : k ≡ k + n - 16 + 16 - n = omega arith in
+        ap (λ j. get_or v j 0) lane ∙ high (k + n - 16) (omega arith) (omega arith) ∙ h (k + n - 16) (omega arith) (omega arith))
+        (cases_lt k 8);
+  }
+
   -- and 16 more
   pub Seen-more : (n at : ℕ) (v more w : List ℕ) → at + 16 ≤ n → Seen mark n at v → HasLanes more (λ k. mark (at + k))
       → HasLanes w (λ k. bit_or (get_or v k 0) (get_or more k 0)) → Seen mark n (at + 16) w
@@ -53,7 +66,7 @@ module _ (mark : ℕ → ℕ) where
         zero = λ h k l. joined.each k l ∙ (λ i. bit_or (seen.zero h k l i) (zero_from_unmarked at more marks (λ j low high. h j (omega arith) (omega arith)) k l i));
       }
 
-  module _ (n at : ℕ) (v : List ℕ) (long : 16 ≤ n) (near : n < at + 16) (seen : Seen mark n at v) where
+  module _ (n at : ℕ) (v : List ℕ) (near : n < at + 16) (seen : Seen mark n at v) where
     -- once the two parts meet, it shows all
     pub unmarked_from_clear : list_all (λ x. eqb x 0) v ≡ true → Unmarked mark 0 n
     unmarked_from_clear e =

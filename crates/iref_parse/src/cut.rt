@@ -1,6 +1,7 @@
 //! A text cut at the first of a delimiter.
 
-ghost use Rattle.std.specs.{Prelude.{◌≡◌, ◌<◌, [], ◌∷◌}, Option.{option_copied}};
+ghost use Rattle.std.specs.{Prelude.{◌≡◌, ◌≢◌, ◌<◌, [], ◌∷◌, MatchOption}, Option.{option_copied}};
+ghost use Rattle.iref_grammar.specs.Rules.{Text};
 ghost use Rattle.iref_grammar.specs.Texts.{before, from_first, after};
 
 use crate::position::position_of;
@@ -42,4 +43,18 @@ pub fn split_before(text: &str, mark: char) -> (&str, &str)
     ensures from_first { result.1.now ≡ from_first (mark ∷ []) text.now }
 {
     text.split_at(position_of(text.as_bytes(), mark as u8))
+}
+
+/// What follows the delimiter, if the text begins with it. As one byte is compared, it costs less
+/// than `strip_prefix`.
+#[inline(always)]
+pub fn strip_mark(text: &str, mark: char) -> Option<&str>
+    requires { mark < 128 }
+    ensures { MatchOption result ((rest : Text) → text.now ≢ mark ∷ rest)
+        (λ rest. text.now ≡ mark ∷ rest.now) }
+{
+    match text.as_bytes() {
+        [first, ..] if *first == mark as u8 => Some(&text[1..]),
+        _ => None,
+    }
 }

@@ -1,6 +1,7 @@
 //! Whether a text is of plain bytes, of escapes and of the characters that a set has beyond ASCII.
 ghost use Rattle.std.specs.Prelude.{◌≡◌, ◌+◌, ◌<◌, ◌≤◌, true, length, encode_utf8};
-ghost use Rattle.std.specs.Prelude.{IfSome, ◌∷◌, [], slice_index};
+ghost use Rattle.std.specs.Prelude.{IfSome, ◌∷◌, [], slice_index, nat_le, ◌==◌, ◌||◌};
+ghost use Rattle.iref_grammar.specs.Grammar.{percent_sign};
 ghost use Rattle.iref_parse.specs.Encoded.{are_encoded, is_plain_char, BeginsWide, StepsTo};
 
 use crate::plain::plain_first;
@@ -125,7 +126,9 @@ fn after_front<C: CharSet>(text: &[u8]) -> Option<&[u8]>
 
 // Whether an escape or a character beyond ASCII begins with the byte.
 #[inline(always)]
-fn is_percent_or_wide(byte: u8) -> bool {
+fn is_percent_or_wide(byte: u8) -> bool
+    ensures { result ≡ (nat_le 128 byte || byte == percent_sign) }
+{
     byte >= 128 || byte == b'%'
 }
 

@@ -1,15 +1,15 @@
 //! Where the first of two bytes stands.
-ghost use Rattle.std.specs.Prelude.{◌≡◌, ◌+◌, ◌-◌, ◌<◌, ◌≤◌, [], ◌∷◌, ◌++◌, take, drop, if◌then◌else◌, length, slice_index};
+ghost use Rattle.std.specs.Prelude.{◌≡◌, ◌+◌, ◌-◌, ◌<◌, ◌≤◌, if◌then◌else◌};
+ghost use Rattle.std.specs.Prelude.{[], ◌∷◌, ◌++◌, take, drop, length, slice_index};
 ghost use Rattle.std.specs.{List.{position_or_len}, Char.{char_set_contains}};
 ghost use Rattle.iref_parse.specs.Lanes.{HasLanes};
 
 use crate::lanes::{common_lanes, either, equal_to, is_clear, load};
 use std::simd::prelude::*;
 
-/// The position of the first byte that is one of two, or the length of the text. It is found byte
-/// by byte, which costs less where that byte is near.
+// The position of the first byte that is one of two, or the length. The bytes are read one by one.
 #[inline(always)]
-pub(crate) fn position_near(bytes: &[u8], first: u8, second: u8) -> usize
+fn position_near(bytes: &[u8], first: u8, second: u8) -> usize
     ensures { result ≡ position_or_len (char_set_contains (first ∷ second ∷ [])) bytes.now }
 {
     let mut at = 0;
@@ -33,7 +33,7 @@ fn marks(bytes: &[u8], at: usize, first: u8, second: u8) -> u8x16
 
 // The first eight bytes and the last eight, which may be some of the first.
 #[inline(always)]
-fn ends_of(bytes: &[u8]) -> [u8; 16]
+pub(crate) fn ends_of(bytes: &[u8]) -> [u8; 16]
     requires { 8 ≤ length bytes.now }
     ensures { result ≡ take 8 bytes.now ++ drop (length bytes.now - 8) bytes.now }
 {

@@ -1,6 +1,7 @@
 //! The one split of a reference into its components (RFC 3986 section 4.1 and appendix B).
 
-ghost use Rattle.std.specs.Prelude.{◌≡◌, ◌<◌, ◌↔◌, [], ◌∷◌, IfSome, MatchOption, codes, is_some, true};
+ghost use Rattle.std.specs.Prelude.{◌≡◌, ◌<◌, ◌↔◌, [], ◌∷◌, IfSome, MatchOption};
+ghost use Rattle.std.specs.Prelude.{codes, is_some, true};
 ghost use Rattle.std.specs.{Option.{option_copied}, Str.{IsUtf8}};
 ghost use Rattle.iref_grammar.specs.Reference as spec;
 ghost use Rattle.iref_grammar.specs.{hash_sign, question_mark, before, after};
@@ -14,9 +15,9 @@ ghost use Rattle.iref_parse.specs.Encoded.{is_authority_char, is_plain_char};
 ghost use Rattle.iref_parse.specs.{ReferenceSlices.{texts_of, value_of}, Splits.{SplitsBefore}};
 
 use crate::authority::{is_authority, is_port_part};
-use crate::cut::{cut, split_before};
+use crate::cut::{cut, split_before, strip_mark};
 use crate::encoded::is_encoded_text;
-use crate::position::{position_near, position_of, position_of_either};
+use crate::position::{position_of, position_of_either};
 use crate::scan::{is_fragment, is_path, is_query, is_scheme};
 use iref_grammar::chars::CharSet;
 use std::str;
@@ -47,24 +48,14 @@ fn split_before_either(text: &str, first: u8, second: u8) -> (&str, &str)
     text.split_at(position_of_either(text.as_bytes(), first, second))
 }
 
-// Splits as `split_before_either` does, byte by byte: it costs less where a delimiter is near.
-#[inline(always)]
-fn split_before_near(text: &str, first: u8, second: u8) -> (&str, &str)
-    requires first_is_ascii { first < 128 }
-    requires second_is_ascii { second < 128 }
-    ensures { SplitsBefore first second text.now result.0.now result.1.now }
-{
-    text.split_at(position_near(text.as_bytes(), first, second))
-}
-
 // The scheme, if a `:` stands before each `/`, and what follows it.
 #[inline(always)]
 fn split_scheme(text: &str) -> (Option<&str>, &str)
     ensures scheme { option_copied result.0 ≡ (spec.split_scheme text.now).0 }
     ensures rest { result.1.now ≡ (spec.split_scheme text.now).1 }
 {
-    let (scheme, rest) = split_before_near(text, b':', b'/');
-    match rest.strip_prefix(':') {
+    let (scheme, rest) = split_before_either(text, b':', b'/');
+    match strip_mark(rest, ':') {
         Some(rest) => (Some(scheme), rest),
         None => (None, text),
     }
@@ -105,8 +96,13 @@ fn split_tail(text: &str) -> (&str, Option<&str>, Option<&str>)
     if tail.is_empty() {
         return (front, None, None);
     }
-    let (query, fragment) = cut(tail, '#');
-    (front, query.strip_prefix('?'), fragment)
+    match strip_mark(tail, '#') {
+        Some(fragment) => (front, None, Some(fragment)),
+        None => {
+            let (query, fragment) = cut(&tail[1..], '#');
+            (front, Some(query), fragment)
+        }
+    }
 }
 
 /// Splits a text into the components that it has as a reference (RFC 3986 section 4.1).

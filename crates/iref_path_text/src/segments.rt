@@ -7,6 +7,7 @@ ghost use Rattle.iref_grammar.specs.Texts.{all_but_last};
 ghost use Rattle.iref_path_text.specs.Pieces.{pieces_if_some};
 ghost use Rattle.iref_path_text.specs.Slashes.{IsLastSlash, LacksSlashFrom, slash_mask};
 
+use iref_parse::cut::strip_mark;
 use std::simd::prelude::*;
 
 /// The first segment, and the text of the others.
@@ -99,7 +100,7 @@ pub fn split_root(path: &str) -> (bool, Option<&str>)
         ≡ record { absolute = result.0; segments = pieces_if_some result.1 } }
     ensures fewer { length (pieces_if_some result.1) ≤ length path.now + 1 }
 {
-    match path.strip_prefix('/') {
+    match strip_mark(path, '/') {
         Some(text) => (true, unless_empty(text)),
         None => (false, unless_empty(path)),
     }

@@ -20,7 +20,7 @@ loop-at-preserved c =
 pub returns : goal.returns
 returns c =
     by_segments c.args.path.now (not c.is_clear.result)
-    (dots_found c.args.path.now c.loop-at.at c.loop-at.seen (omega arith) (omega arith) c.if-path-eq46.false c.loop-at.invariant.1 c.is_clear.result c.is_clear.ensures)
+    (dots_found c.args.path.now c.loop-at.at c.loop-at.seen (omega arith) c.if-path-eq46.false c.loop-at.invariant.1 c.is_clear.result c.is_clear.ensures)
 
-pub returns-then-len-lt17 : goal.returns-then-len-lt17
-returns-then-len-lt17 c = by_segments c.args.path.now c.has_few_dots.result c.has_few_dots.ensures
+pub returns-then-len-lt9 : goal.returns-then-len-lt9
+returns-then-len-lt9 c = by_segments c.args.path.now c.has_few_dots.result c.has_few_dots.ensures
