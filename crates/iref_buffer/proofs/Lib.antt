@@ -10,3 +10,4 @@ pub mod RelativeLemmas
 pub mod SchemeLemmas
 pub mod MappingLemmas
 pub mod AuthorityRangeLemmas
+pub mod FrontLemmas

@@ -28,3 +28,4 @@ pub mod MeasuredReferences
 pub mod Relatives
 pub mod AuthorityRanges
 pub mod Steps
+pub mod Fronts

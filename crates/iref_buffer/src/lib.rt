@@ -2,6 +2,7 @@
 #![tactic(auto)]
 
 pub mod base;
+pub mod fronts;
 pub mod held;
 mod lengths;
 pub mod measured;

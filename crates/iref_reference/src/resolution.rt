@@ -1,7 +1,8 @@
 //! References resolved against a base, strict (RFC 3986 section 5.2).
 ghost use Rattle.iref_grammar.specs.{Grammar.{IsUri, IsUriReference}, Rules.{InUtf8}};
 ghost use Rattle.iref_error.specs.Tried.{TellsInvalid};
-ghost use Rattle.iref_buffer.specs.{Steps.{Spells}, is_readable};
+ghost use Rattle.iref_buffer.specs.{Steps.{Spells}, is_readable, value_of};
+ghost use Rattle.iref_component.specs.{is_reference, is_uri, read_reference};
 ghost use Rattle.iref_model.specs.Resolution.{resolved};
 ghost use Rattle.iref_reference.specs.Parts.{parts_value, uri_parts_value};
 ghost use Rattle.iref_reference.specs.References.{reference_buf_text, reference_text};
@@ -12,13 +13,36 @@ mod owners;
 
 use crate::borrowed::{Reference, Uri, UriRef};
 use crate::composed::{Composed, ComposedUri};
-use crate::owned::UriBuf;
+use crate::owned::{ReferenceBuf, UriBuf};
 use crate::parts::{Parts, SchemePart, UriParts};
-use iref_buffer::held::HeldRule;
+use iref_buffer::fronts::front_kept;
+use iref_buffer::held::{Held, HeldRule};
 use iref_error::{InvalidUri, InvalidUriRef, Memory, TryError};
 use iref_grammar::chars::CharSet;
-use iref_parse::split::split_reference;
+use iref_parse::split::{ReferenceSlices, split_reference};
 use std::alloc::Global;
+
+// What a reference resolves to against a base, given the components of both texts. Most often it is
+// a front part of the base's text and then the reference's text.
+fn resolved_uri<C: CharSet>(
+    alloc: Global,
+    base_text: &str,
+    base: ReferenceSlices<'_>,
+    text: &str,
+    reference: ReferenceSlices<'_>,
+) -> Result<UriBuf<C>, Memory>
+    requires base_text { is_uri C.tests base_text.now ≡ true }
+    requires base { value_of base ≡ read_reference base_text.now }
+    requires text { is_reference C.tests text.now ≡ true }
+    requires reference { value_of reference ≡ read_reference text.now }
+    ensures { IfOk result (λ uri. IsResolved base_text.now text.now (reference_buf_text uri)) }
+{
+    if let Some((front, lengths)) = front_kept::<C>(base_text, base, reference) {
+        let held = Held::of_texts(alloc, front, text, lengths)?;
+        return Ok(ReferenceBuf::from_held(held));
+    }
+    Composed::resolved(base, reference)?.to_owned(alloc)
+}
 
 impl<R: HeldRule, C: CharSet> Reference<'_, R, C> {
     /// What the reference resolves to against a base: `../g` and `http://a/b/c` give `http://a/g`.
@@ -27,9 +51,14 @@ impl<R: HeldRule, C: CharSet> Reference<'_, R, C> {
         ensures { IfOk result (λ uri. IsResolved (reference_text base.entry)
             (reference_text self.now) (reference_buf_text uri)) }
     {
-        let base = split_reference(base.as_str());
-        let uri = Composed::resolved(base, split_reference(self.as_str()))?;
-        uri.to_owned(alloc)
+        let (base, text) = (base.as_str(), self.as_str());
+        resolved_uri(
+            alloc,
+            base,
+            split_reference(base),
+            text,
+            split_reference(text),
+        )
     }
 
     /// Does as `resolved` does with a text: `Invalid` holds a text that is not a URI.

@@ -1,14 +1,16 @@
-//! The text of components that are measured, with the lengths of its components (RFC 3986 section
-//! 5.3).
+//! The text of components that are measured, or of two texts, with the lengths of its components
+//! (RFC 3986 section 5.3).
+ghost use Rattle.iref_buffer.specs.{HasLengths};
 ghost use Rattle.iref_buffer.specs.MeasuredReferences.{IsComposed, spell_texts};
 ghost use Rattle.iref_buffer.specs.MeasuredReferences.{measured_components};
-ghost use Rattle.std.specs.Prelude.{◌≡◌, IfOk, length};
+ghost use Rattle.std.specs.Prelude.{◌≡◌, ◌++◌, IfOk, length};
 
 use super::{Held, HeldRule};
+use crate::lengths::Lengths;
 use crate::measured::MeasuredReference;
 use iref_error::Memory;
 use iref_grammar::chars::CharSet;
-use std::alloc::Global;
+use std::alloc::{AllocError, Global};
 use std::marker::PhantomData;
 
 impl<R: HeldRule, C: CharSet> Held<R, C> {
@@ -30,6 +32,30 @@ impl<R: HeldRule, C: CharSet> Held<R, C> {
             text,
             lengths: components.lengths(),
             rule: PhantomData,
+        })
+    }
+
+    /// The text of these two, one after the other, which is in the rule and has components of
+    /// these lengths. The room is taken once.
+    #[inline(always)]
+    pub fn of_texts(
+        alloc: Global,
+        front: &str,
+        back: &str,
+        lengths: Lengths,
+    ) -> Result<Self, Memory>
+        requires { HasLengths (R.test C.tests) lengths (front.now ++ back.now) }
+        ensures { IfOk result (λ held. held ≡ front.now ++ back.now) }
+    {
+        let len = front.len().checked_add(back.len()).ok_or(AllocError)?;
+        let mut text = String::with_capacity(alloc, len)?;
+        text.push_str(front)?;
+        text.push_str(back)?;
+        let rule = PhantomData;
+        Ok(Held {
+            text,
+            lengths,
+            rule,
         })
     }
 }

@@ -7,8 +7,8 @@ ghost use Rattle.iref_reference.specs.References.{reference_buf_text, reference_
 ghost use Rattle.iref_reference.specs.{References.{reference_text}, Resolutions.{IsResolved}};
 ghost use Rattle.std.specs.Prelude.{◌≡◌, IfErr, IfOk, IsSome, OnErr, OnOk};
 
+use super::resolved_uri;
 use crate::borrowed::{Uri, UriRef};
-use crate::composed::Composed;
 use crate::owned::{ReferenceBuf, UriBuf, UriRefBuf};
 use iref_buffer::held::HeldRule;
 use iref_error::{InvalidUri, InvalidUriRef, Memory, TryError};
@@ -33,9 +33,9 @@ impl<C: CharSet> UriRefBuf<C> {
             (reference_buf_text self.now) (reference_buf_text uri)) }
         ensures scheme { IfOk result (λ uri. IsSome (reference_buf_value uri).scheme) }
     {
-        let base = split_reference(base.as_str());
-        let uri = Composed::resolved(base, self.held.slices())?;
-        uri.to_owned(*self.held.allocator())
+        let (base, alloc) = (base.as_str(), *self.held.allocator());
+        let reference = self.held.slices();
+        resolved_uri(alloc, base, split_reference(base), self.as_str(), reference)
     }
 
     /// Becomes what it resolves to against a base, as `resolved` of the borrowed reference says:
@@ -106,9 +106,9 @@ impl<C: CharSet> UriBuf<C> {
             (reference_text reference.entry) (reference_buf_text self.new)) }
         ensures err { OnErr result (reference_buf_text self.new ≡ reference_buf_text self.old) }
     {
-        let reference = split_reference(reference.as_str());
-        let uri = Composed::resolved(self.held.slices(), reference)?;
-        *self = uri.to_owned(*self.held.allocator())?;
+        let (text, alloc) = (reference.as_str(), *self.held.allocator());
+        let base = self.held.slices();
+        *self = resolved_uri(alloc, self.as_str(), base, text, split_reference(text))?;
         Ok(())
     }
 
