@@ -20,7 +20,7 @@ use Rattle.iref_grammar.specs.PathValue.{PathValue, read_path, spell_path}
 use Rattle.iref_path_text.specs.declared.steps.Step.{Step}
 use Rattle.iref_path_text.specs.PathParts.{is_path_after, step_text, StepsTo}
 use Rattle.iref_component.specs.declared.path_mut.PathMut.{PathMut}
-use Rattle.iref_component.specs.PathEdits.{edited_bytes, path_mut_context, path_mut_value, IsEditorOf, BecomesPath}
+use Rattle.iref_component.specs.PathEdits.{edited_bytes, path_mut_context, path_mut_text, path_mut_value, IsEditorOf, BecomesPath}
 
 -- the part after a step
 pub step_spliced : (path : Text) (step : Step) (n : ℕ) → n ≡ length path → splice path step.keep n (step.lead.now ++ step.middle.now ++ step.close.now) ≡ step_text path step
@@ -36,13 +36,17 @@ whole_text old new text start end e from to =
 pub slice_all : (text : Text) (start end : ℕ) → start ≡ 0 → end ≡ start + length text → slice_range text start end ≡ text
 slice_all text start end from to = (λ i. slice_range text (from i) end) ∙ take_all (end - 0) text (omega (arith, from, to))
 
+-- the text that an editor of a whole text edits
+pub whole_edited : {C : _} {T : _} {c : _} {t : _} {p : PathMut C T c t} {bytes : Text} {context : PathContext} → IsEditorOf p bytes context 0 (length bytes) → path_mut_text p ≡ bytes
+whole_edited {bytes = bytes} of = (λ i. slice_range (of.bytes_are i) (of.from i) (of.to i)) ∙ slice_all bytes 0 (length bytes) refl (omega arith)
+
 -- the text and the value of a whole text after an edit by a step
 pub whole_edit : {C : _} {T : _} {c : _} {t : _} {old new : PathMut C T c t} {bytes : Text} {context : PathContext} (step : PathContext → PathValue → PathValue)
     → IsEditorOf old bytes context 0 (length bytes) → BecomesPath old new (step (path_mut_context old) (path_mut_value old))
     → let value = step context (read_path bytes) in (edited_bytes new ≡ spell_path value) × (read_path (edited_bytes new) ≡ value)
 whole_edit {C} {T} {c} {t} {old} {new} {bytes} {context} step of e =
     let value : step (path_mut_context old) (path_mut_value old) ≡ step context (read_path bytes) =
-    (λ i. step (of.context_is i) (read_path (slice_range (of.bytes_are i) (of.from i) (of.to i)))) ∙ ap (λ text. step context (read_path text)) (slice_all bytes 0 (length bytes) refl (omega arith)) in
+    (λ i. step (of.context_is i) (read_path (whole_edited of i))) in
     let whole = whole_text (edited_bytes old) (edited_bytes new) (spell_path _) old.range.start old.range.end e.bytes of.from (of.to ∙ sym (ap length of.bytes_are)) in
     let slice = slice_all (edited_bytes new) new.range.start new.range.end (e.from ∙ of.from) (omega (arith, e.from, e.to, ap length whole)) in
     (whole ∙ ap spell_path value, ap read_path (sym slice) ∙ e.read ∙ value)

@@ -16,7 +16,7 @@ use Rattle.iref_component.specs.PathEdits.{Becomes, edited_bytes, Edits, EditsOw
 use Rattle.iref_component.proofs.PathEditLemmas.{whole_edit}
 
 module _ {C : _} {T : _} {c : _} {t : _} {Z U D Q z u q d : _} (before after : RuleText Z U D Q z u q d) {old : PathMut C T c t} (new : PathMut C T c t) (of : IsEditorOf old (text_of before) alone 0 (length (text_of before))) (same : text_of after ≡ edited_bytes new) where
-  owner_becomes : (step : PathStep) → Becomes old new step → OwnerBecomes before after step
+  pub owner_becomes : (step : PathStep) → Becomes old new step → OwnerBecomes before after step
   owner_becomes step e =
       let whole = whole_edit step of e in record { text = same ∙ whole.0; read = ap read_path same ∙ whole.1 }
 

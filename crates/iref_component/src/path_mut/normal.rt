@@ -9,6 +9,7 @@ use crate::path_mut::PathMut;
 use iref_error::Memory;
 use iref_grammar::chars::CharSet;
 use iref_path_text::rewriting::normal_lead;
+use iref_path_text::segments::split_root;
 use iref_path_text::spell::normalized_text;
 use iref_path_text::target::PathTarget;
 
@@ -38,8 +39,9 @@ impl<C: CharSet, T: PathTarget<C>> PathMut<'_, C, T> {
     fn put_normal(&mut self) -> Result<(), Memory>
         ensures { Edits step.normalized self.old self.new result }
     {
-        let absolute = self.as_path().is_absolute();
-        let text = normalized_text::<C>(self.alloc(), self.context, absolute, self.text())?;
+        let path = self.text();
+        let (absolute, _) = split_root(path);
+        let text = normalized_text::<C>(self.alloc(), self.context, absolute, path)?;
         self.put(text.as_str())
     }
 }

@@ -6,10 +6,10 @@ use Rattle.iref_component.proofs.PathEditLemmas.{normal_value}
 use Rattle.iref_component.proofs.path_mut.PathMut.put_normal.Goals as goal
 
 pub put-requires-clause-keep : goal.put-requires-clause-keep
-put-requires-clause-keep g c = rw (sym c.text.ensures.value) (IsCharBoundary-start _ c.text.utf8)
+put-requires-clause-keep g c = rw (sym c.text-path.ensures.value) (IsCharBoundary-start _ c.text-path.utf8)
 
 pub returns : goal.returns
 returns g c =
-    let absolute = c.is_absolute-absolute.ensures ∙ ap (λ text. (read_path text).absolute) c.as_path.ensures in
-    let normal = normal_value (path_mut_context c.args.self.now) _ _ (path_mut_text c.args.self.now) absolute c.text.ensures.value in
+    let absolute = sym (ap (λ value. value.absolute) c.split_root-absolute.ensures.path) ∙ ap (λ text. (read_path text).absolute) c.text-path.ensures.value in
+    let normal = normal_value (path_mut_context c.args.self.now) _ _ (path_mut_text c.args.self.now) absolute c.text-path.ensures.value in
     subst (λ value. EditsTo value c.args.self.now c.put.new.self c.put.result) (ap read_path c.as_str.ensures.value ∙ c.in_ok-text.ensures.value ∙ normal) c.put.ensures
