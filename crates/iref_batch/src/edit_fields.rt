@@ -18,7 +18,7 @@ use iref_lines::cut_bytes;
 use std::str;
 
 /// Why fields are no list of edits: `frobnicate=x` is no command, `port=x` is invalid.
-#[derive(Clone, Copy, Debug)]
+#[derive(Clone, Copy)]
 pub enum FieldError {
     /// No edit has the name, or a value is missing or one too many.
     Command,
