@@ -139,6 +139,7 @@ impl<'a, S: SchemePart<'a>, C: CharSet> Parts<'a, S, C> {
     }
 
     // The components of the text of a reference whose scheme may stand there.
+    #[inline(always)]
     pub(crate) fn of_text(text: &'a str) -> Self
         requires reference { is_reference C.tests text.now ≡ true }
         requires allowed { S.allows (read_reference text.now).scheme }
