@@ -125,7 +125,6 @@ pub fn split_reference(text: &str) -> ReferenceSlices<'_>
 }
 
 // Whether each slice is in the rule of its component, by a scan of each.
-#[inline(always)]
 fn are_scanned_components<C: CharSet>(slices: ReferenceSlices<'_>) -> bool
     ensures { (result ≡ true) ↔ AreComponents C.tests (texts_of slices.entry) }
 {
@@ -155,7 +154,6 @@ fn is_encoded_authority<C: CharSet>(part: Option<&str>) -> bool
 }
 
 // Whether the fragment, which is encoded, is in its rule, as it is without `#`.
-#[inline(always)]
 fn is_encoded_fragment<C: CharSet>(part: Option<&str>) -> bool
     requires { none_or (are_encoded (is_plain_char C.tests)) (option_copied part) ≡ true }
     ensures { result ≡ none_or (test.is_fragment C.tests) (option_copied part.entry) }
