@@ -14,7 +14,7 @@ use Rattle.std.proofs.lemmas.Map.Text.{btree_map_updates_text}
 use Rattle.iref_grammar.specs.Rules.{Text}
 use Rattle.iref_mapping.specs.PrefixTable.{PrefixEntry, PrefixTable, has_label}
 use Rattle.iref.specs.declared.compact.index.Index.{Index}
-use Rattle.iref.specs.PrefixIndex.{has_text, IsNumber, IsIndexed, IsEmptyIndex, Gains, Stays, GainsLength, KeepsLengths}
+use Rattle.iref.specs.PrefixIndex.{has_text, IsNumber, IsIndexed, Gains, Stays, GainsLength, KeepsLengths}
 use Rattle.std.specs.BTreeSet.{BTreeSet, contains}
 use Rattle.std.proofs.lemmas.List.Folds.{find-append}
 use Rattle.std.proofs.lemmas.Option.{same_Some, slice_get_past, slice_get-get_or}
@@ -72,13 +72,6 @@ slice_get-front : (table : PrefixTable) (e : PrefixEntry) (i : ℕ) (d : PrefixE
 slice_get-front [] e i d h = absurd (cc h)
 slice_get-front (x ∷ table) e zero d h = h
 slice_get-front (x ∷ table) e (suc i) d h = slice_get-front table e i d h
-
-pub empty_indexed : (index : Index) → IsEmptyIndex index → IsIndexed [] index
-empty_indexed index h = record {
-  labels = λ label. subst (IsNumber (has_label label) []) (sym (h.labels label)) refl;
-  texts = λ text. subst (IsNumber (has_text text) []) (sym (h.texts text)) refl;
-  lengths = tt;
-}
 
 -- the entry of a number
 pub got_at : (table : PrefixTable) (i : ℕ) (found : Option (Bor PrefixEntry)) → is_some found ≡ nat_lt i (length table) → IfSome found (λ x. x.now ≡ get_or table i x.now) → option_copied found ≡ slice_get table i

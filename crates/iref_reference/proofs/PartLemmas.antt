@@ -5,7 +5,7 @@ use Rattle.iref_grammar.specs.Characters.{AreAboveAscii, CharTests}
 use Rattle.iref_grammar.specs.Grammar.{IsUri, IsUriReference}
 use Rattle.iref_grammar.specs.Reference.{read_reference}
 use Rattle.iref_grammar.specs.Rules.{InUtf8, Text}
-use Rattle.iref_grammar.proofs.ComponentLemmas.{uri_if_scheme, reference_if_uri, scheme_if_uri}
+use Rattle.iref_grammar.proofs.ComponentLemmas.{uri_if_scheme, scheme_if_uri}
 use Rattle.iref_grammar.proofs.ReferenceRuleLemmas.{Decides-is_uri, Decides-is_uri_reference}
 
 module _ (set : CharTests) (above : AreAboveAscii set) (text : Text) where
@@ -14,6 +14,3 @@ module _ (set : CharTests) (above : AreAboveAscii set) (text : Text) where
 
   pub scheme_of_uri : InUtf8 (IsUri set) text → is_some (read_reference text).scheme ≡ true
   scheme_of_uri h = scheme_if_uri set text ((Decides-is_uri set above text).1 h)
-
-  pub reference_of_uri : InUtf8 (IsUri set) text → InUtf8 (IsUriReference set) text
-  reference_of_uri h = (Decides-is_uri_reference set above text).0 (reference_if_uri set text ((Decides-is_uri set above text).1 h))
