@@ -35,8 +35,9 @@ refused_answer text same steps new i refusal h s v e = outcome text same steps (
 reply : (text : Text) (read : Option (List EditStep)) (steps : List EditStep) (left : LineAnswer) → read ≡ Some steps → answer_if_valid iri_chars (Edit text steps) ≡ left → reply_to (option_map (Edit text) read) ≡ answer_text left
 reply text read steps left e h = ap (λ (o : Option (List EditStep)). reply_to (option_map (Edit text) o)) e ∙ ap answer_text h
 
-pub no_edited_reply : (text : Text) (read : Option (List EditStep)) (steps : List EditStep) → read ≡ Some steps → ¬ (InUtf8 (IsUriReference iri_chars) text) → reply_to (option_map (Edit text) read) ≡ answer_text InvalidText
-no_edited_reply text read steps e h = reply text read steps InvalidText e (no_edited_answer text steps h)
+pub no_edited_reply : (text same : Text) (read : Option (List EditStep)) (steps : List EditStep) → read ≡ Some steps → same ≡ text → ¬ (InUtf8 (IsUriReference iri_chars) same) → reply_to (option_map (Edit text) read) ≡ answer_text InvalidText
+no_edited_reply text same read steps e s h =
+    reply text read steps InvalidText e (no_edited_answer text steps (subst (λ (t : Text). ¬ (InUtf8 (IsUriReference iri_chars) t)) s h))
 
 module _ (text same begun : Text) (read : Option (List EditStep)) (known : InUtf8 (IsUriReference iri_chars) same) (copied : same ≡ text) (begun_is : begun ≡ same) where
   reference_known : InUtf8 (IsUriReference iri_chars) text

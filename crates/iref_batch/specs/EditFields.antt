@@ -31,10 +31,6 @@ EditNames = List (Text × (Option Text → Option EditStep))
 abbrev pub edit_named : EditNames → Text → Option Text → Option EditStep
 edit_named names name value = option_and_then (λ e. e.1 value) (find (λ e. bytes_eq e.0 name) names)
 
--- the names from that of a path on: the edits of the parts after the authority
-abbrev pub later_edit_names : EditNames
-later_edit_names = drop 6 edit_names
-
 -- the last of the names: the edits of a path in place
 abbrev pub path_edit_names : EditNames
 path_edit_names = drop 10 edit_names

@@ -201,15 +201,6 @@ fn put_answer(request: Option<Request<'_>>, out: &mut Vec<u8>) -> Result<(), Mem
     }
 }
 
-// Puts the answer to the line, and a newline.
-#[inline(always)]
-fn put_line(line: &[u8], out: &mut Vec<u8>) -> Result<(), Memory>
-    ensures { Puts (with_newline (line_reply line.now)) out.old.items out.new.items result }
-{
-    put_answer(read_request(line), out)?;
-    Ok(out.push(b'\n')?)
-}
-
 /// Puts the answer to the line, and a newline, after what `out` holds; or leaves it where memory is
 /// refused.
 pub fn answer_line(line: &[u8], out: &mut Vec<u8>) -> Result<(), Memory>
@@ -217,9 +208,9 @@ pub fn answer_line(line: &[u8], out: &mut Vec<u8>) -> Result<(), Memory>
     ensures err { OnErr result (out.new.items ≡ out.old.items) }
 {
     let start = out.len();
-    let Ok(()) = put_line(line, out) else {
+    if put_answer(read_request(line), out).is_err() || out.push(b'\n').is_err() {
         out.truncate(start);
         return Err(Memory);
-    };
+    }
     Ok(())
 }

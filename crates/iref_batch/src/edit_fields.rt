@@ -5,8 +5,7 @@ ghost use Rattle.iref.specs.{Tests.{none_or}, Characters.{iri_chars}};
 ghost use Rattle.iref.specs.Components.{text_of};
 ghost use Rattle.iref_lines.specs.Lines.{edit_names, is_valid_edit};
 ghost use Rattle.iref.specs.EditSteps.{edit_step};
-ghost use Rattle.iref_batch.specs.EditFields.{IsRead, edit_named, later_edit_names};
-ghost use Rattle.iref_batch.specs.EditFields.{path_edit_names};
+ghost use Rattle.iref_batch.specs.EditFields.{IsRead, edit_named, path_edit_names};
 ghost use Rattle.iref_lines.specs.Lines as spec;
 
 use super::request::is_name;
@@ -102,24 +101,6 @@ fn path_edit<'a>(name: &[u8], value: Option<&'a [u8]>) -> Result<Edit<'a>, Field
     }
 }
 
-// The edit of a part after the authority.
-fn later_edit<'a>(name: &[u8], value: Option<&'a [u8]>) -> Result<Edit<'a>, FieldError>
-    ensures { IsRead edit_step (is_valid_edit iri_chars)
-        (edit_named later_edit_names name.now (option_copied value.entry)) result }
-{
-    if is_name(b"path", name) {
-        needed(value).map(|path| Edit::SetPath(path))
-    } else if is_name(b"normal-path", name) {
-        needed(value).map(|path| Edit::SetAndNormalizePath(path))
-    } else if is_name(b"query", name) {
-        optional(value).map(|query| Edit::SetQuery(query))
-    } else if is_name(b"fragment", name) {
-        optional(value).map(|fragment| Edit::SetFragment(fragment))
-    } else {
-        path_edit(name, value)
-    }
-}
-
 // The edit of this name with this value.
 fn edit_of<'a>(name: &[u8], value: Option<&'a [u8]>) -> Result<Edit<'a>, FieldError>
     ensures { IsRead edit_step (is_valid_edit iri_chars)
@@ -137,8 +118,16 @@ fn edit_of<'a>(name: &[u8], value: Option<&'a [u8]>) -> Result<Edit<'a>, FieldEr
         needed(value).map(|host| Edit::SetHost(host))
     } else if is_name(b"port", name) {
         optional(value).map(|port| Edit::SetPort(port))
+    } else if is_name(b"path", name) {
+        needed(value).map(|path| Edit::SetPath(path))
+    } else if is_name(b"normal-path", name) {
+        needed(value).map(|path| Edit::SetAndNormalizePath(path))
+    } else if is_name(b"query", name) {
+        optional(value).map(|query| Edit::SetQuery(query))
+    } else if is_name(b"fragment", name) {
+        optional(value).map(|fragment| Edit::SetFragment(fragment))
     } else {
-        later_edit(name, value)
+        path_edit(name, value)
     }
 }
 

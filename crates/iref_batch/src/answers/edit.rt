@@ -1,7 +1,5 @@
 //! The answer to `edit`.
 ghost use Rattle.std.specs.{Option.{option_copied}, Prelude.{◌≡◌, [], ◌∷◌, IfOk}};
-ghost use Rattle.iref.specs.{Characters.{iri_chars}, Grammar.{IsUriReference}};
-ghost use Rattle.iref.specs.Rules.{InUtf8, Text};
 ghost use Rattle.iref_lines.specs.Lines.{text_and_edits};
 ghost use Rattle.iref_batch.specs.EditFields.{ChecksEdits, EditsBy, LeavesAfter};
 ghost use Rattle.iref_batch.specs.{Fields.{fields_of}, Gathering.{Puts}, Runs.{reply_to}};
@@ -75,18 +73,6 @@ fn copied(alloc: Global, text: &[u8], more: usize) -> Result<Vec<u8>, Memory>
     Ok(bytes)
 }
 
-// Puts the answer to `edit` of a text that is no reference.
-fn put_unedited(fields: Option<&[u8]>, out: &mut Vec<u8>) -> Result<(), Memory>
-    ensures { (text : Text) → ¬ (InUtf8 (IsUriReference iri_chars) text) →
-        Puts (reply_to (text_and_edits (text ∷ fields_of (option_copied fields.entry))))
-        out.old.items out.new.items result }
-{
-    match check_edits(fields) {
-        Ok(()) => put_text(b"error invalid", out),
-        Err(error) => put_refused(error, out),
-    }
-}
-
 /// Puts the answer to `edit`.
 pub fn put_answer_to_edit(
     text: &[u8],
@@ -99,7 +85,10 @@ pub fn put_answer_to_edit(
     let more = fields.map_or(0, |fields| fields.len());
     let bytes = copied(*out.allocator(), text, more)?;
     let Ok(mut reference) = IriRefBuf::from_bytes(bytes) else {
-        return put_unedited(fields, out);
+        return match check_edits(fields) {
+            Ok(()) => put_text(b"error invalid", out),
+            Err(error) => put_refused(error, out),
+        };
     };
     match edit_by(&mut reference, fields) {
         Ok(true) => put_answered(reference.as_bytes(), out),

@@ -111,22 +111,6 @@ fn put_expanded(table: &Prefixes, text: &[u8], out: &mut Vec<u8>) -> Result<(), 
     }
 }
 
-// Puts the answer of what a table makes of a text.
-fn put_asked(
-    verb: TableVerb,
-    table: &Prefixes,
-    text: &[u8],
-    out: &mut Vec<u8>,
-) -> Result<(), Memory>
-    requires { are_valid_entries iri_chars table.now ≡ true }
-    ensures { PutsReply (asked_of verb text.now table.now) out.old.items out.new.items result }
-{
-    match verb {
-        TableVerb::Compact => put_compact(table, text, out),
-        TableVerb::Expand => put_expanded(table, text, out),
-    }
-}
-
 /// Puts the answer to `compact` or `expand`.
 pub fn put_answer_by_table(
     verb: TableVerb,
@@ -137,8 +121,12 @@ pub fn put_answer_by_table(
     ensures { Puts (reply_to (text_and_entries (asked_of verb)
         (text.now ∷ fields_of (option_copied fields.entry)))) out.old.items out.new.items result }
 {
-    match read_table(*out.allocator(), fields) {
-        Ok(table) => put_asked(verb, &table, text, out),
-        Err(error) => put_refused(error, out),
+    let table = match read_table(*out.allocator(), fields) {
+        Ok(table) => table,
+        Err(error) => return put_refused(error, out),
+    };
+    match verb {
+        TableVerb::Compact => put_compact(&table, text, out),
+        TableVerb::Expand => put_expanded(&table, text, out),
     }
 }

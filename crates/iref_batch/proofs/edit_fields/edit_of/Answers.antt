@@ -1,9 +1,9 @@
 use Rattle.std.proofs.Common.{◌≡◌, refl, rules, subst, codes, Option, Some, Err, MatchResult, IsOkAnd, option_map}
 use Rattle.std.specs.Option.{option_copied}
 use Rattle.iref.specs.Characters.{iri_chars}
-use Rattle.iref.specs.Tests.{none_or, is_host, is_port, is_scheme, is_user_info}
+use Rattle.iref.specs.Tests.{none_or, is_fragment, is_host, is_path, is_port, is_query, is_scheme, is_user_info}
 use Rattle.iref.specs.Authority.{is_authority}
-use Rattle.iref.specs.Edits.{EditStep, SetScheme, SetAuthority, ReplaceAuthority, SetUserInfo, SetHost, SetPort}
+use Rattle.iref.specs.Edits.{EditStep, SetScheme, SetAuthority, ReplaceAuthority, SetUserInfo, SetHost, SetPort, SetPath, SetAndNormalizePath, SetQuery, SetFragment}
 use Rattle.iref_lines.specs.Lines.{edit_names, is_valid_edit}
 use Rattle.iref.specs.Components.{text_of}
 use Rattle.iref.specs.declared.edits.Edit.TheVariants as edit
@@ -53,3 +53,31 @@ returns-then-is_name-6 c =
     subst (λ (o : Option EditStep). IsRead edit_step (is_valid_edit iri_chars) o c.map-then-is_name-6.result)
     (named edit_names (codes "port") c.args.name.now (option_copied c.args.value) (λ v. Some (SetPort v)) c.if-is_name-6.ensures refl)
     (made (λ v. edit.SetPort v) (option_map text_of) (none_or is_port) edit_step (is_valid_edit iri_chars) SetPort (Some (option_copied c.args.value)) c.optional-then-is_name-6.result c.map-then-is_name-6.result (λ v. refl) (λ a. refl) m c.optional-then-is_name-6.ensures)
+
+pub returns-then-is_name-7 : goal.returns-then-is_name-7
+returns-then-is_name-7 c =
+    let m : MatchResult c.needed-then-is_name-7.result (λ v. IsOkAnd c.map-then-is_name-7.result (λ w. w ≡ edit.SetPath v)) (λ e. c.map-then-is_name-7.result ≡ Err e) = search rules in
+    subst (λ (o : Option EditStep). IsRead edit_step (is_valid_edit iri_chars) o c.map-then-is_name-7.result)
+    (named edit_names (codes "path") c.args.name.now (option_copied c.args.value) (option_map SetPath) c.if-is_name-7.ensures refl)
+    (made (λ v. edit.SetPath v) text_of (is_path iri_chars) edit_step (is_valid_edit iri_chars) SetPath (option_copied c.args.value) c.needed-then-is_name-7.result c.map-then-is_name-7.result (λ v. refl) (λ a. refl) m c.needed-then-is_name-7.ensures)
+
+pub returns-then-is_name-8 : goal.returns-then-is_name-8
+returns-then-is_name-8 c =
+    let m : MatchResult c.needed-then-is_name-8.result (λ v. IsOkAnd c.map-then-is_name-8.result (λ w. w ≡ edit.SetAndNormalizePath v)) (λ e. c.map-then-is_name-8.result ≡ Err e) = search rules in
+    subst (λ (o : Option EditStep). IsRead edit_step (is_valid_edit iri_chars) o c.map-then-is_name-8.result)
+    (named edit_names (codes "normal-path") c.args.name.now (option_copied c.args.value) (option_map SetAndNormalizePath) c.if-is_name-8.ensures refl)
+    (made (λ v. edit.SetAndNormalizePath v) text_of (is_path iri_chars) edit_step (is_valid_edit iri_chars) SetAndNormalizePath (option_copied c.args.value) c.needed-then-is_name-8.result c.map-then-is_name-8.result (λ v. refl) (λ a. refl) m c.needed-then-is_name-8.ensures)
+
+pub returns-then-is_name-9 : goal.returns-then-is_name-9
+returns-then-is_name-9 c =
+    let m : MatchResult c.optional-then-is_name-9.result (λ v. IsOkAnd c.map-then-is_name-9.result (λ w. w ≡ edit.SetQuery v)) (λ e. c.map-then-is_name-9.result ≡ Err e) = search rules in
+    subst (λ (o : Option EditStep). IsRead edit_step (is_valid_edit iri_chars) o c.map-then-is_name-9.result)
+    (named edit_names (codes "query") c.args.name.now (option_copied c.args.value) (λ v. Some (SetQuery v)) c.if-is_name-9.ensures refl)
+    (made (λ v. edit.SetQuery v) (option_map text_of) (none_or (is_query iri_chars)) edit_step (is_valid_edit iri_chars) SetQuery (Some (option_copied c.args.value)) c.optional-then-is_name-9.result c.map-then-is_name-9.result (λ v. refl) (λ a. refl) m c.optional-then-is_name-9.ensures)
+
+pub returns-then-is_name-10 : goal.returns-then-is_name-10
+returns-then-is_name-10 c =
+    let m : MatchResult c.optional-then-is_name-10.result (λ v. IsOkAnd c.map-then-is_name-10.result (λ w. w ≡ edit.SetFragment v)) (λ e. c.map-then-is_name-10.result ≡ Err e) = search rules in
+    subst (λ (o : Option EditStep). IsRead edit_step (is_valid_edit iri_chars) o c.map-then-is_name-10.result)
+    (named edit_names (codes "fragment") c.args.name.now (option_copied c.args.value) (λ v. Some (SetFragment v)) c.if-is_name-10.ensures refl)
+    (made (λ v. edit.SetFragment v) (option_map text_of) (none_or (is_fragment iri_chars)) edit_step (is_valid_edit iri_chars) SetFragment (Some (option_copied c.args.value)) c.optional-then-is_name-10.result c.map-then-is_name-10.result (λ v. refl) (λ a. refl) m c.optional-then-is_name-10.ensures)
