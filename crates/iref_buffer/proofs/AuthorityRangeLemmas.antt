@@ -1,7 +1,7 @@
 -- The authority of a reference where it stands, and after an edit of it.
-use Rattle.std.proofs.Common.{◌≡◌, ℕ, ◌+◌, true, length, length-append, refl, sym, ◌∙◌, ap, arith}
+use Rattle.std.proofs.Common.{◌≡◌, ℕ, ◌+◌, Bool, true, length, length-append, refl, sym, ◌∙◌, ap, subst, arith}
 use mathlib.Core.Bool.{true≢false}
-use Rattle.std.specs.Prelude.{codes, Option, Some, None, is_some, option_map}
+use Rattle.std.specs.Prelude.{codes, Option, Some, None, IfSome, is_some, option_map}
 use Rattle.std.specs.List.{splice}
 use Rattle.std.specs.declared.ops.Range.{Range}
 use Rattle.iref_grammar.specs.Characters.{CharTests, AreAboveAscii}
@@ -10,15 +10,19 @@ use Rattle.iref_grammar.specs.Texts.{then_part}
 use Rattle.iref_grammar.specs.Tests.{none_or}
 use Rattle.iref_grammar.specs.Authority.{AuthorityValue, has_authority_parts, is_authority, read_authority, spell_authority}
 use Rattle.iref_grammar.specs.ComponentOffsets.{authority_mark, range_from, offsets_in, offsets_of, text_at}
-use Rattle.iref_grammar.specs.Reference.{is_reference, read_reference, spell}
+use Rattle.iref_grammar.specs.Reference.{ReferenceValue, is_reference, read_reference, spell}
 use Rattle.iref_grammar.proofs.AuthorityLemmas.{read_authority-spelled}
 use Rattle.iref_grammar.proofs.AuthorityRuleLemmas.{authority_read, Decides-has_authority_parts}
 use Rattle.iref_grammar.proofs.RangeLemmas.{authority_range}
 use Rattle.iref_grammar.proofs.ReadablePartsLemmas.{readable_parts}
 use Rattle.iref_model.specs.ComponentSteps.{with_authority_step}
-use Rattle.iref_buffer.specs.AuthorityRanges.{authority_part, range_of_authority}
-use Rattle.iref_buffer.proofs.EditLemmas.{authority_part_replaced, readable_of}
-use Rattle.iref_buffer.proofs.HeldLemmas.{components_of}
+use Rattle.iref_model.proofs.ReferenceStepLemmas.{with_whole_authority-readable}
+use Rattle.iref_edit.specs.Changes.{IsWithin}
+use Rattle.iref_edit.specs.declared.change.Span.{Span}
+use Rattle.iref_buffer.specs.AuthorityRanges.{IsAuthorityOf, authority_part, range_of_authority}
+use Rattle.iref_buffer.specs.ComponentLengths.{HasLengths, lengths_of}
+use Rattle.iref_buffer.proofs.EditLemmas.{authority_part_replaced, authority_read as authority_has_parts, is_step, readable_of}
+use Rattle.iref_buffer.proofs.HeldLemmas.{components_of, offsets_within}
 
 -- ---- where it stands
 
@@ -65,14 +69,17 @@ some_if_placed text range e = by (authority_mark (read_reference text)) (read_re
 pub range_is : (text : Text) (range : Range ℕ) → (offsets_of text).authority ≡ Some range → range ≡ range_of_authority text
 range_is text range e = let there = authority_stands text (some_if_placed text range e) in cc
 
+pub authority_within : (set : CharTests) → AreAboveAscii set → (text : Text) (at : Span) → IsAuthorityOf set text at.start at.end → IsWithin text (record { start = at.start; end = at.end })
+authority_within set above text at stands = subst (λ o. IfSome o (IsWithin text)) stands.1 (offsets_within set above text stands.0).authority
+
 -- ---- after an edit
 
-pub authority_text_replaced : (text part : Text) → is_some (read_reference text).authority ≡ true
+authority_text_replaced : (text part : Text) → is_some (read_reference text).authority ≡ true
     → splice text (range_of_authority text).start (range_of_authority text).end part ≡ spell (with_authority_step (λ a. read_authority part) (read_reference text))
 authority_text_replaced text part has =
     ap (splice text (range_of_authority text).start (range_of_authority text).end) (sym (read_authority-spelled part)) ∙ authority_part_replaced text (read_authority part) has
 
-pub range_of_new_authority : (old new part : Text) → is_some (read_reference old).authority ≡ true → read_reference new ≡ with_authority_step (λ a. read_authority part) (read_reference old)
+range_of_new_authority : (old new part : Text) → is_some (read_reference old).authority ≡ true → read_reference new ≡ with_authority_step (λ a. read_authority part) (read_reference old)
     → let start = (range_of_authority old).start in (offsets_of new).authority ≡ Some (record { start = start; end = start + length part })
 unfolding offsets_of offsets_in
 range_of_new_authority old new part has e =
@@ -83,10 +90,34 @@ range_of_new_authority old new part has e =
     by m None h = absurd (true≢false (sym h))
     by m (Some a) h = ap (λ t. Some (range_from (m + 2) t)) (read_authority-spelled part)
 
-pub length_of_new_authority : (o : Option AuthorityValue) (part : Text) → is_some o ≡ true → Some (length part) ≡ option_map length (option_map spell_authority (option_map (λ a. read_authority part) o))
+length_of_new_authority : (o : Option AuthorityValue) (part : Text) → is_some o ≡ true → Some (length part) ≡ option_map length (option_map spell_authority (option_map (λ a. read_authority part) o))
 length_of_new_authority None part h = absurd (true≢false (sym h))
 length_of_new_authority (Some a) part h = ap (λ t. Some (length t)) (sym (read_authority-spelled part))
 
-pub end_of_new_authority : (old new part : Text) → is_some (read_reference old).authority ≡ true → read_reference new ≡ with_authority_step (λ a. read_authority part) (read_reference old)
-    → (offsets_of new).path.start ≡ (range_of_authority old).start + length part
-end_of_new_authority old new part has e = sym (ap (λ (p : Range ℕ). p.end) (range_is new _ (range_of_new_authority old new part has e)))
+-- the new authority stands where the old one did, and the other components stay
+pub record HoldsAuthority (set : CharTests) (test : Text → Bool) (old : ReferenceValue) (start : ℕ) (part new : Text) : Type 0 where
+  pub stands : IsAuthorityOf set new start (start + length part)
+  pub leaves : HasLengths test (record (lengths_of old) { authority = Some (length part) }) new
+
+module _ (set : CharTests) (above : AreAboveAscii set) (test : Text → Bool) (allows : Option Text → Bool)
+    (by_scheme : (text : Text) → is_reference set text ≡ true → allows (read_reference text).scheme ≡ true → test text ≡ true)
+    (references : (text : Text) → test text ≡ true → is_reference set text ≡ true)
+    (text : Text) (at : Span) (stands : IsAuthorityOf set text at.start at.end) (allowed : allows (read_reference text).scheme ≡ true) where
+  pub authority_put : (part new : Text) → is_authority set part ≡ true → new ≡ splice text at.start at.end part → HoldsAuthority set test (read_reference text) at.start part new
+  authority_put part new h e =
+      let old = read_reference text in
+      let has = some_if_placed text _ stands.1 in
+      let same = range_is text _ stands.1 in
+      let spelled = e ∙ (λ i. splice text (same i).start (same i).end part) ∙ authority_text_replaced text part has in
+      let readable = with_whole_authority-readable set (read_authority part) old (authority_has_parts set (Some part) h) (readable_of set text stands.0) in
+      let step = is_step set above test allows by_scheme new (with_authority_step (λ a. read_authority part) old) spelled readable allowed in
+      record {
+        stands = (
+          references new step.leaves.in_rule,
+          range_of_new_authority text new part has step.value ∙ (λ i. Some (record { start = (sym same i).start; end = (sym same i).start + length part })),
+        );
+        leaves = record {
+          in_rule = step.leaves.in_rule;
+          lengths = (λ i. record (lengths_of old) { authority = length_of_new_authority old.authority part has i }) ∙ step.leaves.lengths;
+        };
+      }

@@ -1,27 +1,28 @@
 -- A range of the path replaced in the text.
-use Rattle.std.proofs.Common.{◌≡◌, ℕ, ◌+◌, ◌-◌, ◌<◌, ◌≤◌, slice_index, true, length, drop, rules, inl, inr, refl, sym, ◌∙◌, ap, subst, arith, length-append, length-take, length-drop}
+use Rattle.std.proofs.Common.{◌≡◌, ℕ, ◌+◌, ◌-◌, ◌<◌, ◌≤◌, slice_index, true, length, drop, inl, inr, refl, sym, ◌∙◌, ap, subst, arith}
 use Rattle.std.proofs.lemmas.Bool.{and_parts, cases_lt}
-use Rattle.std.proofs.lemmas.List.{places, same_lists, get_or-take, get_or-drop}
+use Rattle.std.proofs.lemmas.List.{get_or-take, get_or-drop}
 use Rattle.std.specs.List.{list_all, splice, slice_range}
 use Rattle.std.specs.Str.{IsCharBoundary}
 use Rattle.std.specs.declared.ops.Range.{Range}
-use Rattle.iref_edit.proofs.PartLemmas.{slice-length}
+use Rattle.iref_edit.proofs.PartLemmas.{part_put, part_stands, slice-length}
 use Rattle.iref_grammar.specs.Characters.{CharTests, AreAboveAscii}
 use Rattle.iref_grammar.specs.Rules.{Text}
 use Rattle.iref_grammar.specs.Tests.{is_path, is_segment}
 use Rattle.iref_grammar.specs.Contexts.{fits, follows_authority, reads_as_path, is_path_in}
-use Rattle.iref_grammar.specs.PathValue.{spell_path, read_path}
+use Rattle.iref_grammar.specs.PathValue.{read_path}
 use Rattle.iref_grammar.specs.Reference.{ReferenceValue, context_of, spell, read_reference, is_readable}
-use Rattle.iref_grammar.specs.ComponentOffsets.{offsets_of, text_at}
+use Rattle.iref_grammar.specs.ComponentOffsets.{offsets_of}
 use Rattle.iref_grammar.proofs.PathLemmas.{read_path-reads}
 use Rattle.iref_grammar.proofs.PathTestLemmas.{is_path-segments}
-use Rattle.iref_grammar.proofs.RangeLemmas.{path_range}
 use Rattle.iref_grammar.proofs.ReadablePartsLemmas.{readable_parts, readable_from}
 use Rattle.iref_model.specs.Guard.{guarded}
 use Rattle.iref_model.specs.ComponentSteps.{with_path}
 use Rattle.iref_model.proofs.ReferenceStepLemmas.{with_path-readable}
-use Rattle.iref_edit.specs.Changes.{IsWithin}
-use Rattle.iref_buffer.specs.PathTexts.{path_text, with_path_text, with_path_read}
+use Rattle.iref_edit.specs.Changes.{IsWithin, changed_at, part_at, pieces}
+use Rattle.iref_edit.specs.declared.change.Change.{Change}
+use Rattle.iref_edit.specs.declared.change.Span.{Span}
+use Rattle.iref_buffer.specs.PathTexts.{with_path_text, with_path_read}
 use Rattle.iref_buffer.proofs.EditLemmas.{path_replaced}
 
 -- ---- the step of a new path
@@ -50,12 +51,6 @@ pub path_text_replaced : (text path : Text) → with_path_text path text ≡ spe
 path_text_replaced text path =
     ap (splice text (offsets_of text).path.start (offsets_of text).path.end) (sym (read_path-reads path).spelled) ∙ path_replaced text (read_path path)
 
-length-spliced : (bs new : Text) (start end : ℕ) → start ≤ end → end ≤ length bs → length (splice bs start end new) ≡ length bs - (end - start) + length new
-length-spliced bs new start end a b = simp (length-append, length-take, length-drop) (omega arith)
-
-splice-within : (bs new : Text) (start end from to : ℕ) → start ≤ from → from ≤ to → to ≤ end → end ≤ length bs → splice bs from to new ≡ splice bs start end (splice (slice_range bs start end) (from - start) (to - start) new)
-splice-within bs new start end from to h1 h2 h3 h4 = same_lists _ _ (search (rules, places)) (λ k d h. grind (arith, places))
-
 -- what stands in a part may be cut where the part may
 cut_in_part : (text : Text) (start end i : ℕ) → start ≤ end → IsCharBoundary text end → IsCharBoundary (slice_range text start end) i → IsCharBoundary text (start + i)
 cut_in_part text start end i a b w = elim (cases_lt i (end - start)) [
@@ -68,38 +63,20 @@ cut_in_part text start end i a b w = elim (cases_lt i (end - start)) [
       subst (IsCharBoundary text) (sym at) b
 ]
 
-module _ (text : Text) (range : Range ℕ) (placed : IsWithin text range) (within : Range ℕ) (inside : IsWithin (text_at text range) within) where
-  abbrev start : ℕ
-  start = range.start
+pub part_within : (text : Text) (at : Span) → IsWithin text (record { start = at.start; end = at.end }) → (within : Range ℕ) → IsWithin (part_at text at) within
+    → IsWithin text (record { start = at.start + within.start; end = at.start + within.end })
+part_within text at placed within inside = record {
+  start_le_end = omega (arith, inside.start_le_end);
+  start = cut_in_part text at.start at.end within.start placed.start_le_end placed.end inside.start;
+  end = cut_in_part text at.start at.end within.end placed.start_le_end placed.end inside.end;
+}
 
-  abbrev end : ℕ
-  end = range.end
+pub part_changed : (bytes text new : Text) (at : Span) (by : Change) → bytes ≡ text → IsWithin text (record { start = at.start; end = at.end }) → IsWithin (part_at text at) by.within
+    → new ≡ splice bytes (at.start + by.within.start) (at.start + by.within.end) (pieces by) → new ≡ changed_at text at by
+part_changed bytes text new at by view placed inside e =
+    part_put text new (pieces by) at.start at.end by.within.start by.within.end placed.start_le_end placed.end.0 inside.start_le_end inside.end.0
+    (e ∙ ap (λ t. splice t (at.start + by.within.start) (at.start + by.within.end) (pieces by)) view)
 
-  -- no more is cut than stands there
-  pub part_cut : within.end - within.start ≤ end - start
-  part_cut = omega (arith, inside.end.0, slice-length text start end placed.end.0)
-
-  pub part_within : IsWithin text (record { start = start + within.start; end = start + within.end })
-  part_within = record {
-    start_le_end = omega (arith, inside.start_le_end);
-    start = cut_in_part text start end within.start placed.start_le_end placed.end inside.start;
-    end = cut_in_part text start end within.end placed.start_le_end placed.end inside.end;
-  }
-
-  pub part_replaced : (pieces : Text) → splice text (start + within.start) (start + within.end) pieces ≡ splice text start end (splice (text_at text range) within.start within.end pieces)
-  part_replaced pieces =
-      let bound : start + within.end ≤ end = omega (arith, placed.start_le_end, inside.end.0, slice-length text start end placed.end.0) in
-      let back : (n : ℕ) → start + n - start ≡ n = λ n. omega arith in
-      splice-within text pieces start end (start + within.start) (start + within.end) (omega arith) (omega (arith, inside.start_le_end)) bound placed.end.0
-      ∙ (λ i. splice text start end (splice (text_at text range) (back within.start i) (back within.end i) pieces))
-
--- the lengths of the path before and after
-pub path_length : (text : Text) → length (path_text text) ≡ length (spell_path (read_reference text).path)
-path_length text = ap length (path_range text)
-
-pub part_length : (text pieces : Text) (within : Range ℕ) → IsWithin (path_text text) within
-    → length (spell_path (read_reference text).path) - (within.end - within.start) + length pieces ≡ length (spell_path (read_path (splice (path_text text) within.start within.end pieces)))
-part_length text pieces within inside =
-    ap (λ n. n - (within.end - within.start) + length pieces) (sym (path_length text))
-    ∙ sym (length-spliced (path_text text) pieces within.start within.end inside.start_le_end inside.end.0)
-    ∙ ap length (sym (read_path-reads (splice (path_text text) within.start within.end pieces)).spelled)
+-- it ends in the text
+pub part_ends : (text new part : Text) (at : Span) → IsWithin text (record { start = at.start; end = at.end }) → new ≡ splice text at.start at.end part → at.start + length part ≤ length new
+part_ends text new part at placed e = (part_stands text new part at.start at.end (at.start + length part) placed.start_le_end placed.end.0 e refl).in_bounds

@@ -1,7 +1,8 @@
 -- The path of a reference where it stands, and after an edit of it.
-use Rattle.std.proofs.Common.{◌≡◌, ℕ, ◌+◌, Bool, true, false, cond, not, ◌&&◌, ◌||◌, length, refl, sym, ap, ◌∙◌}
+use Rattle.std.proofs.Common.{◌≡◌, ℕ, ◌+◌, Bool, true, false, cond, not, ◌&&◌, ◌||◌, length, refl, sym, ap, subst, ◌∙◌}
 use Rattle.std.proofs.lemmas.Bool.{and_from}
-use Rattle.std.specs.List.{list_all}
+use Rattle.std.specs.Prelude.{Option, is_some}
+use Rattle.std.specs.List.{list_all, slice_range, splice}
 use Rattle.std.specs.declared.ops.Range.{Range}
 use Rattle.iref_grammar.specs.declared.context.PathContext.{PathContext}
 use Rattle.iref_grammar.specs.Characters.{CharTests, AreAboveAscii}
@@ -25,8 +26,15 @@ use Rattle.iref_model.proofs.ReferenceStepLemmas.{with_path-readable, with_norma
 use Rattle.iref_path_text.specs.PathParts.{is_path_after}
 use Rattle.iref_path_text.specs.Remaining.{flagged_path}
 use Rattle.iref_path_text.specs.Spelling.{normal_in}
-use Rattle.iref_buffer.specs.PathRanges.{RemovesDots}
-use Rattle.iref_buffer.proofs.EditLemmas.{readable_of}
+use Rattle.iref_grammar.proofs.RangeLemmas.{path_range}
+use Rattle.iref_edit.specs.Changes.{IsWithin, part_at}
+use Rattle.iref_edit.specs.declared.change.Span.{Span}
+use Rattle.iref_buffer.specs.ComponentLengths.{HasLengths, lengths_of}
+use Rattle.iref_buffer.specs.PathRanges.{IsPathOf, RemovesDots}
+use Rattle.iref_buffer.specs.PathTexts.{with_path_read}
+use Rattle.iref_buffer.proofs.HeldLemmas.{offsets_within}
+use Rattle.iref_buffer.proofs.EditLemmas.{is_step, readable_of}
+use Rattle.iref_buffer.proofs.PathEditLemmas.{path_text_replaced, read_path-readable}
 
 -- ---- where it stands
 
@@ -51,15 +59,55 @@ path_stands set above text h =
       path_after = and_from _ _ path (ap (follows_authority (context_of r)) read ∙ parts.follows);
     }
 
+pub path_within : (set : CharTests) → AreAboveAscii set → (text : Text) (context : PathContext) (at : Span) → IsPathOf set text context at.start at.end → IsWithin text (record { start = at.start; end = at.end })
+path_within set above text context at stands =
+    subst (IsWithin text) (λ i. record { start = sym stands.1 i; end = sym stands.2 i }) (offsets_within set above text stands.0).path
+
 -- ---- after an edit
 
-pub range_of_new_path : (old new path : Text) → read_reference new ≡ record (read_reference old) { path = read_path path } → let start = (offsets_of old).path.start in
+range_of_new_path : (old new path : Text) → read_reference new ≡ with_path_read path (read_reference old) → let start = (offsets_of old).path.start in
     let range : Range ℕ = record { start = start; end = start + length path } in (offsets_of new).path ≡ range
 unfolding offsets_of offsets_in
 range_of_new_path old new path e =
     let start = path_start (read_reference old) in
     let of_len : ℕ → Range ℕ = λ n. record { start = start; end = start + n } in
     ap (λ r. (offsets_in r).path) e ∙ ap of_len (ap length (read_path-reads path).spelled)
+
+-- the new path stands where the old one did, and the other components stay
+pub record HoldsPath (set : CharTests) (test : Text → Bool) (old : ReferenceValue) (context : PathContext) (start : ℕ) (path new : Text) : Type 0 where
+  pub stands : IsPathOf set new context start (start + length path)
+  pub leaves : HasLengths test (record (lengths_of old) { path = length path }) new
+
+module _ (set : CharTests) (above : AreAboveAscii set) (test : Text → Bool) (allows : Option Text → Bool)
+    (by_scheme : (text : Text) → is_reference set text ≡ true → allows (read_reference text).scheme ≡ true → test text ≡ true)
+    (references : (text : Text) → test text ≡ true → is_reference set text ≡ true)
+    (text : Text) (context : PathContext) (at : Span) (stands : IsPathOf set text context at.start at.end) (allowed : allows (read_reference text).scheme ≡ true) where
+  pub path_put : (path new : Text) → (is_path_in set context (part_at text at) ≡ true → is_path_in set context path ≡ true) → new ≡ splice text at.start at.end path
+      → HoldsPath set test (read_reference text) context at.start path new
+  path_put path new keeps e =
+      let old = read_reference text in
+      let here : context ≡ context_of old = λ i. record { has_scheme = stands.3 i; has_authority = stands.4 i } in
+      let there : part_at text at ≡ spell_path old.path = (λ i. slice_range text (stands.1 i) (stands.2 i)) ∙ path_range text in
+      let stood : is_path_in set context (part_at text at) ≡ true = (λ i. is_path_in set (here i) (there i)) ∙ (path_stands set above text stands.0).path_in in
+      let fits : is_path_in set (context_of old) path ≡ true = ap (λ x. is_path_in set x path) (sym here) ∙ keeps stood in
+      let spelled = e ∙ (λ i. splice text (stands.1 i) (stands.2 i) path) ∙ path_text_replaced text path in
+      let step = is_step set above test allows by_scheme new (with_path_read path old) spelled (read_path-readable set old path (readable_of set text stands.0) fits) allowed in
+      let range = range_of_new_path text new path step.value in
+      let starts : at.start ≡ (offsets_of new).path.start = stands.1 ∙ sym (ap (λ (r : Range ℕ). r.start) range) in
+      let ends : at.start + length path ≡ (offsets_of new).path.end = ap (λ n. n + length path) stands.1 ∙ sym (ap (λ (r : Range ℕ). r.end) range) in
+      record {
+        stands = (
+          references new step.leaves.in_rule,
+          starts,
+          ends,
+          stands.3 ∙ sym (ap (λ (r : ReferenceValue). is_some r.scheme) step.value),
+          stands.4 ∙ sym (ap (λ (r : ReferenceValue). is_some r.authority) step.value),
+        );
+        leaves = record {
+          in_rule = step.leaves.in_rule;
+          lengths = (λ i. record (lengths_of old) { path = length (sym (read_path-reads path).spelled i) }) ∙ step.leaves.lengths;
+        };
+      }
 
 -- ---- the normal path
 

@@ -143,26 +143,6 @@ impl<R: HeldRule, C: CharSet> Held<R, C> {
         Ok(())
     }
 
-    /// Makes a change of the path, where the path that this leaves may stand.
-    pub fn replace_in_path(&mut self, change: Change<'_>) -> Result<(), Memory>
-        requires within { IsWithin (path_text self.old) change.within }
-        requires may_stand { is_path_in C.tests (context_of (read_reference self.old))
-            (changed (path_text self.old) change) ≡ true }
-        ensures text { OnOk result (self.new
-            ≡ with_path_text (changed (path_text self.old) change.entry) self.old) }
-        ensures value { OnOk result (read_reference self.new ≡ with_path_read
-            (changed (path_text self.old) change.entry) (read_reference self.old)) }
-        ensures err { OnErr result (self.new ≡ self.old) }
-        ensures shorter { IsNoLonger change.entry → IsOk result }
-    {
-        let len = change.len_after(self.lengths().path)?;
-        let range = self.path_range();
-        let within = self.part_of(range, &change.within);
-        text::replace(&mut self.text, Change { within, ..change })?;
-        self.lengths.path = len;
-        Ok(())
-    }
-
     // Replaces a range of the text by three texts, which leaves components of these lengths.
     pub(super) fn step(
         &mut self,
@@ -221,19 +201,6 @@ impl<R: HeldRule, C: CharSet> Held<R, C> {
             ≡ spell (record (read_reference self.now) { path = path }) }
     {
         self.offsets().path
-    }
-
-    // The range in the text of a range within `range`.
-    pub(super) fn part_of(&self, range: Range<usize>, within: &Range<usize>) -> Range<usize>
-        requires range { IsWithin self.now range }
-        requires within { IsWithin (text_at self.now range) within.now }
-        ensures within { IsWithin self.now result }
-        ensures len { result.end - result.start ≡ within.now.end - within.now.start }
-        ensures replaced { (pieces : Text) → replaced self.now result pieces
-            ≡ replaced self.now range (replaced (text_at self.now range) within.now pieces) }
-    {
-        let start = range.start;
-        start + within.start..start + within.end
     }
 
     // The authority and its delimiter, or where they would stand.

@@ -1,17 +1,16 @@
 //! The path of a held reference as a part that is edited in place, and as a normal one (RFC 3986
 //! sections 3.3 and 5.2.4).
-ghost use Rattle.std.specs.Prelude.{◌≡◌, ◌-◌, ◌≤◌, ◌||◌, ◌&&◌, length, not, true, OnErr, OnOk};
-ghost use Rattle.iref_component.specs.{is_path_in, offsets_of, read_path, context_of};
+ghost use Rattle.std.specs.Prelude.{◌≡◌, ◌||◌, ◌&&◌, not, true, OnErr, OnOk};
+ghost use Rattle.iref_component.specs.{read_path, context_of};
 ghost use Rattle.iref_component.specs.{read_reference, spell, is_path, is_empty, with_path};
 ghost use Rattle.iref_model.specs.ComponentSteps.{with_new_normal_path};
-ghost use Rattle.iref_path_text.specs.Rewriting.{rewritten};
-ghost use Rattle.iref_buffer.specs.PathTexts.{path_text, with_path_read, with_path_text};
 ghost use Rattle.iref_buffer.specs.PathRanges.{IsPathOf, one_path, path_is_within, RemovesDots};
 
 use super::{Held, HeldRule};
 use crate::lengths::Lengths;
 use iref_edit::change::{Change, Span};
 use iref_edit::target::Target;
+use iref_edit::text;
 use iref_error::Memory;
 use iref_grammar::chars::CharSet;
 use iref_grammar::context::PathContext;
@@ -36,19 +35,23 @@ impl<R: HeldRule, C: CharSet> Target<PathPart, C> for Held<R, C> {
     }
 
     fn part(&self, after: PathContext, at: Span) -> &str {
-        self.slices().path
+        &self.as_str()[at.start..at.end]
     }
 
     fn replace(&mut self, after: PathContext, at: Span, by: Change<'_>) -> Result<usize, Memory> {
-        self.replace_in_path(by)?;
-        Ok(self.offsets().path.end)
+        let len = by.len_after(at.end - at.start)?;
+        let within = at.start + by.within.start..at.start + by.within.end;
+        text::replace(&mut self.text, Change { within, ..by })?;
+        self.lengths.path = len;
+        Ok(at.start + len)
     }
 }
 
 impl<R: HeldRule, C: CharSet> PathTarget<C> for Held<R, C> {
     fn rewrite(&mut self, after: PathContext, at: Span, lead: &str) -> usize {
-        self.rewrite_path(lead);
-        self.offsets().path.end
+        let end = rewrite_text(&mut self.text, at, lead);
+        self.lengths.path = end - at.start;
+        end
     }
 }
 
@@ -58,35 +61,6 @@ impl<R: HeldRule, C: CharSet> Held<R, C> {
         ensures { result ≡ context_of (read_reference self.now) }
     {
         self.lengths().context()
-    }
-}
-
-impl<R: HeldRule, C: CharSet> Held<R, C> {
-    // Replaces the path by what stands first and the normal list, where that may stand.
-    // It takes no memory.
-    fn rewrite_path(&mut self, lead: &str)
-        requires shorter { length (rewritten lead.now (path_text self.old))
-            ≤ (offsets_of self.old).path.end - (offsets_of self.old).path.start }
-        requires may_stand { is_path_in C.tests (context_of (read_reference self.old))
-            (rewritten lead.now (path_text self.old)) ≡ true }
-        ensures text { self.new
-            ≡ with_path_text (rewritten lead.now (path_text self.old)) self.old }
-        ensures value { read_reference self.new ≡ with_path_read
-            (rewritten lead.now (path_text self.old)) (read_reference self.old) }
-    {
-        let old = self.lengths();
-        let range = self.path_range();
-        let start = range.start;
-        let span = Span {
-            start,
-            end: range.end,
-        };
-        let end = rewrite_text(&mut self.text, span, lead);
-        let lengths = Lengths {
-            path: end - start,
-            ..old
-        };
-        self.lengths = lengths;
     }
 
     /// Sets the path and normalizes it, as one edit.

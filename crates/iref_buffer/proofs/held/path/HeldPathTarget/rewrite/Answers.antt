@@ -1,55 +1,55 @@
-use Rattle.std.proofs.Common.{◌≡◌, true, ◌+◌, length, sym, ap, subst, ◌∙◌}
-use Rattle.std.specs.Prelude.{is_some, ◌-◌, ◌≤◌}
-use Rattle.std.specs.List.{slice_range}
-use Rattle.iref_grammar.specs.declared.offsets.Offsets.{Offsets}
-use Rattle.iref_grammar.specs.Contexts.{is_path_in}
-use Rattle.iref_grammar.specs.ComponentOffsets.{offsets_of}
-use Rattle.iref_grammar.specs.Reference.{read_reference, context_of}
-use Rattle.iref_grammar.proofs.RangeLemmas.{path_range}
-use Rattle.iref_path_text.specs.Rewriting.{rewritten}
-use Rattle.iref_buffer.specs.PathTexts.{path_text}
-use Rattle.iref_buffer.proofs.PathRangeLemmas.{path_stands, range_of_new_path}
+use Rattle.std.proofs.Common.{rules, ◌≡◌, ◌+◌, ◌-◌, true, length, sym, ap, subst, ◌∙◌, arith}
+use Rattle.std.specs.Prelude.{◌≤◌}
+use Rattle.iref_edit.specs.Changes.{part_at}
+use Rattle.iref_grammar.specs.Reference.{read_reference}
+use Rattle.iref_path_text.specs.Rewriting.{rewritten, rewritten_at}
+use Rattle.iref_buffer.specs.ComponentLengths.{lengths_of}
+use Rattle.iref_buffer.specs.PathRanges.{IsPathOf}
+use Rattle.iref_buffer.proofs.HeldLemmas.{in_rule_utf8}
+use Rattle.iref_buffer.proofs.PathRangeLemmas.{path_put, path_within}
 use Rattle.iref_buffer.proofs.held.path.HeldPathTarget.rewrite.Goals as goal
 
-pub rewrite_path-requires-clause-shorter : goal.rewrite_path-requires-clause-shorter
-rewrite_path-requires-clause-shorter g c =
-    let text = c.args.self.now in
-    let s = c.requires.stands in
-    subst (λ start. length (rewritten c.args.lead.now (slice_range text start (offsets_of text).path.end)) ≤ (offsets_of text).path.end - start) s.1
-    (subst (λ end. length (rewritten c.args.lead.now (slice_range text c.args.at.start end)) ≤ end - c.args.at.start) s.2 c.requires.shorter)
+pub rewrite_text-end-requires-clause-start_le_end : goal.rewrite_text-end-requires-clause-start_le_end
+rewrite_text-end-requires-clause-start_le_end g c = (path_within g.C.CharSet.tests g.met.C.CharSet.above_ascii c.args.self.now c.args.after c.args.at c.requires.stands).start_le_end
 
-pub rewrite_path-requires-clause-may_stand : goal.rewrite_path-requires-clause-may_stand
-rewrite_path-requires-clause-may_stand g c =
+pub rewrite_text-end-requires-clause-in_bounds : goal.rewrite_text-end-requires-clause-in_bounds
+rewrite_text-end-requires-clause-in_bounds g c =
+    let placed = path_within g.C.CharSet.tests g.met.C.CharSet.above_ascii c.args.self.now c.args.after c.args.at c.requires.stands in
+    let inside = subst (λ t. c.args.at.end ≤ length t) (sym c.self.view_is) placed.end.0 in
+    search rules
+
+pub rewrite_text-end-requires-clause-utf8 : goal.rewrite_text-end-requires-clause-utf8
+rewrite_text-end-requires-clause-utf8 g c =
     let set = g.C.CharSet.tests in
     let text = c.args.self.now in
-    let r = read_reference text in
-    let s = c.requires.stands in
-    let context : c.args.after ≡ context_of r = λ i. record { has_scheme = s.3 i; has_authority = s.4 i } in
-    let same : slice_range text c.args.at.start c.args.at.end ≡ path_text text = λ i. slice_range text (s.1 i) (s.2 i) in
-    let stood : is_path_in set c.args.after (slice_range text c.args.at.start c.args.at.end) ≡ true =
-    (λ i. is_path_in set (context i) (same i)) ∙ ap (is_path_in set (context_of r)) (path_range text) ∙ (path_stands set g.met.C.CharSet.above_ascii text s.0).path_in in
-    (λ i. is_path_in set (sym context i) (rewritten c.args.lead.now (sym same i))) ∙ c.requires.reads stood
+    let known = subst (λ t. g.R.Rule.test set t ≡ true) c.self.view_is c.self.invariant.0 in
+    let put = ap (λ t. rewritten_at c.args.lead.now t c.args.at) c.self.view_is in
+    let holds = path_put set g.met.C.CharSet.above_ascii (g.R.Rule.test set) g.R.HeldRule.allows_scheme (g.met.R.HeldRule.by_scheme set) (g.met.R.HeldRule.references set)
+    text c.args.after c.args.at c.requires.stands (g.met.R.HeldRule.has_allowed_scheme set text known) (rewritten c.args.lead.now (part_at text c.args.at)) _ c.requires.reads put in
+    in_rule_utf8 _ _ ((g.R.Rule.decided set g.met.C.CharSet.above_ascii _).0 holds.leaves.in_rule)
+
+pub invariant_of-self : goal.invariant_of-self
+invariant_of-self g c =
+    let set = g.C.CharSet.tests in
+    let text = c.args.self.now in
+    let known = subst (λ t. g.R.Rule.test set t ≡ true) c.self.view_is c.self.invariant.0 in
+    let put = c.rewrite_text-end.ensures.bytes ∙ ap (λ t. rewritten_at c.args.lead.now t c.args.at) c.self.view_is in
+    let path = rewritten c.args.lead.now (part_at text c.args.at) in
+    let end = c.rewrite_text-end.ensures.end ∙ ap (λ t. c.args.at.start + length (rewritten c.args.lead.now (part_at t c.args.at))) c.self.view_is in
+    let len : c.rewrite_text-end.result - c.args.at.start ≡ length path = omega (arith, end) in
+    let holds = path_put set g.met.C.CharSet.above_ascii (g.R.Rule.test set) g.R.HeldRule.allows_scheme (g.met.R.HeldRule.by_scheme set) (g.met.R.HeldRule.references set)
+    text c.args.after c.args.at c.requires.stands (g.met.R.HeldRule.has_allowed_scheme set text known) path _ c.requires.reads put in
+    let lengths = c.self.invariant.1 ∙ ap (λ t. lengths_of (read_reference t)) c.self.view_is in
+    (holds.leaves.in_rule, (λ i. record (lengths i) { path = len i }) ∙ holds.leaves.lengths)
 
 pub returns-clause-stands : goal.returns-clause-stands
 returns-clause-stands g c =
     let set = g.C.CharSet.tests in
     let text = c.args.self.now in
-    let s = c.requires.stands in
-    let value = c.rewrite_path.ensures.value in
-    let path = rewritten c.args.lead.now (path_text text) in
-    let range = range_of_new_path text c.rewrite_path.new.self path value in (
-      g.met.R.HeldRule.references set _ c.offsets.ensures.in_rule,
-      s.1 ∙ sym (ap (λ p. p.start) range),
-      ap (λ (p : Offsets). p.path.end) c.offsets.ensures.offsets,
-      s.3 ∙ sym (ap (λ r. is_some r.scheme) value),
-      s.4 ∙ sym (ap (λ r. is_some r.authority) value),
-    )
-
-pub returns-clause-end : goal.returns-clause-end
-returns-clause-end g c =
-    let text = c.args.self.now in
-    let s = c.requires.stands in
-    let path = rewritten c.args.lead.now (path_text text) in
-    let range = range_of_new_path text c.rewrite_path.new.self path c.rewrite_path.ensures.value in
-    ap (λ (p : Offsets). p.path.end) c.offsets.ensures.offsets ∙ ap (λ p. p.end) range
-    ∙ (λ i. sym s.1 i + length (rewritten c.args.lead.now (slice_range text (sym s.1 i) (sym s.2 i))))
+    let known = subst (λ t. g.R.Rule.test set t ≡ true) c.self.view_is c.self.invariant.0 in
+    let put = c.rewrite_text-end.ensures.bytes ∙ ap (λ t. rewritten_at c.args.lead.now t c.args.at) c.self.view_is in
+    let path = rewritten c.args.lead.now (part_at text c.args.at) in
+    let end = c.rewrite_text-end.ensures.end ∙ ap (λ t. c.args.at.start + length (rewritten c.args.lead.now (part_at t c.args.at))) c.self.view_is in
+    let holds = path_put set g.met.C.CharSet.above_ascii (g.R.Rule.test set) g.R.HeldRule.allows_scheme (g.met.R.HeldRule.by_scheme set) (g.met.R.HeldRule.references set)
+    text c.args.after c.args.at c.requires.stands (g.met.R.HeldRule.has_allowed_scheme set text known) path _ c.requires.reads put in
+    subst (IsPathOf set _ c.args.after c.args.at.start) (sym end) holds.stands

@@ -1,47 +1,70 @@
-use Rattle.std.proofs.Common.{◌≡◌, true, ◌+◌, length, sym, ap, ◌∙◌}
-use Rattle.std.specs.Prelude.{is_some}
-use Rattle.std.specs.List.{slice_range}
-use Rattle.iref_edit.specs.Changes.{changed}
-use Rattle.iref_grammar.specs.declared.offsets.Offsets.{Offsets}
-use Rattle.iref_grammar.specs.Contexts.{is_path_in}
-use Rattle.iref_grammar.specs.Reference.{read_reference, context_of}
-use Rattle.iref_grammar.proofs.RangeLemmas.{path_range}
-use Rattle.iref_buffer.specs.PathTexts.{path_text}
-use Rattle.iref_buffer.proofs.PathRangeLemmas.{path_stands, range_of_new_path}
+use Rattle.std.proofs.Common.{◌≡◌, ℕ, ◌+◌, true, sym, ap, subst, ◌∙◌, arith}
+use Rattle.std.specs.declared.ops.Range.{Range}
+use Rattle.iref_grammar.specs.Reference.{read_reference}
+use Rattle.iref_edit.specs.Changes.{IsWithin, changed_part}
+use Rattle.iref_edit.proofs.PartLemmas.{part_len, slice-length}
+use Rattle.iref_buffer.specs.ComponentLengths.{lengths_of}
+use Rattle.iref_buffer.specs.PathRanges.{IsPathOf}
+use Rattle.iref_buffer.proofs.PathEditLemmas.{part_changed, part_ends, part_within}
+use Rattle.iref_buffer.proofs.PathRangeLemmas.{path_put, path_within}
 use Rattle.iref_buffer.proofs.held.path.HeldTargetPathPart.replace.Goals as goal
 
-pub replace_in_path-requires-clause-may_stand : goal.replace_in_path-requires-clause-may_stand
-replace_in_path-requires-clause-may_stand g c =
+pub overflow_sub-at : goal.overflow_sub-at
+overflow_sub-at g c = (path_within g.C.CharSet.tests g.met.C.CharSet.above_ascii c.args.self.now c.args.after c.args.at c.requires.stands).start_le_end
+
+pub len_after-requires-clause-in_bounds : goal.len_after-requires-clause-in_bounds
+len_after-requires-clause-in_bounds g c =
+    let text = c.args.self.now in
+    let placed = path_within g.C.CharSet.tests g.met.C.CharSet.above_ascii text c.args.after c.args.at c.requires.stands in
+    omega (arith, c.requires.within.end.0, slice-length text c.args.at.start c.args.at.end placed.end.0)
+
+pub replace-requires : goal.replace-requires
+replace-requires g c =
+    let text = c.args.self.now in
+    let placed = path_within g.C.CharSet.tests g.met.C.CharSet.above_ascii text c.args.after c.args.at c.requires.stands in
+    let here : Range ℕ = record { start = c.args.at.start + c.args.by.within.start; end = c.args.at.start + c.args.by.within.end } in
+    subst (λ t. IsWithin t here) (sym c.self.view_is) (part_within text c.args.at placed c.args.by.within c.requires.within)
+
+pub overflow_add-result : goal.overflow_add-result
+overflow_add-result g c =
+    let text = c.args.self.now in
+    let placed = path_within g.C.CharSet.tests g.met.C.CharSet.above_ascii text c.args.after c.args.at c.requires.stands in
+    let put = part_changed _ text _ c.args.at c.args.by c.self.view_is placed c.requires.within c.in_ok-replace.ensures.ok in
+    let len = c.in_ok-len.ensures.sum ∙ part_len text c.args.by c.args.at placed.start_le_end placed.end.0 c.requires.within in
+    omega (arith, len, part_ends text _ _ c.args.at placed put)
+
+pub invariant_of-self-2 : goal.invariant_of-self-2
+invariant_of-self-2 g c =
     let set = g.C.CharSet.tests in
     let text = c.args.self.now in
-    let r = read_reference text in
-    let s = c.requires.stands in
-    let context : c.args.after ≡ context_of r = λ i. record { has_scheme = s.3 i; has_authority = s.4 i } in
-    let same : slice_range text c.args.at.start c.args.at.end ≡ path_text text = λ i. slice_range text (s.1 i) (s.2 i) in
-    let stood : is_path_in set c.args.after (slice_range text c.args.at.start c.args.at.end) ≡ true =
-    (λ i. is_path_in set (context i) (same i)) ∙ ap (is_path_in set (context_of r)) (path_range text) ∙ (path_stands set g.met.C.CharSet.above_ascii text s.0).path_in in
-    (λ i. is_path_in set (sym context i) (changed (sym same i) c.args.by)) ∙ c.requires.reads stood
+    let known = subst (λ t. g.R.Rule.test set t ≡ true) c.self.view_is c.self.invariant.0 in
+    let placed = path_within set g.met.C.CharSet.above_ascii text c.args.after c.args.at c.requires.stands in
+    let put = part_changed _ text _ c.args.at c.args.by c.self.view_is placed c.requires.within c.in_ok-replace.ensures.ok in
+    let len = c.in_ok-len.ensures.sum ∙ part_len text c.args.by c.args.at placed.start_le_end placed.end.0 c.requires.within in
+    let holds = path_put set g.met.C.CharSet.above_ascii (g.R.Rule.test set) g.R.HeldRule.allows_scheme (g.met.R.HeldRule.by_scheme set) (g.met.R.HeldRule.references set)
+    text c.args.after c.args.at c.requires.stands (g.met.R.HeldRule.has_allowed_scheme set text known) (changed_part text c.args.at c.args.by) _ c.requires.reads put in
+    let lengths = c.self.invariant.1 ∙ ap (λ t. lengths_of (read_reference t)) c.self.view_is in
+    (holds.leaves.in_rule, (λ i. record (lengths i) { path = len i }) ∙ holds.leaves.lengths)
+
+pub returns-clause-text : goal.returns-clause-text
+returns-clause-text g c =
+    let text = c.args.self.now in
+    let placed = path_within g.C.CharSet.tests g.met.C.CharSet.above_ascii text c.args.after c.args.at c.requires.stands in
+    part_changed _ text _ c.args.at c.args.by c.self.view_is placed c.requires.within c.in_ok-replace.ensures.ok
 
 pub returns-clause-stands : goal.returns-clause-stands
 returns-clause-stands g c =
     let set = g.C.CharSet.tests in
     let text = c.args.self.now in
-    let s = c.requires.stands in
-    let value = c.in_ok-replace_in_path.ensures.value in
-    let path = changed (path_text text) c.args.by in
-    let range = range_of_new_path text c.replace_in_path.new.self path value in (
-      g.met.R.HeldRule.references set _ c.offsets.ensures.in_rule,
-      s.1 ∙ sym (ap (λ p. p.start) range),
-      ap (λ (p : Offsets). p.path.end) c.offsets.ensures.offsets,
-      s.3 ∙ sym (ap (λ r. is_some r.scheme) value),
-      s.4 ∙ sym (ap (λ r. is_some r.authority) value),
-    )
+    let known = subst (λ t. g.R.Rule.test set t ≡ true) c.self.view_is c.self.invariant.0 in
+    let placed = path_within set g.met.C.CharSet.above_ascii text c.args.after c.args.at c.requires.stands in
+    let put = part_changed _ text _ c.args.at c.args.by c.self.view_is placed c.requires.within c.in_ok-replace.ensures.ok in
+    let len = c.in_ok-len.ensures.sum ∙ part_len text c.args.by c.args.at placed.start_le_end placed.end.0 c.requires.within in
+    let holds = path_put set g.met.C.CharSet.above_ascii (g.R.Rule.test set) g.R.HeldRule.allows_scheme (g.met.R.HeldRule.by_scheme set) (g.met.R.HeldRule.references set)
+    text c.args.after c.args.at c.requires.stands (g.met.R.HeldRule.has_allowed_scheme set text known) (changed_part text c.args.at c.args.by) _ c.requires.reads put in
+    subst (IsPathOf set _ c.args.after c.args.at.start) (ap (λ n. c.args.at.start + n) (sym len)) holds.stands
 
 pub returns-clause-end : goal.returns-clause-end
 returns-clause-end g c =
-    let text = c.args.self.now in
-    let s = c.requires.stands in
-    let path = changed (path_text text) c.args.by in
-    let range = range_of_new_path text c.replace_in_path.new.self path c.in_ok-replace_in_path.ensures.value in
-    ap (λ (p : Offsets). p.path.end) c.offsets.ensures.offsets ∙ ap (λ p. p.end) range
-    ∙ (λ i. sym s.1 i + length (changed (slice_range text (sym s.1 i) (sym s.2 i)) c.args.by))
+    let placed = path_within g.C.CharSet.tests g.met.C.CharSet.above_ascii c.args.self.now c.args.after c.args.at c.requires.stands in
+    ap (λ n. c.args.at.start + n) (c.in_ok-len.ensures.sum ∙ part_len c.args.self.now c.args.by c.args.at placed.start_le_end placed.end.0 c.requires.within)
