@@ -1,7 +1,7 @@
 -- The base of a reference is readable, and its text is a beginning of the whole.
-use Rattle.std.proofs.Common.{◌≡◌, ℕ, ◌+◌, Bool, true, List, [], ◌∷◌, ◌++◌, length, refl, sym, ◌∙◌, ap, append_assoc, arith}
-use Rattle.std.specs.Prelude.{codes, Option, Some, None, is_some, option_map}
-use Rattle.std.specs.List.{list_all}
+use Rattle.std.proofs.Common.{◌≡◌, ℕ, ◌+◌, Bool, true, false, List, [], ◌∷◌, ◌++◌, length, refl, sym, ◌∙◌, ap, subst, cond, append_assoc, arith}
+use Rattle.std.specs.Prelude.{◌==◌, codes, Option, Some, None, is_some, option_map}
+use Rattle.std.specs.List.{join_with_byte, list_all, onto_first}
 use Rattle.std.specs.Str.{IsUtf8, is_utf8, chars}
 use Rattle.std.specs.Char.{encode_utf8}
 use Rattle.std.proofs.lemmas.List.{append-nil, length-append}
@@ -10,23 +10,24 @@ use Rattle.std.proofs.lemmas.Bool.{and_from, and_parts}
 use Rattle.iref_grammar.specs.declared.context.PathContext.{PathContext}
 use Rattle.iref_grammar.specs.Characters.{CharTests, AreAboveAscii}
 use Rattle.iref_grammar.specs.Rules.{Text}
-use Rattle.iref_grammar.specs.Grammar.{hash_sign, colon, question_mark}
+use Rattle.iref_grammar.specs.Grammar.{hash_sign, colon, question_mark, slash}
 use Rattle.iref_grammar.specs.Tests.{is_segment, is_query, is_fragment, none_or}
-use Rattle.iref_grammar.specs.Texts.{all_but_last, part_then, then_part}
+use Rattle.iref_grammar.specs.Texts.{all_but_last, part_then, pieces_at, then_part}
 use Rattle.iref_grammar.specs.Authority.{spell_authority}
-use Rattle.iref_grammar.specs.PathValue.{spell_path, read_path}
+use Rattle.iref_grammar.specs.PathValue.{spell_path, read_path, segments_of}
 use Rattle.iref_grammar.specs.Contexts.{fits}
 use Rattle.iref_grammar.specs.ComponentTexts.{ComponentTexts, AreComponents, read_components}
 use Rattle.iref_grammar.specs.Reference.{ReferenceValue, context_of, is_readable, spell, read_reference, is_reference, is_uri}
 use Rattle.iref_grammar.specs.ComponentOffsets.{offsets_in, path_start}
-use Rattle.iref_grammar.proofs.TextLemmas.{first_of_both, second_of_both}
+use Rattle.iref_grammar.proofs.TextLemmas.{first_of_both, join-pieces_at, second_of_both}
 use Rattle.iref_grammar.proofs.PathLemmas.{read_path-reads}
 use Rattle.iref_grammar.proofs.ReadablePartsLemmas.{readable_parts, readable_from}
 use Rattle.iref_grammar.proofs.ReadableLemmas.{readable_read}
 use Rattle.iref_grammar.proofs.ComponentLemmas.{uri_if_scheme, scheme_if_uri, reference_if_uri}
 use Rattle.iref_model.specs.NormalList.{closed}
-use Rattle.iref_model.specs.PathFunctions.{directory, directory_text}
-use Rattle.iref_model.proofs.DirectoryLemmas.{directory-spelled}
+use Rattle.iref_model.specs.PathFunctions.{directory}
+use Rattle.iref_model.proofs.DirectoryLemmas.{all_but_last-snoc}
+use Rattle.iref_model.proofs.PieceLemmas.{some_piece}
 use Rattle.iref_model.proofs.FitsLemmas.{cleared-fits}
 use Rattle.iref_grammar.proofs.EmptyLemmas.{is_segment_empty}
 use Rattle.iref_model.specs.ReferenceParts.{base_of}
@@ -94,7 +95,33 @@ moved s a d n q f = simp (append_assoc, append-nil)
 measured : (s a d n : Text) → length s + length a + length (d ++ n) ≡ length (s ++ a ++ d ++ [] ++ []) + length n
 measured s a d n = simp (length-append, append-nil) (omega arith)
 
-module _ (t : ComponentTexts) (file_name : Text) (cut : directory_text t.path ++ file_name ≡ t.path) where
+-- the segments before the last one, each with a `/` after it, and the last one
+closed_then : (front : List Text) (last : Text) → join_with_byte slash (closed front) ++ last ≡ join_with_byte slash (front ++ last ∷ [])
+closed_then [] last = refl
+closed_then (s ∷ []) last = append_assoc s (slash ∷ []) last
+closed_then (s ∷ t ∷ rest) last = append_assoc s (slash ∷ join_with_byte slash (closed (t ∷ rest))) last ∙ ap (λ text. s ++ slash ∷ text) (closed_then (t ∷ rest) last)
+
+directory_joined : (path : Text) → spell_path (directory (read_path path)) ≡ join_with_byte slash (closed (all_but_last (pieces_at slash path)))
+unfolding directory read_path spell_path
+directory_joined [] = refl
+directory_joined (c ∷ cs) = by (c == slash)
+  where
+    after_root : (s : Text) (rest : List Text) → slash ∷ join_with_byte slash (closed (all_but_last (s ∷ rest))) ≡ join_with_byte slash (closed (all_but_last ([] ∷ s ∷ rest)))
+    after_root s [] = refl
+    after_root s (t ∷ rest) = refl
+
+    rooted : (cs : Text) → slash ∷ join_with_byte slash (closed (all_but_last (segments_of cs))) ≡ join_with_byte slash (closed (all_but_last ([] ∷ pieces_at slash cs)))
+    rooted [] = refl
+    rooted (c ∷ cs) =
+        let some = some_piece slash (c ∷ cs) in
+        subst (λ list. slash ∷ join_with_byte slash (closed (all_but_last list)) ≡ join_with_byte slash (closed (all_but_last ([] ∷ list)))) (sym some.2) (after_root some.0 some.1)
+
+    by : (b : Bool) → let list = cond b ([] ∷ pieces_at slash cs) (onto_first c (pieces_at slash cs)) in
+        spell_path (directory (cond b (record { absolute = true; segments = segments_of cs }) (record { absolute = false; segments = list }))) ≡ join_with_byte slash (closed (all_but_last list))
+    by true = rooted cs
+    by false = refl
+
+module _ (t : ComponentTexts) (front : List Text) (file_name : Text) (cut : pieces_at slash t.path ≡ front ++ file_name ∷ []) where
   abbrev scheme_part : Text
   scheme_part = part_then (colon ∷ []) t.scheme
 
@@ -102,7 +129,9 @@ module _ (t : ComponentTexts) (file_name : Text) (cut : directory_text t.path ++
   authority_part = then_part (codes "//") (option_map spell_authority (read_components t).authority)
 
   same_path : spell_path (directory (read_path t.path)) ++ file_name ≡ spell_path (read_path t.path)
-  same_path = ap (λ d. d ++ file_name) (directory-spelled t.path) ∙ cut ∙ sym (read_path-reads t.path).spelled
+  same_path =
+      ap (λ d. d ++ file_name) (directory_joined t.path ∙ ap (λ list. join_with_byte slash (closed (all_but_last list))) cut ∙ ap (λ list. join_with_byte slash (closed list)) (all_but_last-snoc front file_name))
+      ∙ closed_then front file_name ∙ ap (join_with_byte slash) (sym cut) ∙ join-pieces_at slash t.path ∙ sym (read_path-reads t.path).spelled
 
   pub base-joins : spell (base_of (read_components t)) ++ (file_name ++ tail t) ≡ spell (read_components t)
   unfolding spell base_of

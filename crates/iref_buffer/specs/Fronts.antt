@@ -1,19 +1,27 @@
 -- The front part of a base's text that stays before a reference's text (RFC 3986 sections 5.2.3 and 5.3).
-use Rattle.std.specs.Prelude.{◌≡◌, true, ◌++◌}
+use Rattle.std.specs.Prelude.{◌≡◌, ◌++◌, None, is_some}
 use Rattle.std.specs.Borrow.{Bor}
 use Rattle.iref_grammar.specs.declared.context.PathContext.{PathContext}
 use Rattle.iref_grammar.specs.Rules.{Text}
+use Rattle.iref_grammar.specs.ComponentTexts.{ComponentTexts}
 use Rattle.iref_grammar.specs.PathValue.{read_path, spell_path}
 use Rattle.iref_grammar.specs.Reference.{ReferenceValue, spell}
 use Rattle.iref_model.specs.PathSteps.{normalized}
 use Rattle.iref_model.specs.Resolution.{resolved}
 use Rattle.iref_path_text.specs.Merged.{path_after}
 use Rattle.iref_buffer.specs.ComponentLengths.{lengths_of}
+use Rattle.iref_buffer.specs.MeasuredReferences.{spell_texts}
 use Rattle.iref_buffer.specs.declared.lengths.Lengths.{Lengths}
 
--- after an authority, this part of the base's path and the path spell the normalized path
-abbrev pub StaysBefore : Text → Text → Text → Type 0
-StaysBefore base path front = (context : PathContext) → context.has_authority ≡ true → front ++ path ≡ spell_path (normalized context (path_after true (read_path base) (read_path path)))
+-- the path that one resolves to after these components
+abbrev pub resolved_path : ComponentTexts → Text → Text
+resolved_path t path =
+    let context : PathContext = record { has_scheme = is_some t.scheme; has_authority = is_some t.authority } in
+    spell_path (normalized context (path_after context.has_authority (read_path t.path) (read_path path)))
+
+-- this text and the path spell the components with that path, and nothing behind it
+abbrev pub StaysBefore : ComponentTexts → Text → Text → Type 0
+StaysBefore t path front = front ++ path ≡ spell_texts (record t { path = resolved_path t path; query = None; fragment = None })
 
 -- this text and the reference's spell what it resolves to, of which the components are this long
 pub record IsFront (base reference : ReferenceValue) (front : Bor Text × Lengths) : Type 0 where

@@ -1,30 +1,22 @@
 //! The base of a reference: its text up to the end of the path's directory (RFC 3986 section
 //! 5.2.3).
-ghost use Rattle.std.specs.Prelude.{◌≡◌, ◌++◌, true};
+ghost use Rattle.std.specs.Prelude.{◌≡◌, true};
 ghost use Rattle.iref_parse.specs.{texts_of, value_of, AreComponents, is_reference};
-ghost use Rattle.iref_model.specs.{read_reference, spell, directory_text, base_of};
+ghost use Rattle.iref_model.specs.{read_reference, spell, base_of};
 
 use iref_grammar::chars::CharSet;
 use iref_parse::offsets::offsets_of;
 use iref_parse::split::{ReferenceSlices, split_reference};
-
-// What follows the last `/` of a path, or all of the path.
-fn after_directory(path: &str) -> &str
-    ensures { directory_text path.now ++ result.now ≡ path.now }
-{
-    match path.rfind('/') {
-        Some(at) => &path[at + 1..],
-        None => path,
-    }
-}
+use iref_path_text::segments::last_segment;
 
 /// The text of these components up to the end of the path's directory.
+#[inline(always)]
 pub fn base_slice<'a, C: CharSet>(text: &'a str, slices: ReferenceSlices<'a>) -> &'a str
     requires value { value_of slices ≡ read_reference text.now }
     requires components { AreComponents C.tests (texts_of slices) }
     ensures { result.now ≡ spell (base_of (read_reference text.now)) }
 {
-    let file_name = after_directory(slices.path);
+    let file_name = last_segment(slices.path).1;
     let end = offsets_of(slices).path.end - file_name.len();
     &text[..end]
 }

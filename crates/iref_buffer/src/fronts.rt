@@ -3,48 +3,40 @@
 ghost use Rattle.iref_buffer.specs.Fronts.{IsFront, StaysBefore};
 ghost use Rattle.iref_grammar.specs.{AreComponents, read_reference};
 ghost use Rattle.iref_parse.specs.{texts_of, value_of};
-ghost use Rattle.iref_path_text.specs.Bodies.{after_front};
-ghost use Rattle.std.specs.Prelude.{◌≡◌, ◌≢◌, ◌++◌, [], IfSome, codes, length};
-ghost use Rattle.std.specs.Str.{IsUtf8};
+ghost use Rattle.std.specs.Prelude.{◌≡◌, ◌≢◌, [], IfSome, is_some, true};
 
+use crate::base::base_slice;
 use crate::lengths::{Lengths, len_of};
 use iref_grammar::chars::CharSet;
 use iref_parse::dots::has_dots;
 use iref_parse::offsets::offsets_of;
 use iref_parse::split::ReferenceSlices;
-use iref_path_text::segments::{split_root, without_last};
+use iref_path_text::segments::split_root;
 
-// How long the path of these segments is with its root and with a `/` after the last.
+// The front part that stays before a path, if no segment begins with a dot: of `//h/x/y` it is
+// `//h` before `/a`, and `//h/x/` before `a`.
 #[inline(always)]
-fn directory_len(segments: Option<&str>) -> usize
-    ensures { result ≡ length (codes "/" ++ after_front segments.entry []) }
-{
-    match segments {
-        Some(text) => text.len() + 2,
-        None => 1,
-    }
-}
-
-// The base's path, which follows an authority, cut where the path takes the place of the rest, if
-// no segment begins with a dot: `/a` cuts `/x/y` at its start, and `a` before `y`.
-#[inline(always)]
-fn cut_front<'a>(base: &'a str, path: &str) -> Option<(&'a str, &'a str)>
-    requires { path.now ≢ [] }
-    ensures cut { IfSome result (λ cut. cut.0.now ++ cut.1.now ≡ base.now) }
-    ensures front { IfSome result (λ cut. StaysBefore base.now path.now cut.0.now) }
-    ensures utf8 { IfSome result (λ cut. IsUtf8 cut.1.now) }
+fn front_before<'a, C: CharSet>(
+    text: &'a str,
+    base: ReferenceSlices<'a>,
+    path: &str,
+) -> Option<&'a str>
+    requires value { value_of base ≡ read_reference text.now }
+    requires components { AreComponents C.tests (texts_of base) }
+    requires authority { is_some base.authority ≡ true }
+    requires path { path.now ≢ [] }
+    ensures { IfSome result (λ front. StaysBefore (texts_of base.entry) path.now front.now) }
 {
     if has_dots(path.as_bytes()) {
         return None;
     }
     if split_root(path).0 {
-        return Some(base.split_at(0));
+        return Some(&text[..offsets_of(base).path.start]);
     }
-    let (absolute, segments) = split_root(base);
-    if !absolute || has_dots(base.as_bytes()) {
+    if !split_root(base.path).0 || has_dots(base.path.as_bytes()) {
         return None;
     }
-    Some(base.split_at(directory_len(without_last(segments))))
+    Some(base_slice::<C>(text, base))
 }
 
 /// The front part of the base's text that stays before the reference's text, with the lengths of
@@ -64,14 +56,12 @@ pub fn front_kept<'a, C: CharSet>(
     if is_own || base.authority.is_none() || reference.path.is_empty() {
         return None;
     }
-    let (front, rest) = cut_front(base.path, reference.path)?;
-    let end = offsets_of(base).path.end - rest.len();
+    let front = front_before::<C>(text, base, reference.path)?;
     let lengths = Lengths {
-        scheme: len_of(base.scheme),
-        authority: len_of(base.authority),
-        path: front.len() + reference.path.len(),
+        path: front.len() + reference.path.len() - offsets_of(base).path.start,
         query: len_of(reference.query),
         fragment: len_of(reference.fragment),
+        ..Lengths::of(base)
     };
-    Some((&text[..end], lengths))
+    Some((front, lengths))
 }
