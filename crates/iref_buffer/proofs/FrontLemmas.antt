@@ -1,5 +1,5 @@
 -- What stays before a path, and before a reference, where no segment begins with a dot.
-use Rattle.std.proofs.Common.{◌≡◌, ℕ, ◌+◌, Bool, true, false, cond, not, ◌&&◌, ◌||◌, List, [], ◌∷◌, ◌++◌, length, take, refl, sym, ◌∙◌, ap, append_assoc, arith, length-append}
+use Rattle.std.proofs.Common.{◌≡◌, ℕ, ◌+◌, Bool, true, false, cond, not, ◌&&◌, ◌||◌, List, [], ◌∷◌, ◌++◌, length, take, refl, sym, ◌∙◌, ap, append_assoc, length-append}
 use Rattle.std.specs.Prelude.{◌==◌, ◌≢◌, codes, Option, Some, None, is_some}
 use Rattle.std.specs.List.{join_with_byte, list_all}
 use Rattle.std.proofs.lemmas.Bool.{or_parts}
@@ -149,11 +149,8 @@ taken s a p q f =
     let parts : s ++ a ++ p ++ q ++ f ≡ (s ++ a) ++ (p ++ q ++ f) = simp append_assoc in
     (λ i. take (sym (length-append s a) i) (parts i)) ∙ take-append_seam (s ++ a) (p ++ q ++ f)
 
-put_after : (s a path : Text) → s ++ a ++ path ≡ s ++ a ++ path ++ [] ++ []
-put_after s a path = simp append-nil
-
-put_after_directory : (s a front path : Text) → (s ++ a ++ front ++ [] ++ []) ++ path ≡ s ++ a ++ (front ++ path) ++ [] ++ []
-put_after_directory s a front path = simp (append_assoc, append-nil)
+put_after : (s a front path : Text) → (s ++ a ++ front ++ [] ++ []) ++ path ≡ s ++ a ++ (front ++ path)
+put_after s a front path = simp (append_assoc, append-nil)
 
 module _ (t : ComponentTexts) (authority : is_some t.authority ≡ true) (path : Text) (dotless : has_dot_segment path ≡ false) where
   abbrev context : PathContext
@@ -170,37 +167,35 @@ module _ (t : ComponentTexts) (authority : is_some t.authority ≡ true) (path :
 
   -- it ends where the base's path begins
   pub before_absolute : (read_path path).absolute ≡ true → StaysBefore t path (take (offsets_in (read_components t)).path.start (spell (read_components t)))
-  unfolding offsets_in spell spell_texts
+  unfolding offsets_in spell
   before_absolute e =
       let p = spell_path (read_path t.path) in
       let q = then_part (question_mark ∷ []) t.query in
       let f = then_part (hash_sign ∷ []) t.fragment in
       ap (λ front. front ++ path) ((λ i. let a = then_part (codes "//") (sym (authority_spelled t.authority) i) in take (length s + length a) (s ++ a ++ p ++ q ++ f)) ∙ taken s a p q f)
-      ∙ put_after s a path ∙ ap (λ p. s ++ a ++ p ++ [] ++ []) (absolute-stays context t.path path authority e dotless ∙ after)
+      ∙ ap (λ p. s ++ a ++ p) (absolute-stays context t.path path authority e dotless ∙ after)
 
   -- or where its directory ends
   pub before_relative : (read_path t.path).absolute ≡ true → has_dot_segment t.path ≡ false → path ≢ [] → (read_path path).absolute ≡ false → StaysBefore t path (spell (base_of (read_components t)))
-  unfolding spell base_of spell_texts
+  unfolding spell base_of
   before_relative absolute h some relative =
       let front = spell_path (directory (read_path t.path)) in
-      (λ i. (s ++ then_part (codes "//") (sym (authority_spelled t.authority) i) ++ front ++ [] ++ []) ++ path) ∙ put_after_directory s a front path
-      ∙ ap (λ p. s ++ a ++ p ++ [] ++ []) (relative-stays context t.path path authority absolute h some relative dotless ∙ after)
+      (λ i. (s ++ then_part (codes "//") (sym (authority_spelled t.authority) i) ++ front ++ [] ++ []) ++ path) ∙ put_after s a front path
+      ∙ ap (λ p. s ++ a ++ p) (relative-stays context t.path path authority absolute h some relative dotless ∙ after)
 
 -- ---- the texts of two references
 
-put_behind : (s a p front path q f : Text) → front ++ path ≡ s ++ a ++ p ++ [] ++ [] → front ++ (path ++ q ++ f) ≡ s ++ a ++ p ++ q ++ f
+put_behind : (s a p front path q f : Text) → front ++ path ≡ s ++ a ++ p → front ++ (path ++ q ++ f) ≡ s ++ a ++ p ++ q ++ f
 put_behind s a p front path q f e =
-    let before : front ++ (path ++ q ++ f) ≡ (front ++ path) ++ (q ++ f) = simp append_assoc in
-    before ∙ ap (λ t. t ++ (q ++ f)) e ∙ simp (append_assoc, append-nil)
+    let before : front ++ (path ++ q ++ f) ≡ (front ++ path) ++ q ++ f = simp append_assoc in
+    before ∙ ap (λ t. t ++ q ++ f) e
 
-put_length : (s a p front path : Text) → front ++ path ≡ s ++ a ++ p ++ [] ++ [] → length front + length path ≡ length s + length a + length p
-put_length s a p front path e =
-    let size : length (s ++ a ++ p ++ [] ++ []) ≡ length s + length a + length p = simp (append-nil, length-append) in
-    sym (length-append front path) ∙ ap length e ∙ size
+put_length : (s a p front path : Text) → front ++ path ≡ s ++ a ++ p → length front + length path ≡ length s + length a + length p
+put_length s a p front path e = sym (length-append front path) ∙ ap length e ∙ simp length-append
 
 -- how long the path is then
 pub front_length : (b : ComponentTexts) (path front : Text) → StaysBefore b path front → length front + length path ≡ (offsets_in (read_components b)).path.start + length (resolved_path b path)
-unfolding offsets_in spell_texts
+unfolding offsets_in
 front_length b path front stays =
     let s = part_then (colon ∷ []) b.scheme in
     put_length s (then_part (codes "//") b.authority) (resolved_path b path) front path stays

@@ -1,8 +1,10 @@
 -- The front part of a base's text that stays before a reference's text (RFC 3986 sections 5.2.3 and 5.3).
-use Rattle.std.specs.Prelude.{◌≡◌, ◌++◌, None, is_some}
+use Rattle.std.specs.Prelude.{◌≡◌, [], ◌∷◌, ◌++◌, codes, is_some}
 use Rattle.std.specs.Borrow.{Bor}
 use Rattle.iref_grammar.specs.declared.context.PathContext.{PathContext}
 use Rattle.iref_grammar.specs.Rules.{Text}
+use Rattle.iref_grammar.specs.Grammar.{colon}
+use Rattle.iref_grammar.specs.Texts.{part_then, then_part}
 use Rattle.iref_grammar.specs.ComponentTexts.{ComponentTexts}
 use Rattle.iref_grammar.specs.PathValue.{read_path, spell_path}
 use Rattle.iref_grammar.specs.Reference.{ReferenceValue, spell}
@@ -10,7 +12,6 @@ use Rattle.iref_model.specs.PathSteps.{normalized}
 use Rattle.iref_model.specs.Resolution.{resolved}
 use Rattle.iref_path_text.specs.Merged.{path_after}
 use Rattle.iref_buffer.specs.ComponentLengths.{lengths_of}
-use Rattle.iref_buffer.specs.MeasuredReferences.{spell_texts}
 use Rattle.iref_buffer.specs.declared.lengths.Lengths.{Lengths}
 
 -- the path that one resolves to after these components
@@ -19,9 +20,9 @@ resolved_path t path =
     let context : PathContext = record { has_scheme = is_some t.scheme; has_authority = is_some t.authority } in
     spell_path (normalized context (path_after context.has_authority (read_path t.path) (read_path path)))
 
--- this text and the path spell the components with that path, and nothing behind it
+-- this text and the path spell the scheme, the authority and that path
 abbrev pub StaysBefore : ComponentTexts → Text → Text → Type 0
-StaysBefore t path front = front ++ path ≡ spell_texts (record t { path = resolved_path t path; query = None; fragment = None })
+StaysBefore t path front = front ++ path ≡ part_then (colon ∷ []) t.scheme ++ then_part (codes "//") t.authority ++ resolved_path t path
 
 -- this text and the reference's spell what it resolves to, of which the components are this long
 pub record IsFront (base reference : ReferenceValue) (front : Bor Text × Lengths) : Type 0 where

@@ -1,5 +1,4 @@
-use Rattle.std.proofs.Common.{arith, ◌≡◌, ◌+◌, ◌-◌, ◌++◌, ◌||◌, length, sym, ap, ◌∙◌}
-use Rattle.iref_grammar.specs.ComponentOffsets.{offsets_in}
+use Rattle.std.proofs.Common.{arith, ◌≡◌, ◌+◌, ◌-◌, ◌||◌, length, sym, ap, ◌∙◌}
 use Rattle.iref_grammar.specs.Reference.{spell}
 use Rattle.iref_grammar.specs.declared.offsets.Offsets.{Offsets}
 use Rattle.iref_grammar.proofs.ComponentLemmas.{is_some-copied}
