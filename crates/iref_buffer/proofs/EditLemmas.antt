@@ -1,11 +1,10 @@
 -- What an edit leaves is the spelling of the step of the value.
-use Rattle.std.proofs.Common.{◌≡◌, ℕ, ◌+◌, ◌-◌, ◌≤◌, Bool, true, [], ◌∷◌, ◌++◌, length, rules, refl, sym, ◌∙◌, ap, subst, arith, append_assoc}
+use Rattle.std.proofs.Common.{◌≡◌, ◌+◌, Bool, true, [], ◌∷◌, ◌++◌, length, rules, refl, sym, ◌∙◌, ap, subst, arith, append_assoc}
 use Rattle.std.specs.Prelude.{codes, Option, Some, None, IfSome, is_some, option_map, Result, Ok, Err, OnOk, OnErr}
 use Rattle.std.specs.List.{splice}
 use Rattle.std.specs.Str.{IsCharBoundary}
 use Rattle.std.proofs.lemmas.Str.{IsCharBoundary-end}
 use Rattle.std.proofs.lemmas.List.{length-append, places, same_lists}
-use Rattle.std.proofs.Math.Nat.{add-sub_cancel_left}
 use Rattle.iref_grammar.specs.Characters.{CharTests, AreAboveAscii}
 use Rattle.iref_grammar.specs.Rules.{Text}
 use Rattle.iref_grammar.specs.Grammar.{colon, question_mark, hash_sign}
@@ -22,12 +21,11 @@ use Rattle.iref_model.specs.ComponentSteps.{with_query, with_fragment, with_auth
 use Rattle.iref_buffer.specs.AuthorityRanges.{range_of_authority}
 use Rattle.iref_buffer.specs.declared.lengths.Lengths.{Lengths}
 use Rattle.iref_buffer.specs.PathTexts.{authority_text}
-use Rattle.iref_buffer.specs.ComponentLengths.{lengths_of, with_mark, HasLengths}
+use Rattle.iref_buffer.specs.ComponentLengths.{fragment_after, HasLengths, lengths_of, path_after, query_after, with_mark}
 use Rattle.iref_buffer.specs.Steps.{StepsOrStays}
-use Rattle.iref_buffer.specs.RangeTexts.{front_end, authority_start_at, authority_start}
 use Rattle.iref_edit.specs.Changes.{IsWithin}
-use Rattle.iref_buffer.proofs.HeldLemmas.{fragment_marked, offsets_within, front_within, authority_mark_within}
-use Rattle.iref_buffer.proofs.LengthLemmas.{first_len, marked_len}
+use Rattle.iref_buffer.proofs.HeldLemmas.{authority_mark_within, fragment_mark_within, offsets_within}
+use Rattle.iref_buffer.proofs.LengthLemmas.{first_len, fragment_after-lengths, path_after-lengths, query_after-lengths}
 
 pub readable_of : (set : CharTests) (text : Text) → is_reference set text ≡ true → is_readable set (read_reference text) ≡ true
 unfolding is_reference
@@ -108,31 +106,26 @@ module _ (text : Text) where
   unfolding spell
   spelled = sym (read_reference-spelled text)
 
-  pub query_replaced : (query : Option Text) → splice text (offsets_of text).path.end (front_end (offsets_of text)) (then_part (question_mark ∷ []) query) ≡ spell (with_query query r)
-  unfolding spell offsets_of offsets_in
+  abbrev l : Lengths
+  l = lengths_of r
+
+  pub query_replaced : (query : Option Text) → splice text (query_after l) (fragment_after l) (then_part (question_mark ∷ []) query) ≡ spell (with_query query r)
+  unfolding spell
   query_replaced query =
       let new = then_part (question_mark ∷ []) query in
-      (λ i. splice (spelled i) (query_mark r) (fragment_marked r i) new) ∙ query_spliced s a p q f new
+      (λ i. splice (spelled i) (query_after-lengths r i) (fragment_after-lengths r i) new) ∙ query_spliced s a p q f new
 
-  pub fragment_replaced : (fragment : Option Text) → splice text (front_end (offsets_of text)) (length text) (then_part (hash_sign ∷ []) fragment) ≡ spell (with_fragment fragment r)
-  unfolding spell offsets_of offsets_in
+  pub fragment_replaced : (fragment : Option Text) → splice text (fragment_after l) (length text) (then_part (hash_sign ∷ []) fragment) ≡ spell (with_fragment fragment r)
+  unfolding spell
   fragment_replaced fragment =
       let new = then_part (hash_sign ∷ []) fragment in
-      (λ i. splice (spelled i) (fragment_marked r i) (length (spelled i)) new) ∙ fragment_spliced s a p q f new
+      (λ i. splice (spelled i) (fragment_after-lengths r i) (length (spelled i)) new) ∙ fragment_spliced s a p q f new
 
   pub path_replaced : (path : PathValue) → splice text (offsets_of text).path.start (offsets_of text).path.end (spell_path path) ≡ spell (record r { path = path })
   unfolding spell offsets_of offsets_in
   path_replaced path =
       let new = spell_path path in
       ap (λ t. splice t (path_start r) (query_mark r) new) spelled ∙ path_spliced s a p q f new
-
-  pub authority_starts : authority_start (offsets_of text) ≡ authority_mark r
-  unfolding offsets_of offsets_in
-  authority_starts = by (authority_mark r) r.authority
-    where
-      by : (mark : ℕ) (o : Option AuthorityValue) → authority_start_at (option_map (range_from (mark + 2)) (option_map spell_authority o)) (mark + length (then_part (codes "//") (option_map spell_authority o))) ≡ mark
-      by mark None = omega arith
-      by mark (Some authority) = omega arith
 
   pub authority_part_replaced : (value : AuthorityValue) → is_some r.authority ≡ true
       → splice text (range_of_authority text).start (range_of_authority text).end (spell_authority value) ≡ spell (with_authority_step (λ a. value) r)
@@ -146,22 +139,22 @@ module _ (text : Text) where
       by (Some old) h = marked_spliced s (spell_authority old) p q f (spell_authority value) (codes "//")
 
   pub authority_replaced : (authority : Option AuthorityValue) (path : PathValue) (lead : Text) → lead ++ p ≡ spell_path path
-      → splice text (authority_start (offsets_of text)) (offsets_of text).path.start (then_part (codes "//") (option_map spell_authority authority) ++ lead) ≡ spell (record r { authority = authority; path = path })
-  unfolding spell offsets_of offsets_in
+      → splice text (with_mark 1 l.scheme) (path_after l) (then_part (codes "//") (option_map spell_authority authority) ++ lead) ≡ spell (record r { authority = authority; path = path })
+  unfolding spell
   authority_replaced authority path lead e =
       let new = then_part (codes "//") (option_map spell_authority authority) in
-      (λ i. splice (spelled i) (authority_starts i) (path_start r) (new ++ lead)) ∙ authority_spliced s a p q f (new ++ lead)
+      (λ i. splice (spelled i) (first_len r.scheme i) (path_after-lengths r i) (new ++ lead)) ∙ authority_spliced s a p q f (new ++ lead)
       ∙ regroup new lead ∙ ap (λ t. s ++ new ++ t ++ q ++ f) e
     where
       regroup : (new lead : Text) → s ++ (new ++ lead) ++ p ++ q ++ f ≡ s ++ new ++ (lead ++ p) ++ q ++ f
       regroup new lead = simp append_assoc
 
   pub scheme_replaced : (scheme : Option Text) (path : PathValue) (lead : Text) → lead ++ a ++ p ≡ a ++ spell_path path
-      → splice text 0 (authority_start (offsets_of text)) (part_then (colon ∷ []) scheme ++ lead) ≡ spell (record r { scheme = scheme; path = path })
+      → splice text 0 (with_mark 1 l.scheme) (part_then (colon ∷ []) scheme ++ lead) ≡ spell (record r { scheme = scheme; path = path })
   unfolding spell
   scheme_replaced scheme path lead e =
       let new = part_then (colon ∷ []) scheme in
-      (λ i. splice (spelled i) 0 (authority_starts i) (new ++ lead)) ∙ scheme_spliced s a p q f (new ++ lead)
+      (λ i. splice (spelled i) 0 (first_len r.scheme i) (new ++ lead)) ∙ scheme_spliced s a p q f (new ++ lead)
       ∙ regroup new lead ∙ ap (λ t. new ++ t ++ q ++ f) e ∙ back new (spell_path path)
     where
       regroup : (new lead : Text) → (new ++ lead) ++ a ++ p ++ q ++ f ≡ new ++ (lead ++ a ++ p) ++ q ++ f
@@ -171,35 +164,6 @@ module _ (text : Text) where
       back new path = simp append_assoc
 
 -- ---- where the parts stand in a text
-
-path_before_front : (text : Text) → (offsets_of text).path.end ≤ front_end (offsets_of text)
-unfolding offsets_of offsets_in
-path_before_front text = rw (fragment_marked (read_reference text)) (omega arith)
-
-authority_before_path : (text : Text) → authority_start (offsets_of text) ≤ (offsets_of text).path.start
-unfolding offsets_of offsets_in
-authority_before_path text = rw (authority_starts text) (omega arith)
-
-pub authority_after_mark : (text : Text) → IfSome (offsets_of text).authority (λ authority. 2 ≤ authority.start)
-unfolding offsets_of offsets_in
-authority_after_mark text = by (read_reference text).authority
-  where
-    by : (o : Option AuthorityValue) → IfSome (option_map (range_from (authority_mark (read_reference text) + 2)) (option_map spell_authority o)) (λ authority. 2 ≤ authority.start)
-    by None = tt
-    by (Some authority) = omega arith
-
-pub authority_length : (text : Text) → (offsets_of text).path.start - authority_start (offsets_of text) ≡ with_mark 2 (lengths_of (read_reference text)).authority
-unfolding offsets_of offsets_in
-authority_length text =
-    let authority : Option Text = option_map spell_authority (read_reference text).authority in
-    ap (λ n. path_start (read_reference text) - n) (authority_starts text) ∙ add-sub_cancel_left (authority_mark (read_reference text)) (length (then_part (codes "//") authority))
-    ∙ sym (marked_len (codes "//") authority)
-
-pub scheme_length : (text : Text) → authority_start (offsets_of text) - 0 ≡ with_mark 1 (lengths_of (read_reference text)).scheme
-scheme_length text = whole (authority_start (offsets_of text)) ∙ authority_starts text ∙ sym (first_len (read_reference text).scheme)
-  where
-    whole : (n : ℕ) → n - 0 ≡ n
-    whole n = omega arith
 
 -- how long the path is after what is written before it and the authority
 pub scheme_path_length : (text lead : Text) (path : PathValue) (l : Lengths) → l ≡ lengths_of (read_reference text)
@@ -229,22 +193,34 @@ with_scheme-parts None r = refl
 with_scheme-parts (Some scheme) r = refl
 
 module _ (set : CharTests) (above : AreAboveAscii set) (text : Text) (h : is_reference set text ≡ true) where
-  pub query_within : IsWithin text (record { start = (offsets_of text).path.end; end = front_end (offsets_of text) })
-  query_within =
-      let offsets = offsets_within set above text h in
-      record { start_le_end = path_before_front text; start = offsets.path.end; end = front_within text (offsets_of text) offsets }
+  abbrev lengths : Lengths
+  lengths = lengths_of (read_reference text)
 
-  pub fragment_within : IsWithin text (record { start = front_end (offsets_of text); end = length text })
-  fragment_within =
-      let front = front_within text (offsets_of text) (offsets_within set above text h) in
-      record { start_le_end = front.0; start = front; end = IsCharBoundary-end text }
+  path_starts : IsCharBoundary text (path_after lengths)
+  unfolding offsets_of offsets_in
+  path_starts = subst (IsCharBoundary text) (sym (path_after-lengths (read_reference text))) (offsets_within set above text h).path.start
 
-  pub authority_within : IsWithin text (record { start = authority_start (offsets_of text); end = (offsets_of text).path.start })
-  authority_within = record {
-    start_le_end = authority_before_path text;
-    start = subst (IsCharBoundary text) (sym (authority_starts text)) (authority_mark_within set above text h);
-    end = (offsets_within set above text h).path.start;
-  }
+  pub path_ends : IsCharBoundary text (query_after lengths)
+  unfolding offsets_of offsets_in
+  path_ends = subst (IsCharBoundary text) (sym (query_after-lengths (read_reference text))) (offsets_within set above text h).path.end
+
+  pub front_ends : IsCharBoundary text (fragment_after lengths)
+  front_ends = subst (IsCharBoundary text) (sym (fragment_after-lengths (read_reference text))) (fragment_mark_within set above text h)
+
+  scheme_ends : IsCharBoundary text (with_mark 1 lengths.scheme)
+  scheme_ends = subst (IsCharBoundary text) (sym (first_len (read_reference text).scheme)) (authority_mark_within set above text h)
+
+  pub query_within : IsWithin text (record { start = query_after lengths; end = fragment_after lengths })
+  query_within = record { start_le_end = omega arith; start = path_ends; end = front_ends }
+
+  pub fragment_within : IsWithin text (record { start = fragment_after lengths; end = length text })
+  fragment_within = record { start_le_end = front_ends.0; start = front_ends; end = IsCharBoundary-end text }
+
+  pub path_within : IsWithin text (record { start = path_after lengths; end = query_after lengths })
+  path_within = record { start_le_end = omega arith; start = path_starts; end = path_ends }
+
+  pub authority_within : IsWithin text (record { start = with_mark 1 lengths.scheme; end = path_after lengths })
+  authority_within = record { start_le_end = omega arith; start = scheme_ends; end = path_starts }
 
   start_within : IsCharBoundary text 0
   unfolding offsets_of offsets_in
@@ -254,9 +230,5 @@ module _ (set : CharTests) (above : AreAboveAscii set) (text : Text) (h : is_ref
       by None u v = v
       by (Some part) u v = u.start
 
-  pub scheme_within : IsWithin text (record { start = 0; end = authority_start (offsets_of text) })
-  scheme_within = record {
-    start_le_end = omega arith;
-    start = start_within;
-    end = subst (IsCharBoundary text) (sym (authority_starts text)) (authority_mark_within set above text h);
-  }
+  pub scheme_within : IsWithin text (record { start = 0; end = with_mark 1 lengths.scheme })
+  scheme_within = record { start_le_end = omega arith; start = start_within; end = scheme_ends }

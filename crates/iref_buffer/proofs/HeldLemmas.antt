@@ -3,7 +3,6 @@ use Rattle.std.proofs.Common.{◌≡◌, ℕ, ◌+◌, ◌<◌, zero, suc, slice
 use Rattle.std.specs.Prelude.{codes, Option, Some, None, IfSome, option_map}
 use Rattle.std.specs.Bool.{Decides}
 use Rattle.std.specs.Str.{IsCharBoundary}
-use Rattle.std.specs.declared.ops.Range.{Range}
 use Rattle.std.proofs.lemmas.Str.{IsCharBoundary-at_seam, IsUtf8-append, IsUtf8-nil, IsUtf8-from_ascii}
 use Rattle.std.proofs.lemmas.List.{length-append, places, same_lists}
 use Rattle.iref_mapping.proofs.MappedIndexLemmas.{around_scheme, around_authority, around_path, around_query, around_fragment}
@@ -16,7 +15,7 @@ use Rattle.iref_grammar.specs.Authority.{spell_authority}
 use Rattle.iref_grammar.specs.PathValue.{spell_path}
 use Rattle.iref_grammar.specs.Reference.{ReferenceValue, hierarchy, split_scheme, split_authority, spell, read_reference, is_reference}
 use Rattle.iref_grammar.specs.ComponentTexts.{ComponentTexts, AreComponents, spell_components, read_components}
-use Rattle.iref_grammar.specs.ComponentOffsets.{range_from, authority_mark, query_mark, fragment_mark, offsets_in, offsets_of}
+use Rattle.iref_grammar.specs.ComponentOffsets.{range_from, authority_mark, fragment_mark, offsets_in, offsets_of}
 use Rattle.iref_grammar.proofs.LeafLemmas.{Decides-is_query, Decides-is_fragment}
 use Rattle.iref_grammar.proofs.PartRuleLemmas.{Decides-is_scheme_bytes}
 use Rattle.iref_grammar.proofs.AuthorityRuleLemmas.{Decides-is_authority}
@@ -24,10 +23,11 @@ use Rattle.iref_grammar.proofs.PathTextLemmas.{Decides-is_path}
 use Rattle.iref_grammar.proofs.ComponentLemmas.{Decides-AreComponents, spelled_as_read}
 use Rattle.iref_grammar.proofs.RangeLemmas.{scheme_range, authority_range, path_range, query_range, fragment_range}
 use Rattle.iref_grammar.proofs.ReferenceCutLemmas.{read_reference-spelled}
-use Rattle.iref_buffer.specs.RangeTexts.{AreWithin, texts_at, front_end, front_end_at}
+use Rattle.iref_buffer.specs.ComponentLengths.{fragment_after, lengths_of, query_after}
+use Rattle.iref_buffer.proofs.LengthLemmas.{fragment_after-lengths, query_after-lengths}
+use Rattle.iref_buffer.specs.RangeTexts.{AreWithin, texts_at}
 use Rattle.iref_edit.specs.Changes.{IsWithin}
 use Rattle.iref_grammar.proofs.FrontLemmas.{read_reference-before_hash, read_reference-hierarchy}
-use Rattle.iref_grammar.specs.declared.offsets.Offsets.{Offsets}
 
 -- what stands at the offsets of a text are its components
 pub texts_at-offsets : (text : Text) → texts_at text (offsets_of text) ≡ spell_components (read_reference text)
@@ -144,6 +144,10 @@ module _ (r : ReferenceValue) (u : AreUtf8 (spell_components r)) where
   unfolding spell
   mark_within = IsCharBoundary-at_seam (s ++ a ++ p ++ q ++ f) s (a ++ p ++ q ++ f) (sym (around_scheme s a p q f)) behind_scheme
 
+  end_within : IsCharBoundary (spell r) (fragment_mark r)
+  unfolding spell
+  end_within = subst (IsCharBoundary (s ++ a ++ p ++ q ++ f)) (fragment_begins s a p q f) (IsCharBoundary-at_seam (s ++ a ++ p ++ q ++ f) (s ++ a ++ p ++ q) f refl f_utf8)
+
   spelled_within : AreWithin (spell r) (offsets_in r)
   unfolding spell offsets_in
   spelled_within = record {
@@ -194,6 +198,12 @@ module _ (set : CharTests) (above : AreAboveAscii set) where
       subst (λ t. IsCharBoundary t (authority_mark (read_reference text))) (read_reference-spelled text)
       (mark_within (read_reference text) (components_utf8 _ (components_of text h)))
 
+  -- and of the fragment
+  pub fragment_mark_within : (text : Text) → is_reference set text ≡ true → IsCharBoundary text (fragment_mark (read_reference text))
+  fragment_mark_within text h =
+      subst (λ t. IsCharBoundary t (fragment_mark (read_reference text))) (read_reference-spelled text)
+      (end_within (read_reference text) (components_utf8 _ (components_of text h)))
+
 -- the spelling without its last parts
 module _ (s a p q f : Text) where
   front_of : s ++ a ++ p ++ q ++ [] ≡ take (length s + length a + length p + length q) (s ++ a ++ p ++ q ++ f)
@@ -202,40 +212,22 @@ module _ (s a p q f : Text) where
   hierarchy_of : s ++ a ++ p ++ [] ++ [] ≡ take (length s + length a + length p) (s ++ a ++ p ++ q ++ f)
   hierarchy_of = same_lists _ _ (search (rules, places)) (λ k d h. grind (arith, places))
 
--- the query ends, or the path without one, where the delimiter of the fragment stands
-pub fragment_marked : (r : ReferenceValue) → front_end (offsets_in r) ≡ fragment_mark r
-unfolding offsets_in
-fragment_marked r = by r.query
-  where
-    by : (o : Option Text) → front_end_at (option_map (range_from (query_mark r + 1)) o) (query_mark r) ≡ query_mark r + length (then_part (question_mark ∷ []) o)
-    by None = omega arith
-    by (Some query) = omega arith
-
-pub front-range : (text : Text) → take (front_end (offsets_of text)) text ≡ before (hash_sign ∷ []) text
-unfolding offsets_of spell
+pub front-range : (text : Text) → take (fragment_after (lengths_of (read_reference text))) text ≡ before (hash_sign ∷ []) text
+unfolding spell
 front-range text =
     let r = read_reference text in
-    let spelled = sym (read_reference-spelled text) in
-    (λ i. take (fragment_marked r i) (spelled i))
+    (λ i. take (fragment_after-lengths r i) (sym (read_reference-spelled text) i))
     ∙ sym (front_of (part_then (colon ∷ []) r.scheme) (then_part (codes "//") (option_map spell_authority r.authority)) (spell_path r.path)
     (then_part (question_mark ∷ []) r.query) (then_part (hash_sign ∷ []) r.fragment))
     ∙ ap spell (sym (read_reference-before_hash text)) ∙ read_reference-spelled (before (hash_sign ∷ []) text)
 
-pub hierarchy-range : (text : Text) → take (offsets_of text).path.end text ≡ hierarchy text
-unfolding offsets_of offsets_in spell
+pub hierarchy-range : (text : Text) → take (query_after (lengths_of (read_reference text))) text ≡ hierarchy text
+unfolding spell
 hierarchy-range text =
     let r = read_reference text in
-    ap (take (query_mark r)) (sym (read_reference-spelled text))
+    (λ i. take (query_after-lengths r i) (sym (read_reference-spelled text) i))
     ∙ sym (hierarchy_of (part_then (colon ∷ []) r.scheme) (then_part (codes "//") (option_map spell_authority r.authority)) (spell_path r.path)
     (then_part (question_mark ∷ []) r.query) (then_part (hash_sign ∷ []) r.fragment))
     ∙ ap spell (sym (read_reference-hierarchy text)) ∙ read_reference-spelled (hierarchy text)
-
--- the text may be cut there
-pub front_within : (text : Text) (offsets : Offsets) → AreWithin text offsets → IsCharBoundary text (front_end offsets)
-front_within text offsets w = by offsets.query w.query
-  where
-    by : (o : Option (Range ℕ)) → IfSome o (IsWithin text) → IsCharBoundary text (front_end_at o offsets.path.end)
-    by None u = w.path.end
-    by (Some range) u = u.end
 
 pub ruleset spelled = (read_reference-spelled)

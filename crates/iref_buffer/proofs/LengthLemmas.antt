@@ -72,6 +72,16 @@ range_from_len : (start : ℕ) (o : Option Text) → option_map (range_with_len 
 range_from_len start None = refl
 range_from_len start (Some part) = refl
 
+-- where the path, the query and the fragment begin
+pub path_after-lengths : (r : ReferenceValue) → path_after (lengths_of r) ≡ path_start r
+path_after-lengths r = λ i. first_len r.scheme i + marked_len (codes "//") (option_map spell_authority r.authority) i
+
+pub query_after-lengths : (r : ReferenceValue) → query_after (lengths_of r) ≡ query_mark r
+query_after-lengths r = ap (λ n. n + length (spell_path r.path)) (path_after-lengths r)
+
+pub fragment_after-lengths : (r : ReferenceValue) → fragment_after (lengths_of r) ≡ fragment_mark r
+fragment_after-lengths r = λ i. query_after-lengths r i + marked_len (question_mark ∷ []) r.query i
+
 -- where the components stand in terms of the lengths of the parts with their delimiters
 abbrev of_parts : ReferenceValue → ℕ → ℕ → ℕ → Offsets
 of_parts r s a q = record {

@@ -18,7 +18,7 @@ pub use Rattle.iref_parse.specs.ReferenceSlices.{texts_of, value_of}
 pub use Rattle.iref_component.specs.Makers.{Parses}
 pub use Rattle.iref_buffer.specs.ComponentLengths.{context_by, HasLengths, lengths_at, lengths_of, range_len, range_with_len, placed, total_length, with_mark}
 pub use Rattle.iref_buffer.specs.PathTexts.{authority_text, path_text, with_path_read, with_path_text}
-pub use Rattle.iref_buffer.specs.RangeTexts.{AreWithin, authority_start, front_end, texts_at}
+pub use Rattle.iref_buffer.specs.RangeTexts.{AreWithin, texts_at}
 pub use Rattle.iref_edit.specs.Changes.{IsWithin}
 pub mod RangeTexts
 pub mod ComponentLengths

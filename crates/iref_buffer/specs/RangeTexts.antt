@@ -1,7 +1,6 @@
 -- What stands at offsets in a text.
-use Rattle.std.specs.Prelude.{ℕ, ◌-◌, Option, Some, None, IfSome, option_map}
+use Rattle.std.specs.Prelude.{IfSome, option_map}
 use Rattle.iref_edit.specs.Changes.{IsWithin}
-use Rattle.std.specs.declared.ops.Range.{Range}
 use Rattle.iref_grammar.specs.declared.offsets.Offsets.{Offsets}
 use Rattle.iref_grammar.specs.Rules.{Text}
 use Rattle.iref_grammar.specs.ComponentTexts.{ComponentTexts}
@@ -24,19 +23,3 @@ texts_at text offsets = record {
   query = option_map (text_at text) offsets.query;
   fragment = option_map (text_at text) offsets.fragment;
 }
-
--- where the query ends, or the path without one
-abbrev pub front_end_at : Option (Range ℕ) → ℕ → ℕ
-front_end_at None path_end = path_end
-front_end_at (Some query) path_end = query.end
-
-abbrev pub front_end : Offsets → ℕ
-front_end offsets = front_end_at offsets.query offsets.path.end
-
--- where the delimiter of the authority stands, or the path without one
-abbrev pub authority_start_at : Option (Range ℕ) → ℕ → ℕ
-authority_start_at None path_start = path_start
-authority_start_at (Some authority) path_start = authority.start - 2
-
-abbrev pub authority_start : Offsets → ℕ
-authority_start offsets = authority_start_at offsets.authority offsets.path.start

@@ -1,13 +1,13 @@
 //! A text in a rule of references, with the lengths of its components beside it.
-ghost use Rattle.std.specs.{String.{string_bytes}, Prelude.{◌≡◌, ◌≤◌, Bool, true, [], ◌∷◌, Option}};
-ghost use Rattle.std.specs.{Prelude.{None, IfSome, is_some, option_map}, Option.{option_copied}};
+ghost use Rattle.std.specs.{String.{string_bytes}, Prelude.{◌≡◌, ◌<◌, ◌^◌, Bool, true, [], ◌∷◌}};
+ghost use Rattle.std.specs.{Prelude.{Option, None, IfSome, is_some, option_map}, Option.{option_copied}};
 ghost use Rattle.iref_grammar.specs.{text_at, AreComponents, spell_components, is_readable};
 ghost use Rattle.iref_grammar.specs.{is_reference, offsets_of, hash_sign, CharTests, AreAboveAscii};
 ghost use Rattle.iref_grammar.specs.{before, hierarchy, read_reference, spell, Text, InUtf8};
 ghost use Rattle.iref_parse.specs.{texts_of, value_of};
 ghost use Rattle.iref_component.specs.{with_query, with_fragment, Parses, base_of};
-ghost use Rattle.iref_buffer.specs.{ComponentLengths.{lengths_of}, RangeTexts.{AreWithin}};
-ghost use Rattle.iref_buffer.specs.RangeTexts.{texts_at, front_end, authority_start};
+ghost use Rattle.iref_buffer.specs.ComponentLengths.{lengths_of, total_length};
+ghost use Rattle.iref_buffer.specs.RangeTexts.{AreWithin, texts_at};
 ghost use Rattle.iref_edit.specs.Changes.{IsWithin};
 
 mod authority;
@@ -137,7 +137,7 @@ impl<R: HeldRule, C: CharSet> Held<R, C> {
         ensures offsets { result ≡ offsets_of self.now }
         ensures in_rule { R.test C.tests self.now ≡ true }
     {
-        self.lengths.offsets_in(self.text.as_str())
+        self.lengths().offsets()
     }
 
     // How long the components are, which are those of a readable reference that the rule allows.
@@ -145,6 +145,8 @@ impl<R: HeldRule, C: CharSet> Held<R, C> {
         ensures lengths { result ≡ lengths_of (read_reference self.now) }
         ensures readable { is_readable C.tests (read_reference self.now) ≡ true }
         ensures allowed { R.allows_scheme (read_reference self.now).scheme ≡ true }
+        ensures in_rule { R.test C.tests self.now ≡ true }
+        ensures fits { total_length result < 2 ^ 63 }
     {
         self.lengths
     }
@@ -165,8 +167,7 @@ impl<R: HeldRule, C: CharSet> Held<R, C> {
         ensures value { read_reference result.now ≡ with_fragment None (read_reference self.now) }
         ensures in_rule { is_reference C.tests result.now ≡ true }
     {
-        let end = front_end(&self.offsets());
-        &self.text.as_str()[..end]
+        &self.text.as_str()[..self.lengths().fragment_mark()]
     }
 
     /// The text up to the query and the fragment.
@@ -176,7 +177,7 @@ impl<R: HeldRule, C: CharSet> Held<R, C> {
             ≡ with_query None (with_fragment None (read_reference self.now)) }
         ensures in_rule { is_reference C.tests result.now ≡ true }
     {
-        &self.text.as_str()[..self.offsets().path.end]
+        &self.text.as_str()[..self.lengths().query_mark()]
     }
 
     /// The text up to the end of the path's directory (RFC 3986 section 5.2.3).
@@ -216,27 +217,6 @@ impl<R: HeldRule, C: CharSet> Held<R, C> {
 impl<R: HeldRule, C: CharSet> fmt::Debug for Held<R, C> {
     fn fmt<W: fmt::Write>(&self, f: &mut fmt::Formatter<W>) -> fmt::Result {
         fmt::Debug::fmt(&self.as_str(), f)
-    }
-}
-
-// Where the query ends, or the path without one.
-fn front_end(offsets: &Offsets) -> usize
-    ensures { result ≡ front_end offsets.now }
-{
-    match &offsets.query {
-        Some(query) => query.end,
-        None => offsets.path.end,
-    }
-}
-
-// Where the delimiter of the authority stands, or the path without one.
-fn authority_start(offsets: &Offsets) -> usize
-    requires { IfSome offsets.now.authority (λ authority. 2 ≤ authority.start) }
-    ensures { result ≡ authority_start offsets.now }
-{
-    match &offsets.authority {
-        Some(authority) => authority.start - 2,
-        None => offsets.path.start,
     }
 }
 

@@ -1,7 +1,8 @@
 //! How long the components of a reference are, from which their offsets follow.
-ghost use Rattle.std.specs.Prelude.{◌≡◌, ◌+◌, ◌<◌, ◌^◌, IfOk, length, option_map};
+ghost use Rattle.std.specs.Prelude.{◌≡◌, ◌+◌, ◌<◌, ◌^◌, IfOk, IfSome, length, option_map};
 ghost use Rattle.std.specs.Option.{option_copied};
-ghost use Rattle.iref_buffer.specs.ComponentLengths.{context_by, lengths_of_texts, placed};
+ghost use Rattle.iref_buffer.specs.ComponentLengths.{context_by, fragment_after, lengths_of_texts};
+ghost use Rattle.iref_buffer.specs.ComponentLengths.{path_after, placed, query_after};
 ghost use Rattle.iref_buffer.specs.ComponentLengths.{range_with_len, total_length, with_mark};
 ghost use Rattle.iref_parse.specs.{texts_of};
 
@@ -60,22 +61,41 @@ impl Lengths {
         add_part(add_part(query, 1, self.query)?, 1, self.fragment)
     }
 
+    /// Where the path begins.
+    pub fn path_start(self) -> usize
+        requires { path_after self < 2 ^ 64 }
+        ensures { result ≡ path_after self }
+    {
+        marked_len(1, self.scheme) + marked_len(2, self.authority)
+    }
+
+    /// Where the path ends, and the delimiter of a query stands.
+    pub fn query_mark(self) -> usize
+        requires { query_after self < 2 ^ 64 }
+        ensures { result ≡ query_after self }
+    {
+        self.path_start() + self.path
+    }
+
+    /// Where the delimiter of a fragment stands.
+    pub fn fragment_mark(self) -> usize
+        requires { fragment_after self < 2 ^ 64 }
+        ensures { result ≡ fragment_after self }
+    {
+        self.query_mark() + marked_len(1, self.query)
+    }
+
     /// Where components of these lengths stand in their text.
-    pub fn offsets_in(self, text: &str) -> Offsets
-        requires { total_length self ≡ length text.now }
+    pub fn offsets(self) -> Offsets
+        requires { total_length self < 2 ^ 63 }
         ensures { result ≡ placed self }
     {
-        let (scheme, authority_mark) = range_first(self.scheme);
-        let (authority, path_start) = range_after(authority_mark, 2, self.authority);
-        let query_mark = path_start + self.path;
-        let (query, fragment_mark) = range_after(query_mark, 1, self.query);
-        let (fragment, _) = range_after(fragment_mark, 1, self.fragment);
         Offsets {
-            scheme,
-            authority,
-            path: path_start..query_mark,
-            query,
-            fragment,
+            scheme: range_at(0, self.scheme),
+            authority: range_at(marked_len(1, self.scheme) + 2, self.authority),
+            path: self.path_start()..self.query_mark(),
+            query: range_at(self.query_mark() + 1, self.query),
+            fragment: range_at(self.fragment_mark() + 1, self.fragment),
         }
     }
 }
@@ -91,30 +111,25 @@ fn add_part(len: usize, mark: usize, part: Option<usize>) -> Result<usize, Alloc
     marked.checked_add(part).ok_or(AllocError)
 }
 
-// Where a part at the start stands, and where its delimiter of one byte ends.
-fn range_first(len: Option<usize>) -> (Option<Range<usize>>, usize)
-    requires { with_mark 1 len < 2 ^ 64 }
-    ensures range { result.0 ≡ option_map (range_with_len 0) len }
-    ensures end { result.1 ≡ with_mark 1 len }
+/// How long a part is with its delimiter, or 0 without one.
+pub fn marked_len(mark: usize, part: Option<usize>) -> usize
+    requires { with_mark mark part < 2 ^ 64 }
+    ensures { result ≡ with_mark mark part }
 {
-    match len {
-        Some(len) => (Some(0..len), 1 + len),
-        None => (None, 0),
+    match part {
+        Some(len) => mark + len,
+        None => 0,
     }
 }
 
-// Where a part stands after a delimiter that begins at `start`, and where it ends.
-fn range_after(start: usize, mark: usize, len: Option<usize>) -> (Option<Range<usize>>, usize)
-    requires { start + with_mark mark len < 2 ^ 64 }
-    ensures range { result.0 ≡ option_map (range_with_len (start + mark)) len }
-    ensures end { result.1 ≡ start + with_mark mark len }
+// Where a part that begins at `start` stands.
+fn range_at(start: usize, len: Option<usize>) -> Option<Range<usize>>
+    requires { IfSome len (λ len. start + len < 2 ^ 64) }
+    ensures { result ≡ option_map (range_with_len start) len }
 {
     match len {
-        Some(len) => {
-            let start = start + mark;
-            (Some(start..start + len), start + len)
-        }
-        None => (None, start),
+        Some(len) => Some(start..start + len),
+        None => None,
     }
 }
 

@@ -3,7 +3,6 @@ ghost use Rattle.std.specs.Prelude.{◌≡◌, ◌≤◌, ◌<◌, ◌+◌, ◌-
 ghost use Rattle.std.specs.Prelude.{length, Option, is_some, option_map, codes, OnOk, OnErr, IsOk};
 ghost use Rattle.std.specs.{Prelude.{IsNone}, Option.{option_copied}, List.{splice}};
 ghost use Rattle.std.specs.String.{string_bytes};
-ghost use Rattle.iref_grammar.specs.ComponentOffsets.{offsets_of, text_at};
 ghost use Rattle.iref_component.specs.{Text, colon, question_mark, hash_sign, AuthorityValue};
 ghost use Rattle.iref_component.specs.{spell_authority, read_authority, is_authority, part_then};
 ghost use Rattle.iref_component.specs.{then_part, none_or, is_scheme, is_path, is_query};
@@ -15,8 +14,8 @@ ghost use Rattle.iref_buffer.specs.{PathTexts.{with_path_read}, Steps.{StepsOrSt
 ghost use Rattle.iref_buffer.specs.ComponentLengths.{HasLengths, lengths_of, with_mark};
 ghost use Rattle.iref_edit.specs.Changes.{IsNoLonger, IsWithin, changed, replaced};
 
-use super::{Held, HeldRule, authority_start, front_end};
-use crate::lengths::{Lengths, len_of};
+use super::{Held, HeldRule};
+use crate::lengths::{Lengths, len_of, marked_len};
 use iref_edit::change::Change;
 use iref_edit::text::{self, marked, marked_after};
 use iref_error::Memory;
@@ -179,8 +178,8 @@ impl<R: HeldRule, C: CharSet> Held<R, C> {
             → splice self.now result.start result.end (then_part (question_mark ∷ []) query)
             ≡ spell (with_query query (read_reference self.now)) }
     {
-        let offsets = self.offsets();
-        offsets.path.end..front_end(&offsets)
+        let lengths = self.lengths();
+        lengths.query_mark()..lengths.fragment_mark()
     }
 
     // The fragment and its delimiter, or where they would stand.
@@ -190,17 +189,17 @@ impl<R: HeldRule, C: CharSet> Held<R, C> {
             → splice self.now result.start result.end (then_part (hash_sign ∷ []) fragment)
             ≡ spell (with_fragment fragment (read_reference self.now)) }
     {
-        front_end(&self.offsets())..self.text.as_str().len()
+        self.lengths().fragment_mark()..self.text.as_str().len()
     }
 
     // Where the path stands.
     pub(super) fn path_range(&self) -> Range<usize>
-        ensures range { result ≡ (offsets_of self.now).path }
         ensures within { IsWithin self.now result }
         ensures replaced { (path : PathValue) → replaced self.now result (spell_path path)
             ≡ spell (record (read_reference self.now) { path = path }) }
     {
-        self.offsets().path
+        let lengths = self.lengths();
+        lengths.path_start()..lengths.query_mark()
     }
 
     // The authority and its delimiter, or where they would stand.
@@ -214,8 +213,8 @@ impl<R: HeldRule, C: CharSet> Held<R, C> {
             (then_part (codes "//") (option_map spell_authority authority) ++ lead)
             ≡ spell (record (read_reference self.now) { authority = authority; path = path }) }
     {
-        let offsets = self.offsets();
-        authority_start(&offsets)..offsets.path.start
+        let lengths = self.lengths();
+        marked_len(1, lengths.scheme)..lengths.path_start()
     }
 
     // What is written before the path where an authority is to stand, or none.
@@ -255,7 +254,7 @@ impl<R: HeldRule, C: CharSet> Held<R, C> {
             → splice self.now result.start result.end (part_then (colon ∷ []) scheme ++ lead)
             ≡ spell (record (read_reference self.now) { scheme = scheme; path = path }) }
     {
-        0..authority_start(&self.offsets())
+        0..marked_len(1, self.lengths().scheme)
     }
 
     // What is written before the authority and the path where a scheme is to stand, or none.

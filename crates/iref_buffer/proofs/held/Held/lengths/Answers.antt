@@ -1,7 +1,8 @@
-use Rattle.std.proofs.Common.{ap, ◌∙◌, subst, ◌≡◌, true}
+use Rattle.std.proofs.Common.{rules, ap, ◌∙◌, subst, ◌≡◌, true}
 use Rattle.std.specs.String.{string_bytes}
 use Rattle.iref_grammar.specs.Reference.{read_reference, is_readable}
-use Rattle.iref_buffer.specs.ComponentLengths.{lengths_of}
+use Rattle.iref_buffer.specs.ComponentLengths.{lengths_of, total_length}
+use Rattle.iref_buffer.proofs.LengthLemmas.{total-read}
 use Rattle.iref_buffer.proofs.EditLemmas.{readable_of}
 use Rattle.iref_buffer.proofs.held.Held.lengths.Goals as goal
 
@@ -14,3 +15,8 @@ returns-clause-readable g c =
     let set = g.C.CharSet.tests in
     let text = string_bytes c.self.inside.text in
     subst (λ t. is_readable set (read_reference t) ≡ true) c.self.view_is (readable_of set text (g.met.R.HeldRule.references set text c.self.invariant.0))
+
+pub returns-clause-fits : goal.returns-clause-fits
+returns-clause-fits g c =
+    let size = ap total_length c.self.invariant.1 ∙ total-read (string_bytes c.self.inside.text) in
+    search rules

@@ -3,11 +3,12 @@ use Rattle.iref_grammar.specs.Grammar.{hash_sign}
 use Rattle.iref_grammar.specs.Texts.{before}
 use Rattle.iref_grammar.specs.Reference.{is_reference, read_reference}
 use Rattle.iref_grammar.proofs.FrontLemmas.{read_reference-before_hash, is_reference-before_hash}
-use Rattle.iref_buffer.proofs.HeldLemmas.{offsets_within, front_within, front-range}
+use Rattle.iref_buffer.proofs.EditLemmas.{front_ends}
+use Rattle.iref_buffer.proofs.HeldLemmas.{front-range}
 use Rattle.iref_buffer.proofs.held.Held.without_fragment.Goals as goal
 
 pub range-requires-clause-end_boundary : goal.range-requires-clause-end_boundary
-range-requires-clause-end_boundary g c = search (rules, front_within, offsets_within g.C.CharSet.tests g.met.C.CharSet.above_ascii)
+range-requires-clause-end_boundary g c = search (rules, front_ends g.C.CharSet.tests g.met.C.CharSet.above_ascii, g.met.R.HeldRule.references g.C.CharSet.tests)
 
 pub returns-clause-text : goal.returns-clause-text
 returns-clause-text g c = search (rules, front-range)

@@ -1,11 +1,12 @@
 use Rattle.std.proofs.Common.{rules, ◌≡◌, true, ap, ◌∙◌}
 use Rattle.iref_grammar.specs.Reference.{hierarchy, is_reference, read_reference}
 use Rattle.iref_grammar.proofs.FrontLemmas.{read_reference-hierarchy, is_reference-hierarchy}
-use Rattle.iref_buffer.proofs.HeldLemmas.{offsets_within, hierarchy-range}
+use Rattle.iref_buffer.proofs.EditLemmas.{path_ends}
+use Rattle.iref_buffer.proofs.HeldLemmas.{hierarchy-range}
 use Rattle.iref_buffer.proofs.held.Held.without_query_and_fragment.Goals as goal
 
 pub range-requires-clause-end_boundary : goal.range-requires-clause-end_boundary
-range-requires-clause-end_boundary g c = search (rules, offsets_within g.C.CharSet.tests g.met.C.CharSet.above_ascii)
+range-requires-clause-end_boundary g c = search (rules, path_ends g.C.CharSet.tests g.met.C.CharSet.above_ascii, g.met.R.HeldRule.references g.C.CharSet.tests)
 
 pub returns-clause-text : goal.returns-clause-text
 returns-clause-text g c = search (rules, hierarchy-range)
