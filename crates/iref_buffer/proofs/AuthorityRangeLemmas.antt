@@ -69,8 +69,8 @@ some_if_placed text range e = by (authority_mark (read_reference text)) (read_re
 pub range_is : (text : Text) (range : Range ℕ) → (offsets_of text).authority ≡ Some range → range ≡ range_of_authority text
 range_is text range e = let there = authority_stands text (some_if_placed text range e) in cc
 
-pub authority_within : (set : CharTests) → AreAboveAscii set → (text : Text) (at : Span) → IsAuthorityOf set text at.start at.end → IsWithin text (record { start = at.start; end = at.end })
-authority_within set above text at stands = subst (λ o. IfSome o (IsWithin text)) stands.1 (offsets_within set above text stands.0).authority
+pub authority_range_within : (set : CharTests) → AreAboveAscii set → (text : Text) (at : Span) → IsAuthorityOf set text at.start at.end → IsWithin text (record { start = at.start; end = at.end })
+authority_range_within set above text at stands = subst (λ o. IfSome o (IsWithin text)) stands.1 (offsets_within set above text stands.0).authority
 
 -- ---- after an edit
 

@@ -59,8 +59,8 @@ path_stands set above text h =
       path_after = and_from _ _ path (ap (follows_authority (context_of r)) read ∙ parts.follows);
     }
 
-pub path_within : (set : CharTests) → AreAboveAscii set → (text : Text) (context : PathContext) (at : Span) → IsPathOf set text context at.start at.end → IsWithin text (record { start = at.start; end = at.end })
-path_within set above text context at stands =
+pub path_range_within : (set : CharTests) → AreAboveAscii set → (text : Text) (context : PathContext) (at : Span) → IsPathOf set text context at.start at.end → IsWithin text (record { start = at.start; end = at.end })
+path_range_within set above text context at stands =
     subst (IsWithin text) (λ i. record { start = sym stands.1 i; end = sym stands.2 i }) (offsets_within set above text stands.0).path
 
 -- ---- after an edit

@@ -3,19 +3,19 @@ use Rattle.std.specs.Str.{IsCharBoundary}
 use Rattle.std.specs.List.{slice_range}
 use Rattle.iref_grammar.specs.Authority.{is_authority}
 use Rattle.iref_grammar.specs.ComponentOffsets.{text_at}
-use Rattle.iref_buffer.proofs.AuthorityRangeLemmas.{authority_in_rule, authority_within, range_is, some_if_placed}
+use Rattle.iref_buffer.proofs.AuthorityRangeLemmas.{authority_in_rule, authority_range_within, range_is, some_if_placed}
 use Rattle.iref_buffer.proofs.held.authority.HeldTargetAuthorityPart.part.Goals as goal
 
 pub range-requires-clause-start_le_end : goal.range-requires-clause-start_le_end
-range-requires-clause-start_le_end g c = (authority_within g.C.CharSet.tests g.met.C.CharSet.above_ascii c.args.self.now c.args.at c.requires).start_le_end
+range-requires-clause-start_le_end g c = (authority_range_within g.C.CharSet.tests g.met.C.CharSet.above_ascii c.args.self.now c.args.at c.requires).start_le_end
 
 pub range-requires-clause-start_boundary : goal.range-requires-clause-start_boundary
 range-requires-clause-start_boundary g c = λ _.
-    subst (λ t. IsCharBoundary t c.args.at.start) (sym c.as_str.ensures.text) (authority_within g.C.CharSet.tests g.met.C.CharSet.above_ascii c.args.self.now c.args.at c.requires).start
+    subst (λ t. IsCharBoundary t c.args.at.start) (sym c.as_str.ensures.text) (authority_range_within g.C.CharSet.tests g.met.C.CharSet.above_ascii c.args.self.now c.args.at c.requires).start
 
 pub range-requires-clause-end_boundary : goal.range-requires-clause-end_boundary
 range-requires-clause-end_boundary g c =
-    subst (λ t. IsCharBoundary t c.args.at.end) (sym c.as_str.ensures.text) (authority_within g.C.CharSet.tests g.met.C.CharSet.above_ascii c.args.self.now c.args.at c.requires).end
+    subst (λ t. IsCharBoundary t c.args.at.end) (sym c.as_str.ensures.text) (authority_range_within g.C.CharSet.tests g.met.C.CharSet.above_ascii c.args.self.now c.args.at c.requires).end
 
 pub returns-clause-test : goal.returns-clause-test
 returns-clause-test g c =

@@ -6,15 +6,15 @@ use Rattle.iref_path_text.specs.Rewriting.{rewritten, rewritten_at}
 use Rattle.iref_buffer.specs.ComponentLengths.{lengths_of}
 use Rattle.iref_buffer.specs.PathRanges.{IsPathOf}
 use Rattle.iref_buffer.proofs.HeldLemmas.{in_rule_utf8}
-use Rattle.iref_buffer.proofs.PathRangeLemmas.{path_put, path_within}
+use Rattle.iref_buffer.proofs.PathRangeLemmas.{path_put, path_range_within}
 use Rattle.iref_buffer.proofs.held.path.HeldPathTarget.rewrite.Goals as goal
 
 pub rewrite_text-end-requires-clause-start_le_end : goal.rewrite_text-end-requires-clause-start_le_end
-rewrite_text-end-requires-clause-start_le_end g c = (path_within g.C.CharSet.tests g.met.C.CharSet.above_ascii c.args.self.now c.args.after c.args.at c.requires.stands).start_le_end
+rewrite_text-end-requires-clause-start_le_end g c = (path_range_within g.C.CharSet.tests g.met.C.CharSet.above_ascii c.args.self.now c.args.after c.args.at c.requires.stands).start_le_end
 
 pub rewrite_text-end-requires-clause-in_bounds : goal.rewrite_text-end-requires-clause-in_bounds
 rewrite_text-end-requires-clause-in_bounds g c =
-    let placed = path_within g.C.CharSet.tests g.met.C.CharSet.above_ascii c.args.self.now c.args.after c.args.at c.requires.stands in
+    let placed = path_range_within g.C.CharSet.tests g.met.C.CharSet.above_ascii c.args.self.now c.args.after c.args.at c.requires.stands in
     let inside = subst (λ t. c.args.at.end ≤ length t) (sym c.self.view_is) placed.end.0 in
     search rules
 
