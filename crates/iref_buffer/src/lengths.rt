@@ -61,7 +61,7 @@ impl Lengths {
         add_part(add_part(query, 1, self.query)?, 1, self.fragment)
     }
 
-    /// Where the path begins.
+    /// Where the path begins: of `s:/a?q` at 2.
     pub fn path_start(self) -> usize
         requires { path_after self < 2 ^ 64 }
         ensures { result ≡ path_after self }
@@ -69,7 +69,7 @@ impl Lengths {
         marked_len(1, self.scheme) + marked_len(2, self.authority)
     }
 
-    /// Where the path ends, and the delimiter of a query stands.
+    /// Where the path ends, and the delimiter of a query stands: of `s:/a?q` at 4.
     pub fn query_mark(self) -> usize
         requires { query_after self < 2 ^ 64 }
         ensures { result ≡ query_after self }
@@ -77,7 +77,7 @@ impl Lengths {
         self.path_start() + self.path
     }
 
-    /// Where the delimiter of a fragment stands.
+    /// Where the delimiter of a fragment stands: of `s:/a?q#f` at 6.
     pub fn fragment_mark(self) -> usize
         requires { fragment_after self < 2 ^ 64 }
         ensures { result ≡ fragment_after self }
@@ -111,7 +111,7 @@ fn add_part(len: usize, mark: usize, part: Option<usize>) -> Result<usize, Alloc
     marked.checked_add(part).ok_or(AllocError)
 }
 
-/// How long a part is with its delimiter, or 0 without one.
+/// How long a part is with its delimiter, or 0 without one: of a scheme of 4 bytes 5.
 pub fn marked_len(mark: usize, part: Option<usize>) -> usize
     requires { with_mark mark part < 2 ^ 64 }
     ensures { result ≡ with_mark mark part }
