@@ -21,7 +21,7 @@ use iref_edit::text::{marked, marked_after};
 use iref_error::{InvalidAuthority, Memory};
 use iref_grammar::chars::CharSet;
 use itoa::Buffer;
-use ranges::{host_range, port_range, user_info_range, whole_range};
+use ranges::{host_range, port_range, user_info_range};
 use std::fmt;
 use std::marker::PhantomData;
 use std::ops::Range;
@@ -179,7 +179,7 @@ impl<'a, C: CharSet, T: Target<AuthorityPart, C>> AuthorityMut<'a, C, T> {
         ensures { Edits (λ _. read_authority (text_of authority.entry))
             self.old self.new result }
     {
-        let within = whole_range::<C>(self.text());
+        let within = 0..self.text().len();
         self.put(within, (authority.as_str(), ""))
     }
 

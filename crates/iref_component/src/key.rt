@@ -69,9 +69,8 @@ impl Key for LowerCase {
     ghost comparison = { by_text str_to_ascii_lowercase };
 
     fn compare<C: CharSet>(a: &str, b: &str) -> Ordering {
-        let a = a.bytes().map(|byte| byte.to_ascii_lowercase());
-        let b = b.bytes().map(|byte| byte.to_ascii_lowercase());
-        a.cmp(b)
+        let lower = |byte: u8| byte.to_ascii_lowercase();
+        a.bytes().map(lower).cmp(b.bytes().map(lower))
     }
 
     fn feed<C: CharSet, H: Hasher>(text: &str, state: &mut H) {

@@ -52,17 +52,6 @@ pub(crate) fn port_range<C: CharSet>(text: &str) -> Range<usize>
     marked_len(slices.user_info) + slices.host.len()..text.len()
 }
 
-/// All of the text.
-pub(crate) fn whole_range<C: CharSet>(text: &str) -> Range<usize>
-    requires { is_authority C.tests text.now ≡ true }
-    ensures within { IsWithin text.now result }
-    ensures replaced { (authority : Text) → is_authority C.tests authority ≡ true
-        → SpellsAuthority C.tests (splice text.now result.start result.end authority)
-        (read_authority authority) }
-{
-    0..text.len()
-}
-
 // How many bytes the part and its delimiter have together.
 fn marked_len(part: Option<&str>) -> usize
     ensures { result ≡ marked_length (option_copied part.entry) }

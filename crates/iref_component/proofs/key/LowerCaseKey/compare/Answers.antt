@@ -11,6 +11,6 @@ use Rattle.iref_component.proofs.key.LowerCaseKey.compare.Goals as goal
 pub returns : goal.returns
 returns g c =
     cmp_from_yields_List (λ x y. y ≡ x) _ nat_cmp _ c.cmp.ensures.ran
-    (YieldsList-from_map _ to_ascii_lowercase (YieldsList-at c.map-a.ensures.source (YieldsList-from_bytes c.args.a.now c.bytes.ensures.rest)) c.map-a.ensures.closure (λ x r q k. search (rules, tests)))
-    (λ it e. YieldsList-at e (YieldsList-from_map _ to_ascii_lowercase (YieldsList-at c.map-b.ensures.source (YieldsList-from_bytes c.args.b.now c.bytes-2.ensures.rest)) c.map-b.ensures.closure (λ x r q k. search (rules, tests))))
+    (YieldsList-from_map _ to_ascii_lowercase (YieldsList-at c.map.ensures.source (YieldsList-from_bytes c.args.a.now c.bytes.ensures.rest)) c.map.ensures.closure (λ x r q k. search (rules, tests)))
+    (λ it e. YieldsList-at e (YieldsList-from_map _ to_ascii_lowercase (YieldsList-at c.map-2.ensures.source (YieldsList-from_bytes c.args.b.now c.bytes-2.ensures.rest)) c.map-2.ensures.closure (λ x r q k. search (rules, tests))))
     (λ x y. refl)
