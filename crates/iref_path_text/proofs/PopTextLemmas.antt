@@ -1,10 +1,12 @@
 -- The texts that a pop leaves.
 use Rattle.std.proofs.Common.{◌≡◌, ℕ, Bool, true, false, not, cond, ◌||◌, ◌&&◌, List, [], ◌∷◌, ◌++◌, length, take, refl, sym, ap, ◌∙◌, append_assoc, arith, ◌+◌}
 use mathlib.Core.Bool.{true≢false}
-use Rattle.std.specs.Prelude.{codes, Option, Some, None}
+use mir.Val.{bool_byte}
+use Rattle.std.specs.Prelude.{◌==◌, codes, Option, Some, None}
 use Rattle.std.specs.Borrow.{Bor}
 use Rattle.std.specs.List.{join_with_byte}
 use Rattle.std.proofs.lemmas.List.{append-nil}
+use Rattle.std.proofs.lemmas.Bool.Decides.{nat_tests}
 use Rattle.iref_grammar.specs.declared.context.PathContext.{PathContext}
 use Rattle.iref_grammar.specs.Rules.{Text}
 use Rattle.iref_grammar.specs.Grammar.{slash}
@@ -19,17 +21,12 @@ use Rattle.iref_model.specs.PathSteps.{lazy_pushed, ends_in_parent, popped, clos
 use Rattle.iref_model.proofs.DirectoryLemmas.{all_but_last-snoc}
 use Rattle.iref_model.proofs.FitsLemmas.{is_empty-snoc}
 use Rattle.iref_model.proofs.PieceLemmas.{some_piece}
-use Rattle.iref_path_text.specs.declared.steps.Step.{Step}
-use Rattle.iref_path_text.specs.PathParts.{step_text}
 use Rattle.iref_path_text.specs.Pieces.{pieces_if_some}
-use Rattle.iref_path_text.specs.StepTexts.{root_len, close_after, list_guard}
-use Rattle.iref_path_text.proofs.StepTextLemmas.{IsCut, cut_at_slash, join-snoc, next_pushed, root_spelled}
+use Rattle.iref_path_text.specs.StepTexts.{closed_by}
+use Rattle.iref_path_text.proofs.StepTextLemmas.{IsCut, cut_at_slash, join-snoc, root_text}
 
 abbrev path_with : Bool → List Text → PathValue
 path_with absolute segments = record { absolute = absolute; segments = segments }
-
-abbrev pub root_text : Bool → Text
-root_text absolute = cond absolute (slash ∷ []) []
 
 -- ---- the value
 
@@ -91,8 +88,8 @@ lazy_some_at context s absolute [] = by (reads_as_path context (made_absolute co
     by false = refl
 lazy_some_at context s absolute (t ∷ ts) = refl
 
-pub lazy_some : (context : PathContext) (s : Text) (p : PathValue) → is_empty (lazy_pushed context s p).segments ≡ false
-lazy_some context s p = lazy_some_at context s p.absolute p.segments
+pub push_closed : (context : PathContext) (s close : Text) (p q : PathValue) → q ≡ lazy_pushed context s p → spell_path (lazy_pushed context s p) ++ close ≡ closed_by close q
+push_closed context s close p q e = (λ i. spell_path (lazy_pushed context s p) ++ cond (sym (lazy_some_at context s p.absolute p.segments) i) [] close) ∙ ap (closed_by close) (sym e)
 
 guarded_some : (absolute : Bool) (t : Text) (ts : List Text) → is_empty (guarded_list (path_with absolute (t ∷ ts))).segments ≡ false
 unfolding guarded_list
@@ -103,10 +100,6 @@ guarded_some absolute t ts = by (shows_its_list (path_with absolute (t ∷ ts)))
     by false = refl
 
 -- ---- the text
-
-pub begun : (path lead : Text) (step : Step) (keep : ℕ) → step.keep ≡ keep → step.lead.now ≡ lead → step.middle.now ≡ [] → step.close.now ≡ [] → step_text path step ≡ take keep path ++ lead
-begun path lead step keep k l m e =
-    (λ i. take (k i) path ++ (l i ++ m i ++ e i)) ∙ ap (λ t. take keep path ++ t) (append-nil (lead ++ []) ∙ append-nil lead)
 
 spelled-snoc : (absolute : Bool) (front last : Text) → spell_path (path_with absolute (pieces_at slash front ++ last ∷ [])) ≡ (root_text absolute ++ front) ++ slash ∷ last
 unfolding spell_path
@@ -130,35 +123,41 @@ unfolding spell_path guarded_list
 spelled-shown absolute front shown =
     (λ i. spell_path (cond (shown i) (path_with absolute (pieces_at slash front)) (with_dot (path_with absolute (pieces_at slash front))))) ∙ ap (λ t. root_text absolute ++ t) (join-pieces_at slash front)
 
+nonempty : (c : ℕ) (cs : Text) → (length (c ∷ cs) == 0) ≡ false
+nonempty c cs = grind (arith, nat_tests)
+
 -- the segments before the last one, guarded
 guarded_front : (absolute : Bool) (front last : Text) → shows_its_list (path_with absolute (pieces_at slash front ++ last ∷ [])) ≡ true
-    → (root_text absolute ++ front) ++ list_guard front ≡ spell_path (guarded_list (path_with absolute (pieces_at slash front)))
+    → (root_text absolute ++ front) ++ cond (length front == 0) (codes "./") [] ≡ spell_path (guarded_list (path_with absolute (pieces_at slash front)))
 unfolding spell_path guarded_list read_path
 guarded_front true [] last h = refl
 guarded_front false [] last h = absurd (true≢false (sym h))
-guarded_front true (c ∷ cs) last h = append-nil (slash ∷ c ∷ cs) ∙ sym (spelled-shown true (c ∷ cs) (read_path-reads (slash ∷ c ∷ cs)).shown)
-guarded_front false (c ∷ cs) last h = append-nil (c ∷ cs) ∙ sym (spelled-shown false (c ∷ cs) (ap not (sym (begins-snoc (c ∷ cs) last)) ∙ h))
+guarded_front true (c ∷ cs) last h = (λ i. slash ∷ c ∷ cs ++ cond (nonempty c cs i) (codes "./") []) ∙ append-nil (slash ∷ c ∷ cs) ∙ sym (spelled-shown true (c ∷ cs) (read_path-reads (slash ∷ c ∷ cs)).shown)
+guarded_front false (c ∷ cs) last h = (λ i. c ∷ cs ++ cond (nonempty c cs i) (codes "./") []) ∙ append-nil (c ∷ cs) ∙ sym (spelled-shown false (c ∷ cs) (ap not (sym (begins-snoc (c ∷ cs) last)) ∙ h))
 
-size_of : (absolute : Bool) (front : Text) → length (root_text absolute ++ front) ≡ root_len absolute + length front
+size_of : (absolute : Bool) (front : Text) → length (root_text absolute ++ front) ≡ bool_byte absolute + length front
 size_of true front = omega arith
 size_of false front = omega arith
 
 -- segments are left
 module _ (context : PathContext) (path front last : Text) (absolute : Bool) (e : read_path path ≡ path_with absolute (pieces_at slash front ++ last ∷ [])) where
-  pub front_cut : (n : ℕ) → n ≡ root_len absolute + length front → IsCut path (root_text absolute ++ front) n
+  pub front_cut : (n : ℕ) → n ≡ bool_byte absolute + length front → IsCut path (root_text absolute ++ front) n
   front_cut n size =
       cut_at_slash path (root_text absolute ++ front) last n (sym (read_path-reads path).spelled ∙ ap spell_path e ∙ spelled-snoc absolute front last) (size_of absolute front ∙ sym size)
 
-  pub front_text : (n : ℕ) (guard : Text) → n ≡ root_len absolute + length front → guard ≡ list_guard front → is_dot_dot last ≡ false → take n path ++ guard ≡ spell_path (popped context (read_path path))
-  front_text n guard size g h =
-      (λ i. (front_cut n size).taken i ++ g i) ∙ guarded_front absolute front last (ap shows_its_list (sym e) ∙ (read_path-reads path).shown)
-      ∙ ap spell_path (sym (popped_last context (read_path path) absolute (pieces_at slash front) last e h))
+  module _ (h : is_dot_dot last ≡ false) where
+    front_some : is_empty (popped context (read_path path)).segments ≡ false
+    front_some =
+        let some = some_piece slash front in
+        ap (λ (p : PathValue). is_empty p.segments) (popped_last context (read_path path) absolute (pieces_at slash front) last e h)
+        ∙ ap (λ ps. is_empty (guarded_list (path_with absolute ps)).segments) some.2 ∙ guarded_some absolute some.0 some.1
 
-  pub front_some : is_dot_dot last ≡ false → is_empty (popped context (read_path path)).segments ≡ false
-  front_some h =
-      let some = some_piece slash front in
-      ap (λ (p : PathValue). is_empty p.segments) (popped_last context (read_path path) absolute (pieces_at slash front) last e h)
-      ∙ ap (λ ps. is_empty (guarded_list (path_with absolute ps)).segments) some.2 ∙ guarded_some absolute some.0 some.1
+    pub front_text : (n : ℕ) (guard close : Text) → n ≡ bool_byte absolute + length front → guard ≡ cond (length front == 0) (codes "./") [] → take n path ++ (guard ++ [] ++ close) ≡ closed_by close (popped context (read_path path))
+    front_text n guard close size g =
+        (λ i. take n path ++ (append-nil guard i ++ close)) ∙ sym (append_assoc (take n path) guard close)
+        ∙ ap (λ t. t ++ close) ((λ i. (front_cut n size).taken i ++ g i) ∙ guarded_front absolute front last (ap shows_its_list (sym e) ∙ (read_path-reads path).shown)
+        ∙ ap spell_path (sym (popped_last context (read_path path) absolute (pieces_at slash front) last e h)))
+        ∙ (λ i. spell_path (popped context (read_path path)) ++ cond (sym front_some i) [] close)
 
 -- none is left
 guarded_none : (absolute : Bool) → guarded_list (path_with absolute []) ≡ path_with absolute []
@@ -166,28 +165,8 @@ unfolding guarded_list
 guarded_none true = refl
 guarded_none false = refl
 
-module _ (context : PathContext) (path last : Text) (absolute : Bool) (e : read_path path ≡ path_with absolute (last ∷ [])) (h : is_dot_dot last ≡ false) where
-  pub none_left : popped context (read_path path) ≡ path_with absolute []
-  none_left = popped_last context (read_path path) absolute [] last e h ∙ guarded_none absolute
-
-  pub none_text : (n : ℕ) → IsCut path (root_text absolute) n → take n path ++ [] ≡ spell_path (popped context (read_path path))
-  none_text n cut = append-nil (take n path) ∙ cut.taken ∙ root_spelled absolute ∙ ap spell_path (sym none_left)
-
--- ---- closed
-
-pub closed_spelled : (context : PathContext) (p : PathValue) → spell_path p ++ close_after (is_empty p.segments) ≡ spell_path (closed_path context p)
-closed_spelled context p = by (is_empty p.segments) refl
-  where
-    by : (empty : Bool) → is_empty p.segments ≡ empty → spell_path p ++ close_after empty ≡ spell_path (cond empty p (lazy_pushed context [] p))
-    by true e = append-nil (spell_path p)
-    by false e = next_pushed context p [] e
-
-pub then_closed : (context : PathContext) (path lead middle close shut : Text) (keep : ℕ) (p : PathValue) (empty : Bool) → take keep path ++ (lead ++ middle ++ close) ≡ spell_path p → close ≡ []
-    → empty ≡ is_empty p.segments → shut ≡ close_after empty → take keep path ++ (lead ++ middle ++ shut) ≡ spell_path (closed_path context p)
-then_closed context path lead middle close shut keep p empty e none k s =
-    sym (append_assoc (take keep path) (lead ++ middle) shut)
-    ∙ (λ i. (take keep path ++ sym (append-nil (lead ++ middle)) i) ++ s i) ∙ (λ i. (take keep path ++ (lead ++ middle ++ sym none i)) ++ close_after (k i))
-    ∙ ap (λ t. t ++ close_after (is_empty p.segments)) e ∙ closed_spelled context p
+pub none_left : (context : PathContext) (p : PathValue) (last : Text) (absolute : Bool) → p ≡ path_with absolute (last ∷ []) → is_dot_dot last ≡ false → popped context p ≡ path_with absolute []
+none_left context p last absolute e h = popped_last context p absolute [] last e h ∙ guarded_none absolute
 
 -- ---- one segment, by what it is
 

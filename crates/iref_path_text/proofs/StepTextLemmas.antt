@@ -1,7 +1,9 @@
 -- The texts that the steps of a path leave.
-use Rattle.std.proofs.Common.{◌≡◌, ℕ, Bool, true, false, not, cond, ◌||◌, ◌&&◌, List, [], ◌∷◌, ◌++◌, length, take, refl, sym, ap, ◌∙◌, append_assoc, arith, get_or, length-append, inl, inr, IsUtf8}
+use Rattle.std.proofs.Common.{◌≡◌, ℕ, Bool, true, false, not, cond, ◌||◌, ◌&&◌, List, [], ◌∷◌, ◌++◌, length, take, refl, sym, ap, subst, ◌∙◌, append_assoc, arith, get_or, length-append, inl, inr, IsUtf8}
 use mathlib.Core.Bool.{true≢false}
-use Rattle.std.specs.Prelude.{◌==◌, codes}
+use mir.Val.{bool_byte}
+use Rattle.std.specs.Prelude.{◌==◌, codes, Option, is_none, is_some}
+use Rattle.std.specs.Borrow.{Bor}
 use Rattle.std.specs.List.{join_with_byte}
 use Rattle.std.specs.Char.{char_set_contains}
 use Rattle.std.proofs.lemmas.List.{append-nil, take_all, take_at}
@@ -15,10 +17,18 @@ use Rattle.iref_grammar.specs.Grammar.{slash, colon}
 use Rattle.iref_grammar.specs.Texts.{is_empty}
 use Rattle.iref_grammar.specs.PathValue.{PathValue, read_path, spell_path, segments_of}
 use Rattle.iref_grammar.proofs.PathLemmas.{read_path-reads}
+use Rattle.iref_path_text.proofs.SlashLemmas.{is_empty-pieces}
 use Rattle.iref_model.specs.Guard.{guarded}
-use Rattle.iref_model.specs.PathSteps.{lazy_pushed, closed_path, cleared}
-use Rattle.iref_path_text.specs.Spelling.{first_needs_guard}
-use Rattle.iref_path_text.specs.StepTexts.{pushed_lead, root_len, close_after}
+use Rattle.iref_model.specs.PathSteps.{lazy_pushed, closed_path}
+use Rattle.iref_path_text.specs.Pieces.{pieces_if_some}
+use Rattle.iref_path_text.specs.Spelling.{first_needs_guard, lead}
+use Rattle.iref_path_text.specs.StepTexts.{closed_by}
+
+-- before a first segment that is pushed
+abbrev pub pushed_lead : PathContext → Bool → Text → Text
+pushed_lead context absolute s =
+    let rooted = absolute || context.has_authority in
+    lead rooted (first_needs_guard context rooted s)
 
 at : (has_scheme has_authority absolute : Bool) (s : Text) → let context : PathContext = record { has_scheme = has_scheme; has_authority = has_authority } in let p : PathValue = record { absolute = absolute; segments = [] } in
     pushed_lead context absolute s ++ s ≡ spell_path (lazy_pushed context s p)
@@ -66,16 +76,42 @@ next_pushed context p s h = by p.absolute p.segments h
     by true (t ∷ ts) h = ap (λ rest. slash ∷ rest) (join-snoc t ts s)
     by false (t ∷ ts) h = join-snoc t ts s
 
+pub closed_spelled : (context : PathContext) (p : PathValue) → closed_by (slash ∷ []) p ≡ spell_path (closed_path context p)
+closed_spelled context p = by (is_empty p.segments) refl
+  where
+    by : (empty : Bool) → is_empty p.segments ≡ empty → spell_path p ++ cond empty [] (slash ∷ []) ≡ spell_path (cond empty p (lazy_pushed context [] p))
+    by true e = append-nil (spell_path p)
+    by false e = next_pushed context p [] e
+
+pub unclosed_spelled : (p : PathValue) → closed_by [] p ≡ spell_path p
+unclosed_spelled p = by (is_empty p.segments)
+  where
+    by : (empty : Bool) → spell_path p ++ cond empty [] [] ≡ spell_path p
+    by true = append-nil (spell_path p)
+    by false = append-nil (spell_path p)
+
 -- ---- of a text
 
-pub first_text : (context : PathContext) (path lead s : Text) → is_empty (read_path path).segments ≡ true → lead ≡ pushed_lead context (read_path path).absolute s
-    → take 0 path ++ (lead ++ s ++ []) ≡ spell_path (lazy_pushed context s (read_path path))
-first_text context path lead s h e = append-nil (lead ++ s) ∙ ap (λ t. t ++ s) e ∙ first_pushed context (read_path path) s h
+module _ (context : PathContext) (path close : Text) (absolute : Bool) (segments : Option (Bor Text)) (e : read_path path ≡ record { absolute = absolute; segments = pieces_if_some segments }) where
+  is_empty-read : is_empty (read_path path).segments ≡ is_none segments
+  is_empty-read = ap (λ (p : PathValue). is_empty p.segments) e ∙ is_empty-pieces segments
 
-pub next_text : (context : PathContext) (path s : Text) (n : ℕ) → n ≡ length path → is_empty (read_path path).segments ≡ false
-    → take n path ++ ((slash ∷ []) ++ s ++ []) ≡ spell_path (lazy_pushed context s (read_path path))
-next_text context path s n size h =
-    (λ i. take_all n path (omega (arith, size)) i ++ (slash ∷ append-nil s i)) ∙ ap (λ t. t ++ (slash ∷ s)) (sym (read_path-reads path).spelled) ∙ next_pushed context (read_path path) s h
+  pub first_text : (s : Text) → is_some segments ≡ false → take 0 path ++ (pushed_lead context absolute s ++ s ++ close) ≡ spell_path (lazy_pushed context s (read_path path)) ++ close
+  first_text s h =
+      ap (λ t. t ++ close) (ap (λ (p : PathValue). pushed_lead context p.absolute s ++ s) (sym e) ∙ first_pushed context (read_path path) s (is_empty-read ∙ ap not h))
+
+  pub next_text : (s : Text) → is_some segments ≡ true → take (length path) path ++ ((slash ∷ []) ++ s ++ close) ≡ spell_path (lazy_pushed context s (read_path path)) ++ close
+  next_text s h =
+      (λ i. take_all (length path) path (omega arith) i ++ (slash ∷ s ++ close)) ∙ sym (append_assoc path (slash ∷ s) close)
+      ∙ ap (λ t. t ++ close) (ap (λ t. t ++ (slash ∷ s)) (sym (read_path-reads path).spelled) ∙ next_pushed context (read_path path) s (is_empty-read ∙ ap not h))
+
+  pub closed_text : (some : Bool) → some ≡ is_some segments → close ≡ cond some (slash ∷ []) [] → take (length path) path ++ close ≡ spell_path (closed_path context (read_path path))
+  closed_text some h k =
+      (λ i. take_all (length path) path (omega arith) i ++ k i) ∙ by some (is_empty-read ∙ ap not (sym h)) ∙ closed_spelled context (read_path path)
+    where
+      by : (some : Bool) → is_empty (read_path path).segments ≡ not some → path ++ cond some (slash ∷ []) [] ≡ closed_by (slash ∷ []) (read_path path)
+      by true h = λ i. sym (read_path-reads path).spelled i ++ cond (sym h i) [] (slash ∷ [])
+      by false h = λ i. sym (read_path-reads path).spelled i ++ cond (sym h i) [] (slash ∷ [])
 
 -- a colon alone decides where no delimiter stands before
 pub guard_by_colon : (context : PathContext) (rooted : Bool) (s : Text) (has : Bool) → false ≡ (length s == 0) → (rooted || context.has_scheme) ≡ false → has ≡ char_set_contains s colon → has ≡ first_needs_guard context rooted s
@@ -108,9 +144,12 @@ root_of_path (c ∷ cs) true e = elim (eqb_tells c slash) [
 ]
 
 -- its root, without its segments
-pub cut_at_root : (path : Text) (absolute : Bool) → IsUtf8 path → (read_path path).absolute ≡ absolute → IsCut path (cond absolute (slash ∷ []) []) (root_len absolute)
-cut_at_root path false utf8 e = record { taken = refl; range = IsCharBoundary-start path utf8 }
-cut_at_root path true utf8 e =
+abbrev pub root_text : Bool → Text
+root_text absolute = cond absolute (slash ∷ []) []
+
+at_root : (path : Text) (absolute : Bool) → IsUtf8 path → (read_path path).absolute ≡ absolute → IsCut path (root_text absolute) (bool_byte absolute)
+at_root path false utf8 e = record { taken = refl; range = IsCharBoundary-start path utf8 }
+at_root path true utf8 e =
     let root = root_of_path path true e in
     let whole = ap length root.1 in
     record {
@@ -118,28 +157,20 @@ cut_at_root path true utf8 e =
       range = IsCharBoundary-after_ascii path 0 utf8 (omega (arith, whole)) (let here : get_or path 0 0 ≡ slash = λ i. get_or (root.1 i) 0 0 in omega (arith, here));
     }
 
-pub root_spelled : (absolute : Bool) → cond absolute (slash ∷ []) [] ≡ spell_path (record { absolute = absolute; segments = [] })
+pub root_spelled : (absolute : Bool) → root_text absolute ≡ spell_path (record { absolute = absolute; segments = [] })
 unfolding spell_path
 root_spelled true = refl
 root_spelled false = refl
 
 -- ---- the other short steps
 
-pub cleared_text : (path : Text) (absolute : Bool) (n : ℕ) → n ≡ root_len absolute → IsCut path (cond absolute (slash ∷ []) []) (root_len absolute) → (read_path path).absolute ≡ absolute
-    → take n path ++ ([] ++ [] ++ []) ≡ spell_path (cleared (read_path path))
-cleared_text path absolute n size cut e =
-    append-nil (take n path) ∙ (λ i. take (size i) path) ∙ cut.taken ∙ root_spelled absolute ∙ (λ i. spell_path (record { absolute = sym e i; segments = [] }))
+module _ (path : Text) (utf8 : IsUtf8 path) (absolute : Bool) (segments : List Text) (e : read_path path ≡ record { absolute = absolute; segments = segments }) (n : ℕ) (size : n ≡ bool_byte absolute) where
+  pub cut_at_root : IsCut path (root_text absolute) n
+  cut_at_root = subst (IsCut path (root_text absolute)) (sym size) (at_root path absolute utf8 (ap (λ (p : PathValue). p.absolute) e))
+
+  pub root_kept : (close : Text) (q : PathValue) → q ≡ record { absolute = absolute; segments = [] } → take n path ++ [] ≡ closed_by close q
+  root_kept close q k = ap (λ t. t ++ []) (cut_at_root.taken ∙ root_spelled absolute) ∙ ap (closed_by close) (sym k)
 
 -- nothing changes
-pub same_text : (path : Text) (n : ℕ) → n ≡ length path → take n path ++ ([] ++ [] ++ []) ≡ spell_path (read_path path)
-same_text path n size = append-nil (take n path) ∙ take_all n path (omega (arith, size)) ∙ sym (read_path-reads path).spelled
-
-closed_of : (context : PathContext) (p : PathValue) (empty : Bool) → is_empty p.segments ≡ empty → closed_path context p ≡ cond empty p (lazy_pushed context [] p)
-closed_of context p empty e = λ i. cond (e i) p (lazy_pushed context [] p)
-
-pub closed_text : (context : PathContext) (path close : Text) (n : ℕ) (empty : Bool) → n ≡ length path → is_empty (read_path path).segments ≡ empty → close ≡ close_after empty
-    → take n path ++ ([] ++ [] ++ close) ≡ spell_path (closed_path context (read_path path))
-closed_text context path close n true size e k =
-    ap (λ t. take n path ++ t) k ∙ same_text path n size ∙ ap spell_path (sym (closed_of context (read_path path) true e))
-closed_text context path close n false size e k =
-    ap (λ t. take n path ++ t) k ∙ next_text context path [] n size e ∙ ap spell_path (sym (closed_of context (read_path path) false e))
+pub same_text : (path : Text) → take (length path) path ++ [] ≡ spell_path (read_path path)
+same_text path = append-nil (take (length path) path) ∙ take_all (length path) path (omega arith) ∙ sym (read_path-reads path).spelled

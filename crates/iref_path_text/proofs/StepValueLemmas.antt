@@ -1,5 +1,5 @@
 -- The steps of a path keep what the text of a path has.
-use Rattle.std.proofs.Common.{◌≡◌, Bool, true, false, not, cond, ◌&&◌, ◌||◌, List, [], ◌∷◌, refl, ◌∙◌, ap}
+use Rattle.std.proofs.Common.{◌≡◌, Bool, true, false, not, cond, ◌&&◌, ◌||◌, List, [], ◌∷◌, refl, sym, subst, ◌∙◌, ap}
 use Rattle.std.proofs.lemmas.Bool.{and_from, and_parts}
 use Rattle.std.specs.Prelude.{codes}
 use Rattle.std.specs.List.{list_all}
@@ -72,6 +72,10 @@ module _ (set : CharTests) (above : AreAboveAscii set) (context : PathContext) w
   pub steps_by : (change : PathValue → PathValue) (path : Text) (result : Step) → IsStep set context (read_path path) (change (read_path path)) → is_path_after set context path ≡ true → IsCharBoundary path result.keep
       → step_text path result ≡ spell_path (change (read_path path)) → StepsBy change set context path result
   steps_by change path result step h keep e = record { keep = keep; step = steps_to path (step_text path result) (change (read_path path)) step h e }
+
+-- a step that makes the same of the path
+pub steps_as : (set : CharTests) (context : PathContext) (f g : PathValue → PathValue) (path : Text) (result : Step) → g (read_path path) ≡ f (read_path path) → StepsBy f set context path result → StepsBy g set context path result
+steps_as set context f g path result e h = record { keep = h.keep; step = subst (StepsTo set context path (step_text path result)) (sym e) h.step }
 
 -- ---- each step
 

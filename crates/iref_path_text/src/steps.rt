@@ -1,10 +1,10 @@
 //! The edits of a path, each one step, by its text (RFC 3986 sections 3.3 and 5.2.4).
-ghost use Rattle.std.specs.{Prelude.{◌≡◌, ◌+◌, ◌-◌, ◌≤◌, true, [], length}, Str.{IsCharBoundary}};
-ghost use Rattle.iref_grammar.specs.{is_segment, is_path, read_path, spell_path, is_empty};
+ghost use Rattle.std.specs.{Prelude.{◌≡◌, ◌+◌, ◌-◌, ◌≤◌, ◌++◌, true, length}, Str.{IsCharBoundary}};
+ghost use Rattle.iref_grammar.specs.{is_segment, is_path, read_path, spell_path};
 ghost use Rattle.iref_model.specs.PathSteps.{lazy_pushed, pushed, followed, popped, closed_path};
 ghost use Rattle.iref_model.specs.PathSteps.{cleared, replaced};
 ghost use Rattle.iref_path_text.specs.PathParts.{is_path_after, step_text, StepsBy};
-ghost use Rattle.iref_path_text.specs.StepTexts as texts;
+ghost use Rattle.iref_path_text.specs.StepTexts.{closed_by};
 
 use crate::guard::guard_of;
 use crate::segments::{last_segment, split_root};
@@ -25,6 +25,14 @@ pub struct Step<'a> {
     pub close: &'static str,
 }
 
+// Nothing after what stays.
+const KEPT: Step<'static> = Step {
+    keep: 0,
+    lead: "",
+    middle: "",
+    close: "",
+};
+
 /// A segment at the end, as it is: a first one that would be read as something else stands after
 /// `./`, and after an authority it stands after `/`.
 pub fn lazy_pushed<'a, C: CharSet>(context: PathContext, path: &str, segment: &'a str) -> Step<'a>
@@ -32,7 +40,7 @@ pub fn lazy_pushed<'a, C: CharSet>(context: PathContext, path: &str, segment: &'
     requires segment { is_segment C.tests segment.now ≡ true }
     ensures { StepsBy (lazy_pushed context segment.now) C.tests context path.now result }
 {
-    push_text(context, path, segment)
+    push_text(context, path, segment, "")
 }
 
 /// A segment at the end, and the list closed after `.`, which does nothing else, and after `..`,
@@ -43,11 +51,11 @@ pub fn pushed<'a, C: CharSet>(context: PathContext, path: &str, segment: &'a str
     ensures { StepsBy (pushed context segment.now) C.tests context path.now result }
 {
     if segment == "." {
-        close_text(context, path)
+        closed::<C>(context, path)
     } else if segment == ".." {
-        pop_and_close_text(context, path)
+        pop_text(context, path, "/")
     } else {
-        push_text(context, path, segment)
+        lazy_pushed::<C>(context, path, segment)
     }
 }
 
@@ -58,11 +66,14 @@ pub fn followed<'a, C: CharSet>(context: PathContext, path: &str, segment: &'a s
     ensures { StepsBy (λ p. followed context p segment.now) C.tests context path.now result }
 {
     if segment == "." {
-        beginning(path.len(), "")
+        Step {
+            keep: path.len(),
+            ..KEPT
+        }
     } else if segment == ".." {
-        pop_text(context, path).0
+        popped::<C>(context, path)
     } else {
-        push_text(context, path, segment)
+        lazy_pushed::<C>(context, path, segment)
     }
 }
 
@@ -72,7 +83,7 @@ pub fn popped<C: CharSet>(context: PathContext, path: &str) -> Step<'static>
     requires path { is_path_after C.tests context path.now ≡ true }
     ensures { StepsBy (popped context) C.tests context path.now result }
 {
-    pop_text(context, path).0
+    pop_text(context, path, "")
 }
 
 /// An empty segment at the end, which is a `/` there, where there are segments.
@@ -80,7 +91,12 @@ pub fn closed<C: CharSet>(context: PathContext, path: &str) -> Step<'static>
     requires path { is_path_after C.tests context path.now ≡ true }
     ensures { StepsBy (closed_path context) C.tests context path.now result }
 {
-    close_text(context, path)
+    let has_segments = split_root(path).1.is_some();
+    Step {
+        keep: path.len(),
+        close: if has_segments { "/" } else { "" },
+        ..KEPT
+    }
 }
 
 /// No segments, so that the path is `/` or empty.
@@ -90,7 +106,10 @@ pub fn cleared<C: CharSet>(context: PathContext, path: &str) -> Step<'static>
     ensures shorter { length result.lead.now + length result.middle.now + length result.close.now
         ≤ length path.now - result.keep }
 {
-    beginning(root_len(split_root(path).0), "")
+    Step {
+        keep: usize::from(split_root(path).0),
+        ..KEPT
+    }
 }
 
 /// The new path, after what guards it there.
@@ -107,137 +126,61 @@ pub fn replaced<'a, C: CharSet>(context: PathContext, path: &str, new: &'a str) 
     }
 }
 
-/// The text with a segment at the end.
-fn push_text<'a>(context: PathContext, path: &str, segment: &'a str) -> Step<'a>
+// The text with a segment at the end, and what closes it.
+fn push_text<'a>(
+    context: PathContext,
+    path: &str,
+    segment: &'a str,
+    close: &'static str,
+) -> Step<'a>
     ensures keep { IsCharBoundary path.now result.keep }
     ensures text { step_text path.now result
-        ≡ spell_path (lazy_pushed context segment.now (read_path path.now)) }
-    ensures unclosed { result.close.now ≡ [] }
+        ≡ spell_path (lazy_pushed context segment.now (read_path path.now)) ++ close.now }
 {
-    let (absolute, is_empty) = flag_and_emptiness(path);
-    if is_empty {
-        Step {
-            keep: 0,
-            lead: pushed_lead(context, absolute, segment),
-            middle: segment,
-            close: "",
-        }
-    } else {
-        Step {
+    let (absolute, segments) = split_root(path);
+    if segments.is_some() {
+        return Step {
             keep: path.len(),
             lead: "/",
             middle: segment,
-            close: "",
-        }
+            close,
+        };
+    }
+    let rooted = absolute | context.has_authority;
+    Step {
+        keep: 0,
+        lead: lead(rooted, first_needs_guard(context, rooted, segment)),
+        middle: segment,
+        close,
     }
 }
 
-/// The text with an empty segment at the end, where there are segments.
-fn close_text(context: PathContext, path: &str) -> Step<'static>
+// The text after a pop, and what closes it where segments are left.
+fn pop_text(context: PathContext, path: &str, close: &'static str) -> Step<'static>
     ensures keep { IsCharBoundary path.now result.keep }
     ensures text { step_text path.now result
-        ≡ spell_path (closed_path context (read_path path.now)) }
-{
-    let (_, is_empty) = flag_and_emptiness(path);
-    Step {
-        keep: path.len(),
-        lead: "",
-        middle: "",
-        close: close_after(is_empty),
-    }
-}
-
-/// The text after a pop, and whether no segments are left.
-fn pop_text(context: PathContext, path: &str) -> (Step<'static>, bool)
-    ensures keep { IsCharBoundary path.now result.0.keep }
-    ensures text { step_text path.now result.0
-        ≡ spell_path (popped context (read_path path.now)) }
-    ensures unclosed { result.0.close.now ≡ [] }
-    ensures empty { result.1 ≡ is_empty (popped context (read_path path.now)).segments }
+        ≡ closed_by close.now (popped context (read_path path.now)) }
 {
     let (absolute, segments) = split_root(path);
+    let root = usize::from(absolute);
     let Some(segments) = segments else {
         return if absolute {
-            (beginning(path.len(), ""), true)
+            Step { keep: root, ..KEPT }
         } else {
-            (push_text(context, path, ".."), false)
+            push_text(context, path, "..", close)
         };
     };
     let (front, last) = last_segment(segments);
     if last == ".." {
-        return (push_text(context, path, ".."), false);
+        return push_text(context, path, "..", close);
     }
-    let root = root_len(absolute);
     match front {
-        Some(front) => (beginning(root + front.len(), list_guard(front)), false),
-        None => (beginning(root, ""), true),
+        Some(front) => Step {
+            keep: root + front.len(),
+            lead: if front.is_empty() { "./" } else { "" },
+            middle: "",
+            close,
+        },
+        None => Step { keep: root, ..KEPT },
     }
-}
-
-/// The text after a pop, with an empty segment at the end, where segments are left.
-fn pop_and_close_text(context: PathContext, path: &str) -> Step<'static>
-    ensures keep { IsCharBoundary path.now result.keep }
-    ensures text { step_text path.now result
-        ≡ spell_path (closed_path context (popped context (read_path path.now))) }
-{
-    let (step, is_empty) = pop_text(context, path);
-    Step {
-        close: close_after(is_empty),
-        ..step
-    }
-}
-
-/// A beginning of the text, and what comes after it.
-fn beginning(keep: usize, lead: &'static str) -> Step<'static>
-    ensures keep { result.keep ≡ keep }
-    ensures lead { result.lead.now ≡ lead.now }
-    ensures middle { result.middle.now ≡ [] }
-    ensures close { result.close.now ≡ [] }
-{
-    Step {
-        keep,
-        lead,
-        middle: "",
-        close: "",
-    }
-}
-
-/// What follows segments that stay, so that they are read as they were: one that is empty stands
-/// after `.` then.
-fn list_guard(segments: &str) -> &'static str
-    ensures { result.now ≡ texts.list_guard segments.now }
-{
-    if segments.is_empty() { "./" } else { "" }
-}
-
-/// What closes a list.
-fn close_after(is_empty: bool) -> &'static str
-    ensures { result.now ≡ texts.close_after is_empty }
-{
-    if is_empty { "" } else { "/" }
-}
-
-/// How many bytes the root of a path takes.
-fn root_len(absolute: bool) -> usize
-    ensures { result ≡ texts.root_len absolute }
-{
-    if absolute { 1 } else { 0 }
-}
-
-/// Whether the path is absolute, and whether it has no segments.
-#[tactic(auto, using(crate::proofs::SlashLemmas::some_pieces))]
-fn flag_and_emptiness(path: &str) -> (bool, bool)
-    ensures absolute { result.0 ≡ (read_path path.now).absolute }
-    ensures empty { result.1 ≡ is_empty (read_path path.now).segments }
-{
-    let (absolute, segments) = split_root(path);
-    (absolute, segments.is_none())
-}
-
-/// What comes before a first segment.
-fn pushed_lead(context: PathContext, absolute: bool, segment: &str) -> &'static str
-    ensures { result.now ≡ texts.pushed_lead context absolute segment.now }
-{
-    let rooted = absolute | context.has_authority;
-    lead(rooted, first_needs_guard(context, rooted, segment))
 }

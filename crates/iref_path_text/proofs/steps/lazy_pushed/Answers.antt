@@ -1,3 +1,5 @@
+use Rattle.std.proofs.Common.{◌∙◌}
+use Rattle.std.proofs.lemmas.List.{append-nil}
 use Rattle.iref_grammar.specs.PathValue.{read_path}
 use Rattle.iref_path_text.proofs.StepValueLemmas.{steps_by, lazy_pushed-step}
 use Rattle.iref_path_text.proofs.steps.lazy_pushed.Goals as goal
@@ -6,4 +8,4 @@ pub returns : goal.returns
 returns g c =
     let path = c.args.path.now in
     steps_by g.C.CharSet.tests g.met.C.CharSet.above_ascii c.args.context _ path _ (lazy_pushed-step g.C.CharSet.tests c.args.context (read_path path) c.args.segment.now c.requires.segment) c.requires.path c.push_text.ensures.keep
-    c.push_text.ensures.text
+    (c.push_text.ensures.text ∙ append-nil _)

@@ -1,4 +1,6 @@
+use Rattle.std.proofs.Common.{◌∙◌}
 use Rattle.iref_grammar.specs.PathValue.{read_path}
+use Rattle.iref_path_text.proofs.StepTextLemmas.{unclosed_spelled}
 use Rattle.iref_path_text.proofs.StepValueLemmas.{steps_by, popped-step}
 use Rattle.iref_path_text.proofs.steps.popped.Goals as goal
 
@@ -6,4 +8,4 @@ pub returns : goal.returns
 returns g c =
     let path = c.args.path.now in
     steps_by g.C.CharSet.tests g.met.C.CharSet.above_ascii c.args.context _ path _ (popped-step g.C.CharSet.tests c.args.context (read_path path)) c.requires.path c.pop_text.ensures.keep
-    c.pop_text.ensures.text
+    (c.pop_text.ensures.text ∙ unclosed_spelled _)
