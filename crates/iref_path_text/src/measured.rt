@@ -7,7 +7,7 @@ ghost use Rattle.iref_parse.specs.Dots.{has_dot_segment};
 ghost use Rattle.iref_path_text.specs.Bodies.{after_front, parents_then};
 ghost use Rattle.iref_path_text.specs.Merged.{merged_list, merged_path, path_after};
 ghost use Rattle.iref_path_text.specs.MeasuredPaths.{IsMeasured, measured_text};
-ghost use Rattle.iref_path_text.specs.{Pieces.{pieces_if_some}, Spelling.{each_closed, normal_in}};
+ghost use Rattle.iref_path_text.specs.{Pieces.{pieces_if_some}, Spelling.{each_closed}};
 ghost use Rattle.iref_path_text.specs.Ways.{IsWaySound, path_between};
 ghost use Rattle.iref_path_text.specs.{Ways.{way_left}, Written.{WritesBefore}};
 ghost use Rattle.std.specs.Prelude.{◌||◌, ◌&&◌, ◌≡◌, ◌+◌, ◌*◌, ◌<◌, ◌≤◌, ◌^◌, ◌++◌, IfOk, OnErr, OnOk};
@@ -106,16 +106,7 @@ impl<'a> MeasuredPath<'a> {
         ensures text { measured_text result ≡ spell_path (normalized context (read_path path.now)) }
         ensures measured { IsMeasured result }
     {
-        MeasuredPath::normalized_in(context, split_root(path).0, path)
-    }
-
-    /// The text of the normalized path in its context, with a flag of its own.
-    #[inline(always)]
-    pub(crate) fn normalized_in(context: PathContext, absolute: bool, path: &'a str) -> Self
-        ensures text { measured_text result ≡ spell_path (normal_in context absolute path.now) }
-        ensures measured { IsMeasured result }
-    {
-        let segments = split_root(path).1;
+        let (absolute, segments) = split_root(path);
         MeasuredPath::of_segments(context, absolute, None, segments)
     }
 
@@ -154,22 +145,6 @@ impl<'a> MeasuredPath<'a> {
                 return MeasuredPath::dotless(context, absolute, front, back);
             }
         }
-        MeasuredPath::read_back(context, absolute, front, back)
-    }
-
-    // The text of these segments, which are read from the back.
-    #[inline(always)]
-    fn read_back(
-        context: PathContext,
-        absolute: bool,
-        front: Option<&'a str>,
-        back: Option<&'a str>,
-    ) -> Self
-        requires { length (each_closed (merged_list front back)) + 4 < 2 ^ 64 }
-        ensures text { measured_text result
-            ≡ spell_path (normalized context (merged_path absolute front.entry back.entry)) }
-        ensures measured { IsMeasured result }
-    {
         let all = Merged::new(absolute, front, back);
         let lead = lead_in(context, absolute, all.size, all.first);
         let body = Body::Items(Way::all(all.items), all.size);

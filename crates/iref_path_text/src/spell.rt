@@ -223,15 +223,16 @@ fn normal_bytes(
     ensures { IfOk result (λ bytes.
         bytes.items ≡ spell_path (normal_in context absolute path.now)) }
 {
+    let segments = split_root(path).1;
     if path.len() <= LONGEST_STACKED && has_dots(path.as_bytes()) {
         let mut stack = Stack::new(alloc);
-        stack.read(absolute, split_root(path).1);
+        stack.read(absolute, segments);
         if stack.is_whole {
             let lead = lead_in(context, absolute, stack.size, stack.first);
             return stacked_bytes(alloc, lead, stack.items.as_slice(), stack.size);
         }
     }
-    MeasuredPath::normalized_in(context, absolute, path).bytes(alloc)
+    MeasuredPath::of_segments(context, absolute, None, segments).bytes(alloc)
 }
 
 /// The text of the normalized path in its context, with a flag of its own (RFC 3986 section 5.2.4):

@@ -15,6 +15,11 @@ read-requires-clause-fits c =
     let size = read_size c.args.path.now _ c.split_root.ensures.path in
     omega (arith, size)
 
+pub of_segments-requires : goal.of_segments-requires
+of_segments-requires c =
+    let size = read_size c.args.path.now _ c.split_root.ensures.path in
+    omega (arith, size)
+
 pub stacked_bytes-requires-clause-countable : goal.stacked_bytes-requires-clause-countable
 stacked_bytes-requires-clause-countable c =
     let text = read_size c.args.path.now _ c.split_root.ensures.path in

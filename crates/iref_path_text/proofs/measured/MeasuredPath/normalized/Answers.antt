@@ -1,8 +1,8 @@
 use Rattle.std.proofs.Common.{arith}
 use Rattle.iref_path_text.proofs.SpellLemmas.{read_size}
-use Rattle.iref_path_text.proofs.measured.MeasuredPath.normalized_in.Goals as goal
+use Rattle.iref_path_text.proofs.measured.MeasuredPath.normalized.Goals as goal
 
 pub of_segments-requires : goal.of_segments-requires
 of_segments-requires c =
-    let size = read_size c.args.path.now _ c.split_root.ensures.path in
+    let size = read_size c.args.path.now _ c.split_root-absolute.ensures.path in
     omega (arith, size)
