@@ -6,7 +6,7 @@ use Rattle.std.specs.Ordering.{bool_cmp, is_ne, nat_cmp, ordering_then}
 use mathlib.Core.Bool.{true≢false}
 use Rattle.std.specs.Cmp.{nat_cmp_is}
 use Rattle.std.specs.Cmp.Lexicographic.{slice_cmp}
-use Rattle.std.proofs.lemmas.List.{length-take-le, take_at, take_min, length-map, length-take, take-map, reverse-append, take-append-drop, map-append}
+use Rattle.std.proofs.lemmas.List.{length-take-le, take_at, take_min, length-map, take-map, reverse-append, take-append-drop, map-append}
 use Rattle.std.proofs.lemmas.Bool.Decides.{nat_tests}
 use Rattle.std.proofs.lemmas.List.Concat.{flat_map-cons}
 use Rattle.std.specs.Hash.{bool, fed_then, u8}
@@ -37,12 +37,12 @@ one_less whole left after (Some s) n h some e given = shorter whole after s.now 
 
 -- ---- the foremost difference decides
 
-pub then-assoc : (a b c : Ordering) → ordering_then a (ordering_then b c) ≡ ordering_then (ordering_then a b) c
+then-assoc : (a b c : Ordering) → ordering_then a (ordering_then b c) ≡ ordering_then (ordering_then a b) c
 then-assoc Less b c = refl
 then-assoc Equal b c = refl
 then-assoc Greater b c = refl
 
-then-equal : (a : Ordering) → ordering_then a Equal ≡ a
+pub then-equal : (a : Ordering) → ordering_then a Equal ≡ a
 then-equal Less = refl
 then-equal Equal = refl
 then-equal Greater = refl
@@ -78,7 +78,7 @@ cut_to xs n = let least : length xs - (length xs - n) ≡ min n (length xs) = om
 
 -- ---- two lists read from the back
 
-abbrev decoded : List Text → List Text
+abbrev pub decoded : List Text → List Text
 decoded = map percent_decode
 
 read : (us : List Text) (s : Text) (xs : List Text) → xs ≡ us ++ s ∷ [] → decoded xs ≡ decoded us ++ percent_decode s ∷ []
@@ -97,18 +97,17 @@ order-before xs ys us vs s t order h e f =
     )
 
 -- a list of this number of items after those past a length have been passed over
-pub shortened : (xs us : List Text) (n m : ℕ) → n ≡ length xs → us ≡ take (length xs - (n - m)) xs → us ≡ take m xs
+shortened : (xs us : List Text) (n m : ℕ) → n ≡ length xs → us ≡ take (length xs - (n - m)) xs → us ≡ take m xs
 shortened xs us n m h e = e ∙ ap (λ k. take (length xs - (k - m)) xs) h ∙ cut_to xs m
 
 -- what is known of two lists when their longer one has been cut
 pub order-cut : (xs ys us vs : List Text) (n m : ℕ) → n ≡ length xs → m ≡ length ys → us ≡ take (length xs - (n - m)) xs → vs ≡ take (length ys - (m - n)) ys
-    → (length us ≡ length vs) × (ordering_then (slice_cmp text_order (decoded us) (decoded vs)) (nat_cmp n m) ≡ slice_cmp text_order (decoded xs) (decoded ys))
+    → (us ≡ take (length ys) xs) × (vs ≡ take (length xs) ys) × (ordering_then (slice_cmp text_order (decoded us) (decoded vs)) (nat_cmp n m) ≡ slice_cmp text_order (decoded xs) (decoded ys))
 order-cut xs ys us vs n m h k e f =
     let left : us ≡ take (length ys) xs = shortened xs us n m h e ∙ ap (λ j. take j xs) k in
-    let right : vs ≡ take (length xs) ys = shortened ys vs m n k f ∙ ap (λ j. take j ys) h in
-    let left_size = ap length left ∙ length-take (length ys) xs in
-    let right_size = ap length right ∙ length-take (length xs) ys in (
-      omega (arith, left_size, right_size),
+    let right : vs ≡ take (length xs) ys = shortened ys vs m n k f ∙ ap (λ j. take j ys) h in (
+      left,
+      right,
       (λ i. ordering_then (slice_cmp text_order (decoded (left i)) (decoded (right i))) (nat_cmp (h i) (k i)))
           ∙ (λ i. ordering_then (slice_cmp text_order (cut xs ys i) (cut ys xs i)) (nat_cmp (sym (length-map xs percent_decode) i) (sym (length-map ys percent_decode) i)))
           ∙ sym (slice_cmp-cut text_order (decoded xs) (decoded ys)),
@@ -138,7 +137,7 @@ module _ (p q : PathValue) (flags : Ordering) (flags_are : flags ≡ bool_cmp p.
       by Equal rest h = absurd (true≢false (sym h))
       by Greater rest h = refl
 
-  pub lists_decide : (lists : Ordering) → is_ne flags ≡ false → lists ≡ slice_cmp text_order (path_key p).segments (path_key q).segments → lists ≡ path_key_cmp (path_key p) (path_key q)
+  pub lists_decide : (lists : Ordering) → is_ne flags ≡ false → lists ≡ slice_cmp text_order (decoded (normal_segments p)) (decoded (normal_segments q)) → lists ≡ path_key_cmp (path_key p) (path_key q)
   unfolding path_key
   lists_decide lists h e = e ∙ by flags (slice_cmp text_order (decoded (normal_segments p)) (decoded (normal_segments q))) h ∙ ap (λ o. ordering_then o (slice_cmp text_order (decoded (normal_segments p)) (decoded (normal_segments q)))) flags_are
     where

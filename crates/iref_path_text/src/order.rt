@@ -1,16 +1,16 @@
 //! Order and hash of paths, by their keys: both normal lists are read from the back, and take no
 //! memory.
 
-ghost use Rattle.std.specs.Prelude.{◌≡◌, ◌-◌, ◌≤◌, fold, length, take};
-ghost use Rattle.std.specs.Cmp.Lexicographic.{slice_cmp};
-ghost use Rattle.iref_grammar.specs.{read_path, text_order};
+ghost use Rattle.std.specs.Prelude.{◌≡◌, fold};
+ghost use Rattle.iref_grammar.specs.{read_path};
 ghost use Rattle.iref_model.specs.{path_key, path_key_cmp, fed_from_the_back};
 ghost use Rattle.iref_model.specs.{fed_path};
-ghost use Rattle.iref_path_text.specs.Remaining.{IsSound, decoded_left, normal_left};
+ghost use Rattle.iref_path_text.specs.Remaining.{IsSound, decoded_left};
 
+use crate::common::compare_lists;
 use crate::remaining::Remaining;
 use crate::segments::split_root;
-use iref_parse::decoded::{decoded_cmp, hash_decoded};
+use iref_parse::decoded::hash_decoded;
 use std::cmp::Ordering;
 use std::hash::{Hash, Hasher};
 
@@ -21,48 +21,6 @@ pub(crate) fn is_absolute(path: &str) -> bool
     split_root(path).0
 }
 
-/// Passes over the last `count` items.
-pub(crate) fn skip_back(left: &mut Remaining<'_>, count: usize)
-    requires sound { IsSound left.old }
-    requires within { count ≤ length (normal_left left.old) }
-    ensures items { normal_left left.new
-        ≡ take (length (normal_left left.old) - count) (normal_left left.old) }
-    ensures sound { IsSound left.new }
-{
-    for _skipped in 0..count {
-        left.next_back();
-    }
-}
-
-/// The order of two lists of the same length: the foremost difference decides, and is read last.
-fn same_length_cmp(left: &mut Remaining<'_>, right: &mut Remaining<'_>) -> Ordering
-    requires left { IsSound left.old }
-    requires right { IsSound right.old }
-    requires same_length { length (normal_left left.old) ≡ length (normal_left right.old) }
-    ensures { result ≡ slice_cmp text_order (decoded_left left.old) (decoded_left right.old) }
-{
-    let mut order = Ordering::Equal;
-    while let Some(item) = left.next_back() {
-        let Some(other) = right.next_back() else {
-            return order;
-        };
-        order = decoded_cmp(item, other).then(order);
-    }
-    order
-}
-
-/// The order of the decoded normal lists of two paths, the shorter first.
-fn normal_lists_cmp(a: &str, b: &str) -> Ordering
-    ensures { result ≡ slice_cmp text_order
-        (path_key (read_path a.now)).segments (path_key (read_path b.now)).segments }
-{
-    let (mut left, left_count) = Remaining::new(a);
-    let (mut right, right_count) = Remaining::new(b);
-    skip_back(&mut left, left_count.saturating_sub(right_count));
-    skip_back(&mut right, right_count.saturating_sub(left_count));
-    same_length_cmp(&mut left, &mut right).then(left_count.cmp(&right_count))
-}
-
 /// The order of the paths of two texts: relative before absolute, then segment by segment, the
 /// shorter list first.
 pub fn path_texts_cmp(a: &str, b: &str) -> Ordering
@@ -70,10 +28,11 @@ pub fn path_texts_cmp(a: &str, b: &str) -> Ordering
 {
     let flags = is_absolute(a).cmp(&is_absolute(b));
     if flags.is_ne() {
-        flags
-    } else {
-        normal_lists_cmp(a, b)
+        return flags;
     }
+    let (left, left_len) = Remaining::new(a);
+    let (right, right_len) = Remaining::new(b);
+    compare_lists(left, left_len, right, right_len).1
 }
 
 /// Feeds the hasher the items that are left, from the last to the first.

@@ -7,7 +7,7 @@ ghost use Rattle.iref_path_text.specs.Ways.{IsWaySound, way_left};
 ghost use Rattle.std.specs.Prelude.{◌≡◌, ◌+◌, ◌<◌, ◌^◌, IfOk, IfSome, IsNone, IsOk, length};
 ghost use Rattle.std.specs.{Prelude.{option_map, true}, String.{string_bytes}};
 
-use crate::common::common_len;
+use crate::common::compare_lists;
 use crate::measured::MeasuredPath;
 use crate::order::is_absolute;
 use crate::remaining::Remaining;
@@ -29,7 +29,8 @@ fn rest_after<'a>(prefix: &str, path: &'a str) -> Option<Way<'a>>
     }
     let (start, len) = Remaining::new(prefix);
     let (items, count) = Remaining::new(path);
-    if common_len(start, len, items, count) < len {
+    let (common, _) = compare_lists(start, len, items, count);
+    if common < len {
         return None;
     }
     Some(Way::new(0, count - len, items))

@@ -10,7 +10,7 @@ ghost use Rattle.std.specs.Prelude.{codes, drop, length, replicate};
 
 use super::Remaining;
 use super::merged::{Merged, survey};
-use crate::common::common_len;
+use crate::common::compare_lists;
 use crate::segments::{split_root, without_last};
 
 /// A number of `..`, and the last of the items of a list.
@@ -64,7 +64,7 @@ impl<'a> Way<'a> {
         let (items, count) = some_items(path);
         let mut middle = items;
         middle.next_back();
-        let common = common_len(directory, depth, middle, count - 1);
+        let (common, _) = compare_lists(directory, depth, middle, count - 1);
         Way::new(depth - common, count - common, items)
     }
 

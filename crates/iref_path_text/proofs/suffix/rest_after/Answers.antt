@@ -18,28 +18,28 @@ pub returns-then-is_absolute-clause-rest : goal.returns-then-is_absolute-clause-
 returns-then-is_absolute-clause-rest c =
     sym (suffix-apart (read_path c.args.prefix.now) (read_path c.args.path.now) c.is_absolute.result c.is_absolute-2.result c.is_absolute.ensures c.is_absolute-2.ensures c.if-is_absolute.true)
 
-pub returns-then-common_len-len-clause-rest : goal.returns-then-common_len-len-clause-rest
-returns-then-common_len-len-clause-rest c =
-    let common = c.common_len.ensures ∙ (λ i. common_prefix_len same_decoded (c.new-len.ensures.items i) (c.new-count.ensures.items i)) in
+pub returns-then-common-len-clause-rest : goal.returns-then-common-len-clause-rest
+returns-then-common-len-clause-rest c =
+    let common = c.compare_lists-common.ensures.common ∙ (λ i. common_prefix_len same_decoded (c.new-len.ensures.items i) (c.new-count.ensures.items i)) in
     let whole = c.new-len.ensures.count ∙ ap length c.new-len.ensures.items in
-    let short = c.if-common_len-len.true in
+    let short = c.if-common-len.true in
     sym (suffix-none (read_path c.args.prefix.now) (read_path c.args.path.now) c.is_absolute.result c.is_absolute-2.result c.is_absolute.ensures c.is_absolute-2.ensures c.if-is_absolute.false (omega (arith, common, whole, short)))
 
 pub overflow_sub-count : goal.overflow_sub-count
 overflow_sub-count c =
     let most = (common_prefix_len-le same_decoded (normal_left c.new-len.result.0) (normal_left c.new-count.result.0)).1 in
-    let common = c.common_len.ensures in
-    let long = c.if-common_len-len.false in
+    let common = c.compare_lists-common.ensures.common in
+    let long = c.if-common-len.false in
     let count = c.new-count.ensures.count in
     omega (arith, most, common, long, count)
 
 pub returns-clause-rest : goal.returns-clause-rest
 returns-clause-rest c =
-    let common = c.common_len.ensures ∙ (λ i. common_prefix_len same_decoded (c.new-len.ensures.items i) (c.new-count.ensures.items i)) in
+    let common = c.compare_lists-common.ensures.common ∙ (λ i. common_prefix_len same_decoded (c.new-len.ensures.items i) (c.new-count.ensures.items i)) in
     let whole = c.new-len.ensures.count ∙ ap length c.new-len.ensures.items in
-    let long = c.if-common_len-len.false in
+    let long = c.if-common-len.false in
     let most = (common_prefix_len-le same_decoded (normal_left c.new-len.result.0) (normal_left c.new-count.result.0)).1 in
-    let read = c.common_len.ensures in
+    let read = c.compare_lists-common.ensures.common in
     let count = c.new-count.ensures.count in
     let after : length (normal_left c.new-count.result.0) - (c.new-count.result.1 - c.new-len.result.1) ≡ length (normal_segments (read_path c.args.prefix.now)) =
     omega (arith, whole, long, most, read, count) in

@@ -1,13 +1,11 @@
 use Rattle.std.proofs.Common.{◌≡◌, length}
-use Rattle.std.specs.List.{common_prefix_len}
-use Rattle.iref_model.specs.PathSuffix.{same_decoded}
 use Rattle.iref_path_text.specs.Remaining.{IsSound, normal_left}
-use Rattle.iref_path_text.proofs.CommonLemmas.{or_else}
-use Rattle.iref_path_text.proofs.common.same_length_common.Given as goal
+use Rattle.iref_path_text.proofs.CommonLemmas.{IsCompared}
+use Rattle.iref_path_text.proofs.common.compare_same_length.Given as goal
 
 abbrev pub invariant-loop-item : goal.invariant-loop-item
 invariant-loop-item l = record {
-  common : common_prefix_len same_decoded (normal_left l.fn.left) (normal_left l.fn.right) ≡ or_else (common_prefix_len same_decoded (normal_left l.left) (normal_left l.right)) (length (normal_left l.left)) l.common;
+  compared : IsCompared (normal_left l.fn.left) (normal_left l.fn.right) (normal_left l.left) (normal_left l.right) l.common l.order;
   left_len : length (normal_left l.left) ≡ l.index;
   right_len : length (normal_left l.right) ≡ l.index;
   left : IsSound l.left;

@@ -1,6 +1,6 @@
 use Rattle.std.proofs.Common.{◌≡◌, ◌-◌, length, take}
 use Rattle.iref_path_text.specs.Remaining.{IsSound, normal_left}
-use Rattle.iref_path_text.proofs.order.skip_back.Given as goal
+use Rattle.iref_path_text.proofs.common.skip_back.Given as goal
 
 abbrev pub invariant-loop-skipped : goal.invariant-loop-skipped
 invariant-loop-skipped l = record {

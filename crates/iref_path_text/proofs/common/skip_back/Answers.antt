@@ -1,7 +1,7 @@
 use Rattle.std.proofs.Common.{arith, ap, ◌∙◌, take, ◌-◌, ◌+◌, ◌≡◌, length}
 use Rattle.iref_path_text.specs.Remaining.{normal_left}
 use Rattle.iref_path_text.proofs.OrderLemmas.{one_less}
-use Rattle.iref_path_text.proofs.order.skip_back.Goals as goal
+use Rattle.iref_path_text.proofs.common.skip_back.Goals as goal
 
 pub loop-skipped-preserved : goal.loop-skipped-preserved
 loop-skipped-preserved c =
