@@ -52,14 +52,6 @@ pub(crate) fn leading_parents(absolute: bool, open_parents: usize) -> usize
     if absolute { 0 } else { open_parents }
 }
 
-/// How many segments close a list.
-#[inline(always)]
-fn closing_count(closes: bool) -> usize
-    ensures { result ≡ (if closes then 1 else 0) }
-{
-    usize::from(closes)
-}
-
 /// Whether a list is one empty segment: by how many `..` and names it has, and whether it closes.
 #[inline(always)]
 fn is_one_empty(parents: usize, names: usize, first: &str, closes: bool) -> bool
@@ -67,7 +59,7 @@ fn is_one_empty(parents: usize, names: usize, first: &str, closes: bool) -> bool
     ensures { result
         ≡ (parents == 0) && (is_empty first.now && (names + (if closes then 1 else 0) == 1)) }
 {
-    parents == 0 && first.is_empty() && names + closing_count(closes) == 1
+    parents == 0 && first.is_empty() && names + usize::from(closes) == 1
 }
 
 impl<'a> Remaining<'a> {

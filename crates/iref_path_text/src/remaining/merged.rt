@@ -9,9 +9,8 @@ ghost use Rattle.iref_path_text.specs.Remaining.{IsSound, KeepsEnds, first_or, n
 ghost use Rattle.iref_path_text.specs.Spelling.{each_closed};
 ghost use Rattle.std.specs.{Iterator.{YieldsLastBy}, Prelude.{◌≡◌, ◌+◌, ◌<◌, ◌≤◌, ◌^◌, [], length}};
 ghost use Rattle.std.specs.Prelude.{◌==◌, IfNone, IfSome, None, codes, if◌then◌else◌};
-ghost use Rattle.iref_model.specs.NormalList as list;
 
-use super::{Remaining, closing_count, ends_in_dots, is_one_empty, leading_parents};
+use super::{Remaining, ends_in_dots, is_one_empty, leading_parents};
 
 /// The items that are left of a list whose segments stand in two texts.
 #[derive(Clone, Copy)]
@@ -87,18 +86,6 @@ fn first_item(parents: usize, name: &str) -> &str
     if parents == 0 { name } else { ".." }
 }
 
-/// Whether the last segment is `.` or `..`.
-#[inline(always)]
-fn both_end_in_dots(front: Option<&str>, back: Option<&str>) -> bool
-    ensures { result ≡ list.ends_in_dots (merged_list front.entry back.entry) }
-{
-    if back.is_some() {
-        ends_in_dots(back)
-    } else {
-        ends_in_dots(front)
-    }
-}
-
 impl<'a> Merged<'a> {
     /// All items of the path of these segments. Only a relative list keeps the `..` that nothing
     /// cancels.
@@ -120,7 +107,7 @@ impl<'a> Merged<'a> {
             first,
         } = survey(front, back);
         let parents = leading_parents(absolute, parents);
-        let closes = both_end_in_dots(front, back);
+        let closes = ends_in_dots(back.or(front));
         if is_one_empty(parents, names, first, closes) {
             return Surveyed {
                 items: Merged::none(),
@@ -129,7 +116,7 @@ impl<'a> Merged<'a> {
                 first: "",
             };
         }
-        let closing = closing_count(closes);
+        let closing = usize::from(closes);
         let back = Remaining::all(parents, back, closes);
         Surveyed {
             items: Merged { front, back },

@@ -20,6 +20,7 @@ loop-item-preserved c =
     let here = c.items_cmp-here.result in
     let read = one_more _ _ _ _ us _ _ _ _ _ _ here so_far.compared so_far.left_len so_far.right_len c.in-Some.ensures.item c.in-Some-next_back.ensures.item c.items_cmp-here.ensures in
     let index : length us ≡ c.loop-item.index - 1 = omega (arith, read) in
+    let right : length (normal_left c.next_back-in-Some.new.self) ≡ c.loop-item.index - 1 = omega (arith, read) in
     let common : c.if-not-is_eq.common ≡ cond (is_eq here) c.loop-item.common (length us) =
     elim c.if-not-is_eq.branch [
       | then-not-is_eq w ↦ rw (w.common-is, sym c.is_eq.ensures ∙ w.if-not-is_eq.true) (sym index)
@@ -28,7 +29,7 @@ loop-item-preserved c =
     record {
       compared = rw (common, c.then-order.ensures) read.2;
       left_len = index;
-      right_len = omega (arith, read);
+      right_len = right;
       left = c.in-Some.ensures.sound;
       right = c.in-Some-next_back.ensures.sound;
     }
