@@ -184,17 +184,6 @@ fn write_stacked(items: &[&str], buffer: &mut [u8], end: usize) -> usize
     write_stacked_closed(others, buffer, start)
 }
 
-// Writes what stands first, and items that are given the last first, so that they end at `end`,
-// and returns where they begin.
-fn write_stacked_text(lead: &str, items: &[&str], buffer: &mut [u8], end: usize) -> usize
-    requires room { length (stacked_text lead.now items.now) ≤ end }
-    requires within { end ≤ length buffer.old }
-    ensures { WritesBefore end (stacked_text lead.now items.now) buffer.old buffer.new result }
-{
-    let start = write_stacked(items, buffer, end);
-    write_before(buffer, start, lead)
-}
-
 // What stands first, and items that are given the last first, with `/` between. `size` is the
 // length of the items with a `/` after each.
 fn stacked_bytes(alloc: Global, lead: &str, items: &[&str], size: usize) -> Result<Vec<u8>, Memory>
@@ -204,7 +193,9 @@ fn stacked_bytes(alloc: Global, lead: &str, items: &[&str], size: usize) -> Resu
 {
     let len = lead.len() + size.saturating_sub(1);
     let mut bytes = vec![in alloc; 0u8; len]?;
-    write_stacked_text(lead, items, &mut bytes, len);
+    let buffer = bytes.as_mut_slice();
+    let start = write_stacked(items, buffer, len);
+    write_before(buffer, start, lead);
     Ok(bytes)
 }
 
