@@ -10,7 +10,7 @@ ghost use Rattle.iref_path_text.specs.MeasuredPaths.{IsMeasured, measured_text};
 ghost use Rattle.iref_path_text.specs.{Pieces.{pieces_if_some}, Spelling.{each_closed}};
 ghost use Rattle.iref_path_text.specs.Ways.{IsWaySound, path_between};
 ghost use Rattle.iref_path_text.specs.{Ways.{way_left}, Written.{WritesBefore}};
-ghost use Rattle.std.specs.Prelude.{◌||◌, ◌&&◌, ◌≡◌, ◌+◌, ◌*◌, ◌<◌, ◌≤◌, ◌^◌, ◌++◌, IfOk, OnErr, OnOk};
+ghost use Rattle.std.specs.Prelude.{◌||◌, ◌&&◌, ◌≡◌, ◌+◌, ◌*◌, ◌<◌, ◌≤◌, ◌^◌, ◌++◌, IfOk};
 ghost use Rattle.std.specs.Prelude.{Bool, Some, [], codes, false, length, replicate, true, ℕ};
 ghost use Rattle.std.specs.String.{string_bytes};
 ghost use Rattle.iref_path_text.specs.Remaining.{first_or};
@@ -26,7 +26,7 @@ use iref_error::Memory;
 use iref_grammar::chars::CharSet;
 use iref_grammar::context::PathContext;
 use iref_parse::dots::has_dots;
-use std::alloc::{AllocError, Global};
+use std::alloc::Global;
 
 // Nothing stands before the path.
 const ALONE: PathContext = PathContext {
@@ -232,21 +232,6 @@ impl<'a> MeasuredPath<'a> {
         // What spells a path is text, so no byte is read again.
         let text = unsafe { String::from_utf8_unchecked(bytes) };
         Ok(text)
-    }
-
-    /// Appends the text to a vector. The room is taken once, and each byte is written once.
-    #[inline(always)]
-    pub(crate) fn append_to(self, out: &mut Vec<u8>) -> Result<(), Memory>
-        requires { IsMeasured self }
-        ensures ok { OnOk result (out.new.items ≡ out.old.items ++ measured_text self.entry) }
-        ensures err { OnErr result (out.new.items ≡ out.old.items) }
-    {
-        let start = out.len();
-        let len = self.len();
-        let end = start.checked_add(len).ok_or(AllocError)?;
-        out.resize(end, 0)?;
-        self.write_before(&mut out[start..], len);
-        Ok(())
     }
 
     // The bytes of the text.

@@ -22,7 +22,7 @@ use iref_error::Memory;
 use iref_grammar::chars::CharSet;
 use iref_grammar::context::PathContext;
 use iref_parse::dots::has_dots;
-use std::alloc::Global;
+use std::alloc::{AllocError, Global};
 
 /// How many bytes the items have with a `/` after each, and the first of them, or nothing.
 pub(crate) fn measure(mut left: Way<'_>) -> (usize, &str)
@@ -115,13 +115,6 @@ pub(crate) fn first_needs_guard(context: PathContext, rooted: bool, segment: &st
     segment.is_empty() || !after_mark && has_colon(segment)
 }
 
-/// Whether a list that begins with this segment needs a guard: after an authority none does.
-fn needs_guard(context: PathContext, absolute: bool, first: &str) -> bool
-    ensures { result ≡ spelling.needs_guard context absolute first.now }
-{
-    !context.has_authority && first_needs_guard(context, absolute, first)
-}
-
 /// The root, and the guard.
 pub(crate) fn lead(absolute: bool, guard: bool) -> &'static str
     ensures { result.now ≡ spelling.lead absolute guard }
@@ -150,7 +143,7 @@ pub(crate) fn lead_in(
     }
     lead(
         absolute || context.has_authority,
-        needs_guard(context, absolute, first),
+        !context.has_authority && first_needs_guard(context, absolute, first),
     )
 }
 
@@ -258,5 +251,11 @@ pub fn append_normalized(context: PathContext, path: &str, out: &mut Vec<u8>) ->
         ≡ out.old.items ++ spell_path (normalized context (read_path path.now))) }
     ensures err { OnErr result (out.new.items ≡ out.old.items) }
 {
-    MeasuredPath::normalized(context, path).append_to(out)
+    let path = MeasuredPath::normalized(context, path);
+    let start = out.len();
+    let len = path.len();
+    let end = start.checked_add(len).ok_or(AllocError)?;
+    out.resize(end, 0)?;
+    path.write_before(&mut out[start..], len);
+    Ok(())
 }
