@@ -25,8 +25,8 @@ pub struct Step<'a> {
     pub close: &'static str,
 }
 
-// Nothing after what stays.
-const KEPT: Step<'static> = Step {
+// Nothing stays, and nothing comes after.
+const EMPTY: Step<'static> = Step {
     keep: 0,
     lead: "",
     middle: "",
@@ -68,7 +68,7 @@ pub fn followed<'a, C: CharSet>(context: PathContext, path: &str, segment: &'a s
     if segment == "." {
         Step {
             keep: path.len(),
-            ..KEPT
+            ..EMPTY
         }
     } else if segment == ".." {
         popped::<C>(context, path)
@@ -95,7 +95,7 @@ pub fn closed<C: CharSet>(context: PathContext, path: &str) -> Step<'static>
     Step {
         keep: path.len(),
         close: if has_segments { "/" } else { "" },
-        ..KEPT
+        ..EMPTY
     }
 }
 
@@ -108,7 +108,7 @@ pub fn cleared<C: CharSet>(context: PathContext, path: &str) -> Step<'static>
 {
     Step {
         keep: usize::from(split_root(path).0),
-        ..KEPT
+        ..EMPTY
     }
 }
 
@@ -119,10 +119,9 @@ pub fn replaced<'a, C: CharSet>(context: PathContext, path: &str, new: &'a str) 
     ensures { StepsBy (replaced context (read_path new.now)) C.tests context path.now result }
 {
     Step {
-        keep: 0,
         lead: guard_of(context, new),
         middle: new,
-        close: "",
+        ..EMPTY
     }
 }
 
@@ -165,7 +164,10 @@ fn pop_text(context: PathContext, path: &str, close: &'static str) -> Step<'stat
     let root = usize::from(absolute);
     let Some(segments) = segments else {
         return if absolute {
-            Step { keep: root, ..KEPT }
+            Step {
+                keep: root,
+                ..EMPTY
+            }
         } else {
             push_text(context, path, "..", close)
         };
@@ -181,6 +183,9 @@ fn pop_text(context: PathContext, path: &str, close: &'static str) -> Step<'stat
             middle: "",
             close,
         },
-        None => Step { keep: root, ..KEPT },
+        None => Step {
+            keep: root,
+            ..EMPTY
+        },
     }
 }
