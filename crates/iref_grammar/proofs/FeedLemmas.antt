@@ -24,10 +24,6 @@ cut (x ∷ u) (y ∷ v) r s n e =
     let rest = cut u v r s size (ap tail_of e) in
     ((λ i. (ap head_of e i) ∷ (rest.0 i)), rest.1)
 
--- a piece with anything behind it
-pieces_cut : (u v r s : List ℕ) → length u ≡ length v → (piece u ++ r) ≡ (piece v ++ s) → (u ≡ v) × (r ≡ s)
-pieces_cut u v r s n e = cut u v r s n (ap tail_of e)
-
 abbrev next : Bool → Text → ℕ → Text → HashWrites
 next t held b bs = cond t (piece (held ++ b ∷ []) ∷ fed_after [] bs) (fed_after (held ++ b ∷ []) bs)
 

@@ -1,28 +1,13 @@
 -- Slices of a text that end at a delimiter.
-use Rattle.std.proofs.Common.{◌≡◌, ℕ, ◌+◌, ◌<◌, zero, suc, Bool, true, false, not, cond, [], ◌∷◌, ◌++◌, length, get_or, drop, refl, sym, ◌∙◌, ap, subst, arith}
+use Rattle.std.proofs.Common.{◌≡◌, ℕ, ◌+◌, ◌<◌, suc, Bool, true, false, not, cond, [], ◌∷◌, ◌++◌, length, get_or, refl, sym, ◌∙◌, ap, subst, arith}
 use Rattle.std.specs.Prelude.{◌==◌, Option, Some, None}
-use Rattle.std.specs.Char.{char_set_contains}
 use Rattle.std.specs.Str.{IsCharBoundary}
-use Rattle.std.specs.List.{position_or_len, after_first, onto_first}
+use Rattle.std.specs.List.{position_or_len, onto_first}
 use Rattle.std.proofs.lemmas.Grind.{common_steps}
 use Rattle.std.proofs.lemmas.Str.{IsCharBoundary-end, IsCharBoundary-before_ascii}
 use Rattle.std.proofs.lemmas.List.{append-nil}
 use Rattle.iref_grammar.specs.Rules.{Text}
-use Rattle.iref_grammar.specs.Texts.{after, after_first_char, then_part, pieces_at}
-
--- a delimiter is found by its number as by the set of it alone
-position-mark : (mark : ℕ) (text : Text) → position_or_len (char_set_contains (mark ∷ [])) text ≡ position_or_len (λ b. b == mark) text
-position-mark mark [] = refl
-position-mark mark (c ∷ cs) = grind (arith, common_steps, position-mark mark cs)
-
-after_first_char-drop : (text : Text) (n : ℕ) → n < length text → after_first_char (drop n text) ≡ Some (drop (n + 1) text)
-after_first_char-drop [] n h = absurd (omega arith)
-after_first_char-drop (c ∷ cs) zero h = refl
-after_first_char-drop (c ∷ cs) (suc n) h = grind (arith, common_steps, after_first_char-drop cs n (omega arith))
-
--- what follows a delimiter that was found
-pub after-found : (mark : ℕ) (text : Text) → position_or_len (λ b. b == mark) text < length text → after mark text ≡ Some (after_first (λ b. b == mark) text)
-after-found mark text h = ap (λ n. after_first_char (drop n text)) (position-mark mark text) ∙ after_first_char-drop text (position_or_len (λ b. b == mark) text) h
+use Rattle.iref_grammar.specs.Texts.{then_part, pieces_at}
 
 -- a text may be cut before an ASCII delimiter, and at its end
 pub mark_boundary : (mark : ℕ) (front : Text) (back : Option Text) (text : Text) → mark < 128 → front ++ then_part (mark ∷ []) back ≡ text → IsCharBoundary text (length front)

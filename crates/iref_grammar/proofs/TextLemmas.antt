@@ -1,13 +1,12 @@
 -- Cuts at a delimiter, and joins.
-use Rattle.std.proofs.Common.{◌≡◌, ℕ, Bool, true, false, not, cond, ◌&&◌, ◌||◌, List, [], ◌∷◌, ◌++◌, refl, sym, ◌∙◌, ap, inl, inr}
+use Rattle.std.proofs.Common.{◌≡◌, ℕ, arith, Bool, true, false, not, ◌&&◌, ◌||◌, List, [], ◌∷◌, ◌++◌, refl, ◌∙◌, ap}
 use Rattle.std.specs.Prelude.{◌==◌}
 use Rattle.std.specs.List.{list_all, join_with_byte, onto_first}
 use Rattle.std.specs.Char.{char_set_contains}
-use Rattle.std.proofs.lemmas.Bool.Decides.{eqb_tells}
+use Rattle.std.proofs.lemmas.Grind.{common_steps}
 use Rattle.std.proofs.lemmas.List.Splits.{join_with_byte-slice_split}
 use Rattle.std.proofs.lemmas.Bool.{and_from, and_parts}
 use Rattle.std.proofs.lemmas.List.Folds.{list_all-append}
-use mathlib.Core.Bool.{true≢false}
 use Rattle.iref_grammar.specs.Rules.{Text}
 pub use Rattle.iref_grammar.specs.Texts.{lacks}
 use Rattle.iref_grammar.specs.Texts.{pieces_at}
@@ -33,34 +32,16 @@ lacks-onto_first mark c (p ∷ pieces) h k = (λ i. not (h i || char_set_contain
 
 pub lacks-pieces_at : (mark : ℕ) (text : Text) → list_all (lacks mark) (pieces_at mark text) ≡ true
 lacks-pieces_at mark [] = refl
-lacks-pieces_at mark (c ∷ cs) = elim (eqb_tells c mark) [
-  | inl e ↦ ap (λ b. list_all (lacks mark) (cond b ([] ∷ pieces_at mark cs) (onto_first c (pieces_at mark cs)))) e.0 ∙ lacks-pieces_at mark cs
-  | inr e ↦ ap (λ b. list_all (lacks mark) (cond b ([] ∷ pieces_at mark cs) (onto_first c (pieces_at mark cs)))) e.0
-      ∙ lacks-onto_first mark c (pieces_at mark cs) e.0 (lacks-pieces_at mark cs)
-]
+lacks-pieces_at mark (c ∷ cs) = grind (arith, common_steps, lacks-onto_first, lacks-pieces_at mark cs)
 
 -- pieces without the delimiter are read back
 pub pieces_at-one : (mark : ℕ) (p : Text) → lacks mark p ≡ true → pieces_at mark p ≡ p ∷ []
 pieces_at-one mark [] h = refl
-pieces_at-one mark (c ∷ p) h = elim (eqb_tells c mark) [
-  | inl e ↦ absurd (true≢false (sym h ∙ (λ i. not (e.0 i || char_set_contains p mark))))
-  | inr e ↦
-      let rest : lacks mark p ≡ true = (λ i. not (sym e.0 i || char_set_contains p mark)) ∙ h in
-      ap (λ b. cond b ([] ∷ pieces_at mark p) (onto_first c (pieces_at mark p))) e.0 ∙ ap (onto_first c) (pieces_at-one mark p rest)
-]
+pieces_at-one mark (c ∷ p) h = grind (arith, common_steps, pieces_at-one mark p)
 
 pub pieces_at-front : (mark : ℕ) (p rest : Text) → lacks mark p ≡ true → pieces_at mark (p ++ mark ∷ rest) ≡ p ∷ pieces_at mark rest
-pieces_at-front mark [] rest h = elim (eqb_tells mark mark) [
-  | inl e ↦ ap (λ b. cond b ([] ∷ pieces_at mark rest) (onto_first mark (pieces_at mark rest))) e.0
-  | inr e ↦ absurd (e.1 refl)
-]
-pieces_at-front mark (c ∷ p) rest h = elim (eqb_tells c mark) [
-  | inl e ↦ absurd (true≢false (sym h ∙ (λ i. not (e.0 i || char_set_contains p mark))))
-  | inr e ↦
-      let later : lacks mark p ≡ true = (λ i. not (sym e.0 i || char_set_contains p mark)) ∙ h in
-      ap (λ b. cond b ([] ∷ pieces_at mark (p ++ mark ∷ rest)) (onto_first c (pieces_at mark (p ++ mark ∷ rest)))) e.0
-      ∙ ap (onto_first c) (pieces_at-front mark p rest later)
-]
+pieces_at-front mark [] rest h = grind (arith, common_steps)
+pieces_at-front mark (c ∷ p) rest h = grind (arith, common_steps, pieces_at-front mark p rest)
 
 pub pieces_at-join : (mark : ℕ) (p : Text) (pieces : List Text) → list_all (lacks mark) (p ∷ pieces) ≡ true → pieces_at mark (join_with_byte mark (p ∷ pieces)) ≡ p ∷ pieces
 pieces_at-join mark p [] h = pieces_at-one mark p (first_of_both _ _ h)
