@@ -1,39 +1,28 @@
 -- An authority's parts are read from their spelling.
-use Rattle.std.proofs.Common.{◌≡◌, ℕ, ◌+◌, length, take, sym, length-append, Bool, true, false, cond, ◌&&◌, ◌||◌, [], ◌∷◌, ◌++◌, refl, ◌∙◌, ap, append_assoc, inl, inr, subst, ◌⊎◌, lit<}
+use Rattle.std.proofs.Common.{arith, ◌≡◌, ℕ, ◌+◌, length, take, sym, length-append, true, false, ◌&&◌, [], ◌∷◌, ◌++◌, refl, ◌∙◌, ap, append_assoc, inl, inr, subst, ◌⊎◌, lit<}
+use Rattle.std.proofs.lemmas.Grind.{common_steps}
 use Rattle.std.specs.Prelude.{◌==◌, Option, Some, None, is_some, IfSome}
 use Rattle.iref_grammar.specs.Rules.{Text}
 use Rattle.iref_grammar.specs.Grammar.{colon, at_sign, left_bracket, right_bracket}
-use Rattle.iref_grammar.specs.Texts.{before, from_first, after, after_first_char, begins_with, part_then, then_part}
+use Rattle.iref_grammar.specs.Texts.{before, after, after_first_char, begins_with, part_then, then_part}
 use Rattle.iref_grammar.specs.Authority.{AuthorityValue, spell_authority, read_authority, read_host_and_port, read_host, bracketed, after_bracketed, has_authority_parts}
 use Rattle.std.specs.Str.{IsCharBoundary}
 use Rattle.std.proofs.Math.Seq.{take-append_seam}
 use Rattle.iref_grammar.proofs.SliceLemmas.{mark_boundary}
 use Rattle.iref_grammar.proofs.TextLemmas.{lacks, first_of_both, second_of_both}
-use Rattle.iref_grammar.proofs.CutLemmas.{cut, first_lacks, before-from_first, from_first-lacking, before-mark, from_first-mark, before-part, after-part}
+use Rattle.iref_grammar.proofs.CutLemmas.{cut, first_lacks, from_first-lacking, before-mark, from_first-mark, before-part, after-part}
 use Rattle.iref_grammar.specs.Characters.{CharTests, AreAboveAscii}
-use Rattle.iref_grammar.specs.Tests.{is_ip_literal, none_or, is_host, is_reg_name, is_user_info, is_port}
+use Rattle.iref_grammar.specs.Tests.{is_ip_literal, none_or, is_host, is_reg_name, is_port}
 use Rattle.iref_grammar.proofs.LackLemmas.{lacks-append}
-use Rattle.iref_grammar.proofs.ComponentLackLemmas.{IsCut, at_cuts, reg_name_refuses, user_info_lacks, reg_name_lacks, literal_parts, port_lacks, part_then_lacks, then_part_lacks, option_lacks, host_lacks}
-
-bracketed-joins : (text : Text) → bracketed text ++ after_bracketed text ≡ text
-bracketed-joins text = by (begins_with (left_bracket ∷ []) text)
-  where
-    by : (b : Bool) → cond b (before (right_bracket ∷ []) text) [] ++ cond b (from_first (right_bracket ∷ []) text) text ≡ text
-    by true = before-from_first (right_bracket ∷ []) text
-    by false = refl
+use Rattle.iref_grammar.proofs.ComponentLackLemmas.{IsCut, reg_name_refuses, user_info_lacks, reg_name_lacks, literal_parts, port_lacks, host_lacks}
 
 -- the host and what follows it
 pub read_host-joins : (text : Text) → read_host text ++ then_part (colon ∷ []) (after colon (after_bracketed text)) ≡ text
-read_host-joins text =
-    let rest = after_bracketed text in
-    append_assoc (bracketed text) (before (colon ∷ []) rest) (then_part (colon ∷ []) (after colon rest))
-    ∙ ap (λ t. bracketed text ++ t) (cut colon rest) ∙ bracketed-joins text
+read_host-joins text = grind (arith, common_steps, cut)
 
 host_and_port-joins : (user : Option Text) (text : Text) → spell_authority (read_host_and_port user text) ≡ part_then (at_sign ∷ []) user ++ text
 unfolding spell_authority
-host_and_port-joins user text =
-    append_assoc (part_then (at_sign ∷ []) user) (read_host text) (then_part (colon ∷ []) (after colon (after_bracketed text)))
-    ∙ ap (λ t. part_then (at_sign ∷ []) user ++ t) (read_host-joins text)
+host_and_port-joins user text = grind (arith, common_steps, read_host-joins)
 
 -- the authority's parts spell its text
 pub read_authority-spelled : (text : Text) → spell_authority (read_authority text) ≡ text
@@ -56,17 +45,8 @@ pub record IsDelimitedAuthority (a : AuthorityValue) : Type 0 where
   pub without_user_info : is_some a.user_info ≡ false → lacks at_sign (a.host ++ then_part (colon ∷ []) a.port) ≡ true
   pub host : IsPlainHost a.host ⊎ IsBracketedHost a.host
 
-plain_start : (host : Text) (port : Option Text) → begins_with (left_bracket ∷ []) host ≡ false → begins_with (left_bracket ∷ []) (host ++ then_part (colon ∷ []) port) ≡ false
-plain_start [] None h = refl
-plain_start [] (Some port) h = refl
-plain_start (c ∷ host) port h = h
-
 host-back : (user : Option Text) (host : Text) (port : Option Text) → IsPlainHost host ⊎ IsBracketedHost host → read_host_and_port user (host ++ then_part (colon ∷ []) port) ≡ record { user_info = user; host = host; port = port }
-host-back user host port (inl plain) =
-    let text = host ++ then_part (colon ∷ []) port in
-    let start = plain_start host port plain.1 in
-    (λ i. record { user_info = user; host = cond (start i) (before (right_bracket ∷ []) text) [] ++ before (colon ∷ []) (cond (start i) (from_first (right_bracket ∷ []) text) text); port = after colon (cond (start i) (from_first (right_bracket ∷ []) text) text) })
-    ∙ (λ i. record { user_info = user; host = before-part colon host port plain.0 i; port = after-part colon host port plain.0 i })
+host-back user host port (inl plain) = grind (arith, common_steps, before-part)
 host-back user host port (inr b) =
     let inside = left_bracket ∷ b.0 in
     let rest = then_part (colon ∷ []) port in
@@ -109,39 +89,18 @@ module _ (set : CharTests) (above : AreAboveAscii set) where
 module _ (set : CharTests) (above : AreAboveAscii set) where
   host_shape : (h : Text) → is_host set h ≡ true → IsPlainHost h ⊎ IsBracketedHost h
   unfolding is_ip_literal is_host
-  host_shape h k = by (is_ip_literal h) refl k
-    where
-      by : (b : Bool) → is_ip_literal h ≡ b → (b || is_reg_name set h) ≡ true → IsPlainHost h ⊎ IsBracketedHost h
-      by true e l = let p = literal_parts h e in inr (p.0, p.2, p.3)
-      by false e l = inl (reg_name_plain set above h l)
+  host_shape h k = grind (arith, literal_parts, reg_name_plain)
 
   tail_lacks : (mark : ℕ) → IsCut mark → (h : Text) (port : Option Text) → is_host set h ≡ true → none_or is_port port ≡ true → lacks mark (h ++ then_part (colon ∷ []) port) ≡ true
-  tail_lacks mark m h port k l =
-      lacks-append mark h (then_part (colon ∷ []) port) (host_lacks set above mark m h k) (then_part_lacks mark colon m.colon_not port (option_lacks mark is_port (port_lacks mark m) port l))
+  tail_lacks mark m h port k l = grind (arith, lacks-append, host_lacks, port_lacks)
 
   pub delimited_authority : (a : AuthorityValue) → has_authority_parts set a ≡ true → IsDelimitedAuthority a
   unfolding has_authority_parts
-  delimited_authority a h =
-      let front = first_of_both (none_or (is_user_info set) a.user_info && is_host set a.host) (none_or is_port a.port) h in
-      let port = second_of_both (none_or (is_user_info set) a.user_info && is_host set a.host) (none_or is_port a.port) h in
-      let user = first_of_both (none_or (is_user_info set) a.user_info) (is_host set a.host) front in
-      let host = second_of_both (none_or (is_user_info set) a.user_info) (is_host set a.host) front in
-      record {
-        user_info = option_lacks at_sign (is_user_info set) (user_info_lacks set above at_sign at_cuts) a.user_info user;
-        without_user_info = λ e. tail_lacks at_sign at_cuts a.host a.port host port;
-        host = host_shape a.host host;
-      }
+  delimited_authority a h = grind (arith, common_steps, first_of_both, user_info_lacks, tail_lacks, host_shape)
 
   pub whole_authority_lacks : (mark : ℕ) → IsCut mark → (at_sign == mark) ≡ false → (a : AuthorityValue) → has_authority_parts set a ≡ true → lacks mark (spell_authority a) ≡ true
   unfolding has_authority_parts spell_authority
-  whole_authority_lacks mark m n a h =
-      let front = first_of_both (none_or (is_user_info set) a.user_info && is_host set a.host) (none_or is_port a.port) h in
-      let port = second_of_both (none_or (is_user_info set) a.user_info && is_host set a.host) (none_or is_port a.port) h in
-      let user = first_of_both (none_or (is_user_info set) a.user_info) (is_host set a.host) front in
-      let host = second_of_both (none_or (is_user_info set) a.user_info) (is_host set a.host) front in
-      lacks-append mark (part_then (at_sign ∷ []) a.user_info ++ a.host) (then_part (colon ∷ []) a.port)
-      (lacks-append mark (part_then (at_sign ∷ []) a.user_info) a.host (part_then_lacks mark at_sign n a.user_info (option_lacks mark (is_user_info set) (user_info_lacks set above mark m) a.user_info user)) (host_lacks set above mark m a.host host))
-      (then_part_lacks mark colon m.colon_not a.port (option_lacks mark is_port (port_lacks mark m) a.port port))
+  whole_authority_lacks mark m n a h = grind (arith, common_steps, first_of_both, second_of_both, lacks-append, user_info_lacks, host_lacks, port_lacks)
 
 -- a text may be cut after its host, whose length is that of its two pieces
 pub host_boundary : (text address name : Text) → address ≡ bracketed text → name ≡ before (colon ∷ []) (after_bracketed text) → IsCharBoundary text (length address + length name)

@@ -1,18 +1,17 @@
 -- What the components of a text lack: the delimiters that end them.
-use Rattle.std.proofs.Common.{◌≡◌, ℕ, Bool, true, false, cond, ◌&&◌, ◌||◌, List, [], ◌∷◌, ◌++◌, refl, sym, ◌∙◌, ap, inl, inr, subst, ◌<◌, lit<}
+use Rattle.std.proofs.Common.{arith, ◌≡◌, ℕ, Bool, true, false, cond, ◌&&◌, ◌||◌, List, [], ◌∷◌, ◌++◌, refl, sym, ◌∙◌, ap, ◌<◌, lit<}
 use Rattle.std.specs.Prelude.{◌==◌, Option, Some, None, codes, IfSome}
 use Rattle.std.specs.Char.{char_set_contains, is_ascii_alphanumeric, is_ascii_alphabetic, is_ascii_digit}
 use Rattle.std.specs.List.{list_all}
-use Rattle.std.proofs.lemmas.Bool.Decides.{eqb_tells}
 use mathlib.Core.Bool.{true≢false}
 use Rattle.iref_grammar.specs.Rules.{Text}
 use Rattle.iref_grammar.specs.Grammar.{hash_sign, slash, colon, question_mark, at_sign, left_bracket, right_bracket, percent_sign, is_sub_delim, is_scheme_char, is_reg_name_char, is_user_info_char, is_path_char, is_fragment_char, is_query_char}
 use Rattle.iref_grammar.specs.Texts.{before, after, part_then, then_part}
-use Rattle.iref_grammar.proofs.TextLemmas.{lacks, first_of_both, second_of_both}
+use Rattle.iref_grammar.proofs.TextLemmas.{lacks}
 use Rattle.iref_grammar.proofs.CutLemmas.{cut}
 use Rattle.iref_grammar.specs.Characters.{CharTests, AreAboveAscii}
 use Rattle.iref_grammar.specs.Tests.{in_brackets, is_ip_literal, is_ip_address, some_and, none_or, ends_here, is_host, is_reg_name, is_user_info, is_port, is_scheme, is_segment, is_query}
-use Rattle.std.proofs.lemmas.Bool.{eqb-true, and_from}
+use Rattle.std.proofs.lemmas.Bool.{eqb-true}
 use Rattle.std.proofs.lemmas.Option.{same_Some}
 use Rattle.iref_grammar.proofs.LackLemmas.{lacks_more, lacks-append, all_lacks, IsRefused, in_utf8_lacks}
 use Rattle.iref_grammar.proofs.HostLemmas.{IsOutside, address_lacks, before_lacks}
@@ -32,16 +31,13 @@ pub record IsCut (mark : ℕ) : Type 0 where
   pub digit : is_ascii_digit mark ≡ false
 
 pub slash_cuts : IsCut slash
-slash_cuts = record { ascii = lit< tt; letters = refl; delims = refl; no_colon = refl; colon_not = refl; percent = refl; outside = record { hex = refl; digit = refl; not_colon = refl; not_stop = refl; future = refl }; version = refl; not_left = refl; not_right = refl; digit = refl }
+slash_cuts = grind arith
 
 pub question_cuts : IsCut question_mark
-question_cuts = record { ascii = lit< tt; letters = refl; delims = refl; no_colon = refl; colon_not = refl; percent = refl; outside = record { hex = refl; digit = refl; not_colon = refl; not_stop = refl; future = refl }; version = refl; not_left = refl; not_right = refl; digit = refl }
+question_cuts = grind arith
 
 pub hash_cuts : IsCut hash_sign
-hash_cuts = record { ascii = lit< tt; letters = refl; delims = refl; no_colon = refl; colon_not = refl; percent = refl; outside = record { hex = refl; digit = refl; not_colon = refl; not_stop = refl; future = refl }; version = refl; not_left = refl; not_right = refl; digit = refl }
-
-pub at_cuts : IsCut at_sign
-at_cuts = record { ascii = lit< tt; letters = refl; delims = refl; no_colon = refl; colon_not = refl; percent = refl; outside = record { hex = refl; digit = refl; not_colon = refl; not_stop = refl; future = refl }; version = refl; not_left = refl; not_right = refl; digit = refl }
+hash_cuts = grind arith
 
 module _ (set : CharTests) (above : AreAboveAscii set) where
   pub reg_name_refuses : (mark : ℕ) → mark < 128 → (is_ascii_alphanumeric mark || char_set_contains (codes "-._~") mark) ≡ false → is_sub_delim mark ≡ false → is_reg_name_char set mark ≡ false
@@ -62,15 +58,15 @@ module _ (set : CharTests) (above : AreAboveAscii set) where
 
   pub user_info_lacks : (mark : ℕ) → IsCut mark → (u : Text) → is_user_info set u ≡ true → lacks mark u ≡ true
   unfolding is_user_info
-  user_info_lacks mark m u h = in_utf8_lacks (is_user_info_char set) mark (record { ascii = m.ascii; alone = user_info_refuses mark m; percent = m.percent; digit = m.outside.hex }) u h
+  user_info_lacks mark m u h = grind (arith, in_utf8_lacks, user_info_refuses)
 
   segment_lacks : (mark : ℕ) → IsCut mark → (mark == at_sign) ≡ false → (s : Text) → is_segment set s ≡ true → lacks mark s ≡ true
   unfolding is_segment
-  segment_lacks mark m a s h = in_utf8_lacks (is_path_char set) mark (record { ascii = m.ascii; alone = path_refuses mark m a; percent = m.percent; digit = m.outside.hex }) s h
+  segment_lacks mark m a s h = grind (arith, in_utf8_lacks, path_refuses)
 
   pub segments_lack : (mark : ℕ) → IsCut mark → (mark == at_sign) ≡ false → (ss : List Text) → list_all (is_segment set) ss ≡ true → list_all (lacks mark) ss ≡ true
   segments_lack mark m a [] h = refl
-  segments_lack mark m a (s ∷ ss) h = and_from (lacks mark s) (list_all (lacks mark) ss) (segment_lacks mark m a s (first_of_both (is_segment set s) (list_all (is_segment set) ss) h)) (segments_lack mark m a ss (second_of_both (is_segment set s) (list_all (is_segment set) ss) h))
+  segments_lack mark m a (s ∷ ss) h = grind (arith, segment_lacks, segments_lack mark m a ss)
 
   pub query_lacks : (q : Text) → is_query set q ≡ true → lacks hash_sign q ≡ true
   unfolding is_query
@@ -106,10 +102,7 @@ literal_parts h k = by (in_brackets h) refl k
     by (Some inside) e l = let b = bracket_parts h inside e in (inside, l, b.0, b.1)
 
 pub literal_lacks : (mark : ℕ) → IsCut mark → (h : Text) → is_ip_literal h ≡ true → lacks mark h ≡ true
-literal_lacks mark m h k =
-    let p = literal_parts h k in
-    subst (λ t. lacks mark t ≡ true) p.3
-    (lacks-append mark (left_bracket ∷ p.0) (right_bracket ∷ []) (lacks_more mark left_bracket p.0 m.not_left (address_lacks mark m.outside m.version p.0 p.1)) (lacks_more mark right_bracket [] m.not_right refl))
+literal_lacks mark m h k = grind (arith, literal_parts, lacks-append, address_lacks)
 
 pub port_lacks : (mark : ℕ) → IsCut mark → (p : Text) → is_port p ≡ true → lacks mark p ≡ true
 unfolding is_port
@@ -131,17 +124,9 @@ option_lacks mark test f (Some t) h = f t h
 pub scheme_lacks : (mark : ℕ) → is_ascii_alphabetic mark ≡ false → is_scheme_char mark ≡ false → (s : Text) → is_scheme s ≡ true → lacks mark s ≡ true
 unfolding is_scheme
 scheme_lacks mark a b [] h = refl
-scheme_lacks mark a b (c ∷ cs) h =
-    elim (eqb_tells c mark) [
-      | inl e ↦ absurd (true≢false (sym (first_of_both (is_ascii_alphabetic c) (list_all is_scheme_char cs) h) ∙ ap is_ascii_alphabetic e.1 ∙ a))
-      | inr e ↦ lacks_more mark c cs e.0 (all_lacks is_scheme_char mark b cs (second_of_both (is_ascii_alphabetic c) (list_all is_scheme_char cs) h))
-    ]
+scheme_lacks mark a b (c ∷ cs) h = grind (arith, all_lacks)
 
 module _ (set : CharTests) (above : AreAboveAscii set) where
   pub host_lacks : (mark : ℕ) → IsCut mark → (h : Text) → is_host set h ≡ true → lacks mark h ≡ true
   unfolding is_ip_literal is_host
-  host_lacks mark m h k = by (is_ip_literal h) refl k
-    where
-      by : (b : Bool) → is_ip_literal h ≡ b → (b || is_reg_name set h) ≡ true → lacks mark h ≡ true
-      by true e l = literal_lacks mark m h e
-      by false e l = reg_name_lacks set above mark (record { ascii = m.ascii; alone = reg_name_refuses set above mark m.ascii m.letters m.delims; percent = m.percent; digit = m.outside.hex }) h l
+  host_lacks mark m h k = grind (arith, literal_lacks, reg_name_lacks, reg_name_refuses)

@@ -1,7 +1,8 @@
 -- A text is a reference exactly if each of its components is in its rule.
-use Rattle.std.proofs.Common.{◌≡◌, Bool, true, false, refl, sym, ◌∙◌, ap}
+use Rattle.std.proofs.Common.{arith, ◌≡◌, true, false, refl, sym, ◌∙◌, ap}
+use Rattle.std.proofs.lemmas.Grind.{common_steps}
 use Rattle.std.proofs.lemmas.Bool.{and_from, and_parts}
-use Rattle.std.specs.Prelude.{◌&&◌, Option, Some, None, option_map, is_some}
+use Rattle.std.specs.Prelude.{Option, Some, None, option_map, is_some}
 use Rattle.std.specs.Borrow.{Bor}
 use Rattle.std.specs.Option.{option_copied}
 use Rattle.std.specs.Bool.{Decides}
@@ -9,8 +10,7 @@ use Rattle.iref_grammar.specs.Characters.{CharTests, AreAboveAscii}
 use Rattle.iref_grammar.specs.Rules.{Text}
 use Rattle.iref_grammar.specs.Tests.{none_or}
 use Rattle.iref_grammar.specs.Authority.{spell_authority, read_authority, has_authority_parts, is_authority}
-use Rattle.iref_grammar.specs.Contexts.{follows_authority, reads_as_path}
-use Rattle.iref_grammar.specs.Reference.{ReferenceValue, context_of, is_readable, read_reference, is_reference, is_uri}
+use Rattle.iref_grammar.specs.Reference.{ReferenceValue, read_reference, is_reference, is_uri}
 use Rattle.iref_grammar.specs.ComponentTexts.{ComponentTexts, spell_components, read_components, AreComponents}
 use Rattle.iref_grammar.proofs.AuthorityLemmas.{read_authority-spelled}
 use Rattle.iref_grammar.proofs.PathLemmas.{read_path-reads}
@@ -41,19 +41,11 @@ is_some-copied (Some text) = refl
 
 pub uri_by_scheme : (set : CharTests) (text : Text) (s : ComponentTexts) → read_components s ≡ read_reference text → true ≡ is_reference set text → is_some s.scheme ≡ is_uri set text
 unfolding is_uri read_reference
-uri_by_scheme set text s e h = by (is_some s.scheme) ∙ (λ i. is_some (e i).scheme && h i)
-  where
-    by : (b : Bool) → b ≡ (b && true)
-    by true = refl
-    by false = refl
+uri_by_scheme set text s e h = grind arith
 
 pub not_uri : (set : CharTests) (text : Text) → false ≡ is_reference set text → false ≡ is_uri set text
 unfolding is_uri read_reference
-not_uri set text h = by (is_some (read_reference text).scheme) ∙ ap (λ b. is_some (read_reference text).scheme && b) h
-  where
-    by : (b : Bool) → false ≡ (b && false)
-    by true = refl
-    by false = refl
+not_uri set text h = grind arith
 
 pub uri_if_scheme : (set : CharTests) (text : Text) → is_reference set text ≡ true → is_some (read_reference text).scheme ≡ true → is_uri set text ≡ true
 unfolding is_uri read_reference
@@ -72,22 +64,4 @@ pub ruleset full = (reference_if_uri, scheme_if_uri)
 module _ (set : CharTests) (above : AreAboveAscii set) where
   pub Decides-AreComponents : (text : Text) (s : ComponentTexts) → read_components s ≡ read_reference text → Decides (is_reference set text) (AreComponents set s)
   unfolding is_reference
-  Decides-AreComponents text s e =
-      let same_authority = authority_tested set s.authority in
-      let same_path = is_path-segments set above s.path in (
-        λ h.
-            let parts = readable_parts set (read_components s) (ap (is_readable set) e ∙ h) in
-            record { scheme = parts.scheme; authority = sym same_authority ∙ parts.authority; path = same_path ∙ parts.segments; query = parts.query; fragment = parts.fragment },
-        λ components.
-            ap (is_readable set) (sym e)
-            ∙ readable_from set (read_components s)
-            (record {
-              scheme = components.scheme;
-              authority = same_authority ∙ components.authority;
-              segments = sym same_path ∙ components.path;
-              query = components.query;
-              fragment = components.fragment;
-              follows = ap (λ (r : ReferenceValue). follows_authority (context_of r) r.path) e ∙ read_follows text;
-              reads = ap (λ (r : ReferenceValue). reads_as_path (context_of r) r.path) e ∙ read_reads_as_path text;
-            }),
-      )
+  Decides-AreComponents text s e = grind (arith, common_steps, authority_tested, is_path-segments, readable_parts, readable_from, read_follows, read_reads_as_path)

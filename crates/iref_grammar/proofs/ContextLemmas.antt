@@ -1,19 +1,17 @@
 -- What is read from a text meets the conditions on a path where it stands.
-use Rattle.std.proofs.Common.{◌≡◌, ℕ, Bool, true, false, not, cond, ◌&&◌, ◌||◌, List, [], ◌∷◌, drop, refl, sym, ◌∙◌, ap, subst, ◌⊎◌, inl, inr}
+use Rattle.std.proofs.Common.{arith, ◌≡◌, ℕ, Bool, true, false, not, cond, ◌&&◌, ◌||◌, [], ◌∷◌, drop, refl, sym, ◌∙◌, ap, subst, ◌⊎◌, inl, inr}
 use Rattle.std.specs.Prelude.{◌==◌, Option, Some, None, option_map, is_some, codes}
-use Rattle.std.specs.Char.{char_set_contains}
-use Rattle.std.specs.List.{onto_first}
 use Rattle.std.proofs.lemmas.Bool.Decides.{eqb_tells}
 use Rattle.std.proofs.lemmas.Bool.{and_from}
 use Rattle.std.proofs.lemmas.List.{append-nil}
 use mathlib.Core.Bool.{true≢false}
 use Rattle.iref_grammar.specs.Rules.{Text}
 use Rattle.iref_grammar.specs.Grammar.{slash, colon}
-use Rattle.iref_grammar.specs.Texts.{before, after, from_first, begins_with, is_empty, pieces_at, lacks}
+use Rattle.iref_grammar.specs.Texts.{before, from_first, begins_with, is_empty, pieces_at, lacks}
 use Rattle.iref_grammar.specs.PathValue.{PathValue, begins_empty, shows_its_list, segments_of, read_path}
 use Rattle.iref_grammar.specs.Contexts.{begins_with_colon_segment, follows_authority, is_no_authority, is_no_scheme, reads_as_path}
 use Rattle.iref_grammar.specs.Authority.{read_authority}
-use Rattle.iref_grammar.specs.Reference.{context_of, scheme_of, split_scheme, split_authority, hierarchy, read_reference}
+use Rattle.iref_grammar.specs.Reference.{context_of, split_scheme, split_authority, hierarchy, read_reference}
 use Rattle.iref_grammar.proofs.TextLemmas.{pieces_at-one, pieces_at-front}
 use Rattle.iref_grammar.proofs.PathLemmas.{read_path-reads}
 use Rattle.iref_grammar.proofs.SplitLemmas.{ends_scheme, cut_in_two, lacks-before, begins_with_mark, scheme-found}
@@ -24,29 +22,11 @@ unfolding read_path
 rooted [] h = refl
 rooted (c ∷ cs) h = subst (λ d. let p = read_path (d ∷ cs) in (p.absolute || is_empty p.segments) ≡ true) (sym (h c cs refl)) refl
 
--- a text that does not begin with `//`
-begins_otherwise : (d : ℕ) (pieces : List Text) → not (begins_empty (onto_first d pieces)) ≡ true
-begins_otherwise d [] = refl
-begins_otherwise d (p ∷ pieces) = refl
-
 without_slashes : (text : Text) → begins_with (codes "//") text ≡ false → let p = read_path text in (not p.absolute || not (begins_empty p.segments)) ≡ true
 unfolding read_path
 without_slashes [] h = refl
-without_slashes (c ∷ []) h = by (c == slash)
-  where
-    by : (b : Bool) → let p : PathValue = cond b (record { absolute = true; segments = [] }) (record { absolute = false; segments = segments_of (c ∷ []) }) in (not p.absolute || not (begins_empty p.segments)) ≡ true
-    by true = refl
-    by false = refl
-without_slashes (c ∷ d ∷ rest) h = elim (eqb_tells c slash) [
-  | inl e ↦
-      elim (eqb_tells d slash) [
-        | inl f ↦ absurd (true≢false ((λ i. begins_with (codes "//") (sym e.1 i ∷ sym f.1 i ∷ rest)) ∙ h))
-        | inr f ↦ ap (λ b. let p : PathValue = cond b (record { absolute = true; segments = pieces_at slash (d ∷ rest) }) (record { absolute = false; segments = segments_of (c ∷ d ∷ rest) }) in (not p.absolute || not (begins_empty p.segments))) e.0
-            ∙ ap (λ b. not (begins_empty (cond b ([] ∷ pieces_at slash rest) (onto_first d (pieces_at slash rest))))) f.0 ∙ begins_otherwise d (pieces_at slash rest)
-      ]
-  | inr e ↦
-      ap (λ b. let p : PathValue = cond b (record { absolute = true; segments = pieces_at slash (d ∷ rest) }) (record { absolute = false; segments = segments_of (c ∷ d ∷ rest) }) in (not p.absolute || not (begins_empty p.segments))) e.0
-]
+without_slashes (c ∷ []) h = grind arith
+without_slashes (c ∷ d ∷ rest) h = grind arith
 
 -- a text without a scheme
 first_without_colon : (text : Text) → (split_scheme text).0 ≡ None → not (begins_with_colon_segment (pieces_at slash text)) ≡ true
@@ -85,25 +65,9 @@ without_scheme (c ∷ cs) none = by (c == slash) (first_without_colon (c ∷ cs)
 
 -- ---- of what is read
 
--- there is a scheme, or nothing is taken from the text
-scheme_or_all : (text : Text) → (is_some (split_scheme text).0 ≡ true) ⊎ (split_scheme text ≡ (None, text))
-scheme_or_all text = of (before (colon ∷ []) text) (after colon text)
-  where
-    of : (front : Text) (o : Option Text) → (is_some (scheme_of front o text).0 ≡ true) ⊎ (scheme_of front o text ≡ (None, text))
-    of front None = inr refl
-    of front (Some rest) = by (char_set_contains front slash)
-      where
-        by : (b : Bool) → let s : Option Text × Text = cond b (None, text) (Some front, rest) in (is_some s.0 ≡ true) ⊎ (s ≡ (None, text))
-        by true = inr refl
-        by false = inl refl
-
 -- the same of the authority, and what its absence or presence says of the text
 authority_or_all : (text : Text) → (split_authority text ≡ (Some (before (slash ∷ []) (drop 2 text)), from_first (slash ∷ []) (drop 2 text))) ⊎ ((split_authority text ≡ (None, text)) × (begins_with (codes "//") text ≡ false))
-authority_or_all text = by (begins_with (codes "//") text) refl
-  where
-    by : (b : Bool) → begins_with (codes "//") text ≡ b → (split_authority text ≡ (Some (before (slash ∷ []) (drop 2 text)), from_first (slash ∷ []) (drop 2 text))) ⊎ ((split_authority text ≡ (None, text)) × (begins_with (codes "//") text ≡ false))
-    by true e = inl (ap (λ b. cond b (Some (before (slash ∷ []) (drop 2 text)), from_first (slash ∷ []) (drop 2 text)) (None, text)) e)
-    by false e = inr (ap (λ b. cond b (Some (before (slash ∷ []) (drop 2 text)), from_first (slash ∷ []) (drop 2 text)) (None, text)) e, e)
+authority_or_all text = grind arith
 
 -- a path after these parts meets the conditions on where it stands
 record IsPlaced (scheme : Option Text) (middle : Option Text × Text) : Type 0 where
@@ -111,30 +75,11 @@ record IsPlaced (scheme : Option Text) (middle : Option Text × Text) : Type 0 w
   no_authority : is_no_authority (record { has_scheme = is_some scheme; has_authority = is_some (option_map read_authority middle.0) }) (read_path middle.1) ≡ true
   no_scheme : is_no_scheme (record { has_scheme = is_some scheme; has_authority = is_some (option_map read_authority middle.0) }) (read_path middle.1) ≡ true
 
-or_true : (a b c : Bool) → ((a || true) || b) || c ≡ true
-or_true true b c = refl
-or_true false b c = refl
-
 after_authority : (scheme : Option Text) (authority rest : Text) → IsPlaced scheme (Some authority, from_first (slash ∷ []) rest)
-after_authority scheme authority rest =
-    let p = read_path (from_first (slash ∷ []) rest) in
-    record {
-      follows = rooted (from_first (slash ∷ []) rest) (λ c back e. marked c (begins_with_mark (slash ∷ []) rest c back e));
-      no_authority = refl;
-      no_scheme = or_true (is_some scheme) p.absolute (not (begins_with_colon_segment p.segments));
-    }
-  where
-    marked : (c : ℕ) → char_set_contains (slash ∷ []) c ≡ true → c ≡ slash
-    marked c h = elim (eqb_tells slash c) [ inl e ↦ sym e.1 | inr e ↦ absurd (true≢false (sym h ∙ (λ i. e.0 i || false))) ]
+after_authority scheme authority rest = grind (arith, rooted, begins_with_mark)
 
 no_scheme_alone : (text : Text) → let s = split_scheme text in let p = read_path s.1 in (((is_some s.0 || false) || p.absolute) || not (begins_with_colon_segment p.segments)) ≡ true
-no_scheme_alone text =
-    let s = split_scheme text in
-    let p = read_path s.1 in
-    elim (scheme_or_all text) [
-      | inl e ↦ ap (λ b. ((b || false) || p.absolute) || not (begins_with_colon_segment p.segments)) e
-      | inr e ↦ subst (λ (t : Option Text × Text). let q = read_path t.1 in (((is_some t.0 || false) || q.absolute) || not (begins_with_colon_segment q.segments)) ≡ true) (sym e) (without_scheme text (ap (λ (t : Option Text × Text). t.0) e))
-    ]
+no_scheme_alone text = grind (arith, without_scheme)
 
 placed : (text : Text) → let s = split_scheme text in IsPlaced s.0 (split_authority s.1)
 placed text =

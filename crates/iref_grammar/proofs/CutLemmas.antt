@@ -1,12 +1,10 @@
 -- Cuts of a text at its first delimiter.
-use Rattle.std.proofs.Common.{◌≡◌, ℕ, ◌+◌, Bool, true, false, not, cond, ◌||◌, List, [], ◌∷◌, ◌++◌, take, drop, refl, sym, ◌∙◌, ap, inl, inr}
+use Rattle.std.proofs.Common.{arith, ◌≡◌, ℕ, ◌+◌, true, false, not, cond, ◌||◌, List, [], ◌∷◌, ◌++◌, take, drop, refl, ◌∙◌, ap, inl, inr}
 use Rattle.std.specs.Prelude.{◌==◌, Option, Some, None}
 use Rattle.std.specs.Char.{char_set_contains}
 use Rattle.std.specs.List.{position_or_len}
 use Rattle.std.proofs.lemmas.Bool.Decides.{eqb_tells}
 use Rattle.std.proofs.lemmas.List.{take-append-drop, append-nil}
-use Rattle.std.proofs.Math.Numerals.{one-add}
-use mathlib.Core.Bool.{true≢false}
 use Rattle.iref_grammar.specs.Rules.{Text}
 use Rattle.iref_grammar.specs.Texts.{before, from_first, after, after_first_char, then_part}
 use Rattle.iref_grammar.proofs.TextLemmas.{lacks}
@@ -17,14 +15,10 @@ before-from_first marks text = take-append-drop (position_or_len (char_set_conta
 
 -- at a character that is no delimiter, and at one that is
 pub before-no : (marks : List ℕ) (c : ℕ) (cs : Text) → char_set_contains marks c ≡ false → before marks (c ∷ cs) ≡ c ∷ before marks cs
-before-no marks c cs h =
-    let n = position_or_len (char_set_contains marks) cs in
-    ap (λ b. take (cond (not b) (1 + n) 0) (c ∷ cs)) h ∙ ap (λ k. take k (c ∷ cs)) (one-add n)
+before-no marks c cs h = grind arith
 
 pub from_first-no : (marks : List ℕ) (c : ℕ) (cs : Text) → char_set_contains marks c ≡ false → from_first marks (c ∷ cs) ≡ from_first marks cs
-from_first-no marks c cs h =
-    let n = position_or_len (char_set_contains marks) cs in
-    ap (λ b. drop (cond (not b) (1 + n) 0) (c ∷ cs)) h ∙ ap (λ k. drop k (c ∷ cs)) (one-add n)
+from_first-no marks c cs h = grind arith
 
 pub before-yes : (marks : List ℕ) (c : ℕ) (cs : Text) → char_set_contains marks c ≡ true → before marks (c ∷ cs) ≡ []
 before-yes marks c cs h = ap (λ b. take (cond (not b) (1 + position_or_len (char_set_contains marks) cs) 0) (c ∷ cs)) h
@@ -46,20 +40,10 @@ cut mark (c ∷ cs) = elim (eqb_tells mark c) [
 
 -- a first character other than the delimiter, and the rest without it
 pub first_lacks : (mark c : ℕ) (cs : Text) → lacks mark (c ∷ cs) ≡ true → (mark == c) ≡ false
-first_lacks mark c cs h = elim (eqb_tells mark c) [
-  | inl e ↦ elim (eqb_tells c mark) [
-    | inl f ↦ absurd (true≢false (sym h ∙ (λ i. not (f.0 i || char_set_contains cs mark))))
-    | inr f ↦ absurd (f.1 (sym e.1))
-  ]
-  | inr e ↦ e.0
-]
+first_lacks mark c cs h = grind arith
 
 pub rest_lacks : (mark c : ℕ) (cs : Text) → lacks mark (c ∷ cs) ≡ true → lacks mark cs ≡ true
-rest_lacks mark c cs h = by (c == mark) h
-  where
-    by : (b : Bool) → not (b || char_set_contains cs mark) ≡ true → lacks mark cs ≡ true
-    by true k = absurd (true≢false (sym k))
-    by false k = k
+rest_lacks mark c cs h = grind arith
 
 pub no_mark : (mark c : ℕ) (cs : Text) → lacks mark (c ∷ cs) ≡ true → char_set_contains (mark ∷ []) c ≡ false
 no_mark mark c cs h = λ i. first_lacks mark c cs h i || false

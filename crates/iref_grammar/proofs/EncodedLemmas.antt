@@ -1,10 +1,10 @@
 -- Characters and escapes: the test decides the rule.
-use Rattle.std.proofs.Common.{◌≡◌, ℕ, ◌-◌, zero, suc, Bool, true, false, cond, List, [], ◌∷◌, ◌++◌, refl, sym, ◌∙◌, ap, subst, arith, inl, inr}
-use Rattle.std.specs.Prelude.{nat_lt, ◌==◌, if◌then◌else◌, Some, None}
+use Rattle.std.proofs.Common.{◌≡◌, ℕ, zero, suc, Bool, true, false, cond, List, [], ◌∷◌, ◌++◌, refl, sym, ◌∙◌, ap, subst, arith, inl, inr}
+use Rattle.std.specs.Prelude.{◌==◌, if◌then◌else◌, Some, None}
 use Rattle.std.specs.List.{AllByRecursion, concat}
 use Rattle.std.specs.Bool.{Decides}
 use Rattle.std.specs.Char.{is_ascii_hexdigit}
-use Rattle.std.proofs.lemmas.Bool.Decides.{eqb_tells, nat_tests}
+use Rattle.std.proofs.lemmas.Bool.Decides.{eqb_tells}
 use mathlib.Core.Bool.{true≢false}
 use Rattle.iref_grammar.specs.Rules.{Text, Rule, OneOf, ◌or◌}
 use Rattle.iref_grammar.specs.Grammar.{percent_sign, IsPctEncoded, IsEncoded}
@@ -38,28 +38,20 @@ by_char test c e = λ i. cond (e i) (Some 2) (if test c then Some 0 else None)
 
 pub by_digit : (test : ℕ → Bool) (owed c : ℕ) → owed_after test (suc owed) c ≡ (if is_ascii_hexdigit c then Some owed else None)
 unfolding owed_after
-by_digit test owed c =
-    let some : nat_lt 0 (suc owed) ≡ true = grind (arith, nat_tests) in
-    let less : suc owed - 1 ≡ owed = omega arith in
-    λ i. cond (some i) (cond (is_ascii_hexdigit c) (Some (less i)) None) (cond (c == percent_sign) (Some 2) (cond (test c) (Some 0) None))
+by_digit test owed c = grind arith
 
 pub if_taken : (test : ℕ → Bool) (owed : ℕ) (b : Bool) (cs : Text) → is_encoded_after test (if b then Some owed else None) cs ≡ true → (b ≡ true) × (is_encoded_after test (Some owed) cs ≡ true)
 if_taken test owed true cs h = (refl, h)
 if_taken test owed false cs h = absurd (true≢false (sym h))
 
 pub still_owed : (n : ℕ) → (suc n == 0) ≡ true → ⊥
-still_owed n h = elim (eqb_tells (suc n) 0) [ inl e ↦ suc_not_zero n e.1 | inr e ↦ true≢false (sym h ∙ e.0) ]
-  where
-    suc_not_zero : (m : ℕ) → suc m ≡ 0 → ⊥
-    suc_not_zero m e = omega arith
+still_owed n h = grind arith
 
 -- a text that the test takes is in the rule
 there : (test : ℕ → Bool) (owed : ℕ) (text : Text) → is_encoded_after test (Some owed) text ≡ true → Owed test owed text
 there test zero [] h = none_of (Piece test)
 there test (suc n) [] h = absurd (still_owed n h)
-there test (suc n) (c ∷ cs) h =
-    let t = if_taken test n (is_ascii_hexdigit c) cs (ap (λ o. is_encoded_after test o cs) (sym (by_digit test n c)) ∙ h) in
-    (c, cs, t.0, refl, there test n cs t.1)
+there test (suc n) (c ∷ cs) h = grind (arith, by_digit, there test n cs)
 there test zero (c ∷ cs) h = elim (eqb_tells c percent_sign) [
   | inl e ↦
       let more : is_encoded_after test (Some 2) cs ≡ true = ap (λ o. is_encoded_after test o cs) (sym (by_percent test c e.1)) ∙ h in
@@ -71,10 +63,7 @@ there test zero (c ∷ cs) h = elim (eqb_tells c percent_sign) [
 
 -- a character that passes, and an escape, before a text that the test takes
 pub take_char : (test : ℕ → Bool) → test percent_sign ≡ false → (c : ℕ) (rest : Text) → test c ≡ true → is_encoded test rest ≡ true → is_encoded test (c ∷ rest) ≡ true
-take_char test safe c rest h k = elim (eqb_tells c percent_sign) [
-  | inl e ↦ absurd (true≢false (sym h ∙ ap test e.1 ∙ safe))
-  | inr e ↦ ap (λ o. is_encoded_after test o rest) (by_char test c e.0 ∙ ap (λ b. if b then Some 0 else None) h) ∙ k
-]
+take_char test safe c rest h k = grind (arith, by_char)
 
 take_digit : (test : ℕ → Bool) (owed h : ℕ) (rest : Text) → is_ascii_hexdigit h ≡ true → is_encoded_after test (Some owed) rest ≡ true → is_encoded_after test (Some (suc owed)) (h ∷ rest) ≡ true
 take_digit test owed h rest p k = ap (λ o. is_encoded_after test o rest) (by_digit test owed h ∙ ap (λ b. if b then Some owed else None) p) ∙ k
@@ -85,11 +74,7 @@ take_escape test h l rest p q k =
 
 take_piece : (test : ℕ → Bool) → test percent_sign ≡ false → (piece rest : Text) → Piece test piece → is_encoded test rest ≡ true → is_encoded test (piece ++ rest) ≡ true
 take_piece test safe piece rest (inl one) k = ap (λ p. is_encoded test (p ++ rest)) one.2 ∙ take_char test safe one.0 rest one.1 k
-take_piece test safe piece rest (inr esc) k =
-    let digits = esc.3 in
-    let spelled : percent_sign ∷ digits.2.0 ∷ digits.3.0 ∷ [] ≡ piece =
-    (λ i. percent_sign ∷ (sym digits.2.2 i ++ sym digits.3.2 i)) ∙ ap (λ t. percent_sign ∷ t) digits.4 ∙ (λ i. sym esc.2 i ++ esc.1) ∙ esc.4 in
-    ap (λ p. is_encoded test (p ++ rest)) (sym spelled) ∙ take_escape test digits.2.0 digits.3.0 rest digits.2.1 digits.3.1 k
+take_piece test safe piece rest (inr esc) k = grind (arith, take_escape)
 
 back : (test : ℕ → Bool) → test percent_sign ≡ false → (pieces : List Text) → AllByRecursion (Piece test) pieces → is_encoded test (concat pieces) ≡ true
 back test safe [] all = refl

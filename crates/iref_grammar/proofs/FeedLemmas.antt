@@ -1,5 +1,6 @@
 -- The bytes of a text that are hashed determine it.
-use Rattle.std.proofs.Common.{◌≡◌, ℕ, suc, ◌+◌, ◌<◌, ◌≤◌, Bool, true, false, List, [], ◌∷◌, ◌++◌, length, refl, sym, ◌∙◌, ap, arith, append_assoc, length-append, ◌==◌, cond}
+use Rattle.std.proofs.Common.{◌≡◌, ℕ, suc, ◌+◌, ◌<◌, ◌≤◌, Bool, true, false, List, [], ◌∷◌, ◌++◌, length, refl, sym, ◌∙◌, ap, arith, length-append, ◌==◌, cond}
+use Rattle.std.proofs.lemmas.Grind.{common_steps}
 use Rattle.std.specs.List.{concat}
 use Rattle.std.specs.Hash.{HashWrites}
 use Rattle.std.proofs.lemmas.Bool.Decides.{nat_tests}
@@ -19,10 +20,7 @@ cut : (u v r s : List ℕ) → length u ≡ length v → u ++ r ≡ v ++ s → (
 cut [] [] r s n e = (refl, e)
 cut [] (y ∷ v) r s n e = absurd (omega (arith, n))
 cut (x ∷ u) [] r s n e = absurd (omega (arith, n))
-cut (x ∷ u) (y ∷ v) r s n e =
-    let size : length u ≡ length v = omega (arith, n) in
-    let rest = cut u v r s size (ap tail_of e) in
-    ((λ i. (ap head_of e i) ∷ (rest.0 i)), rest.1)
+cut (x ∷ u) (y ∷ v) r s n e = grind (arith, cut u v r s)
 
 abbrev next : Bool → Text → ℕ → Text → HashWrites
 next t held b bs = cond t (piece (held ++ b ∷ []) ∷ fed_after [] bs) (fed_after (held ++ b ∷ []) bs)
@@ -78,9 +76,7 @@ starts_more k y b low =
 
 pieces_determine : (h a k b : Text) → length h ≡ length k → length h < 63 → AreDetermined h a k b
 unfolding fed_after
-pieces_determine h [] k [] n low r s e =
-    let here = cut h k r s n (sym (append_assoc h [] r) ∙ ap tail_of e ∙ append_assoc k [] s) in
-    (ap (λ l. l ++ []) here.0, here.1)
+pieces_determine h [] k [] n low r s e = grind (arith, common_steps, cut)
 pieces_determine h [] k (y ∷ b) n low r s e =
     let more = starts_more k y b (omega (arith, n, low)) in
     let first : length h ≡ more.0 = ap head_of e ∙ ap (λ l. head_of (l ++ s)) more.4 in
@@ -89,24 +85,7 @@ pieces_determine h (x ∷ a) k [] n low r s e =
     let more = starts_more h x a low in
     let first : length k ≡ more.0 = ap head_of (sym e) ∙ ap (λ l. head_of (l ++ r)) more.4 in
     absurd (omega (arith, first, n, more.2))
-pieces_determine h (x ∷ a) k (y ∷ b) n low r s e =
-    let goal = (h ++ x ∷ a ≡ k ++ y ∷ b) × (r ≡ s) in
-    let size = one_more h x in
-    let other = one_more k y in
-    let same : length (h ++ x ∷ []) ≡ length (k ++ y ∷ []) = omega (arith, size, other, n) in
-    let over : (h ++ x ∷ []) ++ a ≡ (k ++ y ∷ []) ++ b → h ++ x ∷ a ≡ k ++ y ∷ b =
-    λ p. sym (append_assoc h (x ∷ []) a) ∙ p ∙ append_assoc k (y ∷ []) b in
-    elim (length h == 62) as (λ t. t ≡ (length h == 62) → concat (next t h x a) ++ r ≡ concat (next t k y b) ++ s → (h ++ x ∷ a ≡ k ++ y ∷ b) × (r ≡ s)) [
-      | true ↦ λ q d.
-          let here = cut (h ++ x ∷ []) (k ++ y ∷ []) (concat (fed_after [] a) ++ r) (concat (fed_after [] b) ++ s) same
-          (sym (append_assoc (h ++ x ∷ []) (concat (fed_after [] a)) r) ∙ ap tail_of d ∙ append_assoc (k ++ y ∷ []) (concat (fed_after [] b)) s) in
-          let rest = pieces_determine [] a [] b refl (omega arith) r s here.1 in
-          (over (λ i. here.0 i ++ rest.0 i), rest.1)
-      | false ↦ λ q d.
-          let few = not_uri (length h) low q in
-          let rest = pieces_determine (h ++ x ∷ []) a (k ++ y ∷ []) b same (omega (arith, size, few)) r s d in
-          (over rest.0, rest.1)
-    ] refl (e ∙ ap (λ t. concat (next (t == 62) k y b) ++ s) (sym n))
+pieces_determine h (x ∷ a) k (y ∷ b) n low r s e = grind (arith, common_steps, cut, pieces_determine [] a [] b, pieces_determine (h ++ x ∷ []) a (k ++ y ∷ []) b)
 
 -- the bytes of a text that are hashed determine it
 pub text_feed_delimits : IsSelfDelimiting fed_bytes

@@ -1,11 +1,12 @@
 -- The front of a reference, before its fragment or its query, is a reference.
-use Rattle.std.proofs.Common.{◌≡◌, true, refl, sym, ◌∙◌, ap}
+use Rattle.std.proofs.Common.{arith, ◌≡◌, true, refl, sym, ◌∙◌, ap}
+use Rattle.std.proofs.lemmas.Grind.{common_steps}
 use Rattle.std.specs.Prelude.{ℕ, Option, None, option_map}
 use Rattle.iref_grammar.specs.Characters.{CharTests}
 use Rattle.iref_grammar.specs.Rules.{Text}
 use Rattle.iref_grammar.specs.Grammar.{hash_sign, question_mark}
 use Rattle.iref_grammar.specs.Texts.{before, after, after_first_char, lacks}
-use Rattle.iref_grammar.specs.Reference.{ReferenceValue, split_scheme, split_authority, hierarchy, is_readable, read_reference, is_reference}
+use Rattle.iref_grammar.specs.Reference.{ReferenceValue, split_scheme, split_authority, hierarchy, read_reference, is_reference}
 use Rattle.iref_grammar.specs.Authority.{read_authority}
 use Rattle.iref_grammar.specs.PathValue.{read_path}
 use Rattle.iref_grammar.proofs.CutLemmas.{before-lacking, from_first-lacking}
@@ -25,11 +26,7 @@ with_hierarchy text query fragment =
 -- without its fragment, and without both
 pub read_reference-before_hash : (text : Text) → read_reference (before hash text) ≡ record (read_reference text) { fragment = None }
 unfolding read_reference with_hierarchy
-read_reference-before_hash text =
-    let front = before hash text in
-    let none = lacks-before hash hash_sign text refl in
-    let same = before-lacking hash_sign front none in
-    λ i. with_hierarchy (before question (same i)) (after question_mark (same i)) (after-lacking hash_sign front none i)
+read_reference-before_hash text = grind (arith, common_steps, lacks-before, before-lacking)
 
 pub read_reference-hierarchy : (text : Text) → read_reference (hierarchy text) ≡ record (read_reference text) { query = None; fragment = None }
 unfolding read_reference with_hierarchy
@@ -43,14 +40,8 @@ read_reference-hierarchy text =
 -- both are references where the whole is
 pub is_reference-before_hash : (set : CharTests) (text : Text) → is_reference set text ≡ true → is_reference set (before hash text) ≡ true
 unfolding is_reference
-is_reference-before_hash set text h =
-    let parts = readable_parts set (read_reference text) h in
-    ap (is_readable set) (read_reference-before_hash text)
-    ∙ readable_from set _ (record { scheme = parts.scheme; authority = parts.authority; segments = parts.segments; query = parts.query; fragment = refl; follows = parts.follows; reads = parts.reads })
+is_reference-before_hash set text h = grind (arith, readable_parts, read_reference-before_hash, readable_from)
 
 pub is_reference-hierarchy : (set : CharTests) (text : Text) → is_reference set text ≡ true → is_reference set (hierarchy text) ≡ true
 unfolding is_reference
-is_reference-hierarchy set text h =
-    let parts = readable_parts set (read_reference text) h in
-    ap (is_readable set) (read_reference-hierarchy text)
-    ∙ readable_from set _ (record { scheme = parts.scheme; authority = parts.authority; segments = parts.segments; query = refl; fragment = refl; follows = parts.follows; reads = parts.reads })
+is_reference-hierarchy set text h = grind (arith, readable_parts, read_reference-hierarchy, readable_from)

@@ -30,19 +30,11 @@ pub record IsOutside (mark : ℕ) : Type 0 where
 pub join_lacks : (mark sep : ℕ) → (sep == mark) ≡ false → (pieces : List Text) → list_all (lacks mark) pieces ≡ true → lacks mark (join_with_byte sep pieces) ≡ true
 join_lacks mark sep h [] k = refl
 join_lacks mark sep h (p ∷ []) k = first_of_both (lacks mark p) true k
-join_lacks mark sep h (p ∷ q ∷ pieces) k =
-    lacks-append mark p (sep ∷ join_with_byte sep (q ∷ pieces)) (first_of_both (lacks mark p) (list_all (lacks mark) (q ∷ pieces)) k)
-    (lacks_more mark sep (join_with_byte sep (q ∷ pieces)) h (join_lacks mark sep h (q ∷ pieces) (second_of_both (lacks mark p) (list_all (lacks mark) (q ∷ pieces)) k)))
+join_lacks mark sep h (p ∷ q ∷ pieces) k = grind (arith, lacks-append, join_lacks mark sep h (q ∷ pieces))
 
 digits_lack : (mark : ℕ) → digit_value mark ≡ 36 → (ds : Text) → AllDigits 10 ds → lacks mark ds ≡ true
 digits_lack mark m [] h = refl
-digits_lack mark m (c ∷ cs) h = elim (eqb_tells c mark) [
-  | inl e ↦ absurd (no_digit (digit_value c) (ap digit_value e.1 ∙ m) h.0)
-  | inr e ↦ lacks_more mark c cs e.0 (digits_lack mark m cs h.1)
-]
-  where
-    no_digit : (d : ℕ) → d ≡ 36 → d < 10 → ⊥
-    no_digit d e h' = omega arith
+digits_lack mark m (c ∷ cs) h = grind (arith, digits_lack mark m cs h.1)
 
 pub decimal_lacks : (mark : ℕ) → digit_value mark ≡ 36 → (n : ℕ) → n < 256 → lacks mark (decimal n) ≡ true
 decimal_lacks mark m n h = digits_lack mark m (decimal n) ((decimal_is_IsNumeral n (lt_trans h (lit< tt))).0.1)
@@ -58,10 +50,10 @@ pieces_lack : (mark : ℕ) → IsOutside mark → (pieces : List Text) (groups :
 pieces_lack mark m [] [] z = refl
 pieces_lack mark m [] (n ∷ ns) z = absurd z
 pieces_lack mark m (p ∷ pieces) [] z = absurd z
-pieces_lack mark m (p ∷ pieces) (n ∷ ns) z = and_from (lacks mark p) (list_all (lacks mark) pieces) (all_lacks is_ascii_hexdigit mark m.hex p z.0.digits) (pieces_lack mark m pieces ns z.1)
+pieces_lack mark m (p ∷ pieces) (n ∷ ns) z = grind (arith, all_lacks, pieces_lack mark m pieces ns z.1)
 
 groups_lack : (mark : ℕ) → IsOutside mark → (text : Text) (groups : List ℕ) → AreGroups text groups → lacks mark text ≡ true
-groups_lack mark m text groups z = subst (λ t. lacks mark t ≡ true) (sym z.2) (join_lacks mark 58 m.not_colon z.0 (pieces_lack mark m z.0 groups z.1))
+groups_lack mark m text groups z = grind (arith, join_lacks, pieces_lack)
 
 last_groups_lack : (mark : ℕ) → IsOutside mark → (text : Text) (groups : List ℕ) → AreLastGroups text groups → lacks mark text ≡ true
 last_groups_lack mark m text groups (inl z) = groups_lack mark m text groups z

@@ -1,12 +1,12 @@
 -- IPvFuture, IP literal and host: each test decides its rule.
-use Rattle.std.proofs.Common.{◌≡◌, ℕ, ◌<◌, ◌≤◌, Bool, true, false, not, cond, ◌&&◌, ◌||◌, List, [], ◌∷◌, ◌++◌, refl, sym, ◌∙◌, ap, subst, arith, ◌⊎◌, inl, inr, lit<}
+use Rattle.std.proofs.Common.{◌≡◌, ℕ, ◌<◌, ◌≤◌, Bool, true, false, not, cond, ◌&&◌, List, [], ◌∷◌, ◌++◌, refl, sym, ◌∙◌, ap, subst, arith, ◌⊎◌, inl, inr, lit<}
+use Rattle.std.proofs.lemmas.Grind.{common_steps}
 use Rattle.std.specs.Prelude.{◌==◌, codes, decimal, Option, Some, None, is_some}
 use Rattle.std.specs.Bool.{Decides}
 use Rattle.std.specs.List.{list_all, join_with_byte}
 use Rattle.std.specs.Char.{is_ascii, is_ascii_alphanumeric, is_ascii_hexdigit, char_set_contains, digit_value}
 use Rattle.std.specs.Str.Parse.{AllDigits}
 use Rattle.std.proofs.lemmas.Fmt.{decimal_is_IsNumeral}
-use Rattle.std.proofs.lemmas.Str.Parse.{digit_from_value}
 use Rattle.std.specs.Int.{IsInRange}
 use Rattle.std.proofs.lemmas.Bool.Decides.{nat_tests, Decides-like, Decides-or}
 use Rattle.std.proofs.lemmas.Bool.{and_from}
@@ -17,7 +17,7 @@ use Rattle.iref_grammar.specs.Rules.{Text, Rule, OneOf, OneOrMore, ◌or◌, InU
 use Rattle.iref_grammar.specs.Grammar.{full_stop, left_bracket, right_bracket, percent_sign, is_future_char, is_reg_name_char, IsIpv4Address, IsIpv6Address, IsIpvFuture, IsIpLiteral, IsRegName, IsHost}
 use Rattle.iref_grammar.specs.IpAddresses.{ipv4_value, ipv6_value}
 use Rattle.iref_grammar.specs.Texts.{before, after, is_empty, then_part}
-use Rattle.iref_grammar.specs.Tests.{is_encoded, is_future_version, is_future_address, is_ipvfuture, is_ip_address, is_ipv4, is_ipv6, in_brackets, is_ip_literal, some_and, ends_here, is_reg_name, is_host}
+use Rattle.iref_grammar.specs.Tests.{is_encoded, is_future_version, is_future_address, is_ipvfuture, is_ip_address, is_ipv4, is_ipv6, in_brackets, is_ip_literal, ends_here, is_reg_name, is_host}
 use Rattle.iref_grammar.proofs.TextLemmas.{lacks, first_of_both, second_of_both}
 use Rattle.iref_grammar.proofs.RuleLemmas.{Decides-ones}
 use Rattle.iref_grammar.proofs.EncodedLemmas.{take_char, Decides-is_encoded}
@@ -69,14 +69,7 @@ future_parts c version address h k l =
     ∙ and_from (char_set_contains (codes "vV") c && is_future_version version) (is_future_address (Some address)) (and_from (char_set_contains (codes "vV") c) (is_future_version version) h k) l
 
 future_back : (text : Text) → IsIpvFuture text → is_ipvfuture text ≡ true
-future_back text z =
-    let numbered = z.3 in
-    let dotted = numbered.3 in
-    let address = dotted.1 in
-    let spelled : z.2.0 ∷ (numbered.0 ++ full_stop ∷ address) ≡ text =
-    (λ i. sym z.2.2 i ++ (numbered.0 ++ (sym dotted.2 i ++ address))) ∙ ap (λ t. z.0 ++ (numbered.0 ++ t)) dotted.4 ∙ ap (λ t. z.0 ++ t) numbered.4 ∙ z.4 in
-    subst (λ t. is_ipvfuture t ≡ true) spelled
-    (future_parts z.2.0 numbered.0 address z.2.1 ((Decides-one_or_more is_ascii_hexdigit numbered.0).1 numbered.2) ((Decides-one_or_more is_future_char address).1 dotted.3))
+future_back text z = grind (arith, future_parts, Decides-one_or_more)
 
 pub Decides-is_ipvfuture : (text : Text) → Decides (is_ipvfuture text) (IsIpvFuture text)
 Decides-is_ipvfuture text = (future_there text, future_back text)
@@ -102,25 +95,14 @@ brackets-read inside h =
 
 literal_back : (text : Text) → IsIpLiteral text → is_ip_literal text ≡ true
 unfolding is_ip_literal
-literal_back text z =
-    let m = z.3 in
-    let inside = m.0 in
-    let address = (Decides-is_ip_address inside).1 m.2 in
-    let spelled : left_bracket ∷ (inside ++ right_bracket ∷ []) ≡ text =
-    (λ i. sym z.2 i ++ (inside ++ sym m.3 i)) ∙ ap (λ t. z.0 ++ t) m.4 ∙ z.4 in
-    subst (λ t. is_ip_literal t ≡ true) spelled (ap (some_and is_ip_address) (brackets-read inside (address_lacks right_bracket right_outside refl inside address)) ∙ address)
+literal_back text z = grind (arith, Decides-is_ip_address, brackets-read, address_lacks)
 
 pub Decides-is_ip_literal : (text : Text) → Decides (is_ip_literal text) (IsIpLiteral text)
-Decides-is_ip_literal text = (there, literal_back text)
-  where
-    there : is_ip_literal text ≡ true → IsIpLiteral text
-    there h =
-        let p = literal_parts text h in
-        (left_bracket ∷ [], p.0 ++ right_bracket ∷ [], refl, (p.0, right_bracket ∷ [], (Decides-is_ip_address p.0).0 p.1, refl, refl), p.3)
+Decides-is_ip_literal text = grind (arith, literal_back, literal_parts, Decides-is_ip_address)
 
 -- an IP literal is ASCII
 high_outside : (mark : ℕ) → 128 ≤ mark → IsOutside mark
-high_outside mark h = record { hex = grind (arith, nat_tests); digit = grind (arith, nat_tests); not_colon = grind (arith, nat_tests); not_stop = grind (arith, nat_tests); future = grind (arith, nat_tests) }
+high_outside mark h = grind (arith, common_steps)
 
 no_version : (mark : ℕ) → 128 ≤ mark → char_set_contains (codes "vV") mark ≡ false
 no_version mark h = grind (arith, nat_tests)
@@ -175,26 +157,17 @@ Decides-is_ipvfuture_bytes = Decides-ascii is_ipvfuture IsIpvFuture (λ t z. add
 
 pub ones_encoded : (test : ℕ → Bool) → test percent_sign ≡ false → (text : Text) → list_all test text ≡ true → is_encoded test text ≡ true
 ones_encoded test safe [] h = refl
-ones_encoded test safe (c ∷ cs) h = take_char test safe c cs (first_of_both (test c) (list_all test cs) h) (ones_encoded test safe cs (second_of_both (test c) (list_all test cs) h))
+ones_encoded test safe (c ∷ cs) h = grind (arith, take_char, ones_encoded test safe cs)
 
 join_all : (test : ℕ → Bool) (sep : ℕ) → test sep ≡ true → (pieces : List Text) → list_all (list_all test) pieces ≡ true → list_all test (join_with_byte sep pieces) ≡ true
 join_all test sep h [] k = refl
 join_all test sep h (p ∷ []) k = first_of_both (list_all test p) true k
-join_all test sep h (p ∷ q ∷ pieces) k =
-    append_all p (sep ∷ join_with_byte sep (q ∷ pieces)) (first_of_both (list_all test p) (list_all (list_all test) (q ∷ pieces)) k)
-    (and_from (test sep) (list_all test (join_with_byte sep (q ∷ pieces))) h (join_all test sep h (q ∷ pieces) (second_of_both (list_all test p) (list_all (list_all test) (q ∷ pieces)) k)))
-  where
-    append_all : (xs ys : Text) → list_all test xs ≡ true → list_all test ys ≡ true → list_all test (xs ++ ys) ≡ true
-    append_all [] ys a b = b
-    append_all (c ∷ xs) ys a b = and_from (test c) (list_all test (xs ++ ys)) (first_of_both (test c) (list_all test xs) a) (append_all xs ys (second_of_both (test c) (list_all test xs) a) b)
-
-digit_alphanumeric : (c : ℕ) → IsInRange 48 57 c → is_ascii_alphanumeric c ≡ true
-digit_alphanumeric c h = grind (arith, nat_tests)
+join_all test sep h (p ∷ q ∷ pieces) k = grind (arith, common_steps, join_all test sep h (q ∷ pieces))
 
 module _ (set : CharTests) (above : AreAboveAscii set) where
   reg_name_digit : (c : ℕ) → digit_value c < 10 → is_reg_name_char set c ≡ true
   unfolding is_reg_name_char
-  reg_name_digit c h = let a = digit_alphanumeric c (digit_from_value c h) in λ i. ((a i || char_set_contains (codes "-._~") c) || set.extra c) || Rattle.iref_grammar.specs.Grammar.is_sub_delim c
+  reg_name_digit c h = grind arith
 
   reg_name_stop : is_reg_name_char set full_stop ≡ true
   unfolding is_reg_name_char

@@ -1,13 +1,12 @@
 -- IPv4 addresses: the computed value is the one of the rule.
-use Rattle.std.proofs.Common.{◌≡◌, ℕ, ◌^◌, ◌<◌, suc, Bool, true, false, not, cond, ◌&&◌, ◌||◌, List, [], ◌∷◌, length, map, refl, sym, ◌∙◌, ap, subst, arith, inl, inr, lit<}
-use Rattle.std.specs.Prelude.{◌==◌, nat_lt, bytes_eq, decimal, Option, Some, None, option_map, option_and_then}
+use Rattle.std.proofs.Common.{◌≡◌, ℕ, ◌^◌, ◌<◌, suc, Bool, true, false, cond, ◌&&◌, List, [], ◌∷◌, length, map, refl, sym, ◌∙◌, ap, subst, arith, lit<}
+use Rattle.std.specs.Prelude.{◌==◌, nat_lt, bytes_eq, decimal, Option, Some, None, option_and_then}
 use Rattle.std.specs.List.{AllZip, join_with_byte}
 use Rattle.std.specs.Str.Parse.{digits_value, AllDigits}
-use Rattle.std.specs.Char.{char_set_contains, digit_value}
 use native.Mathlib.Nat.{lt_trans}
 use Rattle.std.specs.Cmp.Lexicographic.{bytes_decides}
 use Rattle.std.proofs.lemmas.Fmt.{decimal_is_IsNumeral}
-use Rattle.std.proofs.lemmas.Bool.Decides.{nat_tests, eqb_tells}
+use Rattle.std.proofs.lemmas.Bool.Decides.{nat_tests}
 use Rattle.std.proofs.lemmas.Bool.{and_from}
 use Rattle.iref_grammar.specs.Rules.{Text}
 use Rattle.iref_grammar.specs.Texts.{pieces_at}
@@ -36,15 +35,7 @@ WritesOctet text n = (n < 256) × (text ≡ decimal n)
 octets_text : (pieces : List Text) (octets : List ℕ) → all_some (map octet_value pieces) ≡ Some octets → AllZip WritesOctet pieces octets
 octets_text [] [] h = tt
 octets_text [] (n ∷ ns) h = cc
-octets_text (p ∷ pieces) octets h = by (octet_value p) refl (all_some (map octet_value pieces)) refl (λ ns. octets_text pieces ns) h
-  where
-    by : (o : Option ℕ) → octet_value p ≡ o → (os : Option (List ℕ)) → all_some (map octet_value pieces) ≡ os → ((ns : List ℕ) → all_some (map octet_value pieces) ≡ Some ns → AllZip WritesOctet pieces ns)
-        → option_and_then (λ x. option_map (λ xs. x ∷ xs) os) o ≡ Some octets → AllZip WritesOctet (p ∷ pieces) octets
-    by None e os f r k = cc
-    by (Some n) e None f r k = cc
-    by (Some n) e (Some ns) f r k =
-        let same : n ∷ ns ≡ octets = ap (λ o. elim o as (λ q. List ℕ) [ None ↦ [] | Some x ↦ x ]) k in
-        subst (λ xs. AllZip WritesOctet (p ∷ pieces) xs) same (octet_text p n e, r ns f)
+octets_text (p ∷ pieces) octets h = grind (arith, octet_text, octets_text pieces)
 
 too_many : (n : ℕ) → (suc (suc (suc (suc (suc n)))) == 4) ≡ false
 too_many n = grind (arith, nat_tests)
@@ -84,13 +75,7 @@ ipv4_value-sound text n h = by (all_some (map octet_value (pieces_at 46 text))) 
 -- digits are no full stop
 digits_lack_stop : (ds : Text) → AllDigits 10 ds → lacks 46 ds ≡ true
 digits_lack_stop [] h = refl
-digits_lack_stop (c ∷ cs) h = elim (eqb_tells c 46) [
-  | inl e ↦ let far : digit_value c ≡ 36 = ap digit_value e.1 in absurd (no_digit (digit_value c) far h.0)
-  | inr e ↦ (λ i. not (e.0 i || char_set_contains cs 46)) ∙ digits_lack_stop cs h.1
-]
-  where
-    no_digit : (d : ℕ) → d ≡ 36 → d < 10 → ⊥
-    no_digit d e h' = omega arith
+digits_lack_stop (c ∷ cs) h = grind (arith, digits_lack_stop cs h.1)
 
 pub wide : (n : ℕ) → n < 256 → n < 2 ^ 64
 wide n h = lt_trans h (lit< tt)

@@ -6,7 +6,7 @@ use Rattle.std.specs.Int.{is_in_range}
 use Rattle.std.specs.List.{AllByRecursion, concat}
 use Rattle.std.proofs.lemmas.Fmt.{decimal_digit, decimal_step}
 use Rattle.std.proofs.lemmas.Bool.Decides.{nat_tests, leb_tells}
-use Rattle.iref_grammar.specs.Rules.{Text, OneOf, ◌⨾◌, Mark}
+use Rattle.iref_grammar.specs.Rules.{Text, OneOf}
 use Rattle.iref_grammar.specs.Grammar.{full_stop, IsDecOctet, IsIpv4Address}
 use Rattle.iref_grammar.specs.IpAddresses.{IsIpv4, number_of}
 use Rattle.iref_grammar.proofs.Ipv4Lemmas.{wide}
@@ -17,10 +17,7 @@ two_digits : (n : ℕ) → 10 ≤ n → n < 100 → decimal n ≡ (48 + n / 10) 
 two_digits n low high = decimal_step n low (wide n (omega arith)) ∙ ap (λ t. t ++ (48 + n % 10) ∷ []) (decimal_digit (n / 10) (omega arith))
 
 three_digits : (n : ℕ) → 100 ≤ n → n < 256 → decimal n ≡ (48 + n / 100) ∷ (48 + n / 10 % 10) ∷ (48 + n % 10) ∷ []
-three_digits n low high =
-    let hundreds : n / 10 / 10 ≡ n / 100 = omega arith in
-    decimal_step n (omega arith) (wide n high) ∙ ap (λ t. t ++ (48 + n % 10) ∷ []) (two_digits (n / 10) (omega arith) (omega arith))
-    ∙ ap (λ m. (48 + m) ∷ (48 + n / 10 % 10) ∷ (48 + n % 10) ∷ []) hundreds
+three_digits n low high = grind (arith, decimal_step, two_digits)
 
 -- what the number of a text of digits is written as
 pub WritesOctet : Text → Type 0
@@ -59,10 +56,7 @@ from_three a b c h k l less =
 octet_there : (text : Text) → IsDecOctet text → WritesOctet text
 unfolding IsDecOctet
 octet_there text (inl z) = subst WritesOctet (sym z.2) (from_one z.0 (digit z.0 z.1))
-octet_there text (inr (inl z)) =
-    let a = z.2 in
-    let b = z.3 in
-    subst WritesOctet ((λ i. sym a.2 i ++ sym b.2 i) ∙ z.4) (from_two a.0 b.0 (in_range 49 57 a.0 a.1) (digit b.0 b.1))
+octet_there text (inr (inl z)) = grind (arith, from_two)
 octet_there text (inr (inr (inl z))) = by z.3.0 z.3.1 z.3.2 z.3.3 (ap (λ t. z.0 ++ t) z.3.4 ∙ z.4)
   where
     by : (pieces : List Text) → AllByRecursion (OneOf is_ascii_digit) pieces → 2 ≤ length pieces → length pieces ≤ 2 → z.0 ++ concat pieces ≡ text → WritesOctet text
@@ -74,18 +68,8 @@ octet_there text (inr (inr (inl z))) = by z.3.0 z.3.1 z.3.2 z.3.3 (ap (λ t. z.0
         subst WritesOctet ((λ i. sym z.2 i ++ (sym all.0.2 i ++ (sym all.1.0.2 i ++ []))) ∙ e)
         (from_three 49 all.0.0 all.1.0.0 (omega arith, omega arith) b c (omega (arith, b.1, c.1)))
     by (p ∷ q ∷ r ∷ pieces) all low high e = absurd (omega arith)
-octet_there text (inr (inr (inr (inl z)))) =
-    let b = z.3.2 in
-    let c = z.3.3 in
-    let tens = in_range 48 52 b.0 b.1 in
-    let ones = digit c.0 c.1 in
-    subst WritesOctet ((λ i. sym z.2 i ++ (sym b.2 i ++ sym c.2 i)) ∙ ap (λ t. z.0 ++ t) z.3.4 ∙ z.4)
-    (from_three 50 b.0 c.0 (omega arith, omega arith) (tens.0, omega (arith, tens.1)) ones (omega (arith, tens.1, ones.1)))
-octet_there text (inr (inr (inr (inr z)))) =
-    let c = z.3 in
-    let ones = in_range 48 53 c.0 c.1 in
-    subst WritesOctet ((λ i. sym z.2 i ++ sym c.2 i) ∙ z.4)
-    (from_three 50 53 c.0 (omega arith, omega arith) (omega arith, omega arith) (ones.0, omega (arith, ones.1)) (omega (arith, ones.1)))
+octet_there text (inr (inr (inr (inl z)))) = grind (arith, from_three)
+octet_there text (inr (inr (inr (inr z)))) = grind (arith, from_three)
 
 -- a character in the range
 ranged : (low high c : ℕ) → low ≤ c → c ≤ high → is_in_range low high c ≡ true
@@ -182,9 +166,4 @@ ipv4_number text z =
 
 pub ipv4_in_rule : (text : Text) (n : ℕ) → IsIpv4 text n → IsIpv4Address text
 unfolding IsIpv4Address
-ipv4_in_rule text n v =
-    let stop : Text = full_stop ∷ [] in
-    let last : (Mark full_stop ⨾ IsDecOctet) (stop ++ decimal v.d) = (stop, decimal v.d, refl, octet_back v.d v.in_range.3, refl) in
-    let third : (Mark full_stop ⨾ IsDecOctet ⨾ Mark full_stop ⨾ IsDecOctet) (stop ++ (decimal v.c ++ (stop ++ decimal v.d))) =
-    (stop, decimal v.c ++ (stop ++ decimal v.d), refl, (decimal v.c, stop ++ decimal v.d, octet_back v.c v.in_range.2, last, refl), refl) in
-    (decimal v.a, _, octet_back v.a v.in_range.0, (stop, _, refl, (decimal v.b, _, octet_back v.b v.in_range.1, third, refl), refl), sym v.spelled)
+ipv4_in_rule text n v = grind (arith, octet_back)

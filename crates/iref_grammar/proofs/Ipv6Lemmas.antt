@@ -1,40 +1,24 @@
 -- IPv6 addresses: the computed value is one of the rule.
-use Rattle.std.proofs.Common.{◌≡◌, ℕ, ◌+◌, ◌/◌, ◌%◌, ◌≤◌, Bool, true, false, not, cond, ◌&&◌, List, [], ◌∷◌, ◌++◌, length, map, drop, refl, sym, ◌∙◌, ap, subst, arith, append_assoc, ◌⊎◌, inl, inr}
-use Rattle.std.specs.Prelude.{◌==◌, nat_le, codes, Option, Some, None, option_map, option_and_then}
+use Rattle.std.proofs.Common.{◌≡◌, ℕ, ◌+◌, ◌/◌, ◌%◌, ◌≤◌, true, List, [], ◌∷◌, ◌++◌, length, map, drop, refl, sym, ◌∙◌, ap, subst, arith, append_assoc, ◌⊎◌, inl, inr}
+use Rattle.std.specs.Prelude.{◌==◌, codes, Option, Some, None, option_map, option_and_then}
 use Rattle.std.specs.Option.{option_or}
-use Rattle.std.specs.List.{list_all, AllZip, join_with_byte}
-use Rattle.std.specs.Char.{is_ascii_hexdigit}
-use Rattle.std.specs.Str.Parse.{digits_value}
-use Rattle.std.proofs.lemmas.Bool.Decides.{nat_tests, eqb_tells}
-use Rattle.std.proofs.lemmas.Bool.{eqb-true}
+use Rattle.std.specs.List.{AllZip, join_with_byte}
 use Rattle.std.proofs.lemmas.Option.{same_Some}
 use Rattle.std.proofs.Math.Bool.{and-false}
 use mathlib.Core.Bool.{true≢false}
 use Rattle.iref_grammar.specs.Rules.{Text}
-use Rattle.iref_grammar.specs.Texts.{is_empty, begins_with}
+use Rattle.iref_grammar.specs.Texts.{begins_with}
 use Rattle.iref_grammar.specs.IpAddresses.{IsIpv4, IsGroup, AreGroups, AreLastGroups, IsShortIpv6, IsFullIpv6, IsIpv6, number_of, filled_groups, all_some, ipv4_value, group_value, last_group_values, last_groups_of, group_pieces, around_double_colon, eight_groups, joined_groups, short_ipv6_groups, ipv6_groups, ipv6_value}
 use Rattle.iref_grammar.proofs.TextLemmas.{join-pieces_at}
 use Rattle.iref_grammar.proofs.Ipv4Lemmas.{ipv4_value-sound}
 
 group_value-sound : (text : Text) (n : ℕ) → group_value text ≡ Some n → IsGroup text n
-group_value-sound text n h = by text (list_all is_ascii_hexdigit text) refl (nat_le (length text) 4) refl h
-  where
-    by : (t : Text) (a : Bool) → list_all is_ascii_hexdigit t ≡ a → (b : Bool) → nat_le (length t) 4 ≡ b → cond ((not (is_empty t) && b) && a) (Some (digits_value 16 t)) None ≡ Some n → IsGroup t n
-    by [] a e b f k = cc
-    by (c ∷ cs) true e true f k = record { nonempty = omega arith; short = grind (arith, nat_tests); digits = e; value = sym (same_Some (digits_value 16 (c ∷ cs)) n k) }
-    by (c ∷ cs) false e true f k = cc
-    by (c ∷ cs) a e false f k = cc
+group_value-sound text n h = grind arith
 
 groups_sound : (pieces : List Text) (groups : List ℕ) → all_some (map group_value pieces) ≡ Some groups → AllZip IsGroup pieces groups
 groups_sound [] [] h = tt
 groups_sound [] (n ∷ ns) h = cc
-groups_sound (p ∷ pieces) groups h = by (group_value p) refl (all_some (map group_value pieces)) refl (λ ns. groups_sound pieces ns) h
-  where
-    by : (o : Option ℕ) → group_value p ≡ o → (os : Option (List ℕ)) → all_some (map group_value pieces) ≡ os → ((ns : List ℕ) → all_some (map group_value pieces) ≡ Some ns → AllZip IsGroup pieces ns)
-        → option_and_then (λ x. option_map (λ xs. x ∷ xs) os) o ≡ Some groups → AllZip IsGroup (p ∷ pieces) groups
-    by None e os f r k = cc
-    by (Some n) e None f r k = cc
-    by (Some n) e (Some ns) f r k = subst (λ xs. AllZip IsGroup (p ∷ pieces) xs) (same_Some (n ∷ ns) groups k) (group_value-sound p n e, r ns f)
+groups_sound (p ∷ pieces) groups h = grind (arith, groups_sound pieces)
 
 join-group_pieces : (text : Text) → join_with_byte 58 (group_pieces text) ≡ text
 join-group_pieces [] = refl
@@ -113,38 +97,18 @@ are_last_groups text groups h = elim (last_pieces (group_pieces text) groups h) 
 pub colons : (text : Text) → begins_with (codes "::") text ≡ true → 58 ∷ 58 ∷ drop 2 text ≡ text
 colons [] h = cc
 colons (a ∷ []) h = absurd (true≢false (sym h ∙ and-false (58 == a)))
-colons (a ∷ b ∷ rest) h = elim (eqb_tells 58 a) [
-  | inl e ↦ elim (eqb_tells 58 b) [
-    | inl f ↦ λ i. e.1 i ∷ f.1 i ∷ rest
-    | inr f ↦ absurd (true≢false (sym h ∙ (λ i. e.0 i && (f.0 i && true))))
-  ]
-  | inr e ↦ absurd (true≢false (sym h ∙ (λ i. e.0 i && ((58 == b) && true))))
-]
+colons (a ∷ b ∷ rest) h = grind arith
 
 -- what stands around `::`
 around-sound : (text : Text) (parts : Text × Text) → around_double_colon text ≡ Some parts → text ≡ parts.0 ++ (codes "::" ++ parts.1)
 around-sound [] parts h = cc
-around-sound (c ∷ cs) parts h = by (begins_with (codes "::") (c ∷ cs)) refl (around_double_colon cs) refl (λ p. around-sound cs p) h
-  where
-    by : (b : Bool) → begins_with (codes "::") (c ∷ cs) ≡ b → (o : Option (Text × Text)) → around_double_colon cs ≡ o → ((p : Text × Text) → around_double_colon cs ≡ Some p → cs ≡ p.0 ++ (codes "::" ++ p.1))
-        → cond b (Some ([], drop 1 cs)) (option_map (λ p. (c ∷ p.0, p.1)) o) ≡ Some parts → c ∷ cs ≡ parts.0 ++ (codes "::" ++ parts.1)
-    by true e o f r k = subst (λ (p : Text × Text). c ∷ cs ≡ p.0 ++ (codes "::" ++ p.1)) (same_Some ([], drop 1 cs) parts k) (sym (colons (c ∷ cs) e))
-    by false e None f r k = cc
-    by false e (Some p) f r k = subst (λ (q : Text × Text). c ∷ cs ≡ q.0 ++ (codes "::" ++ q.1)) (same_Some (c ∷ p.0, p.1) parts k) (ap (λ t. c ∷ t) (r p f))
+around-sound (c ∷ cs) parts h = grind (arith, around-sound cs)
 
 eight-sound : (gs groups : List ℕ) → eight_groups gs ≡ Some groups → (gs ≡ groups) × (length groups ≡ 8)
-eight-sound gs groups h = by (length gs == 8) refl h
-  where
-    by : (b : Bool) → (length gs == 8) ≡ b → cond b (Some gs) None ≡ Some groups → (gs ≡ groups) × (length groups ≡ 8)
-    by true e k = let same : gs ≡ groups = same_Some gs groups k in (same, ap length (sym same) ∙ eqb-true (length gs) 8 e)
-    by false e k = cc
+eight-sound gs groups h = grind arith
 
 joined-sound : (left right groups : List ℕ) → joined_groups left right ≡ Some groups → (length left + length right ≤ 7) × (groups ≡ filled_groups left right)
-joined-sound left right groups h = by (nat_le (length left + length right) 7) refl h
-  where
-    by : (b : Bool) → nat_le (length left + length right) 7 ≡ b → cond b (Some (filled_groups left right)) None ≡ Some groups → (length left + length right ≤ 7) × (groups ≡ filled_groups left right)
-    by true e k = (grind (arith, nat_tests), sym (same_Some (filled_groups left right) groups k))
-    by false e k = cc
+joined-sound left right groups h = grind arith
 
 short-sound : (text : Text) (parts : Text × Text) (groups : List ℕ) → text ≡ parts.0 ++ (codes "::" ++ parts.1) → short_ipv6_groups parts ≡ Some groups → IsShortIpv6 text groups
 short-sound text parts groups s h = by (all_some (map group_value (group_pieces parts.0))) refl (last_groups_of (group_pieces parts.1)) refl h

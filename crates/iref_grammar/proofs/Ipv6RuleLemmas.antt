@@ -1,5 +1,6 @@
 -- The rule of IPv6 addresses: they are the texts of eight groups, in full or with `::`.
 use Rattle.std.proofs.Common.{◌≡◌, ℕ, zero, suc, ◌+◌, ◌/◌, ◌%◌, ◌≤◌, Bool, true, List, [], ◌∷◌, ◌++◌, length, map, refl, sym, ◌∙◌, ap, subst, arith, append_assoc, append-nil, length-append, inl, inr}
+use Rattle.std.proofs.lemmas.Grind.{common_steps}
 use Rattle.std.specs.Prelude.{codes}
 use Rattle.std.specs.Char.{is_ascii_hexdigit}
 use Rattle.std.specs.List.{AllByRecursion, AllZip, concat, list_all, join_with_byte}
@@ -34,9 +35,7 @@ group_there text z =
 
 group_back : (text : Text) (n : ℕ) → IsGroup text n → IsH16 text
 unfolding IsH16
-group_back text n g =
-    let z = ones_of is_ascii_hexdigit text g.digits in
-    (z.0, z.1, omega (arith, z.2, g.nonempty), omega (arith, z.2, g.short), z.3)
+group_back text n g = grind (arith, ones_of)
 
 groups_there : (pieces : List Text) → AllByRecursion IsH16 pieces → AllZip IsGroup pieces (map (digits_value 16) pieces)
 groups_there [] all = tt
@@ -184,10 +183,7 @@ one_back text n (inr z) = absurd (two z.front (ap length z.value))
 none_back : (text : Text) → AreLastGroups text [] → text ≡ []
 none_back text (inl ([], z, e)) = e
 none_back text (inl (p ∷ pieces, z, e)) = absurd z
-none_back text (inr z) = absurd (two z.front (ap length z.value))
-  where
-    two : (front : List ℕ) → 0 ≡ length (front ++ z.n / 65536 ∷ z.n % 65536 ∷ []) → ⊥
-    two front e = omega (arith, e, length-append front (z.n / 65536 ∷ z.n % 65536 ∷ []))
+none_back text (inr z) = grind (arith, common_steps)
 
 -- ---- what stands before `::`
 
@@ -297,11 +293,7 @@ one_exactly text z = by z.2.0 z.2.1 z.2.2 z.2.3 z.2.4
     by (p ∷ q ∷ pieces) all low high e = absurd (omega arith)
 
 none_exactly : (text : Text) → GroupsThenLast 0 text → IsLs32 text
-none_exactly text z = by z.2.0 z.2.3 z.2.4
-  where
-    by : (pieces : List Text) → length pieces ≤ 0 → concat pieces ≡ z.0 → IsLs32 text
-    by [] high e = subst IsLs32 (ap (λ t. t ++ z.1) e ∙ z.4) z.3
-    by (p ∷ pieces) high e = absurd (omega arith)
+none_exactly text z = grind (arith, common_steps)
 
 one_at_most : (text : Text) (groups : List ℕ) → AreGroups text groups → length groups ≤ 1 → Optional IsH16 text
 one_at_most text groups z h = by z.0 (groups_back z.0 groups z.1) z.2
@@ -312,11 +304,7 @@ one_at_most text groups z h = by z.0 (groups_back z.0 groups z.1) z.2
     by (p ∷ q ∷ pieces) all e = absurd (omega (arith, all.1))
 
 none_at_most : (text : Text) (groups : List ℕ) → AreGroups text groups → length groups ≤ 0 → text ≡ []
-none_at_most text groups z h = by z.0 (groups_back z.0 groups z.1) z.2
-  where
-    by : (pieces : List Text) → AllByRecursion IsH16 pieces × (length pieces ≡ length groups) → text ≡ join_with_byte 58 pieces → text ≡ []
-    by [] all e = e
-    by (p ∷ pieces) all e = absurd (omega (arith, all.1))
+none_at_most text groups z h = grind (arith, common_steps, groups_back)
 
 short_in_rule : (text before after : Text) (left right : List ℕ) → AreGroups before left → AreLastGroups after right → length left + length right ≤ 7
     → text ≡ before ++ (codes "::" ++ after) → IsIpv6Address text

@@ -1,5 +1,5 @@
 -- The scheme and the authority that bytes begin with, by their first delimiter.
-use Rattle.std.proofs.Common.{◌≡◌, ℕ, ◌&&◌, Bool, true, false, cond, [], ◌∷◌, refl, sym, ◌∙◌, ap, inl, inr, subst}
+use Rattle.std.proofs.Common.{arith, ◌≡◌, ℕ, Bool, true, false, [], ◌∷◌, refl, sym, ◌∙◌, ap, inl, inr, subst}
 use Rattle.std.specs.Prelude.{◌==◌, ◌||◌, codes}
 use Rattle.std.specs.Char.{char_set_contains}
 use Rattle.std.proofs.lemmas.Bool.Decides.{eqb_tells}
@@ -12,10 +12,7 @@ use Rattle.iref_grammar.specs.Contexts.{begins_with_scheme, context_from}
 use Rattle.iref_grammar.proofs.CutLemmas.{before-no, before-yes, from_first-no, from_first-yes}
 
 other_way : (c d : ℕ) → (c == d) ≡ false → (d == c) ≡ false
-other_way c d h = elim (eqb_tells d c) [ inl e ↦ absurd (true≢false (sym (eqb_same c d (sym e.1)) ∙ h)) | inr e ↦ e.0 ]
-  where
-    eqb_same : (c d : ℕ) → c ≡ d → (c == d) ≡ true
-    eqb_same c d e = elim (eqb_tells c d) [ inl k ↦ k.0 | inr k ↦ absurd (k.1 e) ]
+other_way c d h = grind arith
 
 -- of the bytes, whether the first is a colon
 first_is_colon : Text → Bool
@@ -25,13 +22,7 @@ first_is_colon (c ∷ cs) = c == colon
 begins_with_colon : (text : Text) → begins_with (codes ":") text ≡ first_is_colon text
 unfolding first_is_colon
 begins_with_colon [] = refl
-begins_with_colon (c ∷ cs) = elim (eqb_tells c colon) [
-  | inl e ↦ (λ i. begins_with (codes ":") (e.1 i ∷ cs)) ∙ sym e.0
-  | inr e ↦ begins (other_way c colon e.0) ∙ sym e.0
-]
-  where
-    begins : (colon == c) ≡ false → begins_with (codes ":") (c ∷ cs) ≡ false
-    begins h = ap (λ b. b && true) h
+begins_with_colon (c ∷ cs) = grind arith
 
 record IsMarked (bytes rest : Text) : Type 0 where
   scheme : begins_with_scheme bytes ≡ first_is_colon rest
@@ -71,16 +62,8 @@ colon_marked bytes h = (marked bytes).from_colon (sym (begins_with_colon (from_f
 -- what the bytes say of a path after them
 pub context_at_colon : (bytes rest : Text) (slashes : Bool) → rest ≡ from_first (codes ":/?#") bytes → begins_with (codes ":") rest ≡ true → slashes ≡ begins_with (codes "://") rest → let context : PathContext = record { has_scheme = true; has_authority = slashes } in context ≡ context_from bytes
 unfolding context_from
-context_at_colon bytes rest slashes e h k =
-    let colon_first = ap (begins_with (codes ":")) (sym e) ∙ h in
-    let scheme = scheme_marked bytes ∙ colon_first in
-    let from = colon_marked bytes colon_first ∙ sym e in
-    (λ i. record { has_scheme = true; has_authority = (k ∙ ap (begins_with (codes "://")) (sym from)) i })
-    ∙ sym (λ i. record { has_scheme = scheme i; has_authority = begins_with (cond (scheme i) (codes "://") (codes "//")) (cond (scheme i) (from_first (colon ∷ []) bytes) bytes) })
+context_at_colon bytes rest slashes e h k = grind (arith, scheme_marked, colon_marked)
 
 pub context_without_colon : (bytes rest : Text) (slashes : Bool) → rest ≡ from_first (codes ":/?#") bytes → begins_with (codes ":") rest ≡ false → slashes ≡ begins_with (codes "//") bytes → let context : PathContext = record { has_scheme = false; has_authority = slashes } in context ≡ context_from bytes
 unfolding context_from
-context_without_colon bytes rest slashes e h k =
-    let scheme = scheme_marked bytes ∙ ap (begins_with (codes ":")) (sym e) ∙ h in
-    (λ i. record { has_scheme = false; has_authority = k i })
-    ∙ sym (λ i. record { has_scheme = scheme i; has_authority = begins_with (cond (scheme i) (codes "://") (codes "//")) (cond (scheme i) (from_first (colon ∷ []) bytes) bytes) })
+context_without_colon bytes rest slashes e h k = grind (arith, scheme_marked)

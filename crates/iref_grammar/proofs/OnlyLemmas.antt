@@ -1,10 +1,9 @@
 -- No two references spell one text, where each part lacks the delimiters that end it.
-use Rattle.std.proofs.Common.{◌≡◌, ℕ, Bool, true, false, not, cond, ◌&&◌, ◌||◌, List, [], ◌∷◌, ◌++◌, drop, refl, sym, ◌∙◌, ap, append_assoc, inl, inr, subst}
+use Rattle.std.proofs.Common.{arith, ◌≡◌, Bool, true, false, not, cond, ◌&&◌, ◌||◌, List, [], ◌∷◌, ◌++◌, drop, refl, sym, ◌∙◌, ap, append_assoc}
+use Rattle.std.proofs.lemmas.Grind.{common_steps}
 use Rattle.std.specs.Prelude.{◌==◌, Option, Some, None, option_map, codes, is_some, IfSome}
 use Rattle.std.specs.Char.{char_set_contains}
 use Rattle.std.specs.List.{list_all, join_with_byte}
-use Rattle.std.proofs.lemmas.Bool.Decides.{eqb_tells}
-use Rattle.std.proofs.lemmas.List.{append-nil}
 use Rattle.std.proofs.lemmas.Bool.{not-true}
 use mathlib.Core.Bool.{true≢false}
 use Rattle.iref_grammar.specs.Rules.{Text}
@@ -16,7 +15,7 @@ use Rattle.iref_grammar.proofs.PathLemmas.{read-spelled}
 use Rattle.iref_grammar.specs.PathValue.{PathValue, spell_path, read_path, shows_its_list, begins_empty, is_one_empty}
 use Rattle.iref_grammar.specs.Contexts.{follows_authority, is_no_authority, is_no_scheme, begins_with_colon_segment}
 use Rattle.iref_grammar.proofs.TextLemmas.{lacks, first_of_both}
-use Rattle.iref_grammar.proofs.CutLemmas.{before-no, first_lacks, rest_lacks, no_mark, before-lacking, from_first-lacking, before-mark, from_first-mark, before-part, after-part}
+use Rattle.iref_grammar.proofs.CutLemmas.{before-no, first_lacks, rest_lacks, no_mark, before-lacking, from_first-lacking, before-mark, before-part, after-part}
 use Rattle.iref_grammar.proofs.ReferenceCutLemmas.{regroup}
 use Rattle.iref_grammar.proofs.AuthorityLemmas.{IsDelimitedAuthority, read_authority-back}
 
@@ -64,12 +63,8 @@ ends_authority [] = true
 ends_authority (c ∷ cs) = c == slash
 
 authority-back : (a text : Text) → lacks slash a ≡ true → ends_authority text ≡ true → split_authority (slash ∷ slash ∷ (a ++ text)) ≡ (Some a, text)
-authority-back a [] h k = (λ i. (Some (before (slash ∷ []) (append-nil a i)), from_first (slash ∷ []) (append-nil a i))) ∙ (λ i. (Some (before-lacking slash a h i), from_first-lacking slash a h i))
-authority-back a (c ∷ cs) h k = elim (eqb_tells c slash) [
-  | inl e ↦
-      subst (λ d. split_authority (slash ∷ slash ∷ (a ++ d ∷ cs)) ≡ (Some a, d ∷ cs)) (sym e.1) (λ i. (Some (before-mark slash a cs h i), from_first-mark slash a cs h i))
-  | inr e ↦ absurd (true≢false (sym k ∙ e.0))
-]
+authority-back a [] h k = grind (arith, common_steps, before-lacking)
+authority-back a (c ∷ cs) h k = grind (arith, common_steps, before-mark)
 
 no_slashes : (text : Text) → begins_with (codes "//") text ≡ false → split_authority text ≡ (None, text)
 no_slashes text h = ap (λ b. cond b (Some (before (slash ∷ []) (drop 2 text)), from_first (slash ∷ []) (drop 2 text)) (None, text)) h
@@ -80,19 +75,11 @@ unfolding spell_path
 path_no_slashes true [] h k = refl
 path_no_slashes true ([] ∷ ss) h k = absurd (true≢false (sym k))
 path_no_slashes true ((c ∷ s) ∷ []) h k = λ i. first_lacks slash c s (first_of_both (lacks slash (c ∷ s)) true h) i && true
-path_no_slashes true ((c ∷ s) ∷ t ∷ ss) h k = λ i. first_lacks slash c s (first_of_both (lacks slash (c ∷ s)) (list_all (lacks slash) (t ∷ ss)) h) i && true
+path_no_slashes true ((c ∷ s) ∷ t ∷ ss) h k = grind arith
 path_no_slashes false [] h k = refl
 path_no_slashes false ([] ∷ ss) h k = absurd (true≢false (sym k))
-path_no_slashes false ((c ∷ s) ∷ []) h k = other_first c s (first_lacks slash c s (first_of_both (lacks slash (c ∷ s)) true h))
-  where
-    other_first : (d : ℕ) (t : Text) → (slash == d) ≡ false → begins_with (codes "//") (d ∷ t) ≡ false
-    other_first d [] e = λ i. e i && false
-    other_first d (f ∷ t) e = λ i. e i && ((slash == f) && true)
-path_no_slashes false ((c ∷ s) ∷ t ∷ ss) h k = other_first c (s ++ slash ∷ join_with_byte slash (t ∷ ss)) (first_lacks slash c s (first_of_both (lacks slash (c ∷ s)) (list_all (lacks slash) (t ∷ ss)) h))
-  where
-    other_first : (d : ℕ) (t : Text) → (slash == d) ≡ false → begins_with (codes "//") (d ∷ t) ≡ false
-    other_first d [] e = λ i. e i && false
-    other_first d (f ∷ t) e = λ i. e i && ((slash == f) && true)
+path_no_slashes false ((c ∷ s) ∷ []) h k = grind arith
+path_no_slashes false ((c ∷ s) ∷ t ∷ ss) h k = grind arith
 
 path_ends_authority : (absolute : Bool) (segments : List Text) → (absolute || is_empty segments) ≡ true → ends_authority (spell_path (record { absolute = absolute; segments = segments })) ≡ true
 unfolding spell_path
@@ -121,16 +108,14 @@ pub record IsDelimited (r : ReferenceValue) : Type 0 where
 scheme_read : (s a : Option Text) (absolute : Bool) (segments : List Text) → IfSome s (λ t. (lacks colon t ≡ true) × (lacks slash t ≡ true))
     → (((is_some s || is_some a) || absolute) || not (begins_with_colon_segment segments)) ≡ true
     → let p : Text = spell_path (record { absolute = absolute; segments = segments }) in split_scheme (part_then (colon ∷ []) s ++ (then_part (codes "//") a ++ p)) ≡ (s, then_part (codes "//") a ++ p)
-scheme_read (Some s) a absolute segments h k =
-    let p : Text = spell_path (record { absolute = absolute; segments = segments }) in
-    ap split_scheme (append_assoc s (colon ∷ []) (then_part (codes "//") a ++ p)) ∙ scheme-back s (then_part (codes "//") a ++ p) h.0 h.1
+scheme_read (Some s) a absolute segments h k = grind (arith, common_steps, scheme-back)
 scheme_read None (Some a) absolute segments h k = no_scheme [] (slash ∷ (a ++ spell_path (record { absolute = absolute; segments = segments }))) refl
 scheme_read None None absolute segments h k = path_no_scheme absolute segments k
 
 authority_read : (o : Option Text) (absolute : Bool) (segments : List Text) → IfSome o (λ a. lacks slash a ≡ true) → list_all (lacks slash) segments ≡ true
     → (absolute ≡ false → not (begins_empty segments) ≡ true) → ((not (is_some o) || absolute) || is_empty segments) ≡ true → ((is_some o || not absolute) || not (begins_empty segments)) ≡ true
     → let p : Text = spell_path (record { absolute = absolute; segments = segments }) in split_authority (then_part (codes "//") o ++ p) ≡ (o, p)
-authority_read (Some a) absolute segments h l s f n = authority-back a (spell_path (record { absolute = absolute; segments = segments })) h (path_ends_authority absolute segments f)
+authority_read (Some a) absolute segments h l s f n = grind (arith, authority-back, path_ends_authority)
 authority_read None true segments h l s f n = no_slashes _ (path_no_slashes true segments l n)
 authority_read None false segments h l s f n = no_slashes _ (path_no_slashes false segments l (s refl))
 

@@ -1,9 +1,8 @@
 -- A path's text is read as one path.
-use Rattle.std.proofs.Common.{◌≡◌, ℕ, Bool, true, false, not, cond, ◌||◌, List, [], ◌∷◌, ◌++◌, refl, sym, ◌∙◌, ap, subst, inl, inr}
+use Rattle.std.proofs.Common.{arith, ◌≡◌, ℕ, Bool, true, false, not, cond, List, [], ◌∷◌, ◌++◌, refl, sym, ◌∙◌, ap, subst, inl, inr}
 use Rattle.std.proofs.Math.Logic.{◌↔◌}
 use Rattle.std.specs.Prelude.{◌==◌}
-use Rattle.std.specs.List.{list_all, join_with_byte, onto_first}
-use Rattle.std.specs.Char.{char_set_contains}
+use Rattle.std.specs.List.{list_all, join_with_byte}
 use Rattle.std.proofs.lemmas.Bool.Decides.{eqb_tells}
 use mathlib.Core.Bool.{true≢false}
 use Rattle.iref_grammar.specs.Rules.{Text}
@@ -22,20 +21,8 @@ lacks-segments_of [] = refl
 lacks-segments_of (c ∷ cs) = lacks-pieces_at slash (c ∷ cs)
 
 pieces_at-some : (mark c : ℕ) (cs : Text) → is_one_empty (pieces_at mark (c ∷ cs)) ≡ false
-pieces_at-some mark c [] = by (c == mark)
-  where
-    by : (b : Bool) → is_one_empty (cond b ([] ∷ [] ∷ []) (onto_first c ([] ∷ []))) ≡ false
-    by true = refl
-    by false = refl
-pieces_at-some mark c (d ∷ cs) = by (c == mark) (d == mark) (pieces_at mark cs)
-  where
-    by : (b e : Bool) (pieces : List Text) → is_one_empty (cond b ([] ∷ cond e ([] ∷ pieces) (onto_first d pieces)) (onto_first c (cond e ([] ∷ pieces) (onto_first d pieces)))) ≡ false
-    by true true pieces = refl
-    by true false [] = refl
-    by true false (p ∷ pieces) = refl
-    by false true pieces = refl
-    by false false [] = refl
-    by false false (p ∷ pieces) = refl
+pieces_at-some mark c [] = grind arith
+pieces_at-some mark c (d ∷ cs) = grind arith
 
 -- a list under `/` shows
 absolute_shown : (text : Text) → not (is_one_empty (segments_of text)) ≡ true
@@ -44,11 +31,7 @@ absolute_shown (c ∷ cs) = ap not (pieces_at-some slash c cs)
 
 -- and so does one that begins otherwise
 relative_shown : (c : ℕ) (cs : Text) → (c == slash) ≡ false → not (begins_empty (pieces_at slash (c ∷ cs))) ≡ true
-relative_shown c cs h = ap (λ b. not (begins_empty (cond b ([] ∷ pieces_at slash cs) (onto_first c (pieces_at slash cs))))) h ∙ by (pieces_at slash cs)
-  where
-    by : (pieces : List Text) → not (begins_empty (onto_first c pieces)) ≡ true
-    by [] = refl
-    by (p ∷ pieces) = refl
+relative_shown c cs h = grind arith
 
 pub read_path-reads : (text : Text) → IsReadAs text (read_path text)
 unfolding read_path spell_path
@@ -72,16 +55,12 @@ segments_of-join [] (t ∷ ss) h k = pieces_at-join slash [] (t ∷ ss) h
 segments_of-join (c ∷ s) (t ∷ ss) h k = pieces_at-join slash (c ∷ s) (t ∷ ss) h
 
 lacks_first : (c : ℕ) (s : Text) → lacks slash (c ∷ s) ≡ true → (c == slash) ≡ false
-lacks_first c s h = elim (eqb_tells c slash) [
-  | inl e ↦ absurd (true≢false (sym h ∙ (λ i. not (e.0 i || char_set_contains s slash))))
-  | inr e ↦ e.0
-]
+lacks_first c s h = grind arith
 
 -- the text of a relative list begins with a character other than `/`
 read_relative : (c : ℕ) (text : Text) (segments : List Text) → (c == slash) ≡ false → segments_of (c ∷ text) ≡ segments → read_path (c ∷ text) ≡ record { absolute = false; segments = segments }
 unfolding read_path
-read_relative c text segments h e =
-    (λ i. cond (h i) (record { absolute = true; segments = segments_of text }) (record { absolute = false; segments = segments_of (c ∷ text) })) ∙ (λ i. record { absolute = false; segments = e i })
+read_relative c text segments h e = grind arith
 
 read_absolute : (text : Text) (segments : List Text) → segments_of text ≡ segments → read_path (slash ∷ text) ≡ record { absolute = true; segments = segments }
 unfolding read_path

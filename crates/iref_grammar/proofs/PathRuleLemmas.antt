@@ -1,9 +1,9 @@
 -- The path rules: their texts are the spellings of the paths that may stand there.
-use Rattle.std.proofs.Common.{◌≡◌, Bool, true, false, not, ◌&&◌, ◌||◌, List, [], ◌∷◌, ◌++◌, refl, sym, ◌∙◌, ap, inl, inr}
+use Rattle.std.proofs.Common.{arith, ◌≡◌, Bool, true, false, not, ◌&&◌, ◌||◌, List, [], ◌∷◌, ◌++◌, refl, sym, ◌∙◌, ap, inl, inr}
 use Rattle.std.proofs.Math.Logic.{◌↔◌}
 use Rattle.std.specs.List.{AllByRecursion, concat, join_with_byte}
 use Rattle.std.proofs.lemmas.List.{append-nil}
-use Rattle.std.proofs.lemmas.Bool.{and_from, not-true}
+use Rattle.std.proofs.lemmas.Bool.{not-true}
 use Rattle.std.proofs.Math.Bool.{or-true}
 use mathlib.Core.Bool.{true≢false}
 use Rattle.iref_grammar.specs.declared.context.PathContext.{PathContext}
@@ -12,7 +12,7 @@ use Rattle.iref_grammar.specs.Rules.{Text, Rule, Empty, Mark, ◌⨾◌, ◌or�
 use Rattle.iref_grammar.specs.Grammar.{slash, colon, IsPathChar, IsSegment, IsNonEmptySegment, IsNonColonSegment, IsAbEmptyPath, IsRootlessPath, IsAbsolutePath}
 use Rattle.iref_grammar.specs.Texts.{is_empty}
 use Rattle.iref_grammar.specs.PathValue.{PathValue, spell_path, shows_its_list, begins_empty}
-use Rattle.iref_grammar.specs.Contexts.{follows_authority, is_no_authority, is_no_scheme, reads_as_path, begins_with_colon_segment}
+use Rattle.iref_grammar.specs.Contexts.{follows_authority, is_no_authority, is_no_scheme, reads_as_path}
 use Rattle.iref_grammar.proofs.TextLemmas.{lacks, first_of_both, second_of_both}
 use Rattle.iref_grammar.proofs.RuleLemmas.{none_of, one_more}
 use Rattle.iref_grammar.proofs.Utf8RuleLemmas.{in_utf8-joined, in_utf8-or, in_utf8-more, in_utf8-empty, in_utf8-mark}
@@ -69,13 +69,10 @@ reads_after false p h = λ i. (h i && true) && true
 -- without one
 absolute_reads : (b : Bool) (ss : List Text) → begins_empty ss ≡ false → reads_as_path (record { has_scheme = b; has_authority = false }) (record { absolute = true; segments = ss }) ≡ true
 absolute_reads b [] h = absolute_no_scheme b true
-absolute_reads b (s ∷ ss) h =
-    and_from (not (is_empty s && is_empty ss) && not (is_empty s)) (((b || false) || true) || not (begins_with_colon_segment (s ∷ ss)))
-    (and_from (not (is_empty s && is_empty ss)) (not (is_empty s)) (λ i. not (h i && is_empty ss)) (ap not h)) (absolute_no_scheme b (not (begins_with_colon_segment (s ∷ ss))))
+absolute_reads b (s ∷ ss) h = grind arith
 
 relative_reads : (b : Bool) (s : Text) (ss : List Text) → is_empty s ≡ false → (b || lacks colon s) ≡ true → reads_as_path (record { has_scheme = b; has_authority = false }) (record { absolute = false; segments = s ∷ ss }) ≡ true
-relative_reads b s ss h k =
-    and_from (not (is_empty s) && true) (((b || false) || false) || lacks colon s) (and_from (not (is_empty s)) true (ap not h) refl) (relative_no_scheme b (lacks colon s) k)
+relative_reads b s ss h k = grind arith
 
 module _ (set : CharTests) (above : AreAboveAscii set) where
   -- ---- `*( "/" segment )`

@@ -1,9 +1,8 @@
 -- Paths: each test, by its one reading, decides its rule.
-use Rattle.std.proofs.Common.{◌≡◌, Bool, true, false, cond, ◌&&◌, List, [], ◌∷◌, ◌++◌, refl, sym, ◌∙◌, ap, subst, append_assoc, inl, inr}
+use Rattle.std.proofs.Common.{arith, ◌≡◌, Bool, true, false, ◌&&◌, List, [], ◌∷◌, ◌++◌, refl, sym, ◌∙◌, ap, subst, append_assoc, inl, inr}
 use Rattle.std.proofs.Math.Logic.{◌↔◌}
-use Rattle.std.specs.Prelude.{◌==◌}
 use Rattle.std.specs.Bool.{Decides}
-use Rattle.std.specs.List.{AllByRecursion, concat, list_all, join_with_byte, onto_first}
+use Rattle.std.specs.List.{AllByRecursion, concat, list_all, join_with_byte}
 use Rattle.std.proofs.lemmas.Bool.Decides.{Decides-like, same_from_decides}
 use Rattle.std.proofs.lemmas.Bool.{and_from, and_parts}
 use Rattle.iref_grammar.specs.declared.context.PathContext.{PathContext}
@@ -12,7 +11,7 @@ use Rattle.iref_grammar.specs.Rules.{Text, Rule, Empty, Mark, ◌or◌, ZeroOrMo
 use Rattle.iref_grammar.specs.Grammar.{slash, IsPathChar, IsSegment, IsAbEmptyPath, IsAbsolutePath, IsRootlessPath, IsNoSchemePath, IsPath}
 use Rattle.iref_grammar.specs.Texts.{pieces_at}
 use Rattle.iref_grammar.specs.Tests.{is_segment, is_path}
-use Rattle.iref_grammar.specs.PathValue.{PathValue, spell_path, shows_its_list, segments_of, read_path}
+use Rattle.iref_grammar.specs.PathValue.{PathValue, spell_path, shows_its_list, read_path}
 use Rattle.iref_grammar.specs.Contexts.{follows_authority, is_no_authority, is_no_scheme, reads_as_path, fits, is_readable_path, is_path_in, alone}
 use Rattle.iref_grammar.proofs.TextLemmas.{lacks, first_of_both, second_of_both, pieces_at-join}
 use Rattle.iref_grammar.proofs.RuleLemmas.{none_of, one_more, more_like, more-append}
@@ -60,19 +59,10 @@ module _ (set : CharTests) (above : AreAboveAscii set) where
   pieces_are_segments bytes j =
       subst (AreSegments set) (sym (ap (pieces_at slash) (sym j.3) ∙ pieces_at-join slash j.0 j.1 (all_lack (j.0 ∷ j.1) j.2))) j.2
 
-  segments_of-are : (bytes : Text) → AreSegments set (pieces_at slash bytes) → AreSegments set (segments_of bytes)
-  segments_of-are [] all = tt
-  segments_of-are (c ∷ cs) all = all
-
   read_segments : (bytes : Text) → AreSegments set (pieces_at slash bytes) → AreSegments set (read_path bytes).segments
   unfolding read_path
   read_segments [] all = tt
-  read_segments (c ∷ cs) all = by (c == slash) all
-    where
-      by : (b : Bool) → AreSegments set (cond b ([] ∷ pieces_at slash cs) (onto_first c (pieces_at slash cs)))
-          → let p : PathValue = cond b (record { absolute = true; segments = segments_of cs }) (record { absolute = false; segments = cond b ([] ∷ pieces_at slash cs) (onto_first c (pieces_at slash cs)) }) in AreSegments set p.segments
-      by true a = segments_of-are cs a.1
-      by false a = a
+  read_segments (c ∷ cs) all = grind arith
 
   -- segments with `/` between them
   slash_piece : InUtf8 (PathPiece set) (slash ∷ [])

@@ -1,9 +1,8 @@
 -- Texts of path characters and `/`: the test decides the rule.
-use Rattle.std.proofs.Common.{◌≡◌, ℕ, Bool, true, false, ◌||◌, [], ◌∷◌, refl, ◌∙◌, ap, inl, inr}
+use Rattle.std.proofs.Common.{arith, ℕ, Bool, false, ◌||◌, inl, inr}
 use Rattle.std.specs.Prelude.{◌==◌}
 use Rattle.std.specs.Bool.{Decides}
 use Rattle.std.proofs.lemmas.Bool.Decides.{Decides-like}
-use Rattle.std.proofs.lemmas.Bool.{eqb-true}
 use Rattle.std.proofs.Math.Bool.{or-true}
 use Rattle.iref_grammar.specs.Characters.{CharTests, AreAboveAscii}
 use Rattle.iref_grammar.specs.Rules.{Text, Rule, Mark, ◌or◌, InUtf8}
@@ -21,11 +20,7 @@ PathPiece set = IsPathChar set or Mark slash
 
 to_path_piece : (set : CharTests) (p : Text) → Piece (path_or_slash set) p → PathPiece set p
 to_path_piece set p (inr esc) = inl (inr esc)
-to_path_piece set p (inl one) = by (is_path_char set one.0) refl one.1
-  where
-    by : (b : Bool) → is_path_char set one.0 ≡ b → (b || one.0 == slash) ≡ true → PathPiece set p
-    by true e h = inl (inl (one.0, e, one.2))
-    by false e h = inr (one.2 ∙ ap (λ c. c ∷ []) (eqb-true one.0 slash h))
+to_path_piece set p (inl one) = grind arith
 
 from_path_piece : (set : CharTests) (p : Text) → PathPiece set p → Piece (path_or_slash set) p
 from_path_piece set p (inl (inl one)) = inl (one.0, (λ i. one.1 i || one.0 == slash), one.2)

@@ -1,18 +1,17 @@
 -- Percent-encoded texts, and the rules whose texts are among them.
-use Rattle.std.proofs.Common.{◌≡◌, ℕ, ◌-◌, Bool, true, false, not, ◌&&◌, ◌||◌, [], ◌∷◌, refl, sym, ◌∙◌, ap, inl, inr, ◌⊎◌, subst}
+use Rattle.std.proofs.Common.{arith, ◌≡◌, ℕ, Bool, true, [], ◌∷◌, refl, ◌⊎◌}
 use Rattle.std.proofs.lemmas.Bool.{and_from}
-use Rattle.std.specs.Prelude.{Option, Some, None, nat_lt, ◌==◌, chars, if◌then◌else◌}
+use Rattle.std.specs.Prelude.{Option, Some, None, chars}
 use Rattle.std.specs.Bool.{Decides}
 use Rattle.std.specs.Str.{is_utf8}
-use Rattle.std.specs.Char.{is_ascii_hexdigit, char_set_contains}
 use Rattle.std.specs.List.{list_all}
 use Rattle.iref_grammar.specs.Rules.{Text, InUtf8}
 use Rattle.iref_grammar.specs.Characters.{CharTests}
-use Rattle.iref_grammar.specs.Grammar.{percent_sign, left_bracket, right_bracket, is_not_percent, is_user_info_char, is_reg_name_char, is_path_char, is_query_char, is_fragment_char, IsPctStr}
+use Rattle.iref_grammar.specs.Grammar.{percent_sign, is_not_percent, is_user_info_char, is_reg_name_char, is_path_char, is_query_char, is_fragment_char, IsPctStr}
 use Rattle.iref_grammar.specs.Tests.{owed_after, is_encoded_after, is_encoded, in_utf8, is_pct_str, is_user_info, is_reg_name, is_segment, is_query, is_fragment, is_ip_literal, is_host}
 use Rattle.iref_grammar.proofs.TextLemmas.{lacks, first_of_both, second_of_both}
-use Rattle.iref_grammar.proofs.LackLemmas.{lacks_more, lacks-append}
-use Rattle.iref_grammar.proofs.HostLemmas.{IsOutside, address_lacks}
+use Rattle.iref_grammar.proofs.LackLemmas.{lacks-append}
+use Rattle.iref_grammar.proofs.HostLemmas.{address_lacks}
 use Rattle.iref_grammar.proofs.ComponentLackLemmas.{literal_parts}
 use Rattle.iref_grammar.proofs.HostRuleLemmas.{ones_encoded, Decides-is_ip_literal, Decides-is_ip_literal_bytes}
 use Rattle.iref_grammar.proofs.EncodedLemmas.{Decides-is_encoded}
@@ -25,28 +24,12 @@ Decides-is_pct_str = Decides-in_utf8 _ _ (Decides-is_encoded is_not_percent refl
 -- a character that a rule takes leaves as much owed as in percent-encoded text
 refused_or_same : (test : ℕ → Bool) (owed c : ℕ) → (owed_after test owed c ≡ None) ⊎ (owed_after test owed c ≡ owed_after is_not_percent owed c)
 unfolding owed_after
-refused_or_same test owed c = by (nat_lt 0 owed) (c == percent_sign) (test c)
-  where
-    digits : Option ℕ
-    digits = if is_ascii_hexdigit c then Some (owed - 1) else None
-
-    by : (within percent taken : Bool)
-        → ((if within then digits else (if percent then Some 2 else (if taken then Some 0 else None))) ≡ None)
-        ⊎ ((if within then digits else (if percent then Some 2 else (if taken then Some 0 else None))) ≡ (if within then digits else (if percent then Some 2 else (if not percent then Some 0 else None))))
-    by true percent taken = inr refl
-    by false true taken = inr refl
-    by false false true = inr refl
-    by false false false = inl refl
+refused_or_same test owed c = grind arith
 
 is_pct_str_after : (test : ℕ → Bool) (owed : Option ℕ) (text : Text) → is_encoded_after test owed text ≡ true → is_encoded_after is_not_percent owed text ≡ true
 is_pct_str_after test None text h = h
 is_pct_str_after test (Some owed) [] h = h
-is_pct_str_after test (Some owed) (c ∷ cs) h = by (refused_or_same test owed c) (is_pct_str_after test (owed_after test owed c) cs h)
-  where
-    by : (owed_after test owed c ≡ None) ⊎ (owed_after test owed c ≡ owed_after is_not_percent owed c) → is_encoded_after is_not_percent (owed_after test owed c) cs ≡ true
-        → is_encoded_after is_not_percent (owed_after is_not_percent owed c) cs ≡ true
-    by (inl none) k = absurd (cc (ap (λ o. is_encoded_after is_not_percent o cs) (sym none) ∙ k))
-    by (inr same) k = ap (λ o. is_encoded_after is_not_percent o cs) (sym same) ∙ k
+is_pct_str_after test (Some owed) (c ∷ cs) h = grind (arith, refused_or_same, is_pct_str_after test (owed_after test owed c) cs h)
 
 -- a text of any rule of characters and escapes
 pub is_pct_str_if_encoded : (test : ℕ → Bool) (bytes : Text) → in_utf8 (is_encoded test) bytes ≡ true → is_pct_str bytes ≡ true
@@ -77,22 +60,12 @@ fragment_is_pct_str set = is_pct_str_if_encoded (is_fragment_char set)
 
 -- ---- hosts
 
-outside : IsOutside percent_sign
-outside = record { hex = refl; digit = refl; not_colon = refl; not_stop = refl; future = refl }
-
 literal_lacks : (text : Text) → is_ip_literal text ≡ true → lacks percent_sign text ≡ true
-literal_lacks text h =
-    let p = literal_parts text h in
-    subst (λ t. lacks percent_sign t ≡ true) p.3
-    (lacks-append percent_sign (left_bracket ∷ p.0) (right_bracket ∷ []) (lacks_more percent_sign left_bracket p.0 refl (address_lacks percent_sign outside refl p.0 p.1)) (lacks_more percent_sign right_bracket [] refl refl))
+literal_lacks text h = grind (arith, literal_parts, lacks-append, address_lacks)
 
 none_percent : (text : Text) → lacks percent_sign text ≡ true → list_all is_not_percent text ≡ true
 none_percent [] h = refl
-none_percent (c ∷ cs) h = by (c == percent_sign) h (none_percent cs)
-  where
-    by : (percent : Bool) → not (percent || char_set_contains cs percent_sign) ≡ true → (lacks percent_sign cs ≡ true → list_all is_not_percent cs ≡ true) → (not percent && list_all is_not_percent cs) ≡ true
-    by true k later = absurd (cc k)
-    by false k later = later k
+none_percent (c ∷ cs) h = grind (arith, none_percent cs)
 
 literal_is_pct_str : (bytes : Text) → is_ip_literal bytes ≡ true → is_pct_str bytes ≡ true
 literal_is_pct_str bytes h =
@@ -102,8 +75,4 @@ literal_is_pct_str bytes h =
 
 pub host_is_pct_str : (set : CharTests) (bytes : Text) → is_host set bytes ≡ true → is_pct_str bytes ≡ true
 unfolding is_host
-host_is_pct_str set bytes h = by (is_ip_literal bytes) refl h
-  where
-    by : (b : Bool) → is_ip_literal bytes ≡ b → (b || is_reg_name set bytes) ≡ true → is_pct_str bytes ≡ true
-    by true e k = literal_is_pct_str bytes e
-    by false e k = reg_name_is_pct_str set bytes k
+host_is_pct_str set bytes h = grind (arith, literal_is_pct_str, reg_name_is_pct_str)

@@ -1,5 +1,5 @@
 -- A readable reference is delimited, so it is the one that is read from its text.
-use Rattle.std.proofs.Common.{◌≡◌, ℕ, Bool, true, false, ◌&&◌, List, [], ◌∷◌, ◌++◌, refl}
+use Rattle.std.proofs.Common.{arith, ◌≡◌, ℕ, Bool, true, false, ◌&&◌, List, [], ◌∷◌, ◌++◌, refl}
 use Rattle.std.proofs.lemmas.Bool.{and_parts}
 use Rattle.std.specs.Prelude.{◌==◌, Option, Some, None, option_map, codes, IfSome}
 use Rattle.std.specs.Char.{is_ascii_alphabetic}
@@ -29,7 +29,7 @@ path_lacks mark h false segments k = join_lacks mark slash h segments k
 module _ (set : CharTests) (above : AreAboveAscii set) where
   authority_part_lacks : (mark : ℕ) → IsCut mark → (at_sign == mark) ≡ false → (slash == mark) ≡ false → (o : Option AuthorityValue) → none_or (has_authority_parts set) o ≡ true → lacks mark (then_part (codes "//") (option_map spell_authority o)) ≡ true
   authority_part_lacks mark m n s None h = refl
-  authority_part_lacks mark m n s (Some a) h = lacks_more mark slash (slash ∷ spell_authority a) s (lacks_more mark slash (spell_authority a) s (whole_authority_lacks set above mark m n a h))
+  authority_part_lacks mark m n s (Some a) h = grind (arith, whole_authority_lacks)
 
   front_lacks : (mark : ℕ) → IsCut mark → (mark == at_sign) ≡ false → (at_sign == mark) ≡ false → (slash == mark) ≡ false → is_ascii_alphabetic mark ≡ false → is_scheme_char mark ≡ false
       → (r : ReferenceValue) → none_or is_scheme r.scheme ≡ true → none_or (has_authority_parts set) r.authority ≡ true → list_all (is_segment set) r.path.segments ≡ true → lacks mark (front_of r) ≡ true

@@ -1,6 +1,6 @@
 -- The conditions of a readable reference, one by one.
-use Rattle.std.proofs.Common.{◌≡◌, true}
-use Rattle.std.proofs.lemmas.Bool.{and_from, and_parts}
+use Rattle.std.proofs.Common.{arith, ◌≡◌, true}
+use Rattle.std.proofs.lemmas.Bool.{and_parts}
 use Rattle.std.specs.List.{list_all}
 use Rattle.iref_grammar.specs.Characters.{CharTests}
 use Rattle.iref_grammar.specs.Tests.{is_scheme, is_segment, is_query, is_fragment, none_or}
@@ -19,16 +19,8 @@ pub record HasReadableParts (set : CharTests) (r : ReferenceValue) : Type 0 wher
 
 pub readable_parts : (set : CharTests) (r : ReferenceValue) → is_readable set r ≡ true → HasReadableParts set r
 unfolding is_readable
-readable_parts set r h =
-    let six = and_parts _ _ h in
-    let five = and_parts _ _ six.0 in
-    let four = and_parts _ _ five.0 in
-    let three = and_parts _ _ four.0 in
-    let two = and_parts _ _ three.0 in
-    let one = and_parts _ _ two.0 in
-    record { scheme = one.0; authority = one.1; segments = two.1; query = three.1; fragment = four.1; follows = five.1; reads = six.1 }
+readable_parts set r h = grind (arith, and_parts)
 
 pub readable_from : (set : CharTests) (r : ReferenceValue) → HasReadableParts set r → is_readable set r ≡ true
 unfolding is_readable
-readable_from set r parts =
-    and_from _ _ (and_from _ _ (and_from _ _ (and_from _ _ (and_from _ _ (and_from _ _ parts.scheme parts.authority) parts.segments) parts.query) parts.fragment) parts.follows) parts.reads
+readable_from set r parts = grind arith

@@ -1,48 +1,25 @@
 -- Reading a reference and spelling it gives the text.
-use Rattle.std.proofs.Common.{◌≡◌, Bool, true, false, cond, ◌&&◌, [], ◌∷◌, ◌++◌, drop, refl, sym, ◌∙◌, ap, append_assoc, inl, inr}
-use Rattle.std.specs.Prelude.{◌==◌, Option, Some, None, option_map, codes}
-use Rattle.std.specs.Char.{char_set_contains}
-use Rattle.std.proofs.lemmas.Bool.Decides.{eqb_tells}
-use Rattle.std.proofs.Math.Bool.{and-false}
-use mathlib.Core.Bool.{true≢false}
+use Rattle.std.proofs.Common.{arith, ◌≡◌, [], ◌∷◌, ◌++◌, refl, sym, ◌∙◌, ap, append_assoc}
+use Rattle.std.proofs.lemmas.Grind.{common_steps}
+use Rattle.std.specs.Prelude.{Option, Some, None, option_map, codes}
 use Rattle.iref_grammar.specs.Rules.{Text}
-use Rattle.iref_grammar.specs.Grammar.{hash_sign, slash, colon, question_mark}
-use Rattle.iref_grammar.specs.Texts.{before, from_first, after, begins_with, part_then, then_part}
+use Rattle.iref_grammar.specs.Grammar.{hash_sign, colon, question_mark}
+use Rattle.iref_grammar.specs.Texts.{before, after, part_then, then_part}
 use Rattle.iref_grammar.specs.Authority.{spell_authority, read_authority}
 use Rattle.iref_grammar.specs.Reference.{spell, scheme_of, split_scheme, split_authority, hierarchy, read_reference}
 use Rattle.iref_grammar.proofs.PathLemmas.{read_path-reads}
-use Rattle.iref_grammar.proofs.CutLemmas.{cut, before-from_first}
+use Rattle.iref_grammar.proofs.CutLemmas.{cut}
 use Rattle.iref_grammar.proofs.AuthorityLemmas.{read_authority-spelled}
 
 scheme-cut : (front : Text) (rest : Option Text) (text : Text) → front ++ then_part (colon ∷ []) rest ≡ text → let s = scheme_of front rest text in part_then (colon ∷ []) s.0 ++ s.1 ≡ text
 scheme-cut front None text e = refl
-scheme-cut front (Some rest) text e = by (char_set_contains front slash)
-  where
-    by : (b : Bool) → let s : Option Text × Text = cond b (None, text) (Some front, rest) in part_then (colon ∷ []) s.0 ++ s.1 ≡ text
-    by true = refl
-    by false = append_assoc front (colon ∷ []) rest ∙ e
+scheme-cut front (Some rest) text e = grind (arith, common_steps)
 
 pub split_scheme-joins : (text : Text) → part_then (colon ∷ []) (split_scheme text).0 ++ (split_scheme text).1 ≡ text
 split_scheme-joins text = scheme-cut (before (colon ∷ []) text) (after colon text) text (cut colon text)
 
--- what `//` begins with
-slashes : (text : Text) → begins_with (codes "//") text ≡ true → slash ∷ slash ∷ drop 2 text ≡ text
-slashes [] h = absurd (true≢false (sym h))
-slashes (a ∷ []) h = absurd (true≢false (sym h ∙ and-false (slash == a)))
-slashes (a ∷ b ∷ rest) h = elim (eqb_tells slash a) [
-  | inl e ↦ elim (eqb_tells slash b) [
-    | inl f ↦ λ i. e.1 i ∷ f.1 i ∷ rest
-    | inr f ↦ absurd (true≢false (sym h ∙ (λ i. e.0 i && (f.0 i && true))))
-  ]
-  | inr e ↦ absurd (true≢false (sym h ∙ (λ i. e.0 i && ((slash == b) && true))))
-]
-
 pub split_authority-joins : (text : Text) → then_part (codes "//") (split_authority text).0 ++ (split_authority text).1 ≡ text
-split_authority-joins text = by (begins_with (codes "//") text) refl
-  where
-    by : (b : Bool) → begins_with (codes "//") text ≡ b → let s : Option Text × Text = cond b (Some (before (slash ∷ []) (drop 2 text)), from_first (slash ∷ []) (drop 2 text)) (None, text) in then_part (codes "//") s.0 ++ s.1 ≡ text
-    by false e = refl
-    by true e = ap (λ t. slash ∷ slash ∷ t) (before-from_first (slash ∷ []) (drop 2 text)) ∙ slashes text e
+split_authority-joins text = grind (arith, common_steps)
 
 authority-spelled : (o : Option Text) → then_part (codes "//") (option_map spell_authority (option_map read_authority o)) ≡ then_part (codes "//") o
 authority-spelled None = refl

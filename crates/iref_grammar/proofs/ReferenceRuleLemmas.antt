@@ -1,5 +1,5 @@
 -- References: the test, by its one reading, decides the rule.
-use Rattle.std.proofs.Common.{◌≡◌, ℕ, Bool, true, false, ◌&&◌, [], ◌∷◌, ◌++◌, refl, sym, ◌∙◌, ap, subst, append_assoc, inl, inr}
+use Rattle.std.proofs.Common.{arith, ◌≡◌, ℕ, Bool, true, false, ◌&&◌, [], ◌∷◌, ◌++◌, refl, sym, ◌∙◌, ap, subst, append_assoc, inl, inr}
 use Rattle.std.proofs.Math.Logic.{◌↔◌}
 use Rattle.std.specs.Prelude.{codes, Option, Some, None, option_map, IfSome, IsSome, is_some}
 use Rattle.std.specs.Bool.{Decides}
@@ -55,7 +55,7 @@ Decides-itself b = (λ h. h, λ h. h)
 
 -- two delimiters, and two texts
 two_marks : (m n l r x y front rest text : Text) (c d : ℕ) → m ≡ c ∷ [] → n ≡ d ∷ [] → x ≡ l → y ≡ r → l ++ r ≡ front → n ++ front ≡ rest → m ++ rest ≡ text → c ∷ d ∷ (x ++ y) ≡ text
-two_marks m n l r x y front rest text c d e f p q g h k = (λ i. sym e i ++ (sym f i ++ (p i ++ q i))) ∙ ap (λ t. m ++ (n ++ t)) g ∙ ap (λ t. m ++ t) h ∙ k
+two_marks m n l r x y front rest text c d e f p q g h k = grind arith
 
 module _ (set : CharTests) (above : AreAboveAscii set) where
   -- ---- the test of the value
@@ -92,10 +92,7 @@ module _ (set : CharTests) (above : AreAboveAscii set) where
   -- what a text is read as
   pub reading : (text : Text) (r : ReferenceValue) → IsReadAsReference set text r ↔ ((is_reference set text ≡ true) × (read_reference text ≡ r))
   unfolding is_reference is_readable
-  reading text r = (
-    λ v. let read : read_reference text ≡ r = ap read_reference (sym v.spelled) ∙ reference_read r v.readable in (ap (is_readable set) read ∙ (Decides-is_readable r).1 v.readable, read),
-    λ z. record { readable = subst (IsReadable set) z.1 ((Decides-is_readable (read_reference text)).0 z.0); spelled = ap spell (sym z.1) ∙ read_reference-spelled text },
-  )
+  reading text r = grind (arith, reference_read, Decides-is_readable, read_reference-spelled)
 
   -- ---- the query and the fragment
 
@@ -167,15 +164,7 @@ module _ (set : CharTests) (above : AreAboveAscii set) where
 
   -- what follows the scheme
   front_of_value : (r : ReferenceValue) (b : Bool) → IsReadable set r → is_some r.scheme ≡ b → IsFront set b (then_part (codes "//") (option_map spell_authority r.authority) ++ spell_path r.path)
-  front_of_value r b v e = record {
-    authority = r.authority;
-    path = r.path;
-    parts = v.authority;
-    segments = v.segments;
-    follows = ap (λ x. follows_authority (record { has_scheme = x; has_authority = is_some r.authority }) r.path) (sym e) ∙ v.follows_authority;
-    reads = ap (λ x. reads_as_path (record { has_scheme = x; has_authority = is_some r.authority }) r.path) (sym e) ∙ v.reads_as_path;
-    spelled = refl;
-  }
+  front_of_value r b v e = grind arith
 
   tail_of_value : (r : ReferenceValue) → IsReadable set r → IsTail set (then_part (question_mark ∷ []) r.query ++ then_part (hash_sign ∷ []) r.fragment)
   tail_of_value r v = record { query = r.query; fragment = r.fragment; in_query = v.query; in_fragment = v.fragment; spelled = refl }
@@ -239,7 +228,7 @@ module _ (set : CharTests) (above : AreAboveAscii set) where
   -- a text that a readable reference spells is taken
   spelled_taken : (r : ReferenceValue) (bytes : Text) → IsReadable set r → spell r ≡ bytes → is_reference set bytes ≡ true
   unfolding is_reference is_readable
-  spelled_taken r bytes v e = ap (λ t. is_readable set (read_reference t)) (sym e) ∙ ap (is_readable set) (reference_read r v) ∙ (Decides-is_readable r).1 v
+  spelled_taken r bytes v e = grind (arith, reference_read, Decides-is_readable)
 
   pub Decides-is_uri_reference : (bytes : Text) → Decides (is_reference set bytes) (InUtf8 (IsUriReference set) bytes)
   unfolding is_readable is_reference

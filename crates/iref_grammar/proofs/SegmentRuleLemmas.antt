@@ -1,10 +1,10 @@
 -- The rules of first segments: a segment that is not empty, and one that holds no `:`.
-use Rattle.std.proofs.Common.{◌≡◌, ℕ, ◌<◌, Bool, true, false, cond, ◌||◌, List, [], ◌∷◌, ◌++◌, ◌+◌, ◌/◌, ◌%◌, refl, sym, ◌∙◌, ap, subst, inl, inr, lit<}
+use Rattle.std.proofs.Common.{arith, ◌≡◌, ℕ, ◌<◌, Bool, true, false, ◌||◌, List, [], ◌∷◌, ◌++◌, refl, sym, ◌∙◌, ap, subst, inl, inr, lit<}
+use Rattle.std.proofs.lemmas.Grind.{common_steps}
 use Rattle.std.proofs.Math.Logic.{◌↔◌}
-use Rattle.std.specs.Prelude.{◌==◌, nat_lt, encode_utf8_all}
+use Rattle.std.specs.Prelude.{◌==◌, encode_utf8_all}
 use Rattle.std.specs.List.{AllByRecursion, concat}
 use Rattle.std.specs.Char.{encode_utf8}
-use Rattle.std.proofs.lemmas.Bool.Decides.{eqb_tells}
 use mathlib.Core.Bool.{true≢false}
 use Rattle.iref_grammar.specs.Characters.{CharTests, AreAboveAscii}
 use Rattle.iref_grammar.specs.Rules.{Text, Rule, ZeroOrMore, OneOrMore, InUtf8}
@@ -13,7 +13,7 @@ use Rattle.iref_grammar.specs.Texts.{is_empty}
 use Rattle.iref_grammar.proofs.TextLemmas.{lacks}
 use Rattle.iref_grammar.proofs.RuleLemmas.{one_more}
 use Rattle.iref_grammar.proofs.EncodedLemmas.{Piece, Decides-is_encoded}
-use Rattle.iref_grammar.proofs.LackLemmas.{parted, lacks_more, lacks-encoded, encoded_lacks}
+use Rattle.iref_grammar.proofs.LackLemmas.{lacks-encoded, encoded_lacks}
 use Rattle.iref_grammar.proofs.LeafLemmas.{percent_refused}
 use Rattle.iref_grammar.proofs.ComponentLackLemmas.{reg_name_refuses}
 
@@ -21,13 +21,7 @@ use Rattle.iref_grammar.proofs.ComponentLackLemmas.{reg_name_refuses}
 
 encode_some : (c : ℕ) (t : Text) → is_empty (encode_utf8 c ++ t) ≡ false
 unfolding encode_utf8
-encode_some c t = by (nat_lt c 128) (nat_lt c 2048) (nat_lt c 65536)
-  where
-    by : (a b d : Bool) → is_empty (cond a (c ∷ []) (cond b ((192 + c / 64) ∷ (128 + c % 64) ∷ []) (cond d ((224 + c / 4096) ∷ (128 + c / 64 % 64) ∷ (128 + c % 64) ∷ []) ((240 + c / 262144) ∷ (128 + c / 4096 % 64) ∷ (128 + c / 64 % 64) ∷ (128 + c % 64) ∷ []))) ++ t) ≡ false
-    by true b d = refl
-    by false true d = refl
-    by false false true = refl
-    by false false false = refl
+encode_some c t = grind arith
 
 encodes_empty : (t : Text) → is_empty (encode_utf8_all t) ≡ is_empty t
 encodes_empty [] = refl
@@ -69,23 +63,11 @@ in_utf8-nonempty set bytes = some_bytes (is_path_char set) bytes
 
 lacks-split : (mark : ℕ) (xs ys : Text) → lacks mark (xs ++ ys) ≡ true → (lacks mark xs ≡ true) × (lacks mark ys ≡ true)
 lacks-split mark [] ys h = (refl, h)
-lacks-split mark (c ∷ xs) ys h =
-    let p = parted mark c (xs ++ ys) h in
-    let r = lacks-split mark xs ys p.1 in
-    (lacks_more mark c xs p.0 r.0, r.1)
-
--- a delimiter of ASCII in the text is in its bytes
-encode_mark : (mark : ℕ) → mark < 128 → encode_utf8 mark ≡ mark ∷ []
-encode_mark mark h = Rattle.std.proofs.lemmas.Str.encode_ascii mark h
+lacks-split mark (c ∷ xs) ys h = grind (arith, lacks-split mark xs ys)
 
 lacks-decoded : (mark : ℕ) (cs : Text) → mark < 128 → lacks mark (encode_utf8_all cs) ≡ true → lacks mark cs ≡ true
 lacks-decoded mark [] h k = refl
-lacks-decoded mark (c ∷ cs) h k =
-    let s = lacks-split mark (encode_utf8 c) (encode_utf8_all cs) k in
-    lacks_more mark c cs (elim (eqb_tells c mark) [
-      | inl e ↦ ap (λ d. d == mark) e.1 ∙ (parted mark mark [] (ap (lacks mark) (sym (encode_mark mark h) ∙ ap encode_utf8 (sym e.1)) ∙ s.0)).0
-      | inr e ↦ e.0
-    ]) (lacks-decoded mark cs h s.1)
+lacks-decoded mark (c ∷ cs) h k = grind (arith, common_steps, lacks-split, lacks-decoded mark cs h)
 
 -- the characters of a segment without `:`
 abbrev plain_char : CharTests → ℕ → Bool
@@ -113,19 +95,11 @@ module _ (set : CharTests) (above : AreAboveAscii set) where
 
   pieces_widen : (pieces : List Text) → AllByRecursion (Piece (plain_char set)) pieces → AllByRecursion (Piece (is_path_char set)) pieces
   pieces_widen [] all = tt
-  pieces_widen (p ∷ pieces) all = (by all.0, pieces_widen pieces all.1)
-    where
-      by : Piece (plain_char set) p → Piece (is_path_char set) p
-      by (inl one) = inl (one.0, plain_is_path one.0 one.1, one.2)
-      by (inr esc) = inr esc
+  pieces_widen (p ∷ pieces) all = grind (arith, plain_is_path, pieces_widen pieces all.1)
 
   pieces_narrow : (pieces : List Text) → AllByRecursion (Piece (is_path_char set)) pieces → lacks colon (concat pieces) ≡ true → AllByRecursion (Piece (plain_char set)) pieces
   pieces_narrow [] all h = tt
-  pieces_narrow (p ∷ pieces) all h = let s = lacks-split colon p (concat pieces) h in (by all.0 s.0, pieces_narrow pieces all.1 s.1)
-    where
-      by : Piece (is_path_char set) p → lacks colon p ≡ true → Piece (plain_char set) p
-      by (inl one) l = inl (one.0, path_is_plain one.0 one.1 (parted colon one.0 [] (ap (lacks colon) (sym one.2) ∙ l)).0, one.2)
-      by (inr esc) l = inr esc
+  pieces_narrow (p ∷ pieces) all h = grind (arith, path_is_plain, pieces_narrow pieces all.1)
 
   plain_percent : plain_char set percent_sign ≡ false
   plain_percent = λ i. percent_refused set above i || false
@@ -138,12 +112,7 @@ module _ (set : CharTests) (above : AreAboveAscii set) where
       encoded_lacks (plain_char set) colon (record { ascii = lit< tt; alone = plain_colon; percent = refl; digit = refl }) 0 text ((Decides-is_encoded (plain_char set) plain_percent text).1 z)
 
   plain_bytes : (bytes : Text) → InUtf8 (IsEncoded (plain_char set)) bytes ↔ (InUtf8 (IsSegment set) bytes × (lacks colon bytes ≡ true))
-  plain_bytes bytes = (
-    λ z. ((z.0, z.1, z.2, (z.3.0, pieces_widen z.3.0 z.3.1, z.3.2)), ap (lacks colon) (sym z.2) ∙ lacks-encoded colon z.0 (lit< tt) (plain_lacks z.0 z.3)),
-    λ z. let u = z.0 in
-        let l = lacks-decoded colon u.0 (lit< tt) (ap (lacks colon) u.2 ∙ z.1) in
-        (u.0, u.1, u.2, (u.3.0, pieces_narrow u.3.0 u.3.1 (ap (lacks colon) u.3.2 ∙ l), u.3.2)),
-  )
+  plain_bytes bytes = grind (arith, pieces_widen, lacks-encoded, plain_lacks, lacks-decoded, pieces_narrow)
 
   pub in_utf8-non_colon : (bytes : Text) → InUtf8 (IsNonColonSegment set) bytes ↔ (InUtf8 (IsSegment set) bytes × (is_empty bytes ≡ false) × (lacks colon bytes ≡ true))
   in_utf8-non_colon bytes = (

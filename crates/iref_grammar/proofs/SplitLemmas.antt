@@ -15,7 +15,6 @@ use Rattle.iref_grammar.specs.Grammar.{hash_sign, slash, colon, question_mark}
 use Rattle.iref_grammar.specs.Texts.{before, from_first, after, after_first_char, lacks}
 use Rattle.iref_grammar.specs.Reference.{split_scheme, hierarchy}
 use Rattle.iref_grammar.proofs.CutLemmas.{before-from_first, before-no, before-yes, from_first-no, from_first-yes, is_mark}
-use Rattle.iref_grammar.proofs.LackLemmas.{lacks_more}
 use Rattle.iref_grammar.proofs.OnlyLemmas.{scheme-back, no_scheme, no_colon}
 
 -- the first index that passes, or the length
@@ -25,26 +24,12 @@ range_or_len p text = let bound = prefix_len-le-length (λ c. not (p c)) text in
 -- what stands before the delimiters lacks each of them
 pub lacks-before : (marks : List ℕ) (mark : ℕ) (text : Text) → char_set_contains marks mark ≡ true → lacks mark (before marks text) ≡ true
 lacks-before marks mark [] h = refl
-lacks-before marks mark (c ∷ cs) h = by (char_set_contains marks c) refl (lacks-before marks mark cs h)
-  where
-    other : char_set_contains marks c ≡ false → (c == mark) ≡ false
-    other e = elim (eqb_tells c mark) [
-      | inl f ↦ absurd (true≢false (sym h ∙ ap (char_set_contains marks) (sym f.1) ∙ e))
-      | inr f ↦ f.0
-    ]
-
-    by : (b : Bool) → char_set_contains marks c ≡ b → lacks mark (before marks cs) ≡ true → lacks mark (before marks (c ∷ cs)) ≡ true
-    by true e k = ap (lacks mark) (before-yes marks c cs e)
-    by false e k = ap (lacks mark) (before-no marks c cs e) ∙ lacks_more mark c (before marks cs) (other e) k
+lacks-before marks mark (c ∷ cs) h = grind (arith, before-no, lacks-before marks mark cs h)
 
 -- what follows begins with one of them
 pub begins_with_mark : (marks : List ℕ) (text : Text) (c : ℕ) (rest : Text) → from_first marks text ≡ c ∷ rest → char_set_contains marks c ≡ true
 begins_with_mark marks [] c rest h = cc
-begins_with_mark marks (d ∷ ds) c rest h = by (char_set_contains marks d) refl (begins_with_mark marks ds c rest)
-  where
-    by : (b : Bool) → char_set_contains marks d ≡ b → (from_first marks ds ≡ c ∷ rest → char_set_contains marks c ≡ true) → char_set_contains marks c ≡ true
-    by true e k = let same : d ∷ ds ≡ c ∷ rest = sym (from_first-yes marks d ds e) ∙ h in let first : d ≡ c = cc in ap (char_set_contains marks) (sym first) ∙ e
-    by false e k = k (sym (from_first-no marks d ds e) ∙ h)
+begins_with_mark marks (d ∷ ds) c rest h = grind (arith, from_first-no, begins_with_mark marks ds c rest)
 
 -- ---- the scheme
 

@@ -1,5 +1,5 @@
 -- Cuts at a delimiter, and joins.
-use Rattle.std.proofs.Common.{◌≡◌, ℕ, arith, Bool, true, false, not, ◌&&◌, ◌||◌, List, [], ◌∷◌, ◌++◌, refl, ◌∙◌, ap}
+use Rattle.std.proofs.Common.{◌≡◌, ℕ, arith, Bool, true, false, not, ◌&&◌, ◌||◌, List, [], ◌∷◌, ◌++◌, refl, ◌∙◌}
 use Rattle.std.specs.Prelude.{◌==◌}
 use Rattle.std.specs.List.{list_all, join_with_byte, onto_first}
 use Rattle.std.specs.Char.{char_set_contains}
@@ -45,6 +45,4 @@ pieces_at-front mark (c ∷ p) rest h = grind (arith, common_steps, pieces_at-fr
 
 pub pieces_at-join : (mark : ℕ) (p : Text) (pieces : List Text) → list_all (lacks mark) (p ∷ pieces) ≡ true → pieces_at mark (join_with_byte mark (p ∷ pieces)) ≡ p ∷ pieces
 pieces_at-join mark p [] h = pieces_at-one mark p (first_of_both _ _ h)
-pieces_at-join mark p (q ∷ pieces) h =
-    pieces_at-front mark p (join_with_byte mark (q ∷ pieces)) (first_of_both _ _ h)
-    ∙ ap (λ ps. p ∷ ps) (pieces_at-join mark q pieces (second_of_both (lacks mark p) (list_all (lacks mark) (q ∷ pieces)) h))
+pieces_at-join mark p (q ∷ pieces) h = grind (arith, pieces_at-front, pieces_at-join mark q pieces)

@@ -1,30 +1,28 @@
 -- The rules of characters, of bytes: each form of a rule goes over by itself.
 use Rattle.std.proofs.Common.{◌≡◌, ℕ, ◌<◌, ◌≤◌, true, false, List, [], ◌∷◌, ◌++◌, refl, sym, ◌∙◌, ap, subst, arith, inl, inr}
+use Rattle.std.proofs.lemmas.Grind.{common_steps}
 use Rattle.std.proofs.Math.Logic.{◌↔◌}
 use Rattle.std.specs.Prelude.{◌==◌, nat_lt, encode_utf8_all, Option, Some, None, IfSome}
 use Rattle.std.specs.List.{AllByRecursion, concat, list_all}
 use Rattle.std.specs.Str.{all_scalars}
 use Rattle.std.specs.Char.{is_ascii}
-use Rattle.std.proofs.Math.Utf8.{scalar, low_scalar}
-use Rattle.std.proofs.lemmas.Str.{encodes-append, encode_ascii}
+use Rattle.std.proofs.lemmas.Str.{encodes-append}
 use Rattle.std.proofs.lemmas.Bool.Decides.{nat_tests, eqb_tells, leb_tells}
 use Rattle.std.proofs.lemmas.Bool.{and_from}
 use mathlib.Core.Bool.{true≢false}
 use Rattle.iref_grammar.specs.Rules.{Text, Rule, Empty, Mark, ◌⨾◌, ◌or◌, Optional, ZeroOrMore, InUtf8}
 use Rattle.iref_grammar.specs.Texts.{part_then, then_part}
-use Rattle.iref_grammar.proofs.TextLemmas.{lacks, first_of_both, second_of_both}
+use Rattle.iref_grammar.proofs.TextLemmas.{lacks}
 use Rattle.iref_grammar.proofs.RuleLemmas.{none_of, one_more}
 use Rattle.iref_grammar.proofs.CutLemmas.{first_lacks, rest_lacks}
 
 scalars-append : (xs ys : Text) → all_scalars xs ≡ true → all_scalars ys ≡ true → all_scalars (xs ++ ys) ≡ true
 scalars-append [] ys h k = k
-scalars-append (c ∷ xs) ys h k = and_from (scalar c) (all_scalars (xs ++ ys)) (first_of_both (scalar c) (all_scalars xs) h) (scalars-append xs ys (second_of_both (scalar c) (all_scalars xs) h) k)
+scalars-append (c ∷ xs) ys h k = grind (arith, scalars-append xs ys)
 
 scalars-split : (xs ys : Text) → all_scalars (xs ++ ys) ≡ true → (all_scalars xs ≡ true) × (all_scalars ys ≡ true)
 scalars-split [] ys h = (refl, h)
-scalars-split (c ∷ xs) ys h =
-    let r = scalars-split xs ys (second_of_both (scalar c) (all_scalars (xs ++ ys)) h) in
-    (and_from (scalar c) (all_scalars xs) (first_of_both (scalar c) (all_scalars (xs ++ ys)) h) r.0, r.1)
+scalars-split (c ∷ xs) ys h = grind (arith, scalars-split xs ys)
 
 -- ---- the forms
 
@@ -44,15 +42,7 @@ in_utf8-joined A B bytes = (there, back)
         (a.0 ++ b.0, scalars-append a.0 b.0 a.1 b.1, encodes-append a.0 b.0 ∙ (λ i. a.2 i ++ b.2 i) ∙ z.4, (a.0, b.0, a.3, b.3, refl))
 
 pub in_utf8-or : (A B : Rule) (bytes : Text) → InUtf8 (A or B) bytes ↔ (InUtf8 A or InUtf8 B) bytes
-in_utf8-or A B bytes = (λ z. there z.0 z.1 z.2 z.3, back)
-  where
-    there : (t : Text) → all_scalars t ≡ true → encode_utf8_all t ≡ bytes → (A or B) t → (InUtf8 A or InUtf8 B) bytes
-    there t s e (inl a) = inl (t, s, e, a)
-    there t s e (inr b) = inr (t, s, e, b)
-
-    back : (InUtf8 A or InUtf8 B) bytes → InUtf8 (A or B) bytes
-    back (inl a) = (a.0, a.1, a.2, inl a.3)
-    back (inr b) = (b.0, b.1, b.2, inr b.3)
+in_utf8-or A B bytes = grind arith
 
 pub in_utf8-more : (A : Rule) (bytes : Text) → InUtf8 (ZeroOrMore A) bytes ↔ ZeroOrMore (InUtf8 A) bytes
 in_utf8-more A bytes = (
@@ -94,13 +84,7 @@ ascii_from_lacks (c ∷ cs) h = and_from (is_ascii c) (list_all is_ascii cs) (el
 
 encodes_ascii : (t : Text) → list_all is_ascii t ≡ true → (all_scalars t ≡ true) × (encode_utf8_all t ≡ t)
 encodes_ascii [] h = (refl, refl)
-encodes_ascii (c ∷ cs) h =
-    let low = below c (first_of_both (is_ascii c) (list_all is_ascii cs) h) in
-    let r = encodes_ascii cs (second_of_both (is_ascii c) (list_all is_ascii cs) h) in
-    (and_from (scalar c) (all_scalars cs) (low_scalar c (omega arith)) r.0, λ i. encode_ascii c low i ++ r.1 i)
-  where
-    below : (n : ℕ) → nat_lt n 128 ≡ true → n < 128
-    below n k = grind (arith, nat_tests)
+encodes_ascii (c ∷ cs) h = grind (arith, common_steps, encodes_ascii cs)
 
 -- bytes are in a rule of ASCII exactly if they are as characters
 pub in_utf8-ascii : (A : Rule) → ((t : Text) → A t → list_all is_ascii t ≡ true) → (bytes : Text) → InUtf8 A bytes ↔ A bytes

@@ -1,5 +1,5 @@
 -- What is in a grammar is in each with more characters.
-use Rattle.std.proofs.Common.{◌≡◌, ℕ, Bool, true, false, ◌||◌, List, [], ◌∷◌, refl, sym, inl, inr}
+use Rattle.std.proofs.Common.{arith, ◌≡◌, ℕ, Bool, true, false, ◌||◌, List, [], ◌∷◌, refl, sym, inl, inr}
 use Rattle.std.specs.Prelude.{◌==◌, codes}
 use Rattle.std.specs.List.{AllByRecursion}
 use Rattle.std.specs.Char.{is_ascii_alphanumeric, char_set_contains}
@@ -8,7 +8,7 @@ use Rattle.std.proofs.lemmas.Bool.{or_right}
 use mathlib.Core.Bool.{true≢false}
 use Rattle.iref_grammar.specs.Characters.{CharTests, AreAboveAscii, uri_chars, uri_above_ascii}
 use Rattle.iref_grammar.specs.Rules.{Text, InUtf8}
-use Rattle.iref_grammar.specs.Grammar.{colon, at_sign, slash, question_mark, is_unreserved, is_sub_delim, is_reg_name_char, is_user_info_char, is_path_char, is_fragment_char, is_query_char, IsEncoded, IsHost, IsSegment}
+use Rattle.iref_grammar.specs.Grammar.{colon, at_sign, is_unreserved, is_sub_delim, is_reg_name_char, is_user_info_char, is_path_char, is_fragment_char, is_query_char, IsEncoded, IsHost, IsSegment}
 use Rattle.iref_grammar.specs.Authority.{AuthorityValue, HasAuthorityParts}
 use Rattle.iref_grammar.specs.Reference.{ReferenceValue, IsReadable, read_reference, is_reference}
 use Rattle.iref_grammar.proofs.RuleLemmas.{more_like}
@@ -51,9 +51,7 @@ module _ (small large : CharTests) (w : IsWider small large) where
 
   pub fragment_wider : (c : ℕ) → is_fragment_char small c ≡ true → is_fragment_char large c ≡ true
   unfolding is_fragment_char
-  fragment_wider c =
-      or_wider (is_path_char small c || c == slash) (c == question_mark) (is_path_char large c || c == slash) (c == question_mark)
-      (or_wider (is_path_char small c) (c == slash) (is_path_char large c) (c == slash) (path_wider c) (λ h. h)) (λ h. h)
+  fragment_wider c = grind (arith, path_wider)
 
   pub query_wider : (c : ℕ) → is_query_char small c ≡ true → is_query_char large c ≡ true
   unfolding is_query_char
