@@ -1,14 +1,14 @@
 -- The items of a normal list, read from the back.
-use Rattle.std.proofs.Common.{◌≡◌, ℕ, zero, suc, Bool, true, false, not, cond, ◌&&◌, List, [], ◌∷◌, ◌++◌, map, reverse, refl, sym, ◌∙◌, ap, add-one, append_assoc}
+use Rattle.std.proofs.Common.{arith, ◌≡◌, ℕ, zero, suc, Bool, true, false, cond, ◌&&◌, List, [], ◌∷◌, ◌++◌, map, reverse, refl, sym, ◌∙◌, ap, append_assoc}
 use Rattle.std.specs.Prelude.{◌==◌, replicate, codes}
 use Rattle.std.proofs.lemmas.List.{append-nil, reverse-append, replicate_more}
-use Rattle.std.proofs.lemmas.Grind.{reverse_onto}
+use Rattle.std.proofs.lemmas.Grind.{common_steps, reverse_onto}
 use Rattle.std.proofs.Math.Bool.{and-false}
 use Rattle.iref_grammar.specs.Rules.{Text}
 use Rattle.iref_grammar.specs.Texts.{is_empty}
 use Rattle.iref_grammar.specs.PathValue.{PathValue, is_one_empty}
 use Rattle.iref_model.specs.NormalList.{is_dot_dot, is_name, counted, without_lone_empty, normal_segments}
-use Rattle.iref_model.specs.NormalReading.{open_before, staying_before, leading_parents, closing, items}
+use Rattle.iref_model.specs.NormalReading.{open_before, staying_before, leading_parents, items}
 use Rattle.iref_model.specs.CountedEquality.{ItemRead, last_read, item_before, items_read, all_items_read}
 use Rattle.iref_model.proofs.StayingLemmas.{open_before-append, staying_before-append}
 use Rattle.iref_model.proofs.ItemLemmas.{ends-last, normal_segments-is}
@@ -21,7 +21,7 @@ reverse-cons s list = reverse_onto list s []
 
 reverse-same : (k : ℕ) (s : Text) → reverse (replicate k s) ≡ replicate k s
 reverse-same zero s = refl
-reverse-same (suc k) s = reverse-cons s (replicate k s) ∙ ap (λ xs. xs ++ s ∷ []) (reverse-same k s) ∙ replicate_more k s ∙ ap (λ n. replicate n s) (add-one k)
+reverse-same (suc k) s = grind (arith, common_steps, replicate_more, reverse-same k s)
 
 pub items-last : (list : List Text) → map item_of (map last_read list) ≡ list
 items-last [] = refl
@@ -33,7 +33,7 @@ reverse-leading false k = reverse-same k (codes "..")
 
 -- the items of segments, last first
 pub items_read-is : (absolute : Bool) (behind : ℕ) (back : List Text) → map item_of (items_read absolute behind back) ≡ reverse (leading_parents absolute (open_before (reverse back) behind) ++ staying_before (reverse back) behind)
-items_read-is absolute behind [] = items-last (leading_parents absolute behind) ∙ sym (reverse-leading absolute behind) ∙ ap reverse (sym (append-nil (leading_parents absolute behind)))
+items_read-is absolute behind [] = grind (arith, common_steps, items-last, reverse-leading)
 items_read-is absolute behind (s ∷ before) =
     let n = counted (is_dot_dot s) (is_name s) behind in
     let last = staying_before (s ∷ []) behind in
@@ -50,21 +50,7 @@ items_read-is absolute behind (s ∷ before) =
 
 -- the items of a path that has segments, last first
 all_items_of_some : (absolute : Bool) (s : Text) (before : List Text) → map item_of (all_items_read absolute (s ∷ before)) ≡ reverse (items (record { absolute = absolute; segments = reverse (s ∷ before) }))
-all_items_of_some absolute s before =
-    let n = counted (is_dot_dot s) (is_name s) 0 in
-    let lead = leading_parents absolute (open_before (reverse before) n) in
-    let names = staying_before (reverse before) n in
-    let last : List Text = staying_before (s ∷ []) 0 ++ closing (not (is_name s)) in
-    let split : items (record { absolute = absolute; segments = reverse (s ∷ before) }) ≡ (lead ++ names) ++ last =
-    (λ i. items (record { absolute = absolute; segments = reverse-cons s before i }))
-    ∙ (λ i. leading_parents absolute (open_before-append (reverse before) (s ∷ []) 0 i) ++ (staying_before-append (reverse before) (s ∷ []) 0 i ++ closing (ends-last (reverse before) s i)))
-    ∙ ap (λ xs. lead ++ xs) (append_assoc names (staying_before (s ∷ []) 0) (closing (not (is_name s))))
-    ∙ sym (append_assoc lead names last) in
-    by (is_name s) (items_read absolute n before) (lead ++ names) (items_read-is absolute n before) ∙ sym (ap reverse split)
-  where
-    by : (b : Bool) (later : List ItemRead) (front : List Text) → map item_of later ≡ reverse front → cond b s [] ∷ map item_of later ≡ reverse (front ++ (cond (b && true) (s ∷ []) [] ++ closing (not b)))
-    by true later front h = ap (λ xs. s ∷ xs) h ∙ sym (reverse-append front (s ∷ []))
-    by false later front h = ap (λ xs. [] ∷ xs) h ∙ sym (reverse-append front ([] ∷ []))
+all_items_of_some absolute s before = grind (arith, common_steps, reverse-cons, open_before-append, staying_before-append, ends-last, items_read-is)
 
 is_empty-middle : (front : List Text) (s : Text) (back : List Text) → is_empty (front ++ s ∷ back) ≡ false
 is_empty-middle [] s back = refl
@@ -77,19 +63,8 @@ not_one (u ∷ front) s t = ap (λ b. is_empty u && b) (is_empty-middle front s 
 -- one empty item set aside, on either side of a reversal
 pub lone-reverse : (list : List Text) → without_lone_empty (reverse list) ≡ reverse (without_lone_empty list)
 lone-reverse [] = refl
-lone-reverse (s ∷ []) = by (is_empty s && true)
-  where
-    by : (b : Bool) → cond b [] (s ∷ []) ≡ reverse (cond b [] (s ∷ []))
-    by true = refl
-    by false = refl
-lone-reverse (s ∷ t ∷ list) =
-    let back : reverse (s ∷ t ∷ list) ≡ reverse list ++ t ∷ s ∷ [] = reverse_onto list t (s ∷ []) in
-    let many : is_one_empty (reverse (s ∷ t ∷ list)) ≡ false = ap is_one_empty back ∙ not_one (reverse list) t s in
-    (λ i. cond (many i) [] (reverse (s ∷ t ∷ list))) ∙ by (is_empty s)
-  where
-    by : (b : Bool) → reverse (s ∷ t ∷ list) ≡ reverse (cond (b && false) [] (s ∷ t ∷ list))
-    by true = refl
-    by false = refl
+lone-reverse (s ∷ []) = grind arith
+lone-reverse (s ∷ t ∷ list) = grind (arith, common_steps, not_one)
 
 -- the items of a path, read from the back, are its normal list
 pub all_items_read-is : (absolute : Bool) (back : List Text) → without_lone_empty (map item_of (all_items_read absolute back)) ≡ reverse (normal_segments (record { absolute = absolute; segments = reverse back }))

@@ -1,19 +1,15 @@
 -- What segments read from the back say of every list that ends in them.
-use Rattle.std.proofs.Common.{◌≡◌, ℕ, ◌+◌, Bool, true, false, cond, ◌&&◌, List, [], ◌∷◌, ◌++◌, map, refl, sym, ◌∙◌, ap, append_assoc}
+use Rattle.std.proofs.Common.{arith, ◌≡◌, ℕ, Bool, true, false, cond, ◌&&◌, List, [], ◌∷◌, ◌++◌, map, refl, sym, ◌∙◌, ap, append_assoc}
 use Rattle.std.specs.Prelude.{◌==◌}
 use Rattle.std.proofs.lemmas.List.{append-nil}
 use Rattle.std.proofs.lemmas.Slice.Eq.{bytes_eq-Decides}
 use mathlib.Core.Bool.{true≢false}
-use Rattle.std.proofs.Common.{◌*◌}
-use Rattle.std.specs.Char.{digit_value}
-use Rattle.percent_encoding.specs.Percent.{percent_decode, is_escape}
+use Rattle.percent_encoding.specs.Percent.{percent_decode}
 use Rattle.percent_encoding.proofs.PercentLemmas.{percent_decode-nil}
 use Rattle.iref_grammar.specs.Rules.{Text}
 use Rattle.iref_grammar.specs.Texts.{is_empty}
-use Rattle.iref_grammar.specs.PathValue.{is_one_empty}
 use Rattle.iref_model.specs.PathSuffix.{same_decoded}
 use Rattle.iref_model.specs.NormalList.{is_dot_dot, is_name, counted, without_lone_empty}
-use Rattle.iref_model.specs.NormalReading.{leading_parents}
 use Rattle.iref_model.specs.CountedEquality.{ItemRead, Comparison, last_read, item_before, items_read, all_items_read, items_compared}
 use Rattle.iref_model.proofs.BackLemmas.{item_of, items-last}
 
@@ -37,7 +33,7 @@ abbrev items_of : Bool → ℕ → List Text → List Text
 items_of absolute behind back = map item_of (items_read absolute behind back)
 
 reads-items_read : (absolute : Bool) (behind : ℕ) (back : List Text) → Reads (items_of absolute behind) back (items_read absolute behind back)
-reads-items_read absolute behind [] = reads-last (items_of absolute behind) (leading_parents absolute behind) (items-last (leading_parents absolute behind))
+reads-items_read absolute behind [] = grind (arith, reads-last, items-last)
 reads-items_read absolute behind (s ∷ before) =
     let n = counted (is_dot_dot s) (is_name s) behind in
     by (is_name s && (behind == 0)) (items_of absolute n) (items_read absolute n) (items_of absolute behind) (λ x. refl) (λ x. refl) (reads-items_read absolute n before)
@@ -69,14 +65,8 @@ front_nil : (xs ys : List Text) → xs ++ ys ≡ [] → xs ≡ []
 front_nil [] ys h = refl
 front_nil (x ∷ xs) ys h = absurd (true≢false (sym (ap is_empty h)))
 
-back_nil : (xs ys : List Text) → xs ++ ys ≡ [] → ys ≡ []
-back_nil [] ys h = h
-back_nil (x ∷ xs) ys h = absurd (true≢false (sym (ap is_empty h)))
-
 nothing_after : (u l left more : List Text) → u ≡ l ++ left → (left ≡ [] → more ≡ []) → u ≡ [] → l ++ more ≡ []
-nothing_after u l left more e k h =
-    let n : l ++ left ≡ [] = sym e ∙ h in
-    ap (λ xs. xs ++ more) (front_nil l left n) ∙ k (back_nil l left n)
+nothing_after u l left more e k h = grind (arith, front_nil)
 
 abbrev tail_of : List Text → List Text
 tail_of [] = []
@@ -157,14 +147,7 @@ pub read_equal : (ss ts : List ItemRead) → (items_compared ss ts).equal ≡ tr
 read_equal [] [] h = record { same_items = refl; left = refl; right = refl }
 read_equal [] (t ∷ ts) h = absurd (true≢false (sym h))
 read_equal (s ∷ ss) [] h = absurd (true≢false (sym h))
-read_equal (s ∷ ss) (t ∷ ts) h = by (same_decoded s.item t.item) refl (items_compared ss ts) (read_equal ss ts) h
-  where
-    by : (same : Bool) → same_decoded s.item t.item ≡ same → (c : Comparison) → (c.equal ≡ true → AreReadEqual ss ts c) → let d = cond same c (record { equal = false; left = s.unread; right = t.unread }) in d.equal ≡ true → AreReadEqual (s ∷ ss) (t ∷ ts) d
-    by true i c ih h =
-        let known = ih h in
-        let heads = (bytes_eq-Decides (percent_decode s.item) (percent_decode t.item)).0 i in
-        record { same_items = λ j. heads j ∷ known.same_items j; left = known.left; right = known.right }
-    by false i c ih h = absurd (true≢false (sym h))
+read_equal (s ∷ ss) (t ∷ ts) h = grind (arith, bytes_eq-Decides, read_equal ss ts)
 
 -- ---- one empty item stands for none
 
@@ -172,11 +155,7 @@ decoded_some : (c : ℕ) (cs : Text) → is_empty (percent_decode (c ∷ cs)) �
 unfolding percent_decode
 decoded_some c [] = refl
 decoded_some c (d ∷ []) = refl
-decoded_some c (d ∷ e ∷ cs) = by (is_escape c d e) (16 * digit_value d + digit_value e) (percent_decode cs) (percent_decode (d ∷ e ∷ cs))
-  where
-    by : (b : Bool) (n : ℕ) (xs ys : Text) → is_empty (cond b (n ∷ xs) (c ∷ ys)) ≡ false
-    by true n xs ys = refl
-    by false n xs ys = refl
+decoded_some c (d ∷ e ∷ cs) = grind arith
 
 empty-decoded : (s : Text) → is_empty (percent_decode s) ≡ is_empty s
 empty-decoded [] = ap is_empty percent_decode-nil
@@ -184,32 +163,12 @@ empty-decoded (c ∷ cs) = decoded_some c cs
 
 lone-decoded : (list : List Text) → without_lone_empty (decoded list) ≡ decoded (without_lone_empty list)
 lone-decoded [] = refl
-lone-decoded (s ∷ list) = (λ i. cond (empty-decoded s i && none list i) [] (decoded (s ∷ list))) ∙ by (is_empty s && is_empty list)
-  where
-    none : (xs : List Text) → is_empty (decoded xs) ≡ is_empty xs
-    none [] = refl
-    none (x ∷ xs) = refl
-
-    by : (b : Bool) → cond b [] (decoded (s ∷ list)) ≡ decoded (cond b [] (s ∷ list))
-    by true = refl
-    by false = refl
+lone-decoded (s ∷ list) = grind (arith, empty-decoded)
 
 -- lists that decode to the same do so with a lone empty item set aside
 pub lone_equal : (xs ys : List Text) → decoded xs ≡ decoded ys → decoded (without_lone_empty xs) ≡ decoded (without_lone_empty ys)
 lone_equal xs ys e = sym (lone-decoded xs) ∙ ap without_lone_empty e ∙ lone-decoded ys
 
-one_empty : (list : List Text) → is_one_empty list ≡ true → list ≡ [] ∷ []
-one_empty [] h = absurd (true≢false (sym h))
-one_empty ([] ∷ []) h = refl
-one_empty ([] ∷ t ∷ list) h = absurd (true≢false (sym h))
-one_empty ((c ∷ s) ∷ list) h = absurd (true≢false (sym h))
-
 -- and no other lists are, where both have items
 pub lone_same : (x y : Text) (xs ys : List Text) → decoded (without_lone_empty (x ∷ xs)) ≡ decoded (without_lone_empty (y ∷ ys)) → decoded (x ∷ xs) ≡ decoded (y ∷ ys)
-lone_same x y xs ys e = by (is_one_empty (x ∷ xs)) refl (is_one_empty (y ∷ ys)) refl e
-  where
-    by : (a : Bool) → is_one_empty (x ∷ xs) ≡ a → (b : Bool) → is_one_empty (y ∷ ys) ≡ b → decoded (cond a [] (x ∷ xs)) ≡ decoded (cond b [] (y ∷ ys)) → decoded (x ∷ xs) ≡ decoded (y ∷ ys)
-    by true h true k e = ap decoded (one_empty (x ∷ xs) h ∙ sym (one_empty (y ∷ ys) k))
-    by true h false k e = absurd (true≢false (ap is_empty e))
-    by false h true k e = absurd (true≢false (sym (ap is_empty e)))
-    by false h false k e = e
+lone_same x y xs ys e = grind arith

@@ -1,12 +1,10 @@
 -- The comparison from the back answers whether paths are equal, and what it has read decides a difference.
-use Rattle.std.proofs.Common.{◌≡◌, ℕ, ◌+◌, ◌-◌, ◌≤◌, Bool, true, false, cond, List, [], ◌∷◌, ◌++◌, map, reverse, length, drop, refl, sym, ◌∙◌, ap, subst, arith}
-use Rattle.std.proofs.lemmas.List.{reverse-append, reverse-reverse, length-append, length-reverse, map-append, take-append-drop}
-use Rattle.std.proofs.lemmas.Grind.{reverse_onto}
+use Rattle.std.proofs.Common.{◌≡◌, ℕ, ◌+◌, ◌-◌, ◌≤◌, Bool, true, false, List, [], ◌∷◌, ◌++◌, map, reverse, length, drop, refl, sym, ◌∙◌, ap, subst, arith}
+use Rattle.std.proofs.lemmas.List.{reverse-append, reverse-reverse, length-append, length-reverse, take-append-drop}
+use Rattle.std.proofs.lemmas.Grind.{common_steps}
 use Rattle.std.proofs.Math.Seq.{drop-append_seam}
 use Rattle.std.specs.Prelude.{Decides, take}
-use Rattle.std.specs.Cmp.{booleans_Decides}
 use mathlib.Core.Bool.{true≢false, beq}
-use Rattle.percent_encoding.specs.Percent.{percent_decode}
 use Rattle.iref_grammar.specs.Rules.{Text}
 use Rattle.iref_grammar.specs.Texts.{is_empty}
 use Rattle.iref_grammar.specs.PathValue.{PathValue}
@@ -18,19 +16,14 @@ use Rattle.iref_model.proofs.ComparisonLemmas.{decoded, reads-all_items_read, Ar
 
 map-reverse : (list : List Text) → decoded (reverse list) ≡ reverse (decoded list)
 map-reverse [] = refl
-map-reverse (s ∷ list) =
-    ap decoded (reverse_onto list s []) ∙ map-append percent_decode (reverse list) (s ∷ [])
-    ∙ ap (λ xs. xs ++ percent_decode s ∷ []) (map-reverse list) ∙ sym (reverse_onto (decoded list) (percent_decode s) [])
+map-reverse (s ∷ list) = grind (arith, common_steps, map-reverse list)
 
 abbrev read_items : Bool → List Text → List Text
 read_items absolute back = map item_of (all_items_read absolute back)
 
 -- the items read from the back are the key, last first
 key_back : (p : PathValue) → decoded (without_lone_empty (read_items p.absolute (reverse p.segments))) ≡ reverse (decoded (normal_segments p))
-key_back p =
-    ap decoded (all_items_read-is p.absolute (reverse p.segments))
-    ∙ ap (λ list. decoded (reverse (normal_segments (record { absolute = p.absolute; segments = list })))) (reverse-reverse p.segments)
-    ∙ map-reverse (normal_segments p)
+key_back p = grind (arith, common_steps, decoded, all_items_read-is, map-reverse)
 
 -- a path has an item
 some_item : (absolute : Bool) (back : List Text) → is_empty (read_items absolute back) ≡ false
@@ -103,37 +96,15 @@ compared_same p q flags c e = by c.equal refl
         (reads-all_items_read p.absolute (reverse p.segments)) (reads-all_items_read q.absolute (reverse q.segments))
         (ap (λ d. d.equal) (sym e) ∙ h)))
 
-abbrev comparison : PathValue → PathValue → Bool → Comparison
-comparison p q same =
-    cond same (items_compared (all_items_read p.absolute (reverse p.segments)) (all_items_read q.absolute (reverse q.segments)))
-    (record { equal = false; left = reverse p.segments; right = reverse q.segments })
-
 -- flags that differ decide by themselves
 pub flags_apart : (p q : PathValue) (steps : ℕ) → steps ≡ 0 → beq p.absolute q.absolute ≡ false → AreFoundApart p q steps
 unfolding path_key
-flags_apart p q steps none e = record {
-  left = 0;
-  right = 0;
-  left_within = omega arith;
-  right_within = omega arith;
-  counted = none;
-  decided = λ x y a k b l f.
-      let flags : p.absolute ≡ q.absolute = sym a ∙ (λ i. (f i).absolute) ∙ b in
-      true≢false (sym ((booleans_Decides p.absolute q.absolute).1 flags) ∙ e);
-}
+flags_apart p q steps none e = grind arith
 
 -- the comparison gives the answer that is promised
 pub counted_answer : (p q : PathValue) → IsCountedAnswer p q (paths_compared p q).equal (segments_read p q)
 unfolding path_key
-counted_answer p q = by (beq p.absolute q.absolute) refl
-  where
-    by : (b : Bool) → beq p.absolute q.absolute ≡ b
-        → IsCountedAnswer p q (comparison p q b).equal (length p.segments - length (comparison p q b).left + (length q.segments - length (comparison p q b).right))
-    by true e = compared_same p q ((booleans_Decides p.absolute q.absolute).0 e) (comparison p q true) refl
-    by false e =
-        let p_size = length-reverse p.segments in
-        let q_size = length-reverse q.segments in
-        flags_apart p q _ (omega (arith, p_size, q_size)) e
+counted_answer p q = grind (arith, common_steps, compared_same)
 
 ends_alike_itself : (segments : List Text) (count : ℕ) → count ≤ length segments → EndsAlike segments count segments
 ends_alike_itself segments count h =
@@ -141,8 +112,7 @@ ends_alike_itself segments count h =
 
 -- what decides that paths differ shows that these two do
 pub found_apart-differ : (p q : PathValue) (steps : ℕ) → AreFoundApart p q steps → ¬ (path_key p ≡ path_key q)
-found_apart-differ p q steps found =
-    found.decided p q refl (ends_alike_itself p.segments found.left found.left_within) refl (ends_alike_itself q.segments found.right found.right_within)
+found_apart-differ p q steps found = grind (arith, ends_alike_itself)
 
 -- a counted answer is the equality of keys
 pub Decides-counted : (p q : PathValue) (equal : Bool) (steps : ℕ) → IsCountedAnswer p q equal steps → Decides equal (path_key p ≡ path_key q)

@@ -1,21 +1,19 @@
 -- The directory of a path is its text up to and with the last `/`.
-use Rattle.std.proofs.Common.{◌≡◌, ℕ, ◌+◌, ◌-◌, Bool, true, false, not, cond, ◌&&◌, ◌||◌, List, [], ◌∷◌, ◌++◌, length, take, reverse, refl, sym, ◌∙◌, ap, subst, arith, append_assoc, ◌⊎◌, inl, inr}
+use Rattle.std.proofs.Common.{◌≡◌, ℕ, ◌+◌, ◌-◌, Bool, true, false, not, cond, List, [], ◌∷◌, ◌++◌, length, take, reverse, refl, sym, ◌∙◌, ap, arith, append_assoc, ◌⊎◌, inl, inr}
+use Rattle.std.proofs.lemmas.Grind.{common_steps}
 use Rattle.std.specs.Prelude.{◌==◌}
 use Rattle.std.specs.List.{list_all, prefix_len, suffix_len}
-use Rattle.std.specs.Char.{char_set_contains}
 use Rattle.std.proofs.lemmas.List.{reverse-append, length-append, length-reverse}
-use Rattle.std.proofs.lemmas.List.Folds.{list_all-append}
 use Rattle.std.proofs.lemmas.Bool.Decides.{eqb_tells}
 use Rattle.std.proofs.Math.Seq.{take-append_seam}
 use Rattle.std.proofs.lemmas.Bool.{and_from}
-use Rattle.std.proofs.Math.Numerals.{one-add}
 use Rattle.iref_grammar.specs.Rules.{Text}
 use Rattle.iref_grammar.specs.Grammar.{slash}
 use Rattle.iref_grammar.specs.Texts.{pieces_at, lacks, all_but_last}
 use Rattle.iref_grammar.specs.PathValue.{PathValue, segments_of, spell_path, read_path}
 use Rattle.iref_model.specs.NormalList.{closed}
 use Rattle.iref_model.specs.PathFunctions.{directory, directory_text}
-use Rattle.iref_grammar.proofs.TextLemmas.{first_of_both, second_of_both, pieces_at-join}
+use Rattle.iref_grammar.proofs.TextLemmas.{pieces_at-join}
 use Rattle.iref_grammar.proofs.LackLemmas.{lacks_more}
 use Rattle.iref_grammar.proofs.PathLemmas.{read_path-reads}
 use Rattle.iref_model.proofs.PieceLemmas.{pieces-append}
@@ -45,29 +43,19 @@ is_other c = not (c == slash)
 
 all_other : (text : Text) → lacks slash text ≡ list_all is_other text
 all_other [] = refl
-all_other (c ∷ cs) = by (c == slash) (char_set_contains cs slash) ∙ ap (λ b. is_other c && b) (all_other cs)
-  where
-    by : (a b : Bool) → not (a || b) ≡ (not a && not b)
-    by true b = refl
-    by false b = refl
+all_other (c ∷ cs) = grind (arith, all_other cs)
 
 all_reversed : (text : Text) → list_all is_other text ≡ true → list_all is_other (reverse text) ≡ true
 all_reversed [] h = refl
-all_reversed (c ∷ cs) h =
-    ap (list_all is_other) (reverse-append (c ∷ []) cs) ∙ list_all-append is_other (reverse cs) (c ∷ [])
-    ∙ and_from _ _ (all_reversed cs (second_of_both (is_other c) (list_all is_other cs) h)) (and_from _ true (first_of_both (is_other c) (list_all is_other cs) h) refl)
+all_reversed (c ∷ cs) h = grind (arith, common_steps, all_reversed cs)
 
 stops_at_slash : (front back : Text) → list_all is_other front ≡ true → prefix_len is_other (front ++ slash ∷ back) ≡ length front
 stops_at_slash [] back h = refl
-stops_at_slash (c ∷ cs) back h =
-    (λ i. cond (first_of_both (is_other c) (list_all is_other cs) h i) (1 + stops_at_slash cs back (second_of_both (is_other c) (list_all is_other cs) h) i) 0)
-    ∙ one-add (length cs)
+stops_at_slash (c ∷ cs) back h = grind (arith, stops_at_slash cs back)
 
 stops_at_end : (text : Text) → list_all is_other text ≡ true → prefix_len is_other text ≡ length text
 stops_at_end [] h = refl
-stops_at_end (c ∷ cs) h =
-    (λ i. cond (first_of_both (is_other c) (list_all is_other cs) h i) (1 + stops_at_end cs (second_of_both (is_other c) (list_all is_other cs) h) i) 0)
-    ∙ one-add (length cs)
+stops_at_end (c ∷ cs) h = grind (arith, stops_at_end cs)
 
 reversed_lacks : (text : Text) → lacks slash text ≡ true → list_all is_other (reverse text) ≡ true
 reversed_lacks text h = all_reversed text (sym (all_other text) ∙ h)
@@ -89,11 +77,7 @@ directory_text-cut front back h =
 
 directory_text-none : (text : Text) → lacks slash text ≡ true → directory_text text ≡ []
 unfolding directory_text
-directory_text-none text h =
-    (λ i. take (length text - (stops_at_end (reverse text) (reversed_lacks text h) ∙ length-reverse text) i) text) ∙ (λ i. take (none (length text) i) text)
-  where
-    none : (n : ℕ) → n - n ≡ 0
-    none n = omega arith
+directory_text-none text h = grind (arith, common_steps, stops_at_end, reversed_lacks)
 
 -- ---- by segments
 
@@ -105,12 +89,7 @@ all_but_last-snoc (t ∷ u ∷ list) s = ap (λ xs. t ∷ xs) (all_but_last-snoc
 -- pieces are never none, so they are closed by an empty segment
 some_pieces : (front : Text) → closed (pieces_at slash front) ≡ pieces_at slash front ++ [] ∷ []
 some_pieces [] = refl
-some_pieces (c ∷ cs) = by (c == slash) (pieces_at slash cs)
-  where
-    by : (b : Bool) (pieces : List Text) → let list = cond b ([] ∷ pieces) (Rattle.std.specs.List.onto_first c pieces) in closed list ≡ list ++ [] ∷ []
-    by true pieces = refl
-    by false [] = refl
-    by false (p ∷ pieces) = refl
+some_pieces (c ∷ cs) = grind arith
 
 some_text : (front back : Text) → segments_of (front ++ slash ∷ back) ≡ pieces_at slash (front ++ slash ∷ back)
 some_text [] back = refl
@@ -120,9 +99,7 @@ whole_piece : (text : Text) → lacks slash text ≡ true → pieces_at slash te
 whole_piece text h = pieces_at-join slash text [] (and_from _ true h refl)
 
 segments_cut : (front back : Text) → lacks slash back ≡ true → closed (all_but_last (segments_of (front ++ slash ∷ back))) ≡ segments_of (front ++ slash ∷ [])
-segments_cut front back h =
-    ap (λ xs. closed (all_but_last xs)) (some_text front back ∙ pieces-append slash front back ∙ ap (λ xs. pieces_at slash front ++ xs) (whole_piece back h))
-    ∙ ap closed (all_but_last-snoc (pieces_at slash front) back) ∙ some_pieces front ∙ sym (some_text front [] ∙ pieces-append slash front [])
+segments_cut front back h = grind (arith, common_steps, some_text, pieces-append, whole_piece, all_but_last-snoc, some_pieces)
 
 directory-cut : (front back : Text) → lacks slash back ≡ true → directory (read_path (front ++ slash ∷ back)) ≡ read_path (front ++ slash ∷ [])
 unfolding directory read_path
@@ -138,29 +115,13 @@ directory-cut (c ∷ cs) back h = by (c == slash)
 directory-none : (text : Text) → lacks slash text ≡ true → directory (read_path text) ≡ read_path []
 unfolding directory read_path
 directory-none [] h = refl
-directory-none (c ∷ cs) h =
-    (λ i. let p : PathValue = cond (other i) (record { absolute = true; segments = segments_of cs }) (record { absolute = false; segments = segments_of (c ∷ cs) }) in directory p)
-    ∙ (λ i. record { absolute = false; segments = closed (all_but_last (whole_piece (c ∷ cs) h i)) })
-  where
-    by : (a b : Bool) → not (a || b) ≡ true → a ≡ false
-    by true b k = sym k
-    by false b k = refl
-
-    other : (c == slash) ≡ false
-    other = by (c == slash) (char_set_contains cs slash) h
+directory-none (c ∷ cs) h = grind (arith, whole_piece)
 
 -- ---- both
 
 pub directory-read : (text : Text) → read_path (directory_text text) ≡ directory (read_path text)
 unfolding LastSlash
-directory-read text = by (last_slash text)
-  where
-    by : LastSlash text → read_path (directory_text text) ≡ directory (read_path text)
-    by (inl none) = ap read_path (directory_text-none text none) ∙ sym (directory-none text none)
-    by (inr z) =
-        let same : read_path (directory_text (z.0 ++ slash ∷ z.1)) ≡ directory (read_path (z.0 ++ slash ∷ z.1)) =
-        ap read_path (directory_text-cut z.0 z.1 z.2) ∙ sym (directory-cut z.0 z.1 z.2) in
-        subst (λ t. read_path (directory_text t) ≡ directory (read_path t)) (sym z.3) same
+directory-read text = grind (arith, common_steps, last_slash, LastSlash, directory_text-none, directory-none, directory_text-cut, directory-cut)
 
 pub directory-spelled : (text : Text) → spell_path (directory (read_path text)) ≡ directory_text text
 directory-spelled text = ap spell_path (sym (directory-read text)) ∙ (read_path-reads (directory_text text)).spelled

@@ -1,13 +1,13 @@
 -- The bytes that are hashed of an option, a path, an authority and a reference determine it.
-use Rattle.std.proofs.Common.{◌≡◌, ℕ, true, false, List, [], ◌∷◌, ◌++◌, reverse, refl, sym, ◌∙◌, ap, arith, append_assoc}
+use Rattle.std.proofs.Common.{◌≡◌, ℕ, List, [], ◌∷◌, ◌++◌, reverse, refl, sym, ◌∙◌, ap, arith, append_assoc}
+use Rattle.std.proofs.lemmas.Grind.{common_steps}
 use Rattle.std.specs.Prelude.{Some, None}
 use Rattle.std.specs.List.{concat, flat_map}
-use Rattle.std.specs.Hash.{HashWrites, le_bytes, bool, u8, option}
+use Rattle.std.specs.Hash.{HashWrites, le_bytes, u8, option}
 use Rattle.std.proofs.lemmas.List.{reverse-reverse}
 use Rattle.std.proofs.lemmas.List.Folds.{concat-append}
 use Rattle.iref_grammar.specs.Rules.{Text}
 use Rattle.iref_grammar.specs.Authority.{AuthorityValue}
-use Rattle.iref_grammar.specs.PathValue.{PathValue}
 use Rattle.iref_grammar.specs.Reference.{ReferenceValue}
 use Rattle.iref_grammar.specs.Keys.{fed_bytes, IsSelfDelimiting}
 use Rattle.iref_model.specs.AuthorityKey.{fed_authority}
@@ -40,12 +40,6 @@ module _ {T : Type 0} (F : T → HashWrites) (law : IsSelfDelimiting F) where
   option_feed_delimits (Some x) None r s e = let first : 1 ≡ 0 = ap head_of e in absurd (omega (arith, first))
   option_feed_delimits (Some x) (Some y) r s e = let rest = law x y r s (ap tail8 e) in (ap Some rest.0, rest.1)
 
-bool_feed_delimits : IsSelfDelimiting bool
-bool_feed_delimits true true r s e = (refl, ap tail_of e)
-bool_feed_delimits true false r s e = let first : 1 ≡ 0 = ap head_of e in absurd (omega (arith, first))
-bool_feed_delimits false true r s e = let first : 0 ≡ 1 = ap head_of e in absurd (omega (arith, first))
-bool_feed_delimits false false r s e = (refl, ap tail_of e)
-
 abbrev in_order : List Text → HashWrites
 in_order texts = flat_map fed_bytes texts ++ u8 255
 
@@ -63,13 +57,7 @@ texts_in_order : (xs ys : List Text) (r s : List ℕ) → concat (in_order xs) +
 texts_in_order [] [] r s e = (refl, ap tail_of e)
 texts_in_order [] (y ∷ ys) r s e = absurd (not_ended y ys r s e)
 texts_in_order (x ∷ xs) [] r s e = absurd (not_ended x xs s r (sym e))
-texts_in_order (x ∷ xs) (y ∷ ys) r s e =
-    let one = append_assoc (fed_bytes x) (flat_map fed_bytes xs) (u8 255) in
-    let other = append_assoc (fed_bytes y) (flat_map fed_bytes ys) (u8 255) in
-    let here = first_fed fed_bytes text_feed_delimits x y (in_order xs) (in_order ys) r s
-    (ap (λ us. concat us ++ r) (sym one) ∙ e ∙ ap (λ us. concat us ++ s) other) in
-    let rest = texts_in_order xs ys r s here.1 in
-    ((λ i. here.0 i ∷ rest.0 i), rest.1)
+texts_in_order (x ∷ xs) (y ∷ ys) r s e = grind (arith, common_steps, append_assoc, first_fed, text_feed_delimits, texts_in_order xs ys r s)
 
 texts_feed_delimits : IsSelfDelimiting fed_list
 texts_feed_delimits a b r s e =
@@ -78,13 +66,7 @@ texts_feed_delimits a b r s e =
 
 pub path_feed_delimits : IsSelfDelimiting fed_path
 unfolding fed_path
-path_feed_delimits a b r s e =
-    let spread : (v : PathValue) → fed_path v ≡ bool v.absolute ++ fed_list v.segments =
-    λ v. append_assoc (bool v.absolute) (fed_from_the_back v.segments) (u8 255) in
-    let flag = first_fed bool bool_feed_delimits a.absolute b.absolute (fed_list a.segments) (fed_list b.segments) r s
-    (ap (λ us. concat us ++ r) (sym (spread a)) ∙ e ∙ ap (λ us. concat us ++ s) (spread b)) in
-    let segments = texts_feed_delimits a.segments b.segments r s flag.1 in
-    ((λ i. record { absolute = flag.0 i; segments = segments.0 i }), segments.1)
+path_feed_delimits a b r s e = grind (arith, common_steps, texts_feed_delimits)
 
 optional : IsSelfDelimiting (option fed_bytes)
 optional = option_feed_delimits fed_bytes text_feed_delimits

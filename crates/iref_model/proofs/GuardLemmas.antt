@@ -1,11 +1,9 @@
 -- A guarded path is read as it was meant, wherever it stands.
-use Rattle.std.proofs.Common.{◌≡◌, Bool, true, false, not, cond, List, [], ◌∷◌, refl}
-use Rattle.std.specs.Char.{char_set_contains}
+use Rattle.std.proofs.Common.{arith, ◌≡◌, Bool, true, false, List, [], ◌∷◌, refl}
 use Rattle.iref_grammar.specs.declared.context.PathContext.{PathContext}
 use Rattle.iref_grammar.specs.Rules.{Text}
-use Rattle.iref_grammar.specs.Grammar.{colon}
 use Rattle.iref_grammar.specs.PathValue.{PathValue, shows_its_list}
-use Rattle.iref_model.specs.Guard.{guarded, guarded_list, with_dot}
+use Rattle.iref_model.specs.Guard.{guarded, guarded_list}
 use Rattle.iref_grammar.specs.Contexts.{fits}
 
 at : (has_scheme has_authority absolute : Bool) (segments : List Text) → let context : PathContext = record { has_scheme = has_scheme; has_authority = has_authority } in let p : PathValue = record { absolute = absolute; segments = segments } in fits context (guarded context p) ≡ true
@@ -41,11 +39,7 @@ at false false true ((c ∷ s) ∷ ss) = refl
 at false false false [] = refl
 at false false false ([] ∷ []) = refl
 at false false false ([] ∷ t ∷ ss) = refl
-at false false false ((c ∷ s) ∷ ss) = by (char_set_contains (c ∷ s) colon) refl
-  where
-    by : (b : Bool) → char_set_contains (c ∷ s) colon ≡ b → fits (record { has_scheme = false; has_authority = false }) (cond (not b) (record { absolute = false; segments = (c ∷ s) ∷ ss }) (with_dot (record { absolute = false; segments = (c ∷ s) ∷ ss }))) ≡ true
-    by true e = refl
-    by false e = λ i. not (e i)
+at false false false ((c ∷ s) ∷ ss) = grind arith
 
 pub guarded-fits : (context : PathContext) (p : PathValue) → fits context (guarded context p) ≡ true
 guarded-fits context p = at context.has_scheme context.has_authority p.absolute p.segments

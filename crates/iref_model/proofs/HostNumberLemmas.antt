@@ -1,5 +1,5 @@
 -- The hosts of numbers are hosts, and are read as these numbers.
-use Rattle.std.proofs.Common.{◌≡◌, ℕ, ◌/◌, ◌%◌, ◌^◌, ◌<◌, true, refl, ap, inl, inr, arith}
+use Rattle.std.proofs.Common.{◌≡◌, ℕ, ◌^◌, ◌<◌, true, ap, inl, inr, arith}
 use Rattle.std.specs.Prelude.{Some, is_some}
 use Rattle.iref_grammar.specs.Characters.{CharTests, AreAboveAscii}
 use Rattle.iref_grammar.specs.IpAddresses.{IsIpv4, ipv4_value}
@@ -9,16 +9,7 @@ use Rattle.iref_grammar.proofs.HostRuleLemmas.{Decides-is_ipv4_bytes, Decides-is
 use Rattle.iref_model.specs.HostNumbers.{ipv4_text}
 
 spells_ipv4 : (n : ℕ) → n < 2 ^ 32 → IsIpv4 (ipv4_text n) n
-spells_ipv4 n h =
-    record {
-      a = n / 2 ^ 24;
-      b = n / 2 ^ 16 % 256;
-      c = n / 2 ^ 8 % 256;
-      d = n % 256;
-      in_range = (omega arith, omega arith, omega arith, omega arith);
-      spelled = refl;
-      value = omega arith;
-    }
+spells_ipv4 n h = grind arith
 
 pub ipv4_read_back : (n : ℕ) → n < 2 ^ 32 → ipv4_value (ipv4_text n) ≡ Some n
 ipv4_read_back n h = ipv4_value-complete (ipv4_text n) n (spells_ipv4 n h)

@@ -15,7 +15,7 @@ use Rattle.iref_grammar.specs.Characters.{CharTests}
 use Rattle.iref_grammar.specs.Rules.{Text}
 use Rattle.iref_grammar.specs.IpAddresses.{IsGroup, AreGroups, IsFullIpv6, IsShortIpv6, number_of, ipv6_value}
 use Rattle.iref_grammar.specs.Grammar.{right_bracket}
-use Rattle.iref_grammar.specs.Tests.{is_host, is_ip_literal, is_ip_address, is_ipvfuture, is_reg_name, in_brackets, ends_here, some_and}
+use Rattle.iref_grammar.specs.Tests.{is_host, is_ip_literal, is_ip_address, is_ipvfuture, in_brackets, ends_here}
 use Rattle.iref_grammar.proofs.CutLemmas.{before-part, after-part}
 use Rattle.iref_grammar.proofs.HostLemmas.{address_lacks}
 use Rattle.iref_grammar.proofs.Ipv6CompleteLemmas.{ipv6_value-complete}
@@ -116,9 +116,7 @@ module _ (groups : List ℕ) (eight : length groups ≡ 8) (written : AreWritten
       }
 
   full : nat_le 2 zeros ≡ false → IsFullIpv6 (ipv6_text groups) groups
-  full test =
-      let spelled : groups_text groups ≡ ipv6_text groups = sym (ap (λ b. cond b (groups_text front ++ codes "::" ++ groups_text back) (groups_text groups)) test) in
-      (inl (subst (λ t. AreGroups t groups) spelled (are_groups groups written)), eight)
+  full test = grind arith
 
   spelled_groups : IsFullIpv6 (ipv6_text groups) groups ⊎ IsShortIpv6 (ipv6_text groups) groups
   spelled_groups = elim (leb_tells 2 zeros) [ inl e ↦ inr (short e.0 e.1) | inr e ↦ inl (full e.0) ]
@@ -142,9 +140,7 @@ ipv6_read_back n h = ap (option_and_then ipv6_value) (between_brackets n h) ∙ 
 
 pub ipv6_host : (set : CharTests) (n : ℕ) → n < 2 ^ 128 → is_host set (ipv6_host_text n) ≡ true
 unfolding is_host is_ip_literal
-ipv6_host set n h =
-    ap (λ o. some_and is_ip_address o || is_reg_name set (ipv6_host_text n)) (between_brackets n h)
-    ∙ ap (λ b. b || is_reg_name set (ipv6_host_text n)) (is_address n h)
+ipv6_host set n h = grind (arith, between_brackets, is_address)
 
 -- what is written is in its rule, and is read back
 pub ruleset written = (ipv6_host, ipv6_read_back)

@@ -1,11 +1,10 @@
 -- The normal list is the items that are read from the back, unless these are one empty segment.
-use Rattle.std.proofs.Common.{◌≡◌, Bool, true, false, not, cond, ◌&&◌, List, [], ◌∷◌, ◌++◌, refl, sym, ◌∙◌, ap, append_assoc}
-use Rattle.std.proofs.lemmas.List.{append-nil}
-use mathlib.Core.Bool.{true≢false}
+use Rattle.std.proofs.Common.{arith, ◌≡◌, Bool, true, false, not, List, [], ◌∷◌, ◌++◌, refl, sym, ◌∙◌, ap}
+use Rattle.std.proofs.lemmas.Grind.{common_steps}
 use Rattle.iref_grammar.specs.Rules.{Text}
 use Rattle.iref_grammar.specs.Texts.{is_empty}
 use Rattle.iref_grammar.specs.PathValue.{PathValue}
-use Rattle.iref_model.specs.NormalList.{is_dot, is_dot_dot, is_name, ends_in_dots, closed, without_lone_empty, kept_segments, normal_segments}
+use Rattle.iref_model.specs.NormalList.{is_dot_dot, is_name, ends_in_dots, without_lone_empty, kept_segments, normal_segments}
 use Rattle.iref_model.specs.NormalReading.{open_before, staying_before, leading_parents, closing, items}
 use Rattle.iref_model.proofs.NormalLemmas.{excess-is}
 use Rattle.iref_model.proofs.StayingLemmas.{open_parents-is, staying_names-is}
@@ -13,12 +12,7 @@ use Rattle.iref_model.proofs.SettledLemmas.{last_stays}
 
 -- a name is no `..`
 pub name_no_parent : (s : Text) → is_name s ≡ true → is_dot_dot s ≡ false
-name_no_parent s h = by (is_dot s) (is_dot_dot s) h
-  where
-    by : (dot parent : Bool) → (not dot && not parent) ≡ true → parent ≡ false
-    by true parent h = absurd (true≢false (sym h))
-    by false true h = absurd (true≢false (sym h))
-    by false false h = refl
+name_no_parent s h = grind arith
 
 -- the last segment decides whether a list ends in `.` or `..`
 pub ends-last : (front : List Text) (s : Text) → ends_in_dots (front ++ s ∷ []) ≡ not (is_name s)
@@ -27,24 +21,12 @@ ends-last (t ∷ []) s = refl
 ends-last (t ∷ u ∷ front) s = ends-last (u ∷ front) s
 
 kept-read : (absolute : Bool) (segments : List Text) → kept_segments (record { absolute = absolute; segments = segments }) ≡ leading_parents absolute (open_before segments 0) ++ staying_before segments 0
-kept-read absolute segments =
-    let count = excess-is segments ∙ open_parents-is segments in
-    λ i. leading_parents absolute (count i) ++ staying_names-is segments i
-
-closed-lone : (kept : List Text) → without_lone_empty (closed kept) ≡ without_lone_empty (kept ++ [] ∷ [])
-closed-lone [] = refl
-closed-lone (s ∷ kept) = refl
+kept-read absolute segments = grind (arith, common_steps, excess-is, open_parents-is, staying_names-is)
 
 -- the normal list is the items, unless they are one empty segment
 pub normal_segments-is : (p : PathValue) → normal_segments p ≡ without_lone_empty (items p)
 unfolding normal_segments
-normal_segments-is p =
-    (λ i. without_lone_empty (cond (ends_in_dots p.segments) (closed (kept-read p.absolute p.segments i)) (kept-read p.absolute p.segments i)))
-    ∙ by (ends_in_dots p.segments) (leading_parents p.absolute (open_before p.segments 0)) (staying_before p.segments 0)
-  where
-    by : (ends : Bool) (front names : List Text) → without_lone_empty (cond ends (closed (front ++ names)) (front ++ names)) ≡ without_lone_empty (front ++ (names ++ closing ends))
-    by true front names = closed-lone (front ++ names) ∙ ap without_lone_empty (append_assoc front names ([] ∷ []))
-    by false front names = ap (λ xs. without_lone_empty (front ++ xs)) (sym (append-nil names))
+normal_segments-is p = grind (arith, common_steps, kept-read)
 
 -- a list that is not empty has an item that is no leading `..`
 pub some_name : (s : Text) (rest : List Text) → is_empty (staying_before (s ∷ rest) 0 ++ closing (ends_in_dots (s ∷ rest))) ≡ false

@@ -1,7 +1,8 @@
 -- Keys of texts, authorities, paths and references: each order is total, and keys that tie are the same.
-use Rattle.std.proofs.Common.{◌≡◌, ◌↔◌, true, false, [], ◌∷◌, refl, sym, ◌∙◌, ap, Some, None, Ordering, Less, Equal, Greater, is_eq}
+use Rattle.std.proofs.Common.{arith, ◌≡◌, ◌↔◌, true, [], ◌∷◌, refl, sym, ◌∙◌, ap, Some, None, Ordering, Less, Equal, Greater, is_eq}
+use Rattle.std.proofs.lemmas.Grind.{common_steps}
 use Rattle.std.specs.Option.{option_cmp}
-use Rattle.std.specs.Ordering.{ordering_then, bool_cmp}
+use Rattle.std.specs.Ordering.{ordering_then}
 use Rattle.std.specs.Cmp.{IsTotalOrder, on_total, then_total, tied_itself}
 use Rattle.std.specs.Cmp.Lexicographic.{slice_cmp, bytes_decides, nat_list_cmp_total, options_total}
 use Rattle.std.proofs.lemmas.Map.Text.{is_eq-slice_cmp}
@@ -38,12 +39,6 @@ both_tie Less b h = absurd (true≢false (sym h))
 both_tie Equal b h = (refl, h)
 both_tie Greater b h = absurd (true≢false (sym h))
 
-flags_separate : Separates bool_cmp
-flags_separate true true h = refl
-flags_separate true false h = absurd (true≢false (sym h))
-flags_separate false true h = absurd (true≢false (sym h))
-flags_separate false false h = refl
-
 pub options_separate : {A : Type 0} (cmp : A → A → Ordering) → Separates cmp → Separates (option_cmp cmp)
 options_separate cmp separate None None h = refl
 options_separate cmp separate None (Some y) h = absurd (true≢false (sym h))
@@ -54,10 +49,7 @@ lists_separate : {A : Type 0} (cmp : A → A → Ordering) → Separates cmp →
 lists_separate cmp separate [] [] h = refl
 lists_separate cmp separate [] (y ∷ ys) h = absurd (true≢false (sym h))
 lists_separate cmp separate (x ∷ xs) [] h = absurd (true≢false (sym h))
-lists_separate cmp separate (x ∷ xs) (y ∷ ys) h =
-    let both = both_tie (cmp x y) (slice_cmp cmp xs ys) h in
-    let rest = lists_separate cmp separate xs ys both.1 in
-    λ i. separate x y both.0 i ∷ rest i
+lists_separate cmp separate (x ∷ xs) (y ∷ ys) h = grind (arith, lists_separate cmp separate xs ys)
 
 pub texts_separate : Separates text_order
 texts_separate x y h = (bytes_decides x y).0 (sym (is_eq-slice_cmp x y) ∙ h)
@@ -73,9 +65,7 @@ authority_keys_separate a b h =
     }
 
 pub path_keys_separate : Separates path_key_cmp
-path_keys_separate p q h =
-    let both = both_tie (bool_cmp p.absolute q.absolute) _ h in
-    λ i. record { absolute = flags_separate p.absolute q.absolute both.0 i; segments = lists_separate text_order texts_separate p.segments q.segments both.1 i }
+path_keys_separate p q h = grind (arith, common_steps, lists_separate)
 
 pub keys_separate : Separates key_cmp
 unfolding key_cmp

@@ -1,10 +1,10 @@
 -- The segments that lead from a directory to a normal list, and that no others climb less.
-use Rattle.std.proofs.Common.{◌≡◌, ℕ, zero, suc, ◌+◌, ◌-◌, ◌≤◌, Bool, true, false, not, cond, ◌&&◌, List, [], ◌∷◌, ◌++◌, map, length, take, drop, refl, sym, ◌∙◌, ap, arith, codes, append_assoc, inl, inr, take_at, take-append-drop, length-take-le}
+use Rattle.std.proofs.Common.{◌≡◌, ℕ, zero, suc, ◌+◌, ◌-◌, ◌≤◌, Bool, true, false, not, cond, List, [], ◌∷◌, ◌++◌, map, length, take, drop, refl, sym, ◌∙◌, ap, arith, codes, append_assoc, inl, inr, take_at, take-append-drop, length-take-le}
+use Rattle.std.proofs.lemmas.Grind.{common_steps}
 use Rattle.std.specs.List.{list_all, common_prefix_len}
 use Rattle.std.specs.Cmp.Lexicographic.{bytes_decides}
 use Rattle.std.proofs.lemmas.List.{take-map, map-append, length-map, length-append, take-append-le}
 use Rattle.std.proofs.lemmas.List.Sums.{common_prefix_len-le}
-use Rattle.std.proofs.lemmas.List.Folds.{list_all-append}
 use Rattle.std.proofs.lemmas.Bool.{cases_lt}
 use Rattle.std.proofs.Math.Numerals.{one-add}
 use Rattle.std.proofs.Math.Bool.{and-false}
@@ -17,7 +17,7 @@ use Rattle.iref_model.specs.NormalList.{is_name, count_parents, staying_names, e
 use Rattle.iref_model.specs.PathSuffix.{same_decoded}
 use Rattle.iref_model.specs.Relative.{last_or_empty, steps_between}
 use Rattle.iref_model.proofs.NormalLemmas.{parents-cons}
-use Rattle.iref_model.proofs.JoinedLemmas.{without_last, staying-append, are_names, all_first, climbs, open-most, parents-climbs, parents-names}
+use Rattle.iref_model.proofs.JoinedLemmas.{without_last, staying-append, are_names, all_first, climbs, open-most, parents-names}
 use Rattle.iref_model.proofs.SettledLemmas.{ends-append, last_stays, staying-settled, open-settled, normal_from}
 
 -- a list by its decoded segments
@@ -80,9 +80,7 @@ together (s ∷ rest) e = ap without_lone_empty (divided_last s rest) ∙ e
 -- of an absolute path, what a list after a front leaves
 pub walked : (front list tail : List Text) (n : ℕ) → staying_names list ≡ tail → open_parents list ≡ n → ends_in_dots (front ++ list) ≡ false
     → let p : PathValue = record { absolute = true; segments = front ++ list } in normal_segments p ≡ without_lone_empty (without_last n (staying_names front) ++ tail)
-walked front list tail n stay opened ends =
-    normal_from (record { absolute = true; segments = front ++ list }) false (without_last n (staying_names front) ++ tail) ends
-    (staying-append front list ∙ (λ i. without_last (opened i) (staying_names front) ++ stay i))
+walked front list tail n stay opened ends = grind (arith, normal_from, staying-append)
 
 -- the directory as far as it is shared, then the rest of the list
 abbrev pub reached : List Text → List Text → Text → List Text
@@ -98,27 +96,14 @@ decoded-reached directory middle last =
     ∙ ap decoded (sym (append_assoc (take c middle) (drop c middle) (last ∷ [])) ∙ (λ i. take-append-drop c middle i ++ last ∷ []))
 
 reached-without_lone : (directory middle : List Text) (last : Text) → decoded (without_lone_empty (reached directory middle last)) ≡ decoded (without_lone_empty (middle ++ last ∷ []))
-reached-without_lone directory [] last =
-    let within = common_prefix_len-le same_decoded directory [] in
-    let none : shared directory [] ≡ 0 = omega (arith, within.1) in
-    λ i. decoded (without_lone_empty (take (none i) directory ++ (drop (none i) [] ++ last ∷ [])))
-reached-without_lone directory (s ∷ middle) last =
-    let same = decoded-reached directory (s ∷ middle) last in
-    let one = length-map (reached directory (s ∷ middle) last) percent_decode in
-    let other = length-append middle (last ∷ []) in
-    let mapped = length-map (middle ++ last ∷ []) percent_decode in
-    let long : 2 ≤ length (reached directory (s ∷ middle) last) = omega (arith, one, ap length same, other, mapped) in
-    let whole : 2 ≤ length (s ∷ middle ++ last ∷ []) = omega (arith, other) in
-    ap decoded (long_without_lone (reached directory (s ∷ middle) last) long) ∙ same ∙ ap decoded (sym (long_without_lone (s ∷ middle ++ last ∷ []) whole))
+reached-without_lone directory [] last = grind (arith, common_prefix_len-le)
+reached-without_lone directory (s ∷ middle) last = grind (arith, common_steps, decoded-reached, long_without_lone)
 
 -- what each passes, and the empty segment
 pub all_last : (test : Text → Bool) → test [] ≡ true → (list : List Text) → list_all test list ≡ true → (list_all test (all_but_last list) ≡ true) × (test (last_or_empty list) ≡ true)
 all_last test empty [] h = (refl, empty)
 all_last test empty (s ∷ []) h = (refl, (all_first test s [] h).0)
-all_last test empty (s ∷ t ∷ rest) h =
-    let both = all_first test s (t ∷ rest) h in
-    let later = all_last test empty (t ∷ rest) both.1 in
-    ((λ i. both.0 i && later.0 i), later.1)
+all_last test empty (s ∷ t ∷ rest) h = grind (arith, all_last test empty (t ∷ rest))
 
 pub all_drop : (test : Text → Bool) (n : ℕ) (list : List Text) → list_all test list ≡ true → list_all test (drop n list) ≡ true
 all_drop test zero list h = h
@@ -133,18 +118,13 @@ abbrev pub climb_between : List Text → List Text → ℕ
 climb_between directory list = length directory - shared directory (all_but_last list)
 
 pub names_down-all : (test : Text → Bool) → test [] ≡ true → (directory list : List Text) → list_all test list ≡ true → list_all test (names_down directory list) ≡ true
-names_down-all test empty directory list h =
-    let both = all_last test empty list h in
-    let c = shared directory (all_but_last list) in
-    list_all-append test (drop c (all_but_last list)) (last_or_empty list ∷ [])
-    ∙ (λ i. all_drop test c (all_but_last list) both.0 i && (both.1 i && true))
+names_down-all test empty directory list h = grind (arith, common_steps, all_last, all_drop)
 
 pub names_down-names : (directory list : List Text) → are_names list ≡ true → are_names (names_down directory list) ≡ true
 names_down-names = names_down-all is_name refl
 
 pub steps-are : (directory list : List Text) → steps_between directory list ≡ climbs (climb_between directory list) ++ names_down directory list
-steps-are directory list =
-    append_assoc (climbs (climb_between directory list)) (drop (shared directory (all_but_last list)) (all_but_last list)) (last_or_empty list ∷ [])
+steps-are directory list = grind (arith, common_steps)
 
 left_over : (directory : List Text) (c : ℕ) → c ≤ length directory → without_last (length directory - c) directory ≡ take c directory
 left_over directory c h = let e : length directory - (length directory - c) ≡ c = omega (arith, h) in λ i. take (e i) directory
@@ -170,10 +150,10 @@ leads_as front list walk before h lone stay opened last =
     ∙ ap decoded (together list lone)
 
 staying-steps : (directory list : List Text) → are_names list ≡ true → staying_names (steps_between directory list) ≡ names_down directory list
-staying-steps directory list h = ap staying_names (steps-are directory list) ∙ staying-settled (climb_between directory list) (names_down directory list) (names_down-names directory list h)
+staying-steps directory list h = grind (arith, common_steps, staying-settled, names_down-names)
 
 open-steps : (directory list : List Text) → are_names list ≡ true → open_parents (steps_between directory list) ≡ climb_between directory list
-open-steps directory list h = ap open_parents (steps-are directory list) ∙ open-settled (climb_between directory list) (names_down directory list) (names_down-names directory list h)
+open-steps directory list h = grind (arith, common_steps, open-settled, names_down-names)
 
 abbrev before_last : List Text → List Text → List Text
 before_last directory list = climbs (climb_between directory list) ++ drop (shared directory (all_but_last list)) (all_but_last list)
@@ -181,9 +161,7 @@ before_last directory list = climbs (climb_between directory list) ++ drop (shar
 -- the steps lead to the list, also after `.`
 pub steps_lead : (front list : List Text) → are_names list ≡ true → without_lone_empty list ≡ list
     → let p : PathValue = record { absolute = true; segments = front ++ steps_between (staying_names front) list } in decoded (normal_segments p) ≡ decoded list
-steps_lead front list h lone =
-    let directory = staying_names front in
-    leads_as front list (steps_between directory list) (before_last directory list) h lone (staying-steps directory list h) (open-steps directory list h) refl
+steps_lead front list h lone = grind (arith, common_steps, leads_as, staying-steps, open-steps)
 
 pub dotted_steps_lead : (front list : List Text) → are_names list ≡ true → without_lone_empty list ≡ list
     → let p : PathValue = record { absolute = true; segments = front ++ codes "." ∷ steps_between (staying_names front) list } in decoded (normal_segments p) ≡ decoded list
@@ -194,9 +172,7 @@ dotted_steps_lead front list h lone =
 
 -- how many `..` the steps have
 pub parents-steps : (directory list : List Text) → are_names list ≡ true → count_parents (steps_between directory list) ≡ climb_between directory list
-parents-steps directory list h =
-    ap count_parents (steps-are directory list) ∙ parents-climbs (climb_between directory list) (names_down directory list)
-    ∙ (let none = parents-names (names_down directory list) (names_down-names directory list h) in omega (arith, none))
+parents-steps directory list h = grind (arith, common_steps, steps-are, parents-names, names_down-names)
 
 pub parents-dotted : (list : List Text) → count_parents (codes "." ∷ list) ≡ count_parents list
 parents-dotted list = parents-cons (codes ".") list ∙ omega arith

@@ -1,5 +1,6 @@
 -- The stretches of a list, by one count from the back.
-use Rattle.std.proofs.Common.{◌≡◌, ℕ, ◌+◌, ◌-◌, ◌≤◌, ◌<◌, max, Bool, true, false, not, cond, ◌&&◌, ◌||◌, List, [], ◌∷◌, map, refl, sym, ◌∙◌, ap, arith, inl, inr}
+use Rattle.std.proofs.Common.{◌≡◌, ℕ, ◌+◌, ◌-◌, ◌≤◌, ◌<◌, max, Bool, true, false, not, cond, ◌&&◌, ◌||◌, List, [], ◌∷◌, map, refl, ◌∙◌, ap, arith, inl, inr}
+use Rattle.std.proofs.lemmas.Grind.{common_steps}
 use Rattle.std.specs.Prelude.{nat_le, ◌==◌, ◌≢◌}
 use Rattle.std.specs.List.{list_any}
 use Rattle.std.proofs.lemmas.List.Sums.{sum_by-cons}
@@ -28,9 +29,6 @@ greatest_same g h e (f ∷ fronts) = λ i. max (e f i) (greatest_same g h e fron
 pub parents-cons : (s : Text) (f : List Text) → count_parents (s ∷ f) ≡ cond (is_dot_dot s) 1 0 + count_parents f
 parents-cons s f = sum_by-cons (λ x. cond (is_dot_dot x) 1 0) s f
 
-names-cons : (s : Text) (f : List Text) → count_names (s ∷ f) ≡ cond (is_name s) 1 0 + count_names f
-names-cons s f = sum_by-cons (λ x. cond (is_name x) 1 0) s f
-
 -- the count of `..` above k less the count of names above m
 abbrev lead : ℕ → ℕ → List Text → ℕ
 lead k m f = k + count_parents f - (m + count_names f)
@@ -39,16 +37,10 @@ abbrev levels : ℕ → ℕ → List Text → Bool
 levels k m f = (k + count_parents f) == (m + count_names f)
 
 lead-cons : (k m : ℕ) (s : Text) (f : List Text) → lead k m (s ∷ f) ≡ lead (k + cond (is_dot_dot s) 1 0) (m + cond (is_name s) 1 0) f
-lead-cons k m s f =
-    let p = parents-cons s f in
-    let n = names-cons s f in
-    omega arith
+lead-cons k m s f = grind (arith, common_steps)
 
 levels-cons : (k m : ℕ) (s : Text) (f : List Text) → levels k m (s ∷ f) ≡ levels (k + cond (is_dot_dot s) 1 0) (m + cond (is_name s) 1 0) f
-levels-cons k m s f =
-    let p : k + count_parents (s ∷ f) ≡ k + cond (is_dot_dot s) 1 0 + count_parents f = (let h = parents-cons s f in omega arith) in
-    let n : m + count_names (s ∷ f) ≡ m + cond (is_name s) 1 0 + count_names f = (let h = names-cons s f in omega arith) in
-    λ i. p i == n i
+levels-cons k m s f = grind (arith, common_steps)
 
 lead_by_kind : (parent dot : Bool) (k m n : ℕ) → max (k - m) (k + cond parent 1 0 + n - (m + cond (not dot && not parent) 1 0)) ≡ k + counted parent (not dot && not parent) n - m
 lead_by_kind true true k m n = omega arith
@@ -80,15 +72,10 @@ levels_by_kind false true k m n h = grind (arith, nat_tests)
 levels_by_kind false false k m n h = grind (arith, nat_tests)
 
 level_here : (k m n : ℕ) → k ≡ m → (r : Bool) (parent dot : Bool) → (((k + 0) == (m + 0)) || r) ≡ nat_le m (k + counted parent (not dot && not parent) n)
-level_here k m n e r parent dot =
-    let at : ((k + 0) == (m + 0)) ≡ true = grind (arith, nat_tests) in
-    let below : nat_le m (k + counted parent (not dot && not parent) n) ≡ true = grind (arith, nat_tests) in
-    (λ i. at i || r) ∙ sym below
+level_here k m n e r parent dot = grind arith
 
 not_level : (k m : ℕ) → (k ≢ m) → (r : Bool) → (((k + 0) == (m + 0)) || r) ≡ r
-not_level k m h r =
-    let away : ((k + 0) == (m + 0)) ≡ false = grind (arith, nat_tests) in
-    λ i. away i || r
+not_level k m h r = grind arith
 
 step_within : (parent name : Bool) (k m : ℕ) → k < m → k + cond parent 1 0 ≤ m + cond name 1 0
 step_within true true k m h = omega arith

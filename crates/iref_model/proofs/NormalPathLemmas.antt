@@ -1,13 +1,10 @@
 -- Normal paths where they stand: a guard hides nothing, so to normalize again changes nothing.
-use Rattle.std.proofs.Common.{◌≡◌, Bool, true, false, not, cond, ◌&&◌, ◌||◌, List, [], ◌∷◌, ◌++◌, refl, sym, ◌∙◌, ap}
-use Rattle.std.specs.Prelude.{codes, map}
-use mathlib.Core.Bool.{true≢false}
-use Rattle.percent_encoding.specs.Percent.{percent_decode}
+use Rattle.std.proofs.Common.{arith, ◌≡◌, Bool, true, false, cond, List, [], ◌∷◌, ◌++◌, refl, sym, ◌∙◌, ap}
+use Rattle.std.specs.Prelude.{codes}
 use Rattle.iref_grammar.specs.declared.context.PathContext.{PathContext}
 use Rattle.iref_grammar.specs.Rules.{Text}
-use Rattle.iref_grammar.specs.Texts.{is_empty}
 use Rattle.iref_grammar.specs.PathValue.{PathValue}
-use Rattle.iref_grammar.specs.Contexts.{alone, follows_authority, reads_as_path}
+use Rattle.iref_grammar.specs.Contexts.{alone, follows_authority}
 use Rattle.iref_model.specs.Guard.{guarded, made_absolute, dot_where_needed, with_dot}
 use Rattle.iref_model.specs.NormalList.{staying_names, excess, ends_in_dots, closed, without_lone_empty, normal_segments, normal}
 use Rattle.iref_model.specs.PathSteps.{normalized}
@@ -31,20 +28,10 @@ pub normal-with_dot : (p : PathValue) → normal (with_dot p) ≡ normal p
 normal-with_dot p = λ i. record { absolute = p.absolute; segments = dot_harmless p.absolute p.segments i }
 
 normal-dot_where_needed : (context : PathContext) (p : PathValue) → normal (dot_where_needed context p) ≡ normal p
-normal-dot_where_needed context p = by (reads_as_path context p)
-  where
-    by : (b : Bool) → normal (cond b p (with_dot p)) ≡ normal p
-    by true = refl
-    by false = normal-with_dot p
-
-stays_relative : (absolute authority empty : Bool) → (not authority || absolute || empty) ≡ true → (absolute || authority && not empty) ≡ absolute
-stays_relative true authority empty h = refl
-stays_relative false true true h = refl
-stays_relative false true false h = absurd (true≢false (sym h))
-stays_relative false false empty h = refl
+normal-dot_where_needed context p = grind (arith, normal-with_dot)
 
 made_absolute-same : (context : PathContext) (p : PathValue) → follows_authority context p ≡ true → made_absolute context p ≡ p
-made_absolute-same context p h = λ i. record { absolute = stays_relative p.absolute context.has_authority (is_empty p.segments) h i; segments = p.segments }
+made_absolute-same context p h = grind arith
 
 -- a guard changes no normal path
 pub normal-guarded : (context : PathContext) (p : PathValue) → follows_authority context p ≡ true → normal (guarded context p) ≡ normal p
@@ -55,14 +42,7 @@ normal-guarded context p h = normal-dot_where_needed context (made_absolute cont
 
 follows-normal : (context : PathContext) (p : PathValue) → follows_authority context p ≡ true → follows_authority context (normal p) ≡ true
 unfolding normal_segments excess staying_names
-follows-normal context p h = by context.has_authority p.absolute p.segments h
-  where
-    by : (authority absolute : Bool) (segments : List Text) → (not authority || absolute || is_empty segments) ≡ true → (not authority || absolute || is_empty (normal_segments (record { absolute = absolute; segments = segments }))) ≡ true
-    by true true segments h = refl
-    by true false [] h = refl
-    by true false (s ∷ segments) h = absurd (true≢false (sym h))
-    by false true segments h = refl
-    by false false segments h = refl
+follows-normal context p h = grind arith
 
 -- the normal path of a normalized path is its normal path
 pub normal-normalized : (context : PathContext) (p : PathValue) → follows_authority context p ≡ true → normal (normalized context p) ≡ normal p
@@ -74,8 +54,7 @@ normalized-normalized context p h = ap (guarded context) (normal-normalized cont
 -- a normalized path is equal to the path
 pub path_key-normalized : (context : PathContext) (p : PathValue) → follows_authority context p ≡ true → path_key (normalized context p) ≡ path_key p
 unfolding path_key
-path_key-normalized context p h =
-    λ i. record { absolute = (normal-normalized context p h i).absolute; segments = map percent_decode (normal-normalized context p h i).segments }
+path_key-normalized context p h = grind (arith, normal-normalized)
 
 pub path_key-normalized_alone : (p : PathValue) → path_key (normalized alone p) ≡ path_key p
 path_key-normalized_alone p = path_key-normalized alone p refl

@@ -1,5 +1,5 @@
 -- Components are equal, each by its own key, exactly where the keys of their references are the same.
-use Rattle.std.proofs.Common.{◌≡◌, ◌↔◌, Bool, true, ◌&&◌, sym, ap, ◌∙◌, is_eq}
+use Rattle.std.proofs.Common.{arith, ◌≡◌, ◌↔◌, Bool, true, ◌&&◌, sym, ap, ◌∙◌, is_eq}
 use Rattle.std.specs.Prelude.{Option, option_map}
 use Rattle.std.specs.Option.{option_eq}
 use Rattle.std.specs.Str.{str_to_ascii_lowercase}
@@ -18,7 +18,7 @@ use Rattle.iref_model.proofs.TieLemmas.{texts_tie, authorities_tie, paths_tie, b
 module _ {A : Type 0} (text : A → Text) (a b : Option A) where
   pub lower_case_tie : (option_eq (λ x y. is_eq (text_order (str_to_ascii_lowercase (text x)) (str_to_ascii_lowercase (text y)))) a b ≡ true)
       ↔ (option_map str_to_ascii_lowercase (option_map text a) ≡ option_map str_to_ascii_lowercase (option_map text b))
-  lower_case_tie = options_tie_through _ text str_to_ascii_lowercase (λ x y. texts_tie (str_to_ascii_lowercase (text x)) (str_to_ascii_lowercase (text y))) a b
+  lower_case_tie = grind (arith, texts_tie)
 
   pub decoded_tie : (option_eq (λ x y. is_eq (text_order (percent_decode (text x)) (percent_decode (text y)))) a b ≡ true)
       ↔ (option_map percent_decode (option_map text a) ≡ option_map percent_decode (option_map text b))

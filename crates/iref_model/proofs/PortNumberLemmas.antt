@@ -1,5 +1,5 @@
 -- The port of a number is a port, and is read as this number.
-use Rattle.std.proofs.Common.{◌≡◌, ℕ, ◌<◌, ◌^◌, length, true, [], ◌∷◌, refl, ap, ◌∙◌, arith, rules}
+use Rattle.std.proofs.Common.{◌≡◌, ℕ, ◌<◌, ◌^◌, length, true, [], ◌∷◌, refl, arith, rules}
 use Rattle.std.specs.Prelude.{Some}
 use Rattle.std.specs.Str.Parse.{digits_value}
 use Rattle.std.proofs.lemmas.Str.Parse.{IsNumeralModel, numerals_by_value}
@@ -22,9 +22,7 @@ port_text_is_port n h = digits_of_ports.from (port_text n) (decimal_is_IsNumeral
 
 -- a number's port is of that number
 pub port_read_back : (n : ℕ) → n < 2 ^ 128 → port_value (port_text n) ≡ Some n
-port_read_back n h =
-    let d = decimal_is_IsNumeral_wide n (omega arith) in
-    value_of_digits (port_text n) d.0.0 ∙ ap (λ m. Some m) d.1
+port_read_back n h = grind (arith, decimal_is_IsNumeral_wide, value_of_digits)
 
 -- what is written is in its rule, and is read back
 pub ruleset written = (port_text_is_port, port_read_back)

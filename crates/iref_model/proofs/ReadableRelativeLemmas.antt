@@ -1,23 +1,23 @@
 -- A relative reference to a readable target is readable.
-use Rattle.std.proofs.Common.{◌≡◌, ℕ, zero, suc, Bool, true, false, cond, ◌&&◌, List, [], refl, ◌∙◌, ap}
+use Rattle.std.proofs.Common.{arith, ◌≡◌, ℕ, zero, suc, Bool, true, false, cond, ◌&&◌, List, [], refl}
+use Rattle.std.proofs.lemmas.Grind.{common_steps}
 use Rattle.std.specs.List.{list_all}
 use Rattle.std.proofs.lemmas.List.Folds.{list_all-append}
-use Rattle.std.proofs.lemmas.Bool.{and_from, and_parts}
+use Rattle.std.proofs.lemmas.Bool.{and_from}
 use Rattle.iref_grammar.specs.Characters.{CharTests, AreAboveAscii}
 use Rattle.iref_grammar.specs.Rules.{Text}
 use Rattle.iref_grammar.specs.Tests.{is_segment}
 use Rattle.iref_grammar.specs.PathValue.{PathValue}
-use Rattle.iref_model.specs.Guard.{guarded}
 use Rattle.iref_grammar.specs.Contexts.{alone, follows_authority, reads_as_path}
 use Rattle.iref_model.specs.NormalList.{normal_segments, normal}
 use Rattle.iref_grammar.specs.Reference.{ReferenceValue, IsReadable, is_readable}
-use Rattle.iref_model.specs.Relative.{have_same_authority, schemes_agree, is_same_place, steps_between, directory_names, leading_path, with_only_path, relative_to}
+use Rattle.iref_model.specs.Relative.{have_same_authority, schemes_agree, is_same_place, steps_between, leading_path, with_only_path, relative_to}
 use Rattle.iref_grammar.proofs.ReadablePartsLemmas.{readable_parts}
 use Rattle.iref_grammar.proofs.ReferenceRuleLemmas.{Decides-is_readable}
 use Rattle.iref_model.proofs.GuardLemmas.{guarded-fits}
 use Rattle.iref_model.proofs.JoinedLemmas.{climbs}
 use Rattle.iref_model.proofs.StepSegmentLemmas.{TakesDots, normal-in, guarded-in}
-use Rattle.iref_model.proofs.LeadingLemmas.{names_down, names_down-all, climb_between, steps-are}
+use Rattle.iref_model.proofs.LeadingLemmas.{names_down-all, climb_between, steps-are}
 use Rattle.iref_model.proofs.RelativeLemmas.{at_no_root, path_down, stands}
 use Rattle.iref_model.proofs.ReadableStepLemmas.{is_segment-dots}
 
@@ -29,17 +29,10 @@ module _ (test : Text → Bool) (dots : TakesDots test) where
   all_climbs (suc n) = and_from _ _ dots.parent (all_climbs n)
 
   all_steps : (directory list : List Text) → list_all test list ≡ true → list_all test (steps_between directory list) ≡ true
-  all_steps directory list h =
-      ap (list_all test) (steps-are directory list)
-      ∙ list_all-append test (climbs (climb_between directory list)) (names_down directory list)
-      ∙ and_from _ _ (all_climbs (climb_between directory list)) (names_down-all test dots.empty directory list h)
+  all_steps directory list h = grind (arith, common_steps, steps-are, list_all-append, climbs, climb_between, all_climbs, names_down-all)
 
   pub all_leading : (target base : ReferenceValue) → list_all test target.path.segments ≡ true → list_all test (leading_path target base).segments ≡ true
-  all_leading target base h = by base.path.absolute (normal-in test dots target.path h)
-    where
-      by : (b : Bool) → list_all test (normal_segments target.path) ≡ true → list_all test (guarded alone (cond b (at_no_root (path_down base.path (normal_segments target.path))) (normal target.path))).segments ≡ true
-      by true k = guarded-in test dots alone (at_no_root (path_down base.path (normal_segments target.path))) (all_steps (directory_names base.path) (normal_segments target.path) k)
-      by false k = guarded-in test dots alone (normal target.path) k
+  all_leading target base h = grind (arith, common_steps, normal-in, at_no_root, guarded-in, all_steps)
 
 -- ---- the answer
 
@@ -48,10 +41,7 @@ readable-stands set r readable = (readable_parts set r readable).follows
 
 only_path-readable : (set : CharTests) (target : ReferenceValue) (p : PathValue) → is_readable set target ≡ true → list_all (is_segment set) p.segments ≡ true → (follows_authority alone p && reads_as_path alone p) ≡ true → is_readable set (with_only_path p target) ≡ true
 unfolding is_readable
-only_path-readable set target p readable segments fits =
-    let own = readable_parts set target readable in
-    let end = and_parts (follows_authority alone p) (reads_as_path alone p) fits in
-    λ i. segments i && own.query i && own.fragment i && end.0 i && end.1 i
+only_path-readable set target p readable segments fits = grind (arith, readable_parts)
 
 leading_path-fits : (target base : ReferenceValue) → (follows_authority alone (leading_path target base) && reads_as_path alone (leading_path target base)) ≡ true
 leading_path-fits target base = guarded-fits alone (cond base.path.absolute (at_no_root (path_down base.path (normal_segments target.path))) (normal target.path))

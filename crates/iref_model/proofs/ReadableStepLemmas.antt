@@ -1,5 +1,6 @@
 -- Each step of a path keeps it readable in its context.
-use Rattle.std.proofs.Common.{◌≡◌, Bool, true, List, refl}
+use Rattle.std.proofs.Common.{arith, ◌≡◌, Bool, true, List, refl}
+use Rattle.std.proofs.lemmas.Grind.{common_steps}
 use Rattle.std.proofs.lemmas.Bool.{and_from, and_parts}
 use Rattle.std.specs.List.{list_all}
 use Rattle.iref_grammar.proofs.EmptyLemmas.{is_segment_empty}
@@ -32,9 +33,7 @@ module _ (set : CharTests) (context : PathContext) where
 
   -- what keeps and_from keeps the path readable
   kept : (p new : PathValue) → (are_segments p.segments ≡ true → are_segments new.segments ≡ true) → (fits context p ≡ true → fits context new ≡ true) → is_readable p ≡ true → is_readable new ≡ true
-  kept p new segments fit h =
-      let parts = and_parts (are_segments p.segments) (fits context p) h in
-      readable_from new (segments parts.0) (fit parts.1)
+  kept p new segments fit h = grind (arith, and_parts)
 
   pub guarded-readable : (p : PathValue) → are_segments p.segments ≡ true → is_readable (guarded context p) ≡ true
   guarded-readable p h = readable_from (guarded context p) (guarded-in (is_segment set) (is_segment-dots set) context p h) (guarded-fits context p)
@@ -62,7 +61,7 @@ module _ (set : CharTests) (context : PathContext) where
   replaced-readable new p = guarded-readable new
 
   pub normalized-readable : (p : PathValue) → are_segments p.segments ≡ true → is_readable (normalized context p) ≡ true
-  normalized-readable p k = readable_from (normalized context p) (normalized-in (is_segment set) (is_segment-dots set) context p k) (normalized-fits context p)
+  normalized-readable p k = grind (arith, common_steps, readable_from, normalized-in, is_segment-dots, normalized-fits)
 
   pub cleared-readable : (p : PathValue) → is_readable (cleared p) ≡ true
   cleared-readable p = readable_from (cleared p) refl (cleared-fits context p)

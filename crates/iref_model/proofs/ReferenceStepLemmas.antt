@@ -1,21 +1,21 @@
 -- Each step of a reference keeps it readable.
-use Rattle.std.proofs.Common.{◌≡◌, Bool, true, ◌&&◌, List, [], refl}
+use Rattle.std.proofs.Common.{arith, ◌≡◌, true, List, [], refl}
+use Rattle.std.proofs.lemmas.Grind.{common_steps}
 use Rattle.std.proofs.lemmas.Bool.{and_from, and_parts}
-use Rattle.std.specs.Prelude.{Option, Some, None, is_some, is_none, option_map}
+use Rattle.std.specs.Prelude.{Option, Some, None, is_some, is_none}
 use Rattle.std.specs.List.{list_all}
 use Rattle.iref_grammar.specs.declared.context.PathContext.{PathContext}
 use Rattle.iref_grammar.specs.Characters.{CharTests}
 use Rattle.iref_grammar.specs.Rules.{Text}
 use Rattle.iref_grammar.specs.Tests.{is_scheme, is_segment, is_query, is_fragment, is_user_info, is_host, is_port, none_or}
 use Rattle.iref_grammar.specs.Authority.{AuthorityValue, has_authority_parts}
-use Rattle.iref_grammar.specs.PathValue.{PathValue, shows_its_list, spell_path}
-use Rattle.iref_grammar.specs.Contexts.{follows_authority, reads_as_path, is_no_authority, is_no_scheme, fits}
+use Rattle.iref_grammar.specs.PathValue.{PathValue, spell_path}
+use Rattle.iref_grammar.specs.Contexts.{fits}
 use Rattle.iref_model.specs.PathSteps.{lazy_pushed, popped, pushed, appended, lazy_appended, replaced, joined, normalized, cleared}
 use Rattle.iref_grammar.specs.Reference.{ReferenceValue, context_of, is_readable}
 use Rattle.iref_model.specs.ComponentSteps.{guarded_reference, with_scheme, path_after_new_authority, with_authority, with_path, with_query, with_fragment, with_authority_step, with_path_step, with_normal_path, with_new_normal_path}
 use Rattle.iref_model.specs.AuthoritySteps.{with_user_info, with_host, with_port}
 use Rattle.iref_model.specs.Key.{key}
-use Rattle.iref_grammar.proofs.TextLemmas.{first_of_both}
 use Rattle.iref_grammar.proofs.ReadablePartsLemmas.{readable_parts, readable_from}
 use Rattle.iref_model.proofs.GuardLemmas.{guarded-fits}
 use Rattle.iref_model.proofs.RewritingLemmas.{path_removes_dot_segments}
@@ -34,18 +34,7 @@ pub with_path_step-readable : (set : CharTests) (step : PathContext → PathValu
     → (fits (context_of r) r.path ≡ true → fits (context_of r) (step (context_of r) r.path) ≡ true)
     → (all_in (is_segment set) r.path ≡ true → all_in (is_segment set) (step (context_of r) r.path) ≡ true)
     → is_readable set r ≡ true → is_readable set (with_path_step step r) ≡ true
-with_path_step-readable set step r keeps_fit keeps_in h =
-    let parts = readable_parts set r h in
-    let stepped = and_parts _ _ (keeps_fit (and_from _ _ parts.follows parts.reads)) in
-    readable_from set (with_path_step step r) (record {
-      scheme = parts.scheme;
-      authority = parts.authority;
-      segments = keeps_in parts.segments;
-      query = parts.query;
-      fragment = parts.fragment;
-      follows = stepped.0;
-      reads = stepped.1;
-    })
+with_path_step-readable set step r keeps_fit keeps_in h = grind (arith, common_steps, readable_parts, readable_from)
 
 pub lazy_pushed-readable : (set : CharTests) (s : Text) (r : ReferenceValue) → is_segment set s ≡ true → is_readable set r ≡ true → is_readable set (with_path_step (λ context. lazy_pushed context s) r) ≡ true
 lazy_pushed-readable set s r k = with_path_step-readable set (λ context. lazy_pushed context s) r (lazy_pushed-fits (context_of r) s r.path) (lazy_pushed-in (is_segment set) (is_segment-dots set) (context_of r) s r.path k)
@@ -103,26 +92,12 @@ guarded_reference-readable set r own =
       reads = guarded_fits.1;
     })
 
--- what reads as a path anywhere does so after a scheme, and what follows an authority follows it there
-reads-after_scheme : (shown no_authority no_scheme : Bool) → (shown && no_authority && no_scheme) ≡ true → (shown && no_authority && true) ≡ true
-reads-after_scheme shown no_authority no_scheme h = and_from _ _ (first_of_both (shown && no_authority) no_scheme h) refl
-
 pub with_scheme-readable : (set : CharTests) (scheme : Option Text) (r : ReferenceValue) → none_or is_scheme scheme ≡ true → is_readable set r ≡ true → is_readable set (with_scheme scheme r) ≡ true
 unfolding with_scheme
 with_scheme-readable set None r k h =
     let own = readable_components set r h in
     guarded_reference-readable set (record r { scheme = None }) (record { scheme = refl; authority = own.authority; segments = own.segments; query = own.query; fragment = own.fragment })
-with_scheme-readable set (Some s) r k h =
-    let parts = readable_parts set r h in
-    readable_from set (record r { scheme = Some s }) (record {
-      scheme = k;
-      authority = parts.authority;
-      segments = parts.segments;
-      query = parts.query;
-      fragment = parts.fragment;
-      follows = parts.follows;
-      reads = reads-after_scheme (shows_its_list r.path) (is_no_authority (context_of r) r.path) (is_no_scheme (context_of r) r.path) parts.reads;
-    })
+with_scheme-readable set (Some s) r k h = grind (arith, common_steps, readable_parts, readable_from)
 
 pub with_authority-readable : (set : CharTests) (authority : Option AuthorityValue) (r : ReferenceValue) → none_or (has_authority_parts set) authority ≡ true → is_readable set r ≡ true → is_readable set (with_authority authority r) ≡ true
 unfolding with_authority
@@ -143,14 +118,10 @@ with_path-readable set p r k h =
     guarded_reference-readable set (record r { path = p }) (record { scheme = own.scheme; authority = own.authority; segments = k; query = own.query; fragment = own.fragment })
 
 pub with_query-readable : (set : CharTests) (query : Option Text) (r : ReferenceValue) → none_or (is_query set) query ≡ true → is_readable set r ≡ true → is_readable set (with_query query r) ≡ true
-with_query-readable set query r k h =
-    let parts = readable_parts set r h in
-    readable_from set (with_query query r) (record { scheme = parts.scheme; authority = parts.authority; segments = parts.segments; query = k; fragment = parts.fragment; follows = parts.follows; reads = parts.reads })
+with_query-readable set query r k h = grind (arith, readable_parts, readable_from)
 
 pub with_fragment-readable : (set : CharTests) (fragment : Option Text) (r : ReferenceValue) → none_or (is_fragment set) fragment ≡ true → is_readable set r ≡ true → is_readable set (with_fragment fragment r) ≡ true
-with_fragment-readable set fragment r k h =
-    let parts = readable_parts set r h in
-    readable_from set (with_fragment fragment r) (record { scheme = parts.scheme; authority = parts.authority; segments = parts.segments; query = parts.query; fragment = k; follows = parts.follows; reads = parts.reads })
+with_fragment-readable set fragment r k h = grind (arith, readable_parts, readable_from)
 
 pub with_normal_path-readable : (set : CharTests) (r : ReferenceValue) → is_readable set r ≡ true → is_readable set (with_normal_path r) ≡ true
 with_normal_path-readable set r h = normalized-readable set r h
@@ -163,26 +134,7 @@ with_new_normal_path-readable set p r k h = with_normal_path-readable set (with_
 -- a step that keeps the parts of an authority in their rules keeps the reference readable
 with_authority_step-readable : (set : CharTests) (step : AuthorityValue → AuthorityValue) (r : ReferenceValue) → ((a : AuthorityValue) → has_authority_parts set a ≡ true → has_authority_parts set (step a) ≡ true)
     → is_readable set r ≡ true → is_readable set (with_authority_step step r) ≡ true
-with_authority_step-readable set step r keeps h =
-    let parts = readable_parts set r h in
-    readable_from set (with_authority_step step r) (record {
-      scheme = parts.scheme;
-      authority = stepped r.authority parts.authority;
-      segments = parts.segments;
-      query = parts.query;
-      fragment = parts.fragment;
-      follows = in_context r.authority (λ has. follows_authority (record { has_scheme = is_some r.scheme; has_authority = has }) r.path) parts.follows;
-      reads = in_context r.authority (λ has. reads_as_path (record { has_scheme = is_some r.scheme; has_authority = has }) r.path) parts.reads;
-    })
-  where
-    stepped : (authority : Option AuthorityValue) → none_or (has_authority_parts set) authority ≡ true → none_or (has_authority_parts set) (option_map step authority) ≡ true
-    stepped None k = refl
-    stepped (Some a) k = keeps a k
-
-    -- there is an authority after the step exactly if there was one
-    in_context : (authority : Option AuthorityValue) (test : Bool → Bool) → test (is_some authority) ≡ true → test (is_some (option_map step authority)) ≡ true
-    in_context None test k = k
-    in_context (Some a) test k = k
+with_authority_step-readable set step r keeps h = grind (arith, readable_parts, readable_from)
 
 -- the parts of an authority are in their rules
 record HasParts (set : CharTests) (a : AuthorityValue) : Type 0 where
@@ -192,26 +144,20 @@ record HasParts (set : CharTests) (a : AuthorityValue) : Type 0 where
 
 authority_parts : (set : CharTests) (a : AuthorityValue) → has_authority_parts set a ≡ true → HasParts set a
 unfolding has_authority_parts
-authority_parts set a h =
-    let two = and_parts (none_or (is_user_info set) a.user_info && is_host set a.host) (none_or is_port a.port) h in
-    let one = and_parts (none_or (is_user_info set) a.user_info) (is_host set a.host) two.0 in
-    record { user_info = one.0; host = one.1; port = two.1 }
+authority_parts set a h = grind arith
 
 authority_from : (set : CharTests) (a : AuthorityValue) → HasParts set a → has_authority_parts set a ≡ true
 unfolding has_authority_parts
 authority_from set a parts = and_from _ _ (and_from _ _ parts.user_info parts.host) parts.port
 
 pub with_user_info-readable : (set : CharTests) (user_info : Option Text) (r : ReferenceValue) → none_or (is_user_info set) user_info ≡ true → is_readable set r ≡ true → is_readable set (with_authority_step (with_user_info user_info) r) ≡ true
-with_user_info-readable set user_info r k =
-    with_authority_step-readable set (with_user_info user_info) r (λ a h. let parts = authority_parts set a h in authority_from set (with_user_info user_info a) (record { user_info = k; host = parts.host; port = parts.port }))
+with_user_info-readable set user_info r k = grind (arith, common_steps, with_authority_step-readable, authority_parts, authority_from)
 
 pub with_host-readable : (set : CharTests) (host : Text) (r : ReferenceValue) → is_host set host ≡ true → is_readable set r ≡ true → is_readable set (with_authority_step (with_host host) r) ≡ true
-with_host-readable set host r k =
-    with_authority_step-readable set (with_host host) r (λ a h. let parts = authority_parts set a h in authority_from set (with_host host a) (record { user_info = parts.user_info; host = k; port = parts.port }))
+with_host-readable set host r k = grind (arith, common_steps, with_authority_step-readable, authority_parts, authority_from)
 
 pub with_port-readable : (set : CharTests) (port : Option Text) (r : ReferenceValue) → none_or is_port port ≡ true → is_readable set r ≡ true → is_readable set (with_authority_step (with_port port) r) ≡ true
-with_port-readable set port r k =
-    with_authority_step-readable set (with_port port) r (λ a h. let parts = authority_parts set a h in authority_from set (with_port port a) (record { user_info = parts.user_info; host = parts.host; port = k }))
+with_port-readable set port r k = grind (arith, common_steps, with_authority_step-readable, authority_parts, authority_from)
 
 pub with_whole_authority-readable : (set : CharTests) (new : AuthorityValue) (r : ReferenceValue) → has_authority_parts set new ≡ true → is_readable set r ≡ true → is_readable set (with_authority_step (λ a. new) r) ≡ true
 with_whole_authority-readable set new r k = with_authority_step-readable set (λ a. new) r (λ a h. k)

@@ -1,5 +1,6 @@
 -- A relative reference leads back to its target, and none climbs less.
 use Rattle.std.proofs.Common.{arith, ◌≡◌, ◌≤◌, Bool, true, false, cond, ◌&&◌, ◌||◌, List, [], ◌∷◌, ◌++◌, refl, sym, ◌∙◌, ap, Option, Some, None, option_map, is_some, is_none, codes}
+use Rattle.std.proofs.lemmas.Grind.{common_steps}
 use Rattle.std.proofs.lemmas.Bool.{and_parts}
 use Rattle.std.specs.Option.{option_or}
 use Rattle.std.specs.Str.{str_to_ascii_lowercase}
@@ -18,7 +19,7 @@ use Rattle.iref_model.specs.Resolution.{resolved}
 use Rattle.iref_model.specs.AuthorityKey.{authority_key}
 use Rattle.iref_model.specs.Key.{key}
 use Rattle.iref_model.specs.PathKey.{path_key}
-use Rattle.iref_model.specs.Relative.{have_same_scheme, have_same_authority, have_same_path, schemes_agree, is_same_place, steps_between, directory_names, leading_path, with_only_path, relative_to}
+use Rattle.iref_model.specs.Relative.{have_same_authority, schemes_agree, is_same_place, steps_between, directory_names, leading_path, with_only_path, relative_to}
 use Rattle.iref_model.specs.RelativeLaws.{IsOnlyPath}
 use Rattle.iref_model.proofs.JoinedLemmas.{are_names}
 use Rattle.iref_model.proofs.NormalPathLemmas.{normal-with_dot, normal-guarded, path_key-normalized}
@@ -117,32 +118,13 @@ resolved-relative base (s ∷ rest) query fragment root some = by base.authority
 
 -- ---- where scheme and authority agree
 
-some_of_key : {A B : Type 0} (f : A → B) (x y : Option A) → option_map f x ≡ option_map f y → is_some y ≡ true → is_some x ≡ true
-some_of_key f x None e h = absurd (true≢false (sym h))
-some_of_key f None (Some y) e h = cc
-some_of_key f (Some x) (Some y) e h = refl
-
 -- a target that takes its scheme from the base has an authority or begins at the root
 pub takes_scheme : (target base : ReferenceValue) → is_some base.scheme ≡ true → schemes_agree target base ≡ true → (is_some target.scheme || is_some target.authority || target.path.absolute) ≡ true
 unfolding key
-takes_scheme target base full agree = by (have_same_scheme target base) refl target.scheme refl (is_some target.authority) target.path.absolute agree
-  where
-    by : (same : Bool) → have_same_scheme target base ≡ same → (scheme : Option Text) → target.scheme ≡ scheme → (authority absolute : Bool) → (same || is_none scheme && (authority || absolute)) ≡ true → (is_some scheme || authority || absolute) ≡ true
-    by same e (Some s) f true absolute h = refl
-    by same e (Some s) f false true h = refl
-    by same e (Some s) f false false h = refl
-    by same e None f true absolute h = refl
-    by same e None f false true h = refl
-    by true e None f false false h = absurd (true≢false (sym (ap is_some (sym f) ∙ some_of_key str_to_ascii_lowercase target.scheme base.scheme (same_scheme target base e) full)))
-    by false e None f false false h = absurd (true≢false (sym h))
+takes_scheme target base full agree = grind arith
 
 scheme_of_uri_parts : (target base : ReferenceValue) → is_some target.scheme ≡ true → schemes_agree target base ≡ true → (key target).scheme ≡ (key base).scheme
-scheme_of_uri_parts target base full agree = by target.scheme (have_same_scheme target base) refl (is_some target.authority || target.path.absolute) full agree
-  where
-    by : (scheme : Option Text) (same : Bool) → have_same_scheme target base ≡ same → (from_base : Bool) → is_some scheme ≡ true → (same || is_none scheme && from_base) ≡ true → (key target).scheme ≡ (key base).scheme
-    by scheme true e from_base full h = same_scheme target base e
-    by (Some s) false e from_base full h = absurd (true≢false (sym h))
-    by None false e from_base full h = absurd (true≢false (sym full))
+scheme_of_uri_parts target base full agree = grind (arith, same_scheme)
 
 -- a target that agrees with the base resolves to its own path, query and fragment under the base
 pub resolved-agreeing : (target base : ReferenceValue) → is_some base.scheme ≡ true → schemes_agree target base ≡ true → have_same_authority target base ≡ true → stands target
@@ -172,21 +154,10 @@ resolved-agreeing target base full agree same stand = by target.scheme target.au
 
 -- ---- each case of the answer
 
-query_kept : (query own : Option Text) → (is_some query || is_none own) ≡ true → option_map percent_decode (option_or query own) ≡ option_map percent_decode query
-query_kept (Some q) own h = refl
-query_kept None None h = refl
-query_kept None (Some q) h = absurd (true≢false (sym h))
-
 -- the empty path leads to the base's own path
 pub same_place-leads : (target base : ReferenceValue) → stands base → is_same_place target base ≡ true
     → key (resolved base (with_only_path (at_no_root []) target)) ≡ key_under base (path_key target.path) target.query target.fragment
-same_place-leads target base stand h =
-    let first = and_parts (have_same_path target base && (is_some target.query || is_none base.query)) _ h in
-    let second = and_parts (have_same_path target base) (is_some target.query || is_none base.query) first.0 in
-    let path = same_path target base second.0 in
-    let query = query_kept target.query base.query second.1 in
-    resolved-empty base target.query target.fragment stand
-    ∙ (λ i. parts (key base).scheme (key base).authority (sym path i) (query i) (option_map percent_decode target.fragment))
+same_place-leads target base stand h = grind (arith, common_steps, and_parts, is_some, is_none, same_path, resolved-empty)
 
 abbrev pub path_down : PathValue → List Text → List Text
 path_down base list = steps_between (directory_names base) list
@@ -256,39 +227,17 @@ relative_to-leads_full target base own full stand base_stand = relative_to-leads
 
 relative_guarded : (segments : List Text) → (guarded alone (at_no_root segments)).absolute ≡ false
 unfolding guarded
-relative_guarded segments = by (reads_as_path alone (at_no_root segments))
-  where
-    by : (b : Bool) → (cond b (at_no_root segments) (with_dot (at_no_root segments))).absolute ≡ false
-    by true = refl
-    by false = refl
+relative_guarded segments = grind arith
 
 -- where scheme and authority agree and the target begins at the root, neither is written
 pub relative_to-only_path : (target base : ReferenceValue) → schemes_agree target base ≡ true → have_same_authority target base ≡ true → target.path.absolute ≡ true → IsOnlyPath (relative_to target base)
 unfolding relative_to key
-relative_to-only_path target base agree same root = by (schemes_agree target base) (have_same_authority target base) (is_same_place target base) target.path.absolute agree same root
-  where
-    by : (agree same range root : Bool) → agree ≡ true → same ≡ true → root ≡ true
-        → IsOnlyPath (cond (agree && same) (cond range (with_only_path (at_no_root []) target) (cond root (with_only_path (leading_path target base) target) target)) target)
-    by false same range root e f h = absurd (true≢false (sym e))
-    by true false range root e f h = absurd (true≢false (sym f))
-    by true true range false e f h = absurd (true≢false (sym h))
-    by true true true true e f h = record { scheme = refl; authority = refl }
-    by true true false true e f h = record { scheme = refl; authority = refl }
+relative_to-only_path target base agree same root = grind arith
 
 -- where the base begins there too, the answer does not
 pub relative_to-no_root : (target base : ReferenceValue) → schemes_agree target base ≡ true → have_same_authority target base ≡ true → target.path.absolute ≡ true → base.path.absolute ≡ true → (relative_to target base).path.absolute ≡ false
 unfolding relative_to key
-relative_to-no_root target base agree same root base_root =
-    by (schemes_agree target base) (have_same_authority target base) (is_same_place target base) target.path.absolute base.path.absolute agree same root base_root
-  where
-    by : (agree same range root base_root : Bool) → agree ≡ true → same ≡ true → root ≡ true → base_root ≡ true
-        → (cond (agree && same) (cond range (with_only_path (at_no_root []) target) (cond root (with_only_path (guarded alone (cond base_root (at_no_root (path_down base.path (normal_segments target.path))) (normal target.path))) target) target)) target).path.absolute ≡ false
-    by false same range root base_root e f h k = absurd (true≢false (sym e))
-    by true false range root base_root e f h k = absurd (true≢false (sym f))
-    by true true range false base_root e f h k = absurd (true≢false (sym h))
-    by true true range true false e f h k = absurd (true≢false (sym k))
-    by true true true true true e f h k = refl
-    by true true false true true e f h k = relative_guarded (path_down base.path (normal_segments target.path))
+relative_to-no_root target base agree same root base_root = grind (arith, relative_guarded)
 
 -- how many `..` the answer has, at most
 parents_guarded : (directory list : List Text) → are_names list ≡ true → count_parents (guarded alone (at_no_root (steps_between directory list))).segments ≡ climb_between directory list
@@ -324,8 +273,4 @@ pub relative_to-least : (target base : ReferenceValue) → is_some base.scheme �
     → count_parents (relative_to target base).path.segments ≤ count_parents segments
 unfolding normal_segments path_key
 relative_to-least target base full stand agree same root base_root [] some leads = absurd (true≢false some)
-relative_to-least target base full stand agree same root base_root (s ∷ rest) some leads =
-    let there = sym (resolved-relative base (s ∷ rest) target.query target.fragment base_root some) ∙ leads ∙ resolved-agreeing target base full agree same stand in
-    let least = steps_least (all_but_last base.path.segments) s rest (normal_segments target.path) (ap (λ r. r.path.segments) there) in
-    let most = answer_parents target base agree same root base_root in
-    omega (arith, least, most)
+relative_to-least target base full stand agree same root base_root (s ∷ rest) some leads = grind (arith, common_steps, resolved-relative, resolved-agreeing, steps_least, answer_parents)

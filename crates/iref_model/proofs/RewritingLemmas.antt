@@ -1,24 +1,24 @@
 -- `remove_dot_segments` on the text of an absolute path gives the text of its normal path.
-use Rattle.std.proofs.Common.{◌≡◌, ℕ, zero, suc, ◌+◌, ◌≤◌, Bool, true, false, not, cond, ◌&&◌, ◌||◌, List, [], ◌∷◌, ◌++◌, length, take, drop, refl, sym, ◌∙◌, ap, subst, arith, inl, inr, append_assoc}
+use Rattle.std.proofs.Common.{◌≡◌, ℕ, zero, suc, ◌+◌, ◌≤◌, Bool, true, false, not, ◌||◌, List, [], ◌∷◌, ◌++◌, length, take, refl, sym, ◌∙◌, ap, subst, arith, append_assoc}
+use Rattle.std.proofs.lemmas.Grind.{common_steps}
 use Rattle.std.specs.Prelude.{◌==◌, codes, bytes_eq}
 use Rattle.std.specs.List.{list_all, join_with_byte}
 use Rattle.std.specs.Char.{char_set_contains}
 use Rattle.std.proofs.lemmas.List.{append-nil, length-append}
-use Rattle.std.proofs.lemmas.Bool.Decides.{eqb_tells}
 use Rattle.std.proofs.lemmas.Slice.Eq.{bytes_eq-Decides}
 use mathlib.Core.Bool.{true≢false}
 use Rattle.iref_grammar.specs.declared.context.PathContext.{PathContext}
 use Rattle.iref_grammar.specs.Rules.{Text}
 use Rattle.iref_grammar.specs.Grammar.{slash}
-use Rattle.iref_grammar.specs.Texts.{is_empty, before, from_first, pieces_at, begins_with, all_but_last}
+use Rattle.iref_grammar.specs.Texts.{is_empty, before, pieces_at, begins_with, all_but_last}
 use Rattle.iref_grammar.specs.PathValue.{PathValue, spell_path, is_one_empty}
 use Rattle.iref_model.specs.Guard.{guarded}
 use Rattle.iref_model.specs.NormalList.{is_dot, is_dot_dot, is_name, counted, ends_in_dots, without_lone_empty, normal_segments, normal}
 use Rattle.iref_model.specs.NormalReading.{staying_before, closing, items}
 use Rattle.iref_model.specs.PathSteps.{normalized}
-use Rattle.iref_model.specs.DotSegments.{Buffers, without_last_segment, first_segment_moved, rewritten_once, rewritten, RemovesDotSegments, dot_segments_removed}
+use Rattle.iref_model.specs.DotSegments.{Buffers, without_last_segment, rewritten_once, rewritten, RemovesDotSegments, dot_segments_removed}
 use Rattle.iref_grammar.proofs.TextLemmas.{lacks, first_of_both, second_of_both, pieces_at-join, list_all-snoc}
-use Rattle.iref_grammar.proofs.CutLemmas.{before-no, before-yes, from_first-no, from_first-yes}
+use Rattle.iref_grammar.proofs.CutLemmas.{before-no, before-yes}
 use Rattle.iref_model.proofs.StayingLemmas.{staying_before-append, takes_last}
 use Rattle.iref_model.proofs.ItemLemmas.{normal_segments-is, some_name}
 use Rattle.iref_model.proofs.StepSegmentLemmas.{in-staying}
@@ -34,7 +34,7 @@ slashed-joined s (t ∷ rest) = ap (λ x. slash ∷ s ++ x) (slashed-joined t re
 
 slashed-append : (front back : List Text) → slashed (front ++ back) ≡ slashed front ++ slashed back
 slashed-append [] back = refl
-slashed-append (s ∷ front) back = ap (λ x. slash ∷ s ++ x) (slashed-append front back) ∙ ap (λ x. slash ∷ x) (sym (append_assoc s (slashed front) (slashed back)))
+slashed-append (s ∷ front) back = grind (arith, common_steps, slashed-append front back)
 
 slashed-snoc : (front : List Text) (s : Text) → slashed front ++ slash ∷ s ≡ slashed (front ++ s ∷ [])
 slashed-snoc front s = ap (λ x. slashed front ++ slash ∷ x) (sym (append-nil s)) ∙ sym (slashed-append front (s ∷ []))
@@ -68,21 +68,11 @@ item_at_2 x = head_or 0 (tail_of x)
 abbrev item_at_3 : Text → ℕ
 item_at_3 x = head_or 0 (tail_of (tail_of x))
 
-abbrev item_at_4 : Text → ℕ
-item_at_4 x = head_or 0 (tail_of (tail_of (tail_of x)))
-
 dot_is_no_slash : ◌≡◌ {A = ℕ} 46 47 → ⊥
 dot_is_no_slash e = true≢false (ap (λ n. n == 46) e)
 
-none_is_no_slash : ◌≡◌ {A = ℕ} 0 47 → ⊥
-none_is_no_slash e = true≢false (ap (λ n. n == 0) e)
-
 lacks_later : (c : ℕ) (s : Text) → lacks slash (c ∷ s) ≡ true → lacks slash s ≡ true
-lacks_later c s h = by (c == slash) h
-  where
-    by : (b : Bool) → not (b || char_set_contains s slash) ≡ true → lacks slash s ≡ true
-    by true h = absurd (true≢false (sym h))
-    by false h = h
+lacks_later c s h = grind arith
 
 lacks_first_slash : (c : ℕ) (s : Text) → lacks slash (c ∷ s) ≡ true → 47 ≡ c → ⊥
 lacks_first_slash c s h e = true≢false (sym h ∙ (λ i. not ((sym e i == slash) || char_set_contains s slash)))
@@ -90,15 +80,8 @@ lacks_first_slash c s h e = true≢false (sym h ∙ (λ i. not ((sym e i == slas
 not_dot : (s : Text) → is_name s ≡ true → s ≡ codes "." → ⊥
 not_dot s h e = true≢false (sym h ∙ ap is_name e)
 
-not_dot_dot : (s : Text) → is_name s ≡ true → s ≡ codes ".." → ⊥
-not_dot_dot s h e = true≢false (sym h ∙ ap is_name e)
-
 refused : (front text : Text) → (front ≡ text → ⊥) → bytes_eq front text ≡ false
-refused front text h = by (bytes_eq front text) refl
-  where
-    by : (b : Bool) → bytes_eq front text ≡ b → b ≡ false
-    by true e = absurd (h ((bytes_eq-Decides front text).0 e))
-    by false e = refl
+refused front text h = grind (arith, bytes_eq-Decides)
 
 -- a name with a segment after it
 dot_middle : (s y : Text) → lacks slash s ≡ true → is_name s ≡ true → begins_with (codes "/./") (slash ∷ s ++ slash ∷ y) ≡ false
@@ -110,99 +93,36 @@ dot_middle s y h k = refused (codes "/./") (take 3 (slash ∷ s ++ slash ∷ y))
     by (c ∷ d ∷ s) h k e = lacks_first_slash d s (lacks_later c (d ∷ s) h) (ap item_at_3 e)
 
 dot_end_middle : (s y : Text) → bytes_eq (slash ∷ s ++ slash ∷ y) (codes "/.") ≡ false
-dot_end_middle s y = refused (slash ∷ s ++ slash ∷ y) (codes "/.") (by s)
-  where
-    by : (s : Text) → slash ∷ s ++ slash ∷ y ≡ codes "/." → ⊥
-    by [] e = dot_is_no_slash (sym (ap item_at_2 e))
-    by (c ∷ []) e = none_is_no_slash (sym (ap item_at_3 e))
-    by (c ∷ d ∷ s) e = true≢false (sym (ap (λ x. is_empty (tail_of (tail_of x))) e))
-
-parent_middle : (s y : Text) → lacks slash s ≡ true → is_name s ≡ true → begins_with (codes "/../") (slash ∷ s ++ slash ∷ y) ≡ false
-parent_middle s y h k = refused (codes "/../") (take 4 (slash ∷ s ++ slash ∷ y)) (by s h k)
-  where
-    by : (s : Text) → lacks slash s ≡ true → is_name s ≡ true → codes "/../" ≡ take 4 (slash ∷ s ++ slash ∷ y) → ⊥
-    by [] h k e = dot_is_no_slash (ap item_at_2 e)
-    by (c ∷ []) h k e = dot_is_no_slash (ap item_at_3 e)
-    by (c ∷ d ∷ []) h k e = not_dot_dot (c ∷ d ∷ []) k (λ i. sym (ap item_at_2 e) i ∷ sym (ap item_at_3 e) i ∷ [])
-    by (c ∷ d ∷ f ∷ s) h k e = lacks_first_slash f s (lacks_later d (f ∷ s) (lacks_later c (d ∷ f ∷ s) h)) (ap item_at_4 e)
-
-parent_end_middle : (s y : Text) → bytes_eq (slash ∷ s ++ slash ∷ y) (codes "/..") ≡ false
-parent_end_middle s y = refused (slash ∷ s ++ slash ∷ y) (codes "/..") (by s)
-  where
-    by : (s : Text) → slash ∷ s ++ slash ∷ y ≡ codes "/.." → ⊥
-    by [] e = dot_is_no_slash (sym (ap item_at_2 e))
-    by (c ∷ []) e = dot_is_no_slash (sym (ap item_at_3 e))
-    by (c ∷ d ∷ []) e = none_is_no_slash (sym (ap item_at_4 e))
-    by (c ∷ d ∷ f ∷ s) e = true≢false (sym (ap (λ x. is_empty (tail_of (tail_of (tail_of x)))) e))
+dot_end_middle s y = grind (arith, common_steps)
 
 -- the last name
 dot_last : (s : Text) → lacks slash s ≡ true → begins_with (codes "/./") (slash ∷ s) ≡ false
-dot_last s h = refused (codes "/./") (take 3 (slash ∷ s)) (by s h)
-  where
-    by : (s : Text) → lacks slash s ≡ true → codes "/./" ≡ take 3 (slash ∷ s) → ⊥
-    by [] h e = true≢false (sym (ap (λ x. is_empty (tail_of x)) e))
-    by (c ∷ []) h e = true≢false (sym (ap (λ x. is_empty (tail_of (tail_of x))) e))
-    by (c ∷ d ∷ s) h e = lacks_first_slash d s (lacks_later c (d ∷ s) h) (ap item_at_3 e)
+dot_last s h = grind arith
 
 dot_end_last : (s : Text) → is_name s ≡ true → bytes_eq (slash ∷ s) (codes "/.") ≡ false
 dot_end_last s k = refused (slash ∷ s) (codes "/.") (λ e. not_dot s k (ap tail_of e))
 
-parent_last : (s : Text) → lacks slash s ≡ true → begins_with (codes "/../") (slash ∷ s) ≡ false
-parent_last s h = refused (codes "/../") (take 4 (slash ∷ s)) (by s h)
-  where
-    by : (s : Text) → lacks slash s ≡ true → codes "/../" ≡ take 4 (slash ∷ s) → ⊥
-    by [] h e = true≢false (sym (ap (λ x. is_empty (tail_of x)) e))
-    by (c ∷ []) h e = true≢false (sym (ap (λ x. is_empty (tail_of (tail_of x))) e))
-    by (c ∷ d ∷ []) h e = true≢false (sym (ap (λ x. is_empty (tail_of (tail_of (tail_of x)))) e))
-    by (c ∷ d ∷ f ∷ s) h e = lacks_first_slash f s (lacks_later d (f ∷ s) (lacks_later c (d ∷ f ∷ s) h)) (ap item_at_4 e)
-
-parent_end_last : (s : Text) → is_name s ≡ true → bytes_eq (slash ∷ s) (codes "/..") ≡ false
-parent_end_last s k = refused (slash ∷ s) (codes "/..") (λ e. not_dot_dot s k (ap tail_of e))
-
 -- ---- the first segment, cut off
 
 no_slash : (c : ℕ) (s : Text) → lacks slash (c ∷ s) ≡ true → char_set_contains (slash ∷ []) c ≡ false
-no_slash c s h = elim (eqb_tells slash c) [
-  | inl e ↦ absurd (lacks_first_slash c s h e.1)
-  | inr e ↦ λ i. e.0 i || false
-]
+no_slash c s h = grind arith
 
 before-segment : (s y : Text) → lacks slash s ≡ true → before (slash ∷ []) (s ++ slash ∷ y) ≡ s
 before-segment [] y h = before-yes (slash ∷ []) slash y refl
 before-segment (c ∷ s) y h = before-no (slash ∷ []) c (s ++ slash ∷ y) (no_slash c s h) ∙ ap (λ x. c ∷ x) (before-segment s y (lacks_later c s h))
 
-from_first-segment : (s y : Text) → lacks slash s ≡ true → from_first (slash ∷ []) (s ++ slash ∷ y) ≡ slash ∷ y
-from_first-segment [] y h = from_first-yes (slash ∷ []) slash y refl
-from_first-segment (c ∷ s) y h = from_first-no (slash ∷ []) c (s ++ slash ∷ y) (no_slash c s h) ∙ from_first-segment s y (lacks_later c s h)
-
 before-all : (s : Text) → lacks slash s ≡ true → before (slash ∷ []) s ≡ s
 before-all [] h = refl
 before-all (c ∷ s) h = before-no (slash ∷ []) c s (no_slash c s h) ∙ ap (λ x. c ∷ x) (before-all s (lacks_later c s h))
-
-from_first-all : (s : Text) → lacks slash s ≡ true → from_first (slash ∷ []) s ≡ []
-from_first-all [] h = refl
-from_first-all (c ∷ s) h = from_first-no (slash ∷ []) c s (no_slash c s h) ∙ from_first-all s (lacks_later c s h)
 
 -- ---- one step
 
 -- a name moves to the output
 name_middle : (s y output : Text) → lacks slash s ≡ true → is_name s ≡ true → rewritten_once (record { input = slash ∷ s ++ slash ∷ y; output = output }) ≡ record { input = slash ∷ y; output = output ++ slash ∷ s }
-name_middle s y output h k =
-    (λ i. cond (dot_middle s y h k i) (record { input = drop 2 (slash ∷ s ++ slash ∷ y); output = output })
-    (cond (dot_end_middle s y i) (record { input = codes "/"; output = output })
-    (cond (parent_middle s y h k i) (record { input = drop 3 (slash ∷ s ++ slash ∷ y); output = without_last_segment output })
-    (cond (parent_end_middle s y i) (record { input = codes "/"; output = without_last_segment output })
-    (first_segment_moved (slash ∷ s ++ slash ∷ y) output)))))
-    ∙ (λ i. record { input = from_first-segment s y h i; output = output ++ slash ∷ before-segment s y h i })
+name_middle s y output h k = grind (arith, common_steps, dot_middle, dot_end_middle, before-segment)
 
 name_last : (s output : Text) → lacks slash s ≡ true → is_name s ≡ true → rewritten_once (record { input = slash ∷ s; output = output }) ≡ record { input = []; output = output ++ slash ∷ s }
-name_last s output h k =
-    (λ i. cond (dot_last s h i) (record { input = drop 2 (slash ∷ s); output = output })
-    (cond (dot_end_last s k i) (record { input = codes "/"; output = output })
-    (cond (parent_last s h i) (record { input = drop 3 (slash ∷ s); output = without_last_segment output })
-    (cond (parent_end_last s k i) (record { input = codes "/"; output = without_last_segment output })
-    (first_segment_moved (slash ∷ s) output)))))
-    ∙ (λ i. record { input = from_first-all s h i; output = output ++ slash ∷ before-all s h i })
+name_last s output h k = grind (arith, common_steps, dot_last, dot_end_last, before-all)
 
 -- ---- what one segment does to the names that stay so far
 
@@ -213,12 +133,7 @@ stay_parent : (front : List Text) → staying_before (front ++ codes ".." ∷ []
 stay_parent front = staying_before-append front (codes ".." ∷ []) 0 ∙ append-nil (staying_before front 1) ∙ (takes_last front 0).names
 
 stay_name : (front : List Text) (s : Text) → is_name s ≡ true → staying_before (front ++ s ∷ []) 0 ≡ staying_before front 0 ++ s ∷ []
-stay_name front s h = staying_before-append front (s ∷ []) 0 ∙ by (is_dot s) (is_dot_dot s) h
-  where
-    by : (dot parent : Bool) → (not dot && not parent) ≡ true → staying_before front (counted parent (not dot && not parent) 0) ++ cond ((not dot && not parent) && true) (s ∷ []) [] ≡ staying_before front 0 ++ s ∷ []
-    by true parent h = absurd (true≢false (sym h))
-    by false true h = absurd (true≢false (sym h))
-    by false false h = refl
+stay_name front s h = grind (arith, staying_before-append)
 
 -- the output, with the names that stay so far
 abbrev output_of : List Text → Text
@@ -235,12 +150,7 @@ closed_output front = slashed-snoc (staying_before front 0) []
 
 -- a segment is `.`, `..` or a name
 by_kind : (P : Text → Type 0) → P (codes ".") → P (codes "..") → ((s : Text) → is_name s ≡ true → P s) → (s : Text) → P s
-by_kind P dot parent name s = by (is_dot s) refl (is_dot_dot s) refl
-  where
-    by : (a : Bool) → is_dot s ≡ a → (b : Bool) → is_dot_dot s ≡ b → P s
-    by true e b f = subst P (sym ((bytes_eq-Decides s (codes ".")).0 e)) dot
-    by false e true f = subst P (sym ((bytes_eq-Decides s (codes "..")).0 f)) parent
-    by false e false f = name s (λ i. not (e i) && not (f i))
+by_kind P dot parent name s = grind (arith, bytes_eq-Decides)
 
 -- a segment with another after it
 middle_step : (front : List Text) (t : Text) (rest : List Text) → list_all (lacks slash) front ≡ true → (s : Text) → lacks slash s ≡ true
@@ -336,20 +246,12 @@ more_steps (suc n) (suc k) b output h e = more_steps n k (rewritten_once b) outp
 
 pub not_lone : (list : List Text) → is_one_empty (without_lone_empty list) ≡ false
 not_lone [] = refl
-not_lone (s ∷ list) = by (is_one_empty (s ∷ list)) refl
-  where
-    by : (b : Bool) → is_one_empty (s ∷ list) ≡ b → is_one_empty (cond b [] (s ∷ list)) ≡ false
-    by true e = refl
-    by false e = e
+not_lone (s ∷ list) = grind arith
 
 -- under an authority an absolute normal path needs no guard
 pub normalized-under_authority : (scheme : Bool) (segments : List Text) → let p : PathValue = record { absolute = true; segments = segments } in normalized (record { has_scheme = scheme; has_authority = true }) p ≡ normal p
 unfolding guarded
-normalized-under_authority scheme segments = by scheme (normal_segments (record { absolute = true; segments = segments })) (ap is_one_empty (normal_segments-is (record { absolute = true; segments = segments })) ∙ not_lone (items (record { absolute = true; segments = segments })))
-  where
-    by : (scheme : Bool) (list : List Text) → is_one_empty list ≡ false → guarded (record { has_scheme = scheme; has_authority = true }) (record { absolute = true; segments = list }) ≡ record { absolute = true; segments = list }
-    by true list e = λ i. cond (not (e i) && true && true) (record { absolute = true; segments = list }) (record { absolute = true; segments = codes "." ∷ list })
-    by false list e = λ i. cond (not (e i) && true && true) (record { absolute = true; segments = list }) (record { absolute = true; segments = codes "." ∷ list })
+normalized-under_authority scheme segments = grind (arith, normal_segments-is)
 
 -- `normalize` on an absolute path under an authority leaves what the rewriting leaves
 pub removes_dot_segments : (scheme : Bool) (segments : List Text) → list_all (lacks slash) segments ≡ true

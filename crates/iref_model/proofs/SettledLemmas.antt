@@ -1,13 +1,13 @@
 -- A normal list is its own normal list.
-use Rattle.std.proofs.Common.{◌≡◌, ℕ, zero, suc, ◌-◌, Bool, true, false, not, cond, ◌&&◌, List, [], ◌∷◌, ◌++◌, take, refl, sym, ◌∙◌, ap, arith, append_assoc}
-use Rattle.std.proofs.lemmas.List.Folds.{list_all-append}
+use Rattle.std.proofs.Common.{◌≡◌, ℕ, Bool, true, false, not, cond, ◌&&◌, List, [], ◌∷◌, ◌++◌, refl, sym, ◌∙◌, ap, arith}
+use Rattle.std.proofs.lemmas.Grind.{common_steps}
 use mathlib.Core.Bool.{true≢false}
 use Rattle.iref_grammar.specs.Rules.{Text}
 use Rattle.iref_grammar.specs.Texts.{is_empty}
-use Rattle.iref_grammar.specs.PathValue.{PathValue, is_one_empty}
+use Rattle.iref_grammar.specs.PathValue.{PathValue}
 use Rattle.iref_model.specs.NormalList.{is_name, staying_names, stays_before, ends_in_dots, closed, without_lone_empty, kept_segments, normal_segments, normal, open_parents}
 use Rattle.iref_model.proofs.NormalLemmas.{excess-is}
-use Rattle.iref_model.proofs.JoinedLemmas.{without_last, open-append, staying-append, are_names, names_first, open-names, staying-names, are_names-staying, climbs, open-climbs, staying-climbs}
+use Rattle.iref_model.proofs.JoinedLemmas.{open-append, staying-append, are_names, names_first, open-names, staying-names, are_names-staying, climbs, open-climbs, staying-climbs}
 
 -- ---- the last segment
 
@@ -24,11 +24,7 @@ ends-names (s ∷ t ∷ rest) h = ends-names (t ∷ rest) (names_first s (t ∷ 
 -- a last name stays
 pub last_stays : (s : Text) (rest : List Text) → ends_in_dots (s ∷ rest) ≡ false → is_empty (staying_names (s ∷ rest)) ≡ false
 unfolding staying_names
-last_stays s [] h = by (is_name s) h
-  where
-    by : (b : Bool) → not b ≡ false → is_empty (cond (b && true) (s ∷ []) []) ≡ false
-    by true h = refl
-    by false h = absurd (true≢false h)
+last_stays s [] h = grind arith
 last_stays s (t ∷ rest) h = by (is_name s && stays_before (t ∷ rest)) (staying_names (t ∷ rest)) (last_stays t rest h)
   where
     by : (b : Bool) (names : List Text) → is_empty names ≡ false → is_empty (cond b (s ∷ names) names) ≡ false
@@ -46,21 +42,11 @@ pub record IsSettled (absolute : Bool) (list : List Text) : Type 0 where
   pub rooted : absolute ≡ true → climb ≡ 0
   pub ends : is_empty names ≡ true → climb ≡ 0
 
-pub without_last-nil : (n : ℕ) → without_last n [] ≡ []
-without_last-nil n = let e : 0 - n ≡ 0 = omega arith in λ i. take {A = Text} (e i) []
-
 pub staying-settled : (n : ℕ) (names : List Text) → are_names names ≡ true → staying_names (climbs n ++ names) ≡ names
-staying-settled n names h =
-    staying-append (climbs n) names
-    ∙ (λ i. without_last (open_parents names) (staying-climbs n i) ++ staying-names names h i)
-    ∙ (λ i. without_last-nil (open_parents names) i ++ names)
+staying-settled n names h = grind (arith, common_steps, staying-append, climbs, staying-climbs, staying-names)
 
 pub open-settled : (n : ℕ) (names : List Text) → are_names names ≡ true → open_parents (climbs n ++ names) ≡ n
-open-settled n names h =
-    let one = open-append (climbs n) names in
-    let two = open-climbs n in
-    let three = open-names names h in
-    omega (arith, one, two, three)
+open-settled n names h = grind (arith, common_steps, open-append, open-climbs, open-names)
 
 ends-settled : (n : ℕ) (names : List Text) → are_names names ≡ true → (is_empty names ≡ true → n ≡ 0) → ends_in_dots (climbs n ++ names) ≡ false
 ends-settled n [] h ends = λ i. ends_in_dots (climbs (ends refl i) ++ [])
@@ -76,40 +62,7 @@ unfolding normal_segments
 normal_from p ends list e k = λ i. without_lone_empty (cond (e i) (closed (k i)) (k i))
 
 settled-normal : (absolute : Bool) (n : ℕ) (names : List Text) → are_names names ≡ true → (absolute ≡ true → n ≡ 0) → (is_empty names ≡ true → n ≡ 0) → let p : PathValue = record { absolute = absolute; segments = climbs n ++ names } in normal_segments p ≡ without_lone_empty (climbs n ++ names)
-settled-normal absolute n names h rooted ends =
-    normal_from (record { absolute = absolute; segments = climbs n ++ names }) false (climbs n ++ names) (ends-settled n names h ends)
-    (kept_at absolute (climbs n ++ names) n names (λ _. open-settled n names h) (λ e. sym (rooted e)) (staying-settled n names h))
-
-nothing_settled : (absolute : Bool) → IsSettled absolute []
-nothing_settled absolute = record { climb = 0; names = []; are_names = refl; divided = refl; rooted = λ _. refl; ends = λ _. refl }
-
-settled-without_lone : (absolute : Bool) (list : List Text) → IsSettled absolute list → IsSettled absolute (without_lone_empty list)
-settled-without_lone absolute list h = by (is_one_empty list)
-  where
-    by : (b : Bool) → IsSettled absolute (cond b [] list)
-    by true = nothing_settled absolute
-    by false = h
-
-are_names-closed : (names : List Text) → are_names names ≡ true → are_names (names ++ [] ∷ []) ≡ true
-are_names-closed names h = list_all-append is_name names ([] ∷ []) ∙ (λ i. h i && true)
-
-settled-closed : (absolute : Bool) (n : ℕ) (names : List Text) → are_names names ≡ true → (absolute ≡ true → n ≡ 0) → IsSettled absolute (closed (climbs n ++ names))
-settled-closed absolute zero [] h rooted = nothing_settled absolute
-settled-closed absolute zero (s ∷ names) h rooted =
-    record { climb = 0; names = s ∷ names ++ [] ∷ []; are_names = are_names-closed (s ∷ names) h; divided = refl; rooted = rooted; ends = λ e. absurd (true≢false (sym e)) }
-settled-closed absolute (suc n) names h rooted =
-    record {
-      climb = suc n;
-      names = names ++ [] ∷ [];
-      are_names = are_names-closed names h;
-      divided = append_assoc (climbs (suc n)) names ([] ∷ []);
-      rooted = rooted;
-      ends = by names;
-    }
-  where
-    by : (names : List Text) → is_empty (names ++ [] ∷ []) ≡ true → suc n ≡ 0
-    by [] e = absurd (true≢false (sym e))
-    by (s ∷ names) e = absurd (true≢false (sym e))
+settled-normal absolute n names h rooted ends = grind (arith, common_steps, normal_from, climbs, ends-settled, kept_at, open-settled, staying-settled)
 
 -- how many `..` the path keeps
 abbrev pub lead : Bool → List Text → ℕ
@@ -140,7 +93,7 @@ settled_kept absolute segments e =
     by false (s ∷ rest) e h = absurd (true≢false (sym h ∙ last_stays s rest e))
 
 pub settled_before_lone : (absolute : Bool) (segments : List Text) (ends : Bool) → ends_in_dots segments ≡ ends → let list = climbs (lead absolute segments) ++ staying_names segments in IsSettled absolute (cond ends (closed list) list)
-settled_before_lone absolute segments true e = settled-closed absolute (lead absolute segments) (staying_names segments) (are_names-staying segments) (lead_rooted absolute segments)
+settled_before_lone absolute segments true e = grind (arith, common_steps, are_names-staying)
 settled_before_lone absolute segments false e = settled_kept absolute segments e
 
 abbrev pub before_lone : Bool → List Text → List Text
@@ -149,30 +102,20 @@ before_lone absolute segments =
     cond (ends_in_dots segments) (closed list) list
 
 pub normal-is : (absolute : Bool) (segments : List Text) → let p : PathValue = record { absolute = absolute; segments = segments } in normal_segments p ≡ without_lone_empty (before_lone absolute segments)
-normal-is absolute segments = normal_from (record { absolute = absolute; segments = segments }) (ends_in_dots segments) (climbs (lead absolute segments) ++ staying_names segments) refl (kept-is absolute segments)
+normal-is absolute segments = grind (arith, common_steps, normal_from, kept-is)
 
 pub without_lone-again : (list : List Text) → without_lone_empty (without_lone_empty list) ≡ without_lone_empty list
-without_lone-again list = by (is_one_empty list) refl
-  where
-    by : (b : Bool) → is_one_empty list ≡ b → without_lone_empty (cond b [] list) ≡ cond b [] list
-    by true e = refl
-    by false e = λ i. cond (e i) [] list
+without_lone-again list = grind arith
 
 normal_of_settled : (absolute : Bool) (list : List Text) → IsSettled absolute list → let p : PathValue = record { absolute = absolute; segments = list } in normal_segments p ≡ without_lone_empty list
-normal_of_settled absolute list s =
-    (λ i. let p : PathValue = record { absolute = absolute; segments = s.divided i } in normal_segments p)
-    ∙ settled-normal absolute s.climb s.names s.are_names s.rooted s.ends ∙ (λ i. without_lone_empty (sym s.divided i))
+normal_of_settled absolute list s = grind (arith, settled-normal)
 
 pub normal_settled : (absolute : Bool) (segments : List Text) → let p : PathValue = record { absolute = absolute; segments = segments } in IsSettled absolute (without_lone_empty (before_lone absolute segments))
-normal_settled absolute segments = settled-without_lone absolute (before_lone absolute segments) (settled_before_lone absolute segments (ends_in_dots segments) refl)
+normal_settled absolute segments = grind (arith, settled_before_lone)
 
 -- a normal list is its own normal list
 again : (absolute : Bool) (segments : List Text) → let p : PathValue = record { absolute = absolute; segments = segments } in normal_segments (normal p) ≡ normal_segments p
-again absolute segments =
-    let same = normal-is absolute segments in
-    (λ i. let q : PathValue = record { absolute = absolute; segments = same i } in normal_segments q)
-    ∙ normal_of_settled absolute (without_lone_empty (before_lone absolute segments)) (normal_settled absolute segments)
-    ∙ without_lone-again (before_lone absolute segments) ∙ sym same
+again absolute segments = grind (arith, common_steps, normal-is, normal_of_settled, normal_settled, without_lone-again)
 
 pub normal_again : (p : PathValue) → normal (normal p) ≡ normal p
 normal_again p = λ i. record { absolute = p.absolute; segments = again p.absolute p.segments i }

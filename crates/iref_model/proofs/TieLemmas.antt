@@ -1,5 +1,5 @@
 -- Keys tie exactly where they are the same, and tests of parts are true exactly where the keys of the parts are.
-use Rattle.std.proofs.Common.{◌≡◌, ◌↔◌, Bool, true, ◌&&◌, refl, sym, ap, ◌∙◌, Option, Some, None, is_eq}
+use Rattle.std.proofs.Common.{arith, ◌≡◌, ◌↔◌, Bool, true, ◌&&◌, refl, sym, ap, ◌∙◌, Option, Some, None, is_eq}
 use Rattle.std.specs.Prelude.{option_map, is_some}
 use Rattle.std.specs.Option.{option_eq}
 use Rattle.std.specs.Hash.{HashWrites, option}
@@ -50,9 +50,7 @@ option_map_twice f g (Some v) = refl
 
 pub options_tie_through : {A B K : Type 0} (eq : A → A → Bool) (f : A → B) (g : B → K) → ((x y : A) → (eq x y ≡ true) ↔ (g (f x) ≡ g (f y)))
     → (a b : Option A) → (option_eq eq a b ≡ true) ↔ (option_map g (option_map f a) ≡ option_map g (option_map f b))
-options_tie_through eq f g h a b =
-    let tie = options_tie_by eq (λ v. g (f v)) h a b in
-    (λ e. option_map_twice f g a ∙ tie.0 e ∙ sym (option_map_twice f g b), λ e. tie.1 (sym (option_map_twice f g a) ∙ e ∙ option_map_twice f g b))
+options_tie_through eq f g h a b = grind arith
 
 -- the bytes that are hashed of what may be absent
 pub feeds_by : {A K : Type 0} (fed : K → HashWrites) (key : A → K) (o : Option A) → option (λ v. fed (key v)) o ≡ option fed (option_map key o)
