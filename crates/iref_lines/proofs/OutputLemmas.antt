@@ -1,12 +1,12 @@
 -- The output of an input that is cut where a line ends.
-use Rattle.std.proofs.Common.{◌≡◌, List, [], ◌∷◌, ◌++◌, refl, sym, ◌∙◌, ap, append_assoc, append-nil}
-use Rattle.std.specs.List.{flat_map}
+use Rattle.std.proofs.Common.{arith, ◌≡◌, List, [], ◌∷◌, ◌++◌, refl, sym, ◌∙◌, ap, append_assoc, append-nil}
+use Rattle.std.proofs.lemmas.Grind.{common_steps}
 use Rattle.std.proofs.lemmas.List.Concat.{flat_map-append}
 use Rattle.iref_grammar.specs.Characters.{CharTests}
 use Rattle.iref_grammar.specs.Rules.{Text}
 use Rattle.iref_grammar.specs.Texts.{pieces_at}
 use Rattle.iref_model.proofs.PieceLemmas.{pieces-append, some_piece}
-use Rattle.iref_lines.specs.Lines.{Verbs, newline, answer, answer_text, without_empty_last, lines_of, output}
+use Rattle.iref_lines.specs.Lines.{Verbs, newline, without_empty_last, lines_of, output}
 
 pub without_empty_last-append : (lines : List Text) (line : Text) (rest : List Text) → without_empty_last (lines ++ line ∷ rest) ≡ lines ++ without_empty_last (line ∷ rest)
 without_empty_last-append [] line rest = refl
@@ -22,12 +22,8 @@ lines_of-after first rest =
     ∙ sym (ap (λ ps. pieces_at newline first ++ without_empty_last ps) some.2)
 
 pub lines_of-cut : (first second : Text) → lines_of ((first ++ newline ∷ []) ++ second) ≡ lines_of (first ++ newline ∷ []) ++ lines_of second
-lines_of-cut first second =
-    ap lines_of (append_assoc first (newline ∷ []) second) ∙ lines_of-after first second
-    ∙ sym (ap (λ ls. ls ++ lines_of second) (lines_of-after first [] ∙ append-nil (pieces_at newline first)))
+lines_of-cut first second = grind (arith, common_steps, append_assoc, lines_of-after, append-nil)
 
 pub output_cut : (set : CharTests) (verbs : Verbs) (first second : Text) → output set verbs ((first ++ newline ∷ []) ++ second) ≡ output set verbs (first ++ newline ∷ []) ++ output set verbs second
 unfolding output
-output_cut set verbs first second =
-    let written = λ (line : Text). answer_text (answer set verbs line) ++ newline ∷ [] in
-    ap (flat_map written) (lines_of-cut first second) ∙ flat_map-append written (lines_of (first ++ newline ∷ [])) (lines_of second)
+output_cut set verbs first second = grind (arith, common_steps, lines_of-cut, flat_map-append)
