@@ -1,5 +1,6 @@
 -- What the components of a text lack: the delimiters that end them.
-use Rattle.std.proofs.Common.{arith, ◌≡◌, ℕ, Bool, true, false, cond, ◌&&◌, ◌||◌, List, [], ◌∷◌, ◌++◌, refl, sym, ◌∙◌, ap, ◌<◌, lit<}
+use Rattle.std.proofs.Common.{arith, ◌≡◌, ℕ, Bool, true, false, cond, ◌&&◌, ◌||◌, List, [], ◌∷◌, ◌++◌, refl, sym, ◌<◌, lit<}
+use Rattle.std.proofs.lemmas.Grind.{common_steps}
 use Rattle.std.specs.Prelude.{◌==◌, Option, Some, None, codes, IfSome}
 use Rattle.std.specs.Char.{char_set_contains, is_ascii_alphanumeric, is_ascii_alphabetic, is_ascii_digit}
 use Rattle.std.specs.List.{list_all}
@@ -11,7 +12,6 @@ use Rattle.iref_grammar.proofs.TextLemmas.{lacks}
 use Rattle.iref_grammar.proofs.CutLemmas.{cut}
 use Rattle.iref_grammar.specs.Characters.{CharTests, AreAboveAscii}
 use Rattle.iref_grammar.specs.Tests.{in_brackets, is_ip_literal, is_ip_address, some_and, none_or, ends_here, is_host, is_reg_name, is_user_info, is_port, is_scheme, is_segment, is_query}
-use Rattle.std.proofs.lemmas.Bool.{eqb-true}
 use Rattle.std.proofs.lemmas.Option.{same_Some}
 use Rattle.iref_grammar.proofs.LackLemmas.{lacks_more, lacks-append, all_lacks, IsRefused, in_utf8_lacks}
 use Rattle.iref_grammar.proofs.HostLemmas.{IsOutside, address_lacks, before_lacks}
@@ -87,11 +87,7 @@ bracket_parts (c ∷ cs) inside h = by (c == left_bracket) refl (after right_bra
     by false e o f k = cc
     by true e None f k = cc
     by true e (Some (d ∷ rest)) f k = cc
-    by true e (Some []) f k =
-        let same : before (right_bracket ∷ []) cs ≡ inside = same_Some (before (right_bracket ∷ []) cs) inside k in (
-          ap (lacks right_bracket) (sym same) ∙ before_lacks right_bracket cs,
-          (λ i. sym (eqb-true c left_bracket e) i ∷ (sym same i ++ right_bracket ∷ [])) ∙ ap (λ t. c ∷ t) f,
-        )
+    by true e (Some []) f k = grind (arith, common_steps, same_Some, before_lacks)
 
 pub literal_parts : (h : Text) → is_ip_literal h ≡ true → (inside : Text) × (is_ip_address inside ≡ true) × (lacks right_bracket inside ≡ true) × (left_bracket ∷ inside ++ right_bracket ∷ [] ≡ h)
 unfolding is_ip_literal

@@ -1,5 +1,6 @@
 -- What a host that is taken lacks.
 use Rattle.std.proofs.Common.{◌≡◌, ℕ, ◌<◌, true, false, not, ◌&&◌, ◌||◌, List, [], ◌∷◌, ◌++◌, refl, sym, ◌∙◌, ap, subst, arith, ◌⊎◌, inl, inr, lit<}
+use Rattle.std.proofs.lemmas.Grind.{common_steps}
 use Rattle.std.specs.Prelude.{◌==◌, decimal, codes, Option, Some, None, is_some}
 use Rattle.std.specs.List.{list_all, AllZip, join_with_byte}
 use Rattle.std.specs.Char.{char_set_contains, digit_value, is_ascii_hexdigit}
@@ -80,16 +81,11 @@ future_lacks mark m v (c ∷ cs) h =
     all_lacks_first c letter (by (after full_stop cs) (cut full_stop cs) (second_of_both (char_set_contains (codes "vV") c && is_future_version (before (full_stop ∷ []) cs)) (is_future_address (after full_stop cs)) h) (all_lacks is_ascii_hexdigit mark m.hex (before (full_stop ∷ []) cs) hex))
   where
     all_lacks_first : (d : ℕ) → char_set_contains (codes "vV") d ≡ true → lacks mark cs ≡ true → lacks mark (d ∷ cs) ≡ true
-    all_lacks_first d l r = elim (eqb_tells d mark) [
-      | inl e ↦ absurd (true≢false (sym l ∙ ap (char_set_contains (codes "vV")) e.1 ∙ v))
-      | inr e ↦ lacks_more mark d cs e.0 r
-    ]
+    all_lacks_first d l r = grind arith
 
     by : (o : Option Text) → before (full_stop ∷ []) cs ++ then_part (full_stop ∷ []) o ≡ cs → is_future_address o ≡ true → lacks mark (before (full_stop ∷ []) cs) ≡ true → lacks mark cs ≡ true
     by None e k l = absurd (true≢false (sym k))
-    by (Some rest) e k l =
-        subst (λ t. lacks mark t ≡ true) e
-        (lacks-append mark (before (full_stop ∷ []) cs) (full_stop ∷ rest) l (lacks_more mark full_stop rest m.not_stop (all_lacks is_future_char mark m.future rest (second_of_both (not (is_empty rest)) (list_all is_future_char rest) k))))
+    by (Some rest) e k l = grind (arith, common_steps, lacks-append, lacks_more, all_lacks)
 
 pub address_lacks : (mark : ℕ) → IsOutside mark → (char_set_contains (codes "vV") mark ≡ false) → (text : Text) → is_ip_address text ≡ true → lacks mark text ≡ true
 address_lacks mark m v text h = by (ipv6_value text) refl h

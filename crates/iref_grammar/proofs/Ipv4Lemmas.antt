@@ -1,6 +1,6 @@
 -- IPv4 addresses: the computed value is the one of the rule.
-use Rattle.std.proofs.Common.{◌≡◌, ℕ, ◌^◌, ◌<◌, suc, Bool, true, false, cond, ◌&&◌, List, [], ◌∷◌, length, map, refl, sym, ◌∙◌, ap, subst, arith, lit<}
-use Rattle.std.specs.Prelude.{◌==◌, nat_lt, bytes_eq, decimal, Option, Some, None, option_and_then}
+use Rattle.std.proofs.Common.{◌≡◌, ℕ, ◌^◌, ◌<◌, Bool, true, false, cond, ◌&&◌, List, [], ◌∷◌, map, refl, sym, ◌∙◌, ap, subst, arith, lit<}
+use Rattle.std.specs.Prelude.{nat_lt, bytes_eq, decimal, Option, Some, None, option_and_then}
 use Rattle.std.specs.List.{AllZip, join_with_byte}
 use Rattle.std.specs.Str.Parse.{digits_value, AllDigits}
 use native.Mathlib.Nat.{lt_trans}
@@ -10,7 +10,7 @@ use Rattle.std.proofs.lemmas.Bool.Decides.{nat_tests}
 use Rattle.std.proofs.lemmas.Bool.{and_from}
 use Rattle.iref_grammar.specs.Rules.{Text}
 use Rattle.iref_grammar.specs.Texts.{pieces_at}
-use Rattle.iref_grammar.specs.IpAddresses.{IsIpv4, number_of, all_some, octet_value, four_octets, ipv4_value}
+use Rattle.iref_grammar.specs.IpAddresses.{IsIpv4, all_some, octet_value, four_octets, ipv4_value}
 use Rattle.iref_grammar.proofs.TextLemmas.{lacks, pieces_at-join, join-pieces_at}
 
 -- the octet and its text
@@ -37,9 +37,6 @@ octets_text [] [] h = tt
 octets_text [] (n ∷ ns) h = cc
 octets_text (p ∷ pieces) octets h = grind (arith, octet_text, octets_text pieces)
 
-too_many : (n : ℕ) → (suc (suc (suc (suc (suc n)))) == 4) ≡ false
-too_many n = grind (arith, nat_tests)
-
 pub ipv4_value-sound : (text : Text) (n : ℕ) → ipv4_value text ≡ Some n → IsIpv4 text n
 unfolding ipv4_value
 ipv4_value-sound text n h = by (all_some (map octet_value (pieces_at 46 text))) refl h
@@ -49,24 +46,13 @@ ipv4_value-sound text n h = by (all_some (map octet_value (pieces_at 46 text))) 
     four pieces (a ∷ []) j z k = cc
     four pieces (a ∷ b ∷ []) j z k = cc
     four pieces (a ∷ b ∷ c ∷ []) j z k = cc
-    four (p ∷ q ∷ r ∷ s ∷ []) (a ∷ b ∷ c ∷ d ∷ []) j z k =
-        record {
-          a = a;
-          b = b;
-          c = c;
-          d = d;
-          in_range = (z.0.0, z.1.0.0, z.1.1.0.0, z.1.1.1.0.0);
-          spelled = sym j ∙ (λ i. join_with_byte 46 (z.0.1 i ∷ z.1.0.1 i ∷ z.1.1.0.1 i ∷ z.1.1.1.0.1 i ∷ []));
-          value = ap (λ o. elim o as (λ x. ℕ) [ None ↦ 0 | Some x ↦ x ]) (sym k);
-        }
+    four (p ∷ q ∷ r ∷ s ∷ []) (a ∷ b ∷ c ∷ d ∷ []) j z k = grind arith
     four [] (a ∷ b ∷ c ∷ d ∷ []) j z k = absurd z
     four (p ∷ []) (a ∷ b ∷ c ∷ d ∷ []) j z k = absurd z.1
     four (p ∷ q ∷ []) (a ∷ b ∷ c ∷ d ∷ []) j z k = absurd z.1.1
     four (p ∷ q ∷ r ∷ []) (a ∷ b ∷ c ∷ d ∷ []) j z k = absurd z.1.1.1
     four (p ∷ q ∷ r ∷ s ∷ t ∷ pieces) (a ∷ b ∷ c ∷ d ∷ []) j z k = absurd z.1.1.1.1
-    four pieces (a ∷ b ∷ c ∷ d ∷ e ∷ octets) j z k =
-        let none : four_octets (a ∷ b ∷ c ∷ d ∷ e ∷ octets) ≡ None = ap (λ x. cond x (Some (number_of 256 (a ∷ b ∷ c ∷ d ∷ e ∷ octets))) None) (too_many (length octets)) in
-        cc
+    four pieces (a ∷ b ∷ c ∷ d ∷ e ∷ octets) j z k = grind arith
 
     by : (o : Option (List ℕ)) → all_some (map octet_value (pieces_at 46 text)) ≡ o → option_and_then four_octets o ≡ Some n → IsIpv4 text n
     by None e k = cc

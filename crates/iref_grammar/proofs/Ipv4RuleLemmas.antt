@@ -1,5 +1,6 @@
 -- The rule of IPv4 addresses: they are the texts of four numbers below 256 in decimal digits.
 use Rattle.std.proofs.Common.{◌≡◌, ℕ, ◌+◌, ◌*◌, ◌-◌, ◌/◌, ◌%◌, ◌<◌, ◌≤◌, true, List, [], ◌∷◌, ◌++◌, length, refl, sym, ◌∙◌, ap, subst, arith, inl, inr}
+use Rattle.std.proofs.lemmas.Grind.{common_steps}
 use Rattle.std.specs.Prelude.{decimal}
 use Rattle.std.specs.Char.{is_ascii_digit}
 use Rattle.std.specs.Int.{is_in_range}
@@ -62,11 +63,7 @@ octet_there text (inr (inr (inl z))) = by z.3.0 z.3.1 z.3.2 z.3.3 (ap (λ t. z.0
     by : (pieces : List Text) → AllByRecursion (OneOf is_ascii_digit) pieces → 2 ≤ length pieces → length pieces ≤ 2 → z.0 ++ concat pieces ≡ text → WritesOctet text
     by [] all low high e = absurd (omega arith)
     by (p ∷ []) all low high e = absurd (omega arith)
-    by (p ∷ q ∷ []) all low high e =
-        let b = digit all.0.0 all.0.1 in
-        let c = digit all.1.0.0 all.1.0.1 in
-        subst WritesOctet ((λ i. sym z.2 i ++ (sym all.0.2 i ++ (sym all.1.0.2 i ++ []))) ∙ e)
-        (from_three 49 all.0.0 all.1.0.0 (omega arith, omega arith) b c (omega (arith, b.1, c.1)))
+    by (p ∷ q ∷ []) all low high e = grind (arith, common_steps, digit, from_three)
     by (p ∷ q ∷ r ∷ pieces) all low high e = absurd (omega arith)
 octet_there text (inr (inr (inr (inl z)))) = grind (arith, from_three)
 octet_there text (inr (inr (inr (inr z)))) = grind (arith, from_three)

@@ -1,5 +1,6 @@
 -- IPv6 addresses: the computed value is one of the rule.
 use Rattle.std.proofs.Common.{◌≡◌, ℕ, ◌+◌, ◌/◌, ◌%◌, ◌≤◌, true, List, [], ◌∷◌, ◌++◌, length, map, drop, refl, sym, ◌∙◌, ap, subst, arith, append_assoc, ◌⊎◌, inl, inr}
+use Rattle.std.proofs.lemmas.Grind.{common_steps}
 use Rattle.std.specs.Prelude.{◌==◌, codes, Option, Some, None, option_map, option_and_then}
 use Rattle.std.specs.Option.{option_or}
 use Rattle.std.specs.List.{AllZip, join_with_byte}
@@ -104,9 +105,6 @@ around-sound : (text : Text) (parts : Text × Text) → around_double_colon text
 around-sound [] parts h = cc
 around-sound (c ∷ cs) parts h = grind (arith, around-sound cs)
 
-eight-sound : (gs groups : List ℕ) → eight_groups gs ≡ Some groups → (gs ≡ groups) × (length groups ≡ 8)
-eight-sound gs groups h = grind arith
-
 joined-sound : (left right groups : List ℕ) → joined_groups left right ≡ Some groups → (length left + length right ≤ 7) × (groups ≡ filled_groups left right)
 joined-sound left right groups h = grind arith
 
@@ -137,9 +135,7 @@ groups-sound text groups h = by (around_double_colon text) refl (last_groups_of 
     by : (o : Option (Text × Text)) → around_double_colon text ≡ o → (q : Option (List ℕ)) → last_groups_of (group_pieces text) ≡ q
         → (elim o as (λ x. Option (List ℕ)) [ None ↦ option_and_then eight_groups q | Some parts ↦ short_ipv6_groups parts ]) ≡ Some groups → IsFullIpv6 text groups ⊎ IsShortIpv6 text groups
     by None e None f k = cc
-    by None e (Some gs) f k =
-        let h8 = eight-sound gs groups k in
-        inl (are_last_groups text groups (f ∙ ap (λ x. Some x) h8.0), h8.1)
+    by None e (Some gs) f k = grind (arith, common_steps, are_last_groups)
     by (Some parts) e q f k = inr (short-sound text parts groups (around-sound text parts e) k)
 
 -- what is computed is an address of that number

@@ -1,5 +1,6 @@
 -- The rules of single components: each test decides its rule.
-use Rattle.std.proofs.Common.{◌≡◌, Bool, true, false, ◌||◌, [], ◌∷◌, ◌++◌, refl, sym, ◌∙◌, ap, subst, lit<}
+use Rattle.std.proofs.Common.{arith, ◌≡◌, Bool, true, false, ◌||◌, [], ◌∷◌, ◌++◌, refl, sym, ◌∙◌, ap, subst, lit<}
+use Rattle.std.proofs.lemmas.Grind.{common_steps}
 use Rattle.std.specs.Prelude.{chars, encode_utf8_all, bytes_eq}
 use Rattle.std.specs.Bool.{Decides}
 use Rattle.std.specs.Str.{is_utf8, all_scalars}
@@ -32,9 +33,7 @@ Decides-in_utf8 test A d bytes = (there, back)
         )
 
     back : InUtf8 A bytes → in_utf8 test bytes ≡ true
-    back z =
-        let same : chars bytes ≡ z.0 = ap chars (sym z.2) ∙ chars-encodes z.0 z.1 in
-        and_from (is_utf8 bytes) (test (chars bytes)) (is_utf8-from_IsUtf8 bytes (z.0, (z.1, z.2))) (ap test same ∙ (d z.0).1 z.3)
+    back z = grind (arith, common_steps, chars-encodes, is_utf8-from_IsUtf8)
 
 -- no class has `%`
 pub percent_refused : (set : CharTests) → AreAboveAscii set → is_reg_name_char set percent_sign ≡ false

@@ -3,13 +3,12 @@ use Rattle.std.proofs.Common.{arith, ◌≡◌, ℕ, Bool, true, false, [], ◌�
 use Rattle.std.specs.Prelude.{◌==◌, ◌||◌, codes}
 use Rattle.std.specs.Char.{char_set_contains}
 use Rattle.std.proofs.lemmas.Bool.Decides.{eqb_tells}
-use mathlib.Core.Bool.{true≢false}
 use Rattle.iref_grammar.specs.Rules.{Text}
 use Rattle.iref_grammar.specs.Grammar.{colon}
 use Rattle.iref_grammar.specs.Texts.{before, from_first, begins_with}
 use Rattle.iref_grammar.specs.declared.context.PathContext.{PathContext}
 use Rattle.iref_grammar.specs.Contexts.{begins_with_scheme, context_from}
-use Rattle.iref_grammar.proofs.CutLemmas.{before-no, before-yes, from_first-no, from_first-yes}
+use Rattle.iref_grammar.proofs.CutLemmas.{before-no, from_first-no}
 
 other_way : (c d : ℕ) → (c == d) ≡ false → (d == c) ≡ false
 other_way c d h = grind arith
@@ -37,16 +36,10 @@ marked (c ∷ cs) = elim (eqb_tells c colon) [
 ]
   where
     at_colon : IsMarked (colon ∷ cs) (from_first (codes ":/?#") (colon ∷ cs))
-    at_colon = subst (IsMarked (colon ∷ cs)) (sym (from_first-yes (codes ":/?#") colon cs refl)) (record {
-      scheme = ap (λ front. char_set_contains front colon) (before-no (codes "/?#") colon cs refl);
-      from_colon = λ h. from_first-yes (colon ∷ []) colon cs refl;
-    })
+    at_colon = grind arith
 
     at_other : IsMarked cs (from_first (codes ":/?#") cs) → (colon == c) ≡ false → (c == colon) ≡ false → (b : Bool) → char_set_contains (codes "/?#") c ≡ b → IsMarked (c ∷ cs) (from_first (codes ":/?#") (c ∷ cs))
-    at_other rest h k true e = subst (IsMarked (c ∷ cs)) (sym (from_first-yes (codes ":/?#") c cs (ap (λ b. b || char_set_contains (codes "/?#") c) h ∙ e))) (record {
-      scheme = ap (λ front. char_set_contains front colon) (before-yes (codes "/?#") c cs e) ∙ sym k;
-      from_colon = λ f. absurd (true≢false (sym f ∙ k));
-    })
+    at_other rest h k true e = grind arith
     at_other rest h k false e =
         subst (IsMarked (c ∷ cs)) (sym (from_first-no (codes ":/?#") c cs (ap (λ b. b || char_set_contains (codes "/?#") c) h ∙ e))) (record {
           scheme = ap (λ front. char_set_contains front colon) (before-no (codes "/?#") c cs e) ∙ ap (λ b. b || char_set_contains (before (codes "/?#") cs) colon) k ∙ rest.scheme;

@@ -1,6 +1,5 @@
 -- The forms of rules.
-use Rattle.std.proofs.Common.{◌≡◌, ℕ, Bool, true, List, [], ◌∷◌, ◌++◌, refl, sym, ◌∙◌, ap, subst, append_assoc}
-use Rattle.std.proofs.lemmas.Bool.{and_from}
+use Rattle.std.proofs.Common.{arith, ◌≡◌, ℕ, Bool, true, List, [], ◌∷◌, ◌++◌, refl, sym, ap, subst, append_assoc}
 use Rattle.std.specs.List.{AllByRecursion, concat, list_all}
 use Rattle.std.specs.Bool.{Decides}
 use Rattle.iref_grammar.specs.Rules.{Text, Rule, ZeroOrMore, OneOf}
@@ -22,9 +21,7 @@ Decides-ones test text = (there text, λ z. back z.0 text z.1 z.2)
 
     back : (pieces : List Text) (t : Text) → AllByRecursion (OneOf test) pieces → concat pieces ≡ t → list_all test t ≡ true
     back [] t all e = subst (λ x. list_all test x ≡ true) e refl
-    back (p ∷ pieces) t all e =
-        subst (λ x. list_all test x ≡ true) e
-        (ap (λ q. list_all test (q ++ concat pieces)) all.0.2 ∙ and_from (test all.0.0) (list_all test (concat pieces)) all.0.1 (back pieces (concat pieces) all.1 refl))
+    back (p ∷ pieces) t all e = grind (arith, back pieces (concat pieces) all.1)
 
 -- pieces of one rule that are pieces of another, and texts in a row
 pub more_like : (A B : Rule) → ((p : Text) → A p → B p) → (text : Text) → ZeroOrMore A text → ZeroOrMore B text
