@@ -1,5 +1,6 @@
 -- What segments read from the back say of every list that ends in them.
 use Rattle.std.proofs.Common.{arith, ◌≡◌, ℕ, Bool, true, false, cond, ◌&&◌, List, [], ◌∷◌, ◌++◌, map, refl, sym, ◌∙◌, ap, append_assoc}
+use Rattle.std.proofs.lemmas.Grind.{common_steps}
 use Rattle.std.specs.Prelude.{◌==◌}
 use Rattle.std.proofs.lemmas.List.{append-nil}
 use Rattle.std.proofs.lemmas.Slice.Eq.{bytes_eq-Decides}
@@ -72,10 +73,6 @@ abbrev tail_of : List Text → List Text
 tail_of [] = []
 tail_of (x ∷ xs) = xs
 
-abbrev first_or : Text → List Text → Text
-first_or d [] = d
-first_or d (x ∷ xs) = x
-
 -- the rest of a split
 split_again : (r seen u l left : List Text) → r ≡ seen ++ u → u ≡ l ++ left → r ≡ (seen ++ l) ++ left
 split_again r seen u l left e f = e ∙ ap (λ xs. seen ++ xs) f ∙ sym (append_assoc seen l left)
@@ -124,18 +121,7 @@ read_apart (s ∷ ss) (t ∷ ts) F G r q a b h =
               ∙ ap decoded (b.3 (known.seen_right ++ other) (nothing_after t.unread known.seen_right c.right other known.split_right l)) in
               known.apart more other k l (ap tail_of (sym here ∙ e ∙ there));
         }
-    by false i c ih h =
-        record {
-          seen_left = a.0;
-          seen_right = b.0;
-          split_left = a.2;
-          split_right = b.2;
-          apart = λ more other k l e.
-              let here : decoded (F (a.0 ++ more)) ≡ decoded (s.item ∷ a.1 more) = ap decoded (a.3 more k) in
-              let there : decoded (G (b.0 ++ other)) ≡ decoded (t.item ∷ b.1 other) = ap decoded (b.3 other l) in
-              let heads : percent_decode s.item ≡ percent_decode t.item = ap (first_or []) (sym here ∙ e ∙ there) in
-              true≢false (sym ((bytes_eq-Decides (percent_decode s.item) (percent_decode t.item)).1 heads) ∙ i);
-        }
+    by false i c ih h = grind (arith, common_steps, bytes_eq-Decides)
 
 -- where the comparison finds no difference, the items decode to the same and nothing is left unread
 pub record AreReadEqual (ss ts : List ItemRead) (c : Comparison) : Type 0 where

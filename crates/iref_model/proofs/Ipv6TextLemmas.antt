@@ -1,7 +1,6 @@
 -- The host of an IPv6 number is a host, and is read as this number.
 use Rattle.std.proofs.Common.{◌≡◌, ℕ, zero, suc, ◌+◌, ◌*◌, ◌-◌, ◌/◌, ◌%◌, ◌^◌, ◌<◌, ◌≤◌, ◌++◌, true, false, cond, ◌||◌, List, [], ◌∷◌, length, take, drop, map, replicate, refl, sym, ap, ◌∙◌, subst, inl, inr, ◌⊎◌, ◌≢◌, lit<, lit≤, append_assoc, length-drop, arith}
 use Rattle.std.proofs.lemmas.List.{length-take}
-use Rattle.std.proofs.Math.Nat.{pow-suc}
 use native.Mathlib.Nat.{lt_trans}
 use Rattle.std.specs.Prelude.{Some, None, is_some, option_and_then, ◌==◌, nat_le, codes}
 use Rattle.std.specs.List.{AllZip, list_all}
@@ -43,9 +42,7 @@ length-digits (suc k) j n after h = by (eqb_tells (n / 16) 0) j h (length-digits
         → length (digits_onto (suc k) 16 false n after) ≤ suc j + length after
     by (inl e) j h' shorter = subst (λ b. length (cond b more (digits_onto k 16 false (n / 16) more)) ≤ suc j + length after) (sym e.0) (omega arith)
     by (inr e) zero h' shorter = absurd (none e.1 h')
-    by (inr e) (suc j) h' shorter =
-        let rest = shorter j (n / 16) more (narrower (16 ^ suc j) (subst (λ m. n < m) (pow-suc 16 (suc j)) h')) in
-        subst (λ b. length (cond b more (digits_onto k 16 false (n / 16) more)) ≤ suc (suc j) + length after) (sym e.0) (omega (arith, rest))
+    by (inr e) (suc j) h' shorter = grind arith
 
 hexdigit : (c : ℕ) → digit_value c < 16 → is_ascii_hexdigit c ≡ true
 hexdigit c h = grind (arith, nat_tests)

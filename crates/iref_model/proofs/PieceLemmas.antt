@@ -1,5 +1,5 @@
 -- The pieces of a text around a delimiter.
-use Rattle.std.proofs.Common.{◌≡◌, Bool, true, false, cond, List, [], ◌∷◌, ◌++◌, refl, sym, ◌∙◌, ap}
+use Rattle.std.proofs.Common.{arith, ◌≡◌, Bool, true, false, cond, List, [], ◌∷◌, ◌++◌, refl, ap}
 use Rattle.std.specs.Prelude.{◌==◌, ℕ}
 use Rattle.std.specs.List.{onto_first}
 use Rattle.std.proofs.lemmas.Bool.{eq-eqb}
@@ -25,5 +25,4 @@ pieces-append mark (c ∷ front) back = by (c == mark) (some_piece mark front) (
         → cond b ([] ∷ pieces_at mark (front ++ mark ∷ back)) (onto_first c (pieces_at mark (front ++ mark ∷ back)))
         ≡ cond b ([] ∷ pieces_at mark front) (onto_first c (pieces_at mark front)) ++ pieces_at mark back
     by true some h = ap (λ ps. [] ∷ ps) h
-    by false some h =
-        ap (onto_first c) (h ∙ ap (λ ps. ps ++ pieces_at mark back) some.2) ∙ sym (ap (λ ps. onto_first c ps ++ pieces_at mark back) some.2)
+    by false some h = grind arith

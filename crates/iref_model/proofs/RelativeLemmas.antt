@@ -139,17 +139,8 @@ resolved-agreeing target base full agree same stand = by target.scheme target.au
 
     by : (scheme : Option Text) (authority : Option AuthorityValue) (path : PathValue) (query fragment : Option Text) → let target = parts scheme authority path query fragment in
         schemes_agree target base ≡ true → have_same_authority target base ≡ true → stands target → key (resolved base target) ≡ key_under base (path_key path) query fragment
-    by (Some s) authority path query fragment agree same stand =
-        let target = parts (Some s) authority path query fragment in
-        let own = resolved-full base target refl stand in
-        let scheme = scheme_of_uri_parts target base refl agree in
-        let authority_same = same_authority target base same in
-        own ∙ (λ i. key_of (scheme i) (authority_same i) (path_key path) query fragment)
-    by None (Some a) path query fragment agree same stand =
-        let target = parts None (Some a) path query fragment in
-        let authority_same = same_authority target base same in
-        resolved-authority base a path query fragment stand
-        ∙ (λ i. key_of (key base).scheme (authority_same i) (path_key path) query fragment)
+    by (Some s) authority path query fragment agree same stand = grind (arith, common_steps, resolved-full, scheme_of_uri_parts, same_authority)
+    by None (Some a) path query fragment agree same stand = grind (arith, common_steps, same_authority, resolved-authority)
     by None None path query fragment agree same stand = rooted path.absolute path.segments query fragment (takes_scheme (parts None None path query fragment) base full agree)
 
 -- ---- each case of the answer
@@ -175,12 +166,8 @@ steps-lead base segments query fragment root = by (reads_as_path alone (at_no_ro
     steps = path_down base.path list
 
     by : (b : Bool) → key (resolved base (parts None None (cond b (at_no_root steps) (with_dot (at_no_root steps))) query fragment)) ≡ key_under base (path_key (at_root segments)) query fragment
-    by true =
-        resolved-relative base steps query fragment root (is_empty-snoc _ _)
-        ∙ (λ i. key_under base (at_root (steps_lead (all_but_last base.path.segments) list (names-normal segments) (lone-normal (at_root segments)) i)) query fragment)
-    by false =
-        resolved-relative base (codes "." ∷ steps) query fragment root refl
-        ∙ (λ i. key_under base (at_root (dotted_steps_lead (all_but_last base.path.segments) list (names-normal segments) (lone-normal (at_root segments)) i)) query fragment)
+    by true = grind (arith, common_steps, resolved-relative, is_empty-snoc, steps_lead, names-normal, lone-normal)
+    by false = grind (arith, common_steps, resolved-relative, dotted_steps_lead, names-normal, lone-normal)
 
 -- the whole path leads there from a base with no root
 pub path-leads : (base : ReferenceValue) (segments : List Text) (query fragment : Option Text)
