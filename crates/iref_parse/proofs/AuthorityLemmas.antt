@@ -1,5 +1,5 @@
 -- A host alone, and a host with a port, is an authority.
-use Rattle.std.proofs.Common.{◌≡◌, true, ◌&&◌, ◌||◌, [], ◌∷◌, ◌++◌, ◌<◌, ◌≤◌, false, append_assoc, length, get_or, sym, ◌∙◌, ap, arith, refl, cond}
+use Rattle.std.proofs.Common.{◌≡◌, true, ◌&&◌, ◌||◌, [], ◌∷◌, ◌++◌, ◌<◌, ◌≤◌, false, append_assoc, length, get_or, drop, sym, ◌∙◌, ap, arith, refl, cond}
 use Rattle.std.specs.Prelude.{Option, Some, None, codes, ◌==◌}
 use mathlib.Core.Bool.{true≢false}
 use Rattle.std.specs.List.{list_all}
@@ -61,10 +61,13 @@ address_authority text rest inside end e f g h k set above =
     ap (λ t. left_bracket ∷ t) (sym (cut right_bracket rest) ∙ (λ i. sym f i ++ then_part (right_bracket ∷ []) (sym g i)) ∙ sym (append_assoc inside (right_bracket ∷ []) end)) in
     ap (is_authority set) (e ∙ spelled) ∙ port_after set above (in_its_brackets inside) end host k
 
+pub slashes : (text : Text) → begins_with (codes "//") text ≡ true → text ≡ slash ∷ slash ∷ drop 2 text
+slashes [] h = absurd (true≢false (sym h))
+slashes (a ∷ []) h = absurd (true≢false (sym ((and_parts (slash == a) false h).1)))
+slashes (a ∷ b ∷ rest) h =
+    let parts = and_parts (slash == a) _ h in
+    λ i. sym (eqb-true slash a parts.0) i ∷ sym (eqb-true slash b ((and_parts (slash == b) true parts.1).0)) i ∷ rest
+
 -- the second byte of what begins with `//`
 pub second_slash : (text : Text) → begins_with (codes "//") text ≡ true → (2 ≤ length text) × (get_or text 1 0 < 128)
-second_slash [] h = absurd (true≢false (sym h))
-second_slash (a ∷ []) h = absurd (true≢false (sym ((and_parts (slash == a) false h).1)))
-second_slash (a ∷ b ∷ rest) h =
-    let second : b ≡ slash = sym (eqb-true slash b ((and_parts (slash == b) true ((and_parts (slash == a) _ h).1)).0)) in
-    (omega arith, omega (arith, second))
+second_slash text h = let e = slashes text h in (omega (arith, ap length e), omega (arith, ap (λ t. get_or t 1 0) e))

@@ -1,24 +1,18 @@
 -- A buffer whose first byte is to say how many of those behind it are kept.
-use Rattle.std.proofs.Common.{◌≡◌, ℕ, suc, ◌+◌, ◌<◌, true, false, List, [], ◌∷◌, ◌++◌, length, take, drop, set, fold, sym, ◌∙◌, ap, arith, ◌==◌, cond, length-append, length-set}
+use Rattle.std.proofs.Common.{◌≡◌, ℕ, suc, ◌+◌, ◌<◌, List, [], ◌∷◌, ◌++◌, length, take, drop, set, fold, sym, ◌∙◌, ap, arith, length-append, length-set}
 use Rattle.std.proofs.lemmas.Bool.Decides.{nat_tests}
 use Rattle.std.proofs.lemmas.List.{drop-set-add, take_more_set, length-take-le, length-drop, take_all}
 use Rattle.iref_grammar.specs.Rules.{Text}
 use Rattle.iref_grammar.specs.Keys.{piece, fed_after}
 
-is_full : (n : ℕ) → n ≡ 62 → (n == 62) ≡ true
-is_full n e = grind (arith, nat_tests)
-
-has_room : (n : ℕ) → n < 62 → (n == 62) ≡ false
-has_room n e = grind (arith, nat_tests)
-
 -- one byte more, where a piece is full with it and where it is not
 full_step : (held : Text) (b : ℕ) (rest : Text) → length held ≡ 62 → fed_after held (b ∷ rest) ≡ piece (held ++ b ∷ []) ∷ fed_after [] rest
 unfolding fed_after
-full_step held b rest e = ap (λ t. cond t (piece (held ++ b ∷ []) ∷ fed_after [] rest) (fed_after (held ++ b ∷ []) rest)) (is_full (length held) e)
+full_step held b rest e = grind (arith, nat_tests)
 
 room_step : (held : Text) (b : ℕ) (rest : Text) → length held < 62 → fed_after held (b ∷ rest) ≡ fed_after (held ++ b ∷ []) rest
 unfolding fed_after
-room_step held b rest e = ap (λ t. cond t (piece (held ++ b ∷ []) ∷ fed_after [] rest) (fed_after (held ++ b ∷ []) rest)) (has_room (length held) e)
+room_step held b rest e = grind (arith, nat_tests)
 
 -- those that the buffer holds
 abbrev pub held_in : List ℕ → ℕ → Text

@@ -1,21 +1,18 @@
 -- An IPv6 address cut at its first `::`.
-use Rattle.std.proofs.Common.{◌≡◌, ℕ, ◌<◌, ◌≤◌, zero, suc, Bool, true, false, cond, List, [], ◌∷◌, ◌++◌, length, take, drop, map, refl, sym, ◌∙◌, ap, arith}
+use Rattle.std.proofs.Common.{◌≡◌, ℕ, ◌<◌, ◌≤◌, zero, suc, false, cond, List, [], ◌∷◌, ◌++◌, length, take, drop, map, refl, sym, ◌∙◌, ap, arith, inl, inr}
 use Rattle.std.specs.Prelude.{◌==◌, codes, Option, Some, None, option_map, option_and_then}
 use Rattle.std.specs.Str.Pattern.{LacksTextAt, FindsText}
+use Rattle.std.proofs.lemmas.Bool.{false_from_ne_true}
 use Rattle.iref_grammar.specs.Rules.{Text}
 use Rattle.iref_grammar.specs.Texts.{begins_with}
 use Rattle.iref_grammar.specs.IpAddresses.{number_of, group_value, all_some, group_pieces, last_groups_of, eight_groups, short_ipv6_groups, around_double_colon, ipv6_value}
 use Rattle.iref_parse.specs.IpGroups.{counted, filled_number}
 use Rattle.iref_grammar.proofs.Ipv6Lemmas.{colons}
-use Rattle.iref_parse.proofs.GroupLemmas.{full_none, full_eight, around, around_start, around_end, around_filled}
+use Rattle.iref_parse.proofs.GroupLemmas.{full_none, full_eight, around, around_refused, around_filled}
 
 -- the text does not begin with `::`
 lacks_front : (text : Text) → LacksTextAt (codes "::") text 0 → begins_with (codes "::") text ≡ false
-lacks_front text h = by (begins_with (codes "::") text) refl
-  where
-    by : (b : Bool) → begins_with (codes "::") text ≡ b → b ≡ false
-    by true e = absurd (h (drop 2 text) (sym (colons text e)))
-    by false e = refl
+lacks_front text h = false_from_ne_true _ (λ e. h (drop 2 text) (sym (colons text e)))
 
 around-cons : (c : ℕ) (cs : Text) → LacksTextAt (codes "::") (c ∷ cs) 0 → around_double_colon (c ∷ cs) ≡ option_map (λ p. (c ∷ p.0, p.1)) (around_double_colon cs)
 around-cons c cs h = ap (λ b. cond b (Some ([], drop 1 cs)) (option_map (λ p. (c ∷ p.0, p.1)) (around_double_colon cs))) (lacks_front (c ∷ cs) h)
@@ -58,10 +55,10 @@ module _ (text front back : Text) (i j : ℕ) (h : FindsText (codes "::") text (
   both = ap (number_with text) (around-at text i (drop j text) h.0 h.1.split) ∙ (λ k. number_with text (Some (sym e k, sym f k)))
 
   pub start_refused : counted (start_of front) ≡ None → ipv6_value text ≡ None
-  start_refused k = both ∙ around_start (start_of front) (end_of back) k
+  start_refused k = both ∙ around_refused (start_of front) (end_of back) (inl k)
 
   pub end_refused : counted (end_of back) ≡ None → ipv6_value text ≡ None
-  end_refused k = both ∙ around_end (start_of front) (end_of back) k
+  end_refused k = both ∙ around_refused (start_of front) (end_of back) (inr k)
 
   pub both_filled : (start_count start end_count end : ℕ) → counted (start_of front) ≡ Some (start_count, start) → counted (end_of back) ≡ Some (end_count, end) → ipv6_value text ≡ filled_number start_count start end_count end
   both_filled start_count start end_count end k l = both ∙ around_filled (start_of front) (end_of back) start_count start end_count end k l

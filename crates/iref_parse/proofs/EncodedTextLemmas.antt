@@ -4,8 +4,9 @@ use Rattle.std.specs.Prelude.{◌==◌, Option, Some, None, nat_lt, encode_utf8_
 use Rattle.std.specs.List.{list_all, prefix_len}
 use Rattle.std.specs.Str.{all_scalars}
 use Rattle.std.specs.Char.{is_ascii_hexdigit, char_set_contains}
+use Rattle.std.proofs.Math.Bool.{and-true}
 use Rattle.std.proofs.Math.Utf8.{scalar, low_scalar, encode}
-use Rattle.std.proofs.lemmas.Bool.{and_parts, and_from, cases_lt}
+use Rattle.std.proofs.lemmas.Bool.{and_parts, and_from, cases_lt, false_from_ne_true}
 use Rattle.std.proofs.lemmas.Bool.Decides.{eqb_tells, nat_tests}
 use Rattle.std.proofs.lemmas.List.{get_or-take, length-drop, take-append-drop, take_all}
 use Rattle.std.proofs.lemmas.List.Sums.{list_all-from_AllPass, prefix_len-le-length, prefix_len_passes}
@@ -151,16 +152,12 @@ pub record IsDelimiter (c : ℕ) : Type 0 where
   pub no_percent : (c == percent_sign) ≡ false
   pub no_digit : is_ascii_hexdigit c ≡ false
 
-and_true : (p : Bool) → (p && true) ≡ p
-and_true true = refl
-and_true false = refl
-
 module _ (marks : List ℕ) (each : (c : ℕ) → char_set_contains marks c ≡ true → IsDelimiter c) where
   module _ (test : ℕ → Bool) where
     same_owed : (owed c : ℕ) → char_set_contains marks c ≡ false → owed_after (but marks test) owed c ≡ owed_after test owed c
     unfolding owed_after
     same_owed owed c e =
-        let kept : but marks test c ≡ test c = ap (λ b. test c && not b) e ∙ and_true (test c) in
+        let kept : but marks test c ≡ test c = ap (λ b. test c && not b) e ∙ and-true (test c) in
         λ i. if nat_lt 0 owed then (if is_ascii_hexdigit c then Some (owed - 1) else None) else (if c == percent_sign then Some 2 else (if kept i then Some 0 else None))
 
     -- no digit is owed before a delimiter
@@ -191,11 +188,7 @@ module _ (marks : List ℕ) (each : (c : ℕ) → char_set_contains marks c ≡ 
 
   -- a byte beyond ASCII is no delimiter
   high_passes : (b : ℕ) → 128 ≤ b → char_set_contains marks b ≡ false
-  high_passes b h = by (char_set_contains marks b) refl
-    where
-      by : (t : Bool) → char_set_contains marks b ≡ t → t ≡ false
-      by true e = let low = (each b e).low in absurd (omega arith)
-      by false e = refl
+  high_passes b h = false_from_ne_true _ (λ e. let low = (each b e).low in omega arith)
 
   past_high : (front rest : Text) → are_high front ≡ true → (before marks (front ++ rest) ≡ front ++ before marks rest) × (from_first marks (front ++ rest) ≡ from_first marks rest)
   past_high [] rest h = (refl, refl)

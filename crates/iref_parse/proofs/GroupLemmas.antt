@@ -1,5 +1,5 @@
 -- The numbers that groups of an IPv6 address write.
-use Rattle.std.proofs.Common.{◌≡◌, ◌≢◌, ℕ, ◌+◌, ◌-◌, ◌*◌, ◌^◌, ◌<◌, ◌≤◌, zero, suc, Bool, true, false, cond, List, [], ◌∷◌, ◌++◌, length, map, append_assoc, length-append, refl, sym, ◌∙◌, ap, arith, lit<}
+use Rattle.std.proofs.Common.{◌≡◌, ◌≢◌, ℕ, ◌+◌, ◌-◌, ◌*◌, ◌^◌, ◌<◌, ◌≤◌, zero, suc, Bool, true, false, cond, List, [], ◌∷◌, ◌++◌, length, map, append_assoc, length-append, refl, sym, ◌∙◌, ap, arith, lit<, ◌⊎◌, ⊎_elim}
 use Rattle.std.specs.Prelude.{◌==◌, nat_le, fold, replicate, Option, Some, None, option_map, option_and_then, IfSome}
 use Rattle.std.specs.List.{position_or_len, before_first, after_first, onto_first}
 use Rattle.std.proofs.Math.Nat.{pow-suc, pow-le-pow_right, mul-le-mul_right, one-le-pow}
@@ -137,18 +137,14 @@ number_of_counted (Some groups) count value h = by (nat_le (0 + length groups) 8
 
 too_many : (o : Option (List ℕ)) → counted o ≡ None → IfSome o (λ groups. 8 < length groups)
 too_many None h = tt
-too_many (Some groups) h = by (nat_le (0 + length groups) 8) refl h
-  where
-    by : (b : Bool) → nat_le (0 + length groups) 8 ≡ b → cond {A = Option (ℕ × ℕ)} b (Some (0 + length groups, number_of 65536 groups)) None ≡ None → 8 < length groups
-    by true e k = cc
-    by false e k = grind (arith, nat_tests)
+too_many (Some groups) h = grind (arith, nat_tests)
 
 pub full_none : (o : Option (List ℕ)) → counted o ≡ None → option_map (number_of 65536) (option_and_then eight_groups o) ≡ None
-full_none o h = by o (too_many o h)
-  where
-    by : (q : Option (List ℕ)) → IfSome q (λ groups. 8 < length groups) → option_map (number_of 65536) (option_and_then eight_groups q) ≡ None
-    by None k = refl
-    by (Some groups) k = let no : (length groups == 8) ≡ false = grind (arith, nat_tests) in ap (λ b. option_map (number_of 65536) (cond b (Some groups) None)) no
+full_none None h = refl
+full_none (Some groups) h =
+    let many = too_many (Some groups) h in
+    let no : (length groups == 8) ≡ false = grind (arith, nat_tests) in
+    ap (λ b. option_map (number_of 65536) (cond b (Some groups) None)) no
 
 pub full_eight : (o : Option (List ℕ)) (count value : ℕ) → counted o ≡ Some (count, value) → option_map (number_of 65536) (option_and_then eight_groups o) ≡ cond (count == 8) (Some value) None
 full_eight o count value h =
@@ -191,24 +187,13 @@ number-filled start end h =
 abbrev pub around : Option (List ℕ) → Option (List ℕ) → Option ℕ
 around start end = option_map (number_of 65536) (option_and_then (λ left. option_and_then (joined_groups left) end) start)
 
-refused_join : (start end : List ℕ) → 7 < length start + length end → joined_groups start end ≡ None
-refused_join start end h = let no : nat_le (length start + length end) 7 ≡ false = grind (arith, nat_tests) in ap (λ b. cond b (Some (filled_groups start end)) None) no
-
-pub around_start : (start end : Option (List ℕ)) → counted start ≡ None → around start end ≡ None
-around_start start end h = by start end (too_many start h)
-  where
-    by : (p q : Option (List ℕ)) → IfSome p (λ groups. 8 < length groups) → around p q ≡ None
-    by None q k = refl
-    by (Some xs) None k = refl
-    by (Some xs) (Some ys) k = ap (option_map (number_of 65536)) (refused_join xs ys (omega arith))
-
-pub around_end : (start end : Option (List ℕ)) → counted end ≡ None → around start end ≡ None
-around_end start end h = by start end (too_many end h)
-  where
-    by : (p q : Option (List ℕ)) → IfSome q (λ groups. 8 < length groups) → around p q ≡ None
-    by None q k = refl
-    by (Some xs) None k = refl
-    by (Some xs) (Some ys) k = ap (option_map (number_of 65536)) (refused_join xs ys (omega arith))
+pub around_refused : (start end : Option (List ℕ)) → (counted start ≡ None) ⊎ (counted end ≡ None) → around start end ≡ None
+around_refused None end h = refl
+around_refused (Some xs) None h = refl
+around_refused (Some xs) (Some ys) h =
+    let many : 7 < length xs + length ys = ⊎_elim (λ e. let long = too_many (Some xs) e in omega arith) (λ e. let long = too_many (Some ys) e in omega arith) h in
+    let no : nat_le (length xs + length ys) 7 ≡ false = grind (arith, nat_tests) in
+    ap (λ b. option_map (number_of 65536) (cond b (Some (filled_groups xs ys)) None)) no
 
 pub around_filled : (start end : Option (List ℕ)) (start_count start_value end_count end_value : ℕ) → counted start ≡ Some (start_count, start_value) → counted end ≡ Some (end_count, end_value)
     → around start end ≡ filled_number start_count start_value end_count end_value

@@ -78,16 +78,11 @@ last_groups text z = by z.groups
     by (inr g) = inr (record { pieces = g.0; front = g.1; last = g.2; n = g.3; groups_before = g.4; ipv4 = g.5; spelled = z.spelled ∙ ap (join_with_byte 58) g.6; value = g.7 })
 
 -- at a digit, and at another byte
-abbrev ends_at_mark : ℕ → ℕ → ℕ → Text → Text → Bool
-ends_at_mark room count c group cs = cond (c == 58) (nat_lt 0 count && (nat_lt 0 room && ends_in_groups (room - 1) cs 0 cs)) (c == 46 && (nat_lt 0 room && ends_in_octets 3 false 0 group))
+at_digit : (digit : Bool) (count : ℕ) (more other : Bool) → digit ≡ true → cond digit (nat_lt count 4 && more) other ≡ true → (count < 4) × (more ≡ true)
+at_digit digit count more other e h = let both = and_parts (nat_lt count 4) more (ap (λ b. cond b (nat_lt count 4 && more) other) (sym e) ∙ h) in (below count 4 both.0, both.1)
 
-ends_at_digit : (room count c : ℕ) (group cs : Text) → is_ascii_hexdigit c ≡ true → ends_in_groups room group count (c ∷ cs) ≡ true → (count < 4) × (ends_in_groups room group (count + 1) cs ≡ true)
-ends_at_digit room count c group cs e h =
-    let both = and_parts (nat_lt count 4) (ends_in_groups room group (count + 1) cs) (ap (λ b. cond b (nat_lt count 4 && ends_in_groups room group (count + 1) cs) (ends_at_mark room count c group cs)) (sym e) ∙ h) in
-    (below count 4 both.0, both.1)
-
-ends_at_other : (room count c : ℕ) (group cs : Text) → is_ascii_hexdigit c ≡ false → ends_in_groups room group count (c ∷ cs) ≡ true → ends_at_mark room count c group cs ≡ true
-ends_at_other room count c group cs e h = ap (λ b. cond b (nat_lt count 4 && ends_in_groups room group (count + 1) cs) (ends_at_mark room count c group cs)) (sym e) ∙ h
+at_other : (digit more other : Bool) → digit ≡ false → cond digit more other ≡ true → other ≡ true
+at_other digit more other e h = ap (λ b. cond b more other) (sym e) ∙ h
 
 abbrev FewGroups : ℕ → Text → Type 0
 FewGroups room text = (z : Groups text) × (length z.values ≤ room + 1)
@@ -111,9 +106,9 @@ groups_to_end room count group front (c ∷ cs) d s h = by (λ r n g f k t e. gr
 
     by : Rest → (b : Bool) → is_ascii_hexdigit c ≡ b → FewGroups room group
     by rest true e =
-        let at = ends_at_digit room count c group cs e h in
+        let at = at_digit _ count _ _ e h in
         rest room (count + 1) group (front ++ c ∷ []) (one_more front count c d e at.0) (s ∙ sym (append_assoc front (c ∷ []) cs)) at.1
-    by rest false e = mark rest (c == 58) refl (ends_at_other room count c group cs e h)
+    by rest false e = mark rest (c == 58) refl (at_other _ _ _ e h)
 
 abbrev AfterGap : ℕ → Text → Type 0
 AfterGap room text = (right : List ℕ) × AreLastGroups text right × (length right ≤ room)
@@ -152,17 +147,6 @@ Filled room text = (z : Groups text) × (length z.values ≡ room + 1)
 
 abbrev at_colon : ℕ → ℕ → Text → Bool
 at_colon room count cs = cond (nat_lt 0 count) (nat_lt 0 room && has_groups (room - 1) cs 0 cs) (nat_lt room 7 && is_after_gap room cs)
-
-abbrev at_mark : ℕ → ℕ → ℕ → Text → Text → Bool
-at_mark room count c group cs = cond (c == 58) (at_colon room count cs) (c == 46 && (room == 1 && ends_in_octets 3 false 0 group))
-
-has_at_digit : (room count c : ℕ) (group cs : Text) → is_ascii_hexdigit c ≡ true → has_groups room group count (c ∷ cs) ≡ true → (count < 4) × (has_groups room group (count + 1) cs ≡ true)
-has_at_digit room count c group cs e h =
-    let both = and_parts (nat_lt count 4) (has_groups room group (count + 1) cs) (ap (λ b. cond b (nat_lt count 4 && has_groups room group (count + 1) cs) (at_mark room count c group cs)) (sym e) ∙ h) in
-    (below count 4 both.0, both.1)
-
-has_at_other : (room count c : ℕ) (group cs : Text) → is_ascii_hexdigit c ≡ false → has_groups room group count (c ∷ cs) ≡ true → at_mark room count c group cs ≡ true
-has_at_other room count c group cs e h = ap (λ b. cond b (nat_lt count 4 && has_groups room group (count + 1) cs) (at_mark room count c group cs)) (sym e) ∙ h
 
 begins_gap : (room : ℕ) (group front : Text) → Digits front 0 → (c : ℕ) (cs : Text) → group ≡ front ++ c ∷ cs → c ≡ 58 → room < 7 → AfterGap room cs → Gap room group
 begins_gap room group front d c cs s e some z = record {
@@ -222,9 +206,9 @@ groups_read room count group front (c ∷ cs) d s h = by (λ r n g f k t e. grou
 
     by : Rest → (b : Bool) → is_ascii_hexdigit c ≡ b → Read room group
     by rest true e =
-        let at = has_at_digit room count c group cs e h in
+        let at = at_digit _ count _ _ e h in
         rest room (count + 1) group (front ++ c ∷ []) (one_more front count c d e at.0) (s ∙ sym (append_assoc front (c ∷ []) cs)) at.1
-    by rest false e = mark rest (c == 58) refl (has_at_other room count c group cs e h)
+    by rest false e = mark rest (c == 58) refl (at_other _ _ _ e h)
 
 -- ---- the address
 

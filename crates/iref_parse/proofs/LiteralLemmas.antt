@@ -1,8 +1,8 @@
 -- Texts that begin as no IP literal and no address of a future version does.
-use Rattle.std.proofs.Common.{◌≡◌, ◌≢◌, false, [], ◌∷◌, refl, ap, sym, inl, inr, cond}
-use Rattle.std.specs.Prelude.{◌&&◌, ◌||◌, Some, None, codes}
+use Rattle.std.proofs.Common.{◌≡◌, ◌≢◌, false, [], ◌∷◌, refl, ap, arith, inl, inr, cond}
+use Rattle.std.specs.Prelude.{◌&&◌, Some, None, codes}
 use Rattle.std.specs.Char.{char_set_contains}
-use Rattle.std.proofs.lemmas.Bool.Decides.{eqb_tells}
+use Rattle.std.proofs.lemmas.Bool.Decides.{eqb_tells, nat_tests}
 use Rattle.iref_grammar.specs.Rules.{Text}
 use Rattle.iref_grammar.specs.Grammar.{left_bracket, right_bracket, full_stop}
 use Rattle.iref_grammar.specs.Texts.{before, after}
@@ -21,10 +21,7 @@ is_ipvfuture-without_v [] small large = refl
 is_ipvfuture-without_v (c ∷ cs) small large = ap (λ b. b && is_future_version (before (full_stop ∷ []) cs) && is_future_address (after full_stop cs)) no_v
   where
     no_v : char_set_contains (codes "vV") c ≡ false
-    no_v = elim (eqb_tells 118 c) [
-      | inl e ↦ absurd (small cs (ap (λ b. b ∷ cs) (sym e.1)))
-      | inr e ↦ elim (eqb_tells 86 c) [
-        | inl f ↦ absurd (large cs (ap (λ b. b ∷ cs) (sym f.1)))
-        | inr f ↦ λ i. e.0 i || (f.0 i || false)
-      ]
-    ]
+    no_v =
+        let no_small : c ≢ 118 = λ e. small cs (ap (λ b. b ∷ cs) e) in
+        let no_large : c ≢ 86 = λ e. large cs (ap (λ b. b ∷ cs) e) in
+        grind (arith, nat_tests)

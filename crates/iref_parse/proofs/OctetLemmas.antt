@@ -1,5 +1,5 @@
 -- An IPv4 address read octet by octet.
-use Rattle.std.proofs.Common.{◌≡◌, ◌≢◌, ℕ, ◌<◌, Bool, false, cond, List, [], ◌∷◌, length, map, refl, sym, ◌∙◌, ap, subst, arith, lit<}
+use Rattle.std.proofs.Common.{◌≡◌, ◌≢◌, ℕ, suc, ◌<◌, ◌≤◌, Bool, false, cond, List, [], ◌∷◌, length, map, refl, sym, ◌∙◌, ap, subst, arith, lit<}
 use Rattle.std.specs.Prelude.{◌==◌, Option, Some, None, option_map, option_and_then, IfSome, decimal}
 use Rattle.std.specs.List.{position_or_len, before_first, after_first, join_with_byte}
 use Rattle.std.specs.Int.{from_be_bytes}
@@ -70,41 +70,37 @@ not_four : (o : Option (List ℕ)) → IfSome o (λ ns. length ns ≢ 4) → opt
 not_four None h = refl
 not_four (Some ns) h = let no : (length ns == 4) ≡ false = grind (arith, nat_tests) in ap (λ b. cond b (Some (number_of 256 ns)) None) no
 
-ipv4_value-refused : (text : Text) (o : Option (List ℕ)) → octet_values text ≡ o → IfSome o (λ ns. length ns ≢ 4) → ipv4_value text ≡ None
+-- the octets, if each is one, are not so many
+abbrev Lacks : ℕ → Option (List ℕ) → Type 0
+Lacks k o = IfSome o (λ ns. length ns ≢ k)
+
+lacks_more : (k n : ℕ) (o : Option (List ℕ)) → Lacks k o → Lacks (suc k) (more n o)
+lacks_more k n None h = tt
+lacks_more k n (Some ns) h = λ e. let fewer : length ns ≡ k = omega arith in h fewer
+
+lacks_from_few : (k : ℕ) (o : Option (List ℕ)) → 2 ≤ k → AreFewer 2 o → Lacks k o
+lacks_from_few k None some h = tt
+lacks_from_few k (Some ns) some h = λ e. absurd (omega arith)
+
+ipv4_value-refused : (text : Text) (o : Option (List ℕ)) → octet_values text ≡ o → Lacks 4 o → ipv4_value text ≡ None
 unfolding ipv4_value
 ipv4_value-refused text o e h = ap (option_and_then four_octets) e ∙ not_four o h
 
 pub after_none : (text : Text) → AreFewer 2 (octet_values text) → ipv4_value text ≡ None
-after_none text h = ipv4_value-refused text (octet_values text) refl (by (octet_values text) h)
-  where
-    by : (o : Option (List ℕ)) → AreFewer 2 o → IfSome o (λ ns. length ns ≢ 4)
-    by None k = tt
-    by (Some ns) k = λ e. absurd (omega arith)
+after_none text h = ipv4_value-refused text _ refl (lacks_from_few 4 _ (omega arith) h)
 
 pub after_one : (text rest : Text) (a : ℕ) → octet_values text ≡ more a (octet_values rest) → AreFewer 2 (octet_values rest) → ipv4_value text ≡ None
-after_one text rest a e h = ipv4_value-refused text (more a (octet_values rest)) e (by (octet_values rest) h)
-  where
-    by : (o : Option (List ℕ)) → AreFewer 2 o → IfSome (more a o) (λ ns. length ns ≢ 4)
-    by None k = tt
-    by (Some ns) k = λ e. absurd (omega arith)
+after_one text rest a e h = ipv4_value-refused text _ e (lacks_more 3 a _ (lacks_from_few 3 _ (omega arith) h))
 
 pub after_two : (text second rest : Text) (a b : ℕ) → octet_values text ≡ more a (octet_values second) → octet_values second ≡ more b (octet_values rest) → AreFewer 2 (octet_values rest) → ipv4_value text ≡ None
-after_two text second rest a b e f h = ipv4_value-refused text (more a (more b (octet_values rest))) (e ∙ ap (more a) f) (by (octet_values rest) h)
-  where
-    by : (o : Option (List ℕ)) → AreFewer 2 o → IfSome (more a (more b o)) (λ ns. length ns ≢ 4)
-    by None k = tt
-    by (Some ns) k = λ e. absurd (omega arith)
+after_two text second rest a b e f h = ipv4_value-refused text _ (e ∙ ap (more a) f) (lacks_more 3 a _ (lacks_more 2 b _ (lacks_from_few 2 _ (omega arith) h)))
 
 module _ (text second third rest : Text) (a b c : ℕ) (e : octet_values text ≡ more a (octet_values second)) (f : octet_values second ≡ more b (octet_values third)) (g : octet_values third ≡ more c (octet_values rest)) where
   three : octet_values text ≡ more a (more b (more c (octet_values rest)))
   three = e ∙ ap (more a) (f ∙ ap (more b) g)
 
   pub after_three-refused : octet_value rest ≡ None → ipv4_value text ≡ None
-  after_three-refused h = ipv4_value-refused text (more a (more b (more c (octet_values rest)))) three (by (octet_values rest) (octet_values-not_last rest h))
-    where
-      by : (o : Option (List ℕ)) → IfSome o (λ ns. length ns ≢ 1) → IfSome (more a (more b (more c o))) (λ ns. length ns ≢ 4)
-      by None k = tt
-      by (Some ns) k = λ l. let one : length ns ≡ 1 = omega arith in k one
+  after_three-refused h = ipv4_value-refused text _ three (lacks_more 3 a _ (lacks_more 2 b _ (lacks_more 1 c _ (octet_values-not_last rest h))))
 
   pub after_three : (d : ℕ) → octet_value rest ≡ Some d → ipv4_value text ≡ Some (from_be_bytes w32 (a ∷ b ∷ c ∷ d ∷ []))
   unfolding ipv4_value

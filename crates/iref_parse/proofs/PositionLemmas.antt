@@ -1,11 +1,11 @@
 -- The first index that is marked, by marks of 16 at a time.
-use Rattle.std.proofs.Common.{◌≡◌, ◌≢◌, ℕ, ◌+◌, ◌-◌, ◌<◌, ◌≤◌, List, [], ◌∷◌, ◌++◌, take, drop, Bool, true, false, cond, eqb, ◌||◌, length, get_or, not, replicate, bit_or, refl, sym, ap, subst, ◌∙◌, arith, ⊎_elim, inl, inr}
+use Rattle.std.proofs.Common.{◌≡◌, ◌≢◌, ℕ, ◌+◌, ◌-◌, ◌<◌, ◌≤◌, List, [], ◌∷◌, ◌++◌, take, drop, Bool, true, false, cond, eqb, ◌||◌, length, get_or, not, replicate, bit_or, refl, sym, ap, subst, ◌∙◌, arith, ⊎_elim}
 use Rattle.std.specs.Prelude.{◌==◌}
 use Rattle.std.specs.Str.{IsCharBoundary, IsUtf8}
 use Rattle.std.specs.List.{list_all, position_or_len}
 use Rattle.std.specs.Char.{char_set_contains}
-use Rattle.std.proofs.lemmas.Bool.{cases_lt, eq-eqb, eqb-true, or_right}
-use Rattle.std.proofs.lemmas.Bool.Decides.{eqb_tells}
+use Rattle.std.proofs.lemmas.Bool.{cases_lt, eq-eqb, eqb-true}
+use Rattle.std.proofs.lemmas.Bool.Decides.{nat_tests}
 use Rattle.std.proofs.lemmas.List.Elements.{All-from_get_or}
 use Rattle.std.proofs.lemmas.List.Sums.{AllPass-from_list_all, list_all-from_AllPass, position_or_len_is, passes_at_first, prefix_len-le-length}
 use Rattle.std.proofs.lemmas.Str.{IsCharBoundary-end, IsCharBoundary-before_ascii, IsUtf8-drop}
@@ -70,21 +70,8 @@ module _ (mark : ℕ → ℕ) (n at : ℕ) (old : IsClearFront mark n at) where
 abbrev pub either_at : ℕ → ℕ → List ℕ → ℕ → ℕ
 either_at first second bytes k = cond (char_set_contains (first ∷ second ∷ []) (get_or bytes k 0)) 255 0
 
-turned : (a b : ℕ) → (a == b) ≡ (b == a)
-turned a b =
-    elim (eqb_tells a b) [
-      | inl e ↦ elim (eqb_tells b a) [ inl f ↦ e.0 ∙ sym f.0 | inr f ↦ absurd (f.1 (sym e.1)) ]
-      | inr e ↦ elim (eqb_tells b a) [ inl f ↦ absurd (e.1 (sym f.1)) | inr f ↦ e.0 ∙ sym f.0 ]
-    ]
-
-joined : (p q : Bool) → bit_or (cond p 255 0) (cond q 255 0) ≡ cond (p || (q || false)) 255 0
-joined true true = refl
-joined true false = refl
-joined false true = refl
-joined false false = refl
-
 pub either_marked : (first second b : ℕ) → bit_or (cond (eqb b first) 255 0) (cond (eqb b second) 255 0) ≡ cond (char_set_contains (first ∷ second ∷ []) b) 255 0
-either_marked first second b = joined (eqb b first) (eqb b second) ∙ (λ i. cond (turned b first i || (turned b second i || false)) 255 0)
+either_marked first second b = grind (arith, nat_tests)
 
 abbrev all_bits_if : Bool → ℕ
 all_bits_if p = cond p 255 0
@@ -170,31 +157,18 @@ boundary_at_position first second text f s =
     (λ past. let end : length text ≡ n = omega (arith, bound, past) in subst (IsCharBoundary text) end (IsCharBoundary-end text)) (cases_lt n (length text))
   where
     is_ascii : (c : ℕ) → char_set_contains (first ∷ second ∷ []) c ≡ true → c < 128
-    is_ascii c h = elim (eqb_tells first c) [
-      | inl e ↦ omega (arith, e.1, f)
-      | inr e ↦ elim (eqb_tells second c) [
-        | inl g ↦ omega (arith, g.1, s)
-        | inr g ↦ absurd (true≢false (sym h ∙ (λ i. e.0 i || (g.0 i || false))))
-      ]
-    ]
+    is_ascii c h = grind (arith, nat_tests)
 
 pub marked_as_first : (first second : ℕ) (bytes : List ℕ) (k : ℕ) → get_or bytes k 0 ≡ first → either_at first second bytes k ≢ 0
-marked_as_first first second bytes k e h =
-    let yes : char_set_contains (first ∷ second ∷ []) (get_or bytes k 0) ≡ true = (λ i. eq-eqb first (get_or bytes k 0) (sym e) i || ((second == get_or bytes k 0) || false)) in
-    true≢false (sym yes ∙ clear_if _ h)
+marked_as_first first second bytes k e h = grind (arith, nat_tests)
 
 pub marked_as_second : (first second : ℕ) (bytes : List ℕ) (k : ℕ) → get_or bytes k 0 ≡ second → either_at first second bytes k ≢ 0
-marked_as_second first second bytes k e h =
-    let yes : char_set_contains (first ∷ second ∷ []) (get_or bytes k 0) ≡ true = (λ i. (first == get_or bytes k 0) || (eq-eqb second (get_or bytes k 0) (sym e) i || false)) ∙ or_right _ true refl in
-    true≢false (sym yes ∙ clear_if _ h)
+marked_as_second first second bytes k e h = grind (arith, nat_tests)
 
 -- what begins at the mark begins with it
 pub begins_at_mark : (mark : ℕ) (text rest : List ℕ) → rest ≡ from_first (mark ∷ []) text → 0 < length rest → get_or rest 0 0 ≡ mark
 begins_at_mark mark text [] e l = absurd (omega arith)
-begins_at_mark mark text (c ∷ cs) e l = elim (eqb_tells mark c) [
-  | inl f ↦ sym f.1
-  | inr f ↦ absurd (true≢false (sym (begins_with_mark (mark ∷ []) text c cs (sym e)) ∙ (λ i. f.0 i || false)))
-]
+begins_at_mark mark text (c ∷ cs) e l = let marked = begins_with_mark (mark ∷ []) text c cs (sym e) in grind (arith, nat_tests)
 
 pub from_mark_in_utf8 : (mark : ℕ) (text : List ℕ) → mark < 128 → IsUtf8 text → IsUtf8 (from_first (mark ∷ []) text)
 from_mark_in_utf8 mark text low u = IsUtf8-drop text _ u (subst (IsCharBoundary text) (position_of_one mark text) (boundary_at_position mark mark text low low))

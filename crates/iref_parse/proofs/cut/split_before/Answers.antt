@@ -1,4 +1,4 @@
-use Rattle.std.proofs.Common.{◌∷◌, [], ap, subst, sym, ◌∙◌, take, drop}
+use Rattle.std.proofs.Common.{◌∷◌, [], ap, subst, sym, ◌∙◌}
 use Rattle.std.specs.Char.{char_set_contains}
 use Rattle.std.specs.List.{position_or_len}
 use Rattle.std.specs.Str.{IsCharBoundary}
@@ -13,9 +13,4 @@ split_at-requires c =
     subst (IsCharBoundary text) (position_of_one mark text ∙ sym at) (boundary_at_position mark mark text c.requires c.requires)
 
 pub returns : goal.returns
-returns c =
-    let text = c.args.text.now in
-    let at = c.position_of.ensures ∙ ap (position_or_len (char_set_contains (c.args.mark ∷ []))) c.as_bytes.ensures.value in record {
-      before = c.split_at.ensures.front ∙ ap (λ n. take n text) at;
-      from_first = c.split_at.ensures.back ∙ ap (λ n. drop n text) at;
-    }
+returns c = record { before = cc; from_first = cc }

@@ -1,4 +1,4 @@
-use Rattle.std.proofs.Common.{◌∷◌, [], take, drop, ap, subst, sym, ◌∙◌}
+use Rattle.std.proofs.Common.{◌∷◌, [], ap, subst, sym, ◌∙◌}
 use Rattle.std.specs.Char.{char_set_contains}
 use Rattle.std.specs.List.{position_or_len}
 use Rattle.std.specs.Str.{IsCharBoundary}
@@ -12,9 +12,4 @@ split_at-requires c =
     subst (IsCharBoundary text) (sym at) (boundary_at_position c.args.first c.args.second text c.requires.first_is_ascii c.requires.second_is_ascii)
 
 pub returns : goal.returns
-returns c =
-    let text = c.args.text.now in
-    let at = c.position_of_either.ensures ∙ ap (position_or_len (char_set_contains (c.args.first ∷ c.args.second ∷ []))) c.as_bytes.ensures.value in record {
-      front = c.split_at.ensures.front ∙ ap (λ n. take n text) at;
-      back = c.split_at.ensures.back ∙ ap (λ n. drop n text) at;
-    }
+returns c = record { front = cc; back = cc }
