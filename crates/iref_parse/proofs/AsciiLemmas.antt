@@ -27,12 +27,12 @@ entry : (test : ℕ → Bool) (n : ℕ) → entries_match test n 256 ≡ true �
 entry test n h =
     (Decides-below_and (λ b. beq (listed n b) (allowed test b)) (λ b. listed n b ≡ allowed test b) (entries_match test n) (λ b. booleans_Decides _ _) refl (λ _. refl) 256).0 h
 
--- tests that agree on ASCII
-if_ascii : (test other : ℕ → Bool) (b : ℕ) → (b < 128 → test b ≡ other b) → allowed test b ≡ allowed other b
-if_ascii test other b same = by (is_ascii b) refl
+-- a test that agrees with that of a URI on ASCII
+by_uri_chars : (uri test : ℕ → Bool) (n : ℕ) → entries_match uri n 256 ≡ true → ((c : ℕ) → c < 128 → test c ≡ uri c) → (b : ℕ) → b < 256 → listed n b ≡ allowed test b
+by_uri_chars uri test n h same b low = entry uri n h b low ∙ by (is_ascii b) refl
   where
-    by : (ascii : Bool) → is_ascii b ≡ ascii → (ascii && (is_not_percent b && test b)) ≡ (ascii && (is_not_percent b && other b))
-    by true e = λ i. is_not_percent b && same (ltb-true b 128 e) i
+    by : (ascii : Bool) → is_ascii b ≡ ascii → (ascii && (is_not_percent b && uri b)) ≡ (ascii && (is_not_percent b && test b))
+    by true e = λ i. is_not_percent b && sym (same b (ltb-true b 128 e)) i
     by false e = refl
 
 module _ (set : CharTests) (above : AreAboveAscii set) where
@@ -59,29 +59,27 @@ module _ (set : CharTests) (above : AreAboveAscii set) where
 
   pub reg_name_byte : (b : ℕ) → b < 256 → listed 0 b ≡ allowed (is_reg_name_char set) b
   unfolding is_reg_name_char
-  reg_name_byte b h = entry (is_reg_name_char uri_chars) 0 refl b h ∙ if_ascii (is_reg_name_char uri_chars) (is_reg_name_char set) b (λ k. sym (reg_name_same b k))
+  reg_name_byte = by_uri_chars (is_reg_name_char uri_chars) (is_reg_name_char set) 0 refl reg_name_same
 
   pub user_info_byte : (b : ℕ) → b < 256 → listed 1 b ≡ allowed (is_user_info_char set) b
   unfolding is_user_info_char is_reg_name_char
-  user_info_byte b h = entry (is_user_info_char uri_chars) 1 refl b h ∙ if_ascii (is_user_info_char uri_chars) (is_user_info_char set) b (λ k. sym (user_info_same b k))
+  user_info_byte = by_uri_chars (is_user_info_char uri_chars) (is_user_info_char set) 1 refl user_info_same
 
   pub segment_byte : (b : ℕ) → b < 256 → listed 2 b ≡ allowed (is_path_char set) b
   unfolding is_path_char is_user_info_char is_reg_name_char
-  segment_byte b h = entry (is_path_char uri_chars) 2 refl b h ∙ if_ascii (is_path_char uri_chars) (is_path_char set) b (λ k. sym (path_same b k))
+  segment_byte = by_uri_chars (is_path_char uri_chars) (is_path_char set) 2 refl path_same
 
   pub path_byte : (b : ℕ) → b < 256 → listed 3 b ≡ allowed (λ c. is_path_char set c || c == slash) b
   unfolding is_path_char is_user_info_char is_reg_name_char
-  path_byte b h =
-      entry (λ c. is_path_char uri_chars c || c == slash) 3 refl b h
-      ∙ if_ascii (λ c. is_path_char uri_chars c || c == slash) (λ c. is_path_char set c || c == slash) b (λ k. λ i. sym (path_same b k) i || b == slash)
+  path_byte = by_uri_chars (λ c. is_path_char uri_chars c || c == slash) (λ c. is_path_char set c || c == slash) 3 refl (λ c h i. path_same c h i || c == slash)
 
   pub fragment_byte : (b : ℕ) → b < 256 → listed 4 b ≡ allowed (is_fragment_char set) b
   unfolding is_fragment_char is_path_char is_user_info_char is_reg_name_char
-  fragment_byte b h = entry (is_fragment_char uri_chars) 4 refl b h ∙ if_ascii (is_fragment_char uri_chars) (is_fragment_char set) b (λ k. sym (fragment_same b k))
+  fragment_byte = by_uri_chars (is_fragment_char uri_chars) (is_fragment_char set) 4 refl fragment_same
 
   pub query_byte : (b : ℕ) → b < 256 → listed 4 b ≡ allowed (is_query_char set) b
   unfolding is_query_char is_fragment_char is_path_char is_user_info_char is_reg_name_char
-  query_byte b h = entry (is_query_char uri_chars) 4 refl b h ∙ if_ascii (is_query_char uri_chars) (is_query_char set) b (λ k. sym (query_same b k))
+  query_byte = by_uri_chars (is_query_char uri_chars) (is_query_char set) 4 refl query_same
 
 pub pct_str_byte : (b : ℕ) → b < 256 → listed 5 b ≡ allowed is_not_percent b
 pct_str_byte = entry is_not_percent 5 refl

@@ -1,8 +1,9 @@
 -- The first lane in which two vectors differ, by the mask of those that do.
-use Rattle.std.proofs.Common.{◌≡◌, ◌≢◌, ℕ, ◌%◌, ◌^◌, ◌<◌, ◌≤◌, List, [], ◌∷◌, Bool, false, not, cond, eqb, length, get_or, map, refl, sym, ap, ◌∙◌, arith, w8}
+use Rattle.std.proofs.Common.{◌≡◌, ◌≢◌, ℕ, ◌%◌, ◌^◌, ◌<◌, ◌≤◌, List, Bool, false, not, cond, eqb, length, get_or, map, sym, ap, ◌∙◌, arith, w8}
 use Rattle.std.specs.List.{prefix_len}
 use Rattle.std.specs.Simd.Lanes.{zip2, mask_l, top}
 use Rattle.std.proofs.lemmas.Simd.{length-zip2, get_or-zip2, leading_from_mask_l, trailing_mask_l, tops_compared, mask_l-mod}
+use Rattle.std.proofs.lemmas.List.{map-id}
 use lib.Count.{count_trailing_zeros}
 use Rattle.std.proofs.lemmas.Bool.{eqb-true, eqb-false, not-true, not-false}
 use Rattle.std.proofs.lemmas.List.Sums.{prefix_len_passes, prefix_len_stops, prefix_len-le-length}
@@ -11,10 +12,6 @@ use Rattle.iref_parse.specs.Lanes.{DifferFirstAt}
 -- the lanes that differ
 abbrev pub others : List ℕ → List ℕ → List Bool
 others a b = zip2 (λ x y. not (eqb x y)) a b
-
-map_same : (ms : List Bool) → map (λ m. m) ms ≡ ms
-map_same [] = refl
-map_same (m ∷ ms) = ap (λ rest. m ∷ rest) (map_same ms)
 
 module _ (a b : List ℕ) (p : length a ≡ 16) (q : length b ≡ 16) where
   size : length (others a b) ≡ 16
@@ -39,7 +36,7 @@ module _ (a b : List ℕ) (p : length a ≡ 16) (q : length b ≡ 16) where
 
   module _ (m : ℕ) (same : m ≡ mask_l (map (top 7) (zip2 (λ x y. cond (not (eqb x y)) 255 0) a b)) % 2 ^ 64) where
     whole : m ≡ mask_l (map (λ t. t) (others a b))
-    whole = same ∙ mask_is ∙ sym (ap mask_l (map_same (others a b)))
+    whole = same ∙ mask_is ∙ sym (ap mask_l (map-id (others a b)))
 
     pub differ_nowhere : m ≡ 0 → DifferFirstAt a b 16 16
     differ_nowhere e = by_prefix 16 (sym (leading_from_mask_l (λ t. t) (others a b) (sym whole ∙ e) ∙ size))

@@ -32,13 +32,10 @@ octet_refused text unwritten = by (octet_value text) refl
     by (Some n) e = let h = octet_text text n e in absurd (unwritten n h.0 h.1)
 
 pub octet_value-plus : (text : Text) → get_or text 0 0 ≡ 43 → octet_value text ≡ None
-octet_value-plus text first = octet_refused text unwritten
-  where
-    unwritten : (n : ℕ) → n < 256 → text ≡ decimal n → ⊥
-    unwritten n h e =
-        let range = digit_at (decimal n) 0 ((decimal_is_IsNumeral n (wide n h)).0.1) (decimal_nonempty n (wide n h)) in
-        let here : get_or (decimal n) 0 0 ≡ 43 = ap (λ t. get_or t 0 0) (sym e) ∙ first in
-        omega (arith, range.0, here)
+octet_value-plus text first = octet_refused text (λ n h e.
+    let range = digit_at (decimal n) 0 ((decimal_is_IsNumeral n (wide n h)).0.1) (decimal_nonempty n (wide n h)) in
+    let here : get_or (decimal n) 0 0 ≡ 43 = ap (λ t. get_or t 0 0) (sym e) ∙ first in
+    omega (arith, range.0, here))
 
 pub octet_value-zero : (text : Text) → (slice_index text 0 == 48 && nat_lt 1 (length text)) ≡ true → octet_value text ≡ None
 octet_value-zero text leads = octet_refused text unwritten

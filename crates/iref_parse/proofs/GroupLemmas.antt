@@ -19,24 +19,19 @@ use Rattle.iref_grammar.proofs.SliceLemmas.{pieces_at-whole}
 -- a number of groups, with others after it, is one of eight
 placed : (count value : ℕ) → count ≤ 8 → value < 65536 ^ count → value * 65536 ^ (8 - count) + 65536 ^ (8 - count) ≤ 65536 ^ 8
 placed count value few h =
-    let power : 65536 ^ count * 65536 ^ (8 - count) ≡ 65536 ^ 8 = sym (pow-add 65536 count (8 - count)) ∙ ap (λ n. 65536 ^ n) (eight count few) in
+    let eight : count + (8 - count) ≡ 8 = omega arith in
+    let power : 65536 ^ count * 65536 ^ (8 - count) ≡ 65536 ^ 8 = sym (pow-add 65536 count (8 - count)) ∙ ap (λ n. 65536 ^ n) eight in
     let below : (value + 1) * 65536 ^ (8 - count) ≤ 65536 ^ count * 65536 ^ (8 - count) = mul-le-mul_right {m = value + 1} {n = 65536 ^ count} (65536 ^ (8 - count)) (omega arith) in
     omega (arith, below, power)
-  where
-    eight : (n : ℕ) → n ≤ 8 → n + (8 - n) ≡ 8
-    eight n h = omega arith
 
 wider : (i j : ℕ) → i ≤ j → 65536 ^ i ≤ 65536 ^ j
 wider i j h = pow-le-pow_right {n = 65536} (lit< tt) h
 
 pub pushed_fits : (count value group : ℕ) → count ≤ 8 → count ≢ 8 → value < 65536 ^ count → group < 65536 → value * 65536 + group < 2 ^ 128
 pushed_fits count value group few other h g =
-    let room : 65536 ^ (count + 1) ≤ 65536 ^ 8 = wider (count + 1) 8 (below count few other) in
+    let room : 65536 ^ (count + 1) ≤ 65536 ^ 8 = wider (count + 1) 8 (omega arith) in
     let power : 65536 ^ (count + 1) ≡ 65536 ^ count * 65536 ^ 1 = pow-add 65536 count 1 in
     omega (arith, room, power)
-  where
-    below : (n : ℕ) → n ≤ 8 → n ≢ 8 → n + 1 ≤ 8
-    below n h k = omega arith
 
 pub room_fits : (count : ℕ) → count ≢ 0 → 65536 ^ (8 - count) < 2 ^ 128
 room_fits count h = let some : 65536 ^ (8 - count) ≤ 65536 ^ 7 = wider (8 - count) 7 (omega arith) in omega arith
@@ -176,12 +171,10 @@ number-zeros (suc n) groups = number-zeros n groups
 number-filled : (start end : List ℕ) → length start + length end ≤ 7 → number_of 65536 (filled_groups start end) ≡ number_of 65536 start * 65536 ^ (8 - length start) + number_of 65536 end
 number-filled start end h =
     let zeros = replicate (8 - length start - length end) 0 in
-    let size : length (zeros ++ end) ≡ 8 - length start = length-append zeros end ∙ ap (λ n. n + length end) (length-replicate (8 - length start - length end) 0) ∙ rest (length start) (length end) h in
+    let rest : 8 - length start - length end + length end ≡ 8 - length start = omega arith in
+    let size : length (zeros ++ end) ≡ 8 - length start = length-append zeros end ∙ ap (λ n. n + length end) (length-replicate (8 - length start - length end) 0) ∙ rest in
     ap (number_of 65536) (append_assoc start zeros end) ∙ number-append start (zeros ++ end)
     ∙ (λ i. number_of 65536 start * 65536 ^ size i + number-zeros (8 - length start - length end) end i)
-  where
-    rest : (m n : ℕ) → m + n ≤ 7 → 8 - m - n + n ≡ 8 - m
-    rest m n k = omega arith
 
 -- the number of what is read around `::`
 abbrev pub around : Option (List ℕ) → Option (List ℕ) → Option ℕ

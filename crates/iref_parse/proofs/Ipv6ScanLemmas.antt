@@ -1,11 +1,11 @@
 -- What is read in one scan is an IPv6 address.
-use Rattle.std.proofs.Common.{◌≡◌, ℕ, ◌+◌, ◌-◌, ◌/◌, ◌%◌, ◌<◌, ◌≤◌, Bool, true, false, cond, ◌&&◌, ◌||◌, List, [], ◌∷◌, ◌++◌, length, append_assoc, length-append, refl, sym, ◌∙◌, ap, subst, arith, ◌⊎◌, inl, inr}
+use Rattle.std.proofs.Common.{◌≡◌, ℕ, ◌+◌, ◌-◌, ◌/◌, ◌%◌, ◌<◌, ◌≤◌, Bool, true, false, cond, ◌&&◌, List, [], ◌∷◌, ◌++◌, length, append_assoc, length-append, refl, sym, ◌∙◌, ap, subst, arith, ◌⊎◌, ⊎_elim, inl, inr}
 use Rattle.std.specs.Prelude.{◌==◌, nat_lt, codes, is_some}
 use Rattle.std.specs.List.{list_all, AllZip, join_with_byte}
 use Rattle.std.specs.Char.{is_ascii_hexdigit}
 use Rattle.std.specs.Str.Parse.{digits_value}
 use Rattle.std.proofs.lemmas.Bool.Decides.{nat_tests}
-use Rattle.std.proofs.lemmas.Bool.{eqb-true, and_from, and_parts}
+use Rattle.std.proofs.lemmas.Bool.{eqb-true, and_from, and_parts, or_cases}
 use Rattle.std.proofs.lemmas.List.{append-nil, nil_from_length}
 use Rattle.std.proofs.lemmas.List.Folds.{list_all-append}
 use mathlib.Core.Bool.{true≢false}
@@ -220,9 +220,6 @@ short_address text before after left right g k few e =
     address text (filled_groups left right)
     (inr (record { before = before; after = after; left = left; right = right; left_groups = g; right_groups = k; few = few; spelled = e; value = refl }))
 
-gap_first : (text rest : Text) → text ≡ codes "::" ++ rest → is_after_gap 7 rest ≡ true → is_some (ipv6_value text) ≡ true
-gap_first text rest e h = let z = after_gap 7 rest h in short_address text [] rest [] z.0 ([], tt, refl) z.1 (omega (arith, z.2)) e
-
 groups_first : (text : Text) → has_groups 7 text 0 text ≡ true → is_some (ipv6_value text) ≡ true
 groups_first text h = elim (groups_read 7 0 text [] text no_digits refl h) [
   | inl z ↦ address text z.0.values (inl (last_groups text z.0, z.1))
@@ -244,11 +241,8 @@ opened (a ∷ []) h = absurd (true≢false (sym h))
 opened (a ∷ b ∷ cs) h =
     let first = and_parts (a == 58) (b == 58 && is_after_gap 7 cs) h in
     let second = and_parts (b == 58) (is_after_gap 7 cs) first.1 in
-    gap_first (a ∷ b ∷ cs) cs (λ i. eqb-true a 58 first.0 i ∷ eqb-true b 58 second.0 i ∷ cs) second.1
+    let z = after_gap 7 cs second.1 in
+    short_address (a ∷ b ∷ cs) [] cs [] z.0 ([], tt, refl) z.1 (omega (arith, z.2)) (λ i. eqb-true a 58 first.0 i ∷ eqb-true b 58 second.0 i ∷ cs)
 
 pub scanned_address : (text : Text) → is_scanned_ipv6 text ≡ true → is_some (ipv6_value text) ≡ true
-scanned_address text h = by (has_groups 7 text 0 text) refl h
-  where
-    by : (b : Bool) → has_groups 7 text 0 text ≡ b → (b || opens_with_gap text) ≡ true → is_some (ipv6_value text) ≡ true
-    by true e k = groups_first text e
-    by false e k = opened text k
+scanned_address text h = ⊎_elim (groups_first text) (opened text) (or_cases (has_groups 7 text 0 text) (opens_with_gap text) h)

@@ -66,10 +66,6 @@ octet_values-not_last text h = by (pieces_at 46 text) (join-pieces_at 46 text)
 
 -- ---- the address, after some octets
 
-not_four : (o : Option (List ℕ)) → IfSome o (λ ns. length ns ≢ 4) → option_and_then four_octets o ≡ None
-not_four None h = refl
-not_four (Some ns) h = let no : (length ns == 4) ≡ false = grind (arith, nat_tests) in ap (λ b. cond b (Some (number_of 256 ns)) None) no
-
 -- the octets, if each is one, are not so many
 abbrev Lacks : ℕ → Option (List ℕ) → Type 0
 Lacks k o = IfSome o (λ ns. length ns ≢ k)
@@ -84,7 +80,10 @@ lacks_from_few k (Some ns) some h = λ e. absurd (omega arith)
 
 ipv4_value-refused : (text : Text) (o : Option (List ℕ)) → octet_values text ≡ o → Lacks 4 o → ipv4_value text ≡ None
 unfolding ipv4_value
-ipv4_value-refused text o e h = ap (option_and_then four_octets) e ∙ not_four o h
+ipv4_value-refused text None e h = ap (option_and_then four_octets) e
+ipv4_value-refused text (Some ns) e h =
+    let no : (length ns == 4) ≡ false = grind (arith, nat_tests) in
+    ap (option_and_then four_octets) e ∙ ap (λ b. cond b (Some (number_of 256 ns)) None) no
 
 pub after_none : (text : Text) → AreFewer 2 (octet_values text) → ipv4_value text ≡ None
 after_none text h = ipv4_value-refused text _ refl (lacks_from_few 4 _ (omega arith) h)

@@ -193,13 +193,7 @@ module _ (set : CharTests) (above : AreAboveAscii set) where
       (ap (are_encoded (but (hash_sign ∷ []) (is_plain_char set))) (sym (uncut (hash_sign ∷ []) text e)) ∙ encoded_before (hash_sign ∷ []) (delimiters (hash_sign ∷ []) refl) (is_plain_char set) text h)
 
   both_cut : (c : ℕ) → but (question_mark ∷ hash_sign ∷ []) (is_plain_char set) c ≡ true → but (question_mark ∷ []) (but (hash_sign ∷ []) (is_plain_char set)) c ≡ true
-  both_cut c h = by (is_plain_char set c) (question_mark == c) (hash_sign == c) h
-    where
-      by : (p q r : Bool) → (p && not (q || (r || false))) ≡ true → ((p && not (r || false)) && not (q || false)) ≡ true
-      by true false false k = refl
-      by true true r k = absurd (true≢false (sym k))
-      by true false true k = absurd (true≢false (sym k))
-      by false q r k = absurd (true≢false (sym k))
+  both_cut c h = grind (arith, nat_tests)
 
   pub encoded_path : (text : Text) → are_encoded (is_plain_char set) text ≡ true → position_or_len (char_set_contains (question_mark ∷ hash_sign ∷ [])) text ≡ length text → is_path set text ≡ true
   encoded_path text h e =

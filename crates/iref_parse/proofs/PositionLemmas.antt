@@ -1,6 +1,5 @@
 -- The first index that is marked, by marks of 16 at a time.
-use Rattle.std.proofs.Common.{◌≡◌, ◌≢◌, ℕ, ◌+◌, ◌-◌, ◌<◌, ◌≤◌, List, [], ◌∷◌, ◌++◌, take, drop, Bool, true, false, cond, eqb, ◌||◌, length, get_or, not, replicate, bit_or, refl, sym, ap, subst, ◌∙◌, arith, ⊎_elim}
-use Rattle.std.specs.Prelude.{◌==◌}
+use Rattle.std.proofs.Common.{◌≡◌, ◌≢◌, ℕ, ◌+◌, ◌-◌, ◌<◌, ◌≤◌, List, [], ◌∷◌, ◌++◌, take, drop, true, false, cond, eqb, length, get_or, not, replicate, bit_or, refl, sym, ap, subst, ◌∙◌, arith, ⊎_elim}
 use Rattle.std.specs.Str.{IsCharBoundary, IsUtf8}
 use Rattle.std.specs.List.{list_all, position_or_len}
 use Rattle.std.specs.Char.{char_set_contains}
@@ -26,31 +25,28 @@ module _ (mark : ℕ → ℕ) (n at : ℕ) (old : IsClearFront mark n at) where
   pub IsClearFront-last : 16 ≤ n → n ≤ at + 16 → IsClearFront mark n (n - 16)
   IsClearFront-last long near = record { within = omega arith; each = λ k l. old.each k (omega arith) }
 
+  -- as many more as the vector has lanes of 0 in front
+  further : (v : List ℕ) (r : ℕ) → at + r ≤ n → r ≤ 16 → HasLanes v (λ k. mark (at + k)) → ((j : ℕ) → j < r → get_or v j 0 ≡ 0) → IsClearFront mark n (at + r)
+  further v r room few marks zero = record {
+    within = room;
+    each = λ k l. ⊎_elim (λ below. old.each k below)
+        (λ from.
+        let here : k ≡ at + (k - at) = omega arith in
+        ap mark here ∙ sym (marks.each (k - at) (omega arith)) ∙ zero (k - at) (omega arith))
+        (cases_lt k at);
+  }
+
   -- 16 more of which none is marked
   pub IsClearFront-step : (v : List ℕ) → at + 16 ≤ n → HasLanes v (λ k. mark (at + k)) → list_all (λ x. eqb x 0) v ≡ true → IsClearFront mark n (at + 16)
   IsClearFront-step v room marks clear =
       let long = marks.long in
-      record {
-        within = room;
-        each = λ k l. ⊎_elim (λ below. old.each k below)
-            (λ from.
-            let here : k ≡ at + (k - at) = omega arith in
-            ap mark here ∙ sym (marks.each (k - at) (omega arith)) ∙ eqb-true _ 0 (AllPass-from_list_all (λ x. eqb x 0) v clear (k - at) 0 (omega arith)))
-            (cases_lt k at);
-      }
+      further v 16 room (omega arith) marks (λ j l. eqb-true _ 0 (AllPass-from_list_all (λ x. eqb x 0) v clear j 0 (omega arith)))
 
   module _ (v : List ℕ) (r : ℕ) (room : at + 16 ≤ n) (marks : HasLanes v (λ k. mark (at + k))) (first : DifferFirstAt v (replicate 16 0) 16 r) where
     pub IsClearFront-more : IsClearFront mark n (at + r)
     IsClearFront-more =
         let within = first.within in
-        record {
-          within = omega arith;
-          each = λ k l. ⊎_elim (λ below. old.each k below)
-              (λ from.
-              let here : k ≡ at + (k - at) = omega arith in
-              ap mark here ∙ sym (marks.each (k - at) (omega arith)) ∙ first.same (k - at) (omega arith) ∙ get_or-replicate 16 (k - at) 0 0 (omega arith))
-              (cases_lt k at);
-        }
+        further v r (omega arith) within marks (λ j l. first.same j l ∙ get_or-replicate 16 j 0 0 (omega arith))
 
     -- one of the 16 is marked
     pub IsClearFront-met : list_all (λ x. eqb x 0) v ≡ false → r < 16
@@ -73,22 +69,11 @@ either_at first second bytes k = cond (char_set_contains (first ∷ second ∷ [
 pub either_marked : (first second b : ℕ) → bit_or (cond (eqb b first) 255 0) (cond (eqb b second) 255 0) ≡ cond (char_set_contains (first ∷ second ∷ []) b) 255 0
 either_marked first second b = grind (arith, nat_tests)
 
-abbrev all_bits_if : Bool → ℕ
-all_bits_if p = cond p 255 0
-
-clear_if : (p : Bool) → all_bits_if p ≡ 0 → p ≡ false
-clear_if true e = absurd (omega (arith, e))
-clear_if false e = refl
-
-marked_if : (p : Bool) → all_bits_if p ≢ 0 → p ≡ true
-marked_if true e = refl
-marked_if false e = absurd (e refl)
-
 -- the first of two marks is at the end of the clear front
 pub position_from_clear : (first second : ℕ) (bytes : List ℕ) (at : ℕ) → IsClearFront (either_at first second bytes) (length bytes) at → (at < length bytes → either_at first second bytes at ≢ 0)
     → at ≡ position_or_len (char_set_contains (first ∷ second ∷ [])) bytes
 position_from_clear first second bytes at h other =
-    sym (position_or_len_is (char_set_contains (first ∷ second ∷ [])) bytes at 0 h.within (λ k l. clear_if _ (h.each k l)) (λ l. marked_if _ (other l)))
+    sym (position_or_len_is (char_set_contains (first ∷ second ∷ [])) bytes at 0 h.within (λ k l. let clear = h.each k l in grind (arith, nat_tests)) (λ l. let marked = other l in grind (arith, nat_tests)))
 
 -- the first eight bytes and the last eight, which may be some of the first
 abbrev pub ends : List ℕ → List ℕ
@@ -120,7 +105,7 @@ module _ (first second : ℕ) (bytes : List ℕ) (least : 8 ≤ length bytes) (m
   met l e = let here : 0 + r ≡ r = omega arith in IsClearFront-ends (mark (ends bytes)) 16 0 none v r (omega arith) marks differ l (ap (mark (ends bytes)) here ∙ e)
 
   same : (i j : ℕ) → get_or bytes i 0 ≡ get_or (ends bytes) j 0 → mark bytes i ≡ mark (ends bytes) j
-  same i j e = ap (λ x. all_bits_if (char_set_contains (first ∷ second ∷ []) x)) e
+  same i j e = ap (λ x. cond (char_set_contains (first ∷ second ∷ []) x) 255 0) e
 
   pub position_at_low_end : r < 8 → r ≡ position_or_len (char_set_contains (first ∷ second ∷ [])) bytes
   position_at_low_end low =
@@ -141,11 +126,9 @@ module _ (first second : ℕ) (bytes : List ℕ) (least : 8 ≤ length bytes) (m
 -- one mark is two that are the same
 pub position_of_one : (mark : ℕ) (text : List ℕ) → position_or_len (char_set_contains (mark ∷ mark ∷ [])) text ≡ position_or_len (char_set_contains (mark ∷ [])) text
 position_of_one mark [] = refl
-position_of_one mark (c ∷ cs) = λ i. cond (not (once (mark == c) i)) (1 + position_of_one mark cs i) 0
-  where
-    once : (p : Bool) → (p || (p || false)) ≡ (p || false)
-    once true = refl
-    once false = refl
+position_of_one mark (c ∷ cs) =
+    let once : char_set_contains (mark ∷ mark ∷ []) c ≡ char_set_contains (mark ∷ []) c = grind (arith, nat_tests) in
+    λ i. cond (not (once i)) (1 + position_of_one mark cs i) 0
 
 -- a text may be cut before the first of two ASCII marks, and at its end
 pub boundary_at_position : (first second : ℕ) (text : List ℕ) → first < 128 → second < 128 → IsCharBoundary text (position_or_len (char_set_contains (first ∷ second ∷ [])) text)

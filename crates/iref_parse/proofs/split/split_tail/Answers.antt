@@ -1,10 +1,9 @@
-use Rattle.std.proofs.Common.{◌≡◌, ◌<◌, [], ◌∷◌, ◌||◌, false, length, get_or, drop, inl, inr, refl, rules, arith, ap, subst, sym, ◌∙◌}
+use Rattle.std.proofs.Common.{◌≡◌, ◌<◌, [], ◌∷◌, false, length, get_or, drop, refl, rules, arith, ap, subst, sym, ◌∙◌}
 use Rattle.std.specs.Prelude.{◌≢◌, Some, None}
 use Rattle.std.specs.Str.{IsUtf8}
-use Rattle.std.proofs.lemmas.Bool.Decides.{eqb_tells, nat_tests}
+use Rattle.std.proofs.lemmas.Bool.Decides.{nat_tests}
 use Rattle.std.proofs.lemmas.List.{nil_from_length}
 use Rattle.std.proofs.lemmas.Str.{IsUtf8-drop, lead_after_ascii}
-use mathlib.Core.Bool.{true≢false}
 use Rattle.iref_grammar.specs.Rules.{Text}
 use Rattle.iref_grammar.specs.Grammar.{hash_sign, question_mark}
 use Rattle.iref_grammar.specs.Texts.{before, from_first, after, after_first_char}
@@ -17,13 +16,11 @@ use Rattle.iref_parse.proofs.split.split_tail.Goals.{In-None}
 -- a tail that does not begin with `#` begins with `?`
 question_first : (text tail : Text) → tail ≡ from_first ends_path text → 0 < length tail → ((rest : Text) → tail ≢ hash_sign ∷ rest) → tail ≡ question_mark ∷ drop 1 tail
 question_first text [] e some other = absurd (omega arith)
-question_first text (c ∷ cs) e some other = elim (eqb_tells question_mark c) [
-  | inl q ↦ ap (λ d. d ∷ cs) (sym q.1)
-  | inr q ↦ elim (eqb_tells hash_sign c) [
-    | inl h ↦ absurd (other cs (ap (λ d. d ∷ cs) (sym h.1)))
-    | inr h ↦ absurd (true≢false (sym (begins_with_mark ends_path text c cs (sym e)) ∙ (λ i. q.0 i || (h.0 i || false))))
-  ]
-]
+question_first text (c ∷ cs) e some other =
+    let marked = begins_with_mark ends_path text c cs (sym e) in
+    let no_hash : c ≢ hash_sign = λ h. other cs (ap (λ d. d ∷ cs) h) in
+    let mark : c ≡ question_mark = grind (arith, nat_tests) in
+    ap (λ d. d ∷ cs) mark
 
 tail_is : (c : In-None) → c.split_before_either.result.1.now ≡ question_mark ∷ drop 1 c.split_before_either.result.1.now
 tail_is c =
