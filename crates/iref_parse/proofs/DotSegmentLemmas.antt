@@ -2,7 +2,8 @@
 use Rattle.std.proofs.Common.{◌≡◌, ℕ, zero, suc, ◌+◌, List, [], ◌∷◌, Bool, true, false, cond, ◌&&◌, ◌||◌, eqb, get_or, refl, sym, ap, ◌∙◌, arith, ⊎_elim}
 use Rattle.std.specs.Prelude.{MatchBool}
 use Rattle.std.specs.List.{list_any, slice_split, onto_first}
-use Rattle.std.proofs.lemmas.Bool.{true≢false, eqb-true, ne_eqb, eq-eqb, and_parts, and_from, or_cases, or_left, or_right, false_from_ne_true}
+use Rattle.std.proofs.lemmas.Bool.{true≢false, eqb-true, eq-eqb, and_parts, and_from, or_cases, or_left, or_right, false_from_ne_true}
+use Rattle.std.proofs.lemmas.Bool.Decides.{nat_tests}
 use Rattle.iref_parse.specs.Dots.{HasDot, is_slash_dot, begins_with_dot, has_dot_segment}
 use Rattle.iref_parse.proofs.DotLemmas.{dot_from_pair, dot_at_first, pair_from_dot}
 
@@ -33,14 +34,7 @@ later_after_other x xs t = ap (λ b. list_any begins_with_dot (rest (cond b ([] 
 
 first_or_later : (path : List ℕ) → has_dot_segment path ≡ (begins_with_dot path || later path)
 first_or_later [] = refl
-first_or_later (x ∷ xs) = by (eqb x 0x2F) refl
-  where
-    by : (b : Bool) → eqb x 0x2F ≡ b → has_dot_segment (x ∷ xs) ≡ (eqb x 0x2E || later (x ∷ xs))
-    by true t =
-        let no_dot : eqb x 0x2E ≡ false = ne_eqb x 0x2E (λ e. omega (arith, eqb-true x 0x2F t, e)) in
-        ap (λ b. list_any begins_with_dot (cond b ([] ∷ parts xs) (onto_first x (parts xs)))) t ∙ sym (later_after_slash x xs t) ∙ sym (ap (λ b. b || later (x ∷ xs)) no_dot)
-    by false t =
-        ap (λ b. list_any begins_with_dot (cond b ([] ∷ parts xs) (onto_first x (parts xs)))) t ∙ any_onto_first x (parts xs) ∙ sym (ap (λ b. eqb x 0x2E || b) (later_after_other x xs t))
+first_or_later (x ∷ xs) = grind (arith, nat_tests, any_onto_first x (parts xs), rest_onto_first x (parts xs))
 
 first_is : (path : List ℕ) → begins_with_dot path ≡ eqb (get_or path 0 0) 0x2E
 first_is [] = refl

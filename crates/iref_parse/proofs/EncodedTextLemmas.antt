@@ -209,19 +209,12 @@ module _ (marks : List ℕ) (each : (c : ℕ) → char_set_contains marks c ≡ 
       by : (b : Bool) → char_set_contains marks c ≡ b → (before marks more ≡ encode_utf8_all (before marks cs)) × (from_first marks more ≡ encode_utf8_all (from_first marks cs))
           → (before marks (encode c ++ more) ≡ encode_utf8_all (before marks (c ∷ cs))) × (from_first marks (encode c ++ more) ≡ encode_utf8_all (from_first marks (c ∷ cs)))
       by true e rest =
-          let one = encode_ascii c ((each c e).low) in (
-            ap (λ t. before marks (t ++ more)) one ∙ before-yes marks c more e ∙ ap encode_utf8_all (sym (before-yes marks c cs e)),
-            ap (λ t. from_first marks (t ++ more)) one ∙ from_first-yes marks c more e ∙ ap (λ t. t ++ more) (sym one) ∙ ap encode_utf8_all (sym (from_first-yes marks c cs e)),
-          )
+          let one = encode_ascii c ((each c e).low) in
+          (cc (one, before-yes marks c more e, before-yes marks c cs e), cc (one, from_first-yes marks c more e, from_first-yes marks c cs e))
       by false e rest =
           let past : (before marks (encode c ++ more) ≡ encode c ++ before marks more) × (from_first marks (encode c ++ more) ≡ from_first marks more) =
-          ⊎_elim (λ low. let one = encode_ascii c low in (
-            ap (λ t. before marks (t ++ more)) one ∙ before-no marks c more e ∙ ap (λ t. t ++ before marks more) (sym one),
-            ap (λ t. from_first marks (t ++ more)) one ∙ from_first-no marks c more e,
-          )) (λ high. past_high (encode c) more (encode_high c high)) (cases_lt c 128) in (
-            past.0 ∙ ap (λ t. encode c ++ t) rest.0 ∙ ap encode_utf8_all (sym (before-no marks c cs e)),
-            past.1 ∙ rest.1 ∙ ap encode_utf8_all (sym (from_first-no marks c cs e)),
-          )
+          ⊎_elim (λ low. let one = encode_ascii c low in (cc (one, before-no marks c more e), cc (one, from_first-no marks c more e))) (λ high. past_high (encode c) more (encode_high c high)) (cases_lt c 128) in
+          (cc (past.0, rest.0, before-no marks c cs e), cc (past.1, rest.1, from_first-no marks c cs e))
 
   module _ (test : ℕ → Bool) (text : Text) (h : are_encoded test text ≡ true) where
     whole : Spelled test text

@@ -82,7 +82,7 @@ is_address text h = four (octets_to_end 3 false 0 [] text (refl, refl) h)
             c = x.0;
             d = w.0;
             in_range = (z.2, y.2, x.2, w.1);
-            spelled = z.3 ∙ ap (λ t. decimal z.0 ++ 46 ∷ t) (y.3 ∙ ap (λ t. decimal y.0 ++ 46 ∷ t) (x.3 ∙ ap (λ t. decimal x.0 ++ 46 ∷ t) w.2));
+            spelled = cc (z.3, y.3, x.3, w.2);
             value = refl;
           },
         )

@@ -1,7 +1,8 @@
 -- The tables of plain bytes, checked entry by entry.
-use Rattle.std.proofs.Common.{◌≡◌, ◌≢◌, ℕ, ◌+◌, ◌<◌, ◌≤◌, List, true, false, eqb, length, get_or, refl, sym, ap, ◌∙◌, arith, Fits, w8, ⊎_elim, inl, inr}
+use Rattle.std.proofs.Common.{◌≡◌, ◌≢◌, ℕ, ◌+◌, ◌<◌, ◌≤◌, List, true, false, eqb, length, get_or, refl, sym, ◌∙◌, arith, Fits, w8, inl, inr}
+use borrow.Author.Count.{below_more}
 use Rattle.std.specs.List.{prefix_len}
-use Rattle.std.proofs.lemmas.Bool.{agree_below_at, cases_lt, eq-eqb}
+use Rattle.std.proofs.lemmas.Bool.{agree_below_at, eq-eqb}
 use Rattle.std.proofs.lemmas.Bool.Decides.{eqb_tells}
 use Rattle.std.proofs.lemmas.List.Sums.{prefix_len_is}
 use Rattle.iref_parse.specs.declared.plain.TheConstants.{LOW, HIGH}
@@ -24,7 +25,7 @@ pub record IsPlainFront (bytes : List ℕ) (at : ℕ) : Type 0 where
 pub IsPlainFront-more : (bytes : List ℕ) (at : ℕ) → IsPlainFront bytes at → at < length bytes → is_plain_byte (get_or bytes at 0) ≡ true → IsPlainFront bytes (at + 1)
 IsPlainFront-more bytes at old l e = record {
   within = omega arith;
-  each = λ k m. ⊎_elim (λ below. old.each k below) (λ from. let here : k ≡ at = omega arith in ap (λ n. is_plain_byte (get_or bytes n 0)) here ∙ e) (cases_lt k at);
+  each = below_more (λ k. is_plain_byte (get_or bytes k 0) ≡ true) at old.each e;
 }
 
 pub plain_front_is : (bytes : List ℕ) (at : ℕ) → IsPlainFront bytes at → (at < length bytes → is_plain_byte (get_or bytes at 0) ≡ false) → at ≡ prefix_len is_plain_byte bytes

@@ -1,9 +1,7 @@
-use Rattle.std.proofs.Common.{◌∷◌, ◌≤◌, [], length, not, subst, sym}
+use Rattle.std.proofs.Common.{◌∷◌, [], not, arith}
 use Rattle.std.specs.Char.{char_set_contains}
 use Rattle.std.proofs.lemmas.List.Sums.{prefix_len-le-length}
 use Rattle.iref_parse.proofs.cut.cut_bytes.Goals as goal
 
 pub split_at-requires : goal.split_at-requires
-split_at-requires c =
-    subst (λ n. n ≤ length c.args.text.now) (sym c.position_of.ensures)
-    (prefix_len-le-length (λ b. not (char_set_contains (c.args.mark ∷ []) b)) c.args.text.now)
+split_at-requires c = omega (arith, c.position_of.ensures, prefix_len-le-length (λ b. not (char_set_contains (c.args.mark ∷ []) b)) c.args.text.now)

@@ -8,14 +8,11 @@ use Rattle.iref_parse.proofs.PlainTextLemmas.{plain_stands_for_itself}
 use Rattle.iref_parse.proofs.encoded.after_plain.Goals as goal
 
 pub slice_bounds-result-count : goal.slice_bounds-result-count
-slice_bounds-result-count g c =
-    let bound = prefix_len-le-length is_plain_byte c.args.text.now in
-    omega (arith, bound, c.plain_first-len.ensures)
+slice_bounds-result-count g c = omega (arith, prefix_len-le-length is_plain_byte c.args.text.now, c.plain_first-len.ensures)
 
 pub slice_bounds-result-start : goal.slice_bounds-result-start
 slice_bounds-result-start g c =
-    let bound = prefix_len-le-length is_plain_byte c.args.text.now in
-    let within : c.plain_first-len.result ≤ length c.args.text.now = omega (arith, bound, c.plain_first-len.ensures) in
+    let within : c.plain_first-len.result ≤ length c.args.text.now = omega (arith, prefix_len-le-length is_plain_byte c.args.text.now, c.plain_first-len.ensures) in
     search (rules, within)
 
 pub returns-then-len-gt0 : goal.returns-then-len-gt0
