@@ -1,12 +1,12 @@
 -- The table of ASCII characters, checked entry by entry.
-use Rattle.std.proofs.Common.{◌≡◌, ℕ, zero, suc, ◌<◌, Bool, true, ◌&&◌, ◌||◌, false, refl, sym, ◌∙◌}
+use Rattle.std.proofs.Common.{◌≡◌, ℕ, zero, suc, ◌<◌, Bool, true, arith, ◌&&◌, ◌||◌, refl, ◌∙◌}
 use Rattle.std.specs.Prelude.{◌==◌, nat_le, codes}
 use Rattle.std.specs.List.{slice_index}
 use Rattle.std.specs.Char.{is_ascii, is_ascii_alphanumeric, char_set_contains}
 use Rattle.std.specs.Cmp.{booleans_Decides}
 use mathlib.Core.Bool.{beq}
 use Rattle.std.proofs.lemmas.Bool.{ltb-true}
-use Rattle.std.proofs.lemmas.Bool.Decides.{Decides-below_and}
+use Rattle.std.proofs.lemmas.Bool.Decides.{Decides-below_and, nat_tests}
 use Rattle.iref_parse.specs.declared.ascii.TheConstants.{FIRST_RULES}
 use Rattle.iref_grammar.specs.Characters.{CharTests, AreAboveAscii, uri_chars}
 use Rattle.iref_grammar.specs.Grammar.{colon, at_sign, slash, question_mark, is_not_percent, is_sub_delim, is_reg_name_char, is_user_info_char, is_path_char, is_fragment_char, is_query_char}
@@ -29,11 +29,10 @@ entry test n h =
 
 -- a test that agrees with that of a URI on ASCII
 by_uri_chars : (uri test : ℕ → Bool) (n : ℕ) → entries_match uri n 256 ≡ true → ((c : ℕ) → c < 128 → test c ≡ uri c) → (b : ℕ) → b < 256 → listed n b ≡ allowed test b
-by_uri_chars uri test n h same b low = entry uri n h b low ∙ by (is_ascii b) refl
-  where
-    by : (ascii : Bool) → is_ascii b ≡ ascii → (ascii && (is_not_percent b && uri b)) ≡ (ascii && (is_not_percent b && test b))
-    by true e = λ i. is_not_percent b && sym (same b (ltb-true b 128 e)) i
-    by false e = refl
+by_uri_chars uri test n h same b low =
+    let agree : is_ascii b ≡ true → test b ≡ uri b = λ e. same b (ltb-true b 128 e) in
+    let both : allowed uri b ≡ allowed test b = grind (arith, nat_tests) in
+    entry uri n h b low ∙ both
 
 module _ (set : CharTests) (above : AreAboveAscii set) where
   -- of ASCII, each set has the same characters

@@ -48,14 +48,13 @@ module _ {S : Type 0} (write : S → List ℕ → S) where
       let count : 63 ≡ length (held_in buffer n ++ b ∷ []) =
       let sum = length-append (held_in buffer n) (b ∷ []) in omega (arith, sum, many, at) in
       let written : t ≡ write s (piece (held_in buffer n ++ b ∷ [])) = e ∙ ap (write s) (bytes ∙ ap (λ k. k ∷ (held_in buffer n ++ b ∷ [])) count) in
-      ap (λ u. fold write u (fed_after [] rest)) written ∙ ap (fold write s) (sym (full_step (held_in buffer n) b rest (omega (arith, many, at))))
+      cc (full_step (held_in buffer n) b rest (omega (arith, many, at)))
 
   pub room_turn : (s : S) (buffer : List ℕ) (n b : ℕ) (rest : Text) → length buffer ≡ 64 → n + 1 < 63
       → fold write s (fed_after (held_in (set buffer (n + 1) b) (n + 1)) rest) ≡ fold write s (fed_after (held_in buffer n) (b ∷ rest))
   room_turn s buffer n b rest size low =
       let many = held_size buffer n (omega (arith, size, low)) in
-      ap (λ held. fold write s (fed_after held rest)) (held_more buffer n b (omega (arith, size, low)))
-      ∙ ap (fold write s) (sym (room_step (held_in buffer n) b rest (omega (arith, many, low))))
+      cc (held_more buffer n b (omega (arith, size, low)), room_step (held_in buffer n) b rest (omega (arith, many, low)))
 
   pub last_turn : (s t : S) (buffer : List ℕ) (n : ℕ) → length buffer ≡ 64 → n < 63 → t ≡ write s (take (n + 1) (set buffer 0 n))
       → t ≡ fold write s (fed_after (held_in buffer n) [])

@@ -3,6 +3,7 @@ use Rattle.std.proofs.Common.{◌≡◌, ℕ, zero, suc, ◌+◌, ◌-◌, ◌<�
 use Rattle.std.specs.Prelude.{MatchBool}
 use Rattle.std.specs.List.{list_all}
 use Rattle.std.proofs.lemmas.Bool.{true≢false, eqb-true, eq-eqb, and_parts, and_from, cases_lt}
+use Rattle.std.proofs.lemmas.Bool.Decides.{nat_tests}
 use Rattle.std.proofs.lemmas.List.{get_or_past}
 use Rattle.iref_parse.specs.Lanes.{HasLanes}
 use Rattle.iref_parse.specs.Dots.{HasDot, is_slash_dot}
@@ -66,10 +67,7 @@ module _ (path : List ℕ) where
   dots_from_end v long h = record { long = h.long; each = λ k l. h.each k l ∙ ap (dots_at path) (omega arith) }
 
 both_marked : (p q : Bool) → bit_and (cond p 255 0) (cond q 255 0) ≡ cond (p && q) 255 0
-both_marked true true = refl
-both_marked true false = refl
-both_marked false true = refl
-both_marked false false = refl
+both_marked p q = grind (arith, nat_tests)
 
 -- the path without its last byte, and without its first: lane by lane, two neighbours
 module _ (path : List ℕ) (least : 9 ≤ length path) where

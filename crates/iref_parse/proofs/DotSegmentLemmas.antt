@@ -55,6 +55,9 @@ pair_from_later (x ∷ xs) h = by (λ e. pair_from_later xs e) (eqb x 0x2F) refl
         (or_cases (begins_with_dot xs) (later xs) (sym (first_or_later xs) ∙ sym (later_after_slash x xs t) ∙ h))
     by deeper false t = behind (deeper (sym (later_after_other x xs t) ∙ h))
 
+later_more : (x : ℕ) (xs : List ℕ) → later xs ≡ true → later (x ∷ xs) ≡ true
+later_more x xs h = grind (arith, nat_tests, first_or_later xs, rest_onto_first x (parts xs))
+
 later_from_pair : (path : List ℕ) (k : ℕ) → is_slash_dot path k ≡ true → later path ≡ true
 later_from_pair [] k h = absurd (true≢false (sym h))
 later_from_pair (x ∷ xs) zero h =
@@ -62,12 +65,7 @@ later_from_pair (x ∷ xs) zero h =
     later_after_slash x xs both.0 ∙ first_or_later xs ∙ or_left (begins_with_dot xs) (later xs) (first_is xs ∙ both.1)
 later_from_pair (x ∷ xs) (suc k) h =
     let next : suc k + 1 ≡ suc (k + 1) = omega arith in
-    let deeper = later_from_pair xs k (sym (ap (λ j. eqb (get_or xs k 0) 0x2F && eqb (get_or (x ∷ xs) j 0) 0x2E) next) ∙ h) in
-    by deeper (eqb x 0x2F) refl
-  where
-    by : later xs ≡ true → (b : Bool) → eqb x 0x2F ≡ b → later (x ∷ xs) ≡ true
-    by deeper true t = later_after_slash x xs t ∙ first_or_later xs ∙ or_right (begins_with_dot xs) (later xs) deeper
-    by deeper false t = later_after_other x xs t ∙ deeper
+    later_more x xs (later_from_pair xs k (sym (ap (λ j. eqb (get_or xs k 0) 0x2F && eqb (get_or (x ∷ xs) j 0) 0x2E) next) ∙ h))
 
 -- an answer by indices is the answer by segments
 pub by_segments : (path : List ℕ) (r : Bool) → MatchBool r (HasDot path) (¬ HasDot path) → r ≡ has_dot_segment path

@@ -1,7 +1,7 @@
 -- The numbers that groups of an IPv6 address write.
 use Rattle.std.proofs.Common.{◌≡◌, ◌≢◌, ℕ, ◌+◌, ◌-◌, ◌*◌, ◌^◌, ◌<◌, ◌≤◌, zero, suc, Bool, true, false, cond, List, [], ◌∷◌, ◌++◌, length, map, append_assoc, length-append, refl, sym, ◌∙◌, ap, arith, lit<, ◌⊎◌, ⊎_elim}
 use Rattle.std.specs.Prelude.{◌==◌, nat_le, fold, replicate, Option, Some, None, option_map, option_and_then, IfSome}
-use Rattle.std.specs.List.{position_or_len, before_first, after_first, onto_first}
+use Rattle.std.specs.List.{position_or_len, before_first, after_first}
 use Rattle.std.proofs.Math.Nat.{pow-suc, pow-le-pow_right, mul-le-mul_right, one-le-pow}
 use Rattle.std.proofs.lemmas.Nat.{pow-add}
 use Rattle.std.proofs.lemmas.Bool.Decides.{nat_tests}
@@ -50,7 +50,8 @@ zeros_fit count value few h =
 
 -- ---- they are what the pieces of a text stand for
 
-abbrev more : ℕ → Option (List ℕ) → Option (List ℕ)
+-- one number more in front
+abbrev pub more : ℕ → Option (List ℕ) → Option (List ℕ)
 more n o = option_map (λ ns. n ∷ ns) o
 
 -- a group more, and a ninth
@@ -62,21 +63,14 @@ counted-more count value n (Some groups) =
 
 counted-ninth : (value n : ℕ) (o : Option (List ℕ)) → option_and_then (counted_after 8 value) (more n o) ≡ None
 counted-ninth value n None = refl
-counted-ninth value n (Some groups) =
-    let no : nat_le (8 + suc (length groups)) 8 ≡ false = grind (arith, nat_tests) in
-    ap (λ b. cond b (Some (8 + suc (length groups), fold (λ m group. 65536 * m + group) (65536 * value + n) groups)) None) no
+counted-ninth value n (Some groups) = grind (arith, nat_tests)
 
 abbrev is_colon : ℕ → Bool
 is_colon c = c == 58
 
 some_pieces : (mark : ℕ) (text : Text) → is_empty (pieces_at mark text) ≡ false
 some_pieces mark [] = refl
-some_pieces mark (c ∷ cs) = by (c == mark) (pieces_at mark cs)
-  where
-    by : (b : Bool) (ps : List Text) → is_empty (cond b ([] ∷ ps) (onto_first c ps)) ≡ false
-    by true ps = refl
-    by false [] = refl
-    by false (p ∷ ps) = refl
+some_pieces mark (c ∷ cs) = grind (arith, nat_tests)
 
 module _ (last : Text → Option (List ℕ)) (count value : ℕ) (text : Text) where
   -- what the groups count to, after those that were read
@@ -108,11 +102,7 @@ module _ (last : Text → Option (List ℕ)) (count value : ℕ) (text : Text) w
 -- pieces that are all groups
 pub groups_alone : (pieces : List Text) → all_some (map group_value pieces) ≡ groups_then one_group pieces
 groups_alone [] = refl
-groups_alone (p ∷ []) = by (group_value p)
-  where
-    by : (o : Option ℕ) → option_and_then (λ x. more x (Some [])) o ≡ option_map (λ n. n ∷ []) o
-    by None = refl
-    by (Some n) = refl
+groups_alone (p ∷ []) = grind (arith, nat_tests)
 groups_alone (p ∷ q ∷ pieces) = ap (λ o. option_and_then (λ x. more x o) (group_value p)) (groups_alone (q ∷ pieces))
 
 -- ---- the number of the address
@@ -136,10 +126,7 @@ too_many (Some groups) h = grind (arith, nat_tests)
 
 pub full_none : (o : Option (List ℕ)) → counted o ≡ None → option_map (number_of 65536) (option_and_then eight_groups o) ≡ None
 full_none None h = refl
-full_none (Some groups) h =
-    let many = too_many (Some groups) h in
-    let no : (length groups == 8) ≡ false = grind (arith, nat_tests) in
-    ap (λ b. option_map (number_of 65536) (cond b (Some groups) None)) no
+full_none (Some groups) h = let many = too_many (Some groups) h in grind (arith, nat_tests)
 
 pub full_eight : (o : Option (List ℕ)) (count value : ℕ) → counted o ≡ Some (count, value) → option_map (number_of 65536) (option_and_then eight_groups o) ≡ cond (count == 8) (Some value) None
 full_eight o count value h =
@@ -185,8 +172,7 @@ around_refused None end h = refl
 around_refused (Some xs) None h = refl
 around_refused (Some xs) (Some ys) h =
     let many : 7 < length xs + length ys = ⊎_elim (λ e. let long = too_many (Some xs) e in omega arith) (λ e. let long = too_many (Some ys) e in omega arith) h in
-    let no : nat_le (length xs + length ys) 7 ≡ false = grind (arith, nat_tests) in
-    ap (λ b. option_map (number_of 65536) (cond b (Some (filled_groups xs ys)) None)) no
+    grind (arith, nat_tests)
 
 pub around_filled : (start end : Option (List ℕ)) (start_count start_value end_count end_value : ℕ) → counted start ≡ Some (start_count, start_value) → counted end ≡ Some (end_count, end_value)
     → around start end ≡ filled_number start_count start_value end_count end_value

@@ -5,7 +5,7 @@ use Rattle.std.specs.List.{list_all, AllZip, join_with_byte}
 use Rattle.std.specs.Char.{is_ascii_hexdigit}
 use Rattle.std.specs.Str.Parse.{digits_value}
 use Rattle.std.proofs.lemmas.Bool.Decides.{nat_tests}
-use Rattle.std.proofs.lemmas.Bool.{eqb-true, and_from, and_parts, or_cases}
+use Rattle.std.proofs.lemmas.Bool.{eqb-true, ltb-true, and_from, and_parts, or_cases}
 use Rattle.std.proofs.lemmas.List.{append-nil, nil_from_length}
 use Rattle.std.proofs.lemmas.List.Folds.{list_all-append}
 use mathlib.Core.Bool.{true≢false}
@@ -14,9 +14,6 @@ use Rattle.iref_grammar.specs.IpAddresses.{IsIpv4, IsGroup, AreGroups, AreLastGr
 use Rattle.iref_grammar.proofs.Ipv6CompleteLemmas.{ipv6_value-complete}
 use Rattle.iref_parse.specs.Ipv6Scan.{ends_in_octets, ends_in_groups, is_after_gap, has_groups, opens_with_gap, is_scanned_ipv6}
 use Rattle.iref_parse.proofs.Ipv4ScanLemmas.{is_address}
-
-below : (m n : ℕ) → nat_lt m n ≡ true → m < n
-below m n h = grind (arith, nat_tests)
 
 -- the digits of the group that is read
 record Digits (front : Text) (count : ℕ) : Type 0 where
@@ -79,7 +76,7 @@ last_groups text z = by z.groups
 
 -- at a digit, and at another byte
 at_digit : (digit : Bool) (count : ℕ) (more other : Bool) → digit ≡ true → cond digit (nat_lt count 4 && more) other ≡ true → (count < 4) × (more ≡ true)
-at_digit digit count more other e h = let both = and_parts (nat_lt count 4) more (ap (λ b. cond b (nat_lt count 4 && more) other) (sym e) ∙ h) in (below count 4 both.0, both.1)
+at_digit digit count more other e h = let both = and_parts (nat_lt count 4) more (ap (λ b. cond b (nat_lt count 4 && more) other) (sym e) ∙ h) in (ltb-true count 4 both.0, both.1)
 
 at_other : (digit more other : Bool) → digit ≡ false → cond digit more other ≡ true → other ≡ true
 at_other digit more other e h = ap (λ b. cond b more other) (sym e) ∙ h
@@ -88,7 +85,7 @@ abbrev FewGroups : ℕ → Text → Type 0
 FewGroups room text = (z : Groups text) × (length z.values ≤ room + 1)
 
 groups_to_end : (room count : ℕ) (group front text : Text) → Digits front count → group ≡ front ++ text → ends_in_groups room group count text ≡ true → FewGroups room group
-groups_to_end room count group front [] d s h = (last_group group front count d s (below 0 count h), omega arith)
+groups_to_end room count group front [] d s h = (last_group group front count d s (ltb-true 0 count h), omega arith)
 groups_to_end room count group front (c ∷ cs) d s h = by (λ r n g f k t e. groups_to_end r n g f cs k t e) (is_ascii_hexdigit c) refl
   where
     Rest : Type 0
@@ -99,10 +96,10 @@ groups_to_end room count group front (c ∷ cs) d s h = by (λ r n g f k t e. gr
         let digits = and_parts (nat_lt 0 count) (nat_lt 0 room && ends_in_groups (room - 1) cs 0 cs) k in
         let more = and_parts (nat_lt 0 room) (ends_in_groups (room - 1) cs 0 cs) digits.1 in
         let z = rest (room - 1) 0 cs [] no_digits refl more.1 in
-        (then_groups group front count d (below 0 count digits.0) c cs s (eqb-true c 58 e) z.0, omega (arith, z.1, below 0 room more.0))
+        (then_groups group front count d (ltb-true 0 count digits.0) c cs s (eqb-true c 58 e) z.0, omega (arith, z.1, ltb-true 0 room more.0))
     mark rest false e k =
         let more = and_parts (nat_lt 0 room) (ends_in_octets 3 false 0 group) ((and_parts (c == 46) (nat_lt 0 room && ends_in_octets 3 false 0 group) k).1) in
-        (last_address group more.1, omega (arith, below 0 room more.0))
+        (last_address group more.1, omega (arith, ltb-true 0 room more.0))
 
     by : Rest → (b : Bool) → is_ascii_hexdigit c ≡ b → FewGroups room group
     by rest true e =
@@ -117,7 +114,7 @@ after_gap : (room : ℕ) (text : Text) → is_after_gap room text ≡ true → A
 after_gap room [] h = ([], inl ([], tt, refl), omega arith)
 after_gap room (c ∷ cs) h =
     let more = and_parts (nat_lt 0 room) (ends_in_groups (room - 1) (c ∷ cs) 0 (c ∷ cs)) h in
-    let some = below 0 room more.0 in
+    let some = ltb-true 0 room more.0 in
     let z = groups_to_end (room - 1) 0 (c ∷ cs) [] (c ∷ cs) no_digits refl more.1 in
     (z.0.values, last_groups (c ∷ cs) z.0, omega (arith, z.1, some))
 
@@ -180,7 +177,7 @@ Read room text = Filled room text ⊎ Gap room text
 groups_read : (room count : ℕ) (group front text : Text) → Digits front count → group ≡ front ++ text → has_groups room group count text ≡ true → Read room group
 groups_read room count group front [] d s h =
     let both = and_parts (room == 0) (nat_lt 0 count) h in
-    inl (last_group group front count d s (below 0 count both.1), omega (arith, eqb-true room 0 both.0))
+    inl (last_group group front count d s (ltb-true 0 count both.1), omega (arith, eqb-true room 0 both.0))
 groups_read room count group front (c ∷ cs) d s h = by (λ r n g f k t e. groups_read r n g f cs k t e) (is_ascii_hexdigit c) refl
   where
     Rest : Type 0
@@ -190,13 +187,13 @@ groups_read room count group front (c ∷ cs) d s h = by (λ r n g f k t e. grou
     colon rest e true some k =
         let more = and_parts (nat_lt 0 room) (has_groups (room - 1) cs 0 cs) k in
         elim (rest (room - 1) 0 cs [] no_digits refl more.1) [
-          | inl z ↦ inl (then_groups group front count d (below 0 count some) c cs s e z.0, omega (arith, z.1, below 0 room more.0))
-          | inr g ↦ inr (then_gap room count group front d (below 0 count some) (below 0 room more.0) c cs s e g)
+          | inl z ↦ inl (then_groups group front count d (ltb-true 0 count some) c cs s e z.0, omega (arith, z.1, ltb-true 0 room more.0))
+          | inr g ↦ inr (then_gap room count group front d (ltb-true 0 count some) (ltb-true 0 room more.0) c cs s e g)
         ]
     colon rest e false none k =
         let more = and_parts (nat_lt room 7) (is_after_gap room cs) k in
         let zero_digits : count ≡ 0 = grind (arith, nat_tests) in
-        inr (begins_gap room group front (subst (Digits front) zero_digits d) c cs s e (below room 7 more.0) (after_gap room cs more.1))
+        inr (begins_gap room group front (subst (Digits front) zero_digits d) c cs s e (ltb-true room 7 more.0) (after_gap room cs more.1))
 
     mark : Rest → (b : Bool) → (c == 58) ≡ b → cond b (at_colon room count cs) (c == 46 && (room == 1 && ends_in_octets 3 false 0 group)) ≡ true → Read room group
     mark rest true e k = colon rest (eqb-true c 58 e) (nat_lt 0 count) refl k

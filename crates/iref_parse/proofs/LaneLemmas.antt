@@ -1,5 +1,5 @@
 -- What the operations on vectors of 16 bytes hold at each lane.
-use Rattle.std.proofs.Common.{◌≡◌, ℕ, ◌+◌, ◌*◌, ◌/◌, ◌<◌, List, [], ◌∷◌, Bool, true, false, not, cond, eqb, ◌&&◌, length, take, length-take-le, get_or, get_or-take, map, replicate, refl, sym, ap, ◌∙◌, arith, w8}
+use Rattle.std.proofs.Common.{◌≡◌, ℕ, ◌+◌, ◌*◌, ◌/◌, ◌<◌, List, [], ◌∷◌, Bool, false, not, cond, eqb, ◌&&◌, length, take, length-take-le, get_or, get_or-take, map, replicate, refl, sym, ap, ◌∙◌, arith, w8}
 use Rattle.std.specs.List.{list_all}
 use Rattle.std.specs.Simd.Lanes.{zip2, sel_l, mask_l}
 use Rattle.std.proofs.lemmas.Simd.{length-sel_l, get_or-sel_l, length-zip2, get_or-zip2, get_or-replicate, length-swz_l, get_or-swz_l_below, swz_l, SwzOk, SwzOk-from_below, Each1-from_get_or}
@@ -54,8 +54,7 @@ pub HasLanes-table : (table : List ℕ) → length table ≡ 16 → HasLanes (ta
 HasLanes-table table long = record { long = length-take-le 16 table (omega arith); each = λ k l. get_or-take 16 table k 0 l }
 
 no_bit : (b : Bool) (m : ℕ) → eqb (cond (not b) 1 0 + 2 * m) 0 ≡ (b && eqb m 0)
-no_bit true m = grind (arith, nat_tests)
-no_bit false m = grind (arith, nat_tests)
+no_bit b m = grind (arith, nat_tests)
 
 -- a mask of the lanes that fail the test is 0 where each passes
 pub clear_mask : (p : ℕ → Bool) (v : List ℕ) → eqb (mask_l (map (λ x. not (p x)) v)) 0 ≡ list_all p v

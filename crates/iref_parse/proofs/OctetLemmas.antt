@@ -11,14 +11,11 @@ use Rattle.iref_grammar.specs.Texts.{pieces_at}
 use Rattle.iref_grammar.specs.IpAddresses.{number_of, all_some, octet_value, octet_values, four_octets, ipv4_value}
 use Rattle.iref_grammar.proofs.TextLemmas.{pieces_at-one, join-pieces_at}
 use Rattle.iref_grammar.proofs.SliceLemmas.{pieces_at-whole}
+use Rattle.iref_parse.proofs.GroupLemmas.{more}
 use Rattle.iref_grammar.proofs.Ipv4Lemmas.{octet_text, decimal_lacks_stop}
 
 abbrev is_stop : ℕ → Bool
 is_stop c = c == 46
-
--- one octet more
-abbrev more : ℕ → Option (List ℕ) → Option (List ℕ)
-more n o = option_map (λ ns. n ∷ ns) o
 
 abbrev AreFewer : ℕ → Option (List ℕ) → Type 0
 AreFewer k o = IfSome o (λ ns. length ns < k)
