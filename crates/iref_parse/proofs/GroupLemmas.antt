@@ -131,11 +131,8 @@ full_none (Some groups) h = let many = too_many (Some groups) h in grind (arith,
 pub full_eight : (o : Option (List ℕ)) (count value : ℕ) → counted o ≡ Some (count, value) → option_map (number_of 65536) (option_and_then eight_groups o) ≡ cond (count == 8) (Some value) None
 full_eight o count value h =
     let z = number_of_counted o count value h in
-    ap (λ q. option_map (number_of 65536) (option_and_then eight_groups q)) z.1 ∙ by (length z.0 == 8) z.0 ∙ (λ i. cond (sym z.2 i == 8) (Some (sym z.3 i)) None)
-  where
-    by : (b : Bool) (groups : List ℕ) → option_map (number_of 65536) (cond b (Some groups) None) ≡ cond b (Some (number_of 65536 groups)) None
-    by true groups = refl
-    by false groups = refl
+    let same : (b : Bool) → option_map (number_of 65536) (cond b (Some z.0) None) ≡ cond b (Some (number_of 65536 z.0)) None = λ b. grind (arith, nat_tests) in
+    ap (λ q. option_map (number_of 65536) (option_and_then eight_groups q)) z.1 ∙ same (length z.0 == 8) ∙ (λ i. cond (sym z.2 i == 8) (Some (sym z.3 i)) None)
 
 -- the number of groups that follow others
 number-after : (a : ℕ) (groups : List ℕ) → fold (λ n group. 65536 * n + group) a groups ≡ a * 65536 ^ length groups + number_of 65536 groups

@@ -18,10 +18,8 @@ in_brackets-unbracketed (c ∷ cs) h = elim (eqb_tells c left_bracket) [
 pub is_ipvfuture-without_v : (text : Text) → ((rest : Text) → text ≢ 118 ∷ rest) → ((rest : Text) → text ≢ 86 ∷ rest) → is_ipvfuture text ≡ false
 unfolding is_ipvfuture
 is_ipvfuture-without_v [] small large = refl
-is_ipvfuture-without_v (c ∷ cs) small large = ap (λ b. b && is_future_version (before (full_stop ∷ []) cs) && is_future_address (after full_stop cs)) no_v
-  where
-    no_v : char_set_contains (codes "vV") c ≡ false
-    no_v =
-        let no_small : c ≢ 118 = λ e. small cs (ap (λ b. b ∷ cs) e) in
-        let no_large : c ≢ 86 = λ e. large cs (ap (λ b. b ∷ cs) e) in
-        grind (arith, nat_tests)
+is_ipvfuture-without_v (c ∷ cs) small large =
+    let no_small : c ≢ 118 = λ e. small cs (ap (λ b. b ∷ cs) e) in
+    let no_large : c ≢ 86 = λ e. large cs (ap (λ b. b ∷ cs) e) in
+    let no_v : char_set_contains (codes "vV") c ≡ false = grind (arith, nat_tests) in
+    ap (λ b. b && is_future_version (before (full_stop ∷ []) cs) && is_future_address (after full_stop cs)) no_v

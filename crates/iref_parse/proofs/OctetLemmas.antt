@@ -100,7 +100,6 @@ module _ (text second third rest : Text) (a b c : ℕ) (e : octet_values text �
 
   pub after_three : (d : ℕ) → octet_value rest ≡ Some d → ipv4_value text ≡ Some (from_be_bytes w32 (a ∷ b ∷ c ∷ d ∷ []))
   unfolding ipv4_value
-  after_three d h = ap (option_and_then four_octets) (three ∙ ap (λ o. more a (more b (more c o))) (octet_values-last rest d h)) ∙ ap (λ n. Some n) same
-    where
-      same : number_of 256 (a ∷ b ∷ c ∷ d ∷ []) ≡ from_be_bytes w32 (a ∷ b ∷ c ∷ d ∷ [])
-      same = omega arith
+  after_three d h =
+      let same : number_of 256 (a ∷ b ∷ c ∷ d ∷ []) ≡ from_be_bytes w32 (a ∷ b ∷ c ∷ d ∷ []) = omega arith in
+      ap (option_and_then four_octets) (three ∙ ap (λ o. more a (more b (more c o))) (octet_values-last rest d h)) ∙ ap (λ n. Some n) same

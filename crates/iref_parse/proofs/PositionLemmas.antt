@@ -136,11 +136,8 @@ boundary_at_position first second text f s =
     let test = char_set_contains (first ∷ second ∷ []) in
     let n = position_or_len test text in
     let bound = prefix_len-le-length (λ c. not (test c)) text in
-    ⊎_elim (λ inside. IsCharBoundary-before_ascii text n inside (is_ascii (get_or text n 0) (passes_at_first test text 0 inside)))
+    ⊎_elim (λ inside. IsCharBoundary-before_ascii text n inside (let marked = passes_at_first test text 0 inside in grind (arith, nat_tests)))
     (λ past. let end : length text ≡ n = omega (arith, bound, past) in subst (IsCharBoundary text) end (IsCharBoundary-end text)) (cases_lt n (length text))
-  where
-    is_ascii : (c : ℕ) → char_set_contains (first ∷ second ∷ []) c ≡ true → c < 128
-    is_ascii c h = grind (arith, nat_tests)
 
 pub marked_as_first : (first second : ℕ) (bytes : List ℕ) (k : ℕ) → get_or bytes k 0 ≡ first → either_at first second bytes k ≢ 0
 marked_as_first first second bytes k e h = grind (arith, nat_tests)
