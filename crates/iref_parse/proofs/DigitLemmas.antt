@@ -8,7 +8,6 @@ use Rattle.std.specs.Str.Parse.{AllDigits, IsNumeral, ParsesUnsigned, digits_val
 use Rattle.std.proofs.Math.Nat.{pow-le-pow_right}
 use native.Mathlib.Nat.{lt_of_lt_of_le}
 use Rattle.std.proofs.lemmas.Bool.Decides.{nat_tests}
-use Rattle.std.proofs.lemmas.Bool.{eqb-true}
 use Rattle.std.proofs.lemmas.Int.Digits.{digits_value-lt}
 use Rattle.std.proofs.lemmas.Fmt.{decimal_is_IsNumeral, decimal_nonempty, decimal_digit, first_decimal, decimal-digits_value}
 use Rattle.std.proofs.lemmas.Str.Parse.{IsNumeralModel, numerals_by_value, tells_digits, digit_at, without_leading_plus_none}
@@ -46,10 +45,9 @@ octet_value-zero text leads = octet_refused text unwritten
         let long : 1 < length text = grind (arith, nat_tests) in
         omega arith
     unwritten (suc n) h e =
-        let first : get_or text 0 0 ≡ 48 = eqb-true (get_or text 0 0) 48 (first_of_both (get_or text 0 0 == 48) (nat_lt 1 (length text)) leads) in
-        let here : get_or (decimal (suc n)) 0 0 ≡ 48 = ap (λ t. get_or t 0 0) (sym e) ∙ first in
-        let above = first_decimal (suc n) (omega arith) (wide (suc n) h) in
-        omega (arith, above, here)
+        let first : get_or text 0 0 ≡ 48 = grind (arith, nat_tests) in
+        let here = ap (λ t. get_or t 0 0) e in
+        omega (arith, first_decimal (suc n) (omega arith) (wide (suc n) h), here)
 
 -- what `parse` answers to a text without sign and leading zeros
 pub octet_value-parsed : {E : Type 0} (text : Text) (r : Result ℕ E) → ParsesUnsigned 8 10 text r → get_or text 0 0 ≢ 43 → (slice_index text 0 == 48 && nat_lt 1 (length text)) ≡ false → octet_value text ≡ result_ok r

@@ -173,9 +173,7 @@ module _ (marks : List ℕ) (each : (c : ℕ) → char_set_contains marks c ≡ 
       where
         by : (b : Bool) → char_set_contains marks c ≡ b → is_encoded_after (but marks test) (owed_after test n c) (before marks cs) ≡ true → is_encoded_after (but marks test) (Some n) (before marks (c ∷ cs)) ≡ true
         by true e rest = ap (is_encoded_after (but marks test) (Some n)) (before-yes marks c cs e) ∙ ap (λ k. k == 0) (none_owed n c cs e h)
-        by false e rest =
-            ap (is_encoded_after (but marks test) (Some n)) (before-no marks c cs e)
-            ∙ ap (λ o. is_encoded_after (but marks test) o (before marks cs)) (same_owed n c e) ∙ rest
+        by false e rest = cc (before-no marks c cs e, same_owed n c e)
 
     cut_back : (owed : Option ℕ) (cs : Text) → is_encoded_after test owed cs ≡ true → is_encoded test (from_first marks cs) ≡ true
     cut_back None cs h = absurd (true≢false (sym h))
@@ -183,8 +181,8 @@ module _ (marks : List ℕ) (each : (c : ℕ) → char_set_contains marks c ≡ 
     cut_back (Some n) (c ∷ cs) h = by (char_set_contains marks c) refl (cut_back (owed_after test n c) cs h)
       where
         by : (b : Bool) → char_set_contains marks c ≡ b → is_encoded test (from_first marks cs) ≡ true → is_encoded test (from_first marks (c ∷ cs)) ≡ true
-        by true e rest = ap (is_encoded test) (from_first-yes marks c cs e) ∙ ap (λ k. is_encoded_after test (owed_after test k c) cs) (sym (none_owed n c cs e h)) ∙ h
-        by false e rest = ap (is_encoded test) (from_first-no marks c cs e) ∙ rest
+        by true e rest = cc (from_first-yes marks c cs e, none_owed n c cs e h)
+        by false e rest = cc (from_first-no marks c cs e)
 
   -- a byte beyond ASCII is no delimiter
   high_passes : (b : ℕ) → 128 ≤ b → char_set_contains marks b ≡ false
