@@ -52,8 +52,8 @@ pair_from_later (x ∷ xs) h = by (λ e. pair_from_later xs e) (eqb x 0x2F) refl
     by : (later xs ≡ true → (k : ℕ) × (is_slash_dot xs k ≡ true)) → (b : Bool) → eqb x 0x2F ≡ b → (k : ℕ) × (is_slash_dot (x ∷ xs) k ≡ true)
     by deeper true t =
         ⊎_elim (λ e. (0, and_from (eqb x 0x2F) (eqb (get_or xs 0 0) 0x2E) t (sym (first_is xs) ∙ e))) (λ e. behind (deeper e))
-        (or_cases (begins_with_dot xs) (later xs) (sym (first_or_later xs) ∙ sym (later_after_slash x xs t) ∙ h))
-    by deeper false t = behind (deeper (sym (later_after_other x xs t) ∙ h))
+        (or_cases (begins_with_dot xs) (later xs) (cc (first_or_later xs, later_after_slash x xs t)))
+    by deeper false t = behind (deeper (cc (later_after_other x xs t)))
 
 later_more : (x : ℕ) (xs : List ℕ) → later xs ≡ true → later (x ∷ xs) ≡ true
 later_more x xs h = grind (arith, nat_tests, first_or_later xs, rest_onto_first x (parts xs))
