@@ -16,12 +16,12 @@ use iref::rules::{BorrowedText, Rule};
 use iref_lines::cut_bytes;
 use std::str;
 
-/// Why fields are no list of edits: `frobnicate=x` is no command, `port=x` is invalid.
+/// Why fields are no list of edits or of entries: `frobnicate=x` is no command, `port=x` is invalid.
 #[derive(Clone, Copy)]
 pub enum FieldError {
-    /// No edit has the name, or a value is missing or one too many.
+    /// No edit has the name, or a value or a `=` is missing, or a value is one too many.
     Command,
-    /// A value is outside its grammar.
+    /// A text is outside its grammar, or a label is taken.
     Invalid,
     /// Memory was refused.
     Memory,

@@ -13,8 +13,9 @@ use iref_parse::offsets::offsets_of;
 use iref_parse::split::ReferenceSlices;
 use iref_path_text::segments::split_root;
 
-// The front part that stays before a path, if no segment begins with a dot: of `//h/x/y` it is
-// `//h` before `/a`, and `//h/x/` before `a`.
+// The front part of the base's text that stays before a path: of `//h/x/y` it is `//h` before `/a`,
+// and `//h/x/` before `a`. None where a segment of the path begins with a dot; before a relative path
+// also where one of the base's does, or where the base's path is not absolute.
 #[inline(always)]
 fn front_before<'a, C: CharSet>(
     text: &'a str,
@@ -40,8 +41,8 @@ fn front_before<'a, C: CharSet>(
 }
 
 /// The front part of the base's text that stays before the reference's text, with the lengths of
-/// the components of the two together, if the base has an authority and the reference begins with
-/// its path, and no segment of the paths begins with a dot.
+/// the components of the two together. None where the reference has a scheme, an authority or no
+/// path, where the base has no authority, and where no front part stays before the path.
 #[inline(always)]
 pub fn front_kept<'a, C: CharSet>(
     text: &'a str,

@@ -58,8 +58,8 @@ pub trait HeldRule: Rule {
 }
 
 /// A text in a rule of references, with the lengths of its components beside it, in bytes: of
-/// `s:/a?q` they are 1, none, 2, 1 and none. `new` returns a text that is outside the rule (RFC 3986
-/// sections 3 and 4.1).
+/// `s:/a?q` they are 1, none, 2, 1 and none. `new` returns a text outside the rule as its error
+/// (RFC 3986 sections 3 and 4.1).
 #[derive(Drop)]
 pub struct Held<R: HeldRule, C: CharSet> {
     text: String,
@@ -77,7 +77,7 @@ impl<R: HeldRule, C: CharSet> Model for Held<R, C> {
 }
 
 impl<R: HeldRule, C: CharSet> Held<R, C> {
-    /// The text, if it is in the rule, with the lengths found in one scan, or the text.
+    /// The text with the lengths of its components, if it is in the rule, or else the text itself.
     pub fn new(text: String) -> Result<Self, String>
         ensures { Parses (InUtf8 (R.rule C.tests)) (string_bytes text)
             (λ held. held) (λ input. input ≡ text) result }
@@ -94,7 +94,7 @@ impl<R: HeldRule, C: CharSet> Held<R, C> {
         })
     }
 
-    /// The text, which is known to be in the rule, with the lengths found in one scan.
+    /// The text, which is known to be in the rule, with the lengths of its components.
     pub fn new_unchecked(text: String) -> Self
         requires { R.test C.tests (string_bytes text) ≡ true }
         ensures { result ≡ string_bytes text }

@@ -29,7 +29,7 @@ pub struct Lengths {
 }
 
 impl Lengths {
-    /// Of these texts.
+    /// The lengths of these slices.
     pub fn of(slices: ReferenceSlices<'_>) -> Lengths
         ensures { result ≡ lengths_of_texts (texts_of slices.entry) }
     {

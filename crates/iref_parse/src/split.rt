@@ -176,7 +176,8 @@ fn are_encoded_components<C: CharSet>(slices: ReferenceSlices<'_>) -> bool
         && is_encoded_fragment::<C>(slices.fragment)
 }
 
-// Whether each slice is in the rule of its component. Those of an encoded text are, but few.
+// Whether each slice is in the rule of its component. In a text that passed `is_encoded_text` only
+// the scheme, the authority and the fragment are left to test.
 #[inline(always)]
 fn are_components<C: CharSet>(slices: ReferenceSlices<'_>, is_encoded: bool) -> bool
     requires { is_encoded ≡ true → AreEncoded C.tests (texts_of slices) }

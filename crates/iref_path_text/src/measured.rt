@@ -34,7 +34,8 @@ const ALONE: PathContext = PathContext {
     has_authority: false,
 };
 
-/// The text of a path: one that is kept, or that of items, which is not written yet.
+/// The text of a path, not written yet: texts that are kept, a number of `..` and a text, or the items
+/// of a normal list.
 #[derive(Clone, Copy)]
 pub struct MeasuredPath<'a> {
     // What stands first: the root and the guard.
@@ -42,7 +43,7 @@ pub struct MeasuredPath<'a> {
     body: Body<'a>,
 }
 
-// Whether what follows these segments is absolute: after an authority, what follows none is.
+// Whether a merged path is absolute: the base's is, or the base has an authority and no segments.
 #[tactic(auto, using(crate::proofs::SlashLemmas::some_pieces))]
 fn is_merged_absolute(has_authority: bool, absolute: bool, segments: Option<&str>) -> bool
     ensures { result ≡ absolute || (has_authority && is_empty (pieces_if_some segments.entry)) }
@@ -197,7 +198,7 @@ impl<'a> MeasuredPath<'a> {
     }
 
     /// The text of the path that leads from a base's to this one: from the base's directory where
-    /// both begin at the root, and else the normalized path.
+    /// the base is absolute, and else the normalized path.
     pub fn between(base: &'a str, path: &'a str) -> Self
         requires { 3 * length base.now + length path.now + 16 < 2 ^ 64 }
         ensures text { measured_text result

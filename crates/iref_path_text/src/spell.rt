@@ -106,8 +106,8 @@ pub fn has_colon(text: &str) -> bool
     text.bytes().any(|byte| byte == b':')
 }
 
-/// Whether a first segment would be read as something else: it would not show where it is empty, or
-/// be read as a scheme.
+/// Whether a first segment needs a guard: an empty one does, and one with a `:` where neither a root
+/// nor a scheme stands before it.
 pub(crate) fn first_needs_guard(context: PathContext, rooted: bool, segment: &str) -> bool
     ensures { result ≡ spelling.first_needs_guard context rooted segment.now }
 {
@@ -127,8 +127,8 @@ pub(crate) fn lead(absolute: bool, guard: bool) -> &'static str
     }
 }
 
-/// What comes before a list of this size that begins with this segment: after an authority such a
-/// list is absolute.
+/// What comes before a list that takes `size` bytes with a `/` after each item, and begins with this
+/// segment: after an authority such a list is absolute.
 pub(crate) fn lead_in(
     context: PathContext,
     absolute: bool,
@@ -195,9 +195,9 @@ fn stacked_bytes(alloc: Global, lead: &str, items: &[&str], size: usize) -> Resu
 // The longest path, in bytes, whose items may take memory while it is read.
 const LONGEST_STACKED: usize = 16_384;
 
-// The bytes of the normalized path in its context, with a flag of its own. The items of a path that
-// is not too long are put on a stack, so that it is read once; without memory for the stack it is
-// read twice.
+// The bytes of the normalized path in its context, taken as absolute or relative by a flag. A path
+// with dots of at most `LONGEST_STACKED` bytes is read once, onto a stack. A longer one is read twice,
+// and so is one that gets no memory for the stack.
 fn normal_bytes(
     alloc: Global,
     context: PathContext,
@@ -219,8 +219,8 @@ fn normal_bytes(
     MeasuredPath::of_segments(context, absolute, None, segments).bytes(alloc)
 }
 
-/// The text of the normalized path in its context, with a flag of its own (RFC 3986 section 5.2.4):
-/// a text is read as absolute or relative, whatever it begins with, before its dots are removed.
+/// The text of the normalized path in its context (RFC 3986 section 5.2.4). A flag says whether it is
+/// absolute, whatever it begins with.
 ///
 /// After an authority `//b/.` becomes `//b/`, and `../b` that is to be absolute `/b`; standing
 /// alone, `a/../b:c` becomes `./b:c`. The room is taken once; out of memory, it returns an `Err`.
@@ -245,7 +245,7 @@ pub fn normalized_text<C: CharSet>(
 }
 
 /// Appends the text of the normalized path in its context to a vector (RFC 3986 section 5.2.4).
-/// The room is taken once, and each byte is written once.
+/// The room is taken once.
 pub fn append_normalized(context: PathContext, path: &str, out: &mut Vec<u8>) -> Result<(), Memory>
     ensures ok { OnOk result (out.new.items
         ≡ out.old.items ++ spell_path (normalized context (read_path path.now))) }

@@ -43,8 +43,8 @@ pub fn lazy_pushed<'a, C: CharSet>(context: PathContext, path: &str, segment: &'
     push_text(context, path, segment, "")
 }
 
-/// A segment at the end, and the list closed after `.`, which does nothing else, and after `..`,
-/// which is a pop (RFC 3986 section 5.2.4): `foo/bar` and `..` give `foo/`.
+/// Appends a segment, but `.` only closes the path with a `/`, and `..` removes the last segment and
+/// closes the path (RFC 3986 section 5.2.4): `foo/bar` and `..` give `foo/`.
 pub fn pushed<'a, C: CharSet>(context: PathContext, path: &str, segment: &'a str) -> Step<'a>
     requires path { is_path_after C.tests context path.now ≡ true }
     requires segment { is_segment C.tests segment.now ≡ true }
@@ -77,8 +77,8 @@ pub fn followed<'a, C: CharSet>(context: PathContext, path: &str, segment: &'a s
     }
 }
 
-/// Without the last segment: where there is none to take, or where it is `..`, a `..` stands at the
-/// end then. `//a` gives `/./`.
+/// Removes the last segment. A path that ends in `..`, or a relative one without segments, gains a
+/// `..`. `/` stays, and `//a` gives `/./`.
 pub fn popped<C: CharSet>(context: PathContext, path: &str) -> Step<'static>
     requires path { is_path_after C.tests context path.now ≡ true }
     ensures { StepsBy (popped context) C.tests context path.now result }

@@ -195,8 +195,8 @@ impl<'a, R: HeldRule, C: CharSet> Reference<'a, R, C> {
         }
     }
 
-    /// An owned copy, with the offsets of the components, found in one scan: of `s:/a` the path is
-    /// at 2 to 4. Out of memory, it returns `Memory`.
+    /// An owned copy, with the offsets of the components: of `s:/a` the path is at 2 to 4. Out of
+    /// memory, it returns `Memory`.
     pub fn to_owned(&self, alloc: Global) -> Result<ReferenceBuf<R, C>, Memory>
         ensures { IfOk result (λ copy. reference_buf_text copy ≡ reference_text self.now) }
     {

@@ -113,8 +113,8 @@ impl<'a, R: HeldRule, C: CharSet> Composed<'a, R, C> {
         self.components.write(&mut buffer[..self.len]);
     }
 
-    /// Appends the text to a vector: with `s:g`, `ok` becomes `oks:g`. The room is taken once, and
-    /// each byte is written once. At `Memory` the vector is as it was.
+    /// Appends the text to a vector: with `s:g`, `ok` becomes `oks:g`. The room is taken once. At
+    /// `Memory` the vector is as it was.
     pub fn append_to(&self, out: &mut Vec<u8>) -> Result<(), Memory>
         ensures ok { OnOk result (out.new.items ≡ out.old.items ++ self.now) }
         ensures err { OnErr result (out.new.items ≡ out.old.items) }
@@ -126,8 +126,8 @@ impl<'a, R: HeldRule, C: CharSet> Composed<'a, R, C> {
         Ok(())
     }
 
-    /// An owned value of the text, such as `s:g`. The room is taken once, and each byte is written
-    /// once. Out of memory, it returns `Memory`.
+    /// An owned value of the text, such as `s:g`. The room is taken once. Out of memory, it returns
+    /// `Memory`.
     pub fn to_owned(&self, alloc: Global) -> Result<ReferenceBuf<R, C>, Memory>
         ensures { IfOk result (λ owner. reference_buf_text owner ≡ self.now) }
     {

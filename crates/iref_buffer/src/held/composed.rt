@@ -14,8 +14,7 @@ use std::alloc::{AllocError, Global};
 use std::marker::PhantomData;
 
 impl<R: HeldRule, C: CharSet> Held<R, C> {
-    /// The text of these components, which is in the rule and this long. The room is taken once, and
-    /// each byte is written once.
+    /// The text of these components, which is in the rule and this long. The room is taken once.
     pub fn of_components(
         alloc: Global,
         components: &MeasuredReference<'_>,

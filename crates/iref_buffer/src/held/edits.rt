@@ -217,7 +217,7 @@ impl<R: HeldRule, C: CharSet> Held<R, C> {
         marked_len(1, lengths.scheme)..lengths.path_start()
     }
 
-    // What is written before the path where an authority is to stand, or none.
+    // What is written before the path where an authority is put, or removed.
     fn authority_lead(&self, has_authority: bool) -> &'static str
         ensures spelled { (authority : Option AuthorityValue) → is_some authority ≡ has_authority
             → result.now ++ spell_path (read_reference self.now).path
@@ -257,7 +257,7 @@ impl<R: HeldRule, C: CharSet> Held<R, C> {
         0..marked_len(1, self.lengths().scheme)
     }
 
-    // What is written before the authority and the path where a scheme is to stand, or none.
+    // What is written before the authority and the path where a scheme is put, or removed.
     fn scheme_lead(&self, has_scheme: bool) -> &'static str
         ensures spelled { (scheme : Option Text) → is_some scheme ≡ has_scheme
             → result.now ++ authority_text self.now ++ spell_path (read_reference self.now).path
