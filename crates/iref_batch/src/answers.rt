@@ -40,7 +40,7 @@ fn field_len<R: Rule, C: CharSet>(part: Option<BorrowedText<'_, R, C>>) -> Optio
     }
 }
 
-// How long a buffer of this length is after the answer whose fields are the parts of a reference.
+// The sum of a length and that of the answer whose fields are the parts of a reference.
 #[inline(always)]
 fn len_with(len: usize, parts: &IriRefParts<'_>) -> Option<usize>
     ensures { IfSome result (λ n. n ≡ len + length (answer_text
@@ -182,7 +182,7 @@ fn put_answer_to_to_uri(text: &[u8], out: &mut Vec<u8>) -> Result<(), Memory>
     put_answered(mapping.as_bytes(), out)
 }
 
-/// Puts the answer to a request, or `error command` for a line that is none.
+/// Puts the answer to a request, or `error command` if there is no request.
 #[inline(always)]
 fn put_answer(request: Option<Request<'_>>, out: &mut Vec<u8>) -> Result<(), Memory>
     ensures { Puts (reply_to (option_and_then request_of request.entry))

@@ -16,12 +16,13 @@ use iref::rules::{BorrowedText, Rule};
 use iref_lines::cut_bytes;
 use std::str;
 
-/// Why fields are no list of edits or of entries: `frobnicate=x` is no command, `port=x` is invalid.
+/// Why fields cannot be read as edits or as prefix entries: `frobnicate=x` names no edit, and the value
+/// of `port=x` is not a port.
 #[derive(Clone, Copy)]
 pub enum FieldError {
-    /// No edit has the name, or a value or a `=` is missing, or a value is one too many.
+    /// No edit has this name, a value or a `=` is missing, or a value is not allowed.
     Command,
-    /// A text is outside its grammar, or a label is taken.
+    /// A value is outside its grammar, or a label is invalid or already used.
     Invalid,
     /// Memory was refused.
     Memory,
