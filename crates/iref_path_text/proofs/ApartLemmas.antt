@@ -1,6 +1,6 @@
 -- The steps from one text of segments to another: what both begin with does not count.
-use Rattle.std.proofs.Common.{◌≡◌, ℕ, ◌+◌, ◌*◌, ◌<◌, true, false, List, [], ◌∷◌, ◌++◌, length, refl, arith, append_assoc}
-use Rattle.std.proofs.lemmas.Grind.{common_steps}
+use Rattle.std.proofs.Common.{length-append, ◌≡◌, ℕ, ◌+◌, ◌*◌, ◌<◌, true, false, List, [], ◌∷◌, ◌++◌, length, refl, arith, append_assoc}
+use Rattle.std.proofs.lemmas.Bool.Decides.{nat_tests}
 use Rattle.std.specs.Prelude.{◌==◌, codes, count_by, replicate}
 use Rattle.std.specs.List.{common_prefix_len, join_with_byte}
 use Rattle.std.proofs.lemmas.List.Splits.{length-slice_split}
@@ -37,7 +37,7 @@ module _ (base path : Text) where
   module _ (s t below rest : Text) (h : pieces_at slash base ≡ s ∷ pieces_at slash below) (k : pieces_at slash path ≡ t ∷ pieces_at slash rest) where
     -- the first segments decode to the same bytes
     pub behind : same_decoded s t ≡ true → text_steps below rest ≡ text_steps base path
-    behind same = grind (arith, common_steps, some_piece slash below, some_piece slash rest, steps-behind)
+    behind same = grind (arith, some_piece slash below, some_piece slash rest, steps-behind)
 
     -- they do not
     pub apart-first : same_decoded s t ≡ false → climbed
@@ -45,7 +45,7 @@ module _ (base path : Text) where
 
 -- what follows the first segment is shorter
 pub shorter : (text s rest : Text) → pieces_at slash text ≡ s ∷ pieces_at slash rest → length rest < length text
-shorter text s rest h = grind (arith, common_steps, some_piece slash rest, join-pieces_at slash text, join-pieces_at slash rest)
+shorter text s rest h = grind (arith, append_assoc, length-append, nat_tests, some_piece slash rest, join-pieces_at slash text, join-pieces_at slash rest)
 
 -- the directory of a text has as many segments as the text has slashes
 directory_size : (s : Text) (rest : List Text) → length (all_but_last (s ∷ rest)) ≡ length rest
@@ -59,10 +59,11 @@ climbs text = grind (arith, some_piece slash text, length-slice_split (λ c. c =
 
 closed_then : (front : List Text) (s : Text) (rest : List Text) → each_closed front ++ join_with_byte slash (s ∷ rest) ≡ join_with_byte slash (front ++ s ∷ rest)
 closed_then [] s rest = refl
-closed_then (t ∷ front) s rest = grind (arith, common_steps, closed_then front s rest)
+closed_then (t ∷ []) s rest = grind (arith, append_assoc)
+closed_then (t ∷ u ∷ front) s rest = grind (arith, append_assoc, closed_then (u ∷ front) s rest)
 
 pub up_length : (up : ℕ) (text : Text) → length (parents_then up text) ≡ 3 * up + length text
-up_length up text = grind (arith, common_steps, size-parents)
+up_length up text = grind (arith, append_assoc, length-append, nat_tests, size-parents)
 
 pub up-joined : (up : ℕ) (path : Text) → parents_then up path ≡ join_with_byte slash (replicate up (codes "..") ++ pieces_at slash path)
 up-joined up path = grind (arith, some_piece slash path, join-pieces_at slash path, closed_then (replicate up (codes "..")))

@@ -44,7 +44,7 @@ pub record IsCompared (xs ys us vs : List Text) (count : ℕ) (found : Ordering)
   pub order : slice_cmp text_order (decoded xs) (decoded ys) ≡ ordering_then (slice_cmp text_order (decoded us) (decoded vs)) found
 
 pub nothing_compared : (xs ys : List Text) (n : ℕ) → length xs ≡ n → IsCompared xs ys xs ys n Equal
-nothing_compared xs ys n h = grind (arith, common_steps, common_prefix_len-le)
+nothing_compared xs ys n h = grind (arith, common_prefix_len-le)
 
 pub all_compared : (xs ys us vs : List Text) (common : ℕ) (order : Ordering) → IsCompared xs ys us vs common order → us ≡ [] → length us ≡ length vs
     → (common ≡ common_prefix_len same_decoded xs ys) × (order ≡ slice_cmp text_order (decoded xs) (decoded ys))

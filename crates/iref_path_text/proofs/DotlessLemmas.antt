@@ -1,10 +1,11 @@
 -- A list in which no segment begins with a dot is its own normal list.
 use Rattle.std.proofs.Common.{◌≡◌, ℕ, ◌+◌, Bool, true, false, ◌||◌, List, [], ◌∷◌, ◌++◌, length, refl, sym, ap, arith}
-use Rattle.std.proofs.lemmas.Grind.{common_steps}
+use Rattle.std.proofs.lemmas.List.{append-nil}
 use Rattle.std.specs.Prelude.{Option, Some, None}
 use Rattle.std.specs.Option.{unwrap_or}
 use Rattle.std.specs.Borrow.{Bor}
 use Rattle.std.proofs.lemmas.Bool.Decides.{nat_tests}
+use Rattle.std.specs.List.{list_any}
 use Rattle.std.proofs.lemmas.List.Folds.{list_any-append}
 use Rattle.std.proofs.lemmas.Slice.Eq.{bytes_eq-Decides}
 use Rattle.iref_grammar.specs.declared.context.PathContext.{PathContext}
@@ -29,29 +30,31 @@ use Rattle.iref_path_text.specs.Ways.{text_steps}
 use Rattle.iref_path_text.proofs.SlashLemmas.{read-absolute}
 use Rattle.iref_path_text.proofs.SpellLemmas.{length-joined, normalized-spelled}
 
+-- a segment that begins with no dot is a name
 dotless_name : (s : Text) → begins_with_dot s ≡ false → is_name s ≡ true
 dotless_name s h = grind (arith, bytes_eq-Decides)
 
 none_open : (list : List Text) → is_some_dotted list ≡ false → open_before list 0 ≡ 0
 none_open [] h = refl
-none_open (s ∷ rest) h = grind (arith, common_steps, dotless_name, name_no_parent, none_open rest)
+none_open (s ∷ rest) h = grind (arith, dotless_name, name_no_parent, none_open rest)
 
 all_stay : (list : List Text) → is_some_dotted list ≡ false → staying_before list 0 ≡ list
 all_stay [] h = refl
-all_stay (s ∷ rest) h = grind (arith, common_steps, dotless_name, none_open, all_stay rest)
+all_stay (s ∷ rest) h = grind (arith, dotless_name, none_open, all_stay rest)
 
 ends_in_a_name : (list : List Text) → is_some_dotted list ≡ false → ends_in_dots list ≡ false
 ends_in_a_name [] h = refl
 ends_in_a_name (s ∷ rest) h = grind (arith, dotless_name, ends_in_a_name rest)
 
 pub normal_segments-dotless : (p : PathValue) → is_some_dotted p.segments ≡ false → normal_segments p ≡ without_lone_empty p.segments
-normal_segments-dotless p h = grind (arith, common_steps, normal_segments-is, none_open, all_stay, ends_in_a_name)
+normal_segments-dotless p h =
+    rw (normal_segments-is, none_open p.segments h, all_stay p.segments h, ends_in_a_name p.segments h) (grind (arith, append-nil))
 
 -- ---- the text
 
 -- a text whose pieces are one empty segment is empty
 whole_text : (c : ℕ) (cs : Text) → is_one_empty (pieces_at slash (c ∷ cs)) ≡ false
-whole_text c cs = grind (arith, common_steps, join-pieces_at slash (c ∷ cs))
+whole_text c cs = grind (arith, join-pieces_at slash (c ∷ cs))
 
 -- after an authority no first segment needs a guard
 pub unguarded : (context : PathContext) (absolute : Bool) (n : ℕ) (s t : Text) → context.has_authority ≡ true → lead_in context absolute n s ≡ lead_in context absolute n t
@@ -89,18 +92,19 @@ both_size front back = let text = after_front front back in grind (arith, both_p
 -- they have the first segment of the front text, if there is one
 pub first_of_both_texts : (front : Option (Bor Text)) (back : Bor Text) → first_or [] (pieces_at slash (unwrap_or front back).now) ≡ first_or [] (pieces_at slash (after_front front back.now))
 first_of_both_texts None back = refl
-first_of_both_texts (Some front) back = grind (arith, common_steps, some_piece slash front.now, pieces-append)
+first_of_both_texts (Some front) back = grind (arith, some_piece slash front.now, pieces-append)
 
 -- ---- the steps from a directory
 
-dotless_front : (list : List Text) → is_some_dotted list ≡ false → is_some_dotted (all_but_last list) ≡ false
-dotless_front [] h = refl
-dotless_front (s ∷ rest) h = grind (arith, dotless_front rest)
+-- nor does one of the directory, if none does
+none_in_front : (test : Text → Bool) (list : List Text) → list_any test list ≡ false → list_any test (all_but_last list) ≡ false
+none_in_front test [] h = refl
+none_in_front test (s ∷ rest) h = grind (arith, none_in_front test rest)
 
 -- the names of the directory are its segments
 dotless_names : (text : Text) → has_dot_segment text ≡ false → staying_names (all_but_last (segments_of text)) ≡ all_but_last (pieces_at slash text)
 dotless_names [] h = staying_names-is []
-dotless_names (c ∷ cs) h = grind (arith, staying_names-is, all_stay, dotless_front)
+dotless_names (c ∷ cs) h = grind (arith, staying_names-is, all_stay, none_in_front begins_with_dot)
 
 -- the steps lead to the segments
 dotless_target : (directory : List Text) (text : Text) → has_dot_segment text ≡ false

@@ -1,6 +1,5 @@
 -- A path with its guard is spelled by what stands before it and its own text.
 use Rattle.std.proofs.Common.{arith, ◌≡◌, Bool, true, false, cond, List, [], ◌∷◌, ◌++◌}
-use Rattle.std.proofs.lemmas.Grind.{common_steps}
 use Rattle.std.specs.Prelude.{codes}
 use Rattle.iref_grammar.specs.declared.context.PathContext.{PathContext}
 use Rattle.iref_grammar.specs.Rules.{Text}
@@ -24,7 +23,7 @@ no_guard context text absolute e = grind (arith, read_path-reads text)
 pub guard_spelled : (context : PathContext) (text : Text) (absolute : Bool) (first : Text) (rest : List Text) → read_path text ≡ path_with absolute (first ∷ rest)
     → guard_text context absolute first ++ text ≡ spell_path (guarded context (read_path text))
 unfolding guarded spell_path
-guard_spelled context text absolute first rest e = grind (arith, common_steps, read_path-reads text)
+guard_spelled context text absolute first rest e = grind (arith, read_path-reads text)
 
 -- ---- where a path needs no guard
 

@@ -1,11 +1,12 @@
 -- Lists that are compared from the back.
-use Rattle.std.proofs.Common.{◌≡◌, ℕ, ◌-◌, ◌<◌, ◌≤◌, List, [], ◌∷◌, ◌++◌, length, take, map, fold, arith, true, false, Ordering}
+use Rattle.std.proofs.Common.{append_assoc, length-append, ◌≡◌, ℕ, ◌-◌, ◌<◌, ◌≤◌, List, [], ◌∷◌, ◌++◌, length, take, map, fold, arith, true, false, Ordering}
+use Rattle.std.proofs.lemmas.List.{reverse-append, map-append, length-take-le, take_at, take_min, length-map, take-map, take-append-drop}
+use Rattle.std.proofs.lemmas.Bool.Decides.{nat_tests}
 use Rattle.std.proofs.lemmas.Grind.{common_steps}
 use Rattle.std.specs.Prelude.{Option, MatchOption}
 use Rattle.std.specs.Borrow.{Bor}
 use Rattle.std.specs.Ordering.{bool_cmp, is_ne, nat_cmp, ordering_then}
 use Rattle.std.specs.Cmp.Lexicographic.{slice_cmp}
-use Rattle.std.proofs.lemmas.List.{take_at, take_min, length-map, take-map, take-append-drop}
 use Rattle.std.proofs.lemmas.List.Concat.{flat_map-cons}
 use Rattle.std.specs.Hash.{bool, fed_then, u8}
 use Rattle.iref_grammar.specs.Keys.{fed_bytes, text_order}
@@ -21,20 +22,21 @@ use Rattle.iref_model.specs.PathKey.{path_key, path_key_cmp}
 -- one more item is passed over
 pub one_less : (whole left after : List Text) (given : Option (Bor Text)) (n : ℕ) → n ≤ length whole → 0 < n → left ≡ take n whole
     → MatchOption given ((left ≡ []) × (after ≡ [])) (λ s. left ≡ after ++ s.now ∷ []) → after ≡ take (n - 1) whole
-one_less whole left after given n h some e m = grind (arith, common_steps, take-append-drop n whole, take_at after)
+one_less whole left after given n h some e m = grind (arith, append_assoc, length-append, length-take-le, take-append-drop n whole, take_at after)
 
 -- ---- the foremost difference decides
 
 module _ {A : Type 0} (R : A → A → Ordering) where
   -- of lists of the same length the last items decide last
   slice_cmp-last : (xs ys : List A) (x y : A) → length xs ≡ length ys → slice_cmp R (xs ++ x ∷ []) (ys ++ y ∷ []) ≡ ordering_then (slice_cmp R xs ys) (R x y)
-  slice_cmp-last [] ys x y h = grind (arith, common_steps)
-  slice_cmp-last (a ∷ xs) ys x y h = grind (arith, common_steps, slice_cmp-last xs)
+  slice_cmp-last [] ys x y h = grind arith
+  slice_cmp-last (a ∷ xs) ys x y h = grind (arith, slice_cmp-last xs)
 
   -- of any lists their lengths decide last
   slice_cmp-cut : (xs ys : List A) → slice_cmp R xs ys ≡ ordering_then (slice_cmp R (take (length ys) xs) (take (length xs) ys)) (nat_cmp (length xs) (length ys))
   slice_cmp-cut [] ys = grind (arith, common_steps)
-  slice_cmp-cut (x ∷ xs) ys = grind (arith, common_steps, slice_cmp-cut xs)
+  slice_cmp-cut (x ∷ xs) [] = grind (arith, nat_tests)
+  slice_cmp-cut (x ∷ xs) (y ∷ ys) = grind (arith, nat_tests, slice_cmp-cut xs ys)
 
 -- ---- two lists read from the back
 
@@ -43,18 +45,22 @@ decoded = map percent_decode
 
 pub order-before : (xs ys us vs : List Text) (s t : Text) (order : Ordering) → length xs ≡ length ys → xs ≡ us ++ s ∷ [] → ys ≡ vs ++ t ∷ []
     → (length us ≡ length vs) × (ordering_then (slice_cmp text_order (decoded xs) (decoded ys)) order ≡ ordering_then (slice_cmp text_order (decoded us) (decoded vs)) (ordering_then (text_order (percent_decode s) (percent_decode t)) order))
-order-before xs ys us vs s t order h e f = grind (arith, common_steps, decoded, slice_cmp-last, length-map)
+order-before xs ys us vs s t order h e f = grind (arith, length-append, map-append, decoded, slice_cmp-last, length-map)
 
 -- what is known of two lists when their longer one has been cut
 pub order-cut : (xs ys us vs : List Text) (n m : ℕ) → n ≡ length xs → m ≡ length ys → us ≡ take (length xs - (n - m)) xs → vs ≡ take (length ys - (m - n)) ys
     → (us ≡ take (length ys) xs) × (vs ≡ take (length xs) ys) × (ordering_then (slice_cmp text_order (decoded us) (decoded vs)) (nat_cmp n m) ≡ slice_cmp text_order (decoded xs) (decoded ys))
-order-cut xs ys us vs n m h k e f = grind (arith, common_steps, decoded, take_min, slice_cmp-cut, take-map, length-map)
+order-cut xs ys us vs n m h k e f =
+    let left : us ≡ take (length ys) xs = grind (arith, take_min m xs) in
+    let right : vs ≡ take (length xs) ys = grind (arith, take_min n ys) in
+    (left, right, cc (slice_cmp-cut text_order (decoded xs) (decoded ys), take-map percent_decode (length ys) xs, take-map percent_decode (length xs) ys,
+    length-map xs percent_decode, length-map ys percent_decode))
 
 -- ---- what is hashed from the back
 
 pub fed_before : {S : Type 0} (write : S → List ℕ → S) (s t : S) (xs us : List Text) (x : Text) → xs ≡ us ++ x ∷ [] → t ≡ fold write s (fed_bytes (percent_decode x))
     → fold write t (fed_from_the_back (decoded us)) ≡ fold write s (fed_from_the_back (decoded xs))
-fed_before write s t xs us x e h = grind (arith, common_steps, fed_then, flat_map-cons)
+fed_before write s t xs us x e h = grind (arith, map-append, reverse-append, decoded, fed_then, flat_map-cons)
 
 -- ---- keys
 
@@ -70,4 +76,4 @@ module _ (p q : PathValue) (flags : Ordering) (flags_are : flags ≡ bool_cmp p.
 pub fed_key : {S : Type 0} (write : S → List ℕ → S) (s t u v : S) (p : PathValue) (items : List Text) → items ≡ normal_segments p
     → t ≡ fold write s (bool p.absolute) → u ≡ fold write t (fed_from_the_back (decoded items)) → v ≡ fold write u (u8 255) → v ≡ fold write s (fed_path (path_key p))
 unfolding path_key fed_path
-fed_key write s t u v p items h flag listed ended = grind (arith, common_steps, fed_then)
+fed_key write s t u v p items h flag listed ended = grind (arith, fed_then)

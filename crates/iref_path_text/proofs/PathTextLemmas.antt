@@ -1,8 +1,8 @@
 -- What the first and the last delimiters of a path say of it.
 use Rattle.std.proofs.Common.{◌≡◌, ℕ, ◌+◌, ◌<◌, true, false, not, ◌||◌, [], ◌∷◌, ◌++◌, length, get_or, take, drop-cons, refl, sym, ◌∙◌, arith}
+use Rattle.std.proofs.lemmas.Bool.Decides.{eqb_tells, nat_tests}
 use Rattle.std.proofs.lemmas.Grind.{common_steps}
 use Rattle.std.specs.Prelude.{◌==◌, ◌≢◌, Some, None, codes}
-use Rattle.std.proofs.lemmas.Bool.Decides.{nat_tests}
 use Rattle.std.proofs.lemmas.List.{take-append-drop, take_more}
 use Rattle.std.proofs.lemmas.List.Elements.{All-head}
 use Rattle.std.proofs.lemmas.List.Sums.{suffix_len_is}
@@ -31,12 +31,12 @@ directory-cut text k within here later = grind (arith, nat_tests, suffix_len_is 
 
 pub directory-uncut : (text : Text) → ((i : ℕ) → i < length text → get_or text i 0 ≢ slash) → [] ≡ directory_text text
 unfolding directory_text
-directory-uncut text none = grind (arith, common_steps, suffix_len_is (λ c. not (c == slash)) text 0 0)
+directory-uncut text none = grind (arith, suffix_len_is (λ c. not (c == slash)) text 0 0)
 
 -- it is a path
 pub is_path-directory : (set : CharTests) → AreAboveAscii set → (text : Text) (k : ℕ) → k < length text → get_or text k 0 ≡ slash → is_path set text ≡ true → is_path set (take (k + 1) text) ≡ true
 is_path-directory set above text k within here h =
-    grind (arith, common_steps, take_more text k 0, take-append-drop k text, drop-cons text k 0, path_parts set above, path_joined set above, is_path_empty)
+    grind (arith, take_more text k 0, take-append-drop k text, drop-cons text k 0, path_parts set above, path_joined set above, is_path_empty)
 
 -- ---- the parent
 
@@ -49,8 +49,9 @@ grown : (front back : Text) → LacksSlash back → front ≢ [] → front ≢ s
     (read_path (front ++ slash ∷ back) ≡ one_more q back) × ((q.absolute || not (is_empty q.segments)) ≡ true)
 unfolding read_path
 grown [] back h some more = absurd (some refl)
-grown (c ∷ front) back h some more =
-    grind (arith, some_piece slash front, some_piece slash (c ∷ front), pieces-append slash front back, pieces-append slash (c ∷ front) back, pieces-whole)
+grown (c ∷ []) back h some more = grind (arith, eqb_tells, some_piece slash (c ∷ []), pieces-append, pieces-whole)
+grown (c ∷ d ∷ front) back h some more =
+    grind (arith, some_piece slash (c ∷ d ∷ front), pieces-append slash (d ∷ front) back, pieces-append slash (c ∷ d ∷ front) back, pieces-whole)
 
 pub parent-slice : (text front back : Text) → (text ≡ front ++ slash ∷ back) × LacksSlash back → front ≢ [] → front ≢ slash ∷ [] → parent (read_path text) ≡ Some (read_path front)
 unfolding parent guarded_list

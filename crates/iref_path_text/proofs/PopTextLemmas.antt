@@ -1,6 +1,6 @@
 -- The texts that a pop leaves.
-use Rattle.std.proofs.Common.{◌≡◌, ℕ, Bool, true, false, cond, List, [], ◌∷◌, ◌++◌, length, take, refl, sym, arith, ◌+◌}
-use Rattle.std.proofs.lemmas.Grind.{common_steps}
+use Rattle.std.proofs.Common.{append_assoc, ◌≡◌, ℕ, Bool, true, false, cond, List, [], ◌∷◌, ◌++◌, length, take, refl, sym, arith, ◌+◌}
+use Rattle.std.proofs.lemmas.List.{append-nil}
 use mathlib.Core.Bool.{true≢false}
 use mir.Val.{bool_byte}
 use Rattle.std.specs.Prelude.{◌==◌, codes, Option, Some, None}
@@ -83,12 +83,13 @@ guarded_front : (absolute : Bool) (front last : Text) → shows_its_list (path_w
 unfolding spell_path guarded_list read_path
 guarded_front true [] last h = refl
 guarded_front false [] last h = absurd (true≢false (sym h))
-guarded_front absolute (c ∷ cs) last h = grind (arith, common_steps, join-pieces_at slash (c ∷ cs), read_path-reads (slash ∷ c ∷ cs), some_piece slash (c ∷ cs))
+guarded_front absolute (c ∷ cs) last h =
+    grind (arith, append_assoc, append-nil, join-pieces_at slash (c ∷ cs), read_path-reads (slash ∷ c ∷ cs), some_piece slash (c ∷ cs))
 
 -- segments are left
 module _ (context : PathContext) (path front last : Text) (absolute : Bool) (e : read_path path ≡ path_with absolute (pieces_at slash front ++ last ∷ [])) where
   pub front_cut : (n : ℕ) → n ≡ bool_byte absolute + length front → IsCut path (root_text absolute ++ front) n
-  front_cut n size = grind (arith, common_steps, cut_at_slash path (root_text absolute ++ front) last n, read_path-reads path, spelled-snoc absolute front last)
+  front_cut n size = grind (arith, cut_at_slash path (root_text absolute ++ front) last n, read_path-reads path, spelled-snoc absolute front last)
 
   module _ (h : is_dot_dot last ≡ false) where
     front_some : is_empty (popped context (read_path path)).segments ≡ false
@@ -97,7 +98,7 @@ module _ (context : PathContext) (path front last : Text) (absolute : Bool) (e :
 
     pub front_text : (n : ℕ) (guard close : Text) → n ≡ bool_byte absolute + length front → guard ≡ cond (length front == 0) (codes "./") [] → take n path ++ (guard ++ [] ++ close) ≡ closed_by close (popped context (read_path path))
     front_text n guard close size g =
-        grind (arith, common_steps, front_cut, guarded_front absolute front last, read_path-reads path, front_some,
+        grind (arith, append_assoc, append-nil, front_cut, guarded_front absolute front last, read_path-reads path, front_some,
         popped_last context (read_path path) absolute (pieces_at slash front) last)
 
 pub none_left : (context : PathContext) (p : PathValue) (last : Text) (absolute : Bool) → p ≡ path_with absolute (last ∷ []) → is_dot_dot last ≡ false → popped context p ≡ path_with absolute []
