@@ -1,7 +1,7 @@
 -- A list in which no segment begins with a dot is its own normal list.
 use Rattle.std.proofs.Common.{◌≡◌, ℕ, ◌+◌, Bool, true, false, ◌||◌, List, [], ◌∷◌, ◌++◌, length, refl, sym, ap, arith}
 use Rattle.std.proofs.lemmas.List.{append-nil}
-use Rattle.std.specs.Prelude.{Option, Some, None}
+use Rattle.std.specs.Prelude.{Option}
 use Rattle.std.specs.Option.{unwrap_or}
 use Rattle.std.specs.Borrow.{Bor}
 use Rattle.std.proofs.lemmas.Bool.Decides.{nat_tests}
@@ -69,11 +69,9 @@ dotless-spelled context absolute [] first rest e h =
 dotless-spelled context absolute (c ∷ cs) first rest e h =
     let list = pieces_at slash (c ∷ cs) in
     let p : PathValue = record { absolute = absolute; segments = list } in
-    let joined = join-pieces_at slash (c ∷ cs) in
-    let size : length (each_closed list) ≡ length (c ∷ cs) + 1 = grind (arith, length-joined) in
     let same : list ≡ normal_segments p = grind (arith, normal_segments-dotless, whole_text) in
     let spelled = normalized-spelled context p list (length (each_closed list)) first same refl (ap (first_or []) (sym e)) in
-    grind (arith, nat_tests)
+    grind (arith, nat_tests, length-joined, join-pieces_at slash (c ∷ cs))
 
 -- ---- two texts
 
@@ -91,12 +89,11 @@ both_size front back = let text = after_front front back in grind (arith, both_p
 
 -- they have the first segment of the front text, if there is one
 pub first_of_both_texts : (front : Option (Bor Text)) (back : Bor Text) → first_or [] (pieces_at slash (unwrap_or front back).now) ≡ first_or [] (pieces_at slash (after_front front back.now))
-first_of_both_texts None back = refl
-first_of_both_texts (Some front) back = grind (arith, some_piece slash front.now, pieces-append)
+first_of_both_texts front back = grind (arith, some_piece slash (unwrap_or front back).now, pieces-append)
 
 -- ---- the steps from a directory
 
--- nor does one of the directory, if none does
+-- what holds of no item holds of none before the last
 none_in_front : (test : Text → Bool) (list : List Text) → list_any test list ≡ false → list_any test (all_but_last list) ≡ false
 none_in_front test [] h = refl
 none_in_front test (s ∷ rest) h = grind (arith, none_in_front test rest)
