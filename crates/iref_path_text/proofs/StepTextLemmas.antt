@@ -6,11 +6,12 @@ use Rattle.std.specs.Prelude.{◌==◌, codes, Option, is_none, is_some}
 use Rattle.std.specs.Borrow.{Bor}
 use Rattle.std.specs.List.{join_with_byte}
 use Rattle.std.specs.Char.{char_set_contains}
+use Rattle.std.proofs.lemmas.Grind.{common_steps}
 use Rattle.std.proofs.lemmas.List.{append-nil, take_all, take_at}
 use Rattle.std.proofs.Math.Seq.{get_or-append_seam}
 use Rattle.std.specs.Str.{IsCharBoundary}
 use Rattle.std.proofs.lemmas.Str.{IsCharBoundary-start, IsCharBoundary-before_ascii, IsCharBoundary-after_ascii}
-use Rattle.std.proofs.lemmas.Bool.Decides.{eqb_tells}
+use Rattle.std.proofs.lemmas.Bool.Decides.{nat_tests, eqb_tells}
 use Rattle.iref_grammar.specs.declared.context.PathContext.{PathContext}
 use Rattle.iref_grammar.specs.Rules.{Text}
 use Rattle.iref_grammar.specs.Grammar.{slash, colon}
@@ -30,37 +31,10 @@ pushed_lead context absolute s =
     let rooted = absolute || context.has_authority in
     lead rooted (first_needs_guard context rooted s)
 
-at : (has_scheme has_authority absolute : Bool) (s : Text) → let context : PathContext = record { has_scheme = has_scheme; has_authority = has_authority } in let p : PathValue = record { absolute = absolute; segments = [] } in
-    pushed_lead context absolute s ++ s ≡ spell_path (lazy_pushed context s p)
-unfolding guarded lazy_pushed spell_path
-at true true true [] = refl
-at true true true (c ∷ s) = refl
-at true true false [] = refl
-at true true false (c ∷ s) = refl
-at true false true [] = refl
-at true false true (c ∷ s) = refl
-at true false false [] = refl
-at true false false (c ∷ s) = refl
-at false true true [] = refl
-at false true true (c ∷ s) = refl
-at false true false [] = refl
-at false true false (c ∷ s) = refl
-at false false true [] = refl
-at false false true (c ∷ s) = refl
-at false false false [] = refl
-at false false false (c ∷ s) = by (char_set_contains (c ∷ s) colon)
-  where
-    by : (b : Bool) → cond b (codes "./") [] ++ (c ∷ s) ≡ spell_path (cond (not b) (record { absolute = false; segments = (c ∷ s) ∷ [] }) (record { absolute = false; segments = codes "." ∷ (c ∷ s) ∷ [] }))
-    by true = refl
-    by false = refl
-
 -- the first segment
 pub first_pushed : (context : PathContext) (p : PathValue) (s : Text) → is_empty p.segments ≡ true → pushed_lead context p.absolute s ++ s ≡ spell_path (lazy_pushed context s p)
-first_pushed context p s h = by p.segments h
-  where
-    by : (segments : List Text) → is_empty segments ≡ true → pushed_lead context p.absolute s ++ s ≡ spell_path (lazy_pushed context s (record { absolute = p.absolute; segments = segments }))
-    by [] h = at context.has_scheme context.has_authority p.absolute s
-    by (t ∷ ts) h = absurd (true≢false (sym h))
+unfolding guarded lazy_pushed spell_path
+first_pushed context p s h = grind (arith, common_steps)
 
 pub join-snoc : (t : Text) (ts : List Text) (s : Text) → join_with_byte slash (t ∷ ts) ++ (slash ∷ s) ≡ join_with_byte slash ((t ∷ ts) ++ s ∷ [])
 join-snoc t [] s = refl
@@ -69,26 +43,13 @@ join-snoc t (u ∷ us) s = append_assoc t (slash ∷ join_with_byte slash (u ∷
 -- a further segment
 pub next_pushed : (context : PathContext) (p : PathValue) (s : Text) → is_empty p.segments ≡ false → spell_path p ++ (slash ∷ s) ≡ spell_path (lazy_pushed context s p)
 unfolding lazy_pushed spell_path
-next_pushed context p s h = by p.absolute p.segments h
-  where
-    by : (absolute : Bool) (segments : List Text) → is_empty segments ≡ false → spell_path (record { absolute = absolute; segments = segments }) ++ (slash ∷ s) ≡ spell_path (lazy_pushed context s (record { absolute = absolute; segments = segments }))
-    by absolute [] h = absurd (true≢false h)
-    by true (t ∷ ts) h = ap (λ rest. slash ∷ rest) (join-snoc t ts s)
-    by false (t ∷ ts) h = join-snoc t ts s
+next_pushed context p s h = grind (arith, common_steps, join-snoc)
 
 pub closed_spelled : (context : PathContext) (p : PathValue) → closed_by (slash ∷ []) p ≡ spell_path (closed_path context p)
-closed_spelled context p = by (is_empty p.segments) refl
-  where
-    by : (empty : Bool) → is_empty p.segments ≡ empty → spell_path p ++ cond empty [] (slash ∷ []) ≡ spell_path (cond empty p (lazy_pushed context [] p))
-    by true e = append-nil (spell_path p)
-    by false e = next_pushed context p [] e
+closed_spelled context p = grind (arith, common_steps, next_pushed)
 
 pub unclosed_spelled : (p : PathValue) → closed_by [] p ≡ spell_path p
-unclosed_spelled p = by (is_empty p.segments)
-  where
-    by : (empty : Bool) → spell_path p ++ cond empty [] [] ≡ spell_path p
-    by true = append-nil (spell_path p)
-    by false = append-nil (spell_path p)
+unclosed_spelled p = grind (arith, common_steps)
 
 -- ---- of a text
 
@@ -97,26 +58,17 @@ module _ (context : PathContext) (path close : Text) (absolute : Bool) (segments
   is_empty-read = ap (λ (p : PathValue). is_empty p.segments) e ∙ is_empty-pieces segments
 
   pub first_text : (s : Text) → is_some segments ≡ false → take 0 path ++ (pushed_lead context absolute s ++ s ++ close) ≡ spell_path (lazy_pushed context s (read_path path)) ++ close
-  first_text s h =
-      ap (λ t. t ++ close) (ap (λ (p : PathValue). pushed_lead context p.absolute s ++ s) (sym e) ∙ first_pushed context (read_path path) s (is_empty-read ∙ ap not h))
+  first_text s h = grind (arith, append_assoc, is_empty-read, first_pushed context (read_path path) s)
 
   pub next_text : (s : Text) → is_some segments ≡ true → take (length path) path ++ ((slash ∷ []) ++ s ++ close) ≡ spell_path (lazy_pushed context s (read_path path)) ++ close
-  next_text s h =
-      (λ i. take_all (length path) path (omega arith) i ++ (slash ∷ s ++ close)) ∙ sym (append_assoc path (slash ∷ s) close)
-      ∙ ap (λ t. t ++ close) (ap (λ t. t ++ (slash ∷ s)) (sym (read_path-reads path).spelled) ∙ next_pushed context (read_path path) s (is_empty-read ∙ ap not h))
+  next_text s h = grind (arith, append_assoc, take_all (length path) path, (read_path-reads path).spelled, is_empty-read, next_pushed context (read_path path) s)
 
   pub closed_text : (some : Bool) → some ≡ is_some segments → close ≡ cond some (slash ∷ []) [] → take (length path) path ++ close ≡ spell_path (closed_path context (read_path path))
-  closed_text some h k =
-      (λ i. take_all (length path) path (omega arith) i ++ k i) ∙ by some (is_empty-read ∙ ap not (sym h)) ∙ closed_spelled context (read_path path)
-    where
-      by : (some : Bool) → is_empty (read_path path).segments ≡ not some → path ++ cond some (slash ∷ []) [] ≡ closed_by (slash ∷ []) (read_path path)
-      by true h = λ i. sym (read_path-reads path).spelled i ++ cond (sym h i) [] (slash ∷ [])
-      by false h = λ i. sym (read_path-reads path).spelled i ++ cond (sym h i) [] (slash ∷ [])
+  closed_text some h k = grind (arith, append-nil, take_all (length path) path, (read_path-reads path).spelled, is_empty-read, closed_spelled context (read_path path))
 
 -- a colon alone decides where no delimiter stands before
 pub guard_by_colon : (context : PathContext) (rooted : Bool) (s : Text) (has : Bool) → false ≡ (length s == 0) → (rooted || context.has_scheme) ≡ false → has ≡ char_set_contains s colon → has ≡ first_needs_guard context rooted s
-guard_by_colon context rooted [] has h e k = absurd (true≢false (sym h))
-guard_by_colon context rooted (c ∷ s) has h e k = k ∙ (λ i. not (sym e i) && char_set_contains (c ∷ s) colon)
+guard_by_colon context rooted s has h e k = grind (arith, common_steps)
 
 -- ---- a beginning of a text
 
@@ -138,10 +90,7 @@ pub root_of_path : (path : Text) (absolute : Bool) → (read_path path).absolute
 unfolding read_path
 root_of_path path false e = (path, refl)
 root_of_path [] true e = absurd (true≢false (sym e))
-root_of_path (c ∷ cs) true e = elim (eqb_tells c slash) [
-  | inl k ↦ (cs, λ i. k.1 i ∷ cs)
-  | inr k ↦ absurd (true≢false (sym e ∙ (λ i. (cond {A = PathValue} (k.0 i) (record { absolute = true; segments = segments_of cs }) (record { absolute = false; segments = segments_of (c ∷ cs) })).absolute)))
-]
+root_of_path (c ∷ cs) true e = (cs, grind (arith, nat_tests))
 
 -- its root, without its segments
 abbrev pub root_text : Bool → Text
@@ -159,8 +108,7 @@ at_root path true utf8 e =
 
 pub root_spelled : (absolute : Bool) → root_text absolute ≡ spell_path (record { absolute = absolute; segments = [] })
 unfolding spell_path
-root_spelled true = refl
-root_spelled false = refl
+root_spelled absolute = grind arith
 
 -- ---- the other short steps
 

@@ -1,5 +1,6 @@
 -- The steps of a path keep what the text of a path has.
-use Rattle.std.proofs.Common.{◌≡◌, Bool, true, false, not, cond, ◌&&◌, ◌||◌, List, [], ◌∷◌, refl, sym, subst, ◌∙◌, ap}
+use Rattle.std.proofs.Common.{arith, ◌≡◌, Bool, true, false, not, cond, ◌&&◌, ◌||◌, List, [], ◌∷◌, refl, sym, subst, ◌∙◌, ap}
+use Rattle.std.proofs.lemmas.Grind.{common_steps}
 use Rattle.std.proofs.lemmas.Bool.{and_from, and_parts}
 use Rattle.std.specs.Prelude.{codes}
 use Rattle.std.specs.List.{list_all}
@@ -34,18 +35,12 @@ pub record IsStep (set : CharTests) (context : PathContext) (p value : PathValue
   pub fit : fits context p ≡ true → fits context value ≡ true
 
 pub fit-shows : (context : PathContext) (p : PathValue) → fits context p ≡ true → shows_its_list p ≡ true
-fit-shows context p h =
-    first_of_both (shows_its_list p) (is_no_authority context p)
-    (first_of_both (shows_its_list p && is_no_authority context p) (is_no_scheme context p) (second_of_both (follows_authority context p) (reads_as_path context p) h))
+fit-shows context p h = grind arith
 
 -- after an authority a list that shows fits as soon as it follows
 follows-step : (has_scheme has_authority : Bool) (p value : PathValue) → let context : PathContext = record { has_scheme = has_scheme; has_authority = has_authority } in
     (fits context p ≡ true → fits context value ≡ true) → shows_its_list p ≡ true → follows_authority context p ≡ true → follows_authority context value ≡ true
-follows-step has_scheme false p value fit shown h = refl
-follows-step true true p value fit shown h =
-    first_of_both _ (reads_as_path (record { has_scheme = true; has_authority = true }) value) (fit (and_from _ _ h (and_from _ _ (and_from _ _ shown refl) refl)))
-follows-step false true p value fit shown h =
-    first_of_both _ (reads_as_path (record { has_scheme = false; has_authority = true }) value) (fit (and_from _ _ h (and_from _ _ (and_from _ _ shown refl) refl)))
+follows-step has_scheme has_authority p value fit shown h = grind arith
 
 module _ (set : CharTests) (above : AreAboveAscii set) (context : PathContext) where
   abbrev are_segments : PathValue → Bool
@@ -79,43 +74,29 @@ steps_as set context f g path result e h = record { keep = h.keep; step = subst 
 
 -- ---- each step
 
-shown-cond : (b : Bool) (p q : PathValue) → shows_its_list p ≡ true → shows_its_list q ≡ true → shows_its_list (cond b p q) ≡ true
-shown-cond true p q h k = h
-shown-cond false p q h k = k
-
-lazy_pushed_on : (context : PathContext) (s : Text) (absolute : Bool) (segments : List Text) → let p : PathValue = record { absolute = absolute; segments = segments } in
-    shows_its_list p ≡ true → shows_its_list (lazy_pushed context s p) ≡ true
-unfolding lazy_pushed
-lazy_pushed_on context s absolute [] h =
-    let first : PathValue = record { absolute = absolute || context.has_authority; segments = s ∷ [] } in
-    fit-shows context (guarded context first) (guarded-fits context first)
-lazy_pushed_on context s true ([] ∷ ts) h = ap not (is_empty-snoc ts s)
-lazy_pushed_on context s true ((c ∷ t) ∷ ts) h = refl
-lazy_pushed_on context s false (t ∷ ts) h = h
-
 lazy_pushed-shown : (context : PathContext) (s : Text) (p : PathValue) → shows_its_list p ≡ true → shows_its_list (lazy_pushed context s p) ≡ true
-lazy_pushed-shown context s p h = lazy_pushed_on context s p.absolute p.segments h
+unfolding lazy_pushed
+lazy_pushed-shown context s p h =
+    let first : PathValue = record { absolute = p.absolute || context.has_authority; segments = s ∷ [] } in
+    let shown = fit-shows context (guarded context first) (guarded-fits context first) in
+    grind (arith, common_steps, is_empty-snoc)
 
 popped-shown : (context : PathContext) (p : PathValue) → shows_its_list p ≡ true → shows_its_list (popped context p) ≡ true
 unfolding popped
-popped-shown context p h =
-    shown-cond (ends_in_parent p.segments || is_empty p.segments && not p.absolute) _ _ (lazy_pushed-shown context (codes "..") p h)
-    (shown-cond (is_empty p.segments) _ _ h (guarded_list-shows (record { absolute = p.absolute; segments = all_but_last p.segments })))
+popped-shown context p h = grind (arith, lazy_pushed-shown, guarded_list-shows)
 
 closed-shown : (context : PathContext) (p : PathValue) → shows_its_list p ≡ true → shows_its_list (closed_path context p) ≡ true
-closed-shown context p h = shown-cond (is_empty p.segments) _ _ h (lazy_pushed-shown context [] p h)
+closed-shown context p h = grind (arith, lazy_pushed-shown)
 
 followed-shown : (context : PathContext) (s : Text) (p : PathValue) → shows_its_list p ≡ true → shows_its_list (followed context p s) ≡ true
-followed-shown context s p h = shown-cond (is_dot s) _ _ h (shown-cond (is_dot_dot s) _ _ (popped-shown context p h) (lazy_pushed-shown context s p h))
+followed-shown context s p h = grind (arith, popped-shown, lazy_pushed-shown)
 
 pushed-shown : (context : PathContext) (s : Text) (p : PathValue) → shows_its_list p ≡ true → shows_its_list (pushed context s p) ≡ true
 unfolding pushed
-pushed-shown context s p h =
-    shown-cond (is_name s) _ _ (lazy_pushed-shown context s p h) (closed-shown context (followed context p s) (followed-shown context s p h))
+pushed-shown context s p h = grind (arith, lazy_pushed-shown, closed-shown, followed-shown)
 
 cleared-shown : (absolute : Bool) → shows_its_list (record { absolute = absolute; segments = [] }) ≡ true
-cleared-shown true = refl
-cleared-shown false = refl
+cleared-shown absolute = grind arith
 
 module _ (set : CharTests) (context : PathContext) (p : PathValue) where
   pub lazy_pushed-step : (s : Text) → is_segment set s ≡ true → IsStep set context p (lazy_pushed context s p)

@@ -28,47 +28,27 @@ use Rattle.iref_path_text.proofs.SpellLemmas.{guarded-in_context, guarded-read, 
 -- a list is a beginning exactly where the common beginning is all of it
 beginning-is : (xs ys : List Text) → is_decoded_beginning xs ys ≡ (common_prefix_len same_decoded xs ys == length xs)
 beginning-is [] ys = refl
-beginning-is (x ∷ xs) [] = let some : (0 == suc (length xs)) ≡ false = grind (arith, nat_tests) in sym some
-beginning-is (x ∷ xs) (y ∷ ys) = by (same_decoded x y) (common_prefix_len same_decoded xs ys) (is_decoded_beginning xs ys) (beginning-is xs ys)
-  where
-    by : (same : Bool) (common : ℕ) (rest : Bool) → rest ≡ (common == length xs) → (same && rest) ≡ (cond same (1 + common) 0 == suc (length xs))
-    by true common rest e = e ∙ grind (arith, nat_tests)
-    by false common rest e = let some : (0 == suc (length xs)) ≡ false = grind (arith, nat_tests) in sym some
+beginning-is (x ∷ xs) [] = grind (arith, nat_tests)
+beginning-is (x ∷ xs) (y ∷ ys) = grind (arith, nat_tests, beginning-is xs ys)
 
 module _ (prefix p : PathValue) where
-  abbrev tests : Bool
-  tests = beq prefix.absolute p.absolute && is_decoded_beginning (normal_segments prefix) (normal_segments p)
-
   abbrev rest : PathValue
   rest = guarded alone (record { absolute = false; segments = drop (length (normal_segments prefix)) (normal_segments p) })
 
-  by_tests : (b : Bool) → tests ≡ b → path_suffix prefix p ≡ cond b (Some rest) None
-  unfolding path_suffix
-  by_tests b e = ap (λ found. cond found (Some rest) None) e
-
   -- whether the flags differ
   module _ (a b : Bool) (a_is : a ≡ prefix.absolute) (b_is : b ≡ p.absolute) where
-    flags_are : (differ : Bool) → not (beq a b) ≡ differ → beq prefix.absolute p.absolute ≡ not differ
-    flags_are differ e = (λ i. beq (sym a_is i) (sym b_is i)) ∙ sym (not_not (beq a b)) ∙ ap not e
-      where
-        not_not : (c : Bool) → not (not c) ≡ c
-        not_not true = refl
-        not_not false = refl
-
     pub suffix-apart : not (beq a b) ≡ true → path_suffix prefix p ≡ None
-    suffix-apart e = by_tests false (ap (λ same. same && is_decoded_beginning (normal_segments prefix) (normal_segments p)) (flags_are true e))
+    unfolding path_suffix
+    suffix-apart e = grind arith
 
     module _ (e : not (beq a b) ≡ false) where
-      by_lists : (found : Bool) → (common_prefix_len same_decoded (normal_segments prefix) (normal_segments p) == length (normal_segments prefix)) ≡ found → path_suffix prefix p ≡ cond found (Some rest) None
-      by_lists found h = by_tests found ((λ i. flags_are false e i && beginning-is (normal_segments prefix) (normal_segments p) i) ∙ h)
-
       pub suffix-none : common_prefix_len same_decoded (normal_segments prefix) (normal_segments p) < length (normal_segments prefix) → path_suffix prefix p ≡ None
-      suffix-none h = by_lists false (grind (arith, nat_tests))
+      unfolding path_suffix
+      suffix-none h = grind (arith, nat_tests, beginning-is)
 
       pub suffix-some : length (normal_segments prefix) ≤ common_prefix_len same_decoded (normal_segments prefix) (normal_segments p) → path_suffix prefix p ≡ Some rest
-      suffix-some h =
-          let most = (common_prefix_len-le same_decoded (normal_segments prefix) (normal_segments p)).0 in
-          by_lists true (grind (arith, nat_tests))
+      unfolding path_suffix
+      suffix-some h = grind (arith, nat_tests, beginning-is, common_prefix_len-le)
 
 -- what is left is a path, and read as it stands
 pub suffix-reads : (set : CharTests) → AreAboveAscii set → (prefix : PathValue) (text : Text) (left : PathValue) → is_path set text ≡ true → path_suffix prefix (read_path text) ≡ Some left
@@ -87,7 +67,4 @@ suffix-reads set above prefix text left h e =
 
 -- a list without its first items is not longer
 pub size-drop : (n : ℕ) (list : List Text) → length (each_closed (drop n list)) ≤ length (each_closed list)
-size-drop n list =
-    let whole = size-append (take n list) (drop n list) in
-    let same = ap (λ xs. length (each_closed xs)) (take-append-drop n list) in
-    omega (arith, whole, same)
+size-drop n list = omega (arith, size-append (take n list) (drop n list), ap (λ xs. length (each_closed xs)) (take-append-drop n list))

@@ -38,10 +38,7 @@ module _ (absolute : Bool) (n m : ℕ) (s : Text) (before : List Text) (m_is : m
 
   pub first_given : (stays : Bool) → stays ≡ is_name s && (n == 0) → n ≡ 0
       → all_items_read absolute (s ∷ before) ≡ record { item = cond stays s []; unread = before } ∷ items_read absolute m before
-  first_given stays e none =
-      let name : stays ≡ is_name s = e ∙ (λ i. is_name s && (none i == 0)) ∙ and-true (is_name s) in
-      let opened : m ≡ counted (is_dot_dot s) (is_name s) 0 = m_is ∙ ap (counted (is_dot_dot s) (is_name s)) none in
-      λ i. record { item = cond (sym name i) s []; unread = before } ∷ items_read absolute (sym opened i) before
+  first_given stays e none = grind (arith, and-true)
 
 -- ---- no segment is left
 
@@ -49,46 +46,29 @@ pub ends_absolute : (absolute : Bool) (n : ℕ) → absolute ≡ true → items_
 ends_absolute absolute n h = λ i. items_read (h i) n []
 
 pub ends_at_zero : (absolute : Bool) (n : ℕ) → n ≡ 0 → items_read absolute n [] ≡ []
-ends_at_zero absolute n h = (λ i. items_read absolute (h i) []) ∙ none absolute
-  where
-    none : (absolute : Bool) → items_read absolute 0 [] ≡ []
-    none true = refl
-    none false = refl
+ends_at_zero absolute n h = grind arith
 
 pub gives_parent : (absolute : Bool) (n : ℕ) (segments : List Text) → segments ≡ [] → absolute ≡ false → n ≢ 0
     → items_read absolute n [] ≡ record { item = codes ".."; unread = segments } ∷ items_read absolute (n - 1) segments
-gives_parent absolute n segments e h k =
-    let less : n ≡ suc (n - 1) = omega (arith, k) in
-    (λ i. items_read (h i) (less i) []) ∙ (λ i. record { item = codes ".."; unread = sym e i } ∷ items_read (sym h i) (n - 1) (sym e i))
+gives_parent absolute n segments e h k = grind arith
 
 pub first_none : (u v : Unread) → GivesSegment u None v → u.open_parents ≡ 0 → all_items_unread u ≡ record { item = []; unread = segments_unread v } ∷ items_unread v
 unfolding items_unread all_items_unread
-first_none u v h zero =
-    (λ i. all_items_read (sym h.absolute i) (h.segment.0 i))
-    ∙ (λ i. record { item = []; unread = sym h.segment.1 i } ∷ sym (ends_at_zero v.absolute v.open_parents (h.open_parents ∙ zero)) i)
-    ∙ (λ i. record { item = []; unread = segments_unread v } ∷ items_read v.absolute v.open_parents (sym h.segment.1 i))
+first_none u v h zero = grind arith
 
 -- ---- two paths
 
 pub ruleset sizes = (length-reverse)
 
 module _ (u v l r : Unread) (s t : Bor Text) (left : all_items_unread u ≡ item_given s l ∷ items_unread l) (right : all_items_unread v ≡ item_given t r ∷ items_unread r) where
-  compared_first : items_compared (all_items_unread u) (all_items_unread v) ≡ items_compared (item_given s l ∷ items_unread l) (item_given t r ∷ items_unread r)
-  compared_first = λ i. items_compared (left i) (right i)
-
-  abbrev apart : Comparison
-  apart = record { equal = false; left = segments_unread l; right = segments_unread r }
-
   -- the last items differ
   pub first_apart : false ≡ same_decoded s.now t.now → IsAnswer (items_compared (all_items_unread u) (all_items_unread v)) false l r
-  first_apart h = subst (λ c. IsAnswer c false l r) (sym compared_first)
-      (subst (λ b. IsAnswer (cond b (items_compared (items_unread l) (items_unread r)) apart) false l r) h (refl, refl, refl))
+  first_apart h = grind arith
 
   -- they do not, so the others decide
   pub first_same : (equal : Bool) (x y : Unread) → true ≡ same_decoded s.now t.now → IsAnswer (items_compared (items_unread l) (items_unread r)) equal x y
       → IsAnswer (items_compared (all_items_unread u) (all_items_unread v)) equal x y
-  first_same equal x y h answer = subst (λ c. IsAnswer c equal x y) (sym compared_first)
-      (subst (λ b. IsAnswer (cond b (items_compared (items_unread l) (items_unread r)) apart) equal x y) h answer)
+  first_same equal x y h answer = grind arith
 
 -- the same paths
 pub of_paths : (u v : Unread) (p q : PathValue) → path_unread u ≡ p → path_unread v ≡ q → (equal : Bool) (steps : ℕ) → IsCountedAnswer (path_unread u) (path_unread v) equal steps → IsCountedAnswer p q equal steps
@@ -103,11 +83,5 @@ counted_by_items u v flags equal left right answer before after read_of =
     let p = path_unread u in
     let q = path_unread v in
     let c : Comparison = items_compared (all_items_unread u) (all_items_unread v) in
-    let p_size = length-reverse p.segments in
-    let q_size = length-reverse q.segments in
-    let steps : steps_taken before after ≡ length p.segments - length (segments_unread left) + (length q.segments - length (segments_unread right)) =
-    omega (arith, p_size, q_size, read_of) in
-    let read : length p.segments - length c.left + (length q.segments - length c.right) ≡ steps_taken before after =
-    (λ i. length p.segments - length (sym answer.1 i) + (length q.segments - length (sym answer.2 i))) ∙ sym steps in
-    subst (λ n. IsCountedAnswer p q equal n) read
-    (subst (λ e. IsCountedAnswer p q e (length p.segments - length c.left + (length q.segments - length c.right))) (sym answer.0) (compared_same p q flags c refl))
+    let answered = compared_same p q flags c refl in
+    grind (arith, length-reverse p.segments, length-reverse q.segments)

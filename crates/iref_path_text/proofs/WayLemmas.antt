@@ -14,13 +14,13 @@ use Rattle.iref_model.proofs.LeadingLemmas.{divided_last}
 use Rattle.iref_path_text.specs.Spelling.{each_closed}
 use Rattle.iref_path_text.specs.Ways.{with_last}
 use Rattle.iref_path_text.proofs.SpellLemmas.{size-append, size-cons, size-parents}
+use Rattle.iref_path_text.proofs.SuffixLemmas.{size-drop}
 
 -- ---- all items but the last
 
 pub fewer_without_last : (list : List Text) → length (all_but_last list) ≤ length list
 fewer_without_last [] = omega arith
-fewer_without_last (s ∷ []) = omega arith
-fewer_without_last (s ∷ t ∷ rest) = omega (arith, fewer_without_last (t ∷ rest))
+fewer_without_last (s ∷ rest) = grind (arith, fewer_without_last rest)
 
 pub whole_divided : (list : List Text) → 0 < length list → list ≡ with_last list
 whole_divided [] some = absurd (omega (arith, some))
@@ -32,12 +32,8 @@ length-with_last list = length-append (all_but_last list) (last_or_empty list �
 -- the last item is taken of a list that has one
 pub last_taken : (list items left : List Text) (given : Option (Bor Text)) → items ≡ with_last list
     → MatchOption given ((items ≡ []) × (left ≡ [])) (λ s. items ≡ left ++ s.now ∷ []) → left ≡ all_but_last list
-last_taken list items left None e h =
-    let some = length-with_last list in
-    let none = ap length (sym e ∙ h.0) in
-    absurd (omega (arith, some, none))
-last_taken list items left (Some s) e h =
-    sym (all_but_last-snoc left s.now) ∙ ap all_but_last (sym h ∙ e) ∙ all_but_last-snoc (all_but_last list) (last_or_empty list)
+last_taken list items left None e h = grind (arith, length-with_last list)
+last_taken list items left (Some s) e h = grind (arith, all_but_last-snoc left s.now, all_but_last-snoc (all_but_last list) (last_or_empty list))
 
 -- ---- the way
 
@@ -45,32 +41,12 @@ module _ (directory list names items middle : List Text) (depth count common : �
     (items_are : items ≡ with_last list) (count_is : count ≡ length items) (middle_is : middle ≡ all_but_last list)
     (common_is : common ≡ common_prefix_len same_decoded names middle) where
   pub common_within : (common ≤ depth) × (common ≤ count)
-  common_within =
-      let within = common_prefix_len-le same_decoded names middle in
-      let above = within.0 in
-      let below = within.1 in
-      let size = ap length items_are ∙ length-with_last list in
-      let same = ap length middle_is in
-      (omega (arith, above, depth_is, common_is), omega (arith, below, size, same, count_is, common_is))
+  common_within = grind (arith, common_prefix_len-le, length-with_last)
 
   pub way_between : replicate (depth - common) (codes "..") ++ drop (length items - (count - common)) items ≡ steps_between directory list
-  way_between =
-      let shared = common_prefix_len same_decoded directory (all_but_last list) in
-      let same : common ≡ shared = common_is ∙ (λ i. common_prefix_len same_decoded (names_are i) (middle_is i)) in
-      let up : depth - common ≡ length directory - shared = λ i. (depth_is ∙ ap length names_are) i - same i in
-      let within = common_within.1 in
-      let down : length items - (count - common) ≡ shared = omega (arith, within, count_is, same) in
-      let most = (common_prefix_len-le same_decoded directory (all_but_last list)).1 in
-      (λ i. replicate (up i) (codes "..") ++ drop (down i) (items_are i))
-      ∙ ap (λ rest. replicate (length directory - shared) (codes "..") ++ rest) (drop-append-le shared (all_but_last list) (last_or_empty list ∷ []) most)
-      ∙ sym (append_assoc (replicate (length directory - shared) (codes "..")) (drop shared (all_but_last list)) (last_or_empty list ∷ []))
+  way_between = grind (arith, common_within, common_prefix_len-le, drop-append-le, append_assoc)
 
 -- ---- its size
-
-size-drop : (n : ℕ) (list : List Text) → length (each_closed (drop n list)) ≤ length (each_closed list)
-size-drop zero list = omega arith
-size-drop (suc n) [] = omega arith
-size-drop (suc n) (s ∷ rest) = omega (arith, size-drop n rest, size-cons s rest)
 
 size-with_last : (list : List Text) → length (each_closed (with_last list)) ≤ length (each_closed list) + 1
 size-with_last [] = omega arith
@@ -79,12 +55,4 @@ size-with_last (s ∷ rest) = let same = ap (λ items. length (each_closed items
 pub size-steps : (directory list : List Text) → length (each_closed (steps_between directory list)) ≤ 3 * length directory + length (each_closed list) + 1
 size-steps directory list =
     let shared = common_prefix_len same_decoded directory (all_but_last list) in
-    let climbs = length directory - shared in
-    let last = last_or_empty list ∷ [] in
-    let whole = size-append (replicate climbs (codes "..") ++ drop shared (all_but_last list)) last in
-    let front = size-append (replicate climbs (codes "..")) (drop shared (all_but_last list)) in
-    let up = size-parents climbs in
-    let down = size-drop shared (all_but_last list) in
-    let divided = size-append (all_but_last list) last in
-    let most = size-with_last list in
-    omega (arith, whole, front, up, down, divided, most)
+    grind (arith, size-append, size-parents (length directory - shared), size-drop shared (all_but_last list), size-with_last list)

@@ -8,9 +8,6 @@ use Rattle.iref_path_text.proofs.apart.behind_roots.Goals as goal
 
 pub returns-clause-steps : goal.returns-clause-steps
 returns-clause-steps c =
-    let none = or_parts c.has_dots.result c.has_dots-2.result c.if-has_dots.false in
-    dotless-steps _ _ c.in_ok-base.base.now c.in_ok-path.path.now
-    (strip_prefix_char slash c.args.base.now (Some c.in_ok-base.base) c.in_ok-base.ensures.cases (omega arith))
-    (strip_prefix_char slash c.args.path.now (Some c.in_ok-path.path) c.in_ok-path.ensures.cases (omega arith))
-    (ap has_dot_segment (sym c.as_bytes.ensures.value) ∙ sym c.has_dots.ensures ∙ none.0)
-    (ap has_dot_segment (sym c.as_bytes-2.ensures.value) ∙ sym c.has_dots-2.ensures ∙ none.1)
+    let base = strip_prefix_char slash c.args.base.now (Some c.in_ok-base.base) c.in_ok-base.ensures.cases (omega arith) in
+    let path = strip_prefix_char slash c.args.path.now (Some c.in_ok-path.path) c.in_ok-path.ensures.cases (omega arith) in
+    grind (arith, dotless-steps)

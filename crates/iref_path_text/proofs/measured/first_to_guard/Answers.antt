@@ -1,4 +1,4 @@
-use Rattle.std.proofs.Common.{[], sym, ap}
+use Rattle.std.proofs.Common.{arith, [], sym, ap}
 use Rattle.iref_grammar.specs.Grammar.{slash}
 use Rattle.iref_grammar.specs.Texts.{pieces_at}
 use Rattle.iref_path_text.specs.Remaining.{first_or}
@@ -10,4 +10,4 @@ pub returns-then-context : goal.returns-then-context
 returns-then-context c = λ absolute size. unguarded c.args.context absolute size c.args.text.now (first_or [] (pieces_at slash c.args.text.now)) c.if-context.true
 
 pub returns : goal.returns
-returns c = λ absolute size. ap (λ list. lead_in c.args.context absolute size (first_or [] list)) (sym c.first_segment.ensures)
+returns c = λ absolute size. grind arith

@@ -9,14 +9,12 @@ use Rattle.iref_path_text.proofs.path_text.directory_text.Goals as goal
 pub returns-in-Some-clause-text : goal.returns-in-Some-clause-text
 returns-in-Some-clause-text g c =
     let found = rfind_char slash c.args.path.now (Some c.in-Some.at) c.in-Some.ensures.cases (omega arith) in
-    let size : c.in-Some.at + 1 - 0 ≡ c.in-Some.at + 1 = omega arith in
-    c.range.ensures.value ∙ ap (λ n. take n c.args.path.now) size ∙ directory-cut c.args.path.now c.in-Some.at found.0 found.1 found.2
+    grind (arith, directory-cut c.args.path.now c.in-Some.at found.0 found.1 found.2)
 
 pub returns-in-Some-clause-path : goal.returns-in-Some-clause-path
 returns-in-Some-clause-path g c =
     let found = rfind_char slash c.args.path.now (Some c.in-Some.at) c.in-Some.ensures.cases (omega arith) in
-    let size : c.in-Some.at + 1 - 0 ≡ c.in-Some.at + 1 = omega arith in
-    ap (is_path g.C.CharSet.tests) (c.range.ensures.value ∙ ap (λ n. take n c.args.path.now) size) ∙ is_path-directory _ g.met.C.CharSet.above_ascii c.args.path.now c.in-Some.at found.0 found.1 c.requires
+    grind (arith, is_path-directory _ g.met.C.CharSet.above_ascii c.args.path.now c.in-Some.at found.0 found.1 c.requires)
 
 pub returns-in-None-clause-text : goal.returns-in-None-clause-text
 returns-in-None-clause-text g c = directory-uncut c.args.path.now (rfind_char slash c.args.path.now None c.in-None.ensures.cases (omega arith))

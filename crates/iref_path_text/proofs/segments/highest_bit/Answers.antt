@@ -4,13 +4,7 @@ use Rattle.std.proofs.lemmas.Nat.{leading_top}
 use Rattle.iref_path_text.proofs.segments.highest_bit.Goals as goal
 
 pub returns-clause-above : goal.returns-clause-above
-returns-clause-above c =
-    let top = leading_top 64 c.args.bits c.requires c.ranges.bits.fits in
-    let place : top.0 ≡ 63 - count_leading_zeros 64 c.args.bits = omega (arith, top.1) in
-    subst (λ n. 2 ^ n ≤ c.args.bits) place top.2
+returns-clause-above c = grind (arith, leading_top 64 c.args.bits c.requires c.ranges.bits.fits)
 
 pub returns-clause-below : goal.returns-clause-below
-returns-clause-below c =
-    let top = leading_top 64 c.args.bits c.requires c.ranges.bits.fits in
-    let place : suc top.0 ≡ 63 - count_leading_zeros 64 c.args.bits + 1 = omega (arith, top.1) in
-    subst (λ n. c.args.bits < 2 ^ n) place top.3
+returns-clause-below c = grind (arith, leading_top 64 c.args.bits c.requires c.ranges.bits.fits)

@@ -3,7 +3,7 @@ use Rattle.std.proofs.lemmas.Str.{IsCharBoundary-after_ascii}
 use Rattle.iref_grammar.specs.Grammar.{slash}
 use Rattle.iref_grammar.specs.Texts.{pieces_at}
 use Rattle.iref_path_text.specs.Slashes.{IsLastSlash, LacksSlashFrom}
-use Rattle.iref_path_text.proofs.SlashLemmas.{pieces-cut_last, pieces-uncut_last}
+use Rattle.iref_path_text.proofs.SlashLemmas.{pieces-cut_last, pieces-uncut}
 use Rattle.iref_path_text.proofs.segments.last_segment.Goals as goal
 
 pub range_from-requires : goal.range_from-requires
@@ -14,13 +14,10 @@ range_from-requires c =
 
 pub returns-in-Some : goal.returns-in-Some
 returns-in-Some c =
-    let text = c.args.text.now in
     let found = subst (λ bytes. IsLastSlash bytes c.in-Some.at) c.as_bytes.ensures.value c.in-Some.ensures in
-    let size : c.in-Some.at - 0 ≡ c.in-Some.at = omega arith in
-    let front : c.range.result.now ≡ take c.in-Some.at text = c.range.ensures.value ∙ ap (λ n. take n text) size in
-    let back = c.range_from.ensures.value in
-    pieces-cut_last text c.in-Some.at found ∙ (λ i. pieces_at slash (sym front i) ++ sym back i ∷ [])
+    grind (arith, pieces-cut_last c.args.text.now c.in-Some.at found)
 
 pub returns-in-None : goal.returns-in-None
 returns-in-None c =
-    pieces-uncut_last c.args.text.now (subst (λ bytes. LacksSlashFrom bytes 0) c.as_bytes.ensures.value c.in-None.ensures)
+    let none = subst (λ bytes. LacksSlashFrom bytes 0) c.as_bytes.ensures.value c.in-None.ensures in
+    pieces-uncut c.args.text.now (λ i within. none i (omega arith) within)

@@ -11,22 +11,14 @@ use Rattle.iref_path_text.proofs.SpellLemmas.{normal_size, normalized-spelled, r
 use Rattle.iref_path_text.proofs.spell.normal_bytes.Goals as goal
 
 pub read-requires-clause-fits : goal.read-requires-clause-fits
-read-requires-clause-fits c =
-    let size = read_size c.args.path.now _ c.split_root.ensures.path in
-    omega (arith, size)
+read-requires-clause-fits c = omega (arith, read_size c.args.path.now _ c.split_root.ensures.path)
 
 pub of_segments-requires : goal.of_segments-requires
-of_segments-requires c =
-    let size = read_size c.args.path.now _ c.split_root.ensures.path in
-    omega (arith, size)
+of_segments-requires c = omega (arith, read_size c.args.path.now _ c.split_root.ensures.path)
 
 pub stacked_bytes-requires-clause-countable : goal.stacked_bytes-requires-clause-countable
 stacked_bytes-requires-clause-countable c =
-    let text = read_size c.args.path.now _ c.split_root.ensures.path in
-    let normal = normal_size (path_of c.args.absolute c.split_root.result.1) in
-    let size = c.read.ensures.size in
-    let short = c.lead_in-lead.ensures.short in
-    omega (arith, text, normal, size, short)
+    omega (arith, read_size c.args.path.now _ c.split_root.ensures.path, normal_size (path_of c.args.absolute c.split_root.result.1))
 
 pub returns-then-stack : goal.returns-then-stack
 unfolding stacked_text
@@ -34,12 +26,7 @@ returns-then-stack c =
     let stack = c.read.new.self in
     let list = in_order c.as_slice.result.now in
     let same = ap in_order c.as_slice.ensures ∙ c.read.ensures.listed c.if-stack.true in
-    let whole = c.read.ensures.size in
-    let listed = ap (λ items. length (each_closed items)) same in
-    let size : stack.size ≡ length (each_closed list) = omega (arith, whole, listed) in
-    subst (λ text. IfOk c.stacked_bytes.result (λ bytes. bytes.items ≡ text))
-    (ap (λ lead. lead ++ join_with_byte slash list) c.lead_in-lead.ensures.text
-    ∙ normalized-spelled c.args.context (path_of c.args.absolute c.split_root.result.1) list stack.size stack.first.now same
-    size (c.read.ensures.first ∙ ap (first_or []) (sym same))
-    ∙ (λ i. spell_path (normalized c.args.context (record (sym c.split_root.ensures.path i) { absolute = c.args.absolute }))))
-    c.stacked_bytes.ensures
+    let size : stack.size ≡ length (each_closed list) = grind arith in
+    let first : stack.first.now ≡ first_or [] list = grind arith in
+    let spelled = normalized-spelled c.args.context (path_of c.args.absolute c.split_root.result.1) list stack.size stack.first.now same size first in
+    grind arith

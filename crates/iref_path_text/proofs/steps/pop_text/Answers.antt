@@ -1,4 +1,4 @@
-use Rattle.std.proofs.Common.{[], ◌+◌, length, refl, sym, ap, ◌∙◌, ◌≡◌, cond}
+use Rattle.std.proofs.Common.{arith, [], ◌+◌, length, refl, sym, ap, ◌∙◌, ◌≡◌, cond}
 use Rattle.std.specs.Prelude.{◌==◌, Some, None, codes}
 use Rattle.iref_grammar.specs.PathValue.{read_path}
 use Rattle.iref_path_text.proofs.StepTextLemmas.{cut_at_root, root_kept}
@@ -11,45 +11,39 @@ returns-then-absolute-clause-keep c = (cut_at_root c.args.path.now c.utf8.path _
 
 pub returns-then-absolute-clause-text : goal.returns-then-absolute-clause-text
 returns-then-absolute-clause-text c =
-    let path = c.args.path.now in
-    let e = read_none path _ _ _ c.split_root-absolute.ensures.path c.in_default.is c.if-absolute.true in
+    let e = read_none c.args.path.now _ _ _ c.split_root-absolute.ensures.path c.in_default.is c.if-absolute.true in
     let root = ap (λ b. record { absolute = b; segments = [] }) (sym c.if-absolute.true) in
-    root_kept path c.utf8.path _ _ c.split_root-absolute.ensures.path _ c.from-root.ensures c.args.close.now _ (popped_root c.args.context (read_path path) e ∙ e ∙ root)
+    root_kept c.args.path.now c.utf8.path _ _ c.split_root-absolute.ensures.path _ c.from-root.ensures c.args.close.now _ (popped_root c.args.context _ e ∙ e ∙ root)
 
 pub returns-else-absolute-clause-text : goal.returns-else-absolute-clause-text
 returns-else-absolute-clause-text c =
-    let path = c.args.path.now in
-    let e = read_none path _ _ _ c.split_root-absolute.ensures.path c.in_default.is c.if-absolute.false in
-    c.push_text.ensures.text ∙ push_closed c.args.context (codes "..") c.args.close.now (read_path path) _ (popped_nothing c.args.context (read_path path) e)
+    let e = read_none c.args.path.now _ _ _ c.split_root-absolute.ensures.path c.in_default.is c.if-absolute.false in
+    c.push_text.ensures.text ∙ push_closed c.args.context (codes "..") c.args.close.now _ _ (popped_nothing c.args.context _ e)
 
 pub returns-then-eq-clause-text : goal.returns-then-eq-clause-text
 returns-then-eq-clause-text c =
-    let path = c.args.path.now in
-    let e = read_last path _ _ c.in-Some.segments c.last_segment.result.0 c.last_segment.result.1.now c.split_root-absolute.ensures.path c.in-Some.is c.last_segment.ensures in
-    c.push_text-then-eq.ensures.text ∙ push_closed c.args.context (codes "..") c.args.close.now (read_path path) _ (popped_parent c.args.context (read_path path) _ _ c.last_segment.result.1.now e (sym c.if-eq.ensures))
+    let e = read_last c.args.path.now _ _ c.in-Some.segments c.last_segment.result.0 c.last_segment.result.1.now c.split_root-absolute.ensures.path c.in-Some.is c.last_segment.ensures in
+    c.push_text-then-eq.ensures.text ∙ push_closed c.args.context (codes "..") c.args.close.now _ _ (popped_parent c.args.context _ _ _ _ e (sym c.if-eq.ensures))
 
 pub returns-after-is_empty-clause-keep : goal.returns-after-is_empty-clause-keep
 returns-after-is_empty-clause-keep c =
-    let path = c.args.path.now in
-    let e = read_last path _ _ c.in-Some.segments c.last_segment.result.0 c.last_segment.result.1.now c.split_root-absolute.ensures.path c.in-Some.is c.last_segment.ensures in
-    let f = read_by path _ _ (Some c.in-Some-front.front) _ e c.in-Some-front.is in
-    (front_cut c.args.context path c.in-Some-front.front.now c.last_segment.result.1.now _ f _ (ap (λ n. n + length c.in-Some-front.front.now) c.from-root.ensures)).range
+    let e = read_last c.args.path.now _ _ c.in-Some.segments c.last_segment.result.0 c.last_segment.result.1.now c.split_root-absolute.ensures.path c.in-Some.is c.last_segment.ensures in
+    let f = read_by c.args.path.now _ _ (Some c.in-Some-front.front) c.last_segment.result.1.now e c.in-Some-front.is in
+    (front_cut c.args.context c.args.path.now c.in-Some-front.front.now _ _ f _ (ap (λ n. n + length c.in-Some-front.front.now) c.from-root.ensures)).range
 
 pub returns-after-is_empty-clause-text : goal.returns-after-is_empty-clause-text
 returns-after-is_empty-clause-text c =
-    let path = c.args.path.now in
     let front = c.in-Some-front.front.now in
-    let e = read_last path _ _ c.in-Some.segments c.last_segment.result.0 c.last_segment.result.1.now c.split_root-absolute.ensures.path c.in-Some.is c.last_segment.ensures in
-    let f = read_by path _ _ (Some c.in-Some-front.front) _ e c.in-Some-front.is in
-    let guard : c.if-is_empty.result.now ≡ cond (length front == 0) (codes "./") [] = elim c.if-is_empty.branch [ then-is_empty w ↦ rw (w.result-is, sym c.is_empty.ensures ∙ w.if-is_empty.true) refl | else-is_empty w ↦ rw (w.result-is, sym c.is_empty.ensures ∙ w.if-is_empty.false) refl ] in
-    front_text c.args.context path front c.last_segment.result.1.now _ f (sym c.if-eq.ensures) _ _ c.args.close.now (ap (λ n. n + length front) c.from-root.ensures) guard
+    let e = read_last c.args.path.now _ _ c.in-Some.segments c.last_segment.result.0 c.last_segment.result.1.now c.split_root-absolute.ensures.path c.in-Some.is c.last_segment.ensures in
+    let f = read_by c.args.path.now _ _ (Some c.in-Some-front.front) c.last_segment.result.1.now e c.in-Some-front.is in
+    let guard : c.if-is_empty.result.now ≡ cond (length front == 0) (codes "./") [] = grind arith in
+    front_text c.args.context c.args.path.now front _ _ f (sym c.if-eq.ensures) _ _ c.args.close.now (ap (λ n. n + length front) c.from-root.ensures) guard
 
 pub returns-in-None-clause-keep : goal.returns-in-None-clause-keep
 returns-in-None-clause-keep c = (cut_at_root c.args.path.now c.utf8.path _ _ c.split_root-absolute.ensures.path _ c.from-root.ensures).range
 
 pub returns-in-None-clause-text : goal.returns-in-None-clause-text
 returns-in-None-clause-text c =
-    let path = c.args.path.now in
-    let e = read_last path _ _ c.in-Some.segments c.last_segment.result.0 c.last_segment.result.1.now c.split_root-absolute.ensures.path c.in-Some.is c.last_segment.ensures in
-    let f = read_by path _ _ None _ e c.in-None.is in
-    root_kept path c.utf8.path _ _ c.split_root-absolute.ensures.path _ c.from-root.ensures c.args.close.now _ (none_left c.args.context (read_path path) c.last_segment.result.1.now _ f (sym c.if-eq.ensures))
+    let e = read_last c.args.path.now _ _ c.in-Some.segments c.last_segment.result.0 c.last_segment.result.1.now c.split_root-absolute.ensures.path c.in-Some.is c.last_segment.ensures in
+    let f = read_by c.args.path.now _ _ None c.last_segment.result.1.now e c.in-None.is in
+    root_kept c.args.path.now c.utf8.path _ _ c.split_root-absolute.ensures.path _ c.from-root.ensures c.args.close.now _ (none_left c.args.context _ _ _ f (sym c.if-eq.ensures))

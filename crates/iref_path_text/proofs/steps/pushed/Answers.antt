@@ -7,17 +7,14 @@ use Rattle.iref_path_text.proofs.steps.pushed.Goals as goal
 
 pub returns-then-eq : goal.returns-then-eq
 returns-then-eq g c =
-    let path = c.args.path.now in
-    steps_as g.C.CharSet.tests c.args.context _ _ path _ (pushed_dot c.args.context c.args.segment.now (read_path path) (sym c.if-eq.ensures)) c.closed.ensures
+    steps_as g.C.CharSet.tests c.args.context _ _ c.args.path.now _ (pushed_dot c.args.context c.args.segment.now _ (sym c.if-eq.ensures)) c.closed.ensures
 
 pub returns-then-eq-2 : goal.returns-then-eq-2
 returns-then-eq-2 g c =
-    let path = c.args.path.now in
-    let segment = c.args.segment.now in
-    steps_by g.C.CharSet.tests g.met.C.CharSet.above_ascii c.args.context _ path _ (pushed-step g.C.CharSet.tests c.args.context (read_path path) segment c.requires.segment) c.requires.path c.pop_text.ensures.keep
-    (c.pop_text.ensures.text ∙ closed_spelled c.args.context _ ∙ ap spell_path (sym (pushed_parent c.args.context segment (read_path path) (sym c.if-eq.ensures) (sym c.if-eq-2.ensures))))
+    let step = pushed-step g.C.CharSet.tests c.args.context (read_path c.args.path.now) c.args.segment.now c.requires.segment in
+    steps_by g.C.CharSet.tests g.met.C.CharSet.above_ascii c.args.context _ c.args.path.now _ step c.requires.path c.pop_text.ensures.keep
+    (c.pop_text.ensures.text ∙ closed_spelled c.args.context _ ∙ ap spell_path (sym (pushed_parent c.args.context c.args.segment.now _ (sym c.if-eq.ensures) (sym c.if-eq-2.ensures))))
 
 pub returns-else-eq-2 : goal.returns-else-eq-2
 returns-else-eq-2 g c =
-    let path = c.args.path.now in
-    steps_as g.C.CharSet.tests c.args.context _ _ path _ (pushed_name c.args.context c.args.segment.now (read_path path) (sym c.if-eq.ensures) (sym c.if-eq-2.ensures)) c.lazy_pushed.ensures
+    steps_as g.C.CharSet.tests c.args.context _ _ c.args.path.now _ (pushed_name c.args.context c.args.segment.now _ (sym c.if-eq.ensures) (sym c.if-eq-2.ensures)) c.lazy_pushed.ensures

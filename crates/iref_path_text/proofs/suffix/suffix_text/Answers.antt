@@ -1,4 +1,4 @@
-use Rattle.std.proofs.Common.{ap, sym, ◌∙◌}
+use Rattle.std.proofs.Common.{arith, ap, sym, ◌∙◌}
 use Rattle.std.specs.Prelude.{Some}
 use Rattle.iref_grammar.specs.PathValue.{read_path}
 use Rattle.iref_grammar.specs.Tests.{is_path}
@@ -8,15 +8,12 @@ use Rattle.iref_path_text.proofs.suffix.suffix_text.Goals as goal
 
 pub to_text-requires-clause-path : goal.to_text-requires-clause-path
 to_text-requires-clause-path g c =
-    let left = suffix-reads g.C.CharSet.tests g.met.C.CharSet.above_ascii (read_path c.args.prefix.now) c.args.path.now (way_path c.in-Some.rest) c.requires (sym c.in-Some.ensures.rest) in
-    ap (is_path g.C.CharSet.tests) c.relative.ensures.text ∙ left.1
+    grind (arith, suffix-reads g.C.CharSet.tests g.met.C.CharSet.above_ascii (read_path c.args.prefix.now) c.args.path.now (way_path c.in-Some.rest) c.requires (sym c.in-Some.ensures.rest))
 
 pub returns-clause-value : goal.returns-clause-value
 returns-clause-value g c =
-    let left = suffix-reads g.C.CharSet.tests g.met.C.CharSet.above_ascii (read_path c.args.prefix.now) c.args.path.now (way_path c.in-Some.rest) c.requires (sym c.in-Some.ensures.rest) in
-    ap (λ text. Some (read_path text)) (c.in_ok-text.ensures ∙ c.relative.ensures.text) ∙ ap Some left.0 ∙ c.in-Some.ensures.rest
+    grind (arith, suffix-reads g.C.CharSet.tests g.met.C.CharSet.above_ascii (read_path c.args.prefix.now) c.args.path.now (way_path c.in-Some.rest) c.requires (sym c.in-Some.ensures.rest))
 
 pub returns-clause-path : goal.returns-clause-path
 returns-clause-path g c =
-    let left = suffix-reads g.C.CharSet.tests g.met.C.CharSet.above_ascii (read_path c.args.prefix.now) c.args.path.now (way_path c.in-Some.rest) c.requires (sym c.in-Some.ensures.rest) in
-    ap (is_path g.C.CharSet.tests) (c.in_ok-text.ensures ∙ c.relative.ensures.text) ∙ left.1
+    grind (arith, suffix-reads g.C.CharSet.tests g.met.C.CharSet.above_ascii (read_path c.args.prefix.now) c.args.path.now (way_path c.in-Some.rest) c.requires (sym c.in-Some.ensures.rest))

@@ -5,8 +5,4 @@ use Rattle.iref_path_text.proofs.SpellLemmas.{length-join}
 use Rattle.iref_path_text.proofs.body.Body.write_before.Goals as goal
 
 pub write_items-requires-clause-room : goal.write_items-requires-clause-room
-write_items-requires-clause-room c =
-    let same = ap (λ body. length (body_text body)) c.in-Items.is in
-    let joined = length-join (way_left c.in-Items.items) in
-    let room = c.requires.room in
-    omega (arith, same, joined, room)
+write_items-requires-clause-room c = grind (arith, length-join)

@@ -1,10 +1,10 @@
-use Rattle.std.proofs.Common.{true, false, ◌∙◌}
+use Rattle.std.proofs.Common.{arith, true, false, ◌∙◌}
 use Rattle.iref_path_text.specs.Unread.{items_unread, segments_unread}
 use Rattle.iref_path_text.proofs.UnreadLemmas.{all_after_read, first_given, first_none}
 use Rattle.iref_path_text.proofs.equality.Unread.first_back.Goals as goal
 
 pub returns-in_default-clause-item : goal.returns-in_default-clause-item
-returns-in_default-clause-item c = first_none _ c.read.new.self c.in_default.ensures.segment c.requires.whole.none_open
+returns-in_default-clause-item c = grind (arith, first_none)
 
 pub returns-then-name_stays-clause-item : goal.returns-then-name_stays-clause-item
 unfolding items_unread

@@ -8,25 +8,16 @@ use Rattle.iref_path_text.proofs.equality.Unread.next_back.Goals as goal
 
 pub returns-then-name_stays-clause-item : goal.returns-then-name_stays-clause-item
 unfolding items_unread
-returns-then-name_stays-clause-item c =
-    let v = c.read.new.self in
-    sym c.loop-segment.invariant.same ∙ after_read _ v _ c.in-Some.ensures.segment
-    ∙ name_given v.absolute v.open_parents _ c.in-Some.segment.now (segments_unread v) c.if-name_stays.ensures.counted c.if-name_stays.ensures.stays
+returns-then-name_stays-clause-item c = grind (arith, after_read, name_given)
 
 pub loop-segment-preserved : goal.loop-segment-preserved
 unfolding items_unread
-loop-segment-preserved c =
-    let v = c.read.new.self in
-    let so_far = c.loop-segment.invariant.countable in
-    let read = ap length c.in-Some.ensures.segment.segment in
-    let most = counted-most (is_dot_dot c.in-Some.segment.now) (is_name c.in-Some.segment.now) v.open_parents in
-    record {
-      same = sym (sym c.loop-segment.invariant.same ∙ after_read _ v _ c.in-Some.ensures.segment
-          ∙ none_given v.absolute v.open_parents _ c.in-Some.segment.now (segments_unread v) c.if-name_stays.ensures.counted c.if-name_stays.ensures.stays);
-      countable = omega (arith, so_far, read, c.in-Some.ensures.segment.open_parents, c.if-name_stays.ensures.counted, most);
-      room = search rules;
-      counted = search rules;
-    }
+loop-segment-preserved c = record {
+  same = grind (arith, after_read, none_given);
+  countable = grind (arith, counted-most);
+  room = search rules;
+  counted = search rules;
+}
 
 pub returns-then-self-clause-item : goal.returns-then-self-clause-item
 returns-then-self-clause-item c =
@@ -39,7 +30,4 @@ returns-then-self-clause-item c =
 
 pub returns-clause-item : goal.returns-clause-item
 unfolding items_unread
-returns-clause-item c =
-    let v = c.read.new.self in
-    sym c.loop-segment.invariant.same ∙ after_none _ v c.in_default.ensures.segment
-    ∙ gives_parent v.absolute v.open_parents _ c.in_default.ensures.segment.segment.1 c.if-self.false c.if-self-eq0.false
+returns-clause-item c = grind (arith, after_none, gives_parent)

@@ -11,19 +11,10 @@ use Rattle.iref_path_text.proofs.SpellLemmas.{length-join, list_size, normal_siz
 use Rattle.iref_path_text.proofs.measured.MeasuredPath.of_segments.Goals as goal
 
 pub dotless-requires-clause-room : goal.dotless-requires-clause-room
-dotless-requires-clause-room c =
-    let size = both_size c.args.front c.in-Some.back.now in
-    let same = ap (λ back. length (each_closed (merged_list c.args.front back))) c.in-Some.is in
-    let room = c.requires in
-    omega (arith, size, same, room)
+dotless-requires-clause-room c = grind (arith, both_size)
 
 pub all-requires-clause-countable : goal.all-requires-clause-countable
-all-requires-clause-countable c =
-    let most = list_size (merged_left c.new-all.result.items) in
-    let size = normal_size (merged_path c.args.absolute c.args.front c.args.back) in
-    let same = ap (λ list. length (each_closed list)) c.new-all.ensures.items in
-    let room = c.requires in
-    omega (arith, most, size, same, room)
+all-requires-clause-countable c = grind (arith, list_size (merged_left c.new-all.result.items), normal_size)
 
 pub returns-clause-text : goal.returns-clause-text
 unfolding measured_text
@@ -35,14 +26,7 @@ returns-clause-text c =
     (c.new-all.ensures.first ∙ ap (first_or []) (sym c.all.ensures.items))
 
 pub returns-clause-measured : goal.returns-clause-measured
-returns-clause-measured c =
-    let items = way_left c.all.result in
-    let size = normal_size (merged_path c.args.absolute c.args.front c.args.back) in
-    let same = ap (λ list. length (each_closed list)) (c.all.ensures.items ∙ c.new-all.ensures.items) in
-    let joined = length-join items in
-    let short = c.lead_in-lead.ensures.short in
-    let room = c.requires in
-    record {
-      body = (c.all.ensures.sound, c.new-all.ensures.size ∙ ap (λ list. length (each_closed list)) (sym c.all.ensures.items));
-      countable = omega (arith, size, same, joined, room, short);
-    }
+returns-clause-measured c = record {
+  body = (c.all.ensures.sound, grind arith);
+  countable = grind (arith, normal_size, length-join);
+}

@@ -8,18 +8,10 @@ use Rattle.iref_path_text.proofs.measured.MeasuredPath.relative.Goals as goal
 
 pub returns-clause-text : goal.returns-clause-text
 unfolding measured_text
-returns-clause-text c =
-    let items = way_left c.args.items in
-    ap (λ lead. lead ++ join_with_byte slash items) c.lead_in-lead.ensures.text
-    ∙ relative-spelled items c.measure-size.result.0 c.measure-size.result.1.now c.measure-size.ensures.size c.measure-size.ensures.first
+returns-clause-text c = grind (arith, relative-spelled)
 
 pub returns-clause-measured : goal.returns-clause-measured
-returns-clause-measured c =
-    let size = c.measure-size.ensures.size in
-    let joined = length-join (way_left c.args.items) in
-    let short = c.lead_in-lead.ensures.short in
-    let room = c.requires.room in
-    record {
-      body = (c.requires.sound, size);
-      countable = omega (arith, joined, short, room);
-    }
+returns-clause-measured c = record {
+  body = (c.requires.sound, c.measure-size.ensures.size);
+  countable = omega (arith, length-join (way_left c.args.items));
+}

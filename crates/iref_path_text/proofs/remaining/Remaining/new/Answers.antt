@@ -5,17 +5,13 @@ use Rattle.iref_path_text.proofs.SpellLemmas.{read_size}
 use Rattle.iref_path_text.proofs.remaining.Remaining.new.Goals as goal
 
 pub new-all-requires : goal.new-all-requires
-new-all-requires c =
-    let size = read_size c.args.path.now _ c.split_root-absolute.ensures.path in
-    omega (arith, size)
+new-all-requires c = omega (arith, read_size c.args.path.now _ c.split_root-absolute.ensures.path)
 
 pub returns-clause-items : goal.returns-clause-items
-returns-clause-items c =
-    behind-left c.new-all.result.items (c.new-all.ensures.behind refl) ∙ c.new-all.ensures.items ∙ ap normal_segments (sym c.split_root-absolute.ensures.path)
+returns-clause-items c = grind (arith, behind-left)
 
 pub returns-clause-count : goal.returns-clause-count
-returns-clause-count c =
-    c.new-all.ensures.count ∙ ap (λ items. length items) (sym (behind-left c.new-all.result.items (c.new-all.ensures.behind refl)))
+returns-clause-count c = grind (arith, behind-left)
 
 pub returns-clause-sound : goal.returns-clause-sound
 returns-clause-sound c = behind-sound c.new-all.result.items (c.new-all.ensures.behind refl) c.new-all.ensures.sound

@@ -13,18 +13,12 @@ use Rattle.iref_path_text.proofs.remaining.way.directory.Goals as goal
 
 pub survey-names-requires : goal.survey-names-requires
 survey-names-requires c =
-    let front = pieces_if_some c.split_root.result.1 in
     let rest = ap (λ list. length (each_closed list)) c.without_last-rest.ensures in
-    let fewer = last_size front in
-    let all = read_size c.args.path.now _ c.split_root.ensures.path in
-    omega (arith, rest, fewer, all)
+    omega (arith, rest, last_size (pieces_if_some c.split_root.result.1), read_size c.args.path.now _ c.split_root.ensures.path)
 
 pub returns-clause-items : goal.returns-clause-items
 unfolding normal_left
-returns-clause-items c =
-    let rest = pieces_if_some c.without_last-rest.result in
-    (λ i. normal_left (c.all.ensures i)) ∙ append-nil (staying_before rest 0) ∙ sym (staying_names-is rest)
-    ∙ ap staying_names c.without_last-rest.ensures ∙ ap directory_names (sym c.split_root.ensures.path)
+returns-clause-items c = grind (arith, append-nil, staying_names-is)
 
 pub returns-clause-sound : goal.returns-clause-sound
 returns-clause-sound c =
@@ -34,9 +28,4 @@ returns-clause-sound c =
     subst IsSound (sym c.all.ensures) (record { countable = omega (arith, rest, fewer, all); settled = refl })
 
 pub returns-clause-fewer : goal.returns-clause-fewer
-returns-clause-fewer c =
-    let rest = ap length c.without_last-rest.ensures in
-    let fewer = fewer_without_last (pieces_if_some c.split_root.result.1) in
-    let all = c.split_root.ensures.fewer in
-    let names = c.survey-names.ensures.fewer in
-    omega (arith, rest, fewer, all, names)
+returns-clause-fewer c = grind (arith, fewer_without_last)

@@ -8,31 +8,16 @@ use Rattle.iref_path_text.proofs.remaining.way.Way.between.Goals as goal
 
 pub overflow_sub-depth : goal.overflow_sub-depth
 overflow_sub-depth c =
-    let directory = directory_names (read_path c.args.base.now) in
-    let list = normal_segments (read_path c.args.path.now) in
-    let items = normal_left c.some_items-count.result.0 in
-    let middle = normal_left c.next_back.new.self in
-    (common_within directory list (normal_left c.directory-depth.result.0) items middle c.directory-depth.result.1 c.some_items-count.result.1 c.compare_lists-common.result.0
-    c.directory-depth.ensures.items c.directory-depth.ensures.count c.some_items-count.ensures.items c.some_items-count.ensures.count
-    (last_taken list items middle c.next_back.result c.some_items-count.ensures.items c.next_back.ensures.item) c.compare_lists-common.ensures.common).0
+    (common_within _ _ _ _ _ _ _ _ c.directory-depth.ensures.items c.directory-depth.ensures.count c.some_items-count.ensures.items c.some_items-count.ensures.count
+    (last_taken _ _ _ c.next_back.result c.some_items-count.ensures.items c.next_back.ensures.item) c.compare_lists-common.ensures.common).0
 
 pub overflow_sub-count-2 : goal.overflow_sub-count-2
 overflow_sub-count-2 c =
-    let directory = directory_names (read_path c.args.base.now) in
-    let list = normal_segments (read_path c.args.path.now) in
-    let items = normal_left c.some_items-count.result.0 in
-    let middle = normal_left c.next_back.new.self in
-    (common_within directory list (normal_left c.directory-depth.result.0) items middle c.directory-depth.result.1 c.some_items-count.result.1 c.compare_lists-common.result.0
-    c.directory-depth.ensures.items c.directory-depth.ensures.count c.some_items-count.ensures.items c.some_items-count.ensures.count
-    (last_taken list items middle c.next_back.result c.some_items-count.ensures.items c.next_back.ensures.item) c.compare_lists-common.ensures.common).1
+    (common_within _ _ _ _ _ _ _ _ c.directory-depth.ensures.items c.directory-depth.ensures.count c.some_items-count.ensures.items c.some_items-count.ensures.count
+    (last_taken _ _ _ c.next_back.result c.some_items-count.ensures.items c.next_back.ensures.item) c.compare_lists-common.ensures.common).1
 
 pub returns-clause-items : goal.returns-clause-items
 returns-clause-items c =
-    let directory = directory_names (read_path c.args.base.now) in
-    let list = normal_segments (read_path c.args.path.now) in
-    let items = normal_left c.some_items-count.result.0 in
-    let middle = normal_left c.next_back.new.self in
     c.new.ensures.items
-    ∙ way_between directory list (normal_left c.directory-depth.result.0) items middle c.directory-depth.result.1 c.some_items-count.result.1 c.compare_lists-common.result.0
-    c.directory-depth.ensures.items c.directory-depth.ensures.count c.some_items-count.ensures.items c.some_items-count.ensures.count
-    (last_taken list items middle c.next_back.result c.some_items-count.ensures.items c.next_back.ensures.item) c.compare_lists-common.ensures.common
+    ∙ way_between _ _ _ _ _ _ _ _ c.directory-depth.ensures.items c.directory-depth.ensures.count c.some_items-count.ensures.items c.some_items-count.ensures.count
+    (last_taken _ _ _ c.next_back.result c.some_items-count.ensures.items c.next_back.ensures.item) c.compare_lists-common.ensures.common
