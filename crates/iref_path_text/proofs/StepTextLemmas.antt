@@ -1,8 +1,8 @@
 -- The texts that the steps of a path leave.
-use Rattle.std.proofs.Common.{◌≡◌, ℕ, Bool, true, false, not, cond, ◌||◌, ◌&&◌, List, [], ◌∷◌, ◌++◌, length, take, refl, sym, ap, subst, ◌∙◌, append_assoc, arith, get_or, length-append, inl, inr, IsUtf8}
+use Rattle.std.proofs.Common.{◌≡◌, ℕ, Bool, true, false, cond, ◌||◌, List, [], ◌∷◌, ◌++◌, length, take, refl, sym, ap, subst, ◌∙◌, append_assoc, arith, length-append, IsUtf8}
 use mathlib.Core.Bool.{true≢false}
 use mir.Val.{bool_byte}
-use Rattle.std.specs.Prelude.{◌==◌, codes, Option, is_none, is_some}
+use Rattle.std.specs.Prelude.{◌==◌, Option, is_some}
 use Rattle.std.specs.Borrow.{Bor}
 use Rattle.std.specs.List.{join_with_byte}
 use Rattle.std.specs.Char.{char_set_contains}
@@ -11,12 +11,12 @@ use Rattle.std.proofs.lemmas.List.{append-nil, take_all, take_at}
 use Rattle.std.proofs.Math.Seq.{get_or-append_seam}
 use Rattle.std.specs.Str.{IsCharBoundary}
 use Rattle.std.proofs.lemmas.Str.{IsCharBoundary-start, IsCharBoundary-before_ascii, IsCharBoundary-after_ascii}
-use Rattle.std.proofs.lemmas.Bool.Decides.{nat_tests, eqb_tells}
+use Rattle.std.proofs.lemmas.Bool.Decides.{nat_tests}
 use Rattle.iref_grammar.specs.declared.context.PathContext.{PathContext}
 use Rattle.iref_grammar.specs.Rules.{Text}
 use Rattle.iref_grammar.specs.Grammar.{slash, colon}
 use Rattle.iref_grammar.specs.Texts.{is_empty}
-use Rattle.iref_grammar.specs.PathValue.{PathValue, read_path, spell_path, segments_of}
+use Rattle.iref_grammar.specs.PathValue.{PathValue, read_path, spell_path}
 use Rattle.iref_grammar.proofs.PathLemmas.{read_path-reads}
 use Rattle.iref_path_text.proofs.SlashLemmas.{is_empty-pieces}
 use Rattle.iref_model.specs.Guard.{guarded}
@@ -54,17 +54,8 @@ unclosed_spelled p = grind (arith, common_steps)
 -- ---- of a text
 
 module _ (context : PathContext) (path close : Text) (absolute : Bool) (segments : Option (Bor Text)) (e : read_path path ≡ record { absolute = absolute; segments = pieces_if_some segments }) where
-  is_empty-read : is_empty (read_path path).segments ≡ is_none segments
-  is_empty-read = ap (λ (p : PathValue). is_empty p.segments) e ∙ is_empty-pieces segments
-
-  pub first_text : (s : Text) → is_some segments ≡ false → take 0 path ++ (pushed_lead context absolute s ++ s ++ close) ≡ spell_path (lazy_pushed context s (read_path path)) ++ close
-  first_text s h = grind (arith, append_assoc, is_empty-read, first_pushed context (read_path path) s)
-
-  pub next_text : (s : Text) → is_some segments ≡ true → take (length path) path ++ ((slash ∷ []) ++ s ++ close) ≡ spell_path (lazy_pushed context s (read_path path)) ++ close
-  next_text s h = grind (arith, append_assoc, take_all (length path) path, (read_path-reads path).spelled, is_empty-read, next_pushed context (read_path path) s)
-
   pub closed_text : (some : Bool) → some ≡ is_some segments → close ≡ cond some (slash ∷ []) [] → take (length path) path ++ close ≡ spell_path (closed_path context (read_path path))
-  closed_text some h k = grind (arith, append-nil, take_all (length path) path, (read_path-reads path).spelled, is_empty-read, closed_spelled context (read_path path))
+  closed_text some h k = grind (arith, append-nil, take_all (length path) path, (read_path-reads path).spelled, is_empty-pieces segments, closed_spelled context (read_path path))
 
 -- a colon alone decides where no delimiter stands before
 pub guard_by_colon : (context : PathContext) (rooted : Bool) (s : Text) (has : Bool) → false ≡ (length s == 0) → (rooted || context.has_scheme) ≡ false → has ≡ char_set_contains s colon → has ≡ first_needs_guard context rooted s
@@ -78,33 +69,23 @@ pub record IsCut (path kept : Text) (n : ℕ) : Type 0 where
   pub range : IsCharBoundary path n
 
 pub cut_at_slash : (path front back : Text) (n : ℕ) → path ≡ front ++ slash ∷ back → length front ≡ n → IsCut path front n
-cut_at_slash path front back n e size =
-    let whole = ap length e ∙ length-append front (slash ∷ back) in
-    record {
-      taken = ap (take n) e ∙ take_at front (slash ∷ back) n size;
-      range = IsCharBoundary-before_ascii path n (omega (arith, size, whole))
-          (let here : get_or path n 0 ≡ slash = (λ i. get_or (e i) (sym size i) 0) ∙ get_or-append_seam front slash back 0 in omega (arith, here));
-    }
-
-pub root_of_path : (path : Text) (absolute : Bool) → (read_path path).absolute ≡ absolute → (rest : Text) × (path ≡ cond absolute (slash ∷ []) [] ++ rest)
-unfolding read_path
-root_of_path path false e = (path, refl)
-root_of_path [] true e = absurd (true≢false (sym e))
-root_of_path (c ∷ cs) true e = (cs, grind (arith, nat_tests))
+cut_at_slash path front back n e size = record {
+  taken = grind (arith, take_at);
+  range = IsCharBoundary-before_ascii path n (grind (arith, length-append)) (grind (arith, get_or-append_seam front slash back 0));
+}
 
 -- its root, without its segments
 abbrev pub root_text : Bool → Text
 root_text absolute = cond absolute (slash ∷ []) []
 
 at_root : (path : Text) (absolute : Bool) → IsUtf8 path → (read_path path).absolute ≡ absolute → IsCut path (root_text absolute) (bool_byte absolute)
+unfolding read_path
 at_root path false utf8 e = record { taken = refl; range = IsCharBoundary-start path utf8 }
-at_root path true utf8 e =
-    let root = root_of_path path true e in
-    let whole = ap length root.1 in
-    record {
-      taken = ap (take 1) root.1;
-      range = IsCharBoundary-after_ascii path 0 utf8 (omega (arith, whole)) (let here : get_or path 0 0 ≡ slash = λ i. get_or (root.1 i) 0 0 in omega (arith, here));
-    }
+at_root [] true utf8 e = absurd (true≢false (sym e))
+at_root (c ∷ cs) true utf8 e = record {
+  taken = grind (arith, nat_tests);
+  range = IsCharBoundary-after_ascii (c ∷ cs) 0 utf8 (omega arith) (grind (arith, nat_tests));
+}
 
 pub root_spelled : (absolute : Bool) → root_text absolute ≡ spell_path (record { absolute = absolute; segments = [] })
 unfolding spell_path

@@ -1,25 +1,21 @@
 -- The steps of a path keep what the text of a path has.
-use Rattle.std.proofs.Common.{arith, ◌≡◌, Bool, true, false, not, cond, ◌&&◌, ◌||◌, List, [], ◌∷◌, refl, sym, subst, ◌∙◌, ap}
+use Rattle.std.proofs.Common.{arith, ◌≡◌, Bool, true, ◌||◌, [], ◌∷◌, refl, sym, subst, ◌∙◌, ap}
 use Rattle.std.proofs.lemmas.Grind.{common_steps}
 use Rattle.std.proofs.lemmas.Bool.{and_from, and_parts}
-use Rattle.std.specs.Prelude.{codes}
 use Rattle.std.specs.List.{list_all}
 use Rattle.std.specs.Str.{IsCharBoundary}
 use Rattle.iref_grammar.specs.declared.context.PathContext.{PathContext}
 use Rattle.iref_grammar.specs.Characters.{CharTests, AreAboveAscii}
 use Rattle.iref_grammar.specs.Rules.{Text}
 use Rattle.iref_grammar.specs.Grammar.{slash}
-use Rattle.iref_grammar.specs.Texts.{is_empty, all_but_last}
 use Rattle.iref_grammar.specs.Tests.{is_segment, is_path}
 use Rattle.iref_grammar.specs.PathValue.{PathValue, read_path, spell_path, shows_its_list}
-use Rattle.iref_grammar.specs.Contexts.{fits, follows_authority, reads_as_path, is_no_authority, is_no_scheme, is_readable_path}
-use Rattle.iref_grammar.proofs.TextLemmas.{first_of_both, second_of_both}
+use Rattle.iref_grammar.specs.Contexts.{fits, follows_authority, is_readable_path}
 use Rattle.iref_grammar.proofs.ComponentLackLemmas.{slash_cuts, segments_lack}
 use Rattle.iref_grammar.proofs.PathLemmas.{read-spelled, read_path-reads}
 use Rattle.iref_grammar.proofs.PathTestLemmas.{is_path-segments}
 use Rattle.iref_model.specs.Guard.{guarded}
-use Rattle.iref_model.specs.NormalList.{is_dot, is_dot_dot, is_name}
-use Rattle.iref_model.specs.PathSteps.{lazy_pushed, ends_in_parent, popped, closed_path, followed, pushed, cleared}
+use Rattle.iref_model.specs.PathSteps.{lazy_pushed, popped, closed_path, followed, pushed, cleared}
 use Rattle.iref_model.proofs.GuardLemmas.{guarded-fits, guarded_list-shows}
 use Rattle.iref_model.proofs.FitsLemmas.{is_empty-snoc, lazy_pushed-fits, popped-fits, closed_path-fits, followed-fits, pushed-fits, cleared-fits}
 use Rattle.iref_model.proofs.PathGrammarLemmas.{segments_of_path}
@@ -85,19 +81,6 @@ popped-shown : (context : PathContext) (p : PathValue) → shows_its_list p ≡ 
 unfolding popped
 popped-shown context p h = grind (arith, lazy_pushed-shown, guarded_list-shows)
 
-closed-shown : (context : PathContext) (p : PathValue) → shows_its_list p ≡ true → shows_its_list (closed_path context p) ≡ true
-closed-shown context p h = grind (arith, lazy_pushed-shown)
-
-followed-shown : (context : PathContext) (s : Text) (p : PathValue) → shows_its_list p ≡ true → shows_its_list (followed context p s) ≡ true
-followed-shown context s p h = grind (arith, popped-shown, lazy_pushed-shown)
-
-pushed-shown : (context : PathContext) (s : Text) (p : PathValue) → shows_its_list p ≡ true → shows_its_list (pushed context s p) ≡ true
-unfolding pushed
-pushed-shown context s p h = grind (arith, lazy_pushed-shown, closed-shown, followed-shown)
-
-cleared-shown : (absolute : Bool) → shows_its_list (record { absolute = absolute; segments = [] }) ≡ true
-cleared-shown absolute = grind arith
-
 module _ (set : CharTests) (context : PathContext) (p : PathValue) where
   pub lazy_pushed-step : (s : Text) → is_segment set s ≡ true → IsStep set context p (lazy_pushed context s p)
   lazy_pushed-step s k =
@@ -107,18 +90,19 @@ module _ (set : CharTests) (context : PathContext) (p : PathValue) where
   popped-step = record { segments = popped-in (is_segment set) (is_segment-dots set) context p; shown = popped-shown context p; fit = popped-fits context p }
 
   pub closed-step : IsStep set context p (closed_path context p)
-  closed-step = record { segments = closed_path-in (is_segment set) (is_segment-dots set) context p; shown = closed-shown context p; fit = closed_path-fits context p }
+  closed-step = record { segments = closed_path-in (is_segment set) (is_segment-dots set) context p; shown = λ h. grind (arith, lazy_pushed-shown); fit = closed_path-fits context p }
 
   pub followed-step : (s : Text) → is_segment set s ≡ true → IsStep set context p (followed context p s)
   followed-step s k =
-      record { segments = followed-in (is_segment set) (is_segment-dots set) context p s k; shown = followed-shown context s p; fit = followed-fits context p s }
+      record { segments = followed-in (is_segment set) (is_segment-dots set) context p s k; shown = λ h. grind (arith, popped-shown, lazy_pushed-shown); fit = followed-fits context p s }
 
   pub pushed-step : (s : Text) → is_segment set s ≡ true → IsStep set context p (pushed context s p)
+  unfolding pushed
   pushed-step s k =
-      record { segments = pushed-in (is_segment set) (is_segment-dots set) context s p k; shown = pushed-shown context s p; fit = pushed-fits context s p }
+      record { segments = pushed-in (is_segment set) (is_segment-dots set) context s p k; shown = λ h. grind (arith, popped-shown, lazy_pushed-shown); fit = pushed-fits context s p }
 
   pub cleared-step : IsStep set context p (cleared p)
-  cleared-step = record { segments = λ h. refl; shown = λ h. cleared-shown p.absolute; fit = λ h. cleared-fits context p }
+  cleared-step = record { segments = λ h. refl; shown = λ h. grind arith; fit = λ h. cleared-fits context p }
 
   pub replaced-step : (new : PathValue) → list_all (is_segment set) new.segments ≡ true → IsStep set context p (guarded context new)
   replaced-step new k =

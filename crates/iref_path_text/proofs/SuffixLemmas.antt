@@ -1,12 +1,10 @@
 -- What is left of a path after a prefix: where it is there, and that it is a path.
-use Rattle.std.proofs.Common.{◌≡◌, ℕ, suc, ◌+◌, ◌<◌, ◌≤◌, Bool, true, false, not, cond, ◌&&◌, List, [], ◌∷◌, length, take, drop, refl, sym, ◌∙◌, ap, arith}
-use Rattle.std.specs.Prelude.{◌==◌, Some, None}
+use Rattle.std.proofs.Common.{◌≡◌, ℕ, ◌≤◌, true, false, List, [], ◌∷◌, length, take, drop, refl, sym, ◌∙◌, ap, arith}
+use Rattle.std.specs.Prelude.{◌==◌, Some}
 use Rattle.std.specs.List.{common_prefix_len}
 use Rattle.std.proofs.lemmas.Bool.Decides.{nat_tests}
-use Rattle.std.proofs.lemmas.List.Sums.{common_prefix_len-le}
 use Rattle.std.proofs.lemmas.Option.{cond_some}
 use Rattle.std.proofs.lemmas.List.{take-append-drop}
-use mathlib.Core.Bool.{beq}
 use Rattle.iref_grammar.specs.Characters.{CharTests, AreAboveAscii}
 use Rattle.iref_grammar.specs.Contexts.{alone}
 use Rattle.iref_grammar.specs.PathValue.{PathValue, read_path, spell_path}
@@ -26,29 +24,10 @@ use Rattle.iref_path_text.specs.Spelling.{each_closed}
 use Rattle.iref_path_text.proofs.SpellLemmas.{guarded-in_context, guarded-read, lacks_dots, size-append}
 
 -- a list is a beginning exactly where the common beginning is all of it
-beginning-is : (xs ys : List Text) → is_decoded_beginning xs ys ≡ (common_prefix_len same_decoded xs ys == length xs)
+pub beginning-is : (xs ys : List Text) → is_decoded_beginning xs ys ≡ (common_prefix_len same_decoded xs ys == length xs)
 beginning-is [] ys = refl
 beginning-is (x ∷ xs) [] = grind (arith, nat_tests)
 beginning-is (x ∷ xs) (y ∷ ys) = grind (arith, nat_tests, beginning-is xs ys)
-
-module _ (prefix p : PathValue) where
-  abbrev rest : PathValue
-  rest = guarded alone (record { absolute = false; segments = drop (length (normal_segments prefix)) (normal_segments p) })
-
-  -- whether the flags differ
-  module _ (a b : Bool) (a_is : a ≡ prefix.absolute) (b_is : b ≡ p.absolute) where
-    pub suffix-apart : not (beq a b) ≡ true → path_suffix prefix p ≡ None
-    unfolding path_suffix
-    suffix-apart e = grind arith
-
-    module _ (e : not (beq a b) ≡ false) where
-      pub suffix-none : common_prefix_len same_decoded (normal_segments prefix) (normal_segments p) < length (normal_segments prefix) → path_suffix prefix p ≡ None
-      unfolding path_suffix
-      suffix-none h = grind (arith, nat_tests, beginning-is)
-
-      pub suffix-some : length (normal_segments prefix) ≤ common_prefix_len same_decoded (normal_segments prefix) (normal_segments p) → path_suffix prefix p ≡ Some rest
-      unfolding path_suffix
-      suffix-some h = grind (arith, nat_tests, beginning-is, common_prefix_len-le)
 
 -- what is left is a path, and read as it stands
 pub suffix-reads : (set : CharTests) → AreAboveAscii set → (prefix : PathValue) (text : Text) (left : PathValue) → is_path set text ≡ true → path_suffix prefix (read_path text) ≡ Some left

@@ -1,10 +1,8 @@
 -- The way from the directory of one path to another, up to their common beginning and down.
-use Rattle.std.proofs.Common.{◌≡◌, ℕ, zero, suc, ◌+◌, ◌-◌, ◌*◌, ◌<◌, ◌≤◌, List, [], ◌∷◌, ◌++◌, length, drop, sym, ◌∙◌, ap, arith, append_assoc, length-append}
-use Rattle.std.specs.Prelude.{Option, Some, None, MatchOption, codes, replicate}
+use Rattle.std.proofs.Common.{◌≡◌, ◌+◌, ◌-◌, ◌*◌, ◌<◌, ◌≤◌, List, [], ◌∷◌, ◌++◌, length, sym, ap, arith, length-append}
+use Rattle.std.specs.Prelude.{Option, Some, None, MatchOption}
 use Rattle.std.specs.Borrow.{Bor}
 use Rattle.std.specs.List.{common_prefix_len}
-use Rattle.std.proofs.lemmas.List.{drop-append-le}
-use Rattle.std.proofs.lemmas.List.Sums.{common_prefix_len-le}
 use Rattle.iref_grammar.specs.Rules.{Text}
 use Rattle.iref_grammar.specs.Texts.{all_but_last}
 use Rattle.iref_model.specs.PathSuffix.{same_decoded}
@@ -13,7 +11,7 @@ use Rattle.iref_model.proofs.DirectoryLemmas.{all_but_last-snoc}
 use Rattle.iref_model.proofs.LeadingLemmas.{divided_last}
 use Rattle.iref_path_text.specs.Spelling.{each_closed}
 use Rattle.iref_path_text.specs.Ways.{with_last}
-use Rattle.iref_path_text.proofs.SpellLemmas.{size-append, size-cons, size-parents}
+use Rattle.iref_path_text.proofs.SpellLemmas.{size-append, size-parents}
 use Rattle.iref_path_text.proofs.SuffixLemmas.{size-drop}
 
 -- ---- all items but the last
@@ -26,7 +24,7 @@ pub whole_divided : (list : List Text) → 0 < length list → list ≡ with_las
 whole_divided [] some = absurd (omega (arith, some))
 whole_divided (s ∷ rest) some = sym (divided_last s rest)
 
-length-with_last : (list : List Text) → length (with_last list) ≡ length (all_but_last list) + 1
+pub length-with_last : (list : List Text) → length (with_last list) ≡ length (all_but_last list) + 1
 length-with_last list = length-append (all_but_last list) (last_or_empty list ∷ [])
 
 -- the last item is taken of a list that has one
@@ -34,17 +32,6 @@ pub last_taken : (list items left : List Text) (given : Option (Bor Text)) → i
     → MatchOption given ((items ≡ []) × (left ≡ [])) (λ s. items ≡ left ++ s.now ∷ []) → left ≡ all_but_last list
 last_taken list items left None e h = grind (arith, length-with_last list)
 last_taken list items left (Some s) e h = grind (arith, all_but_last-snoc left s.now, all_but_last-snoc (all_but_last list) (last_or_empty list))
-
--- ---- the way
-
-module _ (directory list names items middle : List Text) (depth count common : ℕ) (names_are : names ≡ directory) (depth_is : depth ≡ length names)
-    (items_are : items ≡ with_last list) (count_is : count ≡ length items) (middle_is : middle ≡ all_but_last list)
-    (common_is : common ≡ common_prefix_len same_decoded names middle) where
-  pub common_within : (common ≤ depth) × (common ≤ count)
-  common_within = grind (arith, common_prefix_len-le, length-with_last)
-
-  pub way_between : replicate (depth - common) (codes "..") ++ drop (length items - (count - common)) items ≡ steps_between directory list
-  way_between = grind (arith, common_within, common_prefix_len-le, drop-append-le, append_assoc)
 
 -- ---- its size
 

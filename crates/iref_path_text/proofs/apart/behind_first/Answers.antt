@@ -1,5 +1,4 @@
-use Rattle.std.proofs.Common.{◌∷◌, ap, arith, sym, ◌∙◌}
-use Rattle.iref_path_text.specs.Pieces.{pieces_if_some}
+use Rattle.std.proofs.Common.{arith}
 use Rattle.iref_path_text.proofs.ApartLemmas.{apart-base, apart-first, behind, shorter}
 use Rattle.iref_path_text.proofs.apart.behind_first.Goals as goal
 

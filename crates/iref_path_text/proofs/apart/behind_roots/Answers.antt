@@ -1,8 +1,6 @@
-use Rattle.std.proofs.Common.{arith, Some, ◌∙◌, ap, sym}
-use Rattle.std.proofs.lemmas.Bool.{or_parts}
+use Rattle.std.proofs.Common.{arith, Some}
 use Rattle.std.proofs.lemmas.Str.Pattern.{strip_prefix_char}
 use Rattle.iref_grammar.specs.Grammar.{slash}
-use Rattle.iref_parse.specs.Dots.{has_dot_segment}
 use Rattle.iref_path_text.proofs.DotlessLemmas.{dotless-steps}
 use Rattle.iref_path_text.proofs.apart.behind_roots.Goals as goal
 

@@ -1,7 +1,4 @@
-use Rattle.std.proofs.Common.{arith, ◌++◌, ap, codes, sym, ◌∙◌}
-use Rattle.std.specs.Prelude.{replicate}
-use Rattle.iref_grammar.specs.Grammar.{slash}
-use Rattle.iref_grammar.specs.Texts.{pieces_at}
+use Rattle.std.proofs.Common.{arith}
 use Rattle.iref_path_text.proofs.ApartLemmas.{climbs}
 use Rattle.iref_path_text.proofs.apart.steps_apart.Goals as goal
 

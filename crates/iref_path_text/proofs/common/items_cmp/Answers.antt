@@ -1,4 +1,4 @@
-use Rattle.std.proofs.Common.{arith, sym}
+use Rattle.std.proofs.Common.{arith}
 use Rattle.iref_path_text.proofs.CommonLemmas.{same_text-order}
 use Rattle.iref_path_text.proofs.common.items_cmp.Goals as goal
 

@@ -1,4 +1,4 @@
-use Rattle.std.proofs.Common.{arith, rules, ◌≡◌, true, false, sym, ◌∙◌}
+use Rattle.std.proofs.Common.{rules, ◌≡◌, true, false, sym, ◌∙◌}
 use Rattle.std.specs.Char.{char_set_contains}
 use Rattle.iref_grammar.specs.Grammar.{colon}
 use Rattle.iref_path_text.proofs.SpellLemmas.{any-contained}

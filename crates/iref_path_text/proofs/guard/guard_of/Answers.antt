@@ -1,4 +1,4 @@
-use Rattle.std.proofs.Common.{arith, ◌++◌, ap, ◌∙◌}
+use Rattle.std.proofs.Common.{◌++◌, ap, ◌∙◌}
 use Rattle.iref_path_text.specs.Pieces.{pieces_if_some}
 use Rattle.iref_path_text.proofs.GuardTextLemmas.{no_guard, guard_spelled}
 use Rattle.iref_path_text.proofs.guard.guard_of.Goals as goal

@@ -1,4 +1,4 @@
-use Rattle.std.proofs.Common.{arith, true, false, ap, ◌∙◌}
+use Rattle.std.proofs.Common.{true, false, ap, ◌∙◌}
 use Rattle.iref_grammar.specs.PathValue.{PathValue}
 use Rattle.iref_path_text.proofs.GuardTextLemmas.{root_before}
 use Rattle.iref_path_text.proofs.guard.root_of.Goals as goal

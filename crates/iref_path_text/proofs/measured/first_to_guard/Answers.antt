@@ -1,8 +1,7 @@
-use Rattle.std.proofs.Common.{arith, [], sym, ap}
+use Rattle.std.proofs.Common.{arith, []}
 use Rattle.iref_grammar.specs.Grammar.{slash}
 use Rattle.iref_grammar.specs.Texts.{pieces_at}
 use Rattle.iref_path_text.specs.Remaining.{first_or}
-use Rattle.iref_path_text.specs.Spelling.{lead_in}
 use Rattle.iref_path_text.proofs.DotlessLemmas.{unguarded}
 use Rattle.iref_path_text.proofs.measured.first_to_guard.Goals as goal
 

@@ -1,5 +1,4 @@
-use Rattle.std.proofs.Common.{arith, ◌∙◌}
-use Rattle.iref_path_text.specs.Remaining.{normal_left}
+use Rattle.std.proofs.Common.{arith}
 use Rattle.iref_path_text.proofs.OrderLemmas.{fed_before}
 use Rattle.iref_path_text.proofs.order.hash_left.Goals as goal
 

@@ -1,9 +1,4 @@
-use Rattle.std.proofs.Common.{arith, map, sym, ◌∙◌}
-use Rattle.std.specs.Cmp.Lexicographic.{slice_cmp}
-use Rattle.std.specs.Ordering.{bool_cmp}
-use Rattle.percent_encoding.specs.Percent.{percent_decode}
-use Rattle.iref_grammar.specs.Keys.{text_order}
-use Rattle.iref_grammar.specs.PathValue.{read_path}
+use Rattle.std.proofs.Common.{arith}
 use Rattle.iref_path_text.proofs.OrderLemmas.{flags_decide, lists_decide}
 use Rattle.iref_path_text.proofs.order.path_texts_cmp.Goals as goal
 

@@ -1,7 +1,6 @@
-use Rattle.std.proofs.Common.{arith, ◌≡◌, ◌+◌, ◌-◌, take, Some, None, ◌∙◌, ap}
+use Rattle.std.proofs.Common.{arith, Some, None}
 use Rattle.std.proofs.lemmas.Str.Pattern.{rfind_char}
 use Rattle.iref_grammar.specs.Grammar.{slash}
-use Rattle.iref_grammar.specs.Tests.{is_path}
 use Rattle.iref_model.proofs.PathGrammarLemmas.{is_path_empty}
 use Rattle.iref_path_text.proofs.PathTextLemmas.{directory-cut, directory-uncut, is_path-directory}
 use Rattle.iref_path_text.proofs.path_text.directory_text.Goals as goal

@@ -1,12 +1,7 @@
-use Rattle.std.proofs.Common.{◌++◌, [], None, refl, length, arith, sym, ap, ◌∙◌}
-use Rattle.std.specs.List.{join_with_byte}
-use Rattle.iref_grammar.specs.Grammar.{slash}
-use Rattle.iref_grammar.specs.PathValue.{read_path, spell_path}
+use Rattle.std.proofs.Common.{None, refl, length, arith, ap, ◌∙◌}
 use Rattle.iref_model.specs.NormalList.{normal_segments}
-use Rattle.iref_model.specs.PathSteps.{normalized}
 use Rattle.iref_path_text.specs.Merged.{merged_path}
-use Rattle.iref_path_text.specs.Remaining.{first_or}
-use Rattle.iref_path_text.specs.Spelling.{each_closed, lead_in}
+use Rattle.iref_path_text.specs.Spelling.{each_closed}
 use Rattle.iref_path_text.proofs.SpellLemmas.{length-lead, normal_size, normalized-spelled, read_size}
 use Rattle.iref_path_text.proofs.rewriting.normal_lead.Goals as goal
 

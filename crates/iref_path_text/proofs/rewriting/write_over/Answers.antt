@@ -1,12 +1,7 @@
 use Rattle.std.proofs.lemmas.Grind.{common_steps}
-use Rattle.std.proofs.Common.{◌≤◌, rules, ◌-◌, ◌++◌, codes, drop, length, length-append, length-take, length-drop, cond, sym, ap, ◌∙◌, arith}
-use Rattle.std.specs.List.{join_with_byte}
+use Rattle.std.proofs.Common.{◌≤◌, rules, codes, length, length-append, length-take, length-drop, ◌∙◌, arith}
 use Rattle.std.proofs.lemmas.Bool.Decides.{Decides-eqb}
 use Rattle.std.proofs.lemmas.Slice.Eq.{starts_is}
-use Rattle.iref_grammar.specs.Grammar.{slash}
-use Rattle.iref_grammar.specs.PathValue.{read_path}
-use Rattle.iref_model.specs.NormalList.{normal_segments}
-use Rattle.iref_path_text.specs.Rewriting.{rewritten}
 use Rattle.iref_path_text.proofs.RewritingLemmas.{behind_root, list_in_path, root_is}
 use Rattle.iref_path_text.proofs.WrittenLemmas.{nothing_behind, to_end}
 use Rattle.iref_path_text.proofs.rewriting.write_over.Goals as goal

@@ -1,7 +1,5 @@
-use Rattle.std.proofs.Common.{◌≡◌, ◌-◌, ◌∷◌, ◌++◌, [], subst, take, ap, sym, arith, ◌∙◌}
+use Rattle.std.proofs.Common.{subst, arith}
 use Rattle.std.proofs.lemmas.Str.{IsCharBoundary-after_ascii}
-use Rattle.iref_grammar.specs.Grammar.{slash}
-use Rattle.iref_grammar.specs.Texts.{pieces_at}
 use Rattle.iref_path_text.specs.Slashes.{IsLastSlash, LacksSlashFrom}
 use Rattle.iref_path_text.proofs.SlashLemmas.{pieces-cut_last, pieces-uncut}
 use Rattle.iref_path_text.proofs.segments.last_segment.Goals as goal

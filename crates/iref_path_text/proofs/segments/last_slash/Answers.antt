@@ -1,5 +1,5 @@
 use Rattle.iref_grammar.specs.Rules.{Text}
-use Rattle.std.proofs.Common.{ℕ, length, ◌≡◌, ◌+◌, ◌-◌, ◌<◌, ◌≤◌, ◌^◌, arith, drop, subst, take}
+use Rattle.std.proofs.Common.{ℕ, length, ◌≡◌, ◌+◌, ◌-◌, ◌<◌, ◌≤◌, ◌^◌, arith, drop, take}
 use Rattle.std.proofs.lemmas.Bool.Decides.{nat_tests}
 use Rattle.iref_path_text.specs.Slashes.{IsLastSlash, LacksSlashFrom, slash_mask}
 use Rattle.iref_path_text.proofs.SlashLemmas.{last_slash_there, no_slash_there, slash_at_highest}

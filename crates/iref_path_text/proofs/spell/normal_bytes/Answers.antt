@@ -1,9 +1,4 @@
-use Rattle.std.proofs.Common.{◌++◌, ◌≡◌, [], length, arith, sym, subst, ap, ◌∙◌}
-use Rattle.std.specs.Prelude.{IfOk}
-use Rattle.std.specs.List.{join_with_byte}
-use Rattle.iref_grammar.specs.Grammar.{slash}
-use Rattle.iref_grammar.specs.PathValue.{spell_path}
-use Rattle.iref_model.specs.PathSteps.{normalized}
+use Rattle.std.proofs.Common.{◌≡◌, [], length, arith, ap, ◌∙◌}
 use Rattle.iref_path_text.specs.Remaining.{first_or}
 use Rattle.iref_path_text.specs.Spelling.{each_closed}
 use Rattle.iref_path_text.specs.Stacks.{in_order, path_of, stacked_text}

@@ -1,4 +1,4 @@
-use Rattle.std.proofs.Common.{arith, [], ◌∷◌, refl, cond, ◌≡◌}
+use Rattle.std.proofs.Common.{arith, [], ◌∷◌, cond, ◌≡◌}
 use Rattle.std.proofs.lemmas.Str.{IsCharBoundary-end}
 use Rattle.iref_grammar.specs.Grammar.{slash}
 use Rattle.iref_grammar.specs.PathValue.{read_path}

@@ -1,6 +1,5 @@
 use Rattle.std.proofs.Common.{◌∙◌}
 use Rattle.std.proofs.lemmas.List.{append-nil}
-use Rattle.iref_grammar.specs.PathValue.{read_path}
 use Rattle.iref_path_text.proofs.StepValueLemmas.{steps_by, lazy_pushed-step}
 use Rattle.iref_path_text.proofs.steps.lazy_pushed.Goals as goal
 

@@ -1,6 +1,5 @@
-use Rattle.std.proofs.Common.{arith, [], ◌+◌, length, refl, sym, ap, ◌∙◌, ◌≡◌, cond}
+use Rattle.std.proofs.Common.{arith, [], ◌+◌, length, sym, ap, ◌∙◌, ◌≡◌, cond}
 use Rattle.std.specs.Prelude.{◌==◌, Some, None, codes}
-use Rattle.iref_grammar.specs.PathValue.{read_path}
 use Rattle.iref_path_text.proofs.StepTextLemmas.{cut_at_root, root_kept}
 use Rattle.iref_path_text.proofs.PopTextLemmas.{read_none, read_last, read_by, popped_root, popped_nothing, popped_parent, push_closed, front_cut, front_text, none_left}
 use Rattle.iref_path_text.proofs.steps.pop_text.Goals as goal

@@ -1,5 +1,4 @@
 use Rattle.std.proofs.Common.{◌∙◌}
-use Rattle.iref_grammar.specs.PathValue.{read_path}
 use Rattle.iref_path_text.proofs.StepTextLemmas.{unclosed_spelled}
 use Rattle.iref_path_text.proofs.StepValueLemmas.{steps_by, popped-step}
 use Rattle.iref_path_text.proofs.steps.popped.Goals as goal

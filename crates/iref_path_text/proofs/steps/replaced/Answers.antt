@@ -1,7 +1,6 @@
 use Rattle.std.proofs.Common.{refl, ◌∙◌}
 use Rattle.std.proofs.lemmas.List.{append-nil}
 use Rattle.std.proofs.lemmas.Str.{IsCharBoundary-start}
-use Rattle.iref_grammar.specs.PathValue.{read_path}
 use Rattle.iref_model.proofs.PathGrammarLemmas.{segments_of_path}
 use Rattle.iref_path_text.proofs.StepValueLemmas.{steps_by, replaced-step}
 use Rattle.iref_path_text.proofs.steps.replaced.Goals as goal

@@ -1,7 +1,5 @@
-use Rattle.std.proofs.Common.{arith, ap, sym, ◌∙◌}
-use Rattle.std.specs.Prelude.{Some}
+use Rattle.std.proofs.Common.{arith, sym}
 use Rattle.iref_grammar.specs.PathValue.{read_path}
-use Rattle.iref_grammar.specs.Tests.{is_path}
 use Rattle.iref_path_text.specs.Suffixes.{way_path}
 use Rattle.iref_path_text.proofs.SuffixLemmas.{suffix-reads}
 use Rattle.iref_path_text.proofs.suffix.suffix_text.Goals as goal

@@ -1,6 +1,4 @@
-use Rattle.std.proofs.Common.{length, arith, ap, subst}
-use Rattle.iref_path_text.specs.Bodies.{IsBody, body_text}
-use Rattle.iref_path_text.specs.Ways.{way_left}
+use Rattle.std.proofs.Common.{arith}
 use Rattle.iref_path_text.proofs.SpellLemmas.{length-join}
 use Rattle.iref_path_text.proofs.ApartLemmas.{up_length}
 use Rattle.iref_path_text.proofs.body.Body.len.Goals as goal

@@ -1,6 +1,4 @@
-use Rattle.std.proofs.Common.{length, arith, ap}
-use Rattle.iref_path_text.specs.Bodies.{body_text}
-use Rattle.iref_path_text.specs.Ways.{way_left}
+use Rattle.std.proofs.Common.{arith}
 use Rattle.iref_path_text.proofs.SpellLemmas.{length-join}
 use Rattle.iref_path_text.proofs.body.Body.write_before.Goals as goal
 

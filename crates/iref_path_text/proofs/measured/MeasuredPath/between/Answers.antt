@@ -1,8 +1,5 @@
-use Rattle.std.proofs.Common.{length, arith, ap}
+use Rattle.std.proofs.Common.{arith}
 use Rattle.iref_grammar.specs.PathValue.{read_path}
-use Rattle.iref_model.specs.NormalList.{normal_segments}
-use Rattle.iref_model.specs.Relative.{directory_names}
-use Rattle.iref_path_text.specs.Spelling.{each_closed}
 use Rattle.iref_path_text.proofs.ApartLemmas.{up_length}
 use Rattle.iref_path_text.proofs.SpellLemmas.{normal_size-text}
 use Rattle.iref_path_text.proofs.WayLemmas.{size-steps}

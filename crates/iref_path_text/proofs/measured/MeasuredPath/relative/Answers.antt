@@ -1,6 +1,4 @@
-use Rattle.std.proofs.Common.{ap, ◌∙◌, ◌++◌, arith}
-use Rattle.std.specs.List.{join_with_byte}
-use Rattle.iref_grammar.specs.Grammar.{slash}
+use Rattle.std.proofs.Common.{arith}
 use Rattle.iref_path_text.specs.MeasuredPaths.{measured_text}
 use Rattle.iref_path_text.specs.Ways.{way_left}
 use Rattle.iref_path_text.proofs.SpellLemmas.{length-join, relative-spelled}

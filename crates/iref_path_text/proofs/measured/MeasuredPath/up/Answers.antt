@@ -1,7 +1,4 @@
-use Rattle.std.proofs.Common.{arith, ◌+◌, ◌++◌, ap, codes, ◌∙◌}
-use Rattle.std.specs.Prelude.{replicate}
-use Rattle.iref_grammar.specs.Grammar.{slash}
-use Rattle.iref_grammar.specs.Texts.{pieces_at}
+use Rattle.std.proofs.Common.{arith}
 use Rattle.iref_path_text.specs.MeasuredPaths.{measured_text}
 use Rattle.iref_path_text.proofs.ApartLemmas.{up-joined, up-size}
 use Rattle.iref_path_text.proofs.SpellLemmas.{relative-spelled}

@@ -1,5 +1,4 @@
-use Rattle.std.proofs.Common.{arith, refl, length, sym, ap, ◌∙◌}
-use Rattle.iref_model.specs.NormalList.{normal_segments}
+use Rattle.std.proofs.Common.{arith, refl}
 use Rattle.iref_path_text.proofs.MergedLemmas.{behind-left, behind-sound}
 use Rattle.iref_path_text.proofs.SpellLemmas.{read_size}
 use Rattle.iref_path_text.proofs.remaining.Remaining.new.Goals as goal

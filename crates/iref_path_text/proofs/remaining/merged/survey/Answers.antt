@@ -1,10 +1,6 @@
-use Rattle.std.proofs.Common.{◌+◌, ◌∷◌, [], ap, arith, length, length-append, refl, rules, subst, sym, ◌∙◌, ◌≤◌}
-use Rattle.iref_path_text.specs.declared.remaining.Remaining.{Remaining}
-use Rattle.iref_path_text.specs.declared.remaining.merged.Merged.{Merged}
+use Rattle.std.proofs.Common.{◌∷◌, [], ap, arith, length, length-append, refl, rules, ◌∙◌}
 use Rattle.iref_model.specs.NormalReading.{staying_before}
-use Rattle.iref_path_text.specs.Merged.{IsMergeSound, merged_list, merged_names, open_before_both, to_read_of_both}
-use Rattle.iref_path_text.specs.Remaining.{first_or}
-use Rattle.iref_path_text.specs.Spelling.{each_closed}
+use Rattle.iref_path_text.specs.Merged.{merged_list, merged_names}
 use Rattle.iref_path_text.proofs.SpellLemmas.{kept_size, list_size}
 use Rattle.iref_path_text.proofs.MergedLemmas.{size_last}
 use Rattle.iref_path_text.proofs.remaining.merged.survey.Goals as goal

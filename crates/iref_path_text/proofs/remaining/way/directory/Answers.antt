@@ -1,11 +1,8 @@
-use Rattle.std.proofs.Common.{length, arith, refl, sym, subst, ap, ◌∙◌}
+use Rattle.std.proofs.Common.{length, arith, refl, ap}
 use Rattle.std.proofs.lemmas.List.{append-nil}
-use Rattle.iref_model.specs.NormalList.{staying_names}
-use Rattle.iref_model.specs.NormalReading.{staying_before}
-use Rattle.iref_model.specs.Relative.{directory_names}
 use Rattle.iref_model.proofs.StayingLemmas.{staying_names-is}
 use Rattle.iref_path_text.specs.Pieces.{pieces_if_some}
-use Rattle.iref_path_text.specs.Remaining.{IsSound, normal_left}
+use Rattle.iref_path_text.specs.Remaining.{normal_left}
 use Rattle.iref_path_text.specs.Spelling.{each_closed}
 use Rattle.iref_path_text.proofs.SpellLemmas.{last_size, read_size}
 use Rattle.iref_path_text.proofs.WayLemmas.{fewer_without_last}
@@ -21,11 +18,7 @@ unfolding normal_left
 returns-clause-items c = grind (arith, append-nil, staying_names-is)
 
 pub returns-clause-sound : goal.returns-clause-sound
-returns-clause-sound c =
-    let rest = ap length c.without_last-rest.ensures in
-    let fewer = fewer_without_last (pieces_if_some c.split_root.result.1) in
-    let all = c.split_root.ensures.fewer in
-    subst IsSound (sym c.all.ensures) (record { countable = omega (arith, rest, fewer, all); settled = refl })
+returns-clause-sound c = rw c.all.ensures (record { countable = grind (arith, fewer_without_last); settled = refl })
 
 pub returns-clause-fewer : goal.returns-clause-fewer
 returns-clause-fewer c = grind (arith, fewer_without_last)

@@ -1,27 +1,27 @@
-use Rattle.std.specs.Prelude.{◌==◌, codes}
-use Rattle.std.proofs.Common.{[], ◌*◌, arith, ap, subst, ◌+◌, length, cond, refl, sym, ◌∙◌}
-use Rattle.iref_model.specs.NormalList.{ends_in_dots}
+use Rattle.std.proofs.Common.{arith, ap, subst, refl, sym, ◌∙◌}
 use Rattle.iref_model.specs.NormalReading.{staying_before}
 use Rattle.iref_path_text.specs.Merged.{IsMergeSound, merged_left, merged_list, merged_path}
-use Rattle.iref_path_text.specs.Pieces.{pieces_if_some}
-use Rattle.iref_path_text.specs.Remaining.{first_or}
-use Rattle.iref_path_text.specs.Spelling.{each_closed}
 use Rattle.iref_path_text.proofs.MergedLemmas.{count_most, ends-both, first-parts, size-parts, size_most}
-use Rattle.iref_path_text.proofs.RemainingLemmas.{all_items, length-parts, lone_items}
+use Rattle.iref_path_text.proofs.RemainingLemmas.{length-parts}
 use Rattle.iref_path_text.proofs.RewritingLemmas.{root_is}
 use Rattle.iref_path_text.proofs.SpellLemmas.{kept_size, list_size}
+use Rattle.iref_path_text.proofs.RemainingLemmas.{one_empty, parts-whole}
 use Rattle.iref_path_text.proofs.remaining.merged.Merged.new.Goals as goal
 
 pub returns-then-is_one_empty-clause-items : goal.returns-then-is_one_empty-clause-items
 unfolding merged_left
-returns-then-is_one_empty-clause-items c = grind (arith, lone_items, ends-both)
+returns-then-is_one_empty-clause-items c =
+    let names = staying_before (merged_list c.args.front c.args.back) 0 in
+    let whole = parts-whole (merged_path c.args.absolute c.args.front c.args.back) c.leading_parents-parents.result names c.ends_in_dots-closes.result in
+    grind (arith, one_empty c.leading_parents-parents.result names c.ends_in_dots-closes.result, ends-both)
 
 pub returns-clause-items : goal.returns-clause-items
 unfolding merged_left
 returns-clause-items c =
-    let p = merged_path c.args.absolute c.args.front c.args.back in
-    (λ i. merged_left (record { front = c.args.front; back = c.all-back.ensures i }))
-    ∙ all_items p p refl c.leading_parents-parents.result _ _ c.ends_in_dots-closes.result (grind arith) c.survey-parents.ensures.names c.survey-parents.ensures.first (grind (arith, ends-both)) c.if-is_one_empty.ensures
+    let names = staying_before (merged_list c.args.front c.args.back) 0 in
+    let whole = parts-whole (merged_path c.args.absolute c.args.front c.args.back) c.leading_parents-parents.result names c.ends_in_dots-closes.result in
+    let left = ap (λ back. merged_left (record { front = c.args.front; back = back })) c.all-back.ensures in
+    grind (arith, one_empty c.leading_parents-parents.result names c.ends_in_dots-closes.result, ends-both)
 
 pub returns-clause-count : goal.returns-clause-count
 unfolding merged_left
