@@ -2,10 +2,7 @@
 use Rattle.std.proofs.Common.{◌≡◌, ℕ, Bool, true, false, cond, ◌||◌, List, [], ◌∷◌, ◌++◌, length, take, refl, sym, ap, subst, ◌∙◌, append_assoc, arith, length-append, IsUtf8}
 use mathlib.Core.Bool.{true≢false}
 use mir.Val.{bool_byte}
-use Rattle.std.specs.Prelude.{◌==◌, Option, is_some}
-use Rattle.std.specs.Borrow.{Bor}
 use Rattle.std.specs.List.{join_with_byte}
-use Rattle.std.specs.Char.{char_set_contains}
 use Rattle.std.proofs.lemmas.Grind.{common_steps}
 use Rattle.std.proofs.lemmas.List.{append-nil, take_all, take_at}
 use Rattle.std.proofs.Math.Seq.{get_or-append_seam}
@@ -14,14 +11,12 @@ use Rattle.std.proofs.lemmas.Str.{IsCharBoundary-start, IsCharBoundary-before_as
 use Rattle.std.proofs.lemmas.Bool.Decides.{nat_tests}
 use Rattle.iref_grammar.specs.declared.context.PathContext.{PathContext}
 use Rattle.iref_grammar.specs.Rules.{Text}
-use Rattle.iref_grammar.specs.Grammar.{slash, colon}
+use Rattle.iref_grammar.specs.Grammar.{slash}
 use Rattle.iref_grammar.specs.Texts.{is_empty}
 use Rattle.iref_grammar.specs.PathValue.{PathValue, read_path, spell_path}
 use Rattle.iref_grammar.proofs.PathLemmas.{read_path-reads}
-use Rattle.iref_path_text.proofs.SlashLemmas.{is_empty-pieces}
 use Rattle.iref_model.specs.Guard.{guarded}
 use Rattle.iref_model.specs.PathSteps.{lazy_pushed, closed_path}
-use Rattle.iref_path_text.specs.Pieces.{pieces_if_some}
 use Rattle.iref_path_text.specs.Spelling.{first_needs_guard, lead}
 use Rattle.iref_path_text.specs.StepTexts.{closed_by}
 
@@ -50,16 +45,6 @@ closed_spelled context p = grind (arith, common_steps, next_pushed)
 
 pub unclosed_spelled : (p : PathValue) → closed_by [] p ≡ spell_path p
 unclosed_spelled p = grind (arith, common_steps)
-
--- ---- of a text
-
-module _ (context : PathContext) (path close : Text) (absolute : Bool) (segments : Option (Bor Text)) (e : read_path path ≡ record { absolute = absolute; segments = pieces_if_some segments }) where
-  pub closed_text : (some : Bool) → some ≡ is_some segments → close ≡ cond some (slash ∷ []) [] → take (length path) path ++ close ≡ spell_path (closed_path context (read_path path))
-  closed_text some h k = grind (arith, append-nil, take_all (length path) path, (read_path-reads path).spelled, is_empty-pieces segments, closed_spelled context (read_path path))
-
--- a colon alone decides where no delimiter stands before
-pub guard_by_colon : (context : PathContext) (rooted : Bool) (s : Text) (has : Bool) → false ≡ (length s == 0) → (rooted || context.has_scheme) ≡ false → has ≡ char_set_contains s colon → has ≡ first_needs_guard context rooted s
-guard_by_colon context rooted s has h e k = grind (arith, common_steps)
 
 -- ---- a beginning of a text
 

@@ -1,9 +1,8 @@
 -- What is left of a path after a prefix: where it is there, and that it is a path.
-use Rattle.std.proofs.Common.{◌≡◌, ℕ, ◌≤◌, true, false, List, [], ◌∷◌, length, take, drop, refl, sym, ◌∙◌, ap, arith}
+use Rattle.std.proofs.Common.{◌≡◌, ℕ, ◌≤◌, true, false, List, [], ◌∷◌, length, take, drop, refl, ap, arith}
 use Rattle.std.specs.Prelude.{◌==◌, Some}
 use Rattle.std.specs.List.{common_prefix_len}
 use Rattle.std.proofs.lemmas.Bool.Decides.{nat_tests}
-use Rattle.std.proofs.lemmas.Option.{cond_some}
 use Rattle.std.proofs.lemmas.List.{take-append-drop}
 use Rattle.iref_grammar.specs.Characters.{CharTests, AreAboveAscii}
 use Rattle.iref_grammar.specs.Contexts.{alone}
@@ -13,8 +12,6 @@ use Rattle.iref_grammar.specs.Grammar.{slash}
 use Rattle.iref_grammar.specs.Tests.{is_path, is_segment}
 use Rattle.iref_grammar.specs.Texts.{lacks}
 use Rattle.iref_grammar.proofs.PathLemmas.{read_path-reads}
-use Rattle.iref_grammar.proofs.TextLemmas.{first_of_both}
-use Rattle.iref_model.specs.Guard.{guarded}
 use Rattle.iref_model.specs.NormalList.{normal_segments}
 use Rattle.iref_model.specs.PathSuffix.{is_decoded_beginning, path_suffix, same_decoded}
 use Rattle.iref_model.proofs.LeadingLemmas.{all_drop}
@@ -39,10 +36,7 @@ suffix-reads set above prefix text left h e =
     let lack = all_drop (lacks slash) n (normal_segments p) (normal-in (lacks slash) lacks_dots p (read_path-reads text).segments) in
     let all = all_drop (is_segment set) n (normal_segments p) (normal_in_grammar set above text h (normal_segments p) refl) in
     let q : PathValue = record { absolute = false; segments = drop n (normal_segments p) } in
-    let same : guarded alone q ≡ left = (cond_some _ _ _ e).1 in (
-      ap (λ r. read_path (spell_path r)) (sym same) ∙ guarded-read alone q lack ∙ same,
-      ap (λ r. is_path set (spell_path r)) (sym same) ∙ first_of_both _ _ (guarded-in_context set above alone q lack all).1,
-    )
+    grind (arith, guarded-read alone q lack, guarded-in_context set above alone q lack all)
 
 -- a list without its first items is not longer
 pub size-drop : (n : ℕ) (list : List Text) → length (each_closed (drop n list)) ≤ length (each_closed list)

@@ -1,4 +1,4 @@
-use Rattle.std.proofs.Common.{arith, cond, length, is_eq, refl, sym, ◌∙◌, ◌≡◌, ◌-◌}
+use Rattle.std.proofs.Common.{arith, cond, length, is_eq, sym, ◌∙◌, ◌≡◌, ◌-◌}
 use Rattle.iref_path_text.specs.Remaining.{normal_left}
 use Rattle.iref_path_text.proofs.CommonLemmas.{nothing_compared, one_more, all_compared}
 use Rattle.iref_path_text.proofs.common.compare_same_length.Goals as goal
@@ -18,16 +18,12 @@ loop-item-preserved c =
     let us = normal_left c.next_back.new.self in
     let so_far = c.loop-item.invariant in
     let here = c.items_cmp-here.result in
+    let common : c.if-not-is_eq.common ≡ cond (is_eq here) c.loop-item.common (c.loop-item.index - 1) = grind arith in
     let read = one_more _ _ _ _ us _ _ _ _ _ _ here so_far.compared so_far.left_len so_far.right_len c.in-Some.ensures.item c.in-Some-next_back.ensures.item c.items_cmp-here.ensures in
     let index : length us ≡ c.loop-item.index - 1 = omega (arith, read) in
     let right : length (normal_left c.next_back-in-Some.new.self) ≡ c.loop-item.index - 1 = omega (arith, read) in
-    let common : c.if-not-is_eq.common ≡ cond (is_eq here) c.loop-item.common (length us) =
-    elim c.if-not-is_eq.branch [
-      | then-not-is_eq w ↦ rw (w.common-is, sym c.is_eq.ensures ∙ w.if-not-is_eq.true) (sym index)
-      | else-not-is_eq w ↦ rw (w.common-is, sym c.is_eq.ensures ∙ w.if-not-is_eq.false) refl
-    ] in
     record {
-      compared = rw (common, c.then-order.ensures) read.2;
+      compared = rw (common, sym index, c.then-order.ensures) read.2;
       left_len = index;
       right_len = right;
       left = c.in-Some.ensures.sound;

@@ -1,6 +1,4 @@
-use Rattle.std.proofs.Common.{◌≡◌, [], length, arith, ap, ◌∙◌}
-use Rattle.iref_path_text.specs.Remaining.{first_or}
-use Rattle.iref_path_text.specs.Spelling.{each_closed}
+use Rattle.std.proofs.Common.{arith, ap, ◌∙◌}
 use Rattle.iref_path_text.specs.Stacks.{in_order, path_of, stacked_text}
 use Rattle.iref_path_text.proofs.SpellLemmas.{normal_size, normalized-spelled, read_size}
 use Rattle.iref_path_text.proofs.spell.normal_bytes.Goals as goal
@@ -19,9 +17,6 @@ pub returns-then-stack : goal.returns-then-stack
 unfolding stacked_text
 returns-then-stack c =
     let stack = c.read.new.self in
-    let list = in_order c.as_slice.result.now in
     let same = ap in_order c.as_slice.ensures ∙ c.read.ensures.listed c.if-stack.true in
-    let size : stack.size ≡ length (each_closed list) = grind arith in
-    let first : stack.first.now ≡ first_or [] list = grind arith in
-    let spelled = normalized-spelled c.args.context (path_of c.args.absolute c.split_root.result.1) list stack.size stack.first.now same size first in
+    let spelled = normalized-spelled c.args.context (path_of c.args.absolute c.split_root.result.1) (in_order c.as_slice.result.now) stack.size stack.first.now same (grind arith) (grind arith) in
     grind arith

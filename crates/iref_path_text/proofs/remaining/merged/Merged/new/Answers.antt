@@ -2,10 +2,9 @@ use Rattle.std.proofs.Common.{arith, ap, subst, refl, sym, ◌∙◌}
 use Rattle.iref_model.specs.NormalReading.{staying_before}
 use Rattle.iref_path_text.specs.Merged.{IsMergeSound, merged_left, merged_list, merged_path}
 use Rattle.iref_path_text.proofs.MergedLemmas.{count_most, ends-both, first-parts, size-parts, size_most}
-use Rattle.iref_path_text.proofs.RemainingLemmas.{length-parts}
+use Rattle.iref_path_text.proofs.RemainingLemmas.{length-parts, one_empty, parts-whole}
 use Rattle.iref_path_text.proofs.RewritingLemmas.{root_is}
 use Rattle.iref_path_text.proofs.SpellLemmas.{kept_size, list_size}
-use Rattle.iref_path_text.proofs.RemainingLemmas.{one_empty, parts-whole}
 use Rattle.iref_path_text.proofs.remaining.merged.Merged.new.Goals as goal
 
 pub returns-then-is_one_empty-clause-items : goal.returns-then-is_one_empty-clause-items
