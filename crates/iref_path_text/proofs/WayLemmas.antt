@@ -1,5 +1,5 @@
 -- The way from the directory of one path to another, up to their common beginning and down.
-use Rattle.std.proofs.Common.{◌≡◌, ◌+◌, ◌-◌, ◌*◌, ◌<◌, ◌≤◌, List, [], ◌∷◌, ◌++◌, length, sym, ap, arith, length-append}
+use Rattle.std.proofs.Common.{◌≡◌, ◌+◌, ◌-◌, ◌*◌, ◌<◌, ◌≤◌, List, [], ◌∷◌, ◌++◌, length, sym, arith, length-append}
 use Rattle.std.specs.Prelude.{Option, Some, None, MatchOption}
 use Rattle.std.specs.Borrow.{Bor}
 use Rattle.std.specs.List.{common_prefix_len}
@@ -37,7 +37,7 @@ last_taken list items left (Some s) e h = grind (arith, all_but_last-snoc left s
 
 size-with_last : (list : List Text) → length (each_closed (with_last list)) ≤ length (each_closed list) + 1
 size-with_last [] = omega arith
-size-with_last (s ∷ rest) = let same = ap (λ items. length (each_closed items)) (divided_last s rest) in omega (arith, same)
+size-with_last (s ∷ rest) = grind (arith, divided_last s rest)
 
 pub size-steps : (directory list : List Text) → length (each_closed (steps_between directory list)) ≤ 3 * length directory + length (each_closed list) + 1
 size-steps directory list =

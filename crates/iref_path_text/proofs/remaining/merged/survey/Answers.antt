@@ -1,6 +1,6 @@
-use Rattle.std.proofs.Common.{◌∷◌, [], ap, arith, length, length-append, refl, rules, ◌∙◌}
+use Rattle.std.proofs.Common.{arith, length-append, refl, rules}
 use Rattle.iref_model.specs.NormalReading.{staying_before}
-use Rattle.iref_path_text.specs.Merged.{merged_list, merged_names}
+use Rattle.iref_path_text.specs.Merged.{merged_list}
 use Rattle.iref_path_text.proofs.SpellLemmas.{kept_size, list_size}
 use Rattle.iref_path_text.proofs.MergedLemmas.{size_last}
 use Rattle.iref_path_text.proofs.remaining.merged.survey.Goals as goal
@@ -19,8 +19,7 @@ loop-name-init c = record {
 pub overflow_add-names : goal.overflow_add-names
 overflow_add-names c =
     let list = merged_list c.args.front c.args.back in
-    let one = ap length c.in-Some.ensures.name ∙ length-append (merged_names c.next_back_name.new.self) (c.in-Some.name.now ∷ []) in
-    omega (arith, one, list_size (staying_before list 0), kept_size list)
+    grind (arith, length-append, list_size (staying_before list 0), kept_size list)
 
 pub overflow_add-size-in-Some : goal.overflow_add-size-in-Some
 overflow_add-size-in-Some c =
