@@ -1,9 +1,9 @@
 -- A part of an authority replaced in its text.
-use Rattle.std.proofs.Common.{◌≡◌, ℕ, ◌+◌, true, [], ◌∷◌, ◌++◌, length, refl, sym, ap, ◌∙◌, ◌&&◌, length-append, append_assoc, arith, rules, subst, lit<}
-use Rattle.std.specs.Prelude.{Option, Some, None, Result, OnOk, MatchResult}
+use Rattle.std.proofs.Common.{◌≡◌, ℕ, ◌+◌, true, [], ◌∷◌, ◌++◌, length, refl, sym, ◌∙◌, length-append, append_assoc, arith, rules, subst, lit<}
+use Rattle.std.proofs.lemmas.Grind.{common_steps}
+use Rattle.std.specs.Prelude.{Option, Some, None, Result, MatchResult}
 use Rattle.std.specs.List.{splice, slice_range}
 use Rattle.std.specs.Str.{IsCharBoundary, IsUtf8}
-use Rattle.std.proofs.lemmas.Bool.{and_from}
 use Rattle.std.proofs.lemmas.List.{places, same_lists}
 use Rattle.std.proofs.lemmas.Str.{IsCharBoundary-start, IsCharBoundary-end, IsCharBoundary-at_seam}
 use Rattle.std.proofs.lemmas.Result.{MatchResult-weaker}
@@ -49,13 +49,11 @@ part_then-length mark (Some part) = length-append part (mark ∷ [])
 -- a text that spells parts in their rules is read as them
 pub spells_parts : (set : CharTests) → AreAboveAscii set → (text : Text) (value : AuthorityValue) → text ≡ spell_authority value → has_authority_parts set value ≡ true → SpellsAuthority set text value
 unfolding is_authority
-spells_parts set above text value e h =
-    let back = ap read_authority e ∙ authority_read set above value ((Decides-has_authority_parts set above value).0 h) in
-    record { spelled = e; in_rule = ap (has_authority_parts set) back ∙ h; read = back }
+spells_parts set above text value e h = grind (arith, common_steps, authority_read, Decides-has_authority_parts)
 
 parts_with : (set : CharTests) (a : AuthorityValue) → none_or (is_user_info set) a.user_info ≡ true → is_host set a.host ≡ true → none_or is_port a.port ≡ true → has_authority_parts set a ≡ true
 unfolding has_authority_parts
-parts_with set a u h p = and_from (none_or (is_user_info set) a.user_info && is_host set a.host) (none_or is_port a.port) (and_from (none_or (is_user_info set) a.user_info) (is_host set a.host) u h) p
+parts_with set a u h p = grind arith
 
 -- a is what the text, which is an authority, is read as
 module _ (set : CharTests) (above : AreAboveAscii set) (text : Text) (a : AuthorityValue) (e : a ≡ read_authority text) (h : is_authority set text ≡ true) where
@@ -67,7 +65,7 @@ module _ (set : CharTests) (above : AreAboveAscii set) (text : Text) (a : Author
 
   text_is : text ≡ user ++ a.host ++ port
   unfolding spell_authority
-  text_is = sym (ap spell_authority e ∙ read_authority-spelled text)
+  text_is = grind (arith, common_steps, read_authority-spelled)
 
   user_length : length user ≡ marked_length a.user_info
   user_length = part_then-length at_sign a.user_info
@@ -77,92 +75,73 @@ module _ (set : CharTests) (above : AreAboveAscii set) (text : Text) (a : Author
   unfolding spell_authority
   tail_is_text =
       let tail : AuthorityValue = record a { user_info = None } in
-      let parts = parts_with set tail refl (host_in_rule set text a e h) (port_in_rule set text a e h) in
-      authority_is_text set above (a.host ++ port) (spells_parts set above (a.host ++ port) tail refl parts).in_rule
+      grind (arith, common_steps, authority_is_text set above (a.host ++ port), spells_parts set above (a.host ++ port) tail, parts_with set tail, host_in_rule set text a, port_in_rule set text a)
 
   after_user : IsCharBoundary text (marked_length a.user_info)
   after_user = subst (IsCharBoundary text) user_length (IsCharBoundary-at_seam text user (a.host ++ port) (text_is ∙ append_assoc user a.host port) tail_is_text)
 
-  front_length : length (user ++ a.host) ≡ marked_length a.user_info + length a.host
-  front_length = length-append user a.host ∙ ap (λ n. n + length a.host) user_length
-
   before_port : IsCharBoundary text (marked_length a.user_info + length a.host)
-  before_port = subst (IsCharBoundary text) front_length (mark_boundary colon (user ++ a.host) a.port text (lit< tt) (sym text_is))
+  before_port =
+      let front : length (user ++ a.host) ≡ marked_length a.user_info + length a.host = omega (arith, user_length, length-append user a.host) in
+      subst (IsCharBoundary text) front (mark_boundary colon (user ++ a.host) a.port text (lit< tt) (sym text_is))
 
   -- ---- the user info
 
   pub user_info_within : IsWithin text (record { start = 0; end = marked_length a.user_info })
-  user_info_within = record { start_le_end = omega arith; start = IsCharBoundary-start text (authority_is_text set above text h); end = after_user }
+  user_info_within = grind (arith, common_steps, IsCharBoundary-start, authority_is_text, after_user)
 
   user_info_put : (u : Option Text) → splice text 0 (marked_length a.user_info) (part_then (at_sign ∷ []) u) ≡ spell_authority (with_user_info u a)
   unfolding spell_authority
-  user_info_put u = (λ i. splice (text_is i) 0 (sym user_length i) (part_then (at_sign ∷ []) u)) ∙ front_replaced user a.host port (part_then (at_sign ∷ []) u)
+  user_info_put u = grind (arith, common_steps, text_is, user_length, front_replaced)
 
   pub user_info_replaced : (u : Option Text) → none_or (is_user_info set) u ≡ true → SpellsAuthority set (splice text 0 (marked_length a.user_info) (part_then (at_sign ∷ []) u)) (with_user_info u (read_authority text))
   user_info_replaced u k =
-      subst (λ v. SpellsAuthority set (splice text 0 (marked_length a.user_info) (part_then (at_sign ∷ []) u)) (with_user_info u v)) e
-      (spells_parts set above _ (with_user_info u a) (user_info_put u) (parts_with set (with_user_info u a) k (host_in_rule set text a e h) (port_in_rule set text a e h)))
+      rw (← e) (spells_parts set above _ (with_user_info u a) (user_info_put u) (parts_with set (with_user_info u a) k (host_in_rule set text a e h) (port_in_rule set text a e h)))
 
   -- ---- the host
 
   pub host_within : IsWithin text (record { start = marked_length a.user_info; end = marked_length a.user_info + length a.host })
-  host_within = record { start_le_end = omega arith; start = after_user; end = before_port }
+  host_within = grind (arith, after_user, before_port)
 
   host_put : (x : Text) → splice text (marked_length a.user_info) (marked_length a.user_info + length a.host) x ≡ spell_authority (with_host x a)
   unfolding spell_authority
-  host_put x = (λ i. splice (text_is i) (sym user_length i) (sym user_length i + length a.host) x) ∙ middle_replaced user a.host port x
+  host_put x = grind (arith, common_steps, text_is, user_length, middle_replaced)
 
   pub host_replaced : (x : Text) → is_host set x ≡ true → SpellsAuthority set (splice text (marked_length a.user_info) (marked_length a.user_info + length a.host) x) (with_host x (read_authority text))
   host_replaced x k =
-      subst (λ v. SpellsAuthority set (splice text (marked_length a.user_info) (marked_length a.user_info + length a.host) x) (with_host x v)) e
-      (spells_parts set above _ (with_host x a) (host_put x) (parts_with set (with_host x a) (user_info_in_rule set text a e h) k (port_in_rule set text a e h)))
+      rw (← e) (spells_parts set above _ (with_host x a) (host_put x) (parts_with set (with_host x a) (user_info_in_rule set text a e h) k (port_in_rule set text a e h)))
 
   -- ---- the port
 
   pub port_within : IsWithin text (record { start = marked_length a.user_info + length a.host; end = length text })
-  port_within = record { start_le_end = before_port.0; start = before_port; end = IsCharBoundary-end text }
+  port_within = grind (arith, before_port, IsCharBoundary-end)
 
   port_put : (p : Option Text) → splice text (marked_length a.user_info + length a.host) (length text) (then_part (colon ∷ []) p) ≡ spell_authority (with_port p a)
   unfolding spell_authority
-  port_put p = (λ i. splice (text_is i) (sym user_length i + length a.host) (length (text_is i)) (then_part (colon ∷ []) p)) ∙ end_replaced user a.host port (then_part (colon ∷ []) p)
+  port_put p = grind (arith, common_steps, text_is, user_length, end_replaced)
 
   pub port_replaced : (p : Option Text) → none_or is_port p ≡ true → SpellsAuthority set (splice text (marked_length a.user_info + length a.host) (length text) (then_part (colon ∷ []) p)) (with_port p (read_authority text))
   port_replaced p k =
-      subst (λ v. SpellsAuthority set (splice text (marked_length a.user_info + length a.host) (length text) (then_part (colon ∷ []) p)) (with_port p v)) e
-      (spells_parts set above _ (with_port p a) (port_put p) (parts_with set (with_port p a) (user_info_in_rule set text a e h) (host_in_rule set text a e h) k))
+      rw (← e) (spells_parts set above _ (with_port p a) (port_put p) (parts_with set (with_port p a) (user_info_in_rule set text a e h) (host_in_rule set text a e h) k))
 
 -- ---- the whole
 
 pub whole_within : (set : CharTests) → AreAboveAscii set → (text : Text) → is_authority set text ≡ true → IsWithin text (record { start = 0; end = length text })
-whole_within set above text h = record { start_le_end = omega arith; start = IsCharBoundary-start text (authority_is_text set above text h); end = IsCharBoundary-end text }
+whole_within set above text h = grind (arith, common_steps, IsCharBoundary-start, authority_is_text, IsCharBoundary-end)
 
 pub whole_put : (set : CharTests) (text authority : Text) → is_authority set authority ≡ true → SpellsAuthority set (splice text 0 (length text) authority) (read_authority authority)
-whole_put set text authority h =
-    let e = whole_replaced text authority in
-    record { spelled = e ∙ sym (read_authority-spelled authority); in_rule = ap (is_authority set) e ∙ h; read = ap read_authority e }
+whole_put set text authority h = grind (arith, common_steps, whole_replaced text authority, read_authority-spelled)
 
 -- all of the text replaced by a step
 step_of_whole : (step : AuthorityValue → AuthorityValue) (old new : Text) (start end new_start new_end : ℕ) → start ≡ 0 → end ≡ length old
     → new ≡ splice old start end (spell_authority (step (read_authority (slice_range old start end)))) → new_start ≡ start → new_end ≡ start + length (spell_authority (step (read_authority (slice_range old start end))))
     → read_authority (slice_range new new_start new_end) ≡ step (read_authority (slice_range old start end)) → IsStep step old new
-step_of_whole step old new start end new_start new_end a b e f g r =
-    let all : slice_range old start end ≡ old = slice_whole old start end a b in
-    let spelled : new ≡ spell_authority (step (read_authority old)) = e ∙ (λ i. splice old (a i) (b i) (spell_authority (step (read_authority (all i))))) ∙ whole_replaced old _ in
-    let of_zero : (n : ℕ) → 0 + n ≡ n = λ n. omega arith in
-    let ends : new_end ≡ length new = g ∙ (λ i. a i + length (spell_authority (step (read_authority (all i))))) ∙ of_zero _ ∙ ap length (sym spelled) in
-    (spelled, ap read_authority (sym (slice_whole new new_start new_end (f ∙ a) ends)) ∙ r ∙ ap (λ t. step (read_authority t)) all)
+step_of_whole step old new start end new_start new_end a b e f g r = grind (arith, common_steps, slice_whole, whole_replaced)
 
 -- an edit of an editor of all of a text
 module _ {C T c H : _} {R E : Type 0} (result : Result R E) (text : Text) (old new : AuthorityMut C T c H) (bytes : edited_bytes old ≡ text) (start : authority_mut_start old ≡ 0) (end : authority_mut_end old ≡ length text) where
-  pub whole_text : (authority : Text) → Edits (λ _. read_authority authority) old new result → OnOk result (edited_bytes new ≡ authority)
-  whole_text authority edits =
-      MatchResult-weaker result edits.outcome
-      (λ _ b. b.bytes ∙ (λ i. splice (bytes i) (start i) (end i) (read_authority-spelled authority i)) ∙ whole_replaced text authority)
-      (λ _ _. tt)
-
   pub whole_edits : (step : AuthorityValue → AuthorityValue) → Edits step old new result → MatchResult result (λ _. IsStep step text (edited_bytes new)) (λ _. edited_bytes new ≡ text)
   whole_edits step edits =
       MatchResult-weaker result edits.outcome
-      (λ _ b. subst (λ t. IsStep step t (edited_bytes new)) bytes
-      (step_of_whole step (edited_bytes old) (edited_bytes new) old.range.start old.range.end new.range.start new.range.end start (end ∙ ap length (sym bytes)) b.bytes b.from b.to b.reads))
+      (λ _ b. grind (arith, common_steps, step_of_whole step (edited_bytes old) (edited_bytes new) old.range.start old.range.end new.range.start new.range.end))
       (λ _ same. same.bytes ∙ bytes)

@@ -1,5 +1,6 @@
 -- Several edits of one path, seen as one.
-use Rattle.std.proofs.Common.{rules, Bool, not, true, false, cond, ◌≡◌, ℕ, ◌+◌, ◌≤◌, List, [], ◌∷◌, ◌++◌, length, fold, map, refl, sym, ap, ◌∙◌, subst, arith}
+use Rattle.std.proofs.Common.{rules, Bool, not, true, false, ◌≡◌, ℕ, ◌+◌, ◌≤◌, List, [], ◌∷◌, ◌++◌, length, fold, map, refl, subst, arith}
+use Rattle.std.proofs.lemmas.Grind.{common_steps}
 use Rattle.std.specs.List.{splice, slice_range}
 use Rattle.std.specs.Iterator.{Drains, YieldsFirstBy}
 use Rattle.std.proofs.lemmas.Iterator.{items_from_drains}
@@ -9,7 +10,7 @@ use Rattle.std.proofs.lemmas.List.Sums.{fold-append}
 use Rattle.std.proofs.lemmas.List.{map-append}
 use Rattle.iref_grammar.specs.declared.context.PathContext.{PathContext}
 use Rattle.iref_grammar.specs.Rules.{Text}
-use Rattle.iref_grammar.specs.PathValue.{PathValue, read_path, spell_path}
+use Rattle.iref_grammar.specs.PathValue.{PathValue, read_path}
 use Rattle.iref_grammar.proofs.PathLemmas.{read_path-reads}
 use Rattle.iref_model.specs.NormalList.{is_name, ends_in_dots}
 use Rattle.iref_model.specs.PathSteps.{lazy_pushed, lazy_appended, followed, pushed, closed_path, appended, joined, replaced, from_segments}
@@ -31,43 +32,25 @@ splice_over bytes first second start end a b = same_lists _ _ (search (rules, pl
 -- no edit yet
 pub no_edit : {C : _} {T : _} {c : _} {t : _} (p : PathMut C T c t) → p.range.start ≤ p.range.end → p.range.end ≤ length (edited_bytes p) → BecomesPath p p (path_mut_value p)
 no_edit p a b =
-    let spelled = (read_path-reads (path_mut_text p)).spelled in record {
-      bytes = sym (splice_same (edited_bytes p) p.range.start p.range.end a b) ∙ ap (splice (edited_bytes p) p.range.start p.range.end) (sym spelled);
-      context = refl;
-      from = refl;
-      to = sym (slice_len (edited_bytes p) p.range.start p.range.end a b) ∙ ap (λ text. p.range.start + length text) (sym spelled);
-      read = refl;
-    }
+    let spelled = (read_path-reads (path_mut_text p)).spelled in
+    grind (arith, spelled, splice_same (edited_bytes p) p.range.start p.range.end a b, slice_len (edited_bytes p) p.range.start p.range.end a b)
 
 -- an edit after another
 pub edit_then : {C : _} {T : _} {c : _} {t : _} {p q r : PathMut C T c t} {value next : PathValue} → p.range.start ≤ p.range.end → p.range.end ≤ length (edited_bytes p) → BecomesPath p q value → BecomesPath q r next → BecomesPath p r next
-edit_then {C} {T} {c} {t} {p} {q} {r} {value} {next} h k first second = record {
-  bytes = second.bytes ∙ (λ i. splice (first.bytes i) (first.from i) (first.to i) (spell_path next)) ∙ splice_over (edited_bytes p) (spell_path value) (spell_path next) p.range.start p.range.end h k;
-  context = second.context ∙ first.context;
-  from = second.from ∙ first.from;
-  to = second.to ∙ ap (λ start. start + length (spell_path next)) first.from;
-  read = second.read;
-}
+edit_then h k first second = grind (arith, common_steps, splice_over)
 
 -- a refused edit after another
 pub refused_then : {C : _} {T : _} {c : _} {t : _} {p q r : PathMut C T c t} {value : PathValue} → BecomesPath p q value → IsUnchanged q r → BecomesPath p r value
-refused_then {C} {T} {c} {t} {p} {q} {r} {value} first same = record {
-  bytes = same.bytes ∙ first.bytes;
-  context = same.context ∙ first.context;
-  from = same.from ∙ first.from;
-  to = same.to ∙ first.to;
-  read = (λ i. read_path (slice_range (same.bytes i) (same.from i) (same.to i))) ∙ first.read;
-}
+refused_then first same = grind arith
 
 -- a step after another
 pub next_edit : {C : _} {T : _} {c : _} {t : _} {p q r : PathMut C T c t} {value : PathValue} (next : PathContext → PathValue → PathValue) → p.range.start ≤ p.range.end → p.range.end ≤ length (edited_bytes p) → BecomesPath p q value
     → BecomesPath q r (next (path_mut_context q) (path_mut_value q)) → BecomesPath p r (next (path_mut_context p) value)
-next_edit {C} {T} {c} {t} {p} {q} {r} next h k first second =
-    subst (BecomesPath p r) (λ i. next (first.context i) (first.read i)) (edit_then h k first second)
+next_edit {p = p} {r = r} next h k first second = subst (BecomesPath p r) (λ i. next (first.context i) (first.read i)) (edit_then h k first second)
 
 -- one more segment followed
 pub followed_next : {X : Type 0} (view : X → Text) (context : PathContext) (p : PathValue) (items : List X) (x : X) → fold (followed context) p (map view (items ++ x ∷ [])) ≡ followed context (fold (followed context) p (map view items)) (view x)
-followed_next view context p items x = ap (fold (followed context) p) (map-append view items (x ∷ [])) ∙ fold-append (followed context) p (map view items) (view x ∷ [])
+followed_next view context p items x = grind (arith, common_steps, map-append, fold-append)
 
 -- one more segment pushed as it is
 pub lazy_appended_none : (context : PathContext) (p : PathValue) → lazy_appended context [] p ≡ p
@@ -76,22 +59,20 @@ lazy_appended_none context p = refl
 
 pub lazy_appended_next : {X : Type 0} (view : X → Text) (context : PathContext) (p : PathValue) (items : List X) (x : X) → lazy_appended context (map view (items ++ x ∷ [])) p ≡ lazy_pushed context (view x) (lazy_appended context (map view items) p)
 unfolding lazy_appended
-lazy_appended_next view context p items x =
-    let push : PathValue → Text → PathValue = λ q s. lazy_pushed context s q in
-    ap (fold push p) (map-append view items (x ∷ [])) ∙ fold-append push p (map view items) (view x ∷ [])
+lazy_appended_next view context p items x = grind (arith, common_steps, map-append, fold-append)
 
 -- whether the segments end in dots after one more
 pub dots_next : {X : Type 0} (view : X → Text) (items : List X) (x : X) → ends_in_dots (map view (items ++ x ∷ [])) ≡ not (is_name (view x))
-dots_next view items x = ap ends_in_dots (map-append view items (x ∷ [])) ∙ ends-last (map view items) (view x)
+dots_next view items x = grind (arith, common_steps, map-append, ends-last)
 
 -- what is appended, by whether the list ends in dots
 pub appended_closed : (context : PathContext) (items : List Text) (p : PathValue) → ends_in_dots items ≡ true → appended context items p ≡ closed_path context (fold (followed context) p items)
 unfolding appended
-appended_closed context items p h = ap (λ b. cond b (closed_path context (fold (followed context) p items)) (fold (followed context) p items)) h
+appended_closed context items p h = grind arith
 
 pub appended_open : (context : PathContext) (items : List Text) (p : PathValue) → ends_in_dots items ≡ false → appended context items p ≡ fold (followed context) p items
 unfolding appended
-appended_open context items p h = ap (λ b. cond b (closed_path context (fold (followed context) p items)) (fold (followed context) p items)) h
+appended_open context items p h = grind arith
 
 -- what an iterator of a list gives
 pub items_drained : {S A : Type 0} (view : A → Text) (rest : S → List Text) (s : S) (items : List A) → Drains (YieldsFirstBy view rest) s items → map view items ≡ rest s
@@ -100,17 +81,16 @@ items_drained view rest s items (after, (left, given, none)) = items_from_drains
 -- the value of a copy after an edit
 pub copy_edit : {C : _} {T : _} {c : _} {t : _} {p q : PathMut C T c t} {bytes : Text} {context : PathContext} {n : ℕ} (step : PathContext → PathValue → PathValue) → IsEditorOf p bytes context 0 n → n ≡ length bytes
     → BecomesPath p q (step (path_mut_context p) (path_mut_value p)) → path_mut_value q ≡ step context (read_path bytes)
-copy_edit {C} {T} {c} {t} {p} {q} {bytes} {context} {n} step of len e =
-    e.read ∙ (λ i. step (of.context_is i) (read_path (slice_range (of.bytes_are i) (of.from i) (of.to i)))) ∙ ap (λ text. step context (read_path text)) (slice_all bytes 0 n refl (omega (arith, len)))
+copy_edit {bytes = bytes} {n = n} step of len e = grind (arith, slice_all bytes 0 n)
 
 -- what is joined, by whether it is absolute
 pub joined_absolute : (context : PathContext) (new p : PathValue) → new.absolute ≡ true → joined context new p ≡ replaced context new p
 unfolding joined
-joined_absolute context new p h = ap (λ b. cond b (replaced context new p) (appended context new.segments p)) h
+joined_absolute context new p h = grind arith
 
 pub joined_relative : (context : PathContext) (new p : PathValue) → new.absolute ≡ false → joined context new p ≡ appended context new.segments p
 unfolding joined
-joined_relative context new p h = ap (λ b. cond b (replaced context new p) (appended context new.segments p)) h
+joined_relative context new p h = grind arith
 
 -- one more segment of a list pushed
 pub from_segments_none : (absolute : Bool) → from_segments absolute [] ≡ record { absolute = absolute; segments = [] }
@@ -119,7 +99,4 @@ from_segments_none absolute = refl
 
 pub from_segments_next : {X : Type 0} (view : X → Text) (absolute : Bool) (items : List X) (x : X) → from_segments absolute (map view (items ++ x ∷ [])) ≡ pushed alone (view x) (from_segments absolute (map view items))
 unfolding from_segments
-from_segments_next view absolute items x =
-    let push : PathValue → Text → PathValue = λ p s. pushed alone s p in
-    let none : PathValue = record { absolute = absolute; segments = [] } in
-    ap (fold push none) (map-append view items (x ∷ [])) ∙ fold-append push none (map view items) (view x ∷ [])
+from_segments_next view absolute items x = grind (arith, common_steps, map-append, fold-append)

@@ -1,18 +1,18 @@
 -- The text that an edit leaves.
-use Rattle.std.proofs.Common.{Bool, true, subst, ◌≡◌, ℕ, ◌+◌, ◌-◌, [], ◌++◌, length, take, refl, sym, ap, ◌∙◌, arith}
+use Rattle.std.proofs.Common.{Bool, true, ◌≡◌, ℕ, ◌+◌, ◌-◌, [], ◌++◌, length, sym, ap, ◌∙◌, arith}
+use Rattle.std.proofs.lemmas.Grind.{common_steps}
 use Rattle.std.proofs.lemmas.List.{append-nil, drop_all, take_all}
 use Rattle.std.specs.List.{splice, slice_range}
 use Rattle.iref_grammar.specs.declared.context.PathContext.{PathContext}
 use Rattle.iref_grammar.specs.Rules.{Text}
 use Rattle.iref_grammar.specs.Characters.{AreAboveAscii, CharTests}
-use Rattle.iref_grammar.specs.Contexts.{follows_authority, is_path_in}
+use Rattle.iref_grammar.specs.Contexts.{is_path_in}
 use Rattle.iref_grammar.specs.Tests.{is_path}
 use Rattle.iref_grammar.proofs.TextLemmas.{first_of_both}
 use Rattle.iref_grammar.proofs.PathLemmas.{read_path-reads}
 use Rattle.iref_model.specs.DotSegments.{RemovesDotSegments}
 use Rattle.iref_model.specs.PathSteps.{normalized}
 use Rattle.iref_model.proofs.RewritingLemmas.{path_removes_dot_segments}
-use Rattle.iref_path_text.specs.Remaining.{flagged_path}
 use Rattle.iref_path_text.specs.Rewriting.{rewritten}
 use Rattle.iref_path_text.specs.Spelling.{normal_in}
 use Rattle.iref_path_text.proofs.SpellLemmas.{normalized-in_context}
@@ -24,59 +24,48 @@ use Rattle.iref_component.specs.PathEdits.{edited_bytes, path_mut_context, path_
 
 -- the part after a step
 pub step_spliced : (path : Text) (step : Step) (n : ℕ) → n ≡ length path → splice path step.keep n (step.lead.now ++ step.middle.now ++ step.close.now) ≡ step_text path step
-step_spliced path step n e =
-    let pieces = step.lead.now ++ step.middle.now ++ step.close.now in
-    ap (λ rest. take step.keep path ++ (pieces ++ rest)) (drop_all n path (omega (arith, e))) ∙ ap (λ rest. take step.keep path ++ rest) (append-nil pieces)
+step_spliced path step n e = grind (arith, common_steps, drop_all)
 
 -- all of a text replaced
 pub whole_text : (old new text : Text) (start end : ℕ) → new ≡ splice old start end text → start ≡ 0 → end ≡ length old → new ≡ text
-whole_text old new text start end e from to =
-    e ∙ (λ i. splice old (from i) (to i) text) ∙ ap (λ rest. text ++ rest) (drop_all (length old) old (omega arith)) ∙ append-nil text
+whole_text old new text start end e from to = grind (arith, common_steps, drop_all)
+
+pub splice_all : (old text : Text) (start end : ℕ) → start ≡ 0 → end ≡ length old → splice old start end text ≡ text
+splice_all old text start end from to = grind (arith, common_steps, drop_all)
 
 pub slice_all : (text : Text) (start end : ℕ) → start ≡ 0 → end ≡ start + length text → slice_range text start end ≡ text
-slice_all text start end from to = (λ i. slice_range text (from i) end) ∙ take_all (end - 0) text (omega (arith, from, to))
+slice_all text start end from to = grind (arith, common_steps, take_all)
 
 -- the text that an editor of a whole text edits
 pub whole_edited : {C : _} {T : _} {c : _} {t : _} {p : PathMut C T c t} {bytes : Text} {context : PathContext} → IsEditorOf p bytes context 0 (length bytes) → path_mut_text p ≡ bytes
-whole_edited {bytes = bytes} of = (λ i. slice_range (of.bytes_are i) (of.from i) (of.to i)) ∙ slice_all bytes 0 (length bytes) refl (omega arith)
+whole_edited {bytes = bytes} of = grind (arith, slice_all bytes 0 (length bytes))
 
 -- the text and the value of a whole text after an edit by a step
 pub whole_edit : {C : _} {T : _} {c : _} {t : _} {old new : PathMut C T c t} {bytes : Text} {context : PathContext} (step : PathContext → PathValue → PathValue)
     → IsEditorOf old bytes context 0 (length bytes) → BecomesPath old new (step (path_mut_context old) (path_mut_value old))
     → let value = step context (read_path bytes) in (edited_bytes new ≡ spell_path value) × (read_path (edited_bytes new) ≡ value)
-whole_edit {C} {T} {c} {t} {old} {new} {bytes} {context} step of e =
-    let value : step (path_mut_context old) (path_mut_value old) ≡ step context (read_path bytes) =
-    (λ i. step (of.context_is i) (read_path (whole_edited of i))) in
-    let whole = whole_text (edited_bytes old) (edited_bytes new) (spell_path _) old.range.start old.range.end e.bytes of.from (of.to ∙ sym (ap length of.bytes_are)) in
-    let slice = slice_all (edited_bytes new) new.range.start new.range.end (e.from ∙ of.from) (omega (arith, e.from, e.to, ap length whole)) in
-    (whole ∙ ap spell_path value, ap read_path (sym slice) ∙ e.read ∙ value)
+whole_edit {new = new} step of e = grind (arith, common_steps, whole_edited of, whole_text, slice_all (edited_bytes new) new.range.start new.range.end)
 
 -- the text that replaces a whole path is one step
 pub put_steps : (set : CharTests) (context : PathContext) (old text : Text) (value : PathValue) → is_path_after set context text ≡ true → (is_path_in set context old ≡ true → is_path_in set context text ≡ true) → read_path text ≡ value
     → StepsTo set context old (text ++ []) value
-put_steps set context old text value path reads e = record {
-  spelled = append-nil text ∙ sym (read_path-reads text).spelled ∙ ap spell_path e;
-  read = ap read_path (append-nil text) ∙ e;
-  path = ap (is_path_after set context) (append-nil text) ∙ path;
-  reads = λ h. ap (is_path_in set context) (append-nil text) ∙ reads h;
-}
+put_steps set context old text value path reads e = rw append-nil (record { spelled = sym (read_path-reads text).spelled ∙ ap spell_path e; read = e; path = path; reads = reads })
 
 -- the normal path of a text, by the flag that it is read with
 pub normal_value : (context : PathContext) (absolute : Bool) (path old : Text) → absolute ≡ (read_path old).absolute → path ≡ old → normal_in context absolute path ≡ normalized context (read_path old)
-normal_value context absolute path old a e = λ i. normalized context (flagged_path (a i) (e i))
+normal_value context absolute path old a e = grind arith
 
 -- what is left of the dots of a text once its normal path stands there
 pub normal_dots : (context : PathContext) (old new : Text) → context.has_authority ≡ true → (read_path old).absolute ≡ true → read_path new ≡ normalized context (read_path old) → RemovesDotSegments old [] new
 normal_dots context old new authority absolute e =
     let removed = path_removes_dot_segments context (read_path old) authority absolute (read_path-reads old).segments in
-    let text : spell_path (normalized context (read_path old)) ≡ new = sym (ap spell_path e) ∙ (read_path-reads new).spelled in
-    subst (λ left. RemovesDotSegments old [] left) text (subst (λ input. RemovesDotSegments input [] (spell_path (normalized context (read_path old)))) (read_path-reads old).spelled removed)
+    rw (← e, (read_path-reads new).spelled, (read_path-reads old).spelled) at removed
 
 -- the normal form that is written over the path may stand there
 pub normal_fits : (set : CharTests) → AreAboveAscii set → (context : PathContext) (path old lead : Text) → path ≡ old → rewritten lead path ≡ spell_path (normalized context (read_path path)) → is_path_after set context path ≡ true
     → (rewritten lead old ≡ spell_path (normalized context (read_path old))) × (is_path_in set context (rewritten lead old) ≡ true) × (is_path_after set context (rewritten lead old) ≡ true)
 normal_fits set above context path old lead e spelled h =
-    let text : rewritten lead old ≡ spell_path (normalized context (read_path old)) = ap (rewritten lead) (sym e) ∙ spelled ∙ ap (λ t. spell_path (normalized context (read_path t))) e in
-    let path_is : is_path set old ≡ true = first_of_both (is_path set old) (follows_authority context (read_path old)) (ap (is_path_after set context) (sym e) ∙ h) in
+    let text = rw e at spelled in
+    let path_is : is_path set old ≡ true = first_of_both _ _ (rw e at h) in
     let fit = normalized-in_context context (read_path old).absolute old set above path_is in
     (text, ap (is_path_in set context) text ∙ fit.0, ap (is_path_after set context) text ∙ fit.1)

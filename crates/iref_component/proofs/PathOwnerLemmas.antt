@@ -1,10 +1,9 @@
 -- What an edit by its editor leaves of an owned path.
-use Rattle.std.proofs.Common.{◌≡◌, Option, Result, map, length, ap, ◌∙◌}
+use Rattle.std.proofs.Common.{◌≡◌, Option, Result, map, length, ◌∙◌, arith}
 use Rattle.std.specs.Borrow.{Bor}
 use Rattle.std.proofs.lemmas.Result.{MatchResult-weaker}
 use Rattle.iref_grammar.specs.Characters.{CharTests}
 use Rattle.iref_grammar.specs.Contexts.{alone}
-use Rattle.iref_grammar.specs.PathValue.{read_path}
 use Rattle.iref_grammar.specs.Rules.{Text}
 use Rattle.iref_component.specs.declared.text.RuleText.{RuleText}
 use Rattle.iref_component.specs.Components.{text_of}
@@ -17,8 +16,7 @@ use Rattle.iref_component.proofs.PathEditLemmas.{whole_edit}
 
 module _ {C : _} {T : _} {c : _} {t : _} {Z U D Q z u q d : _} (before after : RuleText Z U D Q z u q d) {old : PathMut C T c t} (new : PathMut C T c t) (of : IsEditorOf old (text_of before) alone 0 (length (text_of before))) (same : text_of after ≡ edited_bytes new) where
   pub owner_becomes : (step : PathStep) → Becomes old new step → OwnerBecomes before after step
-  owner_becomes step e =
-      let whole = whole_edit step of e in record { text = same ∙ whole.0; read = ap read_path same ∙ whole.1 }
+  owner_becomes step e = grind (arith, whole_edit step of e)
 
   pub owner_edited : {V E : Type 0} (step : PathStep) (result : Result V E) → Edits step old new result → EditsOwner (step alone) before after result
   owner_edited step result e = MatchResult-weaker result e.outcome (λ _ becomes. owner_becomes step becomes) (λ _ unchanged. same ∙ unchanged.bytes ∙ of.bytes_are)

@@ -1,6 +1,5 @@
 -- A part that is all of a text, after a change of it.
-use Rattle.std.proofs.Common.{◌≡◌, ◌+◌, length, sym, ap, ◌∙◌, arith}
-use Rattle.std.specs.List.{splice}
+use Rattle.std.proofs.Common.{◌≡◌, ◌+◌, length, ap, arith}
 use Rattle.iref_edit.specs.declared.change.Change.{Change}
 use Rattle.iref_edit.specs.declared.change.Span.{Span}
 use Rattle.iref_edit.specs.Changes.{changed, changed_at, changed_part, part_at}
@@ -17,7 +16,7 @@ module _ (old : Text) (at : Span) (by : Change) (start : at.start ≡ 0) (end : 
   whole_changed = ap (λ text. changed text by) whole_part
 
   pub whole_at : (new : Text) → new ≡ changed old by → new ≡ changed_at old at by
-  whole_at new e = e ∙ sym (whole_text old (changed_at old at by) (changed old by) at.start at.end (ap (splice old at.start at.end) whole_changed) start end)
+  whole_at new e = grind (arith, whole_text old (changed_at old at by) (changed old by) at.start at.end, whole_changed)
 
   pub whole_end : (new : Text) → new ≡ changed old by → length new ≡ at.start + length (changed_part old at by)
-  whole_end new e = omega (arith, start, ap length (e ∙ sym whole_changed))
+  whole_end new e = grind (arith, whole_changed)

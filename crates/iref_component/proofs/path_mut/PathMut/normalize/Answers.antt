@@ -47,16 +47,4 @@ returns-clause-edit g c =
 
 pub returns-clause-dots : goal.returns-clause-dots
 returns-clause-dots g c = λ authority is_absolute.
-    let inside = g.T.Target.is_within _ _ _ _ c.args.self.now.placed in
-    let old = edited_bytes c.args.self.now in
-    let path = path_mut_text c.args.self.now in
-    let context = path_mut_context c.args.self.now in
-    let start = c.args.self.now.range.start in
-    let end = c.args.self.now.range.end in
-    let e = c.rewrite-self.ensures in
-    let spelled = (normal_fits g.C.CharSet.tests g.met.C.CharSet.above_ascii context c.text-path.result.now path c.normal_lead-len.result.0.now
-    c.text-path.ensures.value c.normal_lead-len.ensures.text c.text-path.ensures.test).0 in
-    let bytes = e.text ∙ ap (splice old start end) spelled in
-    let to = e.end ∙ ap (λ t. start + length t) spelled in
-    normal_dots context path _ authority is_absolute
-    (ap read_path (part_stands old _ _ start end _ inside.0 inside.1 bytes to).holds ∙ normalized-read context (read_path path).absolute path)
+    normal_dots (path_mut_context c.args.self.now) (path_mut_text c.args.self.now) _ authority is_absolute (returns-clause-edit g c).outcome.read

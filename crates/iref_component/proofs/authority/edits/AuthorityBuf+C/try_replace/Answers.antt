@@ -1,9 +1,8 @@
-use Rattle.std.proofs.Common.{rules}
-use Rattle.iref_component.specs.Components.{text_of}
-use Rattle.iref_component.proofs.AuthorityEditLemmas.{whole_text}
+use Rattle.std.proofs.Common.{arith}
+use Rattle.std.proofs.lemmas.Grind.{common_steps}
+use Rattle.iref_component.proofs.PathEditLemmas.{splice_all}
+use Rattle.iref_grammar.proofs.AuthorityLemmas.{read_authority-spelled}
 use Rattle.iref_component.proofs.authority.edits.AuthorityBuf+C.try_replace.Goals as goal
 
 pub returns-clause-ok : goal.returns-clause-ok
-returns-clause-ok g c =
-    let whole = c.as_authority_mut.ensures in
-    search (rules, whole_text c.try_replace.result (text_of c.args.self.now) c.as_authority_mut.result c.try_replace.new.self whole.bytes whole.start whole.end c.args.authority.now c.try_replace.ensures.edit)
+returns-clause-ok g c = grind (arith, common_steps, splice_all, read_authority-spelled)
