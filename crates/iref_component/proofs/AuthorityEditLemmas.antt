@@ -21,6 +21,7 @@ use Rattle.iref_model.specs.AuthoritySteps.{with_user_info, with_host, with_port
 use Rattle.iref_component.specs.AuthorityTexts.{SpellsAuthority, IsStep, marked_length, authority_is_text}
 use Rattle.iref_component.specs.declared.authority_mut.AuthorityMut.{AuthorityMut}
 use Rattle.iref_component.specs.AuthorityEdits.{edited_bytes, authority_mut_start, authority_mut_end, Edits}
+use Rattle.iref_component.proofs.PathEditLemmas.{splice_all}
 use Rattle.iref_component.proofs.AuthorityPartLemmas.{user_info_in_rule, host_in_rule, port_in_rule}
 
 -- ---- lists
@@ -33,9 +34,6 @@ middle_replaced a b c x = same_lists _ _ (search (rules, places)) (λ k d h. gri
 
 end_replaced : (a b c x : Text) → splice (a ++ b ++ c) (length a + length b) (length (a ++ b ++ c)) x ≡ a ++ b ++ x
 end_replaced a b c x = same_lists _ _ (search (rules, places)) (λ k d h. grind (arith, places))
-
-whole_replaced : (a x : Text) → splice a 0 (length a) x ≡ x
-whole_replaced a x = same_lists _ _ (search (rules, places)) (λ k d h. grind (arith, places))
 
 pub slice_whole : (text : Text) (start end : ℕ) → start ≡ 0 → end ≡ length text → slice_range text start end ≡ text
 slice_whole text start end e f = rw (e, f) (same_lists _ _ (search (rules, places)) (λ k d h. grind (arith, places)))
@@ -130,13 +128,13 @@ pub whole_within : (set : CharTests) → AreAboveAscii set → (text : Text) →
 whole_within set above text h = grind (arith, common_steps, IsCharBoundary-start, authority_is_text, IsCharBoundary-end)
 
 pub whole_put : (set : CharTests) (text authority : Text) → is_authority set authority ≡ true → SpellsAuthority set (splice text 0 (length text) authority) (read_authority authority)
-whole_put set text authority h = grind (arith, common_steps, whole_replaced text authority, read_authority-spelled)
+whole_put set text authority h = grind (arith, common_steps, splice_all text authority, read_authority-spelled)
 
 -- all of the text replaced by a step
 step_of_whole : (step : AuthorityValue → AuthorityValue) (old new : Text) (start end new_start new_end : ℕ) → start ≡ 0 → end ≡ length old
     → new ≡ splice old start end (spell_authority (step (read_authority (slice_range old start end)))) → new_start ≡ start → new_end ≡ start + length (spell_authority (step (read_authority (slice_range old start end))))
     → read_authority (slice_range new new_start new_end) ≡ step (read_authority (slice_range old start end)) → IsStep step old new
-step_of_whole step old new start end new_start new_end a b e f g r = grind (arith, common_steps, slice_whole, whole_replaced)
+step_of_whole step old new start end new_start new_end a b e f g r = grind (arith, common_steps, slice_whole, splice_all)
 
 -- an edit of an editor of all of a text
 module _ {C T c H : _} {R E : Type 0} (result : Result R E) (text : Text) (old new : AuthorityMut C T c H) (bytes : edited_bytes old ≡ text) (start : authority_mut_start old ≡ 0) (end : authority_mut_end old ≡ length text) where

@@ -30,49 +30,53 @@ splice_over : (bytes first second : Text) (start end : ℕ) → start ≤ end �
 splice_over bytes first second start end a b = same_lists _ _ (search (rules, places)) (λ k d h. grind (arith, places))
 
 -- no edit yet
-pub no_edit : {C : _} {T : _} {c : _} {t : _} (p : PathMut C T c t) → p.range.start ≤ p.range.end → p.range.end ≤ length (edited_bytes p) → BecomesPath p p (path_mut_value p)
-no_edit p a b =
+pub no_edit : {C : _} {T : _} {c : _} {t : _} {p : PathMut C T c t} → (p.range.start ≤ p.range.end) × (p.range.end ≤ length (edited_bytes p)) → BecomesPath p p (path_mut_value p)
+no_edit {p = p} inside =
     let spelled = (read_path-reads (path_mut_text p)).spelled in
-    grind (arith, spelled, splice_same (edited_bytes p) p.range.start p.range.end a b, slice_len (edited_bytes p) p.range.start p.range.end a b)
+    grind (arith, spelled, splice_same (edited_bytes p) p.range.start p.range.end inside.0 inside.1, slice_len (edited_bytes p) p.range.start p.range.end inside.0 inside.1)
 
--- an edit after another
-pub edit_then : {C : _} {T : _} {c : _} {t : _} {p q r : PathMut C T c t} {value next : PathValue} → p.range.start ≤ p.range.end → p.range.end ≤ length (edited_bytes p) → BecomesPath p q value → BecomesPath q r next → BecomesPath p r next
-edit_then h k first second = grind (arith, common_steps, splice_over)
+pub lazily_none : {C : _} {T : _} {c : _} {t : _} {p : PathMut C T c t} → BecomesPath p p (path_mut_value p) → BecomesPath p p (lazy_appended (path_mut_context p) [] (path_mut_value p))
+unfolding lazy_appended
+lazily_none none = none
 
 -- a refused edit after another
 pub refused_then : {C : _} {T : _} {c : _} {t : _} {p q r : PathMut C T c t} {value : PathValue} → BecomesPath p q value → IsUnchanged q r → BecomesPath p r value
 refused_then first same = grind arith
 
--- a step after another
-pub next_edit : {C : _} {T : _} {c : _} {t : _} {p q r : PathMut C T c t} {value : PathValue} (next : PathContext → PathValue → PathValue) → p.range.start ≤ p.range.end → p.range.end ≤ length (edited_bytes p) → BecomesPath p q value
-    → BecomesPath q r (next (path_mut_context q) (path_mut_value q)) → BecomesPath p r (next (path_mut_context p) value)
-next_edit {p = p} {r = r} next h k first second = subst (BecomesPath p r) (λ i. next (first.context i) (first.read i)) (edit_then h k first second)
+module _ {C : _} {T : _} {c : _} {t : _} {p q r : PathMut C T c t} (inside : (p.range.start ≤ p.range.end) × (p.range.end ≤ length (edited_bytes p))) where
+  -- an edit after another
+  edit_then : {value next : PathValue} → BecomesPath p q value → BecomesPath q r next → BecomesPath p r next
+  edit_then first second = grind (arith, common_steps, splice_over)
 
--- one more segment followed
-pub followed_next : {X : Type 0} (view : X → Text) (context : PathContext) (p : PathValue) (items : List X) (x : X) → fold (followed context) p (map view (items ++ x ∷ [])) ≡ followed context (fold (followed context) p (map view items)) (view x)
-followed_next view context p items x = grind (arith, common_steps, map-append, fold-append)
+  -- a step after another
+  next_edit : {value : PathValue} (next : PathContext → PathValue → PathValue) → BecomesPath p q value → BecomesPath q r (next (path_mut_context q) (path_mut_value q)) → BecomesPath p r (next (path_mut_context p) value)
+  next_edit next first second = subst (BecomesPath p r) (λ i. next (first.context i) (first.read i)) (edit_then first second)
 
--- one more segment pushed as it is
-pub lazy_appended_none : (context : PathContext) (p : PathValue) → lazy_appended context [] p ≡ p
-unfolding lazy_appended
-lazy_appended_none context p = refl
+  -- one more segment followed
+  pub followed_edit : {X : Type 0} (view : X → Text) (items : List X) (x : X) → BecomesPath p q (fold (followed (path_mut_context p)) (path_mut_value p) (map view items))
+      → BecomesPath q r (followed (path_mut_context q) (path_mut_value q) (view x)) → BecomesPath p r (fold (followed (path_mut_context p)) (path_mut_value p) (map view (items ++ x ∷ [])))
+  followed_edit view items x first second = rw (map-append, fold-append) (next_edit (λ context path. followed context path (view x)) first second)
 
-pub lazy_appended_next : {X : Type 0} (view : X → Text) (context : PathContext) (p : PathValue) (items : List X) (x : X) → lazy_appended context (map view (items ++ x ∷ [])) p ≡ lazy_pushed context (view x) (lazy_appended context (map view items) p)
-unfolding lazy_appended
-lazy_appended_next view context p items x = grind (arith, common_steps, map-append, fold-append)
+  -- one more segment pushed as it is
+  pub lazy_edit : {X : Type 0} (view : X → Text) (items : List X) (x : X) → BecomesPath p q (lazy_appended (path_mut_context p) (map view items) (path_mut_value p))
+      → BecomesPath q r (lazy_pushed (path_mut_context q) (view x) (path_mut_value q)) → BecomesPath p r (lazy_appended (path_mut_context p) (map view (items ++ x ∷ [])) (path_mut_value p))
+  unfolding lazy_appended
+  lazy_edit view items x first second = rw (map-append, fold-append) (next_edit (λ context. lazy_pushed context (view x)) first second)
+
+  -- the path closed, where the list ends in dots
+  pub closed_edit : (items : List Text) → ends_in_dots items ≡ true → BecomesPath p q (fold (followed (path_mut_context p)) (path_mut_value p) items)
+      → BecomesPath q r (closed_path (path_mut_context q) (path_mut_value q)) → BecomesPath p r (appended (path_mut_context p) items (path_mut_value p))
+  unfolding appended
+  closed_edit items dots first second = rw dots (next_edit closed_path first second)
+
+pub open_edit : {C : _} {T : _} {c : _} {t : _} {p q : PathMut C T c t} (items : List Text) → ends_in_dots items ≡ false → BecomesPath p q (fold (followed (path_mut_context p)) (path_mut_value p) items)
+    → BecomesPath p q (appended (path_mut_context p) items (path_mut_value p))
+unfolding appended
+open_edit items dots first = rw dots first
 
 -- whether the segments end in dots after one more
 pub dots_next : {X : Type 0} (view : X → Text) (items : List X) (x : X) → ends_in_dots (map view (items ++ x ∷ [])) ≡ not (is_name (view x))
 dots_next view items x = grind (arith, common_steps, map-append, ends-last)
-
--- what is appended, by whether the list ends in dots
-pub appended_closed : (context : PathContext) (items : List Text) (p : PathValue) → ends_in_dots items ≡ true → appended context items p ≡ closed_path context (fold (followed context) p items)
-unfolding appended
-appended_closed context items p h = grind arith
-
-pub appended_open : (context : PathContext) (items : List Text) (p : PathValue) → ends_in_dots items ≡ false → appended context items p ≡ fold (followed context) p items
-unfolding appended
-appended_open context items p h = grind arith
 
 -- what an iterator of a list gives
 pub items_drained : {S A : Type 0} (view : A → Text) (rest : S → List Text) (s : S) (items : List A) → Drains (YieldsFirstBy view rest) s items → map view items ≡ rest s

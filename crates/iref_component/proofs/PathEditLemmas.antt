@@ -27,9 +27,6 @@ pub step_spliced : (path : Text) (step : Step) (n : ℕ) → n ≡ length path �
 step_spliced path step n e = grind (arith, common_steps, drop_all)
 
 -- all of a text replaced
-pub whole_text : (old new text : Text) (start end : ℕ) → new ≡ splice old start end text → start ≡ 0 → end ≡ length old → new ≡ text
-whole_text old new text start end e from to = grind (arith, common_steps, drop_all)
-
 pub splice_all : (old text : Text) (start end : ℕ) → start ≡ 0 → end ≡ length old → splice old start end text ≡ text
 splice_all old text start end from to = grind (arith, common_steps, drop_all)
 
@@ -44,7 +41,7 @@ whole_edited {bytes = bytes} of = grind (arith, slice_all bytes 0 (length bytes)
 pub whole_edit : {C : _} {T : _} {c : _} {t : _} {old new : PathMut C T c t} {bytes : Text} {context : PathContext} (step : PathContext → PathValue → PathValue)
     → IsEditorOf old bytes context 0 (length bytes) → BecomesPath old new (step (path_mut_context old) (path_mut_value old))
     → let value = step context (read_path bytes) in (edited_bytes new ≡ spell_path value) × (read_path (edited_bytes new) ≡ value)
-whole_edit {new = new} step of e = grind (arith, common_steps, whole_edited of, whole_text, slice_all (edited_bytes new) new.range.start new.range.end)
+whole_edit {new = new} step of e = grind (arith, common_steps, whole_edited of, splice_all, slice_all (edited_bytes new) new.range.start new.range.end)
 
 -- the text that replaces a whole path is one step
 pub put_steps : (set : CharTests) (context : PathContext) (old text : Text) (value : PathValue) → is_path_after set context text ≡ true → (is_path_in set context old ≡ true → is_path_in set context text ≡ true) → read_path text ≡ value

@@ -1,32 +1,25 @@
-use Rattle.std.proofs.Common.{◌≡◌, rules, Some, Err, refl, sym, subst}
+use Rattle.std.proofs.Common.{◌≡◌, rules, Some, Err, refl}
 use Rattle.iref_component.specs.Components.{text_of}
-use Rattle.iref_model.specs.PathSteps.{lazy_pushed}
-use Rattle.iref_component.specs.PathEdits.{path_mut_context, path_mut_value, BecomesPath}
-use Rattle.iref_component.proofs.ManyLemmas.{no_edit, next_edit, refused_then, lazy_appended_none, lazy_appended_next}
+use Rattle.iref_component.proofs.ManyLemmas.{no_edit, refused_then, lazily_none, lazy_edit}
 use Rattle.iref_component.proofs.path_mut.PathMut.lazy_append.Goals as goal
 
 pub loop-segment-init : goal.loop-segment-init
 loop-segment-init g c =
-    let inside = g.T.Target.is_within _ _ _ _ c.args.self.now.placed in
-    let p = c.args.self.now in
     let it = c.into_iter-segment-iterator in
     let goes = c.requires it.result it.ensures.into_iter_gives in record {
       can = goes.0;
       ends = goes.1;
       same = refl;
-      path = subst (BecomesPath p p) (sym (lazy_appended_none (path_mut_context p) (path_mut_value p))) (no_edit p inside.0 inside.1);
+      path = lazily_none (no_edit (g.T.Target.is_within _ _ _ _ c.args.self.now.placed));
     }
 
 pub loop-segment-preserved : goal.loop-segment-preserved
 loop-segment-preserved g c =
-    let inside = g.T.Target.is_within _ _ _ _ c.args.self.now.placed in
-    let p = c.args.self.now in
-    let goes = c.in-Some.ensures.goes.on c.loop-segment.invariant.ends in
-    let push = next_edit (λ context. lazy_pushed context (text_of c.in-Some.segment)) inside.0 inside.1 c.loop-segment.invariant.path c.in_ok-lazy_push.ensures.outcome in record {
+    let goes = c.in-Some.ensures.goes.on c.loop-segment.invariant.ends in record {
       can = goes.0;
       ends = goes.1;
       same = search rules;
-      path = subst (BecomesPath p c.lazy_push.new.self) (sym (lazy_appended_next text_of (path_mut_context p) (path_mut_value p) c.loop-segment.yielded c.in-Some.segment)) push;
+      path = lazy_edit (g.T.Target.is_within _ _ _ _ c.args.self.now.placed) text_of _ _ c.loop-segment.invariant.path c.in_ok-lazy_push.ensures.outcome;
     }
 
 pub returns-in_err-lazy_push-clause-edit : goal.returns-in_err-lazy_push-clause-edit

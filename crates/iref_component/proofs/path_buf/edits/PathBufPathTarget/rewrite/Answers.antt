@@ -1,10 +1,10 @@
-use Rattle.std.proofs.Common.{◌≡◌, refl, sym, ap, subst, ◌∙◌}
+use Rattle.std.proofs.Common.{◌≡◌, sym, ap, subst, ◌∙◌}
 use Rattle.std.specs.Prelude.{IsUtf8}
 use Rattle.std.specs.String.{string_bytes}
 use Rattle.iref_path_text.specs.PathParts.{path_is_text}
 use Rattle.iref_path_text.specs.Rewriting.{rewritten_at}
 use Rattle.iref_component.specs.Components.{text_of}
-use Rattle.iref_component.proofs.PathEditLemmas.{whole_text}
+use Rattle.iref_component.proofs.PathEditLemmas.{splice_all}
 use Rattle.iref_component.proofs.path_buf.edits.PathBufPathTarget.rewrite.Goals as goal
 
 pub rewrite_text-end-requires-clause-utf8 : goal.rewrite_text-end-requires-clause-utf8
@@ -12,5 +12,5 @@ rewrite_text-end-requires-clause-utf8 g c =
     let old = text_of c.args.self.now in
     let lead = c.args.lead.now in
     let same : string_bytes c.into_string-text.result ≡ old = c.into_string-text.ensures.text ∙ ap text_of c.replace.ensures.value in
-    let whole = whole_text old (rewritten_at lead old c.args.at) _ c.args.at.start c.args.at.end refl c.requires.stands.0 c.requires.stands.1 in
-    subst IsUtf8 (sym (ap (λ text. rewritten_at lead text c.args.at) same ∙ whole)) (path_is_text g.C.CharSet.tests g.met.C.CharSet.above_ascii c.args.after _ c.requires.test)
+    let whole = ap (λ text. rewritten_at lead text c.args.at) same ∙ splice_all old _ c.args.at.start c.args.at.end c.requires.stands.0 c.requires.stands.1 in
+    subst IsUtf8 (sym whole) (path_is_text g.C.CharSet.tests g.met.C.CharSet.above_ascii c.args.after _ c.requires.test)
