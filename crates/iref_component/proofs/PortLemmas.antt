@@ -1,21 +1,15 @@
 -- Ports as numbers of a type.
 use Rattle.std.proofs.Common.{◌≡◌, ℕ, ◌<◌, ◌^◌, length, true, arith}
-use Rattle.std.specs.Prelude.{Some, Result, Ok, Err, MatchResult, IsErrAnd}
+use Rattle.std.specs.Prelude.{Result, Ok, MatchResult, IsErrAnd}
 use Rattle.std.specs.Str.Parse.{ParsesUnsigned}
 use Rattle.std.proofs.lemmas.Str.Parse.{parse_digits}
 use Rattle.std.proofs.lemmas.Bool.Decides.{nat_tests}
 use Rattle.iref_grammar.specs.Rules.{Text}
 use Rattle.iref_grammar.specs.Tests.{is_port}
-use Rattle.iref_component.specs.Ports.{fitting, port_number}
+use Rattle.iref_component.specs.Ports.{port_number}
 use Rattle.iref_error.specs.declared.port.PortError.{PortError}
 use Rattle.iref_error.specs.declared.port.PortError.TheVariants.{OutOfRange}
 use Rattle.iref_model.proofs.PortNumberLemmas.{digits_of_ports, value_of_digits}
-
-fitting-below : (limit n : ℕ) → n < limit → fitting limit (Some n) ≡ Ok n
-fitting-below limit n h = grind (arith, nat_tests)
-
-fitting-above : (limit n : ℕ) → ¬ (n < limit) → fitting limit (Some n) ≡ Err OutOfRange
-fitting-above limit n h = grind (arith, nat_tests)
 
 -- the number that is read of digits
 pub port_number-parsed : {E : Type 0} (text : Text) (r : Result ℕ E) (s : Result ℕ PortError) → ParsesUnsigned 128 10 text r → is_port text ≡ true → 0 < length text → MatchResult r (λ n. s ≡ Ok n) (λ e. IsErrAnd s (λ error. error ≡ OutOfRange)) → s ≡ port_number (2 ^ 128) text
