@@ -1,5 +1,5 @@
 -- What the mapping of an IRI keeps.
-use Rattle.std.proofs.Common.{◌≡◌, true, ap, ◌∙◌}
+use Rattle.std.proofs.Common.{◌≡◌, true, arith}
 use Rattle.iref_grammar.specs.Characters.{iri_chars, iri_above_ascii, uri_chars, uri_above_ascii}
 use Rattle.iref_grammar.specs.Reference.{is_reference, read_reference}
 use Rattle.iref_grammar.specs.Rules.{Text}
@@ -11,8 +11,5 @@ use Rattle.iref_reference.specs.Mappings.{IsMapped}
 
 pub kept : (iri text : Text) (IsUri : Type 0) → is_reference iri_chars iri ≡ true → (IsUri → is_reference uri_chars iri ≡ true) → text ≡ mapped iri
     → IsMapped iri text × (key (read_reference text) ≡ key (read_reference iri)) × (IsUri → text ≡ iri)
-kept iri text IsUri h is_uri e = (
-  (e, ap read_reference e ∙ read_reference-tested iri_chars iri_above_ascii iri h),
-  ap (λ (t : Text). key (read_reference t)) e ∙ key-tested iri_chars iri_above_ascii iri h,
-  λ u. e ∙ uri_reference_stays iri ((Decides-is_uri_reference uri_chars uri_above_ascii iri).0 (is_uri u)),
-)
+kept iri text IsUri h is_uri e =
+    grind (arith, read_reference-tested iri_chars iri_above_ascii, key-tested iri_chars iri_above_ascii, uri_reference_stays, Decides-is_uri_reference uri_chars uri_above_ascii)

@@ -1,10 +1,10 @@
 -- A reference after a step of its path, by an editor of that path.
-use Rattle.std.proofs.Common.{◌≡◌, true, ap, ◌∙◌}
-use Rattle.std.specs.List.{splice, slice_range}
+use Rattle.std.proofs.lemmas.Grind.{common_steps}
+use Rattle.std.proofs.Common.{◌≡◌, true, arith}
 use Rattle.iref_grammar.specs.declared.context.PathContext.{PathContext}
 use Rattle.iref_grammar.specs.Characters.{CharTests, AreAboveAscii}
 use Rattle.iref_grammar.specs.Rules.{Text}
-use Rattle.iref_grammar.specs.PathValue.{PathValue, read_path, spell_path}
+use Rattle.iref_grammar.specs.PathValue.{PathValue}
 use Rattle.iref_grammar.specs.ComponentOffsets.{offsets_of}
 use Rattle.iref_grammar.specs.Reference.{context_of, is_readable, is_reference, read_reference}
 use Rattle.iref_grammar.proofs.RangeLemmas.{path_range}
@@ -20,10 +20,5 @@ pub path_step : {C : _} {T : _} {c : _} {t : _} {old new : PathMut C T c t} {tex
     → is_reference set text ≡ true → is_readable set (with_path_step step (read_reference text)) ≡ true
     → IsEditorOf old text (context_of (read_reference text)) (offsets_of text).path.start (offsets_of text).path.end
     → BecomesPath old new (step (path_mut_context old) (path_mut_value old)) → IsStep (with_path_step step) text (edited_bytes new)
-path_step {C} {T} {c} {t} {old} {new} {text} set above step h readable of e =
-    let r = read_reference text in
-    let value : step (path_mut_context old) (path_mut_value old) ≡ step (context_of r) r.path =
-    (λ i. step (of.context_is i) (read_path (slice_range (of.bytes_are i) (of.from i) (of.to i))))
-    ∙ ap (step (context_of r)) (ap read_path (path_range text) ∙ (path_stands set above text h).read) in
-    let spelled = e.bytes ∙ (λ i. splice (of.bytes_are i) (of.from i) (of.to i) (spell_path (value i))) ∙ path_replaced text (step (context_of r) r.path) in
-    (spelled, ap read_reference spelled ∙ readable_read set above (with_path_step step r) readable)
+path_step {text = text} set above step h readable of e =
+    grind (arith, common_steps, path_range text, path_stands set above text h, path_replaced text, readable_read set above)

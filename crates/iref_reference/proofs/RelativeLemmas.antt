@@ -1,5 +1,5 @@
 -- Schemes and authorities that may be absent, tested as their keys are, and what is known of a relative reference.
-use Rattle.std.proofs.Common.{◌≡◌, ◌≤◌, true, ap, is_eq, subst, sym, ◌∙◌}
+use Rattle.std.proofs.Common.{◌≡◌, true, ap, is_eq, subst, sym, ◌∙◌}
 use Rattle.std.specs.Prelude.{Option, option_map}
 use Rattle.std.specs.Cmp.Lexicographic.{options_total}
 use Rattle.std.specs.Option.{option_cmp, option_eq}
@@ -11,11 +11,8 @@ use Rattle.iref_grammar.specs.Characters.{CharTests}
 use Rattle.iref_grammar.specs.Reference.{ReferenceValue, is_readable}
 use Rattle.iref_grammar.specs.Keys.{text_order}
 use Rattle.iref_model.specs.AuthorityKey.{authority_key, authority_key_cmp}
-use Rattle.iref_model.specs.Key.{AreAlike}
-use Rattle.iref_model.specs.NormalList.{count_parents}
 use Rattle.iref_model.specs.Relative.{relative_to}
-use Rattle.iref_model.specs.RelativeLaws.{IsOnlyPath, Leads}
-use Rattle.iref_model.specs.Resolution.{resolved}
+use Rattle.iref_model.specs.RelativeLaws.{IsOnlyPath}
 use Rattle.iref_model.proofs.KeyOrderLemmas.{authority_keys_separate, authority_keys_total, options_separate, texts_separate, texts_total, tied_exactly}
 use Rattle.iref_model.proofs.PartTieLemmas.{authority_parts_tie, lower_case_tie}
 use Rattle.iref_model.proofs.ReadableRelativeLemmas.{readable-stands}
@@ -35,13 +32,11 @@ module _ {A : Type 0} (text : A → Text) (a b : Option A) where
 
 module _ (set : CharTests) (target base answer : ReferenceValue) (readable : is_readable set target ≡ true) (answer_is : answer ≡ relative_to target base) where
   pub leads_there : is_readable set base ≡ true → LeadsThere target base answer
-  leads_there readable_base full =
-      subst (λ r. Leads base r target) (sym answer_is) (relative_to-leads target base full (readable-stands set target readable) (readable-stands set base readable_base))
+  leads_there readable_base full = rw answer_is (relative_to-leads target base full (readable-stands set target readable) (readable-stands set base readable_base))
 
   pub leads_to_target : is_readable set base ≡ true → LeadsToTarget target base answer
   leads_to_target readable_base full full_target =
-      subst (λ r. AreAlike (resolved base r) target) (sym answer_is)
-      (relative_to-leads_full target base full_target full (readable-stands set target readable) (readable-stands set base readable_base))
+      rw answer_is (relative_to-leads_full target base full_target full (readable-stands set target readable) (readable-stands set base readable_base))
 
   pub writes_path_alone : WritesPathAlone target base answer
   writes_path_alone agree = subst IsOnlyPath (sym answer_is) (relative_to-only_path target base agree.scheme agree.authority agree.root)
@@ -50,6 +45,5 @@ module _ (set : CharTests) (target base answer : ReferenceValue) (readable : is_
   climbs_no_more full agree root = (
     ap (λ (r : ReferenceValue). r.path.absolute) answer_is ∙ relative_to-no_root target base agree.scheme agree.authority agree.root root,
     λ segments some leads.
-        subst (λ (r : ReferenceValue). count_parents r.path.segments ≤ count_parents segments) (sym answer_is)
-        (relative_to-least target base full (readable-stands set target readable) agree.scheme agree.authority agree.root root segments some leads),
+        rw answer_is (relative_to-least target base full (readable-stands set target readable) agree.scheme agree.authority agree.root root segments some leads),
   )

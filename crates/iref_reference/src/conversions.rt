@@ -1,5 +1,7 @@
 //! Conversions between URIs and IRIs, with their references. All keep the text, and none takes
 //! memory: a URI is an IRI (RFC 3987 section 3.1), and an IRI that holds ASCII alone is a URI.
+#![tactic(auto, using(crate::proofs::ConversionLemmas::wider))]
+
 ghost use Rattle.std.specs.Prelude.{◌≡◌, IfSome, is_some};
 ghost use Rattle.iref_grammar.specs.{uri_chars, IsUri, IsUriReference, InUtf8};
 ghost use Rattle.iref_reference.specs.Conversions.{BecomesUri, OwnerBecomesUri, SomeIfIn};
@@ -17,7 +19,6 @@ use std::convert::TryFrom;
 
 impl<'a, R: HeldRule> Reference<'a, R, UriChars> {
     /// The reference of IRIs of the same text, with the same components: `a?q` is one, too.
-    #[tactic(auto, using(crate::proofs::ConversionLemmas::iri_reference))]
     pub fn as_iri_ref(&self) -> UriRef<'a, IriChars>
         ensures text { reference_text result ≡ reference_text self.now }
         ensures value { reference_value result ≡ reference_value self.now }
@@ -28,7 +29,6 @@ impl<'a, R: HeldRule> Reference<'a, R, UriChars> {
 
 impl<'a> Uri<'a, UriChars> {
     /// The IRI of the same text: each URI is one, such as `s:a`.
-    #[tactic(auto, using(crate::proofs::ConversionLemmas::iri))]
     pub fn as_iri(&self) -> Uri<'a, IriChars>
         ensures { reference_text result ≡ reference_text self.now }
     {
@@ -138,7 +138,6 @@ impl<R: HeldRule> ReferenceBuf<R, UriChars> {
     }
 
     /// The reference of IRIs of the same text, with no copy: `a?q` is one, too.
-    #[tactic(auto, using(crate::proofs::ConversionLemmas::iri_reference))]
     pub fn into_iri_ref(self) -> UriRefBuf<IriChars>
         ensures { reference_buf_text result ≡ reference_buf_text self }
     {
@@ -155,7 +154,6 @@ impl UriBuf<UriChars> {
     }
 
     /// The IRI of the same text, with no copy: each URI is one, such as `s:a`.
-    #[tactic(auto, using(crate::proofs::ConversionLemmas::iri))]
     pub fn into_iri(self) -> UriBuf<IriChars>
         ensures { reference_buf_text result ≡ reference_buf_text self }
     {

@@ -1,11 +1,7 @@
-use Rattle.std.proofs.Common.{◌≡◌}
 use Rattle.std.proofs.lemmas.Result.{IfOk-weaker}
-use Rattle.iref_model.specs.Resolution.{resolved}
 use Rattle.iref_model.proofs.ResolvedLemmas.{resolved-readable}
 use Rattle.iref_parse.specs.ReferenceSlices.{value_of}
 use Rattle.iref_buffer.proofs.LeadLemmas.{readable-fits}
-use Rattle.iref_buffer.specs.MeasuredReferences.{measured_components, spell_texts}
-use Rattle.iref_buffer.specs.Steps.{Spells}
 use Rattle.iref_buffer.proofs.MeasuredLemmas.{composes, spells_same}
 use Rattle.iref_reference.proofs.composed.Composed.resolved.Goals as goal
 
@@ -15,15 +11,12 @@ resolved-requires-clause-fits g c = readable-fits g.C.CharSet.tests (value_of c.
 pub of_components-requires : goal.of_components-requires
 of_components-requires g c =
     let set = g.C.CharSet.tests in
-    let r = resolved (value_of c.args.base) (value_of c.args.reference) in
     let readable = resolved-readable set (value_of c.args.base) (value_of c.args.reference) c.requires.base c.requires.reference in
-    (composes set g.met.C.CharSet.above_ascii (g.R.Rule.test set) g.R.HeldRule.allows_scheme (g.met.R.HeldRule.by_scheme set) c.resolved.result r c.resolved.ensures.ready c.resolved.ensures.texts readable c.requires.allowed).composed
+    (composes set g.met.C.CharSet.above_ascii (g.R.Rule.test set) g.R.HeldRule.allows_scheme (g.met.R.HeldRule.by_scheme set) _ _ c.resolved.ensures.ready c.resolved.ensures.texts readable c.requires.allowed).composed
 
 pub returns : goal.returns
 returns g c =
     let set = g.C.CharSet.tests in
-    let r = resolved (value_of c.args.base) (value_of c.args.reference) in
     let readable = resolved-readable set (value_of c.args.base) (value_of c.args.reference) c.requires.base c.requires.reference in
-    let spelled = (composes set g.met.C.CharSet.above_ascii (g.R.Rule.test set) g.R.HeldRule.allows_scheme (g.met.R.HeldRule.by_scheme set) c.resolved.result r c.resolved.ensures.ready c.resolved.ensures.texts readable c.requires.allowed).spelled in
-    let text = spell_texts (measured_components c.resolved.result) in
-    IfOk-weaker c.of_components.result (λ t. t ≡ text) (Spells r) (λ t e. spells_same r text t spelled e) c.of_components.ensures
+    let spelled = (composes set g.met.C.CharSet.above_ascii (g.R.Rule.test set) g.R.HeldRule.allows_scheme (g.met.R.HeldRule.by_scheme set) _ _ c.resolved.ensures.ready c.resolved.ensures.texts readable c.requires.allowed).spelled in
+    IfOk-weaker c.of_components.result _ _ (λ t e. spells_same _ _ t spelled e) c.of_components.ensures

@@ -7,8 +7,7 @@ use Rattle.iref_reference.proofs.parts.UriRefParts+C.from_bytes.Goals as goal
 
 pub returns-in-Some-clause-parsed : goal.returns-in-Some-clause-parsed
 returns-in-Some-clause-parsed g c =
-    let tests = Decides-is_uri_reference g.C.CharSet.tests g.met.C.CharSet.above_ascii c.args.bytes.now in
-    search (rules, tests.0)
+    search (rules, (Decides-is_uri_reference g.C.CharSet.tests g.met.C.CharSet.above_ascii c.args.bytes.now).0)
 
 pub returns-in-Some-clause-readable : goal.returns-in-Some-clause-readable
 returns-in-Some-clause-readable g c =
@@ -20,5 +19,4 @@ returns-in-Some-clause-readable g c =
 
 pub returns-in-None-clause-parsed : goal.returns-in-None-clause-parsed
 returns-in-None-clause-parsed g c =
-    let tests = Decides-is_uri_reference g.C.CharSet.tests g.met.C.CharSet.above_ascii c.args.bytes.now in
-    search (rules, tests.1)
+    search (rules, (Decides-is_uri_reference g.C.CharSet.tests g.met.C.CharSet.above_ascii c.args.bytes.now).1)
