@@ -1,15 +1,14 @@
 -- The authority of a reference where it stands, and after an edit of it.
-use Rattle.std.proofs.Common.{◌≡◌, ℕ, ◌+◌, Bool, true, length, length-append, refl, sym, ◌∙◌, ap, subst, arith}
-use mathlib.Core.Bool.{true≢false}
-use Rattle.std.specs.Prelude.{codes, Option, Some, None, IfSome, is_some, option_map}
+use Rattle.std.proofs.Common.{◌≡◌, ℕ, ◌+◌, Bool, true, length, sym, ◌∙◌, ap, arith}
+use Rattle.std.specs.Prelude.{Option, Some, is_some, option_map}
 use Rattle.std.specs.List.{splice}
+use Rattle.std.proofs.lemmas.Grind.{common_steps}
 use Rattle.std.specs.declared.ops.Range.{Range}
 use Rattle.iref_grammar.specs.Characters.{CharTests, AreAboveAscii}
 use Rattle.iref_grammar.specs.Rules.{Text}
-use Rattle.iref_grammar.specs.Texts.{then_part}
 use Rattle.iref_grammar.specs.Tests.{none_or}
-use Rattle.iref_grammar.specs.Authority.{AuthorityValue, has_authority_parts, is_authority, read_authority, spell_authority}
-use Rattle.iref_grammar.specs.ComponentOffsets.{authority_mark, range_from, offsets_in, offsets_of, text_at}
+use Rattle.iref_grammar.specs.Authority.{AuthorityValue, is_authority, read_authority, spell_authority}
+use Rattle.iref_grammar.specs.ComponentOffsets.{offsets_in, offsets_of, text_at}
 use Rattle.iref_grammar.specs.Reference.{ReferenceValue, is_reference, read_reference, spell}
 use Rattle.iref_grammar.proofs.AuthorityLemmas.{read_authority-spelled}
 use Rattle.iref_grammar.proofs.AuthorityRuleLemmas.{authority_read, Decides-has_authority_parts}
@@ -29,15 +28,7 @@ use Rattle.iref_buffer.proofs.HeldLemmas.{components_of, offsets_within}
 module _ (text : Text) (has : is_some (read_reference text).authority ≡ true) where
   pub authority_stands : (offsets_of text).authority ≡ Some (range_of_authority text)
   unfolding offsets_of offsets_in
-  authority_stands = by (authority_mark (read_reference text)) (read_reference text).authority has
-    where
-      ends : (m : ℕ) (part : Text) → m + 2 + length part ≡ m + length (then_part (codes "//") (Some part))
-      ends m part = omega (arith, length-append (codes "//") part)
-
-      by : (m : ℕ) (o : Option AuthorityValue) → is_some o ≡ true → let spelled = option_map spell_authority o in
-          option_map (range_from (m + 2)) spelled ≡ Some (record { start = m + 2; end = m + length (then_part (codes "//") spelled) })
-      by m None h = absurd (true≢false (sym h))
-      by m (Some a) h = λ i. Some (record { start = m + 2; end = ends m (spell_authority a) i })
+  authority_stands = grind (arith, common_steps)
 
   pub authority_spelled_there : option_map spell_authority (read_reference text).authority ≡ Some (authority_part text)
   authority_spelled_there = sym (authority_range text) ∙ ap (option_map (text_at text)) authority_stands
@@ -45,13 +36,8 @@ module _ (text : Text) (has : is_some (read_reference text).authority ≡ true) 
 module _ (set : CharTests) (above : AreAboveAscii set) (text : Text) (h : is_reference set text ≡ true) (has : is_some (read_reference text).authority ≡ true) where
   -- it is read there
   pub authority_read_there : (read_reference text).authority ≡ Some (read_authority (authority_part text))
-  authority_read_there = by (read_reference text).authority has (readable_parts set (read_reference text) (readable_of set text h)).authority (authority_spelled_there text has)
-    where
-      by : (o : Option AuthorityValue) → is_some o ≡ true → none_or (has_authority_parts set) o ≡ true → option_map spell_authority o ≡ Some (authority_part text) → o ≡ Some (read_authority (authority_part text))
-      by None u v e = absurd (true≢false (sym u))
-      by (Some a) u v e =
-          let spelled : spell_authority a ≡ authority_part text = cc in
-          ap (λ x. Some x) (sym (authority_read set above a ((Decides-has_authority_parts set above a).0 v)) ∙ ap read_authority spelled)
+  authority_read_there =
+      grind (arith, authority_read set above, Decides-has_authority_parts set above, readable_parts set (read_reference text) (readable_of set text h), authority_spelled_there text has)
 
   pub authority_in_rule : is_authority set (authority_part text) ≡ true
   authority_in_rule = ap (none_or (is_authority set)) (sym (authority_spelled_there text has)) ∙ (components_of set above text h).authority
@@ -60,39 +46,27 @@ module _ (set : CharTests) (above : AreAboveAscii set) (text : Text) (h : is_ref
 
 pub some_if_placed : (text : Text) (range : Range ℕ) → (offsets_of text).authority ≡ Some range → is_some (read_reference text).authority ≡ true
 unfolding offsets_of offsets_in
-some_if_placed text range e = by (authority_mark (read_reference text)) (read_reference text).authority e
-  where
-    by : (m : ℕ) (o : Option AuthorityValue) → option_map (range_from (m + 2)) (option_map spell_authority o) ≡ Some range → is_some o ≡ true
-    by m None e = cc
-    by m (Some a) e = refl
+some_if_placed text range e = grind arith
 
 pub range_is : (text : Text) (range : Range ℕ) → (offsets_of text).authority ≡ Some range → range ≡ range_of_authority text
 range_is text range e = let there = authority_stands text (some_if_placed text range e) in cc
 
 pub authority_range_within : (set : CharTests) → AreAboveAscii set → (text : Text) (at : Span) → IsAuthorityOf set text at.start at.end → IsWithin text (record { start = at.start; end = at.end })
-authority_range_within set above text at stands = subst (λ o. IfSome o (IsWithin text)) stands.1 (offsets_within set above text stands.0).authority
+authority_range_within set above text at stands = rw stands.1 at (offsets_within set above text stands.0).authority
 
 -- ---- after an edit
 
 authority_text_replaced : (text part : Text) → is_some (read_reference text).authority ≡ true
     → splice text (range_of_authority text).start (range_of_authority text).end part ≡ spell (with_authority_step (λ a. read_authority part) (read_reference text))
-authority_text_replaced text part has =
-    ap (splice text (range_of_authority text).start (range_of_authority text).end) (sym (read_authority-spelled part)) ∙ authority_part_replaced text (read_authority part) has
+authority_text_replaced text part has = rw read_authority-spelled at (authority_part_replaced text (read_authority part) has)
 
 range_of_new_authority : (old new part : Text) → is_some (read_reference old).authority ≡ true → read_reference new ≡ with_authority_step (λ a. read_authority part) (read_reference old)
     → let start = (range_of_authority old).start in (offsets_of new).authority ≡ Some (record { start = start; end = start + length part })
 unfolding offsets_of offsets_in
-range_of_new_authority old new part has e =
-    ap (λ r. (offsets_in r).authority) e ∙ by (authority_mark (read_reference old)) (read_reference old).authority has
-  where
-    by : (m : ℕ) (o : Option AuthorityValue) → is_some o ≡ true
-        → option_map (range_from (m + 2)) (option_map spell_authority (option_map (λ a. read_authority part) o)) ≡ Some (record { start = m + 2; end = m + 2 + length part })
-    by m None h = absurd (true≢false (sym h))
-    by m (Some a) h = ap (λ t. Some (range_from (m + 2) t)) (read_authority-spelled part)
+range_of_new_authority old new part has e = grind (arith, read_authority-spelled)
 
 length_of_new_authority : (o : Option AuthorityValue) (part : Text) → is_some o ≡ true → Some (length part) ≡ option_map length (option_map spell_authority (option_map (λ a. read_authority part) o))
-length_of_new_authority None part h = absurd (true≢false (sym h))
-length_of_new_authority (Some a) part h = ap (λ t. Some (length t)) (sym (read_authority-spelled part))
+length_of_new_authority o part h = grind (arith, read_authority-spelled)
 
 -- the new authority stands where the old one did, and the other components stay
 pub record HoldsAuthority (set : CharTests) (test : Text → Bool) (old : ReferenceValue) (start : ℕ) (part new : Text) : Type 0 where
@@ -108,16 +82,7 @@ module _ (set : CharTests) (above : AreAboveAscii set) (test : Text → Bool) (a
       let old = read_reference text in
       let has = some_if_placed text _ stands.1 in
       let same = range_is text _ stands.1 in
-      let spelled = e ∙ (λ i. splice text (same i).start (same i).end part) ∙ authority_text_replaced text part has in
+      let spelled = e ∙ ap (λ (range : Range ℕ). splice text range.start range.end part) same ∙ authority_text_replaced text part has in
       let readable = with_whole_authority-readable set (read_authority part) old (authority_has_parts set (Some part) h) (readable_of set text stands.0) in
       let step = is_step set above test allows by_scheme new (with_authority_step (λ a. read_authority part) old) spelled readable allowed in
-      record {
-        stands = (
-          references new step.leaves.in_rule,
-          range_of_new_authority text new part has step.value ∙ (λ i. Some (record { start = (sym same i).start; end = (sym same i).start + length part })),
-        );
-        leaves = record {
-          in_rule = step.leaves.in_rule;
-          lengths = (λ i. record (lengths_of old) { authority = length_of_new_authority old.authority part has i }) ∙ step.leaves.lengths;
-        };
-      }
+      grind (arith, references new, step, same, range_of_new_authority text new part has, length_of_new_authority old.authority part has)

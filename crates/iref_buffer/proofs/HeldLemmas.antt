@@ -1,11 +1,10 @@
 -- A reference is cut between characters where its components begin and end.
-use Rattle.std.proofs.Common.{◌≡◌, ℕ, ◌+◌, ◌<◌, zero, suc, slice_index, lit<, Bool, true, [], ◌∷◌, ◌++◌, length, take, IsUtf8, rules, refl, sym, ◌∙◌, ap, subst, arith, append_assoc}
+use Rattle.std.proofs.Common.{◌≡◌, ℕ, ◌+◌, ◌<◌, zero, suc, slice_index, lit<, Bool, true, [], ◌∷◌, ◌++◌, length, take, IsUtf8, rules, refl, sym, ◌∙◌, ap, arith, append_assoc}
 use Rattle.std.specs.Prelude.{codes, Option, Some, None, IfSome, option_map}
 use Rattle.std.specs.Bool.{Decides}
 use Rattle.std.specs.Str.{IsCharBoundary}
 use Rattle.std.proofs.lemmas.Str.{IsCharBoundary-at_seam, IsUtf8-append, IsUtf8-nil, IsUtf8-from_ascii}
-use Rattle.std.proofs.lemmas.List.{length-append, places, same_lists}
-use Rattle.iref_mapping.proofs.MappedIndexLemmas.{around_scheme, around_authority, around_path, around_query, around_fragment}
+use Rattle.std.proofs.lemmas.List.{append-nil, length-append, places, same_lists}
 use Rattle.iref_grammar.specs.Characters.{CharTests, AreAboveAscii}
 use Rattle.iref_grammar.specs.Rules.{Text, Rule, InUtf8}
 use Rattle.iref_grammar.specs.Grammar.{colon, slash, question_mark, hash_sign}
@@ -31,7 +30,7 @@ use Rattle.iref_grammar.proofs.FrontLemmas.{read_reference-before_hash, read_ref
 
 -- what stands at the offsets of a text are its components
 pub texts_at-offsets : (text : Text) → texts_at text (offsets_of text) ≡ spell_components (read_reference text)
-texts_at-offsets text = λ i. record { scheme = scheme_range text i; authority = authority_range text i; path = path_range text i; query = query_range text i; fragment = fragment_range text i }
+texts_at-offsets text = grind (arith, scheme_range, authority_range, path_range, query_range, fragment_range)
 
 -- the components of a text, as it is cut
 abbrev cut_texts : Text → ComponentTexts
@@ -49,28 +48,22 @@ read_components-spelled text = ap read_components (sym (spelled_as_read (cut_tex
 
 -- a text between two others, of which the later is UTF-8
 within : (text before part behind : Text) (start : ℕ) → before ++ (part ++ behind) ≡ text → start ≡ length before → IsUtf8 part → IsUtf8 behind → IsWithin text (range_from start part)
-within text before part behind start spelled at u v =
-    record {
-      start_le_end = omega arith;
-      start = subst (IsCharBoundary text) (sym at) (IsCharBoundary-at_seam text before (part ++ behind) (sym spelled) (IsUtf8-append part behind u v));
-      end = subst (IsCharBoundary text) ends (IsCharBoundary-at_seam text (before ++ part) behind (sym spelled ∙ sym (append_assoc before part behind)) v);
-    }
-  where
-    ends : length (before ++ part) ≡ start + length part
-    ends = length-append before part ∙ ap (λ n. n + length part) (sym at)
+within text before part behind start spelled at u v = record {
+  start_le_end = omega arith;
+  start = rw at (IsCharBoundary-at_seam text before (part ++ behind) (sym spelled) (IsUtf8-append part behind u v));
+  end = rw (at, ← length-append) (IsCharBoundary-at_seam text (before ++ part) behind (sym spelled ∙ sym (append_assoc before part behind)) v);
+}
 
 -- a part and the delimiter after it, if there is one, at the start
-within_before : (mark : Text) (o : Option Text) (behind : Text) → IsUtf8 mark → IfSome o IsUtf8 → IsUtf8 behind → IfSome (option_map (range_from 0) o) (IsWithin (part_then mark o ++ behind))
-within_before mark None behind m u v = tt
-within_before mark (Some part) behind m u v = within ((part ++ mark) ++ behind) [] part (mark ++ behind) 0 (sym (append_assoc part mark behind)) refl u (IsUtf8-append mark behind m v)
+within_before : (mark : Text) (o : Option Text) (behind text : Text) → part_then mark o ++ behind ≡ text → IsUtf8 mark → IfSome o IsUtf8 → IsUtf8 behind → IfSome (option_map (range_from 0) o) (IsWithin text)
+within_before mark None behind text e m u v = tt
+within_before mark (Some part) behind text e m u v = within text [] part (mark ++ behind) 0 (sym (append_assoc part mark behind) ∙ e) refl u (IsUtf8-append mark behind m v)
 
 -- a delimiter and the part after it, if there is one
-within_after : (before mark : Text) (o : Option Text) (behind : Text) → IfSome o IsUtf8 → IsUtf8 behind
-    → IfSome (option_map (range_from (length before + length mark)) o) (IsWithin (before ++ (then_part mark o ++ behind)))
-within_after before mark None behind u v = tt
-within_after before mark (Some part) behind u v =
-    within (before ++ ((mark ++ part) ++ behind)) (before ++ mark) part behind (length before + length mark)
-    (append_assoc before mark (part ++ behind) ∙ ap (λ t. before ++ t) (sym (append_assoc mark part behind))) (sym (length-append before mark)) u v
+within_after : (before mark : Text) (o : Option Text) (behind text : Text) (start : ℕ) → before ++ (then_part mark o ++ behind) ≡ text → start ≡ length before + length mark → IfSome o IsUtf8 → IsUtf8 behind
+    → IfSome (option_map (range_from start) o) (IsWithin text)
+within_after before mark None behind text start e at u v = tt
+within_after before mark (Some part) behind text start e at u v = within text (before ++ mark) part behind start (simp append_assoc (simp append_assoc at e)) (at ∙ sym (length-append before mark)) u v
 
 -- the delimiters are ASCII
 utf8_mark : (c : ℕ) → c < 128 → IsUtf8 (c ∷ [])
@@ -80,31 +73,33 @@ utf8_mark c h = IsUtf8-from_ascii (c ∷ []) (λ i. ascii i)
     ascii zero = h
     ascii (suc i) = lit< tt
 
-slashes : IsUtf8 (codes "//")
-slashes = IsUtf8-append (slash ∷ []) (slash ∷ []) (utf8_mark slash (lit< tt)) (utf8_mark slash (lit< tt))
-
 then_utf8 : (mark : Text) (o : Option Text) → IsUtf8 mark → IfSome o IsUtf8 → IsUtf8 (then_part mark o)
 then_utf8 mark None m u = IsUtf8-nil
 then_utf8 mark (Some part) m u = IsUtf8-append mark part m u
 
 -- each component is UTF-8
-record AreUtf8 (t : ComponentTexts) : Type 0 where
+pub record AreUtf8 (t : ComponentTexts) : Type 0 where
   scheme : IfSome t.scheme IsUtf8
   authority : IfSome t.authority IsUtf8
   path : IsUtf8 t.path
   query : IfSome t.query IsUtf8
   fragment : IfSome t.fragment IsUtf8
 
--- where the path, the query and the fragment begin
-module _ (s a p q f : Text) where
-  path_begins : length s + length a ≡ length (s ++ a)
-  path_begins = sym (length-append s a)
+-- and so is what stands behind some of them
+module _ (t : ComponentTexts) (u : AreUtf8 t) where
+  fragment_utf8 : IsUtf8 (then_part (hash_sign ∷ []) t.fragment)
+  fragment_utf8 = then_utf8 (hash_sign ∷ []) t.fragment (utf8_mark hash_sign (lit< tt)) u.fragment
 
-  query_begins : length (s ++ a ++ p) ≡ length s + length a + length p
-  query_begins = simp length-append
+  pub behind_path : IsUtf8 (then_part (question_mark ∷ []) t.query ++ then_part (hash_sign ∷ []) t.fragment)
+  behind_path = IsUtf8-append _ _ (then_utf8 (question_mark ∷ []) t.query (utf8_mark question_mark (lit< tt)) u.query) fragment_utf8
 
-  fragment_begins : length (s ++ a ++ p ++ q) ≡ length s + length a + length p + length q
-  fragment_begins = simp length-append
+  behind_authority : IsUtf8 (t.path ++ then_part (question_mark ∷ []) t.query ++ then_part (hash_sign ∷ []) t.fragment)
+  behind_authority = rw append_assoc (IsUtf8-append _ _ u.path behind_path)
+
+  behind_scheme : IsUtf8 (then_part (codes "//") t.authority ++ t.path ++ then_part (question_mark ∷ []) t.query ++ then_part (hash_sign ∷ []) t.fragment)
+  behind_scheme =
+      let slashes = IsUtf8-append (slash ∷ []) (slash ∷ []) (utf8_mark slash (lit< tt)) (utf8_mark slash (lit< tt)) in
+      simp append_assoc (simp append_assoc at (IsUtf8-append _ _ (then_utf8 (codes "//") t.authority slashes u.authority) behind_authority))
 
 module _ (r : ReferenceValue) (u : AreUtf8 (spell_components r)) where
   abbrev s : Text
@@ -122,46 +117,22 @@ module _ (r : ReferenceValue) (u : AreUtf8 (spell_components r)) where
   abbrev f : Text
   f = then_part (hash_sign ∷ []) r.fragment
 
-  f_utf8 : IsUtf8 f
-  f_utf8 = then_utf8 (hash_sign ∷ []) r.fragment (utf8_mark hash_sign (lit< tt)) u.fragment
-
-  q_utf8 : IsUtf8 q
-  q_utf8 = then_utf8 (question_mark ∷ []) r.query (utf8_mark question_mark (lit< tt)) u.query
-
-  qf_utf8 : IsUtf8 (q ++ f)
-  qf_utf8 = IsUtf8-append q f q_utf8 f_utf8
-
-  pqf_utf8 : IsUtf8 (p ++ (q ++ f))
-  pqf_utf8 = IsUtf8-append p (q ++ f) u.path qf_utf8
-
-  behind_authority : IsUtf8 (p ++ q ++ f)
-  behind_authority = subst IsUtf8 (sym (append_assoc p q f)) pqf_utf8
-
-  behind_scheme : IsUtf8 (a ++ p ++ q ++ f)
-  behind_scheme = subst IsUtf8 (simp append_assoc) (IsUtf8-append a (p ++ (q ++ f)) (then_utf8 (codes "//") (option_map spell_authority r.authority) slashes u.authority) pqf_utf8)
-
   mark_within : IsCharBoundary (spell r) (authority_mark r)
   unfolding spell
-  mark_within = IsCharBoundary-at_seam (s ++ a ++ p ++ q ++ f) s (a ++ p ++ q ++ f) (sym (around_scheme s a p q f)) behind_scheme
+  mark_within = IsCharBoundary-at_seam (s ++ a ++ p ++ q ++ f) s (a ++ p ++ q ++ f) (simp append_assoc) (behind_scheme (spell_components r) u)
 
   end_within : IsCharBoundary (spell r) (fragment_mark r)
   unfolding spell
-  end_within = subst (IsCharBoundary (s ++ a ++ p ++ q ++ f)) (fragment_begins s a p q f) (IsCharBoundary-at_seam (s ++ a ++ p ++ q ++ f) (s ++ a ++ p ++ q) f refl f_utf8)
+  end_within = simp length-append (simp length-append at (IsCharBoundary-at_seam (s ++ a ++ p ++ q ++ f) (s ++ a ++ p ++ q) f refl (fragment_utf8 (spell_components r) u)))
 
   spelled_within : AreWithin (spell r) (offsets_in r)
   unfolding spell offsets_in
   spelled_within = record {
-    scheme = subst (λ t. IfSome (option_map (range_from 0) r.scheme) (IsWithin t)) (around_scheme s a p q f)
-        (within_before (colon ∷ []) r.scheme (a ++ p ++ q ++ f) (utf8_mark colon (lit< tt)) u.scheme (behind_scheme));
-    authority = subst (λ t. IfSome (option_map (range_from (length s + 2)) (option_map spell_authority r.authority)) (IsWithin t)) (around_authority s a p q f)
-        (within_after s (codes "//") (option_map spell_authority r.authority) (p ++ q ++ f) u.authority behind_authority);
-    path = within (s ++ a ++ p ++ q ++ f) (s ++ a) p (q ++ f) (length s + length a) (around_path s a p q f) (path_begins s a p q f) u.path qf_utf8;
-    query = subst (λ n. IfSome (option_map (range_from (n + 1)) r.query) (IsWithin (s ++ a ++ p ++ q ++ f))) (query_begins s a p q f)
-        (subst (λ t. IfSome (option_map (range_from (length (s ++ a ++ p) + 1)) r.query) (IsWithin t)) (around_query s a p q f)
-        (within_after (s ++ a ++ p) (question_mark ∷ []) r.query f u.query f_utf8));
-    fragment = subst (λ n. IfSome (option_map (range_from (n + 1)) r.fragment) (IsWithin (s ++ a ++ p ++ q ++ f))) (fragment_begins s a p q f)
-        (subst (λ t. IfSome (option_map (range_from (length (s ++ a ++ p ++ q) + 1)) r.fragment) (IsWithin t)) (around_fragment s a p q f)
-        (within_after (s ++ a ++ p ++ q) (hash_sign ∷ []) r.fragment [] u.fragment IsUtf8-nil));
+    scheme = within_before (colon ∷ []) r.scheme (a ++ p ++ q ++ f) _ (simp append_assoc) (utf8_mark colon (lit< tt)) u.scheme (behind_scheme (spell_components r) u);
+    authority = within_after s (codes "//") _ (p ++ q ++ f) _ _ (simp append_assoc) refl u.authority (behind_authority (spell_components r) u);
+    path = within _ (s ++ a) p (q ++ f) _ (simp append_assoc) (sym (length-append s a)) u.path (behind_path (spell_components r) u);
+    query = within_after (s ++ a ++ p) (question_mark ∷ []) r.query f _ _ (simp append_assoc) (simp length-append) u.query (fragment_utf8 (spell_components r) u);
+    fragment = within_after (s ++ a ++ p ++ q) (hash_sign ∷ []) r.fragment [] _ _ (simp (append_assoc, append-nil)) (simp length-append) u.fragment IsUtf8-nil;
   }
 
 -- what is in a rule is UTF-8
@@ -173,7 +144,7 @@ none_or_utf8 test A d None h = tt
 none_or_utf8 test A d (Some bytes) h = in_rule_utf8 A bytes ((d bytes).0 h)
 
 module _ (set : CharTests) (above : AreAboveAscii set) where
-  components_utf8 : (t : ComponentTexts) → AreComponents set t → AreUtf8 t
+  pub components_utf8 : (t : ComponentTexts) → AreComponents set t → AreUtf8 t
   components_utf8 t c = record {
     authority = none_or_utf8 _ _ (Decides-is_authority set above) t.authority c.authority;
     scheme = none_or_utf8 _ _ Decides-is_scheme_bytes t.scheme c.scheme;
@@ -188,21 +159,15 @@ module _ (set : CharTests) (above : AreAboveAscii set) where
   -- the offsets of a reference lie in it, between characters
   pub offsets_within : (text : Text) → is_reference set text ≡ true → AreWithin text (offsets_of text)
   unfolding offsets_of
-  offsets_within text h =
-      subst (λ t. AreWithin t (offsets_in (read_reference text))) (read_reference-spelled text)
-      (spelled_within (read_reference text) (components_utf8 _ (components_of text h)))
+  offsets_within text h = rw (read_reference-spelled text) at (spelled_within (read_reference text) (components_utf8 _ (components_of text h)))
 
   -- and so does the delimiter of the authority
   pub authority_mark_within : (text : Text) → is_reference set text ≡ true → IsCharBoundary text (authority_mark (read_reference text))
-  authority_mark_within text h =
-      subst (λ t. IsCharBoundary t (authority_mark (read_reference text))) (read_reference-spelled text)
-      (mark_within (read_reference text) (components_utf8 _ (components_of text h)))
+  authority_mark_within text h = rw (read_reference-spelled text) at (mark_within (read_reference text) (components_utf8 _ (components_of text h)))
 
   -- and of the fragment
   pub fragment_mark_within : (text : Text) → is_reference set text ≡ true → IsCharBoundary text (fragment_mark (read_reference text))
-  fragment_mark_within text h =
-      subst (λ t. IsCharBoundary t (fragment_mark (read_reference text))) (read_reference-spelled text)
-      (end_within (read_reference text) (components_utf8 _ (components_of text h)))
+  fragment_mark_within text h = rw (read_reference-spelled text) at (end_within (read_reference text) (components_utf8 _ (components_of text h)))
 
 -- the spelling without its last parts
 module _ (s a p q f : Text) where
@@ -214,20 +179,10 @@ module _ (s a p q f : Text) where
 
 pub front-range : (text : Text) → take (fragment_after (lengths_of (read_reference text))) text ≡ before (hash_sign ∷ []) text
 unfolding spell
-front-range text =
-    let r = read_reference text in
-    (λ i. take (fragment_after-lengths r i) (sym (read_reference-spelled text) i))
-    ∙ sym (front_of (part_then (colon ∷ []) r.scheme) (then_part (codes "//") (option_map spell_authority r.authority)) (spell_path r.path)
-    (then_part (question_mark ∷ []) r.query) (then_part (hash_sign ∷ []) r.fragment))
-    ∙ ap spell (sym (read_reference-before_hash text)) ∙ read_reference-spelled (before (hash_sign ∷ []) text)
+front-range text = grind (arith, fragment_after-lengths, read_reference-spelled text, read_reference-before_hash text, read_reference-spelled (before (hash_sign ∷ []) text), front_of)
 
 pub hierarchy-range : (text : Text) → take (query_after (lengths_of (read_reference text))) text ≡ hierarchy text
 unfolding spell
-hierarchy-range text =
-    let r = read_reference text in
-    (λ i. take (query_after-lengths r i) (sym (read_reference-spelled text) i))
-    ∙ sym (hierarchy_of (part_then (colon ∷ []) r.scheme) (then_part (codes "//") (option_map spell_authority r.authority)) (spell_path r.path)
-    (then_part (question_mark ∷ []) r.query) (then_part (hash_sign ∷ []) r.fragment))
-    ∙ ap spell (sym (read_reference-hierarchy text)) ∙ read_reference-spelled (hierarchy text)
+hierarchy-range text = grind (arith, query_after-lengths, read_reference-spelled text, read_reference-hierarchy text, read_reference-spelled (hierarchy text), hierarchy_of)
 
 pub ruleset spelled = (read_reference-spelled)

@@ -1,30 +1,27 @@
 -- The path of a reference where it stands, and after an edit of it.
-use Rattle.std.proofs.Common.{◌≡◌, ℕ, ◌+◌, Bool, true, false, cond, not, ◌&&◌, ◌||◌, length, refl, sym, ap, subst, ◌∙◌}
-use Rattle.std.proofs.lemmas.Bool.{and_from}
-use Rattle.std.specs.Prelude.{Option, is_some}
-use Rattle.std.specs.List.{list_all, slice_range, splice}
+use Rattle.std.proofs.Common.{arith, ◌≡◌, ℕ, ◌+◌, Bool, true, not, ◌&&◌, ◌||◌, length, sym, ◌∙◌}
+use Rattle.std.specs.Prelude.{Option}
+use Rattle.std.specs.List.{splice}
 use Rattle.std.specs.declared.ops.Range.{Range}
 use Rattle.iref_grammar.specs.declared.context.PathContext.{PathContext}
 use Rattle.iref_grammar.specs.Characters.{CharTests, AreAboveAscii}
 use Rattle.iref_grammar.specs.Rules.{Text}
-use Rattle.iref_grammar.specs.Tests.{is_path, is_segment}
+use Rattle.iref_grammar.specs.Tests.{is_path}
 use Rattle.iref_grammar.specs.Texts.{is_empty}
-use Rattle.iref_grammar.specs.Contexts.{is_path_in, is_readable_path, fits, follows_authority, reads_as_path}
+use Rattle.iref_grammar.specs.Contexts.{is_path_in}
 use Rattle.iref_grammar.specs.PathValue.{PathValue, read_path, spell_path}
-use Rattle.iref_grammar.specs.ComponentOffsets.{offsets_in, offsets_of, path_start}
+use Rattle.iref_grammar.specs.ComponentOffsets.{offsets_in, offsets_of}
 use Rattle.iref_grammar.specs.Reference.{ReferenceValue, read_reference, context_of, is_readable, is_reference}
 use Rattle.iref_grammar.proofs.PathLemmas.{read_path-reads, read-spelled}
 use Rattle.iref_grammar.proofs.PathTestLemmas.{is_path-segments}
 use Rattle.iref_grammar.proofs.ReadableLemmas.{readable_delimited}
 use Rattle.iref_grammar.proofs.ReadablePartsLemmas.{readable_parts}
-use Rattle.iref_model.specs.Guard.{guarded, made_absolute, with_dot}
+use Rattle.iref_model.specs.Guard.{guarded, made_absolute}
 use Rattle.iref_model.specs.NormalList.{normal}
-use Rattle.iref_model.specs.PathSteps.{normalized}
 use Rattle.iref_model.specs.ComponentSteps.{with_path, with_new_normal_path}
 use Rattle.iref_model.proofs.NormalPathLemmas.{normal-with_dot}
 use Rattle.iref_model.proofs.ReferenceStepLemmas.{with_path-readable, with_normal_path-removes}
 use Rattle.iref_path_text.specs.PathParts.{is_path_after}
-use Rattle.iref_path_text.specs.Remaining.{flagged_path}
 use Rattle.iref_path_text.specs.Spelling.{normal_in}
 use Rattle.iref_grammar.proofs.RangeLemmas.{path_range}
 use Rattle.iref_edit.specs.Changes.{IsWithin, part_at}
@@ -48,30 +45,20 @@ pub path_stands : (set : CharTests) → AreAboveAscii set → (text : Text) → 
 path_stands set above text h =
     let r = read_reference text in
     let readable = readable_of set text h in
-    let parts = readable_parts set r readable in
     let delimited = readable_delimited set above r readable in
     let read : read_path (spell_path r.path) ≡ r.path = read-spelled r.path.absolute r.path.segments delimited.segments delimited.shown in
-    let fit = and_from (follows_authority (context_of r) r.path) (reads_as_path (context_of r) r.path) parts.follows parts.reads in
-    let path = is_path-segments set above (spell_path r.path) ∙ ap (λ (p : PathValue). list_all (is_segment set) p.segments) read ∙ parts.segments in
-    record {
-      read = read;
-      path_in = ap (is_readable_path set (context_of r)) read ∙ and_from (list_all (is_segment set) r.path.segments) (fits (context_of r) r.path) parts.segments fit;
-      path_after = and_from _ _ path (ap (follows_authority (context_of r)) read ∙ parts.follows);
-    }
+    grind (arith, read, readable_parts set r readable, is_path-segments set above (spell_path r.path))
 
 pub path_range_within : (set : CharTests) → AreAboveAscii set → (text : Text) (context : PathContext) (at : Span) → IsPathOf set text context at.start at.end → IsWithin text (record { start = at.start; end = at.end })
 path_range_within set above text context at stands =
-    subst (IsWithin text) (λ i. record { start = sym stands.1 i; end = sym stands.2 i }) (offsets_within set above text stands.0).path
+    rw (stands.1, stands.2) (offsets_within set above text stands.0).path
 
 -- ---- after an edit
 
 range_of_new_path : (old new path : Text) → read_reference new ≡ with_path_read path (read_reference old) → let start = (offsets_of old).path.start in
     let range : Range ℕ = record { start = start; end = start + length path } in (offsets_of new).path ≡ range
 unfolding offsets_of offsets_in
-range_of_new_path old new path e =
-    let start = path_start (read_reference old) in
-    let of_len : ℕ → Range ℕ = λ n. record { start = start; end = start + n } in
-    ap (λ r. (offsets_in r).path) e ∙ ap of_len (ap length (read_path-reads path).spelled)
+range_of_new_path old new path e = grind (arith, read_path-reads path)
 
 -- the new path stands where the old one did, and the other components stay
 pub record HoldsPath (set : CharTests) (test : Text → Bool) (old : ReferenceValue) (context : PathContext) (start : ℕ) (path new : Text) : Type 0 where
@@ -86,56 +73,24 @@ module _ (set : CharTests) (above : AreAboveAscii set) (test : Text → Bool) (a
       → HoldsPath set test (read_reference text) context at.start path new
   path_put path new keeps e =
       let old = read_reference text in
-      let here : context ≡ context_of old = λ i. record { has_scheme = stands.3 i; has_authority = stands.4 i } in
-      let there : part_at text at ≡ spell_path old.path = (λ i. slice_range text (stands.1 i) (stands.2 i)) ∙ path_range text in
-      let stood : is_path_in set context (part_at text at) ≡ true = (λ i. is_path_in set (here i) (there i)) ∙ (path_stands set above text stands.0).path_in in
-      let fits : is_path_in set (context_of old) path ≡ true = ap (λ x. is_path_in set x path) (sym here) ∙ keeps stood in
-      let spelled = e ∙ (λ i. splice text (stands.1 i) (stands.2 i) path) ∙ path_text_replaced text path in
+      let stood : is_path_in set context (part_at text at) ≡ true = grind (arith, path_range text, path_stands set above text stands.0) in
+      let fits : is_path_in set (context_of old) path ≡ true = grind (arith, keeps stood) in
+      let spelled = rw (stands.1, stands.2) at e ∙ path_text_replaced text path in
       let step = is_step set above test allows by_scheme new (with_path_read path old) spelled (read_path-readable set old path (readable_of set text stands.0) fits) allowed in
-      let range = range_of_new_path text new path step.value in
-      let starts : at.start ≡ (offsets_of new).path.start = stands.1 ∙ sym (ap (λ (r : Range ℕ). r.start) range) in
-      let ends : at.start + length path ≡ (offsets_of new).path.end = ap (λ n. n + length path) stands.1 ∙ sym (ap (λ (r : Range ℕ). r.end) range) in
-      record {
-        stands = (
-          references new step.leaves.in_rule,
-          starts,
-          ends,
-          stands.3 ∙ sym (ap (λ (r : ReferenceValue). is_some r.scheme) step.value),
-          stands.4 ∙ sym (ap (λ (r : ReferenceValue). is_some r.authority) step.value),
-        );
-        leaves = record {
-          in_rule = step.leaves.in_rule;
-          lengths = (λ i. record (lengths_of old) { path = length (sym (read_path-reads path).spelled i) }) ∙ step.leaves.lengths;
-        };
-      }
+      grind (arith, references new, step, range_of_new_path text new path, read_path-reads path)
 
 -- ---- the normal path
 
 normal-guard : (context : PathContext) (p : PathValue) → normal (guarded context p) ≡ normal (made_absolute context p)
 unfolding guarded
-normal-guard context p = by (reads_as_path context (made_absolute context p))
-  where
-    by : (b : Bool) → normal (cond b (made_absolute context p) (with_dot (made_absolute context p))) ≡ normal (made_absolute context p)
-    by true = refl
-    by false = normal-with_dot (made_absolute context p)
+normal-guard context p = grind (arith, normal-with_dot (made_absolute context p))
 
--- the path that was made absolute is made normal, instead of the guarded one
-pub normalized_where_absolute : (p : PathValue) (r : ReferenceValue) → record r { path = normalized (context_of r) (made_absolute (context_of r) p) } ≡ with_new_normal_path p r
-unfolding with_path
-normalized_where_absolute p r = λ i. record r { path = guarded (context_of r) (sym (normal-guard (context_of r) p) i) }
-
--- so is the normal text that is written in the context, with the flag that the path has there
+-- the path that was made absolute is made normal, instead of the guarded one, in the context and with the flag that it has there
 pub normal_in_place : (path : Text) (r : ReferenceValue) (context : PathContext) (absolute : Bool) → context ≡ context_of r
     → absolute ≡ ((read_path path).absolute || context.has_authority && not (is_empty (read_path path).segments))
     → normal_in context absolute path ≡ (with_new_normal_path (read_path path) r).path
-normal_in_place path r context absolute e f =
-    (λ i. normalized context (flagged_path (f i) path))
-    ∙ (λ i. normalized (e i) (made_absolute (e i) (read_path path)))
-    ∙ ap (λ (x : ReferenceValue). x.path) (normalized_where_absolute (read_path path) r)
-
-pub new_normal_path-parts : (p : PathValue) (r : ReferenceValue) → record r { path = (with_new_normal_path p r).path } ≡ with_new_normal_path p r
 unfolding with_path
-new_normal_path-parts p r = refl
+normal_in_place path r context absolute e f = grind (arith, normal-guard (context_of r) (read_path path))
 
 pub removes_dots : (set : CharTests) → AreAboveAscii set → (path : Text) (r : ReferenceValue) → is_path set path ≡ true → is_readable set r ≡ true → RemovesDots (with_path (read_path path) r) (with_new_normal_path (read_path path) r)
 removes_dots set above path r k h has absolute =

@@ -20,13 +20,10 @@ only_scheme scheme = record {
   fragment = None;
 }
 
-only_scheme-spelled : (scheme : Text) → scheme ++ colon ∷ [] ≡ spell (only_scheme scheme)
-unfolding spell spell_path
-only_scheme-spelled scheme = sym (simp append-nil)
-
 pub scheme_alone : (set : CharTests) → AreAboveAscii set → (test : Text → Bool) (allows : Option Text → Bool)
     → ((text : Text) → is_reference set text ≡ true → allows (read_reference text).scheme ≡ true → test text ≡ true)
     → (scheme : Text) → is_scheme scheme ≡ true → allows (Some scheme) ≡ true → test (scheme ++ colon ∷ []) ≡ true
+unfolding spell spell_path
 scheme_alone set above test allows allowed scheme h k =
     let readable = readable_from set (only_scheme scheme) (record { scheme = h; authority = refl; segments = refl; query = refl; fragment = refl; follows = refl; reads = refl }) in
-    (is_step set above test allows allowed (scheme ++ colon ∷ []) (only_scheme scheme) (only_scheme-spelled scheme) readable k).leaves.in_rule
+    (is_step set above test allows allowed (scheme ++ colon ∷ []) (only_scheme scheme) (sym (simp append-nil)) readable k).leaves.in_rule

@@ -1,14 +1,10 @@
-use Rattle.std.proofs.Common.{rules, ap, ◌∙◌}
+use Rattle.std.proofs.Common.{rules, arith}
 use Rattle.std.specs.String.{string_bytes}
-use Rattle.iref_grammar.specs.Reference.{read_reference}
 use Rattle.iref_buffer.proofs.LengthLemmas.{lengths-slices}
 use Rattle.iref_buffer.proofs.held.Held.new.Goals as goal
 
 pub invariant_of-result : goal.invariant_of-result
-invariant_of-result g c = (
-  search rules,
-  c.of-lengths.ensures ∙ lengths-slices c.in-Some.slices _ (c.in-Some.ensures.value ∙ ap read_reference c.as_str.ensures.value),
-)
+invariant_of-result g c = (search rules, grind (arith, lengths-slices c.in-Some.slices _ c.in-Some.ensures.value))
 
 pub returns : goal.returns
 returns g c = search (rules, (g.R.Rule.decided g.C.CharSet.tests g.met.C.CharSet.above_ascii (string_bytes c.args.text)).0)

@@ -1,6 +1,4 @@
-use Rattle.std.proofs.Common.{sym, ap, ◌∙◌}
-use Rattle.iref_grammar.specs.Reference.{read_reference}
-use Rattle.iref_buffer.specs.ComponentLengths.{lengths_of}
+use Rattle.std.proofs.Common.{arith, ap, ◌∙◌}
 use Rattle.iref_buffer.proofs.HeldLemmas.{in_rule_utf8}
 use Rattle.iref_buffer.proofs.LengthLemmas.{lengths_by_offsets}
 use Rattle.iref_buffer.proofs.held.Held.of_components.Goals as goal
@@ -12,11 +10,7 @@ from_utf8_unchecked-text-requires g c =
     in_rule_utf8 _ bytes ((g.R.Rule.decided set g.met.C.CharSet.above_ascii bytes).0 (ap (g.R.Rule.test set) c.in_ok-bytes.ensures ∙ c.requires.composed.in_rule))
 
 pub invariant_of-result : goal.invariant_of-result
-invariant_of-result g c =
-    let put = ap (λ v. v.items) c.from_utf8_unchecked-text.ensures.value ∙ c.in_ok-bytes.ensures in (
-      ap (g.R.Rule.test g.C.CharSet.tests) put ∙ c.requires.composed.in_rule,
-      c.lengths.ensures ∙ lengths_by_offsets _ _ c.requires.composed.offsets ∙ ap (λ t. lengths_of (read_reference t)) (sym put),
-    )
+invariant_of-result g c = grind (arith, lengths_by_offsets _ _ c.requires.composed.offsets)
 
 pub returns : goal.returns
-returns g c = ap (λ v. v.items) c.from_utf8_unchecked-text.ensures.value ∙ c.in_ok-bytes.ensures
+returns g c = grind arith

@@ -1,7 +1,6 @@
-use Rattle.std.proofs.Common.{rules, ◌≡◌, true, [], ◌∷◌, ap, ◌∙◌}
+use Rattle.std.proofs.Common.{rules, ◌≡◌, [], ◌∷◌}
 use Rattle.iref_grammar.specs.Grammar.{hash_sign}
 use Rattle.iref_grammar.specs.Texts.{before}
-use Rattle.iref_grammar.specs.Reference.{is_reference, read_reference}
 use Rattle.iref_grammar.proofs.FrontLemmas.{read_reference-before_hash, is_reference-before_hash}
 use Rattle.iref_buffer.proofs.EditLemmas.{front_ends}
 use Rattle.iref_buffer.proofs.HeldLemmas.{front-range}
@@ -16,10 +15,9 @@ returns-clause-text g c = search (rules, front-range)
 pub returns-clause-value : goal.returns-clause-value
 returns-clause-value g c =
     let cut : c.range.result.now ≡ before (hash_sign ∷ []) c.args.self.now = search (rules, front-range) in
-    ap read_reference cut ∙ read_reference-before_hash c.args.self.now
+    rw cut (read_reference-before_hash c.args.self.now)
 
 pub returns-clause-in_rule : goal.returns-clause-in_rule
 returns-clause-in_rule g c =
     let cut : c.range.result.now ≡ before (hash_sign ∷ []) c.args.self.now = search (rules, front-range) in
-    let whole : is_reference g.C.CharSet.tests c.args.self.now ≡ true = search (rules, g.met.R.HeldRule.references g.C.CharSet.tests) in
-    ap (is_reference g.C.CharSet.tests) cut ∙ is_reference-before_hash g.C.CharSet.tests c.args.self.now whole
+    rw cut (search (rules, is_reference-before_hash, g.met.R.HeldRule.references g.C.CharSet.tests))

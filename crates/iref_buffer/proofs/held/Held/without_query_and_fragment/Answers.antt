@@ -1,5 +1,5 @@
-use Rattle.std.proofs.Common.{rules, ◌≡◌, true, ap, ◌∙◌}
-use Rattle.iref_grammar.specs.Reference.{hierarchy, is_reference, read_reference}
+use Rattle.std.proofs.Common.{rules, ◌≡◌}
+use Rattle.iref_grammar.specs.Reference.{hierarchy}
 use Rattle.iref_grammar.proofs.FrontLemmas.{read_reference-hierarchy, is_reference-hierarchy}
 use Rattle.iref_buffer.proofs.EditLemmas.{path_ends}
 use Rattle.iref_buffer.proofs.HeldLemmas.{hierarchy-range}
@@ -14,10 +14,9 @@ returns-clause-text g c = search (rules, hierarchy-range)
 pub returns-clause-value : goal.returns-clause-value
 returns-clause-value g c =
     let cut : c.range.result.now ≡ hierarchy c.args.self.now = search (rules, hierarchy-range) in
-    ap read_reference cut ∙ read_reference-hierarchy c.args.self.now
+    rw cut (read_reference-hierarchy c.args.self.now)
 
 pub returns-clause-in_rule : goal.returns-clause-in_rule
 returns-clause-in_rule g c =
     let cut : c.range.result.now ≡ hierarchy c.args.self.now = search (rules, hierarchy-range) in
-    let whole : is_reference g.C.CharSet.tests c.args.self.now ≡ true = search (rules, g.met.R.HeldRule.references g.C.CharSet.tests) in
-    ap (is_reference g.C.CharSet.tests) cut ∙ is_reference-hierarchy g.C.CharSet.tests c.args.self.now whole
+    rw cut (search (rules, is_reference-hierarchy, g.met.R.HeldRule.references g.C.CharSet.tests))
