@@ -70,14 +70,7 @@ module _ (b t : ComponentTexts) (none : (is_some t.scheme || is_some t.authority
   unfolding resolved
   after_resolved some path e = grind (arith, none, some_path t.path some, authority_spelled, is_some-map)
 
--- ---- the five parts, written from the last
-
-module _ (s a p q f : Text) where
-  pub parts_length : length (s ++ a ++ p ++ q ++ f) ≡ length s + length a + length p + length q + length f
-  parts_length = simp length-append
-
-  pub parts_joined : s ++ (a ++ (p ++ (q ++ (f ++ [])))) ≡ s ++ a ++ p ++ q ++ f
-  parts_joined = simp (append_assoc, append-nil)
+-- ---- the text of components
 
 -- how long the text of components is
 pub total-texts : (t : ComponentTexts) → total_length (lengths_of_texts t) ≡ length (spell_texts t)

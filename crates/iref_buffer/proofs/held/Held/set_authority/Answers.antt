@@ -1,8 +1,6 @@
-use Rattle.std.proofs.Common.{arith, ◌++◌, length-append, sym, ap, ◌∙◌}
-use Rattle.std.specs.Prelude.{codes, option_map}
+use Rattle.std.proofs.Common.{arith, length-append, sym, ap, ◌∙◌}
+use Rattle.std.specs.Prelude.{option_map}
 use Rattle.std.specs.Option.{option_copied}
-use Rattle.std.specs.List.{splice}
-use Rattle.iref_grammar.specs.Texts.{then_part}
 use Rattle.iref_grammar.specs.Authority.{read_authority}
 use Rattle.iref_grammar.specs.Reference.{read_reference}
 use Rattle.iref_grammar.proofs.ComponentLemmas.{authority_spelled, is_some-copied}
@@ -19,10 +17,8 @@ invariant_of-self-2 g c =
     let text = option_copied c.args.authority in
     let new = option_map read_authority text in
     let lead = c.authority_lead-lead.result.now in
-    let range = c.authority_range-within.result in
     let put = c.authority_lead-lead.ensures.spelled new (is_some-map read_authority text ∙ sym (is_some-copied c.args.authority) ∙ sym c.is_some.ensures) in
-    let spelled = c.in_ok-replace.ensures.ok ∙ ap (λ t. splice t range.start range.end (c.marked.result.0.now ++ c.marked.result.1.now ++ lead)) c.self.view_is
-    ∙ ap (λ t. splice c.args.self.now range.start range.end (t ++ lead)) (c.marked.ensures.pieces ∙ ap (then_part (codes "//")) (authority_spelled text))
+    let spelled = rw (c.self.view_is, c.marked.ensures.pieces, authority_spelled text) at c.in_ok-replace.ensures.ok
     ∙ c.authority_range-within.ensures.replaced new (with_authority new old).path lead put in
     let step = authority_set set g.met.C.CharSet.above_ascii (g.R.Rule.test set) g.R.HeldRule.allows_scheme (g.met.R.HeldRule.by_scheme set) old
     c.lengths-old.ensures.readable c.lengths-old.ensures.allowed _ text c.requires spelled in
@@ -36,10 +32,8 @@ returns-clause-set g c =
     let text = option_copied c.args.authority in
     let new = option_map read_authority text in
     let lead = c.authority_lead-lead.result.now in
-    let range = c.authority_range-within.result in
     let put = c.authority_lead-lead.ensures.spelled new (is_some-map read_authority text ∙ sym (is_some-copied c.args.authority) ∙ sym c.is_some.ensures) in
-    let spelled = c.in_ok-replace.ensures.ok ∙ ap (λ t. splice t range.start range.end (c.marked.result.0.now ++ c.marked.result.1.now ++ lead)) c.self.view_is
-    ∙ ap (λ t. splice c.args.self.now range.start range.end (t ++ lead)) (c.marked.ensures.pieces ∙ ap (then_part (codes "//")) (authority_spelled text))
+    let spelled = rw (c.self.view_is, c.marked.ensures.pieces, authority_spelled text) at c.in_ok-replace.ensures.ok
     ∙ c.authority_range-within.ensures.replaced new (with_authority new old).path lead put in (
       spelled,
       (authority_set set g.met.C.CharSet.above_ascii (g.R.Rule.test set) g.R.HeldRule.allows_scheme (g.met.R.HeldRule.by_scheme set) old

@@ -1,8 +1,5 @@
-use Rattle.std.proofs.Common.{◌≡◌, [], ◌∷◌, true, arith, ap, subst, ◌∙◌}
+use Rattle.std.proofs.Common.{arith, ◌∙◌}
 use Rattle.std.specs.Option.{option_copied}
-use Rattle.std.specs.List.{splice}
-use Rattle.iref_grammar.specs.Grammar.{hash_sign}
-use Rattle.iref_grammar.specs.Texts.{then_part}
 use Rattle.iref_grammar.specs.Reference.{read_reference}
 use Rattle.iref_buffer.proofs.EditLemmas.{fragment_set, readable_of}
 use Rattle.iref_buffer.proofs.held.Held.set_fragment.Goals as goal
@@ -12,10 +9,9 @@ invariant_of-self-2 g c =
     let set = g.C.CharSet.tests in
     let test = g.R.Rule.test set in
     let text = c.args.self.now in
-    let known = subst (λ t. test t ≡ true) c.self.view_is c.self.invariant.0 in
+    let known = rw c.self.view_is at c.self.invariant.0 in
     let fragment = option_copied c.args.fragment in
-    let range = c.fragment_range-within.result in
-    let put = c.in_ok-put_marked.ensures.ok ∙ ap (λ t. splice t range.start range.end (then_part (hash_sign ∷ []) fragment)) c.self.view_is ∙ c.fragment_range-within.ensures.replaced fragment in
+    let put = rw c.self.view_is at c.in_ok-put_marked.ensures.ok ∙ c.fragment_range-within.ensures.replaced fragment in
     let step = fragment_set set g.met.C.CharSet.above_ascii test g.R.HeldRule.allows_scheme (g.met.R.HeldRule.by_scheme set) (read_reference text)
     (readable_of set text (g.met.R.HeldRule.references set text known)) (g.met.R.HeldRule.has_allowed_scheme set text known) _ fragment c.requires put in
     grind (arith, step)
@@ -25,10 +21,9 @@ returns-clause-set g c =
     let set = g.C.CharSet.tests in
     let test = g.R.Rule.test set in
     let text = c.args.self.now in
-    let known = subst (λ t. test t ≡ true) c.self.view_is c.self.invariant.0 in
+    let known = rw c.self.view_is at c.self.invariant.0 in
     let fragment = option_copied c.args.fragment in
-    let range = c.fragment_range-within.result in
-    let put = c.in_ok-put_marked.ensures.ok ∙ ap (λ t. splice t range.start range.end (then_part (hash_sign ∷ []) fragment)) c.self.view_is ∙ c.fragment_range-within.ensures.replaced fragment in (
+    let put = rw c.self.view_is at c.in_ok-put_marked.ensures.ok ∙ c.fragment_range-within.ensures.replaced fragment in (
       put,
       (fragment_set set g.met.C.CharSet.above_ascii test g.R.HeldRule.allows_scheme (g.met.R.HeldRule.by_scheme set) (read_reference text)
           (readable_of set text (g.met.R.HeldRule.references set text known)) (g.met.R.HeldRule.has_allowed_scheme set text known) _ fragment c.requires put).value,

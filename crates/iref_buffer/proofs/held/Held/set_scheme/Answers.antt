@@ -1,6 +1,5 @@
-use Rattle.std.proofs.Common.{arith, ◌≡◌, ◌+◌, ◌++◌, length, length-append, sym, ap, ◌∙◌}
+use Rattle.std.proofs.Common.{arith, ◌≡◌, ◌+◌, length, length-append, sym, ap, ◌∙◌}
 use Rattle.std.specs.Option.{option_copied}
-use Rattle.std.specs.List.{splice}
 use Rattle.iref_grammar.specs.PathValue.{spell_path}
 use Rattle.iref_grammar.specs.Reference.{read_reference}
 use Rattle.iref_grammar.proofs.ComponentLemmas.{is_some-copied}
@@ -14,10 +13,8 @@ invariant_of-self-2 g c =
     let old = read_reference c.args.self.now in
     let new = option_copied c.args.scheme in
     let lead = c.scheme_lead-lead.result.now in
-    let range = c.scheme_range-within.result in
     let put = c.scheme_lead-lead.ensures.spelled new (sym (is_some-copied c.args.scheme) ∙ sym c.is_some.ensures) in
-    let spelled = c.in_ok-replace.ensures.ok ∙ ap (λ t. splice t range.start range.end (c.marked_after.result.0.now ++ c.marked_after.result.1.now ++ lead)) c.self.view_is
-    ∙ ap (λ t. splice c.args.self.now range.start range.end (t ++ lead)) c.marked_after.ensures.pieces ∙ c.scheme_range-within.ensures.replaced new (with_scheme new old).path lead put in
+    let spelled = rw (c.self.view_is, c.marked_after.ensures.pieces) at c.in_ok-replace.ensures.ok ∙ c.scheme_range-within.ensures.replaced new (with_scheme new old).path lead put in
     let step = scheme_set set g.met.C.CharSet.above_ascii (g.R.Rule.test set) g.R.HeldRule.allows_scheme (g.met.R.HeldRule.by_scheme set) old
     c.lengths-old.ensures.readable c.lengths-old.ensures.allowed _ new c.requires.scheme c.requires.allowed spelled in
     let len : length lead + c.lengths-old.result.path ≡ length (spell_path (with_scheme new old).path) = rw c.lengths-old.ensures.lengths (omega (arith, simp length-append at (ap length put))) in
@@ -30,10 +27,8 @@ returns-clause-set g c =
     let old = read_reference c.args.self.now in
     let new = option_copied c.args.scheme in
     let lead = c.scheme_lead-lead.result.now in
-    let range = c.scheme_range-within.result in
     let put = c.scheme_lead-lead.ensures.spelled new (sym (is_some-copied c.args.scheme) ∙ sym c.is_some.ensures) in
-    let spelled = c.in_ok-replace.ensures.ok ∙ ap (λ t. splice t range.start range.end (c.marked_after.result.0.now ++ c.marked_after.result.1.now ++ lead)) c.self.view_is
-    ∙ ap (λ t. splice c.args.self.now range.start range.end (t ++ lead)) c.marked_after.ensures.pieces ∙ c.scheme_range-within.ensures.replaced new (with_scheme new old).path lead put in
+    let spelled = rw (c.self.view_is, c.marked_after.ensures.pieces) at c.in_ok-replace.ensures.ok ∙ c.scheme_range-within.ensures.replaced new (with_scheme new old).path lead put in
     let step = scheme_set set g.met.C.CharSet.above_ascii (g.R.Rule.test set) g.R.HeldRule.allows_scheme (g.met.R.HeldRule.by_scheme set) old
     c.lengths-old.ensures.readable c.lengths-old.ensures.allowed _ new c.requires.scheme c.requires.allowed spelled in
     rw (with_scheme-parts new old) at (spells (g.R.Rule.test set) _ _ step)

@@ -15,7 +15,7 @@ pub rewrite_text-end-requires-clause-utf8 : goal.rewrite_text-end-requires-claus
 rewrite_text-end-requires-clause-utf8 g c =
     let set = g.C.CharSet.tests in
     let text = c.args.self.now in
-    let known = subst (λ t. g.R.Rule.test set t ≡ true) c.self.view_is c.self.invariant.0 in
+    let known = rw c.self.view_is at c.self.invariant.0 in
     let put = ap (λ t. rewritten_at c.args.lead.now t c.args.at) c.self.view_is in
     let holds = path_put set g.met.C.CharSet.above_ascii (g.R.Rule.test set) g.R.HeldRule.allows_scheme (g.met.R.HeldRule.by_scheme set) (g.met.R.HeldRule.references set)
     text c.args.after c.args.at c.requires.stands (g.met.R.HeldRule.has_allowed_scheme set text known) (rewritten c.args.lead.now (part_at text c.args.at)) _ c.requires.reads put in
@@ -25,8 +25,8 @@ pub invariant_of-self : goal.invariant_of-self
 invariant_of-self g c =
     let set = g.C.CharSet.tests in
     let text = c.args.self.now in
-    let known = subst (λ t. g.R.Rule.test set t ≡ true) c.self.view_is c.self.invariant.0 in
-    let put = c.rewrite_text-end.ensures.bytes ∙ ap (λ t. rewritten_at c.args.lead.now t c.args.at) c.self.view_is in
+    let known = rw c.self.view_is at c.self.invariant.0 in
+    let put = rw c.self.view_is at c.rewrite_text-end.ensures.bytes in
     let holds = path_put set g.met.C.CharSet.above_ascii (g.R.Rule.test set) g.R.HeldRule.allows_scheme (g.met.R.HeldRule.by_scheme set) (g.met.R.HeldRule.references set)
     text c.args.after c.args.at c.requires.stands (g.met.R.HeldRule.has_allowed_scheme set text known) (rewritten c.args.lead.now (part_at text c.args.at)) _ c.requires.reads put in
     grind (arith, holds)
@@ -35,8 +35,8 @@ pub returns-clause-stands : goal.returns-clause-stands
 returns-clause-stands g c =
     let set = g.C.CharSet.tests in
     let text = c.args.self.now in
-    let known = subst (λ t. g.R.Rule.test set t ≡ true) c.self.view_is c.self.invariant.0 in
-    let put = c.rewrite_text-end.ensures.bytes ∙ ap (λ t. rewritten_at c.args.lead.now t c.args.at) c.self.view_is in
+    let known = rw c.self.view_is at c.self.invariant.0 in
+    let put = rw c.self.view_is at c.rewrite_text-end.ensures.bytes in
     let holds = path_put set g.met.C.CharSet.above_ascii (g.R.Rule.test set) g.R.HeldRule.allows_scheme (g.met.R.HeldRule.by_scheme set) (g.met.R.HeldRule.references set)
     text c.args.after c.args.at c.requires.stands (g.met.R.HeldRule.has_allowed_scheme set text known) (rewritten c.args.lead.now (part_at text c.args.at)) _ c.requires.reads put in
     rw (c.rewrite_text-end.ensures.end, c.self.view_is) holds.stands

@@ -30,7 +30,7 @@ pub invariant_of-self-2 : goal.invariant_of-self-2
 invariant_of-self-2 g c =
     let set = g.C.CharSet.tests in
     let text = c.args.self.now in
-    let known = subst (λ t. g.R.Rule.test set t ≡ true) c.self.view_is c.self.invariant.0 in
+    let known = rw c.self.view_is at c.self.invariant.0 in
     let placed = path_range_within set g.met.C.CharSet.above_ascii text c.args.after c.args.at c.requires.stands in
     let changed = part_changed _ text _ c.args.at c.args.by _ c.self.view_is placed c.requires.within c.in_ok-replace.ensures.ok c.in_ok-len.ensures.sum in
     let holds = path_put set g.met.C.CharSet.above_ascii (g.R.Rule.test set) g.R.HeldRule.allows_scheme (g.met.R.HeldRule.by_scheme set) (g.met.R.HeldRule.references set)
@@ -41,7 +41,7 @@ pub returns : goal.returns
 returns g c =
     let set = g.C.CharSet.tests in
     let text = c.args.self.now in
-    let known = subst (λ t. g.R.Rule.test set t ≡ true) c.self.view_is c.self.invariant.0 in
+    let known = rw c.self.view_is at c.self.invariant.0 in
     let placed = path_range_within set g.met.C.CharSet.above_ascii text c.args.after c.args.at c.requires.stands in
     let changed = part_changed _ text _ c.args.at c.args.by _ c.self.view_is placed c.requires.within c.in_ok-replace.ensures.ok c.in_ok-len.ensures.sum in
     let holds = path_put set g.met.C.CharSet.above_ascii (g.R.Rule.test set) g.R.HeldRule.allows_scheme (g.met.R.HeldRule.by_scheme set) (g.met.R.HeldRule.references set)
