@@ -1,11 +1,10 @@
 -- The components of what a reference resolves to, as texts.
-use Rattle.std.proofs.Common.{arith, ◌≡◌, ◌+◌, Bool, true, false, ◌||◌, [], ◌∷◌, ◌++◌, length, refl, ◌∙◌, ap, append_assoc, length-append}
+use Rattle.std.proofs.Common.{arith, ◌≡◌, Bool, true, false, ◌||◌, [], ◌∷◌, length, refl, ◌∙◌, ap}
 use Rattle.std.proofs.lemmas.Grind.{common_steps}
 use Rattle.iref_mapping.proofs.MappedMarkLemmas.{is_some-map}
 use Rattle.std.specs.Prelude.{◌≢◌, Option, is_some}
 use Rattle.std.specs.Borrow.{Bor}
 use Rattle.std.specs.Option.{option_copied, option_or}
-use Rattle.std.proofs.lemmas.List.{append-nil}
 use Rattle.iref_grammar.specs.Rules.{Text}
 use Rattle.iref_grammar.specs.PathValue.{read_path, spell_path}
 use Rattle.iref_grammar.specs.Contexts.{fits}

@@ -4,6 +4,3 @@ use Rattle.iref_buffer.proofs.held.Held.base_text.Goals as goal
 
 pub returns-clause-value : goal.returns-clause-value
 returns-clause-value g c = search (rules, base_of-read g.C.CharSet.tests g.met.C.CharSet.above_ascii, g.met.R.HeldRule.references g.C.CharSet.tests)
-
-pub returns-clause-in_rule : goal.returns-clause-in_rule
-returns-clause-in_rule g c = search (rules, g.met.R.HeldRule.keeps_bases g.C.CharSet.tests g.met.C.CharSet.above_ascii)

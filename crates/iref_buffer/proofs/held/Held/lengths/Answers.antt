@@ -5,9 +5,6 @@ use Rattle.iref_buffer.proofs.LengthLemmas.{total-read}
 use Rattle.iref_buffer.proofs.EditLemmas.{readable_of}
 use Rattle.iref_buffer.proofs.held.Held.lengths.Goals as goal
 
-pub returns-clause-lengths : goal.returns-clause-lengths
-returns-clause-lengths g c = rw c.self.view_is at c.self.invariant.1
-
 pub returns-clause-readable : goal.returns-clause-readable
 returns-clause-readable g c =
     let set = g.C.CharSet.tests in

@@ -11,6 +11,3 @@ from_utf8_unchecked-text-requires g c =
 
 pub invariant_of-result : goal.invariant_of-result
 invariant_of-result g c = grind (arith, lengths_by_offsets _ _ c.requires.composed.offsets)
-
-pub returns : goal.returns
-returns g c = grind arith

@@ -1,4 +1,4 @@
-use Rattle.std.proofs.Common.{arith, length-append, sym, ap, ◌∙◌}
+use Rattle.std.proofs.Common.{arith, length-append, sym, ◌∙◌}
 use Rattle.std.specs.Prelude.{option_map}
 use Rattle.std.specs.Option.{option_copied}
 use Rattle.iref_grammar.specs.Authority.{read_authority}
@@ -34,8 +34,7 @@ returns-clause-set g c =
     let lead = c.authority_lead-lead.result.now in
     let put = c.authority_lead-lead.ensures.spelled new (is_some-map read_authority text ∙ sym (is_some-copied c.args.authority) ∙ sym c.is_some.ensures) in
     let spelled = rw (c.self.view_is, c.marked.ensures.pieces, authority_spelled text) at c.in_ok-replace.ensures.ok
-    ∙ c.authority_range-within.ensures.replaced new (with_authority new old).path lead put in (
-      spelled,
-      (authority_set set g.met.C.CharSet.above_ascii (g.R.Rule.test set) g.R.HeldRule.allows_scheme (g.met.R.HeldRule.by_scheme set) old
-          c.lengths-old.ensures.readable c.lengths-old.ensures.allowed _ text c.requires spelled).value,
-    )
+    ∙ c.authority_range-within.ensures.replaced new (with_authority new old).path lead put in
+    let step = authority_set set g.met.C.CharSet.above_ascii (g.R.Rule.test set) g.R.HeldRule.allows_scheme (g.met.R.HeldRule.by_scheme set) old
+    c.lengths-old.ensures.readable c.lengths-old.ensures.allowed _ text c.requires spelled in
+    (spelled, step.value)

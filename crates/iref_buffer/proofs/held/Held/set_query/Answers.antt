@@ -23,8 +23,7 @@ returns-clause-set g c =
     let text = c.args.self.now in
     let known = rw c.self.view_is at c.self.invariant.0 in
     let query = option_copied c.args.query in
-    let put = rw c.self.view_is at c.in_ok-put_marked.ensures.ok ∙ c.query_range-within.ensures.replaced query in (
-      put,
-      (query_set set g.met.C.CharSet.above_ascii test g.R.HeldRule.allows_scheme (g.met.R.HeldRule.by_scheme set) (read_reference text)
-          (readable_of set text (g.met.R.HeldRule.references set text known)) (g.met.R.HeldRule.has_allowed_scheme set text known) _ query c.requires put).value,
-    )
+    let put = rw c.self.view_is at c.in_ok-put_marked.ensures.ok ∙ c.query_range-within.ensures.replaced query in
+    let step = query_set set g.met.C.CharSet.above_ascii test g.R.HeldRule.allows_scheme (g.met.R.HeldRule.by_scheme set) (read_reference text)
+    (readable_of set text (g.met.R.HeldRule.references set text known)) (g.met.R.HeldRule.has_allowed_scheme set text known) _ query c.requires put in
+    (put, step.value)

@@ -1,4 +1,4 @@
-use Rattle.std.proofs.Common.{◌≡◌, true, arith, ap, subst, ◌∙◌}
+use Rattle.std.proofs.Common.{arith, ap}
 use Rattle.iref_edit.specs.Changes.{part_at}
 use Rattle.iref_path_text.specs.Rewriting.{rewritten, rewritten_at}
 use Rattle.iref_buffer.proofs.HeldLemmas.{in_rule_utf8}

@@ -1,4 +1,4 @@
-use Rattle.std.proofs.Common.{◌≡◌, ◌+◌, true, arith, ap, refl, subst}
+use Rattle.std.proofs.Common.{◌+◌, arith, ap, refl}
 use Rattle.iref_edit.specs.Changes.{changed_part}
 use Rattle.iref_edit.proofs.PartLemmas.{slice-length}
 use Rattle.iref_buffer.proofs.PathEditLemmas.{part_changed, part_within}
