@@ -1,5 +1,5 @@
 -- What an edit by an editor of the authority leaves is the step of the whole reference.
-use Rattle.std.proofs.Common.{◌≡◌, true, Result, Ok, Err, OnOk, refl, sym, ap, ◌∙◌}
+use Rattle.std.proofs.Common.{◌≡◌, true, Result, Ok, Err, OnErr, refl, sym, ap, ◌∙◌}
 use Rattle.std.specs.Prelude.{Option, Some, None, is_some, option_map, if◌then◌else◌}
 use Rattle.iref_grammar.specs.Characters.{CharTests, AreAboveAscii}
 use Rattle.iref_grammar.specs.Rules.{Text}
@@ -12,9 +12,10 @@ use Rattle.iref_component.specs.Components.{text_of}
 use Rattle.iref_model.specs.ComponentSteps.{with_authority_step}
 use Rattle.iref_model.specs.Edits.{EditStep, NoAuthority, edited, with_authority_part}
 use Rattle.iref_component.specs.declared.authority_mut.AuthorityMut.{AuthorityMut}
-use Rattle.iref_component.specs.AuthorityEdits.{authority_mut_value, edited_bytes, BecomesAuthority, Edits, IsEditorAt}
+use Rattle.iref_component.specs.AuthorityEdits.{edited_bytes, Edits, IsEditorAt}
 use Rattle.iref_buffer.proofs.EditLemmas.{readable_of}
 use Rattle.iref_reference.proofs.AuthorityStepLemmas.{authority_step}
+use Rattle.iref.specs.EditAnswers.{DoesEdit, may_take_memory}
 
 -- an optional text that is given by a borrowed value is in the rule
 pub view_in_rule : {S R C K s r k c : _} (o : Option (RuleText S R C K s r k c)) → none_or (r.test c.tests) (option_map text_of o) ≡ true
@@ -26,19 +27,12 @@ unfolding is_authority
 authority_in_rule set text h = h
 
 -- the edit of a part of the authority, done by its editor
-pub authority_edited : {C T c H : _} {old new : AuthorityMut C T c H} {text after : Text} (set : CharTests) → AreAboveAscii set → (edit : EditStep) (step : AuthorityValue → AuthorityValue)
-    → edited edit (read_reference text) ≡ with_authority_part step (read_reference text) → is_some (read_reference text).authority ≡ true → is_reference set text ≡ true
-    → (is_readable set (read_reference text) ≡ true → is_readable set (with_authority_step step (read_reference text)) ≡ true)
-    → IsEditorAt old text (offsets_of text).authority → after ≡ edited_bytes new → BecomesAuthority old new (step (authority_mut_value old)) → edited edit (read_reference text) ≡ Ok (read_reference after)
-authority_edited {text = text} set above edit step e has h readable of same becomes =
-    let read = (authority_step set above step h (readable (readable_of set text h)) of becomes).1 in
-    e ∙ (λ i. if has i then Ok (with_authority_step step (read_reference text)) else Err NoAuthority) ∙ ap Ok (sym (ap read_reference same ∙ read))
-
--- the same where it is done
-pub authority_edited_on_ok : {C T c H : _} {text after : Text} {U E : Type 0} (old new : AuthorityMut C T c H) (set : CharTests) → AreAboveAscii set → (edit : EditStep) (step : AuthorityValue → AuthorityValue)
+pub authority_edit_done : {C T c H : _} {text after : Text} {E : Type 0} (old new : AuthorityMut C T c H) (set : CharTests) → AreAboveAscii set → (edit : EditStep) (step : AuthorityValue → AuthorityValue)
     → edited edit (read_reference text) ≡ with_authority_part step (read_reference text) → is_some (read_reference text).authority ≡ true → is_reference set text ≡ true
     → (is_readable set (read_reference text) ≡ true → is_readable set (with_authority_step step (read_reference text)) ≡ true)
     → IsEditorAt old text (offsets_of text).authority → after ≡ edited_bytes new
-    → (result : Result U E) → Edits step old new result → OnOk result (edited edit (read_reference text) ≡ Ok (read_reference after))
-authority_edited_on_ok old new set above edit step e has h readable of same (Ok u) edits = authority_edited set above edit step e has h readable of same edits.outcome
-authority_edited_on_ok old new set above edit step e has h readable of same (Err error) edits = tt
+    → (result : Result (Unit {0}) E) → Edits step old new result → OnErr result ((after ≡ text) × (may_take_memory edit ≡ true)) → DoesEdit edit text after result
+authority_edit_done {text = text} old new set above edit step e has h readable of same (Ok done) edits failed =
+    let read = (authority_step set above step h (readable (readable_of set text h)) of edits.outcome).1 in
+    (e ∙ (λ i. if has i then Ok (with_authority_step step (read_reference text)) else Err NoAuthority) ∙ ap Ok (sym (ap read_reference same ∙ read)), tt)
+authority_edit_done old new set above edit step e has h readable of same (Err error) edits failed = (tt, failed)

@@ -1,7 +1,7 @@
 -- A text is a reference exactly if each component that it is cut into is in the rule of the grammar.
 use Rattle.iref_grammar.specs.Authority.{is_authority}
 use Rattle.iref_grammar.specs.Characters.{AreAboveAscii, CharTests}
-use Rattle.iref_grammar.specs.ComponentTexts.{ComponentTexts, read_components}
+use Rattle.iref_grammar.specs.ComponentTexts.{ComponentTexts, read_components, AreComponents}
 use Rattle.iref_grammar.specs.Grammar.{IsAuthority, IsScheme, IsQuery, IsFragment, IsUriReference}
 use Rattle.iref_grammar.specs.Reference.{read_reference}
 use Rattle.iref_grammar.specs.Rules.{InUtf8, Text}
@@ -13,28 +13,21 @@ use Rattle.iref_grammar.proofs.PartRuleLemmas.{Decides-is_scheme_bytes, Decides-
 use Rattle.iref_grammar.proofs.PathTextLemmas.{Decides-is_path}
 use Rattle.iref_grammar.proofs.ReferenceRuleLemmas.{Decides-is_uri_reference}
 use Rattle.iref.specs.ComponentRules.{AreInRules}
-use Rattle.std.proofs.Common.{◌≡◌}
+use Rattle.std.proofs.Common.{arith, ◌≡◌}
 
 module _ (set : CharTests) (above : AreAboveAscii set) (text : Text) (s : ComponentTexts) (read : read_components s ≡ read_reference text) where
+  same_rules : (AreComponents set s → AreInRules set s) × (AreInRules set s → AreComponents set s)
+  same_rules = grind (
+    arith,
+    Decides-none_or is_scheme (InUtf8 IsScheme) Decides-is_scheme_bytes s.scheme,
+    Decides-none_or (is_authority set) (InUtf8 (IsAuthority set)) (Decides-is_authority set above) s.authority,
+    Decides-is_path set above s.path,
+    Decides-none_or (is_query set) (InUtf8 (IsQuery set)) (Decides-is_query set above) s.query,
+    Decides-none_or (is_fragment set) (InUtf8 (IsFragment set)) (Decides-is_fragment set above) s.fragment,
+  )
+
   pub in_rules : InUtf8 (IsUriReference set) text → AreInRules set s
-  in_rules h =
-      let tested = (Decides-AreComponents set above text s read).0 ((Decides-is_uri_reference set above text).1 h) in
-      record {
-        scheme = (Decides-none_or is_scheme (InUtf8 IsScheme) Decides-is_scheme_bytes s.scheme).0 tested.scheme;
-        authority = (Decides-none_or (is_authority set) (InUtf8 (IsAuthority set)) (Decides-is_authority set above) s.authority).0 tested.authority;
-        path = (Decides-is_path set above s.path).0 tested.path;
-        query = (Decides-none_or (is_query set) (InUtf8 (IsQuery set)) (Decides-is_query set above) s.query).0 tested.query;
-        fragment = (Decides-none_or (is_fragment set) (InUtf8 (IsFragment set)) (Decides-is_fragment set above) s.fragment).0 tested.fragment;
-      }
+  in_rules h = same_rules.0 ((Decides-AreComponents set above text s read).0 ((Decides-is_uri_reference set above text).1 h))
 
   pub reference_from_rules : AreInRules set s → InUtf8 (IsUriReference set) text
-  reference_from_rules rules =
-      (Decides-is_uri_reference set above text).0
-      ((Decides-AreComponents set above text s read).1
-      (record {
-        scheme = (Decides-none_or is_scheme (InUtf8 IsScheme) Decides-is_scheme_bytes s.scheme).1 rules.scheme;
-        authority = (Decides-none_or (is_authority set) (InUtf8 (IsAuthority set)) (Decides-is_authority set above) s.authority).1 rules.authority;
-        path = (Decides-is_path set above s.path).1 rules.path;
-        query = (Decides-none_or (is_query set) (InUtf8 (IsQuery set)) (Decides-is_query set above) s.query).1 rules.query;
-        fragment = (Decides-none_or (is_fragment set) (InUtf8 (IsFragment set)) (Decides-is_fragment set above) s.fragment).1 rules.fragment;
-      }))
+  reference_from_rules rules = (Decides-is_uri_reference set above text).0 ((Decides-AreComponents set above text s read).1 (same_rules.1 rules))

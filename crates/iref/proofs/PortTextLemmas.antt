@@ -1,10 +1,9 @@
 -- A number is written as a port.
-use Rattle.std.proofs.Common.{◌≡◌, ℕ, ◌<◌, ◌/◌, ◌%◌, zero, suc, Bool, true, false, ◌∷◌, [], refl, arith}
-use Rattle.std.specs.Prelude.{◌==◌, Option, Some, None, option_map, if◌then◌else◌}
+use Rattle.std.proofs.Common.{◌≡◌, ℕ, ◌<◌, ◌/◌, ◌%◌, zero, suc, true, false, ◌∷◌, arith}
+use Rattle.std.specs.Prelude.{Option, option_map}
 use Rattle.std.specs.Char.{is_ascii_digit}
 use Rattle.std.specs.Fmt.{digit_glyph, digits_onto, digits}
 use Rattle.std.specs.List.{list_all}
-use Rattle.std.proofs.lemmas.Bool.{and_from}
 use Rattle.std.proofs.lemmas.Bool.Decides.{nat_tests}
 use Rattle.iref_grammar.specs.Rules.{Text}
 use Rattle.iref_grammar.specs.Tests.{is_port, none_or}
@@ -15,20 +14,8 @@ glyph_is_digit d h = grind (arith, nat_tests)
 
 all_digits : (k n : ℕ) (behind : Text) → list_all is_ascii_digit behind ≡ true → list_all is_ascii_digit (digits_onto k 10 false n behind) ≡ true
 all_digits zero n behind h = h
-all_digits (suc k) n behind h =
-    let front : list_all is_ascii_digit (digit_glyph false (n % 10) ∷ behind) ≡ true = and_from _ _ (glyph_is_digit (n % 10) (omega arith)) h in
-    by (n / 10 == 0) front (all_digits k (n / 10) (digit_glyph false (n % 10) ∷ behind) front)
-  where
-    by : (b : Bool) → list_all is_ascii_digit (digit_glyph false (n % 10) ∷ behind) ≡ true
-        → list_all is_ascii_digit (digits_onto k 10 false (n / 10) (digit_glyph false (n % 10) ∷ behind)) ≡ true
-        → list_all is_ascii_digit (if b then digit_glyph false (n % 10) ∷ behind else digits_onto k 10 false (n / 10) (digit_glyph false (n % 10) ∷ behind)) ≡ true
-    by true front others = front
-    by false front others = others
-
-number_is_port : (n : ℕ) → is_port (port_text n) ≡ true
-unfolding is_port digits
-number_is_port n = all_digits 64 n [] refl
+all_digits (suc k) n behind h = grind (arith, glyph_is_digit, all_digits k (n / 10) (digit_glyph false (n % 10) ∷ behind))
 
 pub numbers_are_ports : (number : Option ℕ) → none_or is_port (option_map port_text number) ≡ true
-numbers_are_ports None = refl
-numbers_are_ports (Some n) = number_is_port n
+unfolding is_port digits
+numbers_are_ports number = grind (arith, all_digits 64)
