@@ -1,40 +1,34 @@
 -- Answers to lines of prefix tables.
-use Rattle.std.proofs.Common.{◌≡◌, true, false, List, Option, Result, refl, ap, sym, ◌∙◌, option_map}
+use Rattle.std.proofs.Common.{arith, ◌≡◌, true, false, List, Option, Result, option_map}
+use Rattle.std.proofs.lemmas.Grind.{common_steps}
 use Rattle.std.specs.Str.{is_utf8}
-use Rattle.std.proofs.lemmas.Bool.{and_left, and_right, false_from_ne_true}
 use Rattle.iref.specs.Characters.{iri_chars, iri_above_ascii}
 use Rattle.iref.specs.Grammar.{IsUri}
-use Rattle.iref.specs.Reference.{is_uri}
 use Rattle.iref.specs.Rules.{InUtf8, Text}
 use Rattle.iref.proofs.ReferenceRuleLemmas.{Decides-is_uri}
 use Rattle.iref.specs.PrefixTable.{PrefixEntry, CompactValue, compacted, compact_text, ExpandRefusal, expanded}
 use Rattle.iref_lines.specs.Lines.{Compact, Expand, Answered, InvalidText, answer_if_valid, answer_to, are_valid_entries, expanded_answer, is_valid, part_field}
 use Rattle.iref_batch.specs.Requests.{asked_of}
 use Rattle.iref_batch.specs.declared.request.TableVerb.{TableVerb}
-use Rattle.iref_batch.specs.declared.request.TableVerb.TheVariants as table_verb
-use Rattle.iref_batch.proofs.AnswerLemmas.{invalid, valid}
 use Rattle.iref_batch.proofs.PrefixFieldLemmas.{valid_table}
 
 pub unfit_entries : (verb : TableVerb) (text : Text) (es : List PrefixEntry) → are_valid_entries iri_chars es ≡ false → is_valid iri_chars (asked_of verb text es) ≡ false
 unfolding is_valid
-unfit_entries table_verb.Compact text es h = and_right (is_uri iri_chars text) _ h
-unfit_entries table_verb.Expand text es h = and_right (is_utf8 text) _ h
+unfit_entries verb text es h = grind (arith, common_steps)
 
 module _ (es : List PrefixEntry) (v : are_valid_entries iri_chars es ≡ true) where
   pub compact_answer : (text same : Text) (found : Option CompactValue) → InUtf8 (IsUri iri_chars) text → same ≡ text → found ≡ compacted same es → answer_if_valid iri_chars (Compact text es) ≡ Answered (part_field (option_map compact_text found))
   unfolding is_valid answer_to
-  compact_answer text same found h s f =
-      valid (Compact text es) (rw ((Decides-is_uri iri_chars iri_above_ascii text).1 h, v) refl)
-      ∙ ap (λ (o : Option CompactValue). Answered (part_field (option_map compact_text o))) ((λ i. compacted (sym s i) (valid_table es v i)) ∙ sym f)
+  compact_answer text same found h s f = grind (arith, Decides-is_uri iri_chars iri_above_ascii text, valid_table)
 
   pub expand_answer : (text : Text) (outcome : Result Text ExpandRefusal) → is_utf8 text ≡ true → expanded text es ≡ outcome → answer_if_valid iri_chars (Expand text es) ≡ expanded_answer outcome
   unfolding is_valid answer_to
-  expand_answer text outcome h f = valid (Expand text es) (rw (h, v) refl) ∙ ap expanded_answer (ap (expanded text) (valid_table es v) ∙ f)
+  expand_answer text outcome h f = grind (arith, valid_table)
 
 pub no_compact_answer : (es : List PrefixEntry) (text : Text) → ¬ (InUtf8 (IsUri iri_chars) text) → answer_if_valid iri_chars (Compact text es) ≡ InvalidText
 unfolding is_valid
-no_compact_answer es text h = invalid (Compact text es) (and_left _ (are_valid_entries iri_chars es) (false_from_ne_true _ (λ e. h ((Decides-is_uri iri_chars iri_above_ascii text).0 e))))
+no_compact_answer es text h = grind (arith, Decides-is_uri iri_chars iri_above_ascii text)
 
 pub no_expand_answer : (es : List PrefixEntry) (text : Text) → is_utf8 text ≡ false → answer_if_valid iri_chars (Expand text es) ≡ InvalidText
 unfolding is_valid
-no_expand_answer es text h = invalid (Expand text es) (and_left _ (are_valid_entries iri_chars es) h)
+no_expand_answer es text h = grind arith

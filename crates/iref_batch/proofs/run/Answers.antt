@@ -1,5 +1,5 @@
 use Rattle.std.proofs.Common.{arith}
-use Rattle.std.proofs.lemmas.Result.{err_from_is_err_and}
+use Rattle.iref_batch.proofs.Writing.{on_err}
 use Rattle.iref_batch.proofs.InputLemmas.{input_start, input_more, input_ended, input_cut_at_end, input_cut, reader_failure, no_end}
 use Rattle.iref_batch.proofs.run.Goals as goal
 
@@ -21,8 +21,7 @@ loop-reads-preserved g c = record {
 
 pub returns-in_err-n-clause-reader_ends : goal.returns-in_err-n-clause-reader_ends
 returns-in_err-n-clause-reader_ends g c =
-    let p = err_from_is_err_and c.from_residual.result c.from_residual.ensures.1 in
-    rw p.1 (λ works input before h k.
+    on_err c.from_residual.result (λ works input before h k.
     reader_failure input before _ _ _ _ _ _ c.loop-reads.invariant.gathered c.in_err-n.ensures.bytes c.in_err-n.ensures.failed (c.loop-reads.invariant.in_input input before h k))
 
 pub returns-clause-reader_ends : goal.returns-clause-reader_ends
@@ -31,9 +30,8 @@ returns-clause-reader_ends g c = λ works input before h k.
 
 pub returns-in_err-end-clause-writer_fails : goal.returns-in_err-end-clause-writer_fails
 returns-in_err-end-clause-writer_fails g c =
-    let p = err_from_is_err_and c.from_residual-in_err-end.result c.from_residual-in_err-end.ensures.1 in
     let bytes = c.in_ok-n.ensures.bytes in
-    rw p.1 (λ fails input before h k.
+    on_err c.from_residual-in_err-end.result (λ fails input before h k.
     input_cut_at_end input before c.read.new.buf c.in_ok-n.n _ _ _ _ _ _ c.if-n-eq0.true bytes.0 (bytes.1 c.if-n-eq0.true (omega arith)) c.in_err-end.ensures.cut (c.loop-reads.invariant.in_input input before h k))
 
 pub returns-then-n-eq0-clause-ok : goal.returns-then-n-eq0-clause-ok
@@ -43,6 +41,5 @@ returns-then-n-eq0-clause-ok g c = λ input before h k.
 
 pub returns-in_err-take-clause-writer_fails : goal.returns-in_err-take-clause-writer_fails
 returns-in_err-take-clause-writer_fails g c =
-    let p = err_from_is_err_and c.from_residual-in_err-take.result c.from_residual-in_err-take.ensures.1 in
-    rw p.1 (λ fails input before h k.
+    on_err c.from_residual-in_err-take.result (λ fails input before h k.
     input_cut input before c.read.new.buf c.in_ok-n.n _ _ _ _ _ _ c.in_ok-n.ensures.bytes.0 c.in_err-take.ensures.cut (c.loop-reads.invariant.in_input input before h k))

@@ -1,6 +1,5 @@
 use Rattle.std.proofs.Common.{◌++◌, take}
-use Rattle.std.proofs.lemmas.Result.{err_from_is_err_and}
-use Rattle.iref_batch.proofs.Writing.{writes_from_appends, writes_more, part_at_failure, cut_again, all_cut, written_is, part_is}
+use Rattle.iref_batch.proofs.Writing.{on_err, writes_from_appends, writes_more, part_at_failure, cut_again, all_cut}
 use Rattle.iref_batch.proofs.lines.write_all.Goals as goal
 
 pub loop-rest-preserved : goal.loop-rest-preserved
@@ -15,10 +14,9 @@ loop-rest-preserved g c =
 pub returns-clause-ok : goal.returns-clause-ok
 returns-clause-ok g c =
     let w = c.loop-rest.invariant.written in
-    written_is c.args.bytes.now w.0 _ _ (all_cut c.args.bytes.now w.0 c.loop-rest.rest.now w.1 c.loop-rest-test.ensures) w.2
+    rw (all_cut c.args.bytes.now w.0 c.loop-rest.rest.now w.1 c.loop-rest-test.ensures) w.2
 
 pub returns-in_err-n-clause-cut : goal.returns-in_err-n-clause-cut
 returns-in_err-n-clause-cut g c =
     let w = c.loop-rest.invariant.written in
-    let p = err_from_is_err_and c.from_residual.result c.from_residual.ensures.1 in
-    rw p.1 (part_is c.args.bytes.now (w.0 ++ c.loop-rest.rest.now) _ _ w.1 (part_at_failure w.0 c.loop-rest.rest.now _ _ _ w.2 c.in_err-n.ensures.bytes))
+    on_err c.from_residual.result (rw w.1 (part_at_failure w.0 c.loop-rest.rest.now _ _ _ w.2 c.in_err-n.ensures.bytes))

@@ -1,6 +1,6 @@
 use Rattle.std.proofs.Common.{◌++◌, [], append-nil, sym, ap, ◌∙◌}
-use Rattle.std.proofs.lemmas.Result.{err_from_is_err_and}
 use Rattle.iref_lines.specs.Lines.{lines_of}
+use Rattle.iref_batch.proofs.Writing.{on_err}
 use Rattle.iref_batch.proofs.EndLemmas.{all_answered, all_same, begun_same, breaks_at_flush}
 use Rattle.iref_batch.proofs.lines.Lines.end.Goals as goal
 
@@ -12,8 +12,7 @@ returns-clause-ok g c = λ seen before s.
 
 pub returns-in_err-flush-clause-cut : goal.returns-in_err-flush-clause-cut
 returns-in_err-flush-clause-cut g c =
-    let p = err_from_is_err_and c.from_residual-in_err-flush.result c.from_residual-in_err-flush.ensures.1 in
-    rw p.1 (λ seen before s.
+    on_err c.from_residual-in_err-flush.result (λ seen before s.
     let r = c.in_ok-end_last.ensures.ok seen before s in
     begun_same (r.0 ++ []) (seen ++ []) before _ (ap lines_of (append-nil r.0) ∙ r.1 ∙ sym (ap lines_of (append-nil seen)))
     (breaks_at_flush [] _ _ _ c.in_err-flush.ensures.cut r.0 before r.2))

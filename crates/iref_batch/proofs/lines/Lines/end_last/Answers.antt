@@ -1,6 +1,6 @@
 use Rattle.std.proofs.Common.{◌∷◌, ◌++◌, [], refl, append-nil, sym, ap, ◌∙◌}
-use Rattle.std.proofs.lemmas.Result.{err_from_is_err_and}
 use Rattle.iref_lines.specs.Lines.{newline, lines_of}
+use Rattle.iref_batch.proofs.Writing.{on_err}
 use Rattle.iref_batch.proofs.RunLemmas.{no_byte}
 use Rattle.iref_batch.proofs.EndLemmas.{last_line, begun_same}
 use Rattle.iref_batch.proofs.lines.Lines.end_last.Goals as goal
@@ -20,8 +20,7 @@ returns-then-is_empty-clause-ok g c = λ seen before s. (seen, refl, s)
 
 pub returns-in_err-end_line-clause-cut : goal.returns-in_err-end_line-clause-cut
 returns-in_err-end_line-clause-cut g c =
-    let p = err_from_is_err_and c.from_residual.result c.from_residual.ensures.1 in
-    rw p.1 (λ seen before s.
+    on_err c.from_residual.result (λ seen before s.
     begun_same (seen ++ newline ∷ []) (seen ++ []) before _
     (last_line seen before _ c.args.self.now (c.is_empty.ensures.some c.if-is_empty.false) s ∙ sym (ap lines_of (append-nil seen)))
     (c.in_err-end_line.ensures.cut [] seen before s))

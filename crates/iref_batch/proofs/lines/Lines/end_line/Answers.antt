@@ -1,5 +1,5 @@
 use Rattle.std.proofs.Common.{refl}
-use Rattle.std.proofs.lemmas.Result.{err_from_is_err_and}
+use Rattle.iref_batch.proofs.Writing.{on_err}
 use Rattle.iref_batch.proofs.RunLemmas.{in_run_line}
 use Rattle.iref_batch.proofs.EndLemmas.{breaks_at_line}
 use Rattle.iref_batch.proofs.lines.Lines.end_line.Goals as goal
@@ -9,5 +9,4 @@ returns-clause-ok g c = in_run_line c.args.tail.now _ _ _ _ c.requires.line (c.e
 
 pub returns-in_err-reply-clause-cut : goal.returns-in_err-reply-clause-cut
 returns-in_err-reply-clause-cut g c =
-    let p = err_from_is_err_and c.from_residual.result c.from_residual.ensures.1 in
-    rw p.1 (λ others. breaks_at_line c.args.tail.now others _ _ _ c.requires.line c.in_err-reply.ensures.cut)
+    on_err c.from_residual.result (λ others. breaks_at_line c.args.tail.now others _ _ _ c.requires.line c.in_err-reply.ensures.cut)

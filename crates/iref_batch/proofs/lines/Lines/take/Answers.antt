@@ -1,9 +1,9 @@
 use Rattle.std.proofs.Common.{◌++◌, [], refl, append_assoc}
-use Rattle.std.proofs.lemmas.Result.{err_from_is_err_and}
 use Rattle.iref_batch.specs.declared.lines.Lines.{Lines}
 use Rattle.iref_batch.specs.Runs.{with_newline}
+use Rattle.iref_batch.proofs.Writing.{on_err}
 use Rattle.iref_batch.proofs.RunLemmas.{in_run_nothing, in_run_next, in_run_more, in_run_written, line_taken, line_seen, line_is_less}
-use Rattle.iref_batch.proofs.EndLemmas.{breaks_at_flush, begun_is}
+use Rattle.iref_batch.proofs.EndLemmas.{breaks_at_flush}
 use Rattle.iref_batch.proofs.lines.Lines.take.Goals as goal
 
 pub loop-tail-init : goal.loop-tail-init
@@ -29,11 +29,10 @@ end_line-requires-clause-line g c = c.in-Some.ensures.0
 
 pub returns-in_err-end_line-clause-cut : goal.returns-in_err-end_line-clause-cut
 returns-in_err-end_line-clause-cut g c =
-    let p = err_from_is_err_and c.from_residual.result c.from_residual.ensures.1 in
     let w = c.loop-tail.invariant.taken in
     let more = c.in-Some.more.now in
-    rw p.1 (λ others seen before s.
-    begun_is _ _ before _ (line_seen seen c.args.block.now w.0 c.loop-tail.rest.now c.in-Some.tail.now more others w.1 c.in-Some.ensures.1)
+    on_err c.from_residual.result (λ others seen before s.
+    rw (← line_seen seen c.args.block.now w.0 c.loop-tail.rest.now c.in-Some.tail.now more others w.1 c.in-Some.ensures.1)
     (c.in_err-end_line.ensures.cut (more ++ others) (seen ++ w.0) before (w.2 seen before s)))
 
 pub returns-clause-ok : goal.returns-clause-ok
@@ -46,11 +45,10 @@ returns-clause-ok g c =
 
 pub returns-in_err-flush-clause-cut : goal.returns-in_err-flush-clause-cut
 returns-in_err-flush-clause-cut g c =
-    let p = err_from_is_err_and c.from_residual-in_err-flush.result c.from_residual-in_err-flush.ensures.1 in
     let w = c.loop-tail.invariant.taken in
     let kept : Lines = record { begun = c.keep.new.self; gathered = c.loop-tail.self.gathered } in
-    rw p.1 (λ others seen before s.
-    begun_is _ _ before _ (append_assoc seen c.args.block.now others)
+    on_err c.from_residual-in_err-flush.result (λ others seen before s.
+    rw (← append_assoc seen c.args.block.now others)
     (breaks_at_flush others _ _ kept c.in_err-flush.ensures.cut (seen ++ c.args.block.now) before
     (in_run_next w.0 c.loop-tail.rest.now _ _ _ _ _ _ _ w.1 w.2
     (in_run_more c.loop-tail.rest.now _ _ _ c.in_default.ensures c.keep.ensures.works c.keep.ensures.kept c.keep.ensures.some refl) seen before s)))
