@@ -17,14 +17,9 @@ use Rattle.iref_path_text.specs.Rewriting.{rewritten}
 use Rattle.iref_path_text.specs.Spelling.{normal_in}
 use Rattle.iref_path_text.proofs.SpellLemmas.{normalized-in_context}
 use Rattle.iref_grammar.specs.PathValue.{PathValue, read_path, spell_path}
-use Rattle.iref_path_text.specs.declared.steps.Step.{Step}
-use Rattle.iref_path_text.specs.PathParts.{is_path_after, step_text, StepsTo}
+use Rattle.iref_path_text.specs.PathParts.{is_path_after, StepsTo}
 use Rattle.iref_component.specs.declared.path_mut.PathMut.{PathMut}
 use Rattle.iref_component.specs.PathEdits.{edited_bytes, path_mut_context, path_mut_text, path_mut_value, IsEditorOf, BecomesPath}
-
--- the part after a step
-pub step_spliced : (path : Text) (step : Step) (n : ℕ) → n ≡ length path → splice path step.keep n (step.lead.now ++ step.middle.now ++ step.close.now) ≡ step_text path step
-step_spliced path step n e = grind (arith, common_steps, drop_all)
 
 -- all of a text replaced
 pub splice_all : (old text : Text) (start end : ℕ) → start ≡ 0 → end ≡ length old → splice old start end text ≡ text
@@ -44,9 +39,9 @@ pub whole_edit : {C : _} {T : _} {c : _} {t : _} {old new : PathMut C T c t} {by
 whole_edit {new = new} step of e = grind (arith, common_steps, whole_edited of, splice_all, slice_all (edited_bytes new) new.range.start new.range.end)
 
 -- the text that replaces a whole path is one step
-pub put_steps : (set : CharTests) (context : PathContext) (old text : Text) (value : PathValue) → is_path_after set context text ≡ true → (is_path_in set context old ≡ true → is_path_in set context text ≡ true) → read_path text ≡ value
-    → StepsTo set context old (text ++ []) value
-put_steps set context old text value path reads e = rw append-nil (record { spelled = sym (read_path-reads text).spelled ∙ ap spell_path e; read = e; path = path; reads = reads })
+pub put_steps : (set : CharTests) (context : PathContext) (old new text : Text) (value : PathValue) → new ≡ text → is_path_after set context text ≡ true → (is_path_in set context old ≡ true → is_path_in set context text ≡ true) → read_path text ≡ value
+    → StepsTo set context old new value
+put_steps set context old new text value same path reads e = rw same (record { spelled = sym (read_path-reads text).spelled ∙ ap spell_path e; read = e; path = path; reads = reads })
 
 -- the normal path of a text, by the flag that it is read with
 pub normal_value : (context : PathContext) (absolute : Bool) (path old : Text) → absolute ≡ (read_path old).absolute → path ≡ old → normal_in context absolute path ≡ normalized context (read_path old)

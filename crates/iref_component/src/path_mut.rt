@@ -1,10 +1,10 @@
 //! Edits of a path in place (RFC 3986 section 3.3).
-ghost use Rattle.std.specs.Prelude.{◌≡◌, ◌≤◌, ◌+◌, ◌-◌, ◌&&◌, true, not, length, Some, IfOk, IsOk};
-ghost use Rattle.std.specs.Str.{IsCharBoundary};
+ghost use Rattle.std.specs.Prelude.{◌≡◌, ◌&&◌, true, not, length, Some, IfOk, IsOk};
+ghost use Rattle.iref_edit.specs.Changes.{IsNoLonger, IsWithin, changed};
 ghost use Rattle.iref_component.specs.{Components.{text_of}, Paths.{path_value}};
 ghost use Rattle.iref_grammar.specs.{alone, is_empty, is_path_in, read_path, PathValue.{PathValue}};
 ghost use Rattle.iref_grammar.specs.Contexts.{follows_authority};
-ghost use Rattle.iref_path_text.specs.PathParts.{is_path_after, step_text, StepsTo};
+ghost use Rattle.iref_path_text.specs.PathParts.{is_path_after, StepsTo};
 ghost use Rattle.iref_model.specs.PathSteps as step;
 
 mod appends;
@@ -21,7 +21,7 @@ use iref_error::Memory;
 use iref_grammar::chars::CharSet;
 use iref_grammar::context::PathContext;
 use iref_path_text::part::PathPart;
-use iref_path_text::steps::{self, Step};
+use iref_path_text::steps;
 use std::alloc::Global;
 use std::fmt;
 use std::marker::PhantomData;
@@ -90,41 +90,32 @@ impl<'a, C: CharSet, T: Target<PathPart, C>> PathMut<'a, C, T> {
         self.target.alloc()
     }
 
-    // Replaces what a step changes, as one edit.
-    fn apply(&mut self, step: Step<'_>) -> Result<(), Memory>
-        requires keep { IsCharBoundary (path_mut_text self.old) step.keep }
+    // Makes the change of the path, as one edit.
+    fn apply(&mut self, change: Change<'_>) -> Result<(), Memory>
+        requires within { IsWithin (path_mut_text self.old) change.within }
         requires path { is_path_after C.tests (path_mut_context self.old)
-            (step_text (path_mut_text self.old) step) ≡ true }
+            (changed (path_mut_text self.old) change) ≡ true }
         requires reads { is_path_in C.tests (path_mut_context self.old) (path_mut_text self.old)
             ≡ true → is_path_in C.tests (path_mut_context self.old)
-            (step_text (path_mut_text self.old) step) ≡ true }
+            (changed (path_mut_text self.old) change) ≡ true }
         ensures edit { (value : PathValue) → StepsTo C.tests (path_mut_context self.old)
-            (path_mut_text self.old) (step_text (path_mut_text self.old) step.entry) value
+            (path_mut_text self.old) (changed (path_mut_text self.old) change.entry) value
             → EditsTo value self.old self.new result }
-        ensures shorter { length step.entry.lead.now + length step.entry.middle.now
-            + length step.entry.close.now
-            ≤ length (path_mut_text self.old) - step.entry.keep → IsOk result }
+        ensures shorter { IsNoLonger change.entry → IsOk result }
     {
-        let change = Change {
-            within: step.keep..self.text().len(),
-            lead: step.lead,
-            middle: step.middle,
-            close: step.close,
-        };
         self.range.end = self.target.replace(self.context, self.range, change)?;
         Ok(())
     }
 
     // Replaces the whole path by a text that may stand there.
     fn put(&mut self, text: &str) -> Result<(), Memory>
-        requires keep { IsCharBoundary (path_mut_text self.old) 0 }
         requires path { is_path_after C.tests (path_mut_context self.old) text.now ≡ true }
         requires reads { is_path_in C.tests (path_mut_context self.old) (path_mut_text self.old)
             ≡ true → is_path_in C.tests (path_mut_context self.old) text.now ≡ true }
         ensures { EditsTo (read_path text.now) self.old self.new result }
     {
-        self.apply(Step {
-            keep: 0,
+        self.apply(Change {
+            within: 0..self.text().len(),
             lead: "",
             middle: text,
             close: "",

@@ -2,12 +2,12 @@
 use Rattle.std.proofs.Common.{◌≡◌, ℕ, Bool, true, false, cond, ◌||◌, List, [], ◌∷◌, ◌++◌, length, take, refl, sym, ap, subst, ◌∙◌, append_assoc, arith, length-append, IsUtf8}
 use mathlib.Core.Bool.{true≢false}
 use mir.Val.{bool_byte}
-use Rattle.std.specs.List.{join_with_byte}
+use Rattle.std.specs.List.{join_with_byte, splice}
 use Rattle.std.proofs.lemmas.Grind.{common_steps}
-use Rattle.std.proofs.lemmas.List.{append-nil, take_all, take_at}
+use Rattle.std.proofs.lemmas.List.{append-nil, drop_all, take_all, take_at}
 use Rattle.std.proofs.Math.Seq.{get_or-append_seam}
 use Rattle.std.specs.Str.{IsCharBoundary}
-use Rattle.std.proofs.lemmas.Str.{IsCharBoundary-start, IsCharBoundary-before_ascii, IsCharBoundary-after_ascii}
+use Rattle.std.proofs.lemmas.Str.{IsCharBoundary-end, IsCharBoundary-start, IsCharBoundary-before_ascii, IsCharBoundary-after_ascii}
 use Rattle.std.proofs.lemmas.Bool.Decides.{nat_tests}
 use Rattle.iref_grammar.specs.declared.context.PathContext.{PathContext}
 use Rattle.iref_grammar.specs.Rules.{Text}
@@ -17,6 +17,7 @@ use Rattle.iref_grammar.specs.PathValue.{PathValue, read_path, spell_path}
 use Rattle.iref_grammar.proofs.PathLemmas.{read_path-reads}
 use Rattle.iref_model.specs.Guard.{guarded}
 use Rattle.iref_model.specs.PathSteps.{lazy_pushed, closed_path}
+use Rattle.iref_edit.specs.Changes.{IsWithin}
 use Rattle.iref_path_text.specs.Spelling.{first_needs_guard, lead}
 use Rattle.iref_path_text.specs.StepTexts.{closed_by}
 
@@ -45,6 +46,14 @@ closed_spelled context p = grind (arith, common_steps, next_pushed)
 
 pub unclosed_spelled : (p : PathValue) → closed_by [] p ≡ spell_path p
 unclosed_spelled p = grind (arith, common_steps)
+
+-- ---- a change of all that follows a position
+
+pub to_end : (path : Text) (n : ℕ) → IsCharBoundary path n → IsWithin path (record { start = n; end = length path })
+to_end path n b = record { start_le_end = b.0; start = b; end = IsCharBoundary-end path }
+
+pub put_to_end : (path new : Text) (n : ℕ) → splice path n (length path) new ≡ take n path ++ new
+put_to_end path new n = ap (λ rest. take n path ++ (new ++ rest)) (drop_all (length path) path (omega arith)) ∙ ap (λ t. take n path ++ t) (append-nil new)
 
 -- ---- a beginning of a text
 

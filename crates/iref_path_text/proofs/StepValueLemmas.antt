@@ -3,7 +3,6 @@ use Rattle.std.proofs.Common.{arith, ◌≡◌, Bool, true, ◌||◌, [], ◌∷
 use Rattle.std.proofs.lemmas.Grind.{common_steps}
 use Rattle.std.proofs.lemmas.Bool.{and_from, and_parts}
 use Rattle.std.specs.List.{list_all}
-use Rattle.std.specs.Str.{IsCharBoundary}
 use Rattle.iref_grammar.specs.declared.context.PathContext.{PathContext}
 use Rattle.iref_grammar.specs.Characters.{CharTests, AreAboveAscii}
 use Rattle.iref_grammar.specs.Rules.{Text}
@@ -21,8 +20,9 @@ use Rattle.iref_model.proofs.FitsLemmas.{is_empty-snoc, lazy_pushed-fits, popped
 use Rattle.iref_model.proofs.PathGrammarLemmas.{segments_of_path}
 use Rattle.iref_model.proofs.ReadableStepLemmas.{is_segment-dots}
 use Rattle.iref_model.proofs.StepSegmentLemmas.{guarded-in, lazy_pushed-in, popped-in, closed_path-in, followed-in, pushed-in}
-use Rattle.iref_path_text.specs.declared.steps.Step.{Step}
-use Rattle.iref_path_text.specs.PathParts.{is_path_after, step_text, StepsBy, StepsTo}
+use Rattle.iref_edit.specs.Changes.{IsWithin, changed}
+use Rattle.iref_edit.specs.declared.change.Change.{Change}
+use Rattle.iref_path_text.specs.PathParts.{is_path_after, StepsBy, StepsTo}
 
 -- what a step keeps
 pub record IsStep (set : CharTests) (context : PathContext) (p value : PathValue) : Type 0 where
@@ -60,13 +60,13 @@ module _ (set : CharTests) (above : AreAboveAscii set) (context : PathContext) w
       }
 
   -- the same with where it cuts the text
-  pub steps_by : (change : PathValue → PathValue) (path : Text) (result : Step) → IsStep set context (read_path path) (change (read_path path)) → is_path_after set context path ≡ true → IsCharBoundary path result.keep
-      → step_text path result ≡ spell_path (change (read_path path)) → StepsBy change set context path result
-  steps_by change path result step h keep e = record { keep = keep; step = steps_to path (step_text path result) (change (read_path path)) step h e }
+  pub steps_by : (change : PathValue → PathValue) (path : Text) (result : Change) → IsStep set context (read_path path) (change (read_path path)) → is_path_after set context path ≡ true → IsWithin path result.within
+      → changed path result ≡ spell_path (change (read_path path)) → StepsBy change set context path result
+  steps_by change path result step h within e = record { within = within; step = steps_to path (changed path result) (change (read_path path)) step h e }
 
 -- a step that makes the same of the path
-pub steps_as : (set : CharTests) (context : PathContext) (f g : PathValue → PathValue) (path : Text) (result : Step) → g (read_path path) ≡ f (read_path path) → StepsBy f set context path result → StepsBy g set context path result
-steps_as set context f g path result e h = record { keep = h.keep; step = subst (StepsTo set context path (step_text path result)) (sym e) h.step }
+pub steps_as : (set : CharTests) (context : PathContext) (f g : PathValue → PathValue) (path : Text) (result : Change) → g (read_path path) ≡ f (read_path path) → StepsBy f set context path result → StepsBy g set context path result
+steps_as set context f g path result e h = record { within = h.within; step = subst (StepsTo set context path (changed path result)) (sym e) h.step }
 
 -- ---- each step
 

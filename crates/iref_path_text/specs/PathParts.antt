@@ -1,6 +1,6 @@
 -- The text of a path that is edited in place, and what a step leaves of it.
-use Rattle.std.specs.Prelude.{◌≡◌, Bool, true, ◌&&◌, ◌++◌, take}
-use Rattle.std.specs.Str.{IsCharBoundary, IsUtf8}
+use Rattle.std.specs.Prelude.{◌≡◌, Bool, true, ◌&&◌}
+use Rattle.std.specs.Str.{IsUtf8}
 use Rattle.std.proofs.lemmas.Bool.{and_parts}
 use Rattle.std.proofs.lemmas.Str.{IsUtf8-from_is_utf8}
 use Rattle.iref_grammar.specs.declared.context.PathContext.{PathContext}
@@ -9,15 +9,12 @@ use Rattle.iref_grammar.specs.Rules.{Text}
 use Rattle.iref_grammar.specs.Tests.{is_path}
 use Rattle.iref_grammar.specs.Contexts.{follows_authority, is_path_in}
 use Rattle.iref_grammar.specs.PathValue.{PathValue, read_path, spell_path}
-use Rattle.iref_path_text.specs.declared.steps.Step.{Step}
+use Rattle.iref_edit.specs.Changes.{IsWithin, changed}
+use Rattle.iref_edit.specs.declared.change.Change.{Change}
 
 -- a path, which after an authority is absolute or empty
 abbrev pub is_path_after : CharTests → PathContext → Text → Bool
 is_path_after set context text = is_path set text && follows_authority context (read_path text)
-
--- the text after a step: a prefix of the old text, and three texts
-abbrev pub step_text : Text → Step → Text
-step_text text step = take step.keep text ++ (step.lead.now ++ step.middle.now ++ step.close.now)
 
 -- the new text spells this path and is read as it; it may stand where the old one stood, and is read there as a path
 -- where the old one was
@@ -28,9 +25,9 @@ pub record StepsTo (set : CharTests) (context : PathContext) (old new : Text) (v
   pub reads : is_path_in set context old ≡ true → is_path_in set context new ≡ true
 
 -- a step that cuts the text between characters, and leaves what this makes of its path
-pub record StepsBy (change : PathValue → PathValue) (set : CharTests) (context : PathContext) (path : Text) (result : Step) : Type 0 where
-  pub keep : IsCharBoundary path result.keep
-  pub step : StepsTo set context path (step_text path result) (change (read_path path))
+pub record StepsBy (change : PathValue → PathValue) (set : CharTests) (context : PathContext) (path : Text) (result : Change) : Type 0 where
+  pub within : IsWithin path result.within
+  pub step : StepsTo set context path (changed path result) (change (read_path path))
 
 -- such a path is text
 pub path_is_text : (set : CharTests) → AreAboveAscii set → (context : PathContext) (text : Text) → is_path_after set context text ≡ true → IsUtf8 text

@@ -6,11 +6,11 @@ ghost use Rattle.std.specs.String.{string_bytes};
 ghost use Rattle.iref_component.specs.{Text, colon, question_mark, hash_sign, AuthorityValue};
 ghost use Rattle.iref_component.specs.{spell_authority, read_authority, is_authority, part_then};
 ghost use Rattle.iref_component.specs.{then_part, none_or, is_scheme, is_path, is_query};
-ghost use Rattle.iref_component.specs.{is_fragment, context_of, read_reference, spell, is_path_in};
+ghost use Rattle.iref_component.specs.{is_fragment, offsets_of, read_reference, spell};
 ghost use Rattle.iref_component.specs.{PathValue, read_path, spell_path, with_query, with_fragment};
 ghost use Rattle.iref_component.specs.{with_path, with_authority, with_scheme};
-ghost use Rattle.iref_buffer.specs.PathTexts.{authority_text, path_text, with_path_text};
-ghost use Rattle.iref_buffer.specs.{PathTexts.{with_path_read}, Steps.{StepsOrStays}};
+ghost use Rattle.iref_buffer.specs.PathTexts.{authority_text};
+ghost use Rattle.iref_buffer.specs.Steps.{StepsOrStays};
 ghost use Rattle.iref_buffer.specs.ComponentLengths.{HasLengths, lengths_of, with_mark};
 ghost use Rattle.iref_edit.specs.Changes.{IsNoLonger, IsWithin, changed, replaced};
 
@@ -87,8 +87,13 @@ impl<R: HeldRule, C: CharSet> Held<R, C> {
             path: guard.len() + path.len(),
             ..old
         };
-        let range = self.path_range();
-        self.step(lengths, range, guard, path, "")
+        let change = Change {
+            within: self.path_range(),
+            lead: guard,
+            middle: path,
+            close: "",
+        };
+        self.step(lengths, change)
     }
 
     /// Replaces, adds or removes the scheme; removing takes no memory. A path whose first segment
@@ -142,30 +147,14 @@ impl<R: HeldRule, C: CharSet> Held<R, C> {
         Ok(())
     }
 
-    // Replaces a range of the text by three texts, which leaves components of these lengths.
-    pub(super) fn step(
-        &mut self,
-        lengths: Lengths,
-        within: Range<usize>,
-        lead: &str,
-        middle: &str,
-        close: &str,
-    ) -> Result<(), Memory>
-        requires within { IsWithin self.old within }
-        requires leaves { HasLengths (R.test C.tests) lengths
-            (replaced self.old within (lead.now ++ middle.now ++ close.now)) }
-        ensures ok { OnOk result (self.new
-            ≡ replaced self.old within (lead.now ++ middle.now ++ close.now)) }
+    // Makes a change of the text, which leaves components of these lengths.
+    pub(super) fn step(&mut self, lengths: Lengths, change: Change<'_>) -> Result<(), Memory>
+        requires within { IsWithin self.old change.within }
+        requires leaves { HasLengths (R.test C.tests) lengths (changed self.old change) }
+        ensures ok { OnOk result (self.new ≡ changed self.old change.entry) }
         ensures err { OnErr result (self.new ≡ self.old) }
-        ensures shorter { length lead.now + length middle.now + length close.now
-            ≤ within.end - within.start → IsOk result }
+        ensures shorter { IsNoLonger change.entry → IsOk result }
     {
-        let change = Change {
-            within,
-            lead,
-            middle,
-            close,
-        };
         text::replace(&mut self.text, change)?;
         self.lengths = lengths;
         Ok(())
@@ -192,8 +181,10 @@ impl<R: HeldRule, C: CharSet> Held<R, C> {
         self.lengths().fragment_mark()..self.text.as_str().len()
     }
 
-    // Where the path stands.
-    pub(super) fn path_range(&self) -> Range<usize>
+    /// Where the path stands.
+    pub fn path_range(&self) -> Range<usize>
+        ensures range { result ≡ (offsets_of self.now).path }
+        ensures in_rule { R.test C.tests self.now ≡ true }
         ensures within { IsWithin self.now result }
         ensures replaced { (path : PathValue) → replaced self.now result (spell_path path)
             ≡ spell (record (read_reference self.now) { path = path }) }

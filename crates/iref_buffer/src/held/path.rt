@@ -83,8 +83,13 @@ impl<R: HeldRule, C: CharSet> Held<R, C> {
             path: normal.len(),
             ..self.lengths()
         };
-        let range = self.path_range();
-        self.step(lengths, range, normal, "", "")
+        let change = Change {
+            within: self.path_range(),
+            lead: normal,
+            middle: "",
+            close: "",
+        };
+        self.step(lengths, change)
     }
 }
 

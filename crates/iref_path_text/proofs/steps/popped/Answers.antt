@@ -5,5 +5,5 @@ use Rattle.iref_path_text.proofs.steps.popped.Goals as goal
 
 pub returns : goal.returns
 returns g c =
-    steps_by g.C.CharSet.tests g.met.C.CharSet.above_ascii c.args.context _ c.args.path.now _ (popped-step _ c.args.context _) c.requires.path c.pop_text.ensures.keep
+    steps_by g.C.CharSet.tests g.met.C.CharSet.above_ascii c.args.context _ c.args.path.now _ (popped-step _ c.args.context _) c.requires.path c.pop_text.ensures.within
     (c.pop_text.ensures.text ∙ unclosed_spelled _)

@@ -12,7 +12,7 @@ returns-then-eq g c =
 pub returns-then-eq-2 : goal.returns-then-eq-2
 returns-then-eq-2 g c =
     let step = pushed-step g.C.CharSet.tests c.args.context (read_path c.args.path.now) c.args.segment.now c.requires.segment in
-    steps_by g.C.CharSet.tests g.met.C.CharSet.above_ascii c.args.context _ c.args.path.now _ step c.requires.path c.pop_text.ensures.keep
+    steps_by g.C.CharSet.tests g.met.C.CharSet.above_ascii c.args.context _ c.args.path.now _ step c.requires.path c.pop_text.ensures.within
     (c.pop_text.ensures.text ∙ closed_spelled c.args.context _ ∙ ap spell_path (sym (pushed_parent c.args.context c.args.segment.now _ (sym c.if-eq.ensures) (sym c.if-eq-2.ensures))))
 
 pub returns-else-eq-2 : goal.returns-else-eq-2

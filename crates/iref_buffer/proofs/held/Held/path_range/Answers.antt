@@ -1,3 +1,4 @@
+use Rattle.std.proofs.Common.{refl}
 use Rattle.iref_grammar.specs.ComponentOffsets.{offsets_in, offsets_of}
 use Rattle.iref_buffer.proofs.LengthLemmas.{path_after-lengths, query_after-lengths}
 use Rattle.iref_buffer.proofs.EditLemmas.{path_replaced, path_within}
@@ -8,6 +9,10 @@ returns-clause-within g c =
     let set = g.C.CharSet.tests in
     let text = c.args.self.now in
     rw (c.path_start.ensures, c.query_mark.ensures, c.lengths-lengths.ensures.lengths) (path_within set g.met.C.CharSet.above_ascii text (g.met.R.HeldRule.references set text c.lengths-lengths.ensures.in_rule))
+
+pub returns-clause-range : goal.returns-clause-range
+unfolding offsets_of offsets_in
+returns-clause-range g c = rw (c.path_start.ensures, c.query_mark.ensures, c.lengths-lengths.ensures.lengths, query_after-lengths, path_after-lengths) refl
 
 pub returns-clause-replaced : goal.returns-clause-replaced
 unfolding offsets_of offsets_in

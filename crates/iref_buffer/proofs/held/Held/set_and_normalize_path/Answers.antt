@@ -15,10 +15,10 @@ step-requires-clause-leaves g c =
     let set = g.C.CharSet.tests in
     let old = read_reference c.args.self.now in
     let path = c.args.path.now in
-    let range = c.path_range-range.result in
+    let range = c.path_range.result in
     let put = c.as_str-normal.ensures.value ∙ c.in_ok-normal.ensures.text
     ∙ ap spell_path (normal_in_place path old c.context-context.result c.is_absolute_after-absolute.result c.context-context.ensures c.is_absolute_after-absolute.ensures) in
-    let spelled = ap (splice c.args.self.now range.start range.end) (append-nil _ ∙ append-nil _ ∙ put) ∙ c.path_range-range.ensures.replaced (with_new_normal_path (read_path path) old).path in
+    let spelled = ap (splice c.args.self.now range.start range.end) (append-nil _ ∙ append-nil _ ∙ put) ∙ c.path_range.ensures.replaced (with_new_normal_path (read_path path) old).path in
     let step = normal_path_set set g.met.C.CharSet.above_ascii (g.R.Rule.test set) g.R.HeldRule.allows_scheme (g.met.R.HeldRule.by_scheme set) old
     c.lengths.ensures.readable c.lengths.ensures.allowed _ path c.requires spelled in
     record { in_rule = step.leaves.in_rule; lengths = (λ i. record (c.lengths.ensures.lengths i) { path = length (put i) }) ∙ step.leaves.lengths }
@@ -29,10 +29,10 @@ returns g c =
     let set = g.C.CharSet.tests in
     let old = read_reference c.args.self.now in
     let path = c.args.path.now in
-    let range = c.path_range-range.result in
+    let range = c.path_range.result in
     let put = c.as_str-normal.ensures.value ∙ c.in_ok-normal.ensures.text
     ∙ ap spell_path (normal_in_place path old c.context-context.result c.is_absolute_after-absolute.result c.context-context.ensures c.is_absolute_after-absolute.ensures) in
-    let spelled = ap (splice c.args.self.now range.start range.end) (append-nil _ ∙ append-nil _ ∙ put) ∙ c.path_range-range.ensures.replaced (with_new_normal_path (read_path path) old).path in
+    let spelled = ap (splice c.args.self.now range.start range.end) (append-nil _ ∙ append-nil _ ∙ put) ∙ c.path_range.ensures.replaced (with_new_normal_path (read_path path) old).path in
     let step = normal_path_set set g.met.C.CharSet.above_ascii (g.R.Rule.test set) g.R.HeldRule.allows_scheme (g.met.R.HeldRule.by_scheme set) old
     c.lengths.ensures.readable c.lengths.ensures.allowed _ path c.requires spelled in
     let dots = removes_dots set g.met.C.CharSet.above_ascii path old c.requires c.lengths.ensures.readable in

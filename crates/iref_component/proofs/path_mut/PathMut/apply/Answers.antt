@@ -2,8 +2,7 @@ use Rattle.std.proofs.Common.{◌+◌, length, refl, sym, ap, ◌∙◌}
 use Rattle.std.specs.List.{splice}
 use Rattle.iref_edit.proofs.PartLemmas.{part_stands}
 use Rattle.iref_grammar.specs.PathValue.{read_path}
-use Rattle.iref_component.proofs.PathEditLemmas.{step_spliced}
-use Rattle.iref_component.specs.PathEdits.{edited_bytes, path_mut_text}
+use Rattle.iref_component.specs.PathEdits.{edited_bytes}
 use Rattle.iref_component.proofs.path_mut.PathMut.apply.Goals as goal
 
 pub returns-clause-edit : goal.returns-clause-edit
@@ -12,9 +11,8 @@ returns-clause-edit g c = λ value steps.
     let old = edited_bytes c.args.self.now in
     let start = c.args.self.now.range.start in
     let e = c.in_ok-self.ensures in
-    let put = step_spliced (path_mut_text c.args.self.now) c.args.step _ (ap length c.text.ensures.value) ∙ steps.spelled in
-    let bytes = e.text ∙ ap (splice old start c.args.self.now.range.end) put in
-    let to = e.end ∙ ap (λ t. start + length t) put in record {
+    let bytes = e.text ∙ ap (splice old start c.args.self.now.range.end) steps.spelled in
+    let to = e.end ∙ ap (λ t. start + length t) steps.spelled in record {
       same = refl;
       outcome = record {
         bytes = bytes;

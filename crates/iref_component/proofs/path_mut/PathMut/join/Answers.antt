@@ -1,5 +1,4 @@
 use Rattle.std.proofs.Common.{rules, map, sym, ap, ◌∙◌, subst}
-use Rattle.std.proofs.lemmas.Str.{IsCharBoundary-start}
 use Rattle.iref_component.specs.Components.{text_of}
 use Rattle.iref_grammar.specs.Contexts.{is_readable_path}
 use Rattle.iref_grammar.specs.PathValue.{read_path}
@@ -16,9 +15,6 @@ returns-then-is_absolute g c =
     let p = c.args.self.now in
     let absolute = sym c.is_absolute.ensures ∙ c.if-is_absolute.true in
     subst (λ value. EditsTo value p c.replace.new.self c.replace.result) (sym (joined_absolute (path_mut_context p) (path_value c.args.path) (path_mut_value p) absolute)) c.replace.ensures
-
-pub put-requires-clause-keep : goal.put-requires-clause-keep
-put-requires-clause-keep g c = rw (sym c.text.ensures.value) (IsCharBoundary-start _ c.text.utf8)
 
 pub put-requires-clause-reads : goal.put-requires-clause-reads
 put-requires-clause-reads g c = λ old_reads.

@@ -1,12 +1,8 @@
 use Rattle.std.proofs.Common.{ap, subst, sym, ◌∙◌}
-use Rattle.std.proofs.lemmas.Str.{IsCharBoundary-start}
 use Rattle.iref_grammar.specs.PathValue.{read_path}
 use Rattle.iref_component.specs.PathEdits.{EditsTo, path_mut_context, path_mut_text}
 use Rattle.iref_component.proofs.PathEditLemmas.{normal_value}
 use Rattle.iref_component.proofs.path_mut.PathMut.put_normal.Goals as goal
-
-pub put-requires-clause-keep : goal.put-requires-clause-keep
-put-requires-clause-keep g c = rw (sym c.text-path.ensures.value) (IsCharBoundary-start _ c.text-path.utf8)
 
 pub returns : goal.returns
 returns g c =
