@@ -107,7 +107,7 @@ impl<R: HeldRule, C: CharSet> ReferenceBuf<R, C> {
         ensures reference { is_reference C.tests (reference_buf_text self.old) ≡ true }
     {
         let context = self.held.context();
-        let path = self.held.offsets().path;
-        PathMut::of_target(self, context, path)
+        let range = self.held.path_range();
+        PathMut::of_target(self, context, range)
     }
 }
