@@ -9,7 +9,6 @@ ghost use Rattle.iref_batch.specs.EditFields.{IsRead, edit_named, path_edit_name
 ghost use Rattle.iref_lines.specs.Lines as spec;
 
 use super::request::is_name;
-use iref::Memory;
 use iref::chars::CharSet;
 use iref::iri::Edit;
 use iref::rules::{BorrowedText, Rule};
@@ -26,16 +25,6 @@ pub enum FieldError {
     Invalid,
     /// Memory was refused.
     Memory,
-}
-
-impl From<Memory> for FieldError {
-    ghost use Rattle.iref_batch.specs.declared.edit_fields.FieldError.TheVariants as field_error;
-
-    ghost from_gives = { λ _ error. error ≡ field_error.Memory };
-
-    fn from(_: Memory) -> FieldError {
-        FieldError::Memory
-    }
 }
 
 // The value of this text, if it is in the rule.

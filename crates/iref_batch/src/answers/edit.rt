@@ -54,7 +54,7 @@ fn edit_by(reference: &mut IriRefBuf, fields: Option<&[u8]>) -> Result<bool, Fie
         match read_edit(field) {
             Ok(edit) => {
                 if are_done {
-                    are_done = edit_once(reference, edit)?;
+                    are_done = edit_once(reference, edit).or(Err(FieldError::Memory))?;
                 }
             }
             Err(FieldError::Invalid) => are_valid = false,
