@@ -16,6 +16,9 @@ use iref_grammar::chars::CharSet;
 use iref_path_text::target::PathTarget;
 use iref_reference::owned::ReferenceBuf;
 
+// Two traits, each for `ReferenceBuf` alone: the kit's borrow checker covers the calls of an editor
+// only where its owner is a type parameter.
+
 /// An owned reference whose path is edited in place.
 pub trait PathOwner<C: CharSet>: PathTarget<C> {
     /// The editor of the path.
