@@ -52,9 +52,17 @@ pub order-cut : (xs ys us vs : List Text) (n m : ℕ) → n ≡ length xs → m 
     → (us ≡ take (length ys) xs) × (vs ≡ take (length xs) ys) × (ordering_then (slice_cmp text_order (decoded us) (decoded vs)) (nat_cmp n m) ≡ slice_cmp text_order (decoded xs) (decoded ys))
 order-cut xs ys us vs n m h k e f =
     let left : us ≡ take (length ys) xs = grind (arith, take_min m xs) in
-    let right : vs ≡ take (length xs) ys = grind (arith, take_min n ys) in
-    (left, right, cc (slice_cmp-cut text_order (decoded xs) (decoded ys), take-map percent_decode (length ys) xs, take-map percent_decode (length xs) ys,
-    length-map xs percent_decode, length-map ys percent_decode))
+    let right : vs ≡ take (length xs) ys = grind (arith, take_min n ys) in (
+      left,
+      right,
+      cc (
+        slice_cmp-cut text_order (decoded xs) (decoded ys),
+        take-map percent_decode (length ys) xs,
+        take-map percent_decode (length xs) ys,
+        length-map xs percent_decode,
+        length-map ys percent_decode,
+      ),
+    )
 
 -- ---- what is hashed from the back
 

@@ -98,8 +98,16 @@ module _ (context : PathContext) (path front last : Text) (absolute : Bool) (e :
 
     pub front_text : (n : ℕ) (guard close : Text) → n ≡ bool_byte absolute + length front → guard ≡ cond (length front == 0) (codes "./") [] → take n path ++ (guard ++ [] ++ close) ≡ closed_by close (popped context (read_path path))
     front_text n guard close size g =
-        grind (arith, append_assoc, append-nil, front_cut, guarded_front absolute front last, read_path-reads path, front_some,
-        popped_last context (read_path path) absolute (pieces_at slash front) last)
+        grind (
+          arith,
+          append_assoc,
+          append-nil,
+          front_cut,
+          guarded_front absolute front last,
+          read_path-reads path,
+          front_some,
+          popped_last context (read_path path) absolute (pieces_at slash front) last,
+        )
 
 pub none_left : (context : PathContext) (p : PathValue) (last : Text) (absolute : Bool) → p ≡ path_with absolute (last ∷ []) → is_dot_dot last ≡ false → popped context p ≡ path_with absolute []
 unfolding guarded_list
