@@ -1,27 +1,86 @@
-use Rattle.std.proofs.Common.{◌≡◌, ◌<◌, ◌+◌, ◌-◌, ◌∷◌, [], ◌++◌, length, set, take, drop, ℕ, ap, sym, ◌∙◌, arith, take-append-drop}
-use Rattle.std.proofs.lemmas.List.{take_more_set, drop-set-lt, length-take, length-drop}
+use Rattle.std.proofs.Common.{◌≡◌, false, ◌<◌, ◌≤◌, ◌+◌, ◌-◌, ◌∷◌, [], ◌++◌, length, get_or, set, take, drop, ℕ, ap, sym, ◌∙◌, refl, arith, take-append-drop, append_assoc}
+use Rattle.std.specs.Char.{is_ascii}
+use Rattle.std.proofs.lemmas.List.{take_more_set, drop-set-lt, length-set}
+use Rattle.percent_encoding.specs.Percent.{percent_encode_byte}
 use Rattle.iref_grammar.specs.Rules.{Text}
+use Rattle.iref_mapping.specs.Mapping.{mapped_byte}
 use Rattle.iref_mapping.proofs.MappedLemmas.{mapped_byte-ascii, mapped_byte-above, length-escape}
 use Rattle.iref_mapping.proofs.bytes.put_mapped.Goals as goal
-
-pub overflow_sub-start-else-is_ascii : goal.overflow_sub-start-else-is_ascii
-overflow_sub-start-else-is_ascii c =
-    let long = ap length (mapped_byte-above c.args.byte (sym c.is_ascii.ensures ∙ c.if-is_ascii.false)) ∙ length-escape c.args.byte in
-    let room = c.requires.room in
-    omega arith
-
-pub copy_from_slice-requires : goal.copy_from_slice-requires
-copy_from_slice-requires c =
-    let long = ap length (mapped_byte-above c.args.byte (sym c.is_ascii.ensures ∙ c.if-is_ascii.false)) ∙ length-escape c.args.byte in
-    let room = c.requires.room in
-    let within = c.requires.within in
-    let bytes = ap length (c.as_bytes.ensures.value ∙ c.percent_encode_byte.ensures) ∙ length-escape c.args.byte in
-    simp (length-take, length-drop) (omega arith)
 
 -- one byte written
 set-parts : (xs : Text) (i n y : ℕ) → i < length xs → i + 1 ≡ n → set xs i y ≡ take i xs ++ (y ∷ []) ++ drop n xs
 set-parts xs i n y h e =
     sym (take-append-drop (i + 1) (set xs i y)) ∙ (λ j. take_more_set xs i y h j ++ drop-set-lt (i + 1) xs i y (omega arith) j) ∙ ap (λ m. take i xs ++ (y ∷ []) ++ drop m xs) e
+
+-- three bytes written
+module _ (xs : Text) (i n x y z : ℕ) (within : n ≤ length xs) (end : i + 3 ≡ n) where
+  set_twice : Text
+  set_twice = set (set xs i x) (i + 1) y
+
+  long : length set_twice ≡ length xs
+  unfolding set_twice
+  long = simp length-set refl
+
+  front : take (i + 2) set_twice ≡ take i xs ++ (x ∷ []) ++ (y ∷ [])
+  unfolding set_twice
+  front =
+      let one = length-set xs i x in
+      ap (λ m. take m (set (set xs i x) (i + 1) y)) (omega arith) ∙ take_more_set (set xs i x) (i + 1) y (omega arith) ∙ ap (λ t. t ++ (y ∷ [])) (take_more_set xs i x (omega arith))
+
+  back : drop n set_twice ≡ drop n xs
+  unfolding set_twice
+  back = drop-set-lt n (set xs i x) (i + 1) y (omega arith) ∙ drop-set-lt n xs i x (omega arith)
+
+  set_three : set (set (set xs i x) (i + 1) y) (i + 2) z ≡ take i xs ++ (x ∷ y ∷ z ∷ []) ++ drop n xs
+  unfolding set_twice
+  set_three =
+      let l = long in
+      set-parts (set (set xs i x) (i + 1) y) (i + 2) n z (omega arith) (omega arith) ∙ (λ j. front j ++ (z ∷ []) ++ back j) ∙ simp append_assoc
+
+-- an escape by its places
+by_places : (b : ℕ) → percent_encode_byte b ≡ get_or (percent_encode_byte b) 0 0 ∷ get_or (percent_encode_byte b) 1 0 ∷ get_or (percent_encode_byte b) 2 0 ∷ []
+unfolding percent_encode_byte
+by_places b = refl
+
+mapped-places : (b : ℕ) (escape : Text) → is_ascii b ≡ false → escape ≡ percent_encode_byte b → get_or escape 0 0 ∷ get_or escape 1 0 ∷ get_or escape 2 0 ∷ [] ≡ mapped_byte b
+mapped-places b escape above e =
+    ap (λ t. get_or t 0 0 ∷ get_or t 1 0 ∷ get_or t 2 0 ∷ []) e ∙ sym (by_places b) ∙ sym (mapped_byte-above b above)
+
+long-above : (b : ℕ) → is_ascii b ≡ false → length (mapped_byte b) ≡ 3
+long-above b h = ap length (mapped_byte-above b h) ∙ length-escape b
+
+pub overflow_sub-start-else-is_ascii : goal.overflow_sub-start-else-is_ascii
+overflow_sub-start-else-is_ascii c = let room = c.requires.room in let long = long-above c.args.byte (sym c.if-is_ascii.ensures) in omega arith
+
+pub bounds-escape-0 : goal.bounds-escape-0
+bounds-escape-0 c = let long = ap length (c.as_bytes-escape.ensures.value ∙ c.percent_encode_byte.ensures) ∙ length-escape c.args.byte in omega arith
+
+pub bounds-escape-1 : goal.bounds-escape-1
+bounds-escape-1 c = let long = ap length (c.as_bytes-escape.ensures.value ∙ c.percent_encode_byte.ensures) ∙ length-escape c.args.byte in omega arith
+
+pub bounds-escape-2 : goal.bounds-escape-2
+bounds-escape-2 c = let long = ap length (c.as_bytes-escape.ensures.value ∙ c.percent_encode_byte.ensures) ∙ length-escape c.args.byte in omega arith
+
+pub bounds-buffer-start-else-is_ascii : goal.bounds-buffer-start-else-is_ascii
+bounds-buffer-start-else-is_ascii c = let room = c.requires.room in let within = c.requires.within in let long = long-above c.args.byte (sym c.if-is_ascii.ensures) in omega arith
+
+pub bounds-buffer-start-else-is_ascii-2 : goal.bounds-buffer-start-else-is_ascii-2
+bounds-buffer-start-else-is_ascii-2 c =
+    let room = c.requires.room in let within = c.requires.within in let long = long-above c.args.byte (sym c.if-is_ascii.ensures) in simp length-set (omega arith)
+
+pub bounds-buffer-start-else-is_ascii-3 : goal.bounds-buffer-start-else-is_ascii-3
+bounds-buffer-start-else-is_ascii-3 c =
+    let room = c.requires.room in let within = c.requires.within in let long = long-above c.args.byte (sym c.if-is_ascii.ensures) in simp length-set (omega arith)
+
+pub returns-else-is_ascii-clause-start : goal.returns-else-is_ascii-clause-start
+returns-else-is_ascii-clause-start c = let room = c.requires.room in let long = long-above c.args.byte (sym c.if-is_ascii.ensures) in omega arith
+
+pub returns-else-is_ascii-clause-written : goal.returns-else-is_ascii-clause-written
+returns-else-is_ascii-clause-written c =
+    let room = c.requires.room in
+    let long = long-above c.args.byte (sym c.if-is_ascii.ensures) in
+    set_three c.args.buffer.now (c.args.end - 3) c.args.end _ _ _ c.requires.within (omega arith)
+    ∙ ap (λ t. take (c.args.end - 3) c.args.buffer.now ++ t ++ drop c.args.end c.args.buffer.now) (mapped-places c.args.byte c.as_bytes-escape.result.now (sym c.if-is_ascii.ensures) (c.as_bytes-escape.ensures.value ∙ c.percent_encode_byte.ensures))
 
 pub returns-then-is_ascii-clause-written : goal.returns-then-is_ascii-clause-written
 returns-then-is_ascii-clause-written c =
