@@ -6,11 +6,11 @@ use Rattle.iref_grammar.specs.Rules.{Text}
 use Rattle.iref_grammar.specs.Keys.{piece, fed_after}
 
 -- one byte more, where a piece is full with it and where it is not
-full_step : (held : Text) (b : ℕ) (rest : Text) → length held ≡ 62 → fed_after held (b ∷ rest) ≡ piece (held ++ b ∷ []) ∷ fed_after [] rest
+pub full_step : (held : Text) (b : ℕ) (rest : Text) → length held ≡ 62 → fed_after held (b ∷ rest) ≡ piece (held ++ b ∷ []) ∷ fed_after [] rest
 unfolding fed_after
 full_step held b rest e = grind (arith, nat_tests)
 
-room_step : (held : Text) (b : ℕ) (rest : Text) → length held < 62 → fed_after held (b ∷ rest) ≡ fed_after (held ++ b ∷ []) rest
+pub room_step : (held : Text) (b : ℕ) (rest : Text) → length held < 62 → fed_after held (b ∷ rest) ≡ fed_after (held ++ b ∷ []) rest
 unfolding fed_after
 room_step held b rest e = grind (arith, nat_tests)
 

@@ -1,5 +1,7 @@
 pub mod AsciiLemmas
 pub mod BufferLemmas
+pub mod PieceLemmas
+pub mod DecodedLemmas
 pub mod ScanLemmas
 pub mod DigitLemmas
 pub mod OctetLemmas

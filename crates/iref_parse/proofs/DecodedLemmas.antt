@@ -1,0 +1,27 @@
+-- Texts, or the first bytes of texts, in which no escape begins.
+use Rattle.std.proofs.Common.{◌≡◌, ◌≢◌, ℕ, zero, suc, ◌<◌, ◌≤◌, List, [], ◌∷◌, ◌++◌, not, length, get_or, take, drop, refl, ◌∙◌, ap, arith, append-nil, take_all}
+use Rattle.std.specs.List.{position_or_len}
+use Rattle.std.specs.Char.{char_set_contains}
+use Rattle.std.proofs.lemmas.List.{drop_all}
+use Rattle.std.proofs.lemmas.List.Sums.{prefix_len_passes}
+use Rattle.std.proofs.lemmas.Bool.Decides.{nat_tests}
+use Rattle.percent_encoding.specs.Percent.{percent_decode}
+use Rattle.percent_encoding.proofs.PercentLemmas.{percent_decode_not_percent, percent_decode-nil}
+
+-- the first n bytes are kept, if none of them is `%`
+pub front_kept : (xs : List ℕ) (n : ℕ) → n ≤ length xs → ((k : ℕ) → k < n → get_or xs k 0 ≢ 37) → percent_decode xs ≡ take n xs ++ percent_decode (drop n xs)
+front_kept xs zero l other = refl
+front_kept [] (suc n) l other = absurd (omega arith)
+front_kept (x ∷ xs) (suc n) l other =
+    percent_decode_not_percent x xs (other 0 (omega arith)) ∙ ap (λ rest. x ∷ rest) (front_kept xs n (omega arith) (λ k m. other (suc k) (omega arith)))
+
+before_mark : (mark : ℕ) (xs : List ℕ) (k : ℕ) → k < position_or_len (char_set_contains (mark ∷ [])) xs → get_or xs k 0 ≢ mark
+before_mark mark xs k l e = let passed = prefix_len_passes (λ c. not (char_set_contains (mark ∷ []) c)) xs k 0 l in grind (arith, nat_tests)
+
+-- and so is a text in which no `%` is found
+pub whole_kept : (xs : List ℕ) → position_or_len (char_set_contains (37 ∷ [])) xs ≡ length xs → percent_decode xs ≡ xs
+whole_kept xs e =
+    front_kept xs (length xs) (omega arith) (λ k l. before_mark 37 xs k (omega arith))
+    ∙ (λ i. take_all (length xs) xs (omega arith) i ++ percent_decode (drop_all (length xs) xs (omega arith) i))
+    ∙ ap (λ rest. xs ++ rest) percent_decode-nil
+    ∙ append-nil xs
