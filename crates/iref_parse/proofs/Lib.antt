@@ -18,6 +18,8 @@ pub mod SeenLemmas
 pub mod PlainLemmas
 pub mod PlainTextLemmas
 pub mod PositionLemmas
+pub mod KeptLemmas
+pub mod OrderLemmas
 pub mod DotLemmas
 pub mod DotSegmentLemmas
 pub mod EncodedTextLemmas

@@ -20,3 +20,4 @@ pub mod Lanes
 pub mod Plain
 pub mod Dots
 pub mod Encoded
+pub mod Kept

@@ -11,6 +11,7 @@ mod encoded;
 pub mod host;
 pub mod ip;
 pub mod ipv6;
+mod kept;
 mod lanes;
 pub mod offsets;
 mod plain;
