@@ -5,6 +5,7 @@ pub mod DecodedLemmas
 pub mod ScanLemmas
 pub mod DigitLemmas
 pub mod OctetLemmas
+pub mod FrontLemmas
 pub mod GroupLemmas
 pub mod DoubleColonLemmas
 pub mod Ipv4ScanLemmas

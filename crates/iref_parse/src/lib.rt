@@ -8,6 +8,7 @@ pub mod cut;
 pub mod decoded;
 pub mod dots;
 mod encoded;
+pub mod front;
 pub mod host;
 pub mod ip;
 pub mod ipv6;

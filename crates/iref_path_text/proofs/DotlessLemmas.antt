@@ -53,7 +53,7 @@ normal_segments-dotless p h =
 -- ---- the text
 
 -- a text whose pieces are one empty segment is empty
-whole_text : (c : ℕ) (cs : Text) → is_one_empty (pieces_at slash (c ∷ cs)) ≡ false
+pub whole_text : (c : ℕ) (cs : Text) → is_one_empty (pieces_at slash (c ∷ cs)) ≡ false
 whole_text c cs = grind (arith, join-pieces_at slash (c ∷ cs))
 
 -- after an authority no first segment needs a guard

@@ -6,6 +6,8 @@ pub mod OrderLemmas
 pub mod SpellLemmas
 pub mod StepTextLemmas
 pub mod StepValueLemmas
+pub mod DirectoryLemmas
+pub mod FrontOrderLemmas
 pub mod GuardTextLemmas
 pub mod PopTextLemmas
 pub mod MergedLemmas

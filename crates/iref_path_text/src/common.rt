@@ -26,7 +26,7 @@ fn skip_back(left: &mut Remaining<'_>, count: usize)
 
 // The order of the bytes that two items decode to. Most are the same text, which is not decoded.
 #[inline(always)]
-fn items_cmp(a: &str, b: &str) -> Ordering
+pub(crate) fn items_cmp(a: &str, b: &str) -> Ordering
     ensures { result ≡ text_order (percent_decode a.now) (percent_decode b.now) }
 {
     if a == b {

@@ -4,20 +4,18 @@ ghost use Rattle.std.specs.Prelude.{◌≡◌, ◌+◌, ◌<◌, ◌≤◌, ◌^
 ghost use Rattle.std.specs.Prelude.{true, false, MatchOption, count_by, drop, take};
 ghost use Rattle.iref_grammar.specs.{slash, pieces_at, segments_of, read_path};
 ghost use Rattle.iref_grammar.specs.Texts.{all_but_last};
-ghost use Rattle.iref_path_text.specs.Pieces.{pieces_if_some};
+ghost use Rattle.iref_path_text.specs.Pieces.{ShareFront, pieces_if_some};
 ghost use Rattle.iref_path_text.specs.Slashes.{IsLastSlash, LacksSlashFrom, slash_mask};
 
-use iref_parse::cut::strip_mark;
+use iref_parse::cut::{cut, strip_mark};
+use iref_parse::front::common_front;
 use std::simd::prelude::*;
 
 /// The first segment, and the text of the others.
 pub fn first_segment(text: &str) -> (&str, Option<&str>)
     ensures { pieces_at slash text.now ≡ result.0.now ∷ pieces_if_some result.1 }
 {
-    match text.split_once('/') {
-        Some((segment, rest)) => (segment, Some(rest)),
-        None => (text, None),
-    }
+    cut(text, '/')
 }
 
 // A bit for each of the 16 bytes from an index on that is a `/`.
@@ -71,6 +69,20 @@ pub fn last_segment(text: &str) -> (Option<&str>, &str)
     match last_slash(text.as_bytes()) {
         Some(at) => (Some(&text[..at]), &text[at + 1..]),
         None => (None, text),
+    }
+}
+
+/// What follows the directories that both texts begin with, byte by byte.
+pub(crate) fn behind_directory<'a>(left: &'a str, right: &'a str) -> (&'a str, &'a str)
+    ensures shared { ShareFront (pieces_at slash left.now) (pieces_at slash right.now)
+        (pieces_at slash result.0.now) (pieces_at slash result.1.now) }
+    ensures left { length result.0.now ≤ length left.now }
+    ensures right { length result.1.now ≤ length right.now }
+{
+    let common = common_front(left.as_bytes(), right.as_bytes());
+    match last_slash(&left.as_bytes()[..common]) {
+        Some(at) => (&left[at + 1..], &right[at + 1..]),
+        None => (left, right),
     }
 }
 
