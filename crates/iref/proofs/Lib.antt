@@ -3,8 +3,11 @@ pub mod ComponentRuleLemmas
 pub mod EditLemmas
 pub mod EditListLemmas
 pub mod PortTextLemmas
+pub mod PrefixCommonLemmas
 pub mod PrefixIndexLemmas
+pub mod PrefixOrderLemmas
 pub mod PrefixSearchLemmas
+pub mod PrefixSortedLemmas
 pub mod PrefixTextLemmas
 pub mod PrefixTableLemmas
 -- lemmas about the words of contracts, for callers that list this crate alone

@@ -13,8 +13,10 @@ use Rattle.std.proofs.lemmas.Map.Text.{btree_map_updates_text}
 use Rattle.iref_grammar.specs.Rules.{Text}
 use Rattle.iref_mapping.specs.PrefixTable.{PrefixEntry, PrefixTable, has_label}
 use Rattle.iref.specs.declared.compact.index.Index.{Index}
-use Rattle.iref.specs.PrefixIndex.{has_text, IsNumber, IsIndexed, Gains, Stays, GainsLength, KeepsLengths}
+use Rattle.iref.specs.declared.compact.index.TheConstants.{LONGEST_SORTED}
+use Rattle.iref.specs.PrefixIndex.{has_text, IsNumber, IsIndexed, IsSorted, Gains, Stays, GainsLength, KeepsLengths}
 use Rattle.std.specs.BTreeSet.{BTreeSet, contains}
+use Rattle.std.proofs.lemmas.List.{length_push}
 use Rattle.std.proofs.lemmas.List.Folds.{find-append}
 use Rattle.std.proofs.lemmas.Option.{slice_get_past, slice_get-get_or}
 use denote.Ref.{Bor}
@@ -45,7 +47,7 @@ none_above b len n h greatest = grind (arith, less)
 
 -- ---- the index of a table
 
-slice_get-last : (table : PrefixTable) (e : PrefixEntry) → slice_get (table ++ e ∷ []) (length table) ≡ Some e
+pub slice_get-last : (table : PrefixTable) (e : PrefixEntry) → slice_get (table ++ e ∷ []) (length table) ≡ Some e
 slice_get-last [] e = refl
 slice_get-last (x ∷ table) e = slice_get-last table e
 
@@ -65,7 +67,7 @@ pub number_at : (test : PrefixEntry → Bool) (table : PrefixTable) (o : Option 
 number_at test table o i h e = grind arith
 
 -- one more entry at the end
-number_next : (test : PrefixEntry → Bool) (table : PrefixTable) (e : PrefixEntry) (o : Option ℕ) → IsNumber test table o
+pub number_next : (test : PrefixEntry → Bool) (table : PrefixTable) (e : PrefixEntry) (o : Option ℕ) → IsNumber test table o
     → IsNumber test (table ++ e ∷ []) (option_or o (if test e then Some (length table) else None))
 number_next test table e None h = by (test e) refl
   where
@@ -73,6 +75,10 @@ number_next test table e None h = by (test e) refl
     by true is = (e, slice_get-last table e, grind (arith, find-append))
     by false is = grind (arith, find-append)
 number_next test table e (Some i) h = (h.0, slice_get-front table e i h.0 h.1, grind (arith, find-append))
+
+-- the entry at the end is the first that passes the test
+pub number_last : (test : PrefixEntry → Bool) (table : PrefixTable) (e : PrefixEntry) → find test table ≡ None → test e ≡ true → IsNumber test (table ++ e ∷ []) (Some (length table))
+number_last test table e none is = (e, slice_get-last table e, grind (arith, find-append))
 
 lengths_stay : (old new : BTreeSet ℕ) (table : PrefixTable) → KeepsLengths old new → AllByRecursion (λ (e : PrefixEntry). contains nat_cmp old (length e.iri) ≡ true) table
     → AllByRecursion (λ (e : PrefixEntry). contains nat_cmp new (length e.iri) ≡ true) table
@@ -86,18 +92,20 @@ one_more_length set (x ∷ table) e has h = grind (arith, one_more_length set ta
 
 module _ (table : PrefixTable) (old new : Index) (h : IsIndexed table old) where
   pub index_next : (label iri : Text) → Gains old.labels new.labels label (length table) → Gains old.texts new.texts iri (length table) → GainsLength old.lengths new.lengths (length iri)
-      → IsIndexed (table ++ record { label = label; iri = iri } ∷ []) new
-  index_next label iri labels texts lengths = let e : PrefixEntry = record { label = label; iri = iri } in record {
+      → (length table < LONGEST_SORTED → IsSorted (table ++ record { label = label; iri = iri } ∷ []) new.sorted.items) → IsIndexed (table ++ record { label = label; iri = iri } ∷ []) new
+  index_next label iri labels texts lengths sorted = let e : PrefixEntry = record { label = label; iri = iri } in record {
     labels = λ other. subst (IsNumber (has_label other) (table ++ e ∷ [])) (sym (labels other)) (number_next (has_label other) table e (get_by_text old.labels other) (h.labels other));
     texts = λ other. subst (IsNumber (has_text other) (table ++ e ∷ [])) (sym (texts other)) (number_next (has_text other) table e (get_by_text old.texts other) (h.texts other));
     lengths = one_more_length new.lengths table e lengths.0 (lengths_stay old.lengths new.lengths table lengths.1 h.lengths);
+    sorted = λ l. sorted (let n = length_push table e in omega arith);
   }
 
-  pub index_stays : Stays old.labels new.labels → Stays old.texts new.texts → KeepsLengths old.lengths new.lengths → IsIndexed table new
-  index_stays labels texts lengths = record {
+  pub index_stays : Stays old.labels new.labels → Stays old.texts new.texts → KeepsLengths old.lengths new.lengths → new.sorted.items ≡ old.sorted.items → IsIndexed table new
+  index_stays labels texts lengths sorted = record {
     labels = λ other. subst (IsNumber (has_label other) table) (sym (labels other)) (h.labels other);
     texts = λ other. subst (IsNumber (has_text other) table) (sym (texts other)) (h.texts other);
     lengths = lengths_stay old.lengths new.lengths table lengths h.lengths;
+    sorted = λ l. subst (IsSorted table) (sym sorted) (h.sorted l);
   }
 
 pub ruleset numbers = (no_number, number_at)

@@ -1,12 +1,14 @@
 -- The longest entry that fits an IRI, found by the lengths of texts.
-use Rattle.std.proofs.Common.{◌≡◌, ℕ, ◌+◌, ◌<◌, ◌≤◌, true, false, [], ◌∷◌, length, take, refl, arith}
+use Rattle.std.proofs.Common.{◌≡◌, ℕ, ◌+◌, ◌<◌, ◌≤◌, true, false, [], ◌∷◌, length, take, refl, sym, ap, ◌∙◌, subst, arith}
 use Rattle.std.proofs.lemmas.Grind.{common_steps}
-use Rattle.std.specs.Prelude.{Option, Some, None, is_some}
-use Rattle.std.specs.List.{AllByRecursion, find}
+use Rattle.std.specs.Prelude.{nat_eq, bytes_eq, Option, Some, None, is_some}
+use Rattle.std.specs.List.{AllByRecursion, common_prefix_len, find}
+use Rattle.std.proofs.lemmas.List.Sums.{common_prefix_len-le}
 use Rattle.std.specs.Ordering.{nat_cmp}
 use Rattle.std.specs.BTreeSet.{BTreeSet, contains}
 use Rattle.std.specs.Cmp.Lexicographic.{bytes_decides}
-use Rattle.std.proofs.lemmas.List.{length-take, length-take-le}
+use Rattle.std.proofs.lemmas.Bool.{both_ways, false_from_ne_true}
+use Rattle.std.proofs.lemmas.List.{length-take, length-take-le, take-take}
 use Rattle.std.specs.Option.{option_copied}
 use denote.Ref.{Bor}
 use Rattle.std.specs.Str.{IsCharBoundary, IsUtf8}
@@ -17,11 +19,8 @@ use Rattle.iref_grammar.specs.Reference.{is_uri}
 use Rattle.iref_grammar.specs.Rules.{Text}
 use Rattle.iref_grammar.proofs.ReferenceRuleLemmas.{Decides-is_uri}
 use Rattle.iref_mapping.specs.PrefixTable.{PrefixEntry, PrefixTable, fits, longest_fit}
-use Rattle.iref.specs.PrefixIndex.{has_text, IsLengthBelow}
-
--- each entry that fits is shorter than this
-abbrev pub FitsBelow : Text → PrefixTable → ℕ → Type 0
-FitsBelow iri table n = AllByRecursion (λ (e : PrefixEntry). fits iri e ≡ true → length e.iri < n) table
+use Rattle.iref.specs.PrefixIndex.{has_text, FitsBelow, IsLengthBelow, IsNearest}
+use Rattle.iref.proofs.PrefixOrderLemmas.{begins_in_common, common_begins}
 
 -- the set has each entry's length
 abbrev pub HasLengths : BTreeSet ℕ → PrefixTable → Type 0
@@ -86,3 +85,45 @@ pub no_text_ends : (iri : Text) (table : PrefixTable) (len : ℕ) → IsUtf8 iri
     → find (has_text (take len iri)) table ≡ None
 no_text_ends iri [] len utf8 inside uncut h = refl
 no_text_ends iri (e ∷ table) len utf8 inside uncut h = grind (arith, common_steps, bytes_decides, IsCharBoundary-from_take, Decides-is_uri iri_chars iri_above_ascii e.iri, no_text_ends iri table len utf8 inside uncut)
+
+-- ---- the entry of the last text up to the IRI's beginning of the greatest length
+
+each_of_two : (P Q R : PrefixEntry → Type 0) → ((e : PrefixEntry) → P e → Q e → R e) → (table : PrefixTable) → AllByRecursion P table → AllByRecursion Q table → AllByRecursion R table
+each_of_two P Q R f [] all others = tt
+each_of_two P Q R f (e ∷ table) all others = (f e all.0 others.0, each_of_two P Q R f table all.1 others.1)
+
+none_longest : (iri : Text) (table : PrefixTable) → AllByRecursion (λ (e : PrefixEntry). fits iri e ≡ false) table → longest_fit iri table ≡ None
+unfolding longest_fit
+none_longest iri [] all = refl
+none_longest iri (e ∷ table) all = grind (arith, none_longest iri table)
+
+pub common_within : (text iri : Text) (len : ℕ) → len ≤ length iri → common_prefix_len nat_eq text (take len iri) ≤ len
+common_within text iri len inside = omega (arith, (common_prefix_len-le nat_eq text (take len iri)).1, length-take-le len iri inside)
+
+module _ (iri : Text) (table : PrefixTable) (set : BTreeSet ℕ) (len : ℕ) (has : HasLengths set table) (at : IsLengthBelow set (length iri + 1) (Some len)) where
+  -- what fits the IRI is as short as its beginning, which it fits too
+  short : FitsBelow iri table (len + 1)
+  short = below_length iri table set (length iri + 1) len has at.1 (all_below iri table)
+
+  fits_front : (e : PrefixEntry) → (fits iri e ≡ true → length e.iri < len + 1) → fits iri e ≡ true → fits (take len iri) e ≡ true
+  fits_front e below fit = let l = below fit in ap (bytes_eq e.iri) (take-take (length e.iri) len iri (omega arith)) ∙ fit
+
+  pub nothing_fits : IsNearest (take len iri) table None → longest_fit iri table ≡ None
+  nothing_fits none = none_longest iri table (each_of_two _ _ (λ (e : PrefixEntry). fits iri e ≡ false)
+      (λ e below no. false_from_ne_true (fits iri e) (λ fit. both_ways (fits (take len iri) e) no (fits_front e below fit))) table short none)
+
+  module _ (e : PrefixEntry) (near : IsNearest (take len iri) table (Some e)) where
+    -- what fits is no longer than what the entry and the beginning have in common
+    pub fits_in_common : FitsBelow iri table (common_prefix_len nat_eq e.iri (take len iri) + 1)
+    fits_in_common = each_of_two _ _ (λ (d : PrefixEntry). fits iri d ≡ true → length d.iri < common_prefix_len nat_eq e.iri (take len iri) + 1)
+        (λ d below others fit.
+        let front = fits_front d below fit in
+        let common = begins_in_common d.iri e.iri (take len iri) (others front) front in omega arith) table short near.1
+
+    -- the entry is the longest that fits, if its whole text is in common
+    pub nearest_fits : common_prefix_len nat_eq e.iri (take len iri) ≡ length e.iri → longest_fit iri table ≡ Some e
+    nearest_fits whole =
+        let before = at.0 in
+        let upto : length e.iri ≤ len = omega (arith, common_within e.iri iri len (omega arith), whole) in
+        let fit : e.iri ≡ take (length e.iri) iri = fit_text (take len iri) e (common_begins e.iri (take len iri) whole) ∙ take-take (length e.iri) len iri upto in
+        (first_fit iri table (length e.iri) e (omega arith) (ap (λ t. find (has_text t) table) (sym fit) ∙ near.0) (subst (λ n. FitsBelow iri table (n + 1)) whole fits_in_common)).1

@@ -1,23 +1,27 @@
 //! Prefix tables: labels that stand for the beginnings of IRIs, as in `ex:a` for
 //! `http://example.org/a`.
-ghost use Rattle.std.specs.Prelude.{◌≡◌, ◌≤◌, [], length, take, option_map, Ok, IfOk, IfErr};
+ghost use Rattle.std.specs.Prelude.{◌≡◌, ◌+◌, ◌≤◌, [], length, take, option_map, Ok, IfOk, IfErr};
 ghost use Rattle.std.specs.{Prelude.{IfSome, OnOk, OnErr}, String.{string_bytes}, List.{find}};
 ghost use Rattle.std.specs.Option.{option_copied};
-ghost use Rattle.iref.specs.PrefixIndex.{has_text};
+ghost use Rattle.iref.specs.PrefixIndex.{has_text, FitsBelow, IsNearest};
 ghost use Rattle.iref.specs.Prefixes.{compact_value, RefusesExpand, RefusesInsert};
 ghost use Rattle.iref_mapping.specs.PrefixTable.{has_label, longest_fit, IsPrefixTable};
 ghost use Rattle.iref_mapping.specs.PrefixTable.{compact_text, compacted, expanded, get, inserted};
 ghost use Rattle.iref_reference.specs.References.{reference_buf_text, reference_text};
 
+mod common;
 mod entry;
 mod index;
+mod sorted;
 mod text;
 
 use crate::iri::{Iri, IriBuf};
+use common::common_front;
 use entry::{Entry, add};
-use index::Index;
+use index::{Index, LONGEST_SORTED};
 use iref_error::Memory;
 use iref_parse::cut::cut;
+use sorted::nearest;
 use std::alloc::Global;
 use std::marker::Model;
 use text::{after_front, iri_of, is_label, joined};
@@ -153,14 +157,14 @@ impl Prefixes {
         self.entries.get(at)
     }
 
-    // The first of the longest entries whose text is a beginning of the IRI's: the lengths of
-    // texts are tried from the greatest down.
-    #[tactic(auto, using(crate::proofs::PrefixSearchLemmas::all_below))]
-    fn longest_fit(&self, iri: &str) -> Option<&Entry>
+    // The first of the longest entries whose text is a beginning of the IRI's, where each such text
+    // is shorter than this: the lengths of texts are tried from the greatest down.
+    fn longest_fit_below(&self, iri: &str, mut end: usize) -> Option<&Entry>
+        requires end { end ≤ length iri.now + 1 }
+        requires below { FitsBelow iri.now self.now end }
         ensures entry { option_copied result ≡ longest_fit iri.now self.now }
         ensures table { IsPrefixTable self.now }
     {
-        let mut end = iri.len() + 1;
         while let Some(len) = self.index.length_below(end) {
             let entry = self.entry_of_beginning(iri, len);
             if entry.is_some() {
@@ -169,6 +173,36 @@ impl Prefixes {
             end = len;
         }
         None
+    }
+
+    // The entry of the last text up to this one.
+    fn nearest(&self, text: &[u8]) -> Option<&Entry>
+        requires { length self.now ≤ LONGEST_SORTED }
+        ensures { IsNearest text.now self.now (option_copied result) }
+    {
+        nearest(&self.entries, self.index.sorted(), text)
+    }
+
+    // The first of the longest entries whose text is a beginning of the IRI's. In the order of texts
+    // what stands between a beginning of the IRI's and the IRI's begins with it too. So the last
+    // text up to the IRI's begins with each text that fits.
+    #[tactic(auto, using(crate::proofs::PrefixSearchLemmas::all_below))]
+    fn longest_fit(&self, iri: &str) -> Option<&Entry>
+        ensures entry { option_copied result ≡ longest_fit iri.now self.now }
+        ensures table { IsPrefixTable self.now }
+    {
+        if self.entries.len() > LONGEST_SORTED {
+            return self.longest_fit_below(iri, iri.len() + 1);
+        }
+        let len = self.index.length_below(iri.len() + 1)?;
+        let front = &iri.as_bytes()[..len];
+        let nearest = self.nearest(front)?;
+        let text = nearest.text();
+        let common = common_front(text.as_bytes(), front);
+        if common == text.len() {
+            return Some(nearest);
+        }
+        self.longest_fit_below(iri, common + 1)
     }
 
     /// The IRI of a label, if the label has an entry: after `insert` of `ex` with `http://ex.org/`,
@@ -182,7 +216,8 @@ impl Prefixes {
 
     /// Adds a last entry. A label is an ASCII letter, then ASCII letters, digits, `-` and `_`; it
     /// differs from all labels that are there, by its text. The table keeps two copies of the
-    /// label, and a second one of the IRI if no entry has it yet.
+    /// label, and a second one of the IRI if no entry has it yet. Up to 4,096 entries it also keeps
+    /// the order of the IRIs, for which it takes room for one number.
     ///
     /// # Errors
     ///
@@ -207,7 +242,8 @@ impl Prefixes {
     /// The IRI by its longest beginning in the table: the label of the entry whose IRI's text is a
     /// beginning of this one's, and the rest. Where several are as long, the first inserted one
     /// serves. None where no entry's IRI is a beginning. It takes no memory, and looks at most once
-    /// for each length, up to this IRI's, of an IRI that was given to `insert`.
+    /// for each length, up to this IRI's, of an IRI that was given to `insert`. Of at most 4,096
+    /// entries one look at the order of their IRIs mostly serves for all lengths.
     #[tactic(auto, using(crate::proofs::PrefixTableLemmas::compacts))]
     pub fn compact<'a>(&'a self, iri: Iri<'a>) -> Option<Compact<'a>>
         ensures compacted { option_map compact_value result

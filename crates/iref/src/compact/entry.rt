@@ -48,6 +48,12 @@ impl Entry {
         self.label.as_str()
     }
 
+    pub(super) fn text(&self) -> &str
+        ensures { result.now ≡ self.now.iri }
+    {
+        self.iri.as_str()
+    }
+
     pub(super) fn iri(&self) -> Iri<'_>
         ensures { reference_text result ≡ self.now.iri }
     {
@@ -72,7 +78,7 @@ pub(super) fn add(
     let alloc = *entries.allocator();
     let entry = Entry::new(alloc, label, iri)?;
     entries.reserve(1)?;
-    index.add(alloc, label, iri, entries.len())?;
+    index.add(alloc, entries, label, iri)?;
     entries.push_reserved(entry);
     Ok(())
 }

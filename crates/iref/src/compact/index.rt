@@ -1,16 +1,22 @@
-//! Where the entries of a prefix table are: by their labels, by their IRIs, and by the lengths of
-//! these.
-ghost use Rattle.std.specs.Prelude.{◌≡◌, length, not, is_some, IfOk, OnOk, OnErr};
+//! Where the entries of a prefix table are: by their labels, by their IRIs, by the lengths of these,
+//! and in the order of these.
+ghost use Rattle.std.specs.Prelude.{◌≡◌, ◌<◌, ◌++◌, [], ◌∷◌, length, not, is_some, IfOk, OnOk, OnErr};
 ghost use Rattle.std.specs.BTreeMap.{get_by_text};
 ghost use Rattle.iref.specs.PrefixIndex.{IsEmptyIndex, Gains, Stays, GainsLength, KeepsLengths};
-ghost use Rattle.iref.specs.PrefixIndex.{IsLengthBelow};
+ghost use Rattle.iref.specs.PrefixIndex.{IsIndexed, IsLengthBelow, IsSorted};
 
+use super::entry::Entry;
+use super::sorted::add_number;
 use iref_error::Memory;
 use std::alloc::Global;
 use std::collections::{BTreeMap, BTreeSet};
 
 // Numbers of entries, by texts.
 type Indices = BTreeMap<String, usize>;
+
+// How many entries a table has at most whose texts are kept in order, since an insert may move a
+// number for each.
+pub(super) const LONGEST_SORTED: usize = 4096;
 
 // Where the entries are.
 #[derive(Drop)]
@@ -21,6 +27,9 @@ pub(super) struct Index {
     texts: Indices,
     // the lengths of the texts, and perhaps others
     lengths: BTreeSet<usize>,
+    // the numbers in `texts` in the order of their texts, while the table has at most
+    // `LONGEST_SORTED` entries
+    sorted: Vec<usize>,
 }
 
 impl Index {
@@ -31,6 +40,7 @@ impl Index {
             labels: BTreeMap::new(alloc),
             texts: BTreeMap::new(alloc),
             lengths: BTreeSet::new(alloc),
+            sorted: Vec::new(alloc),
         }
     }
 
@@ -58,22 +68,39 @@ impl Index {
         }
     }
 
-    // Adds an entry of this number.
+    // The numbers of the first entries of the texts, in the order of these.
+    pub(super) fn sorted(&self) -> &[usize]
+        ensures { result.now ≡ self.now.sorted.items }
+    {
+        self.sorted.as_slice()
+    }
+
+    // Adds an entry behind the others.
     pub(super) fn add(
         &mut self,
         alloc: Global,
+        entries: &[Entry],
         label: &str,
         text: &str,
-        at: usize,
     ) -> Result<(), Memory>
-        ensures labels { OnOk result (Gains self.old.labels self.new.labels label.now at) }
-        ensures texts { OnOk result (Gains self.old.texts self.new.texts text.now at) }
+        requires { IsIndexed entries.now self.old }
+        ensures labels { OnOk result
+            (Gains self.old.labels self.new.labels label.now (length entries.now)) }
+        ensures texts { OnOk result
+            (Gains self.old.texts self.new.texts text.now (length entries.now)) }
         ensures lengths { OnOk result
             (GainsLength self.old.lengths self.new.lengths (length text.now)) }
+        ensures sorted { OnOk result (length entries.now < LONGEST_SORTED → IsSorted
+            (entries.now ++ record { label = label.now; iri = text.now } ∷ [])
+            self.new.sorted.items) }
         ensures labels_stay { OnErr result (Stays self.old.labels self.new.labels) }
         ensures texts_stay { OnErr result (Stays self.old.texts self.new.texts) }
         ensures lengths_stay { OnErr result (KeepsLengths self.old.lengths self.new.lengths) }
+        ensures sorted_stays { OnErr result (self.new.sorted.items ≡ self.old.sorted.items) }
     {
+        let at = entries.len();
+        let is_sorted = at < LONGEST_SORTED;
+        self.sorted.reserve(usize::from(is_sorted))?;
         self.lengths.insert(text.len())?;
         let is_new = add_first(alloc, &mut self.texts, text, at)?;
         if let Err(error) = add_first(alloc, &mut self.labels, label, at) {
@@ -81,6 +108,9 @@ impl Index {
                 self.texts.remove(text);
             }
             return Err(error);
+        }
+        if is_new && is_sorted {
+            add_number(&mut self.sorted, entries, text.as_bytes());
         }
         Ok(())
     }

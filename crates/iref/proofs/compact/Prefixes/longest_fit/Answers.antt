@@ -1,31 +1,65 @@
-use Rattle.std.proofs.Common.{rules, arith, subst, sym}
-use Rattle.iref_mapping.specs.PrefixTable.{IsPrefixTable}
-use Rattle.iref.proofs.PrefixSearchLemmas.{HasLengths, found_there, not_there, none_fits}
+use Rattle.std.proofs.Common.{rules, arith, ◌≡◌, ◌+◌, nat_eq, None, Some, length, take, ap, sym, subst, ◌∙◌}
+use Rattle.std.specs.List.{common_prefix_len}
+use Rattle.std.specs.Option.{option_copied}
+use Rattle.iref.specs.PrefixIndex.{FitsBelow, IsNearest}
+use Rattle.iref.proofs.PrefixSearchLemmas.{HasLengths, none_fits, all_below, common_within, nothing_fits, fits_in_common, nearest_fits}
 use Rattle.iref.proofs.compact.Prefixes.longest_fit.Goals as goal
 
-pub returns-then-is_some : goal.returns-then-is_some
-returns-then-is_some c =
+pub returns-in_err-len-clause-entry : goal.returns-in_err-len-clause-entry
+returns-in_err-len-clause-entry c =
+    let iri = c.args.iri.now in
     let set = c.self.inside.index.lengths in
-    record {
-      entry = found_there c.args.iri.now c.args.self.now set c.loop-len.end c.in-Some.len (subst (HasLengths set) c.self.view_is c.self.invariant.1.lengths)
-          (search rules) c.loop-len.invariant.in_range c.loop-len.invariant.below c.entry_of_beginning-entry.result c.entry_of_beginning-entry.ensures (search rules);
-      table = subst IsPrefixTable c.self.view_is c.self.invariant.0;
-    }
+    let none : option_copied c.from_residual.result ≡ None = search rules in
+    none ∙ sym (none_fits iri c.args.self.now set (length iri + 1) (subst (HasLengths set) c.self.view_is c.self.invariant.1.lengths) c.in_err-len.ensures (all_below iri c.args.self.now))
 
-pub loop-len-preserved : goal.loop-len-preserved
-loop-len-preserved c =
+pub returns-in_err-nearest-clause-entry : goal.returns-in_err-nearest-clause-entry
+returns-in_err-nearest-clause-entry c =
+    let iri = c.args.iri.now in
     let set = c.self.inside.index.lengths in
-    let at = c.in-Some.ensures in
-    record {
-      in_range = omega arith;
-      below = not_there c.args.iri.now c.args.self.now set c.loop-len.end c.in-Some.len (subst (HasLengths set) c.self.view_is c.self.invariant.1.lengths)
-          (search rules) c.loop-len.invariant.in_range c.loop-len.invariant.below c.entry_of_beginning-entry.result c.entry_of_beginning-entry.ensures (search rules);
-    }
+    let len = c.in_ok-len.len in
+    let none : option_copied c.from_residual-in_err-nearest.result ≡ None = search rules in
+    let front = ap (take len) c.as_bytes.ensures.value in
+    let near : IsNearest (take len iri) c.args.self.now None = subst (λ text. IsNearest text c.args.self.now None) front c.in_err-nearest.ensures in
+    none ∙ sym (nothing_fits iri c.args.self.now set len (subst (HasLengths set) c.self.view_is c.self.invariant.1.lengths) c.in_ok-len.ensures near)
 
-pub returns : goal.returns
-returns c =
+pub returns-then-common-text-clause-entry : goal.returns-then-common-text-clause-entry
+returns-then-common-text-clause-entry c =
+    let iri = c.args.iri.now in
     let set = c.self.inside.index.lengths in
-    record {
-      entry = sym (none_fits c.args.iri.now c.args.self.now set c.loop-len.end (subst (HasLengths set) c.self.view_is c.self.invariant.1.lengths) (search rules) c.loop-len.invariant.below);
-      table = subst IsPrefixTable c.self.view_is c.self.invariant.0;
-    }
+    let len = c.in_ok-len.len in
+    let e = c.in_ok-nearest.nearest.now in
+    let front = ap (take len) c.as_bytes.ensures.value in
+    let near : IsNearest (take len iri) c.args.self.now (Some e) = subst (λ text. IsNearest text c.args.self.now (Some e)) front c.in_ok-nearest.ensures in
+    let whole : common_prefix_len nat_eq e.iri (take len iri) ≡ length e.iri = cc in
+    sym (nearest_fits iri c.args.self.now set len (subst (HasLengths set) c.self.view_is c.self.invariant.1.lengths) c.in_ok-len.ensures e near whole)
+
+pub longest_fit_below-requires-2-clause-end : goal.longest_fit_below-requires-2-clause-end
+longest_fit_below-requires-2-clause-end c =
+    let iri = c.args.iri.now in
+    let len = c.in_ok-len.len in
+    let e = c.in_ok-nearest.nearest.now in
+    let below = c.in_ok-len.ensures.0 in
+    let front = ap (take len) c.as_bytes.ensures.value in
+    let common : common_prefix_len nat_eq e.iri (take len iri) ≡ c.common_front-common.result = cc in
+    omega (arith, common, common_within e.iri iri len (omega arith))
+
+pub overflow_add-common : goal.overflow_add-common
+overflow_add-common c =
+    let iri = c.args.iri.now in
+    let len = c.in_ok-len.len in
+    let e = c.in_ok-nearest.nearest.now in
+    let below = c.in_ok-len.ensures.0 in
+    let front = ap (take len) c.as_bytes.ensures.value in
+    let common : common_prefix_len nat_eq e.iri (take len iri) ≡ c.common_front-common.result = cc in
+    omega (arith, common, common_within e.iri iri len (omega arith))
+
+pub longest_fit_below-requires-2-clause-below : goal.longest_fit_below-requires-2-clause-below
+longest_fit_below-requires-2-clause-below c =
+    let iri = c.args.iri.now in
+    let set = c.self.inside.index.lengths in
+    let len = c.in_ok-len.len in
+    let e = c.in_ok-nearest.nearest.now in
+    let front = ap (take len) c.as_bytes.ensures.value in
+    let near : IsNearest (take len iri) c.args.self.now (Some e) = subst (λ text. IsNearest text c.args.self.now (Some e)) front c.in_ok-nearest.ensures in
+    let common : common_prefix_len nat_eq e.iri (take len iri) ≡ c.common_front-common.result = cc in
+    subst (λ n. FitsBelow iri c.args.self.now (n + 1)) common (fits_in_common iri c.args.self.now set len (subst (HasLengths set) c.self.view_is c.self.invariant.1.lengths) c.in_ok-len.ensures e near)
