@@ -1,5 +1,5 @@
 //! Whether a text is of plain bytes, of escapes and of the characters that a set has beyond ASCII.
-ghost use Rattle.std.specs.Prelude.{◌≡◌, ◌+◌, ◌<◌, ◌≤◌, true, length, encode_utf8};
+ghost use Rattle.std.specs.Prelude.{◌≡◌, ◌+◌, ◌%◌, ◌<◌, ◌≤◌, true, length, encode_utf8};
 ghost use Rattle.std.specs.Prelude.{IfSome, ◌∷◌, [], slice_index, nat_le, ◌==◌, ◌||◌};
 ghost use Rattle.iref_grammar.specs.Grammar.{percent_sign};
 ghost use Rattle.iref_parse.specs.Encoded.{are_encoded, is_plain_char, BeginsWide, StepsTo};
@@ -60,6 +60,41 @@ fn of_four(first: u8, second: u8, third: u8, fourth: u8) -> Option<u32>
     Some((high * 64 + low_bits(third)?) * 64 + low_bits(fourth)?)
 }
 
+// Whether the byte continues a character.
+#[inline(always)]
+fn continues(byte: u8) -> bool
+    ensures { result ≡ true → byte ≡ 128 + byte % 64 }
+{
+    byte / 64 == 2
+}
+
+// The character of two bytes, if they are one from U+00C0 on.
+#[inline(always)]
+fn of_common_two(first: u8, second: u8) -> Option<u32>
+    requires { first < 224 }
+    ensures { IfSome result (λ code. (128 ≤ code) × (encode_utf8 code ≡ first ∷ second ∷ [])) }
+{
+    if 195 <= first && continues(second) {
+        Some(u32::from(first - 192) * 64 + u32::from(second % 64))
+    } else {
+        None
+    }
+}
+
+// The character of three bytes, if they are one from U+1000 to U+CFFF.
+#[inline(always)]
+fn of_common_three(first: u8, second: u8, third: u8) -> Option<u32>
+    ensures { IfSome result (λ code. (128 ≤ code)
+        × (encode_utf8 code ≡ first ∷ second ∷ third ∷ [])) }
+{
+    if 225 <= first && first < 237 && continues(second) && continues(third) {
+        let high = u32::from(first - 224) * 64 + u32::from(second % 64);
+        Some(high * 64 + u32::from(third % 64))
+    } else {
+        None
+    }
+}
+
 // The code of the first character, which is beyond ASCII, and what follows it.
 #[inline(always)]
 fn split_wide(text: &[u8]) -> Option<(u32, &[u8])>
@@ -73,17 +108,45 @@ fn split_wide(text: &[u8]) -> Option<(u32, &[u8])>
     }
 }
 
-// What follows the first character, if the set has it beyond ASCII.
+// What follows the first character of a text, which is of this code, if the set has it.
 #[inline(always)]
-fn after_extra<C: CharSet>(text: &[u8]) -> Option<&[u8]>
+fn after_code<'a, C: CharSet>(text: &'a [u8], code: u32, rest: &'a [u8]) -> Option<&'a [u8]>
+    requires { BeginsWide code text.now rest.now }
     ensures { IfSome result (λ rest. StepsTo (is_plain_char C.tests) text.now rest.now) }
 {
-    let (code, rest) = split_wide(text)?;
     if C::is_extra(char::from_u32(code)?) {
         Some(rest)
     } else {
         None
     }
+}
+
+// What follows the first character, if it is of most scripts and the set has it. The set is asked in
+// each arm, where the compiler knows the range of the code.
+#[inline(always)]
+fn after_common<C: CharSet>(text: &[u8]) -> Option<&[u8]>
+    ensures { IfSome result (λ rest. StepsTo (is_plain_char C.tests) text.now rest.now) }
+{
+    match text {
+        [a, b, rest @ ..] if *a < 224 => after_code::<C>(text, of_common_two(*a, *b)?, rest),
+        [a, b, c, rest @ ..] if 224 <= *a => {
+            after_code::<C>(text, of_common_three(*a, *b, *c)?, rest)
+        }
+        _ => None,
+    }
+}
+
+// What follows the first character, if the set has it beyond ASCII.
+#[inline(always)]
+fn after_extra<C: CharSet>(text: &[u8]) -> Option<&[u8]>
+    ensures { IfSome result (λ rest. StepsTo (is_plain_char C.tests) text.now rest.now) }
+{
+    let common = after_common::<C>(text);
+    if common.is_some() {
+        return common;
+    }
+    let (code, rest) = split_wide(text)?;
+    after_code::<C>(text, code, rest)
 }
 
 // What follows the first three bytes, of which the first is `%`, if they are an escape.
