@@ -1,5 +1,5 @@
 -- Where the entries of a prefix table are.
-use Rattle.std.proofs.Common.{arith, ◌≡◌, ℕ, zero, suc, ◌<◌, Bool, true, false, [], ◌∷◌, ◌++◌, length, get_or, refl, sym, subst}
+use Rattle.std.proofs.Common.{arith, ◌≡◌, ℕ, zero, suc, ◌<◌, Bool, true, false, [], ◌∷◌, ◌++◌, length, get_or, refl, sym, ap, subst}
 use Rattle.std.specs.Prelude.{nat_lt, bytes_eq, slice_get, String, Option, Some, None, is_some, IfSome, if◌then◌else◌, string_bytes}
 use Rattle.std.specs.Option.{option_or, option_copied}
 use Rattle.std.specs.List.{AllByRecursion, find}
@@ -13,8 +13,7 @@ use Rattle.std.proofs.lemmas.Map.Text.{btree_map_updates_text}
 use Rattle.iref_grammar.specs.Rules.{Text}
 use Rattle.iref_mapping.specs.PrefixTable.{PrefixEntry, PrefixTable, has_label}
 use Rattle.iref.specs.declared.compact.index.Index.{Index}
-use Rattle.iref.specs.declared.compact.index.TheConstants.{LONGEST_SORTED}
-use Rattle.iref.specs.PrefixIndex.{has_text, IsNumber, IsIndexed, IsSorted, Gains, Stays, GainsLength, KeepsLengths}
+use Rattle.iref.specs.PrefixIndex.{has_text, IsNumber, IsIndexed, IsSorted, StaysSorted, Gains, Stays, GainsLength, KeepsLengths}
 use Rattle.std.specs.BTreeSet.{BTreeSet, contains}
 use Rattle.std.proofs.lemmas.List.{length_push}
 use Rattle.std.proofs.lemmas.List.Folds.{find-append}
@@ -63,6 +62,10 @@ got_at table i found h k = grind (arith, slice_get_past, slice_get-get_or)
 pub no_number : (test : PrefixEntry → Bool) (table : PrefixTable) (o : Option ℕ) → IsNumber test table o → o ≡ None → find test table ≡ None
 no_number test table o h e = grind arith
 
+pub found_by_number : (test : PrefixEntry → Bool) (table : PrefixTable) (o : Option ℕ) → IsNumber test table o → is_some (find test table) ≡ is_some o
+found_by_number test table None h = ap is_some h
+found_by_number test table (Some i) h = ap is_some h.2
+
 pub number_at : (test : PrefixEntry → Bool) (table : PrefixTable) (o : Option ℕ) (i : ℕ) → IsNumber test table o → o ≡ Some i → slice_get table i ≡ find test table
 number_at test table o i h e = grind arith
 
@@ -92,7 +95,7 @@ one_more_length set (x ∷ table) e has h = grind (arith, one_more_length set ta
 
 module _ (table : PrefixTable) (old new : Index) (h : IsIndexed table old) where
   pub index_next : (label iri : Text) → Gains old.labels new.labels label (length table) → Gains old.texts new.texts iri (length table) → GainsLength old.lengths new.lengths (length iri)
-      → (length table < LONGEST_SORTED → IsSorted (table ++ record { label = label; iri = iri } ∷ []) new.sorted.items) → IsIndexed (table ++ record { label = label; iri = iri } ∷ []) new
+      → StaysSorted table (record { label = label; iri = iri }) new.sorted.items → IsIndexed (table ++ record { label = label; iri = iri } ∷ []) new
   index_next label iri labels texts lengths sorted = let e : PrefixEntry = record { label = label; iri = iri } in record {
     labels = λ other. subst (IsNumber (has_label other) (table ++ e ∷ [])) (sym (labels other)) (number_next (has_label other) table e (get_by_text old.labels other) (h.labels other));
     texts = λ other. subst (IsNumber (has_text other) (table ++ e ∷ [])) (sym (texts other)) (number_next (has_text other) table e (get_by_text old.texts other) (h.texts other));

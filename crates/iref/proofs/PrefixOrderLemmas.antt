@@ -23,6 +23,12 @@ is_upto_total [] ys h = absurd (cc h)
 is_upto_total (x ∷ xs) [] h = refl
 is_upto_total (x ∷ xs) (y ∷ ys) h = grind (arith, nat_tests, is_upto_total xs ys)
 
+pub is_upto_antisym : (xs ys : Text) → is_upto xs ys ≡ true → is_upto ys xs ≡ true → xs ≡ ys
+is_upto_antisym [] [] h k = refl
+is_upto_antisym [] (y ∷ ys) h k = absurd (cc k)
+is_upto_antisym (x ∷ xs) [] h k = absurd (cc h)
+is_upto_antisym (x ∷ xs) (y ∷ ys) h k = grind (arith, nat_tests, is_upto_antisym xs ys)
+
 -- a text comes after its beginnings
 pub is_upto_begun : (front text : Text) → begins_with front text ≡ true → is_upto front text ≡ true
 is_upto_begun [] text h = refl

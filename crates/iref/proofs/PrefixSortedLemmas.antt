@@ -11,7 +11,7 @@ use Rattle.iref_grammar.specs.Rules.{Text}
 use Rattle.iref_mapping.specs.PrefixTable.{PrefixEntry, PrefixTable, fits}
 use Rattle.iref.specs.PrefixIndex.{has_text, is_upto, text_of, text_at, HasNumber, IsNumber, IsSorted, IsPlace}
 use Rattle.iref.proofs.PrefixIndexLemmas.{number_next, number_last}
-use Rattle.iref.proofs.PrefixOrderLemmas.{is_upto_itself, is_upto_trans, is_upto_total, is_upto_begun, begins_between}
+use Rattle.iref.proofs.PrefixOrderLemmas.{is_upto_itself, is_upto_trans, is_upto_total, is_upto_antisym, is_upto_begun, begins_between}
 
 -- ---- the search for a place
 
@@ -83,6 +83,44 @@ module _ (table : PrefixTable) (numbers : List ℕ) (text : Text) (place : ℕ) 
       let order : is_upto d.iri e.iri ≡ true = (λ i. is_upto (sym is i) (here i)) ∙ sorted.ascends k last (omega arith) (omega arith) in
       begins_between d.iri e.iri text fit order (ap (λ t. is_upto t text) here ∙ h.before last (omega arith))) table sorted.whole
 
+-- what holds of each text holds of one that is found
+holds_of_found : (P : Text → Type 0) (table : PrefixTable) (text : Text) (d : PrefixEntry) → AllByRecursion (λ (e : PrefixEntry). P e.iri) table → find (has_text text) table ≡ Some d → P text
+holds_of_found P [] text d all found = absurd (cc found)
+holds_of_found P (e ∷ table) text d all found = by (bytes_eq e.iri text) refl found (holds_of_found P table text d all.1)
+  where
+    by : (b : Bool) → bytes_eq e.iri text ≡ b → (if b then Some e else find (has_text text) table) ≡ Some d → (find (has_text text) table ≡ Some d → P text) → P text
+    by true is f rest = subst P ((bytes_decides e.iri text).0 is) all.0
+    by false is f rest = rest f
+
+-- a text that is found stands before its place
+module _ (table : PrefixTable) (numbers : List ℕ) (text : Text) (place : ℕ) (sorted : IsSorted table numbers) (h : IsPlace table numbers text place) where
+  number_before : HasNumber table numbers text → (0 < place) × ((last : ℕ) → last + 1 ≡ place → text_at table numbers last ≡ text)
+  number_before (k, l, is) =
+      let below : k < place = ⊎_elim (λ below. below) (λ above. absurd (both_ways (is_upto text text) (ap (λ t. is_upto t text) (sym is) ∙ h.behind k above l) (is_upto_itself text))) (cases_lt k place) in
+      let w = h.within in
+      (omega arith, λ last next. is_upto_antisym (text_at table numbers last) text (h.before last (omega arith)) (ap (λ t. is_upto t (text_at table numbers last)) (sym is) ∙ sorted.ascends k last (omega arith) (omega arith)))
+
+  found_before : (d : PrefixEntry) → find (has_text text) table ≡ Some d → (0 < place) × ((last : ℕ) → last + 1 ≡ place → text_at table numbers last ≡ text)
+  found_before d found = number_before (holds_of_found (HasNumber table numbers) table text d sorted.whole found)
+
+  pub none_before : place ≡ 0 → is_some (find (has_text text) table) ≡ false
+  none_before none = by (find (has_text text) table) refl
+    where
+      by : (o : Option PrefixEntry) → find (has_text text) table ≡ o → is_some o ≡ false
+      by None f = refl
+      by (Some d) f = let some = (found_before d f).0 in absurd (omega arith)
+
+  pub one_before : (last : ℕ) (e : PrefixEntry) → last + 1 ≡ place → e.iri ≡ text_at table numbers last → find (has_text e.iri) table ≡ Some e → bytes_eq e.iri text ≡ is_some (find (has_text text) table)
+  one_before last e next here first = by (bytes_eq e.iri text) refl
+    where
+      none : (o : Option PrefixEntry) → find (has_text text) table ≡ o → bytes_eq e.iri text ≡ false → false ≡ is_some o
+      none None f differs = refl
+      none (Some d) f differs = absurd (both_ways (bytes_eq e.iri text) differs ((bytes_decides e.iri text).1 (here ∙ (found_before d f).1 last next)))
+
+      by : (b : Bool) → bytes_eq e.iri text ≡ b → b ≡ is_some (find (has_text text) table)
+      by true is = sym (ap is_some (ap (λ t. find (has_text t) table) (sym ((bytes_decides e.iri text).0 is)) ∙ first))
+      by false differs = none (find (has_text text) table) refl differs
+
 -- ---- one more entry
 
 -- the numbers of a table are numbers of a longer one, with the same texts
@@ -95,15 +133,6 @@ number_stays table e n old new is h = subst (λ t. IsNumber (has_text t) (table 
 each-append : (P : PrefixEntry → Type 0) (table : PrefixTable) (e : PrefixEntry) → AllByRecursion P table → P e → AllByRecursion P (table ++ e ∷ [])
 each-append P [] e all last = (last, tt)
 each-append P (d ∷ table) e all last = (all.0, each-append P table e all.1 last)
-
--- what holds of each text holds of one that is found
-holds_of_found : (P : Text → Type 0) (table : PrefixTable) (text : Text) (d : PrefixEntry) → AllByRecursion (λ (e : PrefixEntry). P e.iri) table → find (has_text text) table ≡ Some d → P text
-holds_of_found P [] text d all found = absurd (cc found)
-holds_of_found P (e ∷ table) text d all found = by (bytes_eq e.iri text) refl found (holds_of_found P table text d all.1)
-  where
-    by : (b : Bool) → bytes_eq e.iri text ≡ b → (if b then Some e else find (has_text text) table) ≡ Some d → (find (has_text text) table ≡ Some d → P text) → P text
-    by true is f rest = subst P ((bytes_decides e.iri text).0 is) all.0
-    by false is f rest = rest f
 
 module _ (table : PrefixTable) (numbers : List ℕ) (e : PrefixEntry) (sorted : IsSorted table numbers) where
   stays_at : (k : ℕ) → k < length numbers → text_at (table ++ e ∷ []) numbers k ≡ text_at table numbers k

@@ -1,5 +1,5 @@
 -- Where the entries of a prefix table are.
-use Rattle.std.specs.Prelude.{◌≡◌, ℕ, ◌<◌, ◌≤◌, ◌==◌, Bool, true, false, List, [], ◌∷◌, length, nat_lt, slice_get, slice_index, slice_index_or, Option, Some, None, bytes_eq, String, if◌then◌else◌}
+use Rattle.std.specs.Prelude.{◌≡◌, ℕ, ◌<◌, ◌≤◌, ◌==◌, Bool, true, false, List, [], ◌∷◌, ◌++◌, length, nat_lt, slice_get, slice_index, slice_index_or, Option, Some, None, bytes_eq, String, if◌then◌else◌}
 use Rattle.std.specs.List.{AllByRecursion, find}
 use Rattle.std.specs.Option.{option_or}
 use Rattle.std.specs.Ordering.{nat_cmp}
@@ -43,6 +43,10 @@ pub record IsSorted (table : PrefixTable) (numbers : List ℕ) : Type 0 where
   pub ascends : (i j : ℕ) → i ≤ j → j < length numbers → is_upto (text_at table numbers i) (text_at table numbers j) ≡ true
   pub whole : AllByRecursion (λ (e : PrefixEntry). HasNumber table numbers e.iri) table
 
+-- the same of a table with one more entry, if it is not too long
+abbrev pub StaysSorted : PrefixTable → PrefixEntry → List ℕ → Type 0
+StaysSorted table e numbers = length table < LONGEST_SORTED → IsSorted (table ++ e ∷ []) numbers
+
 -- the numbers before the place, and no others, have texts up to this one
 pub record IsPlace (table : PrefixTable) (numbers : List ℕ) (text : Text) (place : ℕ) : Type 0 where
   pub within : place ≤ length numbers
@@ -66,6 +70,11 @@ pub record IsIndexed (table : PrefixTable) (index : Index) : Type 0 where
   pub texts : (text : Text) → IsNumber (has_text text) table (get_by_text index.texts text)
   pub lengths : AllByRecursion (λ (e : PrefixEntry). contains nat_cmp index.lengths (length e.iri) ≡ true) table
   pub sorted : length table ≤ LONGEST_SORTED → IsSorted table index.sorted.items
+
+-- the place of a text in the order of a table that may have one more entry in order
+pub record IsOrderedPlace (table : PrefixTable) (index : Index) (text : Text) (place : ℕ) : Type 0 where
+  pub room : length table < LONGEST_SORTED
+  pub stands : IsPlace table index.sorted.items text place
 
 -- no entry is found
 pub record IsEmptyIndex (index : Index) : Type 0 where

@@ -216,8 +216,8 @@ impl Prefixes {
 
     /// Adds a last entry. A label is an ASCII letter, then ASCII letters, digits, `-` and `_`; it
     /// differs from all labels that are there, by its text. The table keeps two copies of the
-    /// label, and a second one of the IRI if no entry has it yet. Up to 4,096 entries it also keeps
-    /// the order of the IRIs, for which it takes room for one number.
+    /// label, and a second one of the IRI if no entry has it yet, for which it also takes room for a
+    /// number up to 4,096 entries, whose order it keeps.
     ///
     /// # Errors
     ///

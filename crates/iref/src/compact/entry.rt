@@ -1,8 +1,9 @@
 //! An entry of a prefix table, and how one is added to the table and its index.
-ghost use Rattle.std.specs.Prelude.{◌≡◌, ◌++◌, [], ◌∷◌, true, IfOk, OnOk, OnErr};
-ghost use Rattle.std.specs.String.{string_bytes};
+ghost use Rattle.std.specs.Prelude.{◌≡◌, ◌++◌, [], ◌∷◌, true, None, IfOk, OnOk, OnErr};
+ghost use Rattle.std.specs.{List.{find}, String.{string_bytes}};
 ghost use Rattle.iref.specs.PrefixIndex.{IsIndexed};
 ghost use Rattle.iref_grammar.specs.{Characters.{iri_chars}, Reference.{is_uri}};
+ghost use Rattle.iref_mapping.specs.PrefixTable.{has_label};
 ghost use Rattle.iref_reference.specs.References.{reference_text};
 
 use super::index::Index;
@@ -69,6 +70,7 @@ pub(super) fn add(
     iri: &str,
 ) -> Result<(), Memory>
     requires iri { is_uri iri_chars iri.now ≡ true }
+    requires label { find (has_label label.now) entries.old.items ≡ None }
     requires indexed { IsIndexed entries.old.items index.old }
     ensures ok { OnOk result (entries.new.items
         ≡ entries.old.items ++ record { label = label.now; iri = iri.now } ∷ []) }

@@ -1,12 +1,15 @@
 //! Where the entries of a prefix table are: by their labels, by their IRIs, by the lengths of these,
 //! and in the order of these.
-ghost use Rattle.std.specs.Prelude.{◌≡◌, ◌<◌, ◌++◌, [], ◌∷◌, length, not, is_some, IfOk, OnOk, OnErr};
+ghost use Rattle.std.specs.Prelude.{◌≡◌, ◌≤◌, length, not, is_some, None, IfSome, OnOk, OnErr};
+ghost use Rattle.std.specs.Prelude.{◌&&◌, MatchOption, if◌then◌else◌};
+ghost use Rattle.std.specs.List.{find};
 ghost use Rattle.std.specs.BTreeMap.{get_by_text};
 ghost use Rattle.iref.specs.PrefixIndex.{IsEmptyIndex, Gains, Stays, GainsLength, KeepsLengths};
-ghost use Rattle.iref.specs.PrefixIndex.{IsIndexed, IsLengthBelow, IsSorted};
+ghost use Rattle.iref.specs.PrefixIndex.{IsIndexed, IsLengthBelow, IsOrderedPlace, StaysSorted};
+ghost use Rattle.iref_mapping.specs.PrefixTable.{has_label};
 
 use super::entry::Entry;
-use super::sorted::add_number;
+use super::sorted::{add_number, place_of, stands_before};
 use iref_error::Memory;
 use std::alloc::Global;
 use std::collections::{BTreeMap, BTreeSet};
@@ -75,6 +78,31 @@ impl Index {
         self.sorted.as_slice()
     }
 
+    // The place of a text in the order of the texts, if one more is kept in order.
+    fn place_of(&self, entries: &[Entry], text: &str) -> Option<usize>
+        requires { IsIndexed entries.now self.now }
+        ensures { MatchOption result (LONGEST_SORTED ≤ length entries.now)
+            (IsOrderedPlace entries.now self.now text.now) }
+    {
+        if entries.len() < LONGEST_SORTED {
+            Some(place_of(entries, &self.sorted, text.as_bytes()))
+        } else {
+            None
+        }
+    }
+
+    // Whether no entry has the text, whose place this is.
+    fn is_new(&self, entries: &[Entry], text: &str, place: Option<usize>) -> bool
+        requires index { IsIndexed entries.now self.now }
+        requires place { IfSome place (IsOrderedPlace entries.now self.now text.now) }
+        ensures { result ≡ not (is_some (get_by_text self.now.texts text.now)) }
+    {
+        match place {
+            Some(place) => !stands_before(entries, &self.sorted, text.as_bytes(), place),
+            None => self.number_of_text(text).is_none(),
+        }
+    }
+
     // Adds an entry behind the others.
     pub(super) fn add(
         &mut self,
@@ -83,49 +111,62 @@ impl Index {
         label: &str,
         text: &str,
     ) -> Result<(), Memory>
-        requires { IsIndexed entries.now self.old }
+        requires index { IsIndexed entries.now self.old }
+        requires label { find (has_label label.now) entries.now ≡ None }
         ensures labels { OnOk result
             (Gains self.old.labels self.new.labels label.now (length entries.now)) }
         ensures texts { OnOk result
             (Gains self.old.texts self.new.texts text.now (length entries.now)) }
         ensures lengths { OnOk result
             (GainsLength self.old.lengths self.new.lengths (length text.now)) }
-        ensures sorted { OnOk result (length entries.now < LONGEST_SORTED → IsSorted
-            (entries.now ++ record { label = label.now; iri = text.now } ∷ [])
-            self.new.sorted.items) }
+        ensures sorted { OnOk result (StaysSorted entries.now
+            (record { label = label.now; iri = text.now }) self.new.sorted.items) }
         ensures labels_stay { OnErr result (Stays self.old.labels self.new.labels) }
         ensures texts_stay { OnErr result (Stays self.old.texts self.new.texts) }
         ensures lengths_stay { OnErr result (KeepsLengths self.old.lengths self.new.lengths) }
         ensures sorted_stays { OnErr result (self.new.sorted.items ≡ self.old.sorted.items) }
     {
         let at = entries.len();
-        let is_sorted = at < LONGEST_SORTED;
-        self.sorted.reserve(usize::from(is_sorted))?;
+        let place = self.place_of(entries, text);
+        let is_new = self.is_new(entries, text, place);
+        self.sorted.reserve(added_numbers(is_new, place))?;
         self.lengths.insert(text.len())?;
-        let is_new = add_first(alloc, &mut self.texts, text, at)?;
-        if let Err(error) = add_first(alloc, &mut self.labels, label, at) {
+        add_first(alloc, &mut self.texts, text, is_new, at)?;
+        if let Err(error) = add_first(alloc, &mut self.labels, label, true, at) {
             if is_new {
                 self.texts.remove(text);
             }
             return Err(error);
         }
-        if is_new && is_sorted {
-            add_number(&mut self.sorted, entries, text.as_bytes());
+        if is_new && let Some(place) = place {
+            add_number(&mut self.sorted, entries, text.as_bytes(), place);
         }
         Ok(())
     }
 }
 
-// Adds a number under a text that has none, and returns whether it had none.
-fn add_first(alloc: Global, indices: &mut Indices, text: &str, at: usize) -> Result<bool, Memory>
+// How many numbers are added to those in order.
+fn added_numbers(is_new: bool, place: Option<usize>) -> usize
+    ensures { result ≡ (if is_new && is_some place then 1 else 0) }
+{
+    usize::from(is_new && place.is_some())
+}
+
+// Adds a number under a text, if the text is new.
+fn add_first(
+    alloc: Global,
+    indices: &mut Indices,
+    text: &str,
+    is_new: bool,
+    at: usize,
+) -> Result<(), Memory>
+    requires { is_new ≡ not (is_some (get_by_text indices.old text.now)) }
     ensures ok { OnOk result (Gains indices.old indices.new text.now at) }
-    ensures new { IfOk result (λ is_new. is_new ≡ not (is_some (get_by_text indices.old text.now))) }
     ensures err { OnErr result (Stays indices.old indices.new) }
 {
-    if indices.contains_key(text) {
-        return Ok(false);
+    if is_new {
+        let key = String::from_str(alloc, text)?;
+        indices.insert(key, at)?;
     }
-    let key = String::from_str(alloc, text)?;
-    indices.insert(key, at)?;
-    Ok(true)
+    Ok(())
 }

@@ -1,5 +1,5 @@
 //! Numbers of entries in the order of the entries' texts.
-ghost use Rattle.std.specs.Prelude.{◌≡◌, ◌<◌, ◌++◌, [], ◌∷◌, length, Some, None};
+ghost use Rattle.std.specs.Prelude.{◌≡◌, ◌<◌, ◌++◌, [], ◌∷◌, length, is_some, Some, None};
 ghost use Rattle.std.specs.{List.{find}, Option.{option_copied}, Vec.{vec_len, vec_capacity}};
 ghost use Rattle.iref_grammar.specs.Rules.{Text};
 ghost use Rattle.iref.specs.PrefixIndex.{has_text, text_at, IsSorted, IsPlace, IsNearest};
@@ -49,14 +49,23 @@ pub(super) fn nearest<'a>(entries: &'a [Entry], sorted: &[usize], text: &[u8]) -
     Some(entry_at(entries, sorted, place - 1))
 }
 
-// Adds the number of the next entry, whose text is new.
-pub(super) fn add_number(sorted: &mut Vec<usize>, entries: &[Entry], text: &[u8])
+// Whether the text is that of the number before its place.
+pub(super) fn stands_before(entries: &[Entry], sorted: &[usize], text: &[u8], place: usize) -> bool
+    requires sorted { IsSorted entries.now sorted.now }
+    requires place { IsPlace entries.now sorted.now text.now place }
+    ensures { result ≡ is_some (find (has_text text.now) entries.now) }
+{
+    place > 0 && entry_at(entries, sorted, place - 1).text().as_bytes() == text
+}
+
+// Adds the number of the next entry, whose text is new, at its place.
+pub(super) fn add_number(sorted: &mut Vec<usize>, entries: &[Entry], text: &[u8], place: usize)
     requires room { vec_len sorted.old < vec_capacity sorted.old }
     requires sorted { IsSorted entries.now sorted.old.items }
+    requires place { IsPlace entries.now sorted.old.items text.now place }
     requires new { find (has_text text.now) entries.now ≡ None }
     ensures { (label : Text) → IsSorted
         (entries.now ++ record { label = label; iri = text.now } ∷ []) sorted.new.items }
 {
-    let place = place_of(entries, sorted, text);
     sorted.insert(place, entries.len()).unwrap();
 }

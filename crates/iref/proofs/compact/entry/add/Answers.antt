@@ -1,6 +1,5 @@
-use Rattle.std.proofs.Common.{rules, ◌≡◌, ◌<◌, ◌∙◌, length, ap, subst, sym, ◌++◌, [], ◌∷◌}
-use Rattle.iref.specs.PrefixIndex.{IsIndexed, IsSorted, Gains}
-use Rattle.iref.specs.declared.compact.index.TheConstants.{LONGEST_SORTED}
+use Rattle.std.proofs.Common.{rules, ◌≡◌, ◌∙◌, length, ap, subst, sym, ◌++◌, [], ◌∷◌}
+use Rattle.iref.specs.PrefixIndex.{IsIndexed, StaysSorted, Gains}
 use Rattle.iref.proofs.PrefixIndexLemmas.{index_next, index_stays}
 use Rattle.iref.proofs.compact.entry.add.Goals as goal
 
@@ -18,4 +17,4 @@ returns-clause-indexed c =
     let texts : Gains c.args.index.now.texts c.add.new.self.texts c.args.iri.now (length c.args.entries.now.items) = subst (Gains c.args.index.now.texts c.add.new.self.texts c.args.iri.now) size c.in_ok-add.ensures.texts in
     subst (λ table. IsIndexed table c.add.new.self) (sym same)
     (index_next c.args.entries.now.items c.args.index.now c.add.new.self c.requires.indexed c.args.label.now c.args.iri.now labels texts c.in_ok-add.ensures.lengths
-    (subst (λ table. length table < LONGEST_SORTED → IsSorted (table ++ record { label = c.args.label.now; iri = c.args.iri.now } ∷ []) c.add.new.self.sorted.items) all c.in_ok-add.ensures.sorted))
+    (subst (λ table. StaysSorted table (record { label = c.args.label.now; iri = c.args.iri.now }) c.add.new.self.sorted.items) all c.in_ok-add.ensures.sorted))
