@@ -3,7 +3,6 @@ pub mod ComponentRuleLemmas
 pub mod EditLemmas
 pub mod EditListLemmas
 pub mod PortTextLemmas
-pub mod PrefixCommonLemmas
 pub mod PrefixIndexLemmas
 pub mod PrefixOrderLemmas
 pub mod PrefixSearchLemmas

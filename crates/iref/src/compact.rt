@@ -16,11 +16,11 @@ mod sorted;
 mod text;
 
 use crate::iri::{Iri, IriBuf};
-use common::common_front;
 use entry::{Entry, add};
 use index::{Index, LONGEST_SORTED};
 use iref_error::Memory;
 use iref_parse::cut::cut;
+use iref_parse::front::common_front;
 use sorted::nearest;
 use std::alloc::Global;
 use std::marker::Model;
