@@ -31,7 +31,7 @@ use Rattle.iref_path_text.proofs.SlashLemmas.{read-absolute}
 use Rattle.iref_path_text.proofs.SpellLemmas.{length-joined, normalized-spelled}
 
 -- a segment that begins with no dot is a name
-dotless_name : (s : Text) → begins_with_dot s ≡ false → is_name s ≡ true
+pub dotless_name : (s : Text) → begins_with_dot s ≡ false → is_name s ≡ true
 dotless_name s h = grind (arith, bytes_eq-Decides)
 
 none_open : (list : List Text) → is_some_dotted list ≡ false → open_before list 0 ≡ 0

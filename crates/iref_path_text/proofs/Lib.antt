@@ -8,6 +8,7 @@ pub mod StepTextLemmas
 pub mod StepValueLemmas
 pub mod DirectoryLemmas
 pub mod FrontOrderLemmas
+pub mod NamedLemmas
 pub mod GuardTextLemmas
 pub mod PopTextLemmas
 pub mod MergedLemmas

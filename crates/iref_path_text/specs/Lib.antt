@@ -15,6 +15,7 @@ pub use Rattle.iref_path_text.specs.Pieces.{pieces_if_some, text_at, value_at}
 pub use Rattle.iref_path_text.specs.Remaining.{decoded_left, first_or, IsFate, IsSound, KeepsEnds, names_left, normal_left, open_at_start, to_read}
 pub use Rattle.iref_path_text.specs.Spelling.{each_closed}
 pub use Rattle.iref_path_text.specs.Unread.{all_items_unread, AreCounted, HasRoomFor, HaveRoom, IsAnswer, IsCountable, IsWhole, items_unread, path_unread, steps_count, steps_taken}
+pub mod Named
 pub mod Pieces
 pub mod Spelling
 pub mod Unread

@@ -1,18 +1,21 @@
 //! Order and hash of paths, by their keys. Where no segment begins with a dot, the segments are the
-//! normal list; else both normal lists are read from the back. Both take no memory.
+//! normal list, and where none is `..`, they are it but for each `.`; else both normal lists are
+//! read from the back. Both take no memory.
 
-ghost use Rattle.std.specs.{Cmp.Lexicographic.{slice_cmp}, Prelude.{◌≡◌, fold, map}};
+ghost use Rattle.std.specs.{Cmp.Lexicographic.{slice_cmp}, Prelude.{◌≡◌, ◌∷◌, ◌<◌, Bool, true}};
+ghost use Rattle.std.specs.Prelude.{fold, length, map};
 ghost use Rattle.percent_encoding.specs.Percent.{percent_decode};
-ghost use Rattle.iref_grammar.specs.{read_path, text_order};
+ghost use Rattle.iref_grammar.specs.{read_path, slash, text_order, Texts.{pieces_at}};
 ghost use Rattle.iref_model.specs.{normal_segments, path_key, path_key_cmp, fed_from_the_back};
 ghost use Rattle.iref_model.specs.{fed_path};
-ghost use Rattle.iref_parse.specs.Dots.{is_some_dotted};
-ghost use Rattle.iref_path_text.specs.Pieces.{pieces_if_some};
+ghost use Rattle.iref_parse.specs.Dots.{begins_with_dot, is_some_dotted};
+ghost use Rattle.iref_path_text.specs.{Named.{has_dot_pair, named}, Pieces.{pieces_if_some}};
 ghost use Rattle.iref_path_text.specs.Remaining.{IsSound, decoded_left};
 
 use crate::common::{compare_lists, items_cmp};
 use crate::remaining::Remaining;
 use crate::segments::{behind_directory, first_segment, last_segment, split_root};
+use iref_parse::cut::cut_bytes;
 use iref_parse::decoded::hash_decoded;
 use iref_parse::dots::has_dots;
 use std::cmp::Ordering;
@@ -25,17 +28,37 @@ pub(crate) fn is_absolute(path: &str) -> bool
     split_root(path).0
 }
 
-// The order of two lists of segments: the first difference decides, and then the shorter is less.
-fn compare_segments(mut left: Option<&str>, mut right: Option<&str>) -> Ordering
-    ensures { result ≡ slice_cmp text_order (map percent_decode (pieces_if_some left.entry))
-        (map percent_decode (pieces_if_some right.entry)) }
+// The first item of segments among which no `..` is, and the text of the segments behind it.
+fn first_name(text: &str) -> (&str, Option<&str>)
+    ensures items { named (pieces_at slash text.now)
+        ≡ result.0.now ∷ named (pieces_if_some result.1) }
+    ensures fewer { length (pieces_if_some result.1) < length (pieces_at slash text.now) }
+{
+    let mut left = text;
+    loop {
+        let (segment, rest) = first_segment(left);
+        if segment != "." {
+            return (segment, rest);
+        }
+        let Some(others) = rest else {
+            return ("", None);
+        };
+        left = others;
+    }
+}
+
+// The order of two lists of segments among which no `..` is: the first difference decides, and then
+// the shorter is less.
+fn compare_names(mut left: Option<&str>, mut right: Option<&str>) -> Ordering
+    ensures { result ≡ slice_cmp text_order (map percent_decode (named (pieces_if_some left.entry)))
+        (map percent_decode (named (pieces_if_some right.entry))) }
 {
     while let Some(text) = left {
         let Some(other_text) = right else {
             return Ordering::Greater;
         };
-        let (name, names) = first_segment(text);
-        let (other, others) = first_segment(other_text);
+        let (name, names) = first_name(text);
+        let (other, others) = first_name(other_text);
         let order = items_cmp(name, other);
         if order.is_ne() {
             return order;
@@ -48,6 +71,45 @@ fn compare_segments(mut left: Option<&str>, mut right: Option<&str>) -> Ordering
     } else {
         Ordering::Less
     }
+}
+
+// Whether the text begins with a dot.
+fn begins_with_dot(text: &[u8]) -> bool
+    ensures { result ≡ begins_with_dot text.now }
+{
+    match text {
+        [first, ..] => *first == b'.',
+        [] => false,
+    }
+}
+
+// Whether two dots stand side by side.
+fn has_dot_pair(text: &[u8]) -> bool
+    ensures { result ≡ has_dot_pair text.now }
+{
+    let mut rest = text;
+    while let (_, Some(behind)) = cut_bytes(rest, b'.') {
+        if begins_with_dot(behind) {
+            return true;
+        }
+        rest = behind;
+    }
+    false
+}
+
+// Whether the segments are found to be the normal list but for each `.`: none begins with a dot, or
+// the first is a name that is not empty, and none is `..`.
+fn are_named(text: &str) -> bool
+    ensures { result ≡ true → (absolute : Bool) → normal_segments (record {
+      absolute = absolute;
+      segments = pieces_at slash text.now;
+    }) ≡ named (pieces_at slash text.now) }
+{
+    let bytes = text.as_bytes();
+    if bytes.is_empty() || bytes[0] == b'/' {
+        return false;
+    }
+    !has_dots(bytes) || (bytes[0] != b'.' && !has_dot_pair(bytes))
 }
 
 // The order of the normal lists of two paths.
@@ -71,9 +133,9 @@ pub fn path_texts_cmp(a: &str, b: &str) -> Ordering
         return flags;
     }
     if let (Some(left), Some(right)) = (split_root(a).1, split_root(b).1) {
-        if !(has_dots(left.as_bytes()) | has_dots(right.as_bytes())) {
+        if are_named(left) && are_named(right) {
             let (left, right) = behind_directory(left, right);
-            return compare_segments(Some(left), Some(right));
+            return compare_names(Some(left), Some(right));
         }
     }
     compare_normal(a, b)
