@@ -81,14 +81,15 @@ fn of_common_two(first: u8, second: u8) -> Option<u32>
     }
 }
 
-// The character of three bytes, if they are one from U+1000 to U+CFFF.
+// The character of three bytes, if they are one from U+0800 to U+CFFF.
 #[inline(always)]
 fn of_common_three(first: u8, second: u8, third: u8) -> Option<u32>
+    requires { 224 ≤ first }
     ensures { IfSome result (λ code. (128 ≤ code)
         × (encode_utf8 code ≡ first ∷ second ∷ third ∷ [])) }
 {
-    if 225 <= first && first < 237 && continues(second) && continues(third) {
-        let high = u32::from(first - 224) * 64 + u32::from(second % 64);
+    let high = u32::from(first - 224) * 64 + u32::from(second % 64);
+    if 0x800 / 64 <= high && high < 0xD000 / 64 && continues(second) && continues(third) {
         Some(high * 64 + u32::from(third % 64))
     } else {
         None
@@ -121,8 +122,9 @@ fn after_code<'a, C: CharSet>(text: &'a [u8], code: u32, rest: &'a [u8]) -> Opti
     }
 }
 
-// What follows the first character, if it is of most scripts and the set has it. The set is asked in
-// each arm, where the compiler knows the range of the code.
+// What follows the first character, if the set has it and it is one of two bytes from U+00C0 on, or
+// of three from U+0800 to U+CFFF. The set is asked in each arm, where the compiler knows the range
+// of the code.
 #[inline(always)]
 fn after_common<C: CharSet>(text: &[u8]) -> Option<&[u8]>
     ensures { IfSome result (λ rest. StepsTo (is_plain_char C.tests) text.now rest.now) }
