@@ -118,11 +118,33 @@ pub fn split_root(path: &str) -> (bool, Option<&str>)
     }
 }
 
-/// How many `/` the text has.
+// How many `/` a part has. So small a count is kept in a byte, so that one instruction counts in 16
+// bytes.
+fn count_in_part(part: &[u8]) -> u8
+    requires { length part.now ≤ 255 }
+    ensures { result ≡ count_by (λ c. c == slash) part.now }
+{
+    let mut count = 0;
+    for byte in part {
+        count += u8::from(*byte == b'/');
+    }
+    count
+}
+
+/// How many `/` the text has. A part of 240 bytes is of whole pieces of 16; a text of few bytes is
+/// one part.
 pub(crate) fn slash_count(text: &str) -> usize
     ensures { result ≡ count_by (λ c. c == slash) text.now }
 {
-    text.bytes().filter(|c| *c == b'/').count()
+    let bytes = text.as_bytes();
+    if bytes.len() < 8 {
+        return usize::from(count_in_part(bytes));
+    }
+    let mut count = 0;
+    for part in bytes.chunks(240) {
+        count += usize::from(count_in_part(part));
+    }
+    count
 }
 
 /// How many segments the text has.
