@@ -12,8 +12,6 @@ use Rattle.iref_model.specs.PathSuffix.{same_decoded}
 use Rattle.iref_model.specs.Relative.{steps_between}
 use Rattle.iref_model.proofs.LeadingLemmas.{divided_last}
 use Rattle.iref_model.proofs.PieceLemmas.{some_piece}
-use Rattle.std.proofs.lemmas.Slice.Eq.{bytes_eq-Decides}
-use Rattle.iref_path_text.specs.Pieces.{ShareFront}
 use Rattle.iref_path_text.specs.Bodies.{parents_then}
 use Rattle.iref_path_text.specs.Spelling.{each_closed}
 use Rattle.iref_path_text.specs.Ways.{text_steps}
@@ -44,34 +42,6 @@ module _ (base path : Text) where
     -- they do not
     pub apart-first : same_decoded s t ≡ false → climbed
     apart-first other = grind (arith, some_piece slash below, some_piece slash rest, apart_by)
-
--- ---- equal beginnings do not count
-
-own_name : (s : Text) → same_decoded s s ≡ true
-own_name s = grind (arith, bytes_eq-Decides)
-
--- a list with an item has a last one
-more_than_one : (s t : Text) (front ts : List Text) → (p : Text) × (ps : List Text) × (front ++ t ∷ ts ≡ p ∷ ps)
-more_than_one s t [] ts = (t, ts, refl)
-more_than_one s t (u ∷ front) ts = (u, front ++ t ∷ ts, refl)
-
-steps-front : (front : List Text) (s t : Text) (ss ts : List Text) → steps_between (all_but_last (front ++ s ∷ ss)) (front ++ t ∷ ts) ≡ steps_between (all_but_last (s ∷ ss)) (t ∷ ts)
-steps-front [] s t ss ts = refl
-steps-front (u ∷ front) s t ss ts =
-    let some = more_than_one u s front ss in
-    let other = more_than_one u t front ts in
-    let inner = all_but_last (front ++ s ∷ ss) in
-    let one : all_but_last (u ∷ (front ++ s ∷ ss)) ≡ u ∷ inner = grind arith in
-    let step = steps-behind u u other.0 inner other.1 (own_name u) in
-    grind (arith, steps-front front s t ss ts)
-
-pub shared-steps : (base path below rest : Text) → ShareFront (pieces_at slash base) (pieces_at slash path) (pieces_at slash below) (pieces_at slash rest) → text_steps below rest ≡ text_steps base path
-shared-steps base path below rest h =
-    let some = some_piece slash below in
-    let other = some_piece slash rest in
-    let first = h.first in
-    let second = h.second in
-    grind (arith, steps-front h.front some.0 other.0 some.1 other.1)
 
 -- what follows the first segment is shorter
 pub shorter : (text s rest : Text) → pieces_at slash text ≡ s ∷ pieces_at slash rest → length rest < length text

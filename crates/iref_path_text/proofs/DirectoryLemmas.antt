@@ -1,5 +1,5 @@
 -- The directories that two texts begin with.
-use Rattle.std.proofs.Common.{◌≡◌, ℕ, zero, suc, ◌+◌, ◌<◌, ◌≤◌, List, [], ◌∷◌, ◌++◌, length, take, drop, get_or, get_or-take, add-one, ap, subst, drop-cons, length-drop, refl, sym, ◌∙◌, arith}
+use Rattle.std.proofs.Common.{◌≡◌, ℕ, zero, suc, ◌+◌, ◌<◌, ◌≤◌, List, [], ◌∷◌, ◌++◌, length, take, drop, get_or, get_or-take, add-one, ap, subst, drop-cons, refl, sym, ◌∙◌, arith}
 use Rattle.std.proofs.lemmas.Bool.Decides.{nat_tests}
 use Rattle.std.proofs.lemmas.List.{length-take-le, take-append-drop}
 use Rattle.std.proofs.lemmas.List.Sums.{common_prefix_len-le}
@@ -24,9 +24,6 @@ around text at h e = grind (arith, take-append-drop, drop-cons text at 0, add-on
 
 around_pieces : (text : Text) (at : ℕ) → at < length text → get_or text at 0 ≡ slash → pieces_at slash text ≡ pieces_at slash (take at text) ++ pieces_at slash (drop (at + 1) text)
 around_pieces text at h e = ap (pieces_at slash) (around text at h e) ∙ pieces-append slash (take at text) (drop (at + 1) text)
-
-pub no_longer : (text : Text) (n : ℕ) → length (drop n text) ≤ length text
-no_longer text n = omega (arith, length-drop n text)
 
 pub no_front : (xs ys : List Text) → ShareFront xs ys xs ys
 no_front xs ys = record { front = []; first = refl; second = refl }

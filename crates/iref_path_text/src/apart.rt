@@ -8,7 +8,7 @@ ghost use Rattle.iref_path_text.specs.{Remaining.{first_or}, Ways.{text_steps}};
 ghost use Rattle.std.specs.Prelude.{◌≡◌, ◌<◌, ◌≤◌, ◌++◌, IfNone, IfSome, [], codes, length};
 ghost use Rattle.std.specs.Prelude.{replicate};
 
-use crate::segments::{behind_directory, first_segment, slash_count};
+use crate::segments::{first_segment, slash_count};
 use iref_parse::decoded::decoded_eq;
 use iref_parse::dots::has_dots;
 
@@ -38,9 +38,9 @@ fn behind_first<'a>(base: &'a str, path: &'a str) -> Option<(&'a str, &'a str)>
     }
 }
 
-// The steps from the directory of `base` to `path`, segment by segment: how many `..`, and the text
-// of the segments after them.
-fn steps_by_segments<'a>(mut base: &'a str, mut path: &'a str) -> (usize, &'a str)
+/// The steps from the directory of `base` to `path`: how many `..`, and the text of the segments
+/// after them. From `a/b/c` to `a/d` they are one `..` and `d`.
+pub(crate) fn steps_apart<'a>(mut base: &'a str, mut path: &'a str) -> (usize, &'a str)
     ensures steps { text_steps base.entry.now path.entry.now
         ≡ replicate result.0 (codes "..") ++ pieces_at slash result.1.now }
     ensures up { result.0 ≤ length base.entry.now }
@@ -51,18 +51,6 @@ fn steps_by_segments<'a>(mut base: &'a str, mut path: &'a str) -> (usize, &'a st
         path = rest;
     }
     (slash_count(base), path)
-}
-
-/// The steps from the directory of `base` to `path`: how many `..`, and the text of the segments
-/// after them. From `a/b/c` to `a/d` they are one `..` and `d`.
-pub(crate) fn steps_apart<'a>(base: &'a str, path: &'a str) -> (usize, &'a str)
-    ensures steps { text_steps base.now path.now
-        ≡ replicate result.0 (codes "..") ++ pieces_at slash result.1.now }
-    ensures up { result.0 ≤ length base.now }
-    ensures down { length result.1.now ≤ length path.now }
-{
-    let (base, path) = behind_directory(base, path);
-    steps_by_segments(base, path)
 }
 
 /// The first of a number of `..` and the segments of a text.
