@@ -1,44 +1,50 @@
 -- The first bytes of two texts that are the same and are kept where escapes are decoded.
-use Rattle.std.proofs.Common.{◌≡◌, ◌≢◌, ℕ, ◌+◌, ◌-◌, ◌<◌, ◌≤◌, List, cond, eqb, length, length-take-le, min, get_or, take, bit_or, sym, ap, ◌∙◌, arith}
+use Rattle.std.proofs.Common.{◌≡◌, ◌≢◌, ℕ, zero, suc, ◌<◌, List, [], ◌∷◌, true, false, eqb, length, length-take-le, get_or, not, take, sym, ap, ◌∙◌, ⊎_elim, arith}
+use Rattle.std.specs.Char.{char_set_contains}
+use Rattle.std.specs.List.{common_prefix_len, position_or_len}
+use Rattle.std.proofs.lemmas.Bool.{cases_lt}
 use Rattle.std.proofs.lemmas.Bool.Decides.{nat_tests}
 use Rattle.std.proofs.lemmas.List.{get_or-take}
-use Rattle.iref_parse.specs.Kept.{IsFirstMarked, IsKeptFront, kept_mark}
-use Rattle.iref_parse.proofs.PositionLemmas.{ends, low_end, high_end}
+use Rattle.std.proofs.lemmas.List.Sums.{common_prefix_len-le, fails_before_first, prefix_len-le-length, prefix_len_stops}
+use Rattle.iref_parse.specs.Kept.{IsKeptFront}
 
--- the mark of two bytes
-abbrev mark_of : ℕ → ℕ → ℕ
-mark_of x y = bit_or (cond (eqb x y) 0 255) (cond (eqb x 37) 255 0)
+-- what both have in front is the same
+common_same : (xs ys : List ℕ) (k : ℕ) → k < common_prefix_len eqb xs ys → get_or xs k 0 ≡ get_or ys k 0
+common_same [] ys k l = absurd (omega arith)
+common_same (x ∷ xs) [] k l = absurd (omega arith)
+common_same (x ∷ xs) (y ∷ ys) zero l = grind (arith, nat_tests)
+common_same (x ∷ xs) (y ∷ ys) (suc k) l = grind (arith, nat_tests, common_same xs ys k)
 
-same_if_clear : (x y : ℕ) → mark_of x y ≡ 0 → x ≡ y
-same_if_clear x y e = grind (arith, nat_tests)
+-- and what follows it differs
+common_ends : (xs ys : List ℕ) → let n = common_prefix_len eqb xs ys in n < length xs → n < length ys → get_or xs n 0 ≢ get_or ys n 0
+common_ends [] ys l m e = absurd (omega arith)
+common_ends (x ∷ xs) [] l m e = absurd (omega arith)
+common_ends (x ∷ xs) (y ∷ ys) l m e = grind (arith, nat_tests, common_ends xs ys)
 
-kept_if_clear : (x y : ℕ) → mark_of x y ≡ 0 → x ≢ 37
-kept_if_clear x y e p = grind (arith, nat_tests)
+is_percent : (x : ℕ) → char_set_contains (37 ∷ []) x ≡ true → x ≡ 37
+is_percent x e = grind (arith, nat_tests)
 
-percent_if_marked : (x y : ℕ) → mark_of x y ≢ 0 → x ≡ y → x ≡ 37
-percent_if_marked x y ne e = grind (arith, nat_tests)
+is_kept : (x : ℕ) → char_set_contains (37 ∷ []) x ≡ false → x ≢ 37
+is_kept x e p = grind (arith, nat_tests)
 
--- the ends of both texts have the marks of the texts
-module _ (a b : List ℕ) (least : 8 ≤ length a) (same : length a ≡ length b) where
-  pub mark_at_low_end : (k : ℕ) → k < 8 → kept_mark a b k ≡ kept_mark (ends a) (ends b) k
-  mark_at_low_end k l = λ i. mark_of (low_end a least k l i) (low_end b (omega arith) k l i)
+stops_at_percent : (text : List ℕ) → let at = position_or_len (char_set_contains (37 ∷ [])) text in at < length text → get_or text at 0 ≡ 37
+stops_at_percent text l =
+    let stops = prefix_len_stops (λ x. not (char_set_contains (37 ∷ []) x)) text 0 l in
+    is_percent _ (grind (arith, stops))
 
-  pub mark_at_high_end : (k : ℕ) → length a ≤ k + 8 → kept_mark a b k ≡ kept_mark (ends a) (ends b) (k + 16 - length a)
-  mark_at_high_end k l =
-      let lane : k + 16 - length b ≡ k + 16 - length a = omega arith in
-      (λ i. mark_of (high_end a least k l i) (high_end b (omega arith) k (omega arith) i)) ∙ ap (λ j. mark_of (get_or (ends a) (k + 16 - length a) 0) (get_or (ends b) j 0)) lane
-
--- what both have in front, if they are cut to the shorter of them
-pub IsKeptFront-from_first : (a b : List ℕ) (n r : ℕ) → n ≡ min (length a) (length b) → IsFirstMarked (kept_mark (take n a) (take n b)) (length (take n a)) r → IsKeptFront a b r
-IsKeptFront-from_first a b n r shorter h =
-    let within = h.within in
-    let long = length-take-le n a (omega arith) in
-    let cut : (k : ℕ) → k < n → kept_mark (take n a) (take n b) k ≡ kept_mark a b k =
-    λ k l. λ i. mark_of (get_or-take n a k 0 l i) (get_or-take n b k 0 l i) in
+-- what both have in front is kept up to its first `%`
+pub IsKeptFront-to_percent : (a b : List ℕ) (n r : ℕ) → n ≡ common_prefix_len eqb a b → r ≡ position_or_len (char_set_contains (37 ∷ [])) (take n a) → IsKeptFront a b r
+IsKeptFront-to_percent a b n r common first =
+    let within = common_prefix_len-le eqb a b in
+    let long = length-take-le n a (omega (arith, within.0)) in
+    let before = prefix_len-le-length (λ x. not (char_set_contains (37 ∷ []) x)) (take n a) in
     record {
-      first = omega arith;
-      second = omega arith;
-      same = λ k l. same_if_clear _ _ (sym (cut k (omega arith)) ∙ h.each k l);
-      kept = λ k l. kept_if_clear _ _ (sym (cut k (omega arith)) ∙ h.each k l);
-      ends = λ l m. percent_if_marked _ _ (λ e. h.ends (omega arith) (cut r (omega arith) ∙ e));
+      first = omega (arith, within.0, before);
+      second = omega (arith, within.1, before);
+      same = λ k l. common_same a b k (omega arith);
+      kept = λ k l. is_kept _ (sym (ap (char_set_contains (37 ∷ [])) (get_or-take n a k 0 (omega arith))) ∙ fails_before_first (char_set_contains (37 ∷ [])) (take n a) k 0 (omega arith));
+      ends = λ l m e. ⊎_elim
+          (λ inside. sym (get_or-take n a r 0 inside) ∙ ap (λ k. get_or (take n a) k 0) first ∙ stops_at_percent (take n a) (omega arith))
+          (λ end. let whole : r ≡ common_prefix_len eqb a b = omega arith in absurd (common_ends a b (omega arith) (omega arith) (sym (ap (λ k. get_or a k 0) whole) ∙ e ∙ ap (λ k. get_or b k 0) whole)))
+          (cases_lt r n);
     }

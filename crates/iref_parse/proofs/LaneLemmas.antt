@@ -19,23 +19,17 @@ HasLanes-splat f a x p =
     let h = HasLanes-zip2 f a (replicate 16 x) p refl in
     record { long = h.long; each = λ k l. h.each k l ∙ ap (f (get_or a k 0)) (get_or-replicate 16 k x 0 l) }
 
--- a choice of two splats by the comparison of two vectors, and by that with a splat
-pub HasLanes-select_zip : (t : ℕ → ℕ → Bool) (a b : List ℕ) (y z : ℕ) → length a ≡ 16 → length b ≡ 16
-    → HasLanes (sel_l (zip2 t a b) (replicate 16 y) (replicate 16 z)) (λ k. cond (t (get_or a k 0) (get_or b k 0)) y z)
-HasLanes-select_zip t a b y z p q =
-    let long : length (zip2 t a b) ≡ 16 = length-zip2 t a b (p ∙ sym q) ∙ p in
+-- a choice of two splats by the comparison with a splat
+pub HasLanes-select : (t : ℕ → ℕ → Bool) (a : List ℕ) (x y z : ℕ) → length a ≡ 16
+    → HasLanes (sel_l (zip2 t a (replicate 16 x)) (replicate 16 y) (replicate 16 z)) (λ k. cond (t (get_or a k 0) x) y z)
+HasLanes-select t a x y z p =
+    let long : length (zip2 t a (replicate 16 x)) ≡ 16 = length-zip2 t a (replicate 16 x) p ∙ p in
     record {
       long = length-sel_l _ (replicate 16 y) (replicate 16 z) long long ∙ long;
       each = λ k l.
           get_or-sel_l _ (replicate 16 y) (replicate 16 z) k 0 (omega arith) l l
-          ∙ (λ i. cond (get_or-zip2 t a b k 0 0 false (omega arith) (omega arith) i) (get_or-replicate 16 k y 0 l i) (get_or-replicate 16 k z 0 l i));
+          ∙ (λ i. cond ((get_or-zip2 t a (replicate 16 x) k 0 0 false (omega arith) l ∙ ap (t (get_or a k 0)) (get_or-replicate 16 k x 0 l)) i) (get_or-replicate 16 k y 0 l i) (get_or-replicate 16 k z 0 l i));
     }
-
-pub HasLanes-select : (t : ℕ → ℕ → Bool) (a : List ℕ) (x y z : ℕ) → length a ≡ 16
-    → HasLanes (sel_l (zip2 t a (replicate 16 x)) (replicate 16 y) (replicate 16 z)) (λ k. cond (t (get_or a k 0) x) y z)
-HasLanes-select t a x y z p =
-    let h = HasLanes-select_zip t a (replicate 16 x) y z p refl in
-    record { long = h.long; each = λ k l. h.each k l ∙ ap (λ b. cond (t (get_or a k 0) b) y z) (get_or-replicate 16 k x 0 l) }
 
 module _ (js : List ℕ) (f : ℕ → ℕ) (h : HasLanes js f) (small : (k : ℕ) → k < 16 → f k < 16) where
   -- positions below 16 may be looked up

@@ -12,7 +12,6 @@ use Rattle.std.proofs.lemmas.List.{get_or_append_left, get_or-append_right, get_
 use mathlib.Core.Bool.{true≢false}
 use Rattle.std.proofs.lemmas.Simd.{get_or-replicate}
 use Rattle.iref_parse.specs.Lanes.{HasLanes, DifferFirstAt}
-use Rattle.iref_parse.specs.Kept.{IsFirstMarked}
 use Rattle.iref_grammar.specs.Texts.{from_first}
 use Rattle.iref_grammar.proofs.SplitLemmas.{begins_with_mark}
 
@@ -63,12 +62,6 @@ module _ (mark : ℕ → ℕ) (n at : ℕ) (old : IsClearFront mark n at) where
     pub IsClearFront-ends : r < 16 → mark (at + r) ≢ 0
     IsClearFront-ends l e = first.other l (marks.each r l ∙ e ∙ sym (get_or-replicate 16 r 0 0 l))
 
-    -- the first that is marked, if one of the 16 is or these are the last
-    pub first_in_lanes : (at + r < n → r < 16) → IsFirstMarked mark n (at + r)
-    first_in_lanes near =
-        let front = IsClearFront-more in
-        record { within = front.within; each = front.each; ends = λ l. IsClearFront-ends (near l) }
-
 -- a byte that is one of two
 abbrev pub either_at : ℕ → ℕ → List ℕ → ℕ → ℕ
 either_at first second bytes k = cond (char_set_contains (first ∷ second ∷ []) (get_or bytes k 0)) 255 0
@@ -96,57 +89,39 @@ module _ (bytes : List ℕ) (least : 8 ≤ length bytes) where
       sym (get_or-append_right (take 8 bytes) (drop (length bytes - 8) bytes) 8 (k + 16 - length bytes) 0 (length-take-le 8 bytes least) (omega arith)
       ∙ get_or-drop (length bytes - 8) bytes (k + 16 - length bytes - 8) 0 ∙ ap (λ i. get_or bytes i 0) lane)
 
--- of 8 to 15 indices, the first lane that is marked tells the first of them, by the marks of the first eight and the last eight
-module _ (mark near : ℕ → ℕ) (n : ℕ) (least : 8 ≤ n) (most : n < 16) (low : (k : ℕ) → k < 8 → mark k ≡ near k) (high : (k : ℕ) → n ≤ k + 8 → mark k ≡ near (k + 16 - n))
-    (v : List ℕ) (r : ℕ) (marks : HasLanes v (λ k. near (0 + k))) (differ : DifferFirstAt v (replicate 16 0) 16 r) where
-  none : IsClearFront near 16 0
-  none = record { within = omega arith; each = λ k l. absurd (omega arith) }
-
-  clear : IsClearFront near 16 (0 + r)
-  clear = IsClearFront-more near 16 0 none v r (omega arith) marks differ
-
-  met : r < 16 → near r ≢ 0
-  met l e = let here : 0 + r ≡ r = omega arith in IsClearFront-ends near 16 0 none v r (omega arith) marks differ l (ap near here ∙ e)
-
-  pub first_at_low_end : r < 8 → IsFirstMarked mark n r
-  first_at_low_end l = record {
-    within = omega arith;
-    each = λ k m. low k (omega arith) ∙ clear.each k (omega arith);
-    ends = λ m e. met (omega arith) (sym (low r l) ∙ e);
-  }
-
-  pub first_at_high_end : 8 ≤ r → IsFirstMarked mark n (r + n - 16)
-  first_at_high_end l =
-      let within = differ.within in
-      let lane : r + n - 16 + 16 - n ≡ r = omega arith in
-      record {
-        within = omega arith;
-        each = λ k m. ⊎_elim (λ first. low k first ∙ clear.each k (omega arith)) (λ from. high k (omega arith) ∙ clear.each (k + 16 - n) (omega arith)) (cases_lt k 8);
-        ends = λ m e. met (omega arith) (ap near (sym lane) ∙ sym (high (r + n - 16) (omega arith)) ∙ e);
-      }
-
+-- of 8 to 15 bytes, the first lane that is marked tells the first position
 module _ (first second : ℕ) (bytes : List ℕ) (least : 8 ≤ length bytes) (most : length bytes < 16) (v : List ℕ) (r : ℕ) (marks : HasLanes v (λ k. either_at first second (ends bytes) (0 + k)))
     (differ : DifferFirstAt v (replicate 16 0) 16 r) where
-  same : (i j : ℕ) → get_or bytes i 0 ≡ get_or (ends bytes) j 0 → either_at first second bytes i ≡ either_at first second (ends bytes) j
+  abbrev mark : List ℕ → ℕ → ℕ
+  mark = either_at first second
+
+  none : IsClearFront (mark (ends bytes)) 16 0
+  none = record { within = omega arith; each = λ k l. absurd (omega arith) }
+
+  clear : IsClearFront (mark (ends bytes)) 16 (0 + r)
+  clear = IsClearFront-more (mark (ends bytes)) 16 0 none v r (omega arith) marks differ
+
+  met : r < 16 → mark (ends bytes) r ≢ 0
+  met l e = let here : 0 + r ≡ r = omega arith in IsClearFront-ends (mark (ends bytes)) 16 0 none v r (omega arith) marks differ l (ap (mark (ends bytes)) here ∙ e)
+
+  same : (i j : ℕ) → get_or bytes i 0 ≡ get_or (ends bytes) j 0 → mark bytes i ≡ mark (ends bytes) j
   same i j e = ap (λ x. cond (char_set_contains (first ∷ second ∷ []) x) 255 0) e
 
-  low_marks : (k : ℕ) → k < 8 → either_at first second bytes k ≡ either_at first second (ends bytes) k
-  low_marks k l = same k k (low_end bytes least k l)
-
-  high_marks : (k : ℕ) → length bytes ≤ k + 8 → either_at first second bytes k ≡ either_at first second (ends bytes) (k + 16 - length bytes)
-  high_marks k l = same k (k + 16 - length bytes) (high_end bytes least k l)
-
-  position_of_first : (at : ℕ) → IsFirstMarked (either_at first second bytes) (length bytes) at → at ≡ position_or_len (char_set_contains (first ∷ second ∷ [])) bytes
-  position_of_first at h = position_from_clear first second bytes at (record { within = h.within; each = h.each }) h.ends
-
   pub position_at_low_end : r < 8 → r ≡ position_or_len (char_set_contains (first ∷ second ∷ [])) bytes
-  position_at_low_end l =
-      position_of_first r (first_at_low_end (either_at first second bytes) (either_at first second (ends bytes)) (length bytes) least most low_marks high_marks v r marks differ l)
+  position_at_low_end low =
+      position_from_clear first second bytes r (record { within = omega arith; each = λ k l. same k k (low_end bytes least k (omega arith)) ∙ clear.each k (omega arith) }) (λ l e. met (omega arith) (sym (same r r (low_end bytes least r low)) ∙ e))
 
   pub position_at_high_end : 8 ≤ r → r + length bytes - 16 ≡ position_or_len (char_set_contains (first ∷ second ∷ [])) bytes
-  position_at_high_end l =
-      position_of_first (r + length bytes - 16)
-      (first_at_high_end (either_at first second bytes) (either_at first second (ends bytes)) (length bytes) least most low_marks high_marks v r marks differ l)
+  position_at_high_end high =
+      let within = differ.within in
+      let at = r + length bytes - 16 in
+      let lane : at + 16 - length bytes ≡ r = omega arith in
+      position_from_clear first second bytes at
+      (record {
+        within = omega arith;
+        each = λ k l. ⊎_elim (λ low. same k k (low_end bytes least k low) ∙ clear.each k (omega arith)) (λ from. same k (k + 16 - length bytes) (high_end bytes least k (omega arith)) ∙ clear.each (k + 16 - length bytes) (omega arith)) (cases_lt k 8);
+      })
+      (λ l e. met (omega arith) (ap (mark (ends bytes)) (sym lane) ∙ sym (same at (at + 16 - length bytes) (high_end bytes least at (omega arith))) ∙ e))
 
 -- one mark is two that are the same
 pub position_of_one : (mark : ℕ) (text : List ℕ) → position_or_len (char_set_contains (mark ∷ mark ∷ [])) text ≡ position_or_len (char_set_contains (mark ∷ [])) text

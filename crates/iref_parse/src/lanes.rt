@@ -36,14 +36,6 @@ pub(crate) fn equal_to(v: u8x16, byte: u8) -> u8x16
         .select(u8x16::splat(255), u8x16::splat(0))
 }
 
-// All bits of a lane in which the two differ, and none of another.
-#[inline(always)]
-pub(crate) fn differing(a: u8x16, b: u8x16) -> u8x16
-    ensures { HasLanes result (λ k. if slice_index a k == slice_index b k then 0 else 255) }
-{
-    a.simd_eq(b).select(u8x16::splat(0), u8x16::splat(255))
-}
-
 // Reads the table at the low four bits of each lane.
 #[inline(always)]
 pub(crate) fn by_low_half(table: &[u8; 16], v: u8x16) -> u8x16

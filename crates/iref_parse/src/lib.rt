@@ -12,7 +12,6 @@ pub mod front;
 pub mod host;
 pub mod ip;
 pub mod ipv6;
-mod kept;
 mod lanes;
 pub mod offsets;
 mod plain;
