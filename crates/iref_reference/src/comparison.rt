@@ -46,8 +46,7 @@ impl<R: HeldRule, C: CharSet> PartialEq for ReferenceBuf<R, C> {
         (on_equiv key_of_reference_buf (eq_by_cmp_equiv keys_total)) };
 
     fn eq(&self, other: &Self) -> bool {
-        self.as_str() == other.as_str()
-            || self.reference_parts().eq_by_key(&other.reference_parts())
+        self.reference_parts().eq_by_key(&other.reference_parts())
     }
 }
 
