@@ -14,6 +14,7 @@ mod authority;
 mod composed;
 mod copies;
 mod edits;
+mod hierarchy;
 mod mapping;
 mod path;
 

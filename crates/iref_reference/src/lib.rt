@@ -7,6 +7,7 @@ pub mod composed;
 pub mod conversions;
 pub mod editors;
 pub mod families;
+pub mod hierarchy;
 pub mod mapping;
 pub mod owned;
 pub mod parts;
