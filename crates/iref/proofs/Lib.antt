@@ -2,6 +2,8 @@ pub mod AuthorityEditLemmas
 pub mod ComponentRuleLemmas
 pub mod EditLemmas
 pub mod EditListLemmas
+pub mod EditCopyLemmas
+pub mod EditRunLemmas
 pub mod PortTextLemmas
 pub mod PrefixIndexLemmas
 pub mod PrefixOrderLemmas

@@ -79,3 +79,9 @@ is_authority_edit (SetHost host) = true
 is_authority_edit (SetPort port) = true
 is_authority_edit (SetPortU32 number) = true
 is_authority_edit edit = false
+
+-- an edit that leaves the query and the fragment as they are
+abbrev pub keeps_query_and_fragment : EditStep → Bool
+keeps_query_and_fragment (SetQuery query) = false
+keeps_query_and_fragment (SetFragment fragment) = false
+keeps_query_and_fragment edit = true

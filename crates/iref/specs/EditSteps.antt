@@ -1,8 +1,10 @@
 -- The step of the model that each edit stands for.
-use Rattle.std.specs.Prelude.{option_map}
+use Rattle.std.specs.Prelude.{Bool, List, option_map}
+use Rattle.std.specs.List.{list_all}
 use Rattle.iref_model.specs.Edits as model
 use Rattle.iref_model.specs.Edits.{EditStep}
 use Rattle.iref_component.specs.Components.{text_of}
+use Rattle.iref.specs.EditAnswers.{keeps_query_and_fragment}
 use Rattle.iref.specs.declared.edits.Edit.{Edit}
 use Rattle.iref.specs.declared.edits.Edit.TheVariants.{SetScheme, SetAuthority, ReplaceAuthority, SetUserInfo, SetHost, SetPort, SetPortU32, SetPath, SetAndNormalizePath, SetQuery, SetFragment, LazyPush, Push, JoinPath, Pop, Clear, Normalize}
 
@@ -25,3 +27,7 @@ edit_step (JoinPath path) = model.JoinPath (text_of path)
 edit_step Pop = model.Pop
 edit_step Clear = model.Clear
 edit_step Normalize = model.Normalize
+
+-- each edit leaves the query and the fragment as they are
+abbrev pub all_keep_query_and_fragment : {C : _} {c : _} → List (Edit C c) → Bool
+all_keep_query_and_fragment edits = list_all (λ edit. keeps_query_and_fragment (edit_step edit)) edits
