@@ -5,6 +5,7 @@ pub mod EditListLemmas
 pub mod EditCopyLemmas
 pub mod EditRunLemmas
 pub mod PortTextLemmas
+pub mod PrefixFewLemmas
 pub mod PrefixIndexLemmas
 pub mod PrefixOrderLemmas
 pub mod PrefixSearchLemmas

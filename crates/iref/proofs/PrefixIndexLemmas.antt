@@ -1,5 +1,5 @@
 -- Where the entries of a prefix table are.
-use Rattle.std.proofs.Common.{arith, ◌≡◌, ℕ, zero, suc, ◌<◌, Bool, true, false, [], ◌∷◌, ◌++◌, length, get_or, refl, sym, ap, subst}
+use Rattle.std.proofs.Common.{arith, ◌≡◌, ℕ, zero, suc, ◌<◌, Bool, true, false, [], ◌∷◌, ◌++◌, length, get_or, take, refl, sym, ap, subst}
 use Rattle.std.specs.Prelude.{nat_lt, bytes_eq, slice_get, String, Option, Some, None, is_some, IfSome, if◌then◌else◌, string_bytes}
 use Rattle.std.specs.Option.{option_or, option_copied}
 use Rattle.std.specs.List.{AllByRecursion, find}
@@ -11,9 +11,10 @@ use Rattle.std.specs.String.{string_cmp}
 use Rattle.std.specs.BTreeMap.{BTreeMap, get_by_text, UpdatesBy}
 use Rattle.std.proofs.lemmas.Map.Text.{btree_map_updates_text}
 use Rattle.iref_grammar.specs.Rules.{Text}
-use Rattle.iref_mapping.specs.PrefixTable.{PrefixEntry, PrefixTable, has_label}
+use Rattle.iref_mapping.specs.PrefixTable.{PrefixEntry, PrefixTable, has_label, is_taken, labels_differ}
 use Rattle.iref.specs.declared.compact.index.Index.{Index}
-use Rattle.iref.specs.PrefixIndex.{has_text, IsNumber, IsIndexed, IsSorted, StaysSorted, Gains, Stays, GainsLength, KeepsLengths}
+use Rattle.iref.specs.declared.compact.index.TheConstants.{LONGEST_UNINDEXED}
+use Rattle.iref.specs.PrefixIndex.{has_text, IsNumber, IsIndexed, IsIndexedIfLong, IsSorted, StaysSorted, Gains, Stays, GainsLength, KeepsLengths}
 use Rattle.std.specs.BTreeSet.{BTreeSet, contains}
 use Rattle.std.proofs.lemmas.List.{length_push}
 use Rattle.std.proofs.lemmas.List.Folds.{find-append}
@@ -110,5 +111,21 @@ module _ (table : PrefixTable) (old new : Index) (h : IsIndexed table old) where
     lengths = lengths_stay old.lengths new.lengths table lengths h.lengths;
     sorted = λ l. subst (IsSorted table) (sym sorted) (h.sorted l);
   }
+
+-- an entry of a table has no label that none of the table has
+not_taken : (table : PrefixTable) (i : ℕ) (e d : PrefixEntry) → is_taken d.label table ≡ false → i < length table → e ≡ get_or table i e → bytes_eq e.label d.label ≡ false
+not_taken [] i e d h l at = absurd (omega arith)
+not_taken (x ∷ table) zero e d h l at = grind arith
+not_taken (x ∷ table) (suc i) e d h l at = grind (arith, not_taken table i e d)
+
+-- the label of an entry is none of those before it
+pub label_differs : (table : PrefixTable) (i : ℕ) (e : PrefixEntry) → labels_differ table ≡ true → i < length table → e ≡ get_or table i e → find (has_label e.label) (take i table) ≡ None
+label_differs [] i e h l at = absurd (omega arith)
+label_differs (d ∷ table) zero e h l at = refl
+label_differs (d ∷ table) (suc i) e h l at = grind (arith, bytes_decides, not_taken table i e, label_differs table i e)
+
+-- the index of a table that is seen under another name
+pub indexed_if_long : (items table : PrefixTable) (index : Index) → items ≡ table → IsIndexedIfLong items index → LONGEST_UNINDEXED < length table → IsIndexed items index
+indexed_if_long items table index same h long = h (subst (λ (t : PrefixTable). LONGEST_UNINDEXED < length t) (sym same) long)
 
 pub ruleset numbers = (no_number, number_at)

@@ -19,7 +19,7 @@ use Rattle.iref_grammar.specs.Reference.{is_uri}
 use Rattle.iref_grammar.specs.Rules.{Text}
 use Rattle.iref_grammar.proofs.ReferenceRuleLemmas.{Decides-is_uri}
 use Rattle.iref_mapping.specs.PrefixTable.{PrefixEntry, PrefixTable, fits, longest_fit}
-use Rattle.iref.specs.PrefixIndex.{has_text, FitsBelow, IsLengthBelow, IsNearest}
+use Rattle.iref.specs.PrefixIndex.{has_text, FitsBelow, IsLengthBelow, IsPredecessor}
 use Rattle.iref.proofs.PrefixOrderLemmas.{begins_in_common, common_begins}
 
 -- the set has each entry's length
@@ -108,11 +108,11 @@ module _ (iri : Text) (table : PrefixTable) (set : BTreeSet ℕ) (len : ℕ) (ha
   fits_front : (e : PrefixEntry) → (fits iri e ≡ true → length e.iri < len + 1) → fits iri e ≡ true → fits (take len iri) e ≡ true
   fits_front e below fit = let l = below fit in ap (bytes_eq e.iri) (take-take (length e.iri) len iri (omega arith)) ∙ fit
 
-  pub nothing_fits : IsNearest (take len iri) table None → longest_fit iri table ≡ None
+  pub nothing_fits : IsPredecessor (take len iri) table None → longest_fit iri table ≡ None
   nothing_fits none = none_longest iri table (each_of_two _ _ (λ (e : PrefixEntry). fits iri e ≡ false)
       (λ e below no. false_from_ne_true (fits iri e) (λ fit. both_ways (fits (take len iri) e) no (fits_front e below fit))) table short none)
 
-  module _ (e : PrefixEntry) (near : IsNearest (take len iri) table (Some e)) where
+  module _ (e : PrefixEntry) (near : IsPredecessor (take len iri) table (Some e)) where
     -- what fits is no longer than what the entry and the beginning have in common
     pub fits_in_common : FitsBelow iri table (common_prefix_len nat_eq e.iri (take len iri) + 1)
     fits_in_common = each_of_two _ _ (λ (d : PrefixEntry). fits iri d ≡ true → length d.iri < common_prefix_len nat_eq e.iri (take len iri) + 1)
@@ -121,8 +121,8 @@ module _ (iri : Text) (table : PrefixTable) (set : BTreeSet ℕ) (len : ℕ) (ha
         let common = begins_in_common d.iri e.iri (take len iri) (others front) front in omega arith) table short near.1
 
     -- the entry is the longest that fits, if its whole text is in common
-    pub nearest_fits : common_prefix_len nat_eq e.iri (take len iri) ≡ length e.iri → longest_fit iri table ≡ Some e
-    nearest_fits whole =
+    pub predecessor_fits : common_prefix_len nat_eq e.iri (take len iri) ≡ length e.iri → longest_fit iri table ≡ Some e
+    predecessor_fits whole =
         let before = at.0 in
         let upto : length e.iri ≤ len = omega (arith, common_within e.iri iri len (omega arith), whole) in
         let fit : e.iri ≡ take (length e.iri) iri = fit_text (take len iri) e (common_begins e.iri (take len iri) whole) ∙ take-take (length e.iri) len iri upto in

@@ -72,11 +72,11 @@ module _ (table : PrefixTable) (numbers : List ℕ) (text : Text) (place : ℕ) 
   fits_before d k l is fit = ⊎_elim (λ below. below)
       (λ above. absurd (both_ways (is_upto d.iri text) (ap (λ t. is_upto t text) (sym is) ∙ h.behind k above l) (is_upto_begun d.iri text fit))) (cases_lt k place)
 
-  pub nearest_none : place ≡ 0 → AllByRecursion (λ (d : PrefixEntry). fits text d ≡ false) table
-  nearest_none none = each (λ d (k, l, is). false_from_ne_true (fits text d) (λ fit. let below = fits_before d k l is fit in absurd (omega arith))) table sorted.whole
+  pub predecessor_none : place ≡ 0 → AllByRecursion (λ (d : PrefixEntry). fits text d ≡ false) table
+  predecessor_none none = each (λ d (k, l, is). false_from_ne_true (fits text d) (λ fit. let below = fits_before d k l is fit in absurd (omega arith))) table sorted.whole
 
-  pub nearest_at : (last : ℕ) (e : PrefixEntry) → last + 1 ≡ place → e.iri ≡ text_at table numbers last → AllByRecursion (λ (d : PrefixEntry). fits text d ≡ true → fits e.iri d ≡ true) table
-  nearest_at last e next here = each
+  pub predecessor_at : (last : ℕ) (e : PrefixEntry) → last + 1 ≡ place → e.iri ≡ text_at table numbers last → AllByRecursion (λ (d : PrefixEntry). fits text d ≡ true → fits e.iri d ≡ true) table
+  predecessor_at last e next here = each
       (λ d (k, l, is) fit.
       let below = fits_before d k l is fit in
       let w = h.within in

@@ -8,10 +8,15 @@ use Rattle.std.specs.BTreeSet.{BTreeSet, contains}
 use Rattle.iref_grammar.specs.Rules.{Text}
 use Rattle.iref_mapping.specs.PrefixTable.{PrefixEntry, PrefixTable, has_label, fits}
 use Rattle.iref.specs.declared.compact.index.Index.{Index}
-use Rattle.iref.specs.declared.compact.index.TheConstants.{LONGEST_SORTED}
+use Rattle.iref.specs.declared.compact.index.TheConstants.{LONGEST_SORTED, LONGEST_UNINDEXED}
 
 abbrev pub has_text : Text → PrefixEntry → Bool
 has_text text e = bytes_eq e.iri text
+
+-- there is an entry, and its text is longer than the other's
+abbrev pub is_longer : Option PrefixEntry → PrefixEntry → Bool
+is_longer None e = false
+is_longer (Some later) e = nat_lt (length e.iri) (length later.iri)
 
 -- the number of the first entry that passes the test, if there is one
 abbrev pub IsNumber : (PrefixEntry → Bool) → PrefixTable → Option ℕ → Type 0
@@ -54,9 +59,9 @@ pub record IsPlace (table : PrefixTable) (numbers : List ℕ) (text : Text) (pla
   pub behind : (k : ℕ) → place ≤ k → k < length numbers → is_upto (text_at table numbers k) text ≡ false
 
 -- the entry is the first of its text, and what fits the other text fits the entry's; or nothing fits
-abbrev pub IsNearest : Text → PrefixTable → Option PrefixEntry → Type 0
-IsNearest text table None = AllByRecursion (λ (d : PrefixEntry). fits text d ≡ false) table
-IsNearest text table (Some e) = (find (has_text e.iri) table ≡ Some e) × AllByRecursion (λ (d : PrefixEntry). fits text d ≡ true → fits e.iri d ≡ true) table
+abbrev pub IsPredecessor : Text → PrefixTable → Option PrefixEntry → Type 0
+IsPredecessor text table None = AllByRecursion (λ (d : PrefixEntry). fits text d ≡ false) table
+IsPredecessor text table (Some e) = (find (has_text e.iri) table ≡ Some e) × AllByRecursion (λ (d : PrefixEntry). fits text d ≡ true → fits e.iri d ≡ true) table
 
 -- each entry that fits is shorter than this
 abbrev pub FitsBelow : Text → PrefixTable → ℕ → Type 0
@@ -70,6 +75,10 @@ pub record IsIndexed (table : PrefixTable) (index : Index) : Type 0 where
   pub texts : (text : Text) → IsNumber (has_text text) table (get_by_text index.texts text)
   pub lengths : AllByRecursion (λ (e : PrefixEntry). contains nat_cmp index.lengths (length e.iri) ≡ true) table
   pub sorted : length table ≤ LONGEST_SORTED → IsSorted table index.sorted.items
+
+-- the index of a table that has one, since it has more entries than are looked at one by one
+abbrev pub IsIndexedIfLong : PrefixTable → Index → Type 0
+IsIndexedIfLong table index = LONGEST_UNINDEXED < length table → IsIndexed table index
 
 -- the place of a text in the order of a table that may have one more entry in order
 pub record IsOrderedPlace (table : PrefixTable) (index : Index) (text : Text) (place : ℕ) : Type 0 where

@@ -1,27 +1,29 @@
 //! Prefix tables: labels that stand for the beginnings of IRIs, as in `ex:a` for
 //! `http://example.org/a`.
-ghost use Rattle.std.specs.Prelude.{◌≡◌, ◌+◌, ◌≤◌, [], length, take, option_map, Ok, IfOk, IfErr};
-ghost use Rattle.std.specs.{Prelude.{IfSome, OnOk, OnErr}, String.{string_bytes}, List.{find}};
+ghost use Rattle.std.specs.Prelude.{◌≡◌, ◌+◌, ◌<◌, ◌≤◌, [], length, take, option_map, Ok, IfOk};
+ghost use Rattle.std.specs.{Prelude.{IfErr, IfSome, OnOk, OnErr}, String.{string_bytes}};
+ghost use Rattle.std.specs.List.{find};
 ghost use Rattle.std.specs.Option.{option_copied};
-ghost use Rattle.iref.specs.PrefixIndex.{has_text, FitsBelow, IsNearest};
+ghost use Rattle.iref.specs.PrefixIndex.{has_text, FitsBelow, IsPredecessor};
 ghost use Rattle.iref.specs.Prefixes.{compact_value, RefusesExpand, RefusesInsert};
 ghost use Rattle.iref_mapping.specs.PrefixTable.{has_label, longest_fit, IsPrefixTable};
 ghost use Rattle.iref_mapping.specs.PrefixTable.{compact_text, compacted, expanded, get, inserted};
 ghost use Rattle.iref_reference.specs.References.{reference_buf_text, reference_text};
 
-mod common;
 mod entry;
+mod few;
 mod index;
 mod sorted;
 mod text;
 
 use crate::iri::{Iri, IriBuf};
 use entry::{Entry, add};
-use index::{Index, LONGEST_SORTED};
+use few::{find_label, longest_of};
+use index::{Index, LONGEST_SORTED, LONGEST_UNINDEXED};
 use iref_error::Memory;
 use iref_parse::cut::cut;
 use iref_parse::front::common_front;
-use sorted::nearest;
+use sorted::predecessor;
 use std::alloc::Global;
 use std::marker::Model;
 use text::{after_front, iri_of, is_label, joined};
@@ -108,13 +110,14 @@ pub struct Prefixes {
 
 impl Model for Prefixes {
     ghost use Rattle.iref_mapping.specs.PrefixTable.{PrefixTable, IsPrefixTable};
-    ghost use Rattle.iref.specs.PrefixIndex.{IsIndexed};
+    ghost use Rattle.iref.specs.PrefixIndex.{IsIndexedIfLong};
 
     ghost Value = { PrefixTable };
 
     ghost view = { λ p. p.entries.items };
 
-    ghost invariant = { λ p. IsPrefixTable p.entries.items × IsIndexed p.entries.items p.index };
+    ghost invariant = { λ p. IsPrefixTable p.entries.items
+        × IsIndexedIfLong p.entries.items p.index };
 }
 
 impl Prefixes {
@@ -139,6 +142,9 @@ impl Prefixes {
     fn find(&self, label: &str) -> Option<&Entry>
         ensures { option_copied result ≡ find (has_label label.now) self.now }
     {
+        if self.entries.len() <= LONGEST_UNINDEXED {
+            return find_label(&self.entries, label);
+        }
         let at = self.index.number_of_label(label)?;
         self.entries.get(at)
     }
@@ -146,7 +152,8 @@ impl Prefixes {
     // The first entry whose text is the IRI's beginning of this length.
     #[tactic(auto, using(crate::proofs::PrefixIndexLemmas::no_number))]
     fn entry_of_beginning(&self, iri: &str, len: usize) -> Option<&Entry>
-        requires { len ≤ length iri.now }
+        requires long { LONGEST_UNINDEXED < length self.now }
+        requires len { len ≤ length iri.now }
         ensures { option_copied result ≡ find (has_text (take len iri.now)) self.now }
     {
         let index = &self.index;
@@ -160,6 +167,7 @@ impl Prefixes {
     // The first of the longest entries whose text is a beginning of the IRI's, where each such text
     // is shorter than this: the lengths of texts are tried from the greatest down.
     fn longest_fit_below(&self, iri: &str, mut end: usize) -> Option<&Entry>
+        requires long { LONGEST_UNINDEXED < length self.now }
         requires end { end ≤ length iri.now + 1 }
         requires below { FitsBelow iri.now self.now end }
         ensures entry { option_copied result ≡ longest_fit iri.now self.now }
@@ -176,18 +184,21 @@ impl Prefixes {
     }
 
     // The entry of the last text up to this one.
-    fn nearest(&self, text: &[u8]) -> Option<&Entry>
-        requires { length self.now ≤ LONGEST_SORTED }
-        ensures { IsNearest text.now self.now (option_copied result) }
+    fn predecessor(&self, text: &[u8]) -> Option<&Entry>
+        requires long { LONGEST_UNINDEXED < length self.now }
+        requires sorted { length self.now ≤ LONGEST_SORTED }
+        ensures { IsPredecessor text.now self.now (option_copied result) }
     {
-        nearest(&self.entries, self.index.sorted(), text)
+        predecessor(&self.entries, self.index.sorted(), text)
     }
 
-    // The first of the longest entries whose text is a beginning of the IRI's. In the order of texts
-    // what stands between a beginning of the IRI's and the IRI's begins with it too. So the last
-    // text up to the IRI's begins with each text that fits.
+    // The first of the longest entries whose text is a beginning of the IRI's, by the index. The
+    // IRI is cut to the greatest length of an entry's text that is not above its own. A text that
+    // sorts between a beginning of this front and the front begins with that beginning. So the last
+    // text up to the front begins with each text that fits.
     #[tactic(auto, using(crate::proofs::PrefixSearchLemmas::all_below))]
-    fn longest_fit(&self, iri: &str) -> Option<&Entry>
+    fn longest_by_index(&self, iri: &str) -> Option<&Entry>
+        requires { LONGEST_UNINDEXED < length self.now }
         ensures entry { option_copied result ≡ longest_fit iri.now self.now }
         ensures table { IsPrefixTable self.now }
     {
@@ -196,13 +207,25 @@ impl Prefixes {
         }
         let len = self.index.length_below(iri.len() + 1)?;
         let front = &iri.as_bytes()[..len];
-        let nearest = self.nearest(front)?;
-        let text = nearest.text();
+        let predecessor = self.predecessor(front)?;
+        let text = predecessor.text();
         let common = common_front(text.as_bytes(), front);
         if common == text.len() {
-            return Some(nearest);
+            return Some(predecessor);
         }
         self.longest_fit_below(iri, common + 1)
+    }
+
+    // The first of the longest entries whose text is a beginning of the IRI's.
+    fn longest_fit(&self, iri: &str) -> Option<&Entry>
+        ensures entry { option_copied result ≡ longest_fit iri.now self.now }
+        ensures table { IsPrefixTable self.now }
+    {
+        if self.entries.len() <= LONGEST_UNINDEXED {
+            longest_of(&self.entries, iri.as_bytes())
+        } else {
+            self.longest_by_index(iri)
+        }
     }
 
     /// The IRI of a label, if the label has an entry: after `insert` of `ex` with `http://ex.org/`,
@@ -215,9 +238,10 @@ impl Prefixes {
     }
 
     /// Adds a last entry. A label is an ASCII letter, then ASCII letters, digits, `-` and `_`; it
-    /// differs from all labels that are there, by its text. The table keeps two copies of the
-    /// label, and a second one of the IRI if no entry has it yet, for which it also takes room for a
-    /// number up to 4,096 entries, whose order it keeps.
+    /// differs from all labels that are there, by its text. The table keeps a copy of the label and
+    /// of the IRI. Beyond 32 entries it keeps an index, with a second copy of the label, and of the
+    /// IRI if no entry before has it; up to 4,096 entries the index also keeps the order of the
+    /// IRIs. The 33rd entry makes the index of all.
     ///
     /// # Errors
     ///
@@ -241,9 +265,10 @@ impl Prefixes {
 
     /// The IRI by its longest beginning in the table: the label of the entry whose IRI's text is a
     /// beginning of this one's, and the rest. Where several are as long, the first inserted one
-    /// serves. None where no entry's IRI is a beginning. It takes no memory, and looks at most once
-    /// for each length, up to this IRI's, of an IRI that was given to `insert`. Of at most 4,096
-    /// entries one look at the order of their IRIs mostly serves for all lengths.
+    /// serves. None where no entry's IRI is a beginning. It takes no memory. Up to 32 entries it
+    /// compares each. Up to 4,096 it searches the order of their IRIs once, which mostly suffices.
+    /// Where it does not, and beyond, there is at most one look-up for each length, up to this
+    /// IRI's, of an IRI that was given to `insert`.
     #[tactic(auto, using(crate::proofs::PrefixTableLemmas::compacts))]
     pub fn compact<'a>(&'a self, iri: Iri<'a>) -> Option<Compact<'a>>
         ensures compacted { option_map compact_value result
@@ -253,7 +278,7 @@ impl Prefixes {
     {
         let text = iri.as_str();
         let entry = self.longest_fit(text)?;
-        let rest = after_front(text, entry.iri().as_str())?;
+        let rest = after_front(text, entry.text())?;
         let label = entry.label();
         Some(Compact { label, rest })
     }

@@ -1,12 +1,12 @@
 //! An entry of a prefix table, and how one is added to the table and its index.
 ghost use Rattle.std.specs.Prelude.{◌≡◌, ◌++◌, [], ◌∷◌, true, None, IfOk, OnOk, OnErr};
 ghost use Rattle.std.specs.{List.{find}, String.{string_bytes}};
-ghost use Rattle.iref.specs.PrefixIndex.{IsIndexed};
+ghost use Rattle.iref.specs.PrefixIndex.{IsIndexedIfLong};
 ghost use Rattle.iref_grammar.specs.{Characters.{iri_chars}, Reference.{is_uri}};
-ghost use Rattle.iref_mapping.specs.PrefixTable.{has_label};
+ghost use Rattle.iref_mapping.specs.PrefixTable.{has_label, IsPrefixTable};
 ghost use Rattle.iref_reference.specs.References.{reference_text};
 
-use super::index::Index;
+use super::index::{Index, LONGEST_UNINDEXED};
 use crate::iri::Iri;
 use iref_error::Memory;
 use std::alloc::Global;
@@ -62,6 +62,37 @@ impl Entry {
     }
 }
 
+// Adds a last entry to the index, or makes the index of all entries where the table has just become
+// too long to be without one.
+fn add_to_index(
+    alloc: Global,
+    index: &mut Index,
+    entries: &[Entry],
+    label: &str,
+    iri: &str,
+) -> Result<(), Memory>
+    requires table { IsPrefixTable entries.now }
+    requires label { find (has_label label.now) entries.now ≡ None }
+    requires indexed { IsIndexedIfLong entries.now index.old }
+    ensures ok { OnOk result (IsIndexedIfLong
+        (entries.now ++ record { label = label.now; iri = iri.now } ∷ []) index.new) }
+    ensures err { OnErr result (IsIndexedIfLong entries.now index.new) }
+{
+    if entries.len() < LONGEST_UNINDEXED {
+        return Ok(());
+    }
+    if entries.len() == LONGEST_UNINDEXED {
+        let mut all = Index::of(alloc, entries)?;
+        all.add(alloc, entries, label, iri)?;
+        *index = all;
+        return Ok(());
+    }
+    match index.add(alloc, entries, label, iri) {
+        Ok(()) => Ok(()),
+        Err(error) => Err(error),
+    }
+}
+
 // Adds a last entry, and its number to the index.
 pub(super) fn add(
     entries: &mut Vec<Entry>,
@@ -70,17 +101,18 @@ pub(super) fn add(
     iri: &str,
 ) -> Result<(), Memory>
     requires iri { is_uri iri_chars iri.now ≡ true }
+    requires table { IsPrefixTable entries.old.items }
     requires label { find (has_label label.now) entries.old.items ≡ None }
-    requires indexed { IsIndexed entries.old.items index.old }
+    requires indexed { IsIndexedIfLong entries.old.items index.old }
     ensures ok { OnOk result (entries.new.items
         ≡ entries.old.items ++ record { label = label.now; iri = iri.now } ∷ []) }
     ensures err { OnErr result (entries.new.items ≡ entries.old.items) }
-    ensures indexed { IsIndexed entries.new.items index.new }
+    ensures indexed { IsIndexedIfLong entries.new.items index.new }
 {
     let alloc = *entries.allocator();
     let entry = Entry::new(alloc, label, iri)?;
     entries.reserve(1)?;
-    index.add(alloc, entries, label, iri)?;
+    add_to_index(alloc, index, entries, label, iri)?;
     entries.push_reserved(entry);
     Ok(())
 }

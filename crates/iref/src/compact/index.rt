@@ -1,12 +1,12 @@
-//! Where the entries of a prefix table are: by their labels, by their IRIs, by the lengths of these,
-//! and in the order of these.
-ghost use Rattle.std.specs.Prelude.{◌≡◌, ◌≤◌, length, not, is_some, None, IfSome, OnOk, OnErr};
-ghost use Rattle.std.specs.Prelude.{◌&&◌, MatchOption, if◌then◌else◌};
+//! Where the entries of a prefix table are: by their labels, by their IRIs, by the lengths of
+//! these, and in the order of these.
+ghost use Rattle.std.specs.Prelude.{◌≡◌, ◌≤◌, length, not, is_some, None, IfOk, IfSome, OnOk};
+ghost use Rattle.std.specs.Prelude.{◌&&◌, ◌++◌, [], ◌∷◌, MatchOption, OnErr, if◌then◌else◌};
 ghost use Rattle.std.specs.List.{find};
 ghost use Rattle.std.specs.BTreeMap.{get_by_text};
 ghost use Rattle.iref.specs.PrefixIndex.{IsEmptyIndex, Gains, Stays, GainsLength, KeepsLengths};
 ghost use Rattle.iref.specs.PrefixIndex.{IsIndexed, IsLengthBelow, IsOrderedPlace, StaysSorted};
-ghost use Rattle.iref_mapping.specs.PrefixTable.{has_label};
+ghost use Rattle.iref_mapping.specs.PrefixTable.{has_label, IsPrefixTable};
 
 use super::entry::Entry;
 use super::sorted::{add_number, place_of, stands_before};
@@ -17,8 +17,11 @@ use std::collections::{BTreeMap, BTreeSet};
 // Numbers of entries, by texts.
 type Indices = BTreeMap<String, usize>;
 
-// How many entries a table has at most whose texts are kept in order, since an insert may move a
-// number for each.
+// A table of at most so many entries has no index.
+pub(super) const LONGEST_UNINDEXED: usize = 32;
+
+// Only a table of up to so many entries keeps its texts in order, since an insert may move a number
+// for each.
 pub(super) const LONGEST_SORTED: usize = 4096;
 
 // Where the entries are.
@@ -78,7 +81,7 @@ impl Index {
         self.sorted.as_slice()
     }
 
-    // The place of a text in the order of the texts, if one more is kept in order.
+    // The place of a text in the order of the texts, if a table with one entry more keeps it.
     fn place_of(&self, entries: &[Entry], text: &str) -> Option<usize>
         requires { IsIndexed entries.now self.now }
         ensures { MatchOption result (LONGEST_SORTED ≤ length entries.now)
@@ -91,7 +94,7 @@ impl Index {
         }
     }
 
-    // Whether no entry has the text, whose place this is.
+    // Whether no entry has the text. The place is that of the text, where the order is kept.
     fn is_new(&self, entries: &[Entry], text: &str, place: Option<usize>) -> bool
         requires index { IsIndexed entries.now self.now }
         requires place { IfSome place (IsOrderedPlace entries.now self.now text.now) }
@@ -103,8 +106,43 @@ impl Index {
         }
     }
 
+    // The index of a table.
+    pub(super) fn of(alloc: Global, entries: &[Entry]) -> Result<Self, Memory>
+        requires { IsPrefixTable entries.now }
+        ensures { IfOk result (IsIndexed entries.now) }
+    {
+        let mut index = Index::new(alloc);
+        let mut count = 0;
+        while count < entries.len() {
+            let entry = &entries[count];
+            index.add(alloc, &entries[..count], entry.label(), entry.text())?;
+            count += 1;
+        }
+        Ok(index)
+    }
+
     // Adds an entry behind the others.
     pub(super) fn add(
+        &mut self,
+        alloc: Global,
+        entries: &[Entry],
+        label: &str,
+        text: &str,
+    ) -> Result<(), Memory>
+        requires index { IsIndexed entries.now self.old }
+        requires label { find (has_label label.now) entries.now ≡ None }
+        ensures ok { OnOk result (IsIndexed
+            (entries.now ++ record { label = label.now; iri = text.now } ∷ []) self.new) }
+        ensures err { OnErr result (IsIndexed entries.now self.new) }
+    {
+        match self.put(alloc, entries, label, text) {
+            Ok(()) => Ok(()),
+            Err(error) => Err(error),
+        }
+    }
+
+    // Puts the number of an entry behind the others under its label and its text.
+    fn put(
         &mut self,
         alloc: Global,
         entries: &[Entry],
@@ -138,7 +176,11 @@ impl Index {
             }
             return Err(error);
         }
-        if is_new && let Some(place) = place {
+        let Some(place) = place else {
+            self.sorted = Vec::new(alloc);
+            return Ok(());
+        };
+        if is_new {
             add_number(&mut self.sorted, entries, text.as_bytes(), place);
         }
         Ok(())

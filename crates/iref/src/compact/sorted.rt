@@ -2,10 +2,20 @@
 ghost use Rattle.std.specs.Prelude.{◌≡◌, ◌<◌, ◌++◌, [], ◌∷◌, length, is_some, Some, None};
 ghost use Rattle.std.specs.{List.{find}, Option.{option_copied}, Vec.{vec_len, vec_capacity}};
 ghost use Rattle.iref_grammar.specs.Rules.{Text};
-ghost use Rattle.iref.specs.PrefixIndex.{has_text, text_at, IsSorted, IsPlace, IsNearest};
+ghost use Rattle.iref.specs.PrefixIndex.{has_text, is_upto, text_at, IsSorted, IsPlace};
+ghost use Rattle.iref.specs.PrefixIndex.{IsPredecessor};
 
-use super::common::is_upto;
 use super::entry::Entry;
+use iref_parse::front::common_front;
+
+// Whether the first text is the second or comes before it, byte by byte.
+#[inline(always)]
+fn is_upto(a: &[u8], b: &[u8]) -> bool
+    ensures { result ≡ is_upto a.now b.now }
+{
+    let common = common_front(a, b);
+    common == a.len() || (common < b.len() && a[common] < b[common])
+}
 
 // The entry of the number at a place.
 #[inline(always)]
@@ -18,7 +28,7 @@ fn entry_at<'a>(entries: &'a [Entry], sorted: &[usize], place: usize) -> &'a Ent
     &entries[sorted[place]]
 }
 
-// How many of the numbers have texts up to this one.
+// How many of the numbers have this text or one that sorts before it.
 pub(super) fn place_of(entries: &[Entry], sorted: &[usize], text: &[u8]) -> usize
     requires { IsSorted entries.now sorted.now }
     ensures { IsPlace entries.now sorted.now text.now result }
@@ -38,9 +48,13 @@ pub(super) fn place_of(entries: &[Entry], sorted: &[usize], text: &[u8]) -> usiz
 }
 
 // The entry of the last text up to this one.
-pub(super) fn nearest<'a>(entries: &'a [Entry], sorted: &[usize], text: &[u8]) -> Option<&'a Entry>
+pub(super) fn predecessor<'a>(
+    entries: &'a [Entry],
+    sorted: &[usize],
+    text: &[u8],
+) -> Option<&'a Entry>
     requires { IsSorted entries.now sorted.now }
-    ensures { IsNearest text.now entries.now (option_copied result) }
+    ensures { IsPredecessor text.now entries.now (option_copied result) }
 {
     let place = place_of(entries, sorted, text);
     if place == 0 {

@@ -3,7 +3,7 @@ use Rattle.std.specs.Prelude.{nat_eq}
 use Rattle.std.proofs.lemmas.Bool.Decides.{nat_tests}
 use Rattle.std.proofs.lemmas.List.Sums.{common_prefix_len-le}
 use Rattle.iref.proofs.PrefixOrderLemmas.{is_upto_by_common}
-use Rattle.iref.proofs.compact.common.is_upto.Goals as goal
+use Rattle.iref.proofs.compact.sorted.is_upto.Goals as goal
 
 pub bounds-a-common : goal.bounds-a-common
 bounds-a-common c = omega (arith, (common_prefix_len-le nat_eq c.args.a.now c.args.b.now).0, c.common_front-common.ensures)
