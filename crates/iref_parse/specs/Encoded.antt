@@ -29,6 +29,10 @@ pub record StepsTo (test : ℕ → Bool) (text rest : Text) : Type 0 where
   pub encoded : are_encoded test rest ≡ true → are_encoded test text ≡ true
   pub shorter : length rest < length text
 
+-- the bytes are those of a character beyond ASCII
+abbrev pub IsWide : Text → ℕ → Type 0
+IsWide bytes code = (128 ≤ code) × (encode_utf8 code ≡ bytes)
+
 -- the text begins with a character beyond ASCII, that the rest follows
 pub record BeginsWide (code : ℕ) (text rest : Text) : Type 0 where
   pub wide : 128 ≤ code

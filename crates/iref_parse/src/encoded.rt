@@ -1,8 +1,9 @@
 //! Whether a text is of plain bytes, of escapes and of the characters that a set has beyond ASCII.
-ghost use Rattle.std.specs.Prelude.{◌≡◌, ◌+◌, ◌%◌, ◌<◌, ◌≤◌, true, length, encode_utf8};
+ghost use Rattle.std.specs.Prelude.{◌≡◌, ◌+◌, ◌%◌, ◌<◌, ◌≤◌, true, length};
 ghost use Rattle.std.specs.Prelude.{IfSome, ◌∷◌, [], slice_index, nat_le, ◌==◌, ◌||◌};
 ghost use Rattle.iref_grammar.specs.Grammar.{percent_sign};
-ghost use Rattle.iref_parse.specs.Encoded.{are_encoded, is_plain_char, BeginsWide, StepsTo};
+ghost use Rattle.iref_parse.specs.Encoded.{are_encoded, is_plain_char, BeginsWide, IsWide};
+ghost use Rattle.iref_parse.specs.Encoded.{StepsTo};
 
 use crate::plain::plain_first;
 use iref_grammar::chars::CharSet;
@@ -23,7 +24,7 @@ fn low_bits(byte: u8) -> Option<u32>
 #[inline(always)]
 fn of_two(first: u8, second: u8) -> Option<u32>
     requires { first < 224 }
-    ensures { IfSome result (λ code. (128 ≤ code) × (encode_utf8 code ≡ first ∷ second ∷ [])) }
+    ensures { IfSome result (IsWide (first ∷ second ∷ [])) }
 {
     if first < 194 {
         return None;
@@ -36,8 +37,7 @@ fn of_two(first: u8, second: u8) -> Option<u32>
 fn of_three(first: u8, second: u8, third: u8) -> Option<u32>
     requires least { 224 ≤ first }
     requires most { first < 240 }
-    ensures { IfSome result (λ code. (128 ≤ code)
-        × (encode_utf8 code ≡ first ∷ second ∷ third ∷ [])) }
+    ensures { IfSome result (IsWide (first ∷ second ∷ third ∷ [])) }
 {
     let high = u32::from(first - 224) * 64 + low_bits(second)?;
     if high < 32 {
@@ -50,8 +50,7 @@ fn of_three(first: u8, second: u8, third: u8) -> Option<u32>
 #[inline(always)]
 fn of_four(first: u8, second: u8, third: u8, fourth: u8) -> Option<u32>
     requires { 240 ≤ first }
-    ensures { IfSome result (λ code. (128 ≤ code)
-        × (encode_utf8 code ≡ first ∷ second ∷ third ∷ fourth ∷ [])) }
+    ensures { IfSome result (IsWide (first ∷ second ∷ third ∷ fourth ∷ [])) }
 {
     let high = u32::from(first - 240) * 64 + low_bits(second)?;
     if high < 16 {
@@ -72,7 +71,7 @@ fn continues(byte: u8) -> bool
 #[inline(always)]
 fn of_common_two(first: u8, second: u8) -> Option<u32>
     requires { first < 224 }
-    ensures { IfSome result (λ code. (128 ≤ code) × (encode_utf8 code ≡ first ∷ second ∷ [])) }
+    ensures { IfSome result (IsWide (first ∷ second ∷ [])) }
 {
     if 195 <= first && continues(second) {
         Some(u32::from(first - 192) * 64 + u32::from(second % 64))
@@ -84,12 +83,12 @@ fn of_common_two(first: u8, second: u8) -> Option<u32>
 // The character of three bytes, if they are one from U+0800 to U+CFFF.
 #[inline(always)]
 fn of_common_three(first: u8, second: u8, third: u8) -> Option<u32>
-    requires { 224 ≤ first }
-    ensures { IfSome result (λ code. (128 ≤ code)
-        × (encode_utf8 code ≡ first ∷ second ∷ third ∷ [])) }
+    requires least { 224 ≤ first }
+    requires most { first < 237 }
+    ensures { IfSome result (IsWide (first ∷ second ∷ third ∷ [])) }
 {
     let high = u32::from(first - 224) * 64 + u32::from(second % 64);
-    if 0x800 / 64 <= high && high < 0xD000 / 64 && continues(second) && continues(third) {
+    if 0x800 / 64 <= high && continues(second) && continues(third) {
         Some(high * 64 + u32::from(third % 64))
     } else {
         None
@@ -131,7 +130,7 @@ fn after_common<C: CharSet>(text: &[u8]) -> Option<&[u8]>
 {
     match text {
         [a, b, rest @ ..] if *a < 224 => after_code::<C>(text, of_common_two(*a, *b)?, rest),
-        [a, b, c, rest @ ..] if 224 <= *a => {
+        [a, b, c, rest @ ..] if 224 <= *a && *a < 237 => {
             after_code::<C>(text, of_common_three(*a, *b, *c)?, rest)
         }
         _ => None,
