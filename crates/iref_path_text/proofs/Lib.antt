@@ -6,6 +6,7 @@ pub mod OrderLemmas
 pub mod SpellLemmas
 pub mod StepTextLemmas
 pub mod StepValueLemmas
+mod DifferenceLemmas
 pub mod DirectoryLemmas
 pub mod FrontOrderLemmas
 pub mod NamedLemmas

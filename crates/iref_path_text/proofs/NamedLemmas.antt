@@ -1,28 +1,30 @@
 -- The normal list of segments among which no `..` is.
-use Rattle.std.proofs.Common.{◌≡◌, ◌<◌, ℕ, Bool, true, false, List, [], ◌∷◌, ◌++◌, ◌+◌, length, drop, length-drop, slice_index, ap, refl, ◌∙◌, arith, Greater, Less}
+use Rattle.std.proofs.Common.{◌≡◌, ◌<◌, ℕ, Bool, true, false, List, [], ◌∷◌, ◌++◌, append_assoc, ◌+◌, length, drop, length-drop, ap, refl, sym, ◌∙◌, arith, Greater, Less}
 use Rattle.std.proofs.lemmas.Bool.Decides.{nat_tests}
 use Rattle.std.proofs.lemmas.List.{map-append}
 use Rattle.std.proofs.lemmas.List.Splits.{slice_split-cons_no, slice_split-cons_yes}
 use Rattle.std.proofs.lemmas.Slice.Eq.{bytes_eq-Decides}
-use Rattle.std.specs.Borrow.{Bor}
 use Rattle.std.specs.Char.{char_set_contains}
 use Rattle.std.specs.Cmp.Lexicographic.{slice_cmp}
-use Rattle.std.specs.List.{filter, list_any, position_or_len}
-use Rattle.std.specs.Prelude.{◌==◌, ◌||◌, Option, Some, None, not, if◌then◌else◌}
+use Rattle.std.specs.List.{list_any, position_or_len}
+use Rattle.std.specs.Prelude.{◌==◌, ◌||◌, Option, Some, None, if◌then◌else◌}
 use Rattle.iref_grammar.specs.Grammar.{slash}
 use Rattle.iref_grammar.specs.Keys.{text_order}
-use Rattle.iref_grammar.specs.PathValue.{read_path}
+use Rattle.iref_grammar.specs.PathValue.{PathValue}
 use Rattle.iref_grammar.specs.Rules.{Text}
-use Rattle.iref_grammar.specs.Texts.{after, after_first_char, pieces_at}
+use Rattle.iref_grammar.specs.Texts.{after, after_first_char, is_empty, pieces_at}
 use Rattle.iref_grammar.proofs.CutLemmas.{from_first-no, from_first-yes}
-use Rattle.iref_model.specs.NormalList.{ends_in_dots, is_dot, is_dot_dot, normal_segments}
-use Rattle.iref_model.specs.NormalReading.{closing, open_before, staying_before}
+use Rattle.iref_model.specs.NormalList.{ends_in_dots, is_dot, is_dot_dot, normal_segments, without_lone_empty}
+use Rattle.percent_encoding.specs.Percent.{percent_decode}
+use Rattle.percent_encoding.proofs.PercentLemmas.{length-percent_decode, percent_decode-nil}
+use Rattle.iref_model.proofs.StayingLemmas.{open_before-append, staying_before-append}
+use Rattle.iref_model.specs.NormalReading.{closing, leading_parents, open_before, staying_before}
 use Rattle.iref_model.proofs.ItemLemmas.{normal_segments-is}
 use Rattle.iref_model.proofs.PieceLemmas.{some_piece}
 use Rattle.iref_parse.specs.Dots.{begins_with_dot, is_some_dotted}
 use Rattle.iref_path_text.specs.Named.{has_dot_pair, named}
-use Rattle.iref_path_text.specs.Pieces.{ShareFront, pieces_if_some}
-use Rattle.iref_path_text.proofs.DotlessLemmas.{dotless_name, normal_segments-dotless}
+use Rattle.iref_path_text.specs.Pieces.{ShareFront}
+use Rattle.iref_path_text.proofs.DotlessLemmas.{dotless_name}
 use Rattle.iref_path_text.proofs.FrontOrderLemmas.{same_order}
 use Rattle.iref_path_text.proofs.OrderLemmas.{decoded}
 
@@ -37,35 +39,14 @@ items_named [] h = refl
 items_named (s ∷ []) h = grind (arith, none_open)
 items_named (s ∷ t ∷ rest) h = grind (arith, none_open (t ∷ rest), items_named (t ∷ rest))
 
-dotless_named : (list : List Text) → is_some_dotted list ≡ false → named list ≡ list
+pub dotless_named : (list : List Text) → is_some_dotted list ≡ false → named list ≡ list
 dotless_named [] h = refl
 dotless_named (s ∷ rest) h = grind (arith, dotless_name, dotless_named rest)
 
--- ---- the text
-
--- the first segment begins with the first byte
-first_byte : (c : ℕ) (cs : Text) → (c == slash) ≡ false → (q : Text) × (qs : List Text) × (pieces_at slash (c ∷ cs) ≡ (c ∷ q) ∷ qs)
-first_byte c cs h = let some = some_piece slash cs in (some.0, some.1, grind (arith, slice_split-cons_no (λ c. c == slash) c cs h))
-
-pub named-dotless : (absolute : Bool) (text : Text) → 0 < length text → (slice_index text 0 == slash) ≡ false → is_some_dotted (pieces_at slash text) ≡ false
-    → normal_segments (record { absolute = absolute; segments = pieces_at slash text }) ≡ named (pieces_at slash text)
-named-dotless absolute [] some h k = absurd (omega arith)
-named-dotless absolute (c ∷ cs) some h k = let first = first_byte c cs h in grind (arith, normal_segments-dotless, dotless_named)
-
-pub named-names : (absolute : Bool) (text : Text) → 0 < length text → (slice_index text 0 == slash) ≡ false → (slice_index text 0 == 0x2E) ≡ false → list_any is_dot_dot (pieces_at slash text) ≡ false
-    → normal_segments (record { absolute = absolute; segments = pieces_at slash text }) ≡ named (pieces_at slash text)
-named-names absolute [] some h d k = absurd (omega arith)
-named-names absolute (c ∷ cs) some h d k =
-    let first = first_byte c cs h in
-    let list = pieces_at slash (c ∷ cs) in
-    let none = none_open list k in
-    let all = items_named list k in
-    grind (arith, bytes_eq-Decides, normal_segments-is)
-
--- a path has the normal list that is known of its text of segments
-pub of_path : (path : Text) (absolute : Bool) (segments : Option (Bor Text)) (text : Bor Text) → read_path path ≡ record { absolute = absolute; segments = pieces_if_some segments } → segments ≡ Some text
-    → ((flag : Bool) → normal_segments (record { absolute = flag; segments = pieces_at slash text.now }) ≡ named (pieces_at slash text.now)) → normal_segments (read_path path) ≡ named (pieces_at slash text.now)
-of_path path absolute segments text e f h = ap normal_segments (e ∙ (λ i. record { absolute = absolute; segments = pieces_if_some (f i) })) ∙ h absolute
+-- none of them is `..`
+pub dotless_parents : (list : List Text) → is_some_dotted list ≡ false → list_any is_dot_dot list ≡ false
+dotless_parents [] h = refl
+dotless_parents (s ∷ rest) h = grind (arith, dotless_name, dotless_parents rest)
 
 -- ---- two dots side by side
 
@@ -145,23 +126,81 @@ longer_left text = let some = some_piece slash text in let named = some_named so
 pub longer_right : (text : Text) → slice_cmp text_order [] (decoded (named (pieces_at slash text))) ≡ Less
 longer_right text = let some = some_piece slash text in let named = some_named some.0 some.1 in grind arith
 
--- ---- what both begin with does not count
+-- ---- behind a front, in which anything may stand
 
-abbrev names_of : List Text → List Text
-names_of list = filter (λ s. not (is_dot s)) list
+-- the last segment decides whether a list ends in `.` or `..`
+ends-behind : (front : List Text) (s : Text) (rest : List Text) → ends_in_dots (front ++ s ∷ rest) ≡ ends_in_dots (s ∷ rest)
+ends-behind [] s rest = refl
+ends-behind (t ∷ []) s rest = refl
+ends-behind (t ∷ u ∷ front) s rest = ends-behind (u ∷ front) s rest
 
-named-front : (front : List Text) (s : Text) (rest : List Text) → named (front ++ s ∷ rest) ≡ names_of front ++ named (s ∷ rest)
-named-front [] s rest = refl
-named-front (t ∷ []) s rest = grind arith
-named-front (t ∷ u ∷ front) s rest = grind (arith, named-front (u ∷ front) s rest)
+-- what is in the normal list of a front that no `..` follows
+abbrev of_front : Bool → List Text → List Text
+of_front absolute front = leading_parents absolute (open_before front 0) ++ staying_before front 0
 
-pub shared-names : (left right below rest : Text) → ShareFront (pieces_at slash left) (pieces_at slash right) (pieces_at slash below) (pieces_at slash rest)
-    → slice_cmp text_order (decoded (named (pieces_at slash below))) (decoded (named (pieces_at slash rest))) ≡ slice_cmp text_order (decoded (named (pieces_at slash left))) (decoded (named (pieces_at slash right)))
-shared-names left right below rest h =
-    let some = some_piece slash below in
-    let other = some_piece slash rest in
-    let first = h.first in
-    let second = h.second in
-    let one = named-front h.front some.0 some.1 in
-    let two = named-front h.front other.0 other.1 in
-    grind (arith, map-append, same_order (decoded (names_of h.front)))
+normal_segments-behind : (absolute : Bool) (front list : List Text) → is_empty list ≡ false → list_any is_dot_dot list ≡ false
+    → normal_segments (record { absolute = absolute; segments = front ++ list }) ≡ without_lone_empty (of_front absolute front ++ named list)
+normal_segments-behind absolute front [] some h = absurd (cc some)
+normal_segments-behind absolute front (s ∷ rest) some h =
+    let none = none_open (s ∷ rest) h in
+    let all = items_named (s ∷ rest) h in
+    let ends = ends-behind front s rest in
+    grind (arith, normal_segments-is, open_before-append, staying_before-append, append_assoc)
+
+named_some : (list : List Text) → is_empty list ≡ false → is_empty (named list) ≡ false
+named_some [] h = h
+named_some (s ∷ rest) h = ap is_empty (some_named s rest).2
+
+-- the bytes of a text that is not empty are not empty
+some_decoded : (c : ℕ) (cs : Text) → (d : ℕ) × (ds : Text) × (percent_decode (c ∷ cs) ≡ d ∷ ds)
+some_decoded c cs = by (percent_decode (c ∷ cs)) refl
+  where
+    by : (bytes : Text) → percent_decode (c ∷ cs) ≡ bytes → (d : ℕ) × (ds : Text) × (percent_decode (c ∷ cs) ≡ d ∷ ds)
+    by [] e = absurd (omega (arith, (length-percent_decode (c ∷ cs)).1, ap length e))
+    by (d ∷ ds) e = (d, ds, e)
+
+not_lone : (p : Text) (front : List Text) (x : Text) (xs : List Text) → without_lone_empty (p ∷ (front ++ x ∷ xs)) ≡ p ∷ (front ++ x ∷ xs)
+not_lone p [] x xs = grind arith
+not_lone p (q ∷ front) x xs = grind arith
+
+-- one empty segment is as far from other names as the empty list
+behind_front : (front xs ys : List Text) → is_empty xs ≡ false → is_empty ys ≡ false
+    → slice_cmp text_order (decoded (without_lone_empty (front ++ xs))) (decoded (without_lone_empty (front ++ ys))) ≡ slice_cmp text_order (decoded xs) (decoded ys)
+behind_front [] [] ys h k = absurd (cc h)
+behind_front [] (x ∷ xs) [] h k = absurd (cc k)
+behind_front [] ([] ∷ []) ([] ∷ []) h k = grind (arith, percent_decode-nil)
+behind_front [] ([] ∷ []) ([] ∷ t ∷ ys) h k = grind (arith, percent_decode-nil)
+behind_front [] ([] ∷ []) ((d ∷ ds) ∷ ys) h k = let some = some_decoded d ds in grind (arith, percent_decode-nil)
+behind_front [] ([] ∷ s ∷ xs) ([] ∷ []) h k = grind (arith, percent_decode-nil)
+behind_front [] ((c ∷ cs) ∷ xs) ([] ∷ []) h k = let some = some_decoded c cs in grind (arith, percent_decode-nil)
+behind_front [] ([] ∷ s ∷ xs) ([] ∷ t ∷ ys) h k = refl
+behind_front [] ([] ∷ s ∷ xs) ((d ∷ ds) ∷ ys) h k = refl
+behind_front [] ((c ∷ cs) ∷ xs) ([] ∷ t ∷ ys) h k = refl
+behind_front [] ((c ∷ cs) ∷ xs) ((d ∷ ds) ∷ ys) h k = refl
+behind_front (p ∷ front) [] ys h k = absurd (cc h)
+behind_front (p ∷ front) (x ∷ xs) [] h k = absurd (cc k)
+behind_front (p ∷ front) (x ∷ xs) (y ∷ ys) h k =
+    (λ i. slice_cmp text_order (decoded (not_lone p front x xs i)) (decoded (not_lone p front y ys i)))
+    ∙ (λ i. slice_cmp text_order (map-append percent_decode (p ∷ front) (x ∷ xs) i) (map-append percent_decode (p ∷ front) (y ∷ ys) i))
+    ∙ same_order (decoded (p ∷ front)) (decoded (x ∷ xs)) (decoded (y ∷ ys))
+
+some_pieces : (text : Text) → is_empty (pieces_at slash text) ≡ false
+some_pieces text = ap is_empty (some_piece slash text).2
+
+-- what two paths begin with does not count, where no `..` follows it
+pub order_behind : (p q : PathValue) (left right below rest : Text) → p.absolute ≡ q.absolute → p.segments ≡ pieces_at slash left → q.segments ≡ pieces_at slash right
+    → ShareFront (pieces_at slash left) (pieces_at slash right) (pieces_at slash below) (pieces_at slash rest)
+    → list_any is_dot_dot (pieces_at slash below) ≡ false → list_any is_dot_dot (pieces_at slash rest) ≡ false
+    → slice_cmp text_order (decoded (named (pieces_at slash below))) (decoded (named (pieces_at slash rest))) ≡ slice_cmp text_order (decoded (normal_segments p)) (decoded (normal_segments q))
+order_behind p q left right below rest flags e f shared h k =
+    let front = of_front p.absolute shared.front in
+    let names = named (pieces_at slash below) in
+    let others = named (pieces_at slash rest) in
+    let one : normal_segments p ≡ without_lone_empty (front ++ names) =
+    ap (λ list. normal_segments (record { absolute = p.absolute; segments = list })) (e ∙ shared.first)
+    ∙ normal_segments-behind p.absolute shared.front (pieces_at slash below) (some_pieces below) h in
+    let two : normal_segments q ≡ without_lone_empty (front ++ others) =
+    (λ i. normal_segments (record { absolute = sym flags i; segments = (f ∙ shared.second) i }))
+    ∙ normal_segments-behind p.absolute shared.front (pieces_at slash rest) (some_pieces rest) k in
+    sym (behind_front front names others (named_some _ (some_pieces below)) (named_some _ (some_pieces rest)))
+    ∙ sym (λ i. slice_cmp text_order (decoded (one i)) (decoded (two i)))

@@ -1,22 +1,26 @@
-//! Order and hash of paths, by their keys. Where no segment begins with a dot, the segments are the
-//! normal list, and where none is `..`, they are it but for each `.`; else both normal lists are
-//! read from the back. Both take no memory.
+//! Order and hash of paths, by their keys. Both take no memory.
+//!
+//! What two paths have in common up to their last common `/` does not count in their order, if no
+//! `..` follows it. So where no two dots stand side by side behind it, or no segment there begins
+//! with a dot, what follows is compared from the front. Else both normal lists are read from the
+//! back. So is that of a path for its hash, unless no segment begins with a dot.
 
-ghost use Rattle.std.specs.{Cmp.Lexicographic.{slice_cmp}, Prelude.{◌≡◌, ◌∷◌, ◌<◌, Bool, true}};
-ghost use Rattle.std.specs.Prelude.{fold, length, map};
+ghost use Rattle.std.specs.{Cmp.Lexicographic.{slice_cmp}, List.{list_any}};
+ghost use Rattle.std.specs.Prelude.{◌≡◌, ◌∷◌, ◌<◌, IfSome, false, fold, length, map};
 ghost use Rattle.percent_encoding.specs.Percent.{percent_decode};
 ghost use Rattle.iref_grammar.specs.{read_path, slash, text_order, Texts.{pieces_at}};
-ghost use Rattle.iref_model.specs.{normal_segments, path_key, path_key_cmp, fed_from_the_back};
-ghost use Rattle.iref_model.specs.{fed_path};
-ghost use Rattle.iref_parse.specs.Dots.{begins_with_dot, is_some_dotted};
-ghost use Rattle.iref_path_text.specs.{Named.{has_dot_pair, named}, Pieces.{pieces_if_some}};
+ghost use Rattle.iref_model.specs.{is_dot_dot, normal_segments, path_key, path_key_cmp};
+ghost use Rattle.iref_model.specs.{fed_from_the_back, fed_path};
+ghost use Rattle.iref_parse.specs.Dots.{begins_with_dot, has_dot_segment, is_some_dotted};
+ghost use Rattle.iref_path_text.specs.Named.{has_dot_pair, named, rank};
+ghost use Rattle.iref_path_text.specs.Pieces.{pieces_if_some};
 ghost use Rattle.iref_path_text.specs.Remaining.{IsSound, decoded_left};
 
 use crate::common::{compare_lists, items_cmp};
 use crate::remaining::Remaining;
 use crate::segments::{behind_directory, first_segment, last_segment, split_root};
 use iref_parse::cut::cut_bytes;
-use iref_parse::decoded::hash_decoded;
+use iref_parse::decoded::{hash_decoded, kept_front};
 use iref_parse::dots::has_dots;
 use std::cmp::Ordering;
 use std::hash::{Hash, Hasher};
@@ -97,19 +101,63 @@ fn has_dot_pair(text: &[u8]) -> bool
     false
 }
 
-// Whether the segments are found to be the normal list but for each `.`: none begins with a dot, or
-// the first is a name that is not empty, and none is `..`.
-fn are_named(text: &str) -> bool
-    ensures { result ≡ true → (absolute : Bool) → normal_segments (record {
-      absolute = absolute;
-      segments = pieces_at slash text.now;
-    }) ≡ named (pieces_at slash text.now) }
+// Of what follows the bytes that two texts have in common before any `%`: how it counts in the
+// order of their segments, unless it begins with an escape. The end of a text is least, then a `/`.
+#[inline(always)]
+fn rank(rest: &[u8]) -> Option<u16>
+    ensures { result ≡ rank rest.now }
 {
-    let bytes = text.as_bytes();
-    if bytes.is_empty() || bytes[0] == b'/' {
-        return false;
+    match rest {
+        [] => Some(0),
+        [b'%', ..] => None,
+        [b'/', ..] => Some(1),
+        [byte, ..] => Some(2 + u16::from(*byte)),
     }
-    !has_dots(bytes) || (bytes[0] != b'.' && !has_dot_pair(bytes))
+}
+
+// The order of the segments of two texts, unless an escape stands before their first difference, or
+// there.
+fn compare_at_difference(left: &[u8], right: &[u8]) -> Option<Ordering>
+    ensures { IfSome result (λ order. order ≡ slice_cmp text_order
+        (map percent_decode (pieces_at slash left.now))
+        (map percent_decode (pieces_at slash right.now))) }
+{
+    let front = kept_front(left, right);
+    Some(rank(&left[front..])?.cmp(&rank(&right[front..])?))
+}
+
+// The order of the segments of two texts, none of which begins with a dot.
+fn compare_dotless(left: &str, right: &str) -> Ordering
+    requires left { has_dot_segment left.now ≡ false }
+    requires right { has_dot_segment right.now ≡ false }
+    ensures { result ≡ slice_cmp text_order
+        (map percent_decode (pieces_at slash left.now))
+        (map percent_decode (pieces_at slash right.now)) }
+{
+    match compare_at_difference(left.as_bytes(), right.as_bytes()) {
+        Some(order) => order,
+        None => compare_names(Some(left), Some(right)),
+    }
+}
+
+// The order of the segments of two texts but for each `.`, unless one of them may be `..`.
+fn compare_without_parents(left: &str, right: &str) -> Option<Ordering>
+    ensures left { IfSome result (λ order.
+        list_any is_dot_dot (pieces_at slash left.now) ≡ false) }
+    ensures right { IfSome result (λ order.
+        list_any is_dot_dot (pieces_at slash right.now) ≡ false) }
+    ensures order { IfSome result (λ order. order ≡ slice_cmp text_order
+        (map percent_decode (named (pieces_at slash left.now)))
+        (map percent_decode (named (pieces_at slash right.now)))) }
+{
+    let (a, b) = (left.as_bytes(), right.as_bytes());
+    if !has_dots(a) && !has_dots(b) {
+        return Some(compare_dotless(left, right));
+    }
+    if has_dot_pair(a) || has_dot_pair(b) {
+        return None;
+    }
+    Some(compare_names(Some(left), Some(right)))
 }
 
 // The order of the normal lists of two paths.
@@ -133,9 +181,9 @@ pub fn path_texts_cmp(a: &str, b: &str) -> Ordering
         return flags;
     }
     if let (Some(left), Some(right)) = (split_root(a).1, split_root(b).1) {
-        if are_named(left) && are_named(right) {
-            let (left, right) = behind_directory(left, right);
-            return compare_names(Some(left), Some(right));
+        let (left, right) = behind_directory(left, right);
+        if let Some(order) = compare_without_parents(left, right) {
+            return order;
         }
     }
     compare_normal(a, b)

@@ -1,19 +1,26 @@
-use Rattle.std.proofs.Common.{sym, ◌∙◌, arith}
-use Rattle.std.specs.Cmp.Lexicographic.{slice_cmp}
-use Rattle.iref_grammar.specs.Keys.{text_order}
-use Rattle.iref_path_text.proofs.NamedLemmas.{of_path, shared-names}
-use Rattle.iref_path_text.proofs.OrderLemmas.{decoded, flags_decide, lists_decide}
+use Rattle.std.proofs.Common.{◌≡◌, ap, ◌∙◌, arith}
+use Rattle.iref_grammar.specs.Grammar.{slash}
+use Rattle.iref_grammar.specs.PathValue.{read_path}
+use Rattle.iref_grammar.specs.Texts.{pieces_at}
+use Rattle.iref_path_text.specs.Pieces.{pieces_if_some}
+use Rattle.iref_path_text.proofs.NamedLemmas.{order_behind}
+use Rattle.iref_path_text.proofs.OrderLemmas.{flags_decide, lists_decide}
 use Rattle.iref_path_text.proofs.order.path_texts_cmp.Goals as goal
 
 pub returns-then-is_ne : goal.returns-then-is_ne
 returns-then-is_ne c = grind (arith, flags_decide)
 
-pub returns-then-are_named-2 : goal.returns-then-are_named-2
-returns-then-are_named-2 c =
-    let left = of_path c.args.a.now _ _ c.in-Some-Some.left c.split_root.ensures.path c.in-Some-Some.is-0 (c.are_named.ensures c.if-are_named.true) in
-    let right = of_path c.args.b.now _ _ c.in-Some-Some.right c.split_root-2.ensures.path c.in-Some-Some.is-1 (c.are_named-then-are_named.ensures c.if-are_named-2.true) in
-    let same = shared-names c.in-Some-Some.left.now c.in-Some-Some.right.now c.behind_directory.result.0.now c.behind_directory.result.1.now c.behind_directory.ensures.shared in
-    let order = c.compare_names.ensures ∙ same ∙ sym (λ i. slice_cmp text_order (decoded (left i)) (decoded (right i))) in
+pub returns-in-Some : goal.returns-in-Some
+returns-in-Some c =
+    let p = read_path c.args.a.now in
+    let q = read_path c.args.b.now in
+    let left = c.in-Some-Some.left.now in
+    let right = c.in-Some-Some.right.now in
+    let e : p.segments ≡ pieces_at slash left = ap (λ p. p.segments) c.split_root.ensures.path ∙ ap pieces_if_some c.in-Some-Some.is-0 in
+    let f : q.segments ≡ pieces_at slash right = ap (λ p. p.segments) c.split_root-2.ensures.path ∙ ap pieces_if_some c.in-Some-Some.is-1 in
+    let flags : p.absolute ≡ q.absolute = grind arith in
+    let found = c.in-Some.ensures in
+    let order = order_behind p q left right c.behind_directory.result.0.now c.behind_directory.result.1.now flags e f c.behind_directory.ensures.shared found.left found.right in
     grind (arith, lists_decide)
 
 pub returns : goal.returns
