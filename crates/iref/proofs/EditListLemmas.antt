@@ -7,7 +7,7 @@ use Rattle.iref_grammar.specs.Rules.{Text}
 use Rattle.iref_grammar.specs.Authority.{spell_authority}
 use Rattle.iref_grammar.specs.Reference.{ReferenceValue, read_reference}
 use Rattle.iref_model.specs.Edits as model
-use Rattle.iref_model.specs.Edits.{EditStep, EditRefusal, Edited, EditsOutcome, drops_scheme, edited, edited_uri, edited_from}
+use Rattle.iref_model.specs.Edits.{EditStep, EditRefusal, Edited, drops_scheme, edited, edited_uri, edited_from}
 use Rattle.iref.specs.declared.edits.EditFault.{EditFault}
 use Rattle.iref.specs.EditAnswers.{AppliesEdit, AreDone, StopsAt, edited_in, is_authority_edit}
 

@@ -1,5 +1,5 @@
 -- Where the entries of a prefix table are.
-use Rattle.std.proofs.Common.{arith, ◌≡◌, ℕ, zero, suc, ◌<◌, Bool, true, false, [], ◌∷◌, ◌++◌, length, get_or, take, refl, sym, ap, subst}
+use Rattle.std.proofs.Common.{add-one, ◌∙◌, ◌+◌, arith, ◌≡◌, ℕ, zero, suc, ◌<◌, Bool, true, false, [], ◌∷◌, ◌++◌, length, get_or, take, refl, sym, ap, subst}
 use Rattle.std.specs.Prelude.{nat_lt, bytes_eq, slice_get, String, Option, Some, None, is_some, IfSome, if◌then◌else◌, string_bytes}
 use Rattle.std.specs.Option.{option_or, option_copied}
 use Rattle.std.specs.List.{AllByRecursion, find}
@@ -9,6 +9,7 @@ use Rattle.std.specs.Cmp.{nat_cmp_is, ranked}
 use Rattle.std.specs.Cmp.Lexicographic.{slice_cmp, bytes_decides}
 use Rattle.std.specs.String.{string_cmp}
 use Rattle.std.specs.BTreeMap.{BTreeMap, get_by_text, UpdatesBy}
+use Rattle.std.proofs.Math.Seq.{take-suc}
 use Rattle.std.proofs.lemmas.Map.Text.{btree_map_updates_text}
 use Rattle.iref_grammar.specs.Rules.{Text}
 use Rattle.iref_mapping.specs.PrefixTable.{PrefixEntry, PrefixTable, has_label, is_taken, labels_differ}
@@ -63,10 +64,6 @@ got_at table i found h k = grind (arith, slice_get_past, slice_get-get_or)
 pub no_number : (test : PrefixEntry → Bool) (table : PrefixTable) (o : Option ℕ) → IsNumber test table o → o ≡ None → find test table ≡ None
 no_number test table o h e = grind arith
 
-pub found_by_number : (test : PrefixEntry → Bool) (table : PrefixTable) (o : Option ℕ) → IsNumber test table o → is_some (find test table) ≡ is_some o
-found_by_number test table None h = ap is_some h
-found_by_number test table (Some i) h = ap is_some h.2
-
 pub number_at : (test : PrefixEntry → Bool) (table : PrefixTable) (o : Option ℕ) (i : ℕ) → IsNumber test table o → o ≡ Some i → slice_get table i ≡ find test table
 number_at test table o i h e = grind arith
 
@@ -111,6 +108,14 @@ module _ (table : PrefixTable) (old new : Index) (h : IsIndexed table old) where
     lengths = lengths_stay old.lengths new.lengths table lengths h.lengths;
     sorted = λ l. subst (IsSorted table) (sym sorted) (h.sorted l);
   }
+
+-- the first entries with the next one
+pub next_entry : (table : PrefixTable) (i : ℕ) (e : PrefixEntry) (label iri : Text) → i < length table → e ≡ get_or table i e → label ≡ e.label → iri ≡ e.iri
+    → take (i + 1) table ≡ take i table ++ record { label = label; iri = iri } ∷ []
+next_entry table i e label iri l at same_label same_iri =
+    ap (λ n. take n table) (add-one i)
+    ∙ take-suc table i e l
+    ∙ (λ k. take i table ++ record { label = (ap (λ e. e.label) (sym at) ∙ sym same_label) k; iri = (ap (λ e. e.iri) (sym at) ∙ sym same_iri) k } ∷ [])
 
 -- an entry of a table has no label that none of the table has
 not_taken : (table : PrefixTable) (i : ℕ) (e d : PrefixEntry) → is_taken d.label table ≡ false → i < length table → e ≡ get_or table i e → bytes_eq e.label d.label ≡ false

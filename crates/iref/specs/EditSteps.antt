@@ -1,10 +1,14 @@
 -- The step of the model that each edit stands for.
-use Rattle.std.specs.Prelude.{Bool, List, option_map}
+use Rattle.std.specs.Prelude.{ℕ, Bool, List, map, Option, option_map, Result}
 use Rattle.std.specs.List.{list_all}
 use Rattle.iref_model.specs.Edits as model
 use Rattle.iref_model.specs.Edits.{EditStep}
 use Rattle.iref_component.specs.Components.{text_of}
-use Rattle.iref.specs.EditAnswers.{keeps_query_and_fragment}
+use Rattle.iref_grammar.specs.Rules.{Text}
+use Rattle.iref_reference.specs.declared.owned.ReferenceBuf.{ReferenceBuf}
+use Rattle.iref_reference.specs.References.{reference_buf_value}
+use Rattle.iref.specs.EditAnswers.{AppliesEdits, edited_in, keeps_query_and_fragment}
+use Rattle.iref.specs.declared.edits.EditFault.{EditFault}
 use Rattle.iref.specs.declared.edits.Edit.{Edit}
 use Rattle.iref.specs.declared.edits.Edit.TheVariants.{SetScheme, SetAuthority, ReplaceAuthority, SetUserInfo, SetHost, SetPort, SetPortU32, SetPath, SetAndNormalizePath, SetQuery, SetFragment, LazyPush, Push, JoinPath, Pop, Clear, Normalize}
 
@@ -31,3 +35,7 @@ edit_step Normalize = model.Normalize
 -- each edit leaves the query and the fragment as they are
 abbrev pub all_keep_query_and_fragment : {C : _} {c : _} → List (Edit C c) → Bool
 all_keep_query_and_fragment edits = list_all (λ edit. keeps_query_and_fragment (edit_step edit)) edits
+
+-- all edits of the list are done by a rule that allows these schemes, or those before the one that stops
+abbrev pub AppliesList : {R C K : _} {c : _} → (Option Text → Bool) → List (Edit C c) → ReferenceBuf R C K → ReferenceBuf R C K → Result (Unit {0}) (ℕ × EditFault) → Type 0
+AppliesList allows edits old new result = AppliesEdits (edited_in allows) (map edit_step edits) (reference_buf_value old) (reference_buf_value new) result

@@ -62,8 +62,8 @@ impl Entry {
     }
 }
 
-// Adds a last entry to the index, or makes the index of all entries where the table has just become
-// too long to be without one.
+// Adds a last entry to the index of a long table, or makes the index of all entries where the table
+// has just become too long to be without one.
 fn add_to_index(
     alloc: Global,
     index: &mut Index,
@@ -87,13 +87,11 @@ fn add_to_index(
         *index = all;
         return Ok(());
     }
-    match index.add(alloc, entries, label, iri) {
-        Ok(()) => Ok(()),
-        Err(error) => Err(error),
-    }
+    index.add(alloc, entries, label, iri)?;
+    Ok(())
 }
 
-// Adds a last entry, and its number to the index.
+// Adds a last entry, and its number to the index, if the table is long.
 pub(super) fn add(
     entries: &mut Vec<Entry>,
     index: &mut Index,

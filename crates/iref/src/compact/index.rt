@@ -1,7 +1,7 @@
 //! Where the entries of a prefix table are: by their labels, by their IRIs, by the lengths of
 //! these, and in the order of these.
-ghost use Rattle.std.specs.Prelude.{◌≡◌, ◌≤◌, length, not, is_some, None, IfOk, IfSome, OnOk};
-ghost use Rattle.std.specs.Prelude.{◌&&◌, ◌++◌, [], ◌∷◌, MatchOption, OnErr, if◌then◌else◌};
+ghost use Rattle.std.specs.Prelude.{◌≡◌, ◌≤◌, ◌&&◌, length, not, is_some, None, IfOk, IfSome};
+ghost use Rattle.std.specs.Prelude.{MatchOption, OnErr, OnOk, if◌then◌else◌};
 ghost use Rattle.std.specs.List.{find};
 ghost use Rattle.std.specs.BTreeMap.{get_by_text};
 ghost use Rattle.iref.specs.PrefixIndex.{IsEmptyIndex, Gains, Stays, GainsLength, KeepsLengths};
@@ -121,28 +121,8 @@ impl Index {
         Ok(index)
     }
 
-    // Adds an entry behind the others.
+    // Adds the number of an entry behind the others under its label and its text.
     pub(super) fn add(
-        &mut self,
-        alloc: Global,
-        entries: &[Entry],
-        label: &str,
-        text: &str,
-    ) -> Result<(), Memory>
-        requires index { IsIndexed entries.now self.old }
-        requires label { find (has_label label.now) entries.now ≡ None }
-        ensures ok { OnOk result (IsIndexed
-            (entries.now ++ record { label = label.now; iri = text.now } ∷ []) self.new) }
-        ensures err { OnErr result (IsIndexed entries.now self.new) }
-    {
-        match self.put(alloc, entries, label, text) {
-            Ok(()) => Ok(()),
-            Err(error) => Err(error),
-        }
-    }
-
-    // Puts the number of an entry behind the others under its label and its text.
-    fn put(
         &mut self,
         alloc: Global,
         entries: &[Entry],

@@ -1,10 +1,10 @@
 //! Edits of a list, one after the other, up to the first that cannot be done.
 ghost use Rattle.std.specs.{Prelude.{◌≡◌, true, map, IfNone, IfSome}, List.{list_any}};
 ghost use Rattle.iref_model.specs.Edits.{edited, edited_uri};
-ghost use Rattle.iref_reference.specs.References.{reference_buf_text, reference_buf_value};
-ghost use Rattle.iref.specs.EditAnswers.{AppliesEdit, AppliesEdits, AppliesTo, edited_in};
+ghost use Rattle.iref_reference.specs.References.{reference_buf_text};
+ghost use Rattle.iref.specs.EditAnswers.{AppliesEdit, AppliesTo, edited_in};
 ghost use Rattle.iref.specs.EditAnswers.{keeps_query_and_fragment, may_take_memory};
-ghost use Rattle.iref.specs.EditSteps.{all_keep_query_and_fragment, edit_step};
+ghost use Rattle.iref.specs.EditSteps.{AppliesList, all_keep_query_and_fragment, edit_step};
 
 use crate::edits::parts::{edit_authority, edit_path};
 use crate::edits::schemes::SetsScheme;
@@ -68,8 +68,7 @@ fn apply_each<R: SetsScheme, C: CharSet>(
     reference: &mut ReferenceBuf<R, C>,
     edits: &[Edit<'_, C>],
 ) -> Applied
-    ensures { AppliesEdits (edited_in R.allows_scheme) (map edit_step edits.now)
-        (reference_buf_value reference.old) (reference_buf_value reference.new) result }
+    ensures { AppliesList R.allows_scheme edits.now reference.old reference.new result }
 {
     for (i, edit) in edits.iter().enumerate() {
         if let Err(error) = apply(reference, *edit) {
@@ -137,16 +136,15 @@ fn is_done_on_copy<R: SetsScheme, C: CharSet>(
         && some_may_take_memory(edits)
 }
 
-// Does the edits on a copy of what stands before the query and the fragment, so that these move
-// once. `None` says that memory ran out: nothing has changed.
+// Does the edits on a copy of what stands before the query and the fragment, so that these move at
+// most once. `None` says that memory ran out: nothing has changed.
 fn apply_on_copy<R: SetsScheme, C: CharSet>(
     reference: &mut ReferenceBuf<R, C>,
     edits: &[Edit<'_, C>],
 ) -> Option<Applied>
     requires { all_keep_query_and_fragment edits.now ≡ true }
-    ensures applied { IfSome result (AppliesEdits (edited_in R.allows_scheme)
-        (map edit_step edits.now) (reference_buf_value reference.old)
-        (reference_buf_value reference.new)) }
+    ensures applied { IfSome result
+        (AppliesList R.allows_scheme edits.now reference.old reference.new) }
     ensures none { IfNone result
         (reference_buf_text reference.new ≡ reference_buf_text reference.old) }
 {
@@ -170,8 +168,7 @@ fn apply_run<R: SetsScheme, C: CharSet>(
     edits: &[Edit<'_, C>],
     is_first: bool,
 ) -> Applied
-    ensures { AppliesEdits (edited_in R.allows_scheme) (map edit_step edits.now)
-        (reference_buf_value reference.old) (reference_buf_value reference.new) result }
+    ensures { AppliesList R.allows_scheme edits.now reference.old reference.new result }
 {
     if !is_first && is_done_on_copy(reference, edits) {
         if let Some(applied) = apply_on_copy(reference, edits) {
@@ -186,8 +183,7 @@ fn apply_list<R: SetsScheme, C: CharSet>(
     reference: &mut ReferenceBuf<R, C>,
     edits: &[Edit<'_, C>],
 ) -> Applied
-    ensures { AppliesEdits (edited_in R.allows_scheme) (map edit_step edits.now)
-        (reference_buf_value reference.old) (reference_buf_value reference.new) result }
+    ensures { AppliesList R.allows_scheme edits.now reference.old reference.new result }
 {
     let mut done = 0;
     while done < edits.len() {
