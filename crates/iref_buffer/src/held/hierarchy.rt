@@ -1,6 +1,6 @@
 //! What stands before the query and the fragment, which is edited apart from these.
-ghost use Rattle.std.specs.Prelude.{◌≡◌, None, IfOk};
-ghost use Rattle.iref_buffer.specs.{is_reference, read_reference, with_fragment, with_query};
+ghost use Rattle.std.specs.Prelude.{None, IfOk};
+ghost use Rattle.iref_buffer.specs.{read_reference, with_fragment, with_query};
 ghost use Rattle.iref_buffer.specs.Steps.{IsStep, StepsOrStays};
 
 use super::{Held, HeldRule};
