@@ -4,12 +4,16 @@
 
 mod awkward;
 mod digest;
+mod digits;
 mod list;
 mod made;
 mod mapping;
 mod mirror;
 mod names;
+mod namespaces;
 mod reader;
+mod sorts;
+mod tables;
 mod writer;
 
 use anyhow::{Context, Result, bail};
@@ -31,6 +35,10 @@ fn digest_of(alloc: Global, job: &str, count: u32, seed: u32) -> Result<u64> {
         "list" => list::run(alloc, count, &mut numbers, &mut digest)?,
         "map" => mapping::run(alloc, count, &mut numbers, &mut digest)?,
         "awkward" => awkward::run(alloc, count, &mut numbers, &mut digest)?,
+        "tables" => {
+            tables::run(alloc, count, &mut numbers, &mut digest)?;
+            sorts::run(alloc, count, &mut numbers, &mut digest)?;
+        }
         _ => bail!("no such job"),
     }
     Ok(digest.finish())
