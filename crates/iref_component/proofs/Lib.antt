@@ -8,3 +8,4 @@ pub mod PortLemmas
 pub mod SchemeLookLemmas
 pub mod TextLemmas
 pub mod WholeLemmas
+pub mod KeyLemmas

@@ -63,12 +63,7 @@ impl<S: Storage, R: Rule, C: CharSet> Ord for RuleText<S, R, C> {
     ghost matches_eq = { λ _ _. refl };
 
     fn cmp(&self, other: &Self) -> Ordering {
-        let (a, b) = (self.text.text(), other.text.text());
-        if a == b {
-            Ordering::Equal
-        } else {
-            R::Key::compare::<C>(a, b)
-        }
+        R::Key::compare::<C>(self.text.text(), other.text.text())
     }
 }
 

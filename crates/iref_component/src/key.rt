@@ -69,6 +69,9 @@ impl Key for LowerCase {
     ghost comparison = { by_text str_to_ascii_lowercase };
 
     fn compare<C: CharSet>(a: &str, b: &str) -> Ordering {
+        if a == b {
+            return Ordering::Equal;
+        }
         let lower = |byte: u8| byte.to_ascii_lowercase();
         a.bytes().map(lower).cmp(b.bytes().map(lower))
     }
@@ -110,6 +113,9 @@ impl Key for PartsKey {
     ghost has_key = { λ tests text. is_authority tests text ≡ true };
 
     fn compare<C: CharSet>(a: &str, b: &str) -> Ordering {
+        if a == b {
+            return Ordering::Equal;
+        }
         parts_of::<C>(a).cmp(&parts_of::<C>(b))
     }
 
@@ -125,6 +131,9 @@ impl Key for PathKey {
     ghost comparison = { by_segments };
 
     fn compare<C: CharSet>(a: &str, b: &str) -> Ordering {
+        if a == b {
+            return Ordering::Equal;
+        }
         path_texts_cmp(a, b)
     }
 

@@ -55,13 +55,13 @@ module _ (xs ys : List ℕ) (n : ℕ) (h : IsKeptFront xs ys n) where
   order_past_front = past xs ys n h.first h.second h.same h.kept
 
   -- where one text ends, the shorter is first
-  pub order_at_end : (n ≡ length xs) ⊎ (n ≡ length ys) → nat_cmp (length xs) (length ys) ≡ text_order (percent_decode xs) (percent_decode ys)
+  pub order_at_end : (n < length xs → n < length ys → ⊥) → nat_cmp (length xs) (length ys) ≡ text_order (percent_decode xs) (percent_decode ys)
   order_at_end end =
       let first = h.first in
       let second = h.second in
       let left = length-drop n xs in
       let other = length-drop n ys in
-      shorter_first (length xs) (length ys) n (drop n xs) (drop n ys) (omega arith) (omega arith) (⊎_elim (λ e. inl (omega arith)) (λ e. inr (omega arith)) end) ∙ sym order_past_front
+      shorter_first (length xs) (length ys) n (drop n xs) (drop n ys) (omega arith) (omega arith) (⊎_elim (λ l. inr (omega (arith, end l))) (λ e. inl (omega arith)) (cases_lt n (length xs))) ∙ sym order_past_front
 
   -- where neither goes on with an escape, the next bytes decide
   pub order_at_bytes : n < length xs → n < length ys → get_or xs n 0 ≢ 37 → get_or ys n 0 ≢ 37 → nat_cmp (get_or xs n 0) (get_or ys n 0) ≡ text_order (percent_decode xs) (percent_decode ys)

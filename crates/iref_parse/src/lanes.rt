@@ -1,5 +1,5 @@
 // Vectors of 16 bytes, lane by lane.
-ghost use Rattle.std.specs.Prelude.{◌≡◌, ◌+◌, ◌/◌, ◌%◌, ◌≤◌, ◌==◌, if◌then◌else◌, length, slice_index, bit_and, bit_or};
+ghost use Rattle.std.specs.Prelude.{◌≡◌, ◌+◌, ◌/◌, ◌%◌, ◌≤◌, ◌==◌, if◌then◌else◌, length, slice_index, bit_and, bit_or, bit_xor};
 ghost use Rattle.std.specs.List.{list_all};
 ghost use Rattle.iref_parse.specs.Lanes.{HasLanes, DifferFirstAt};
 
@@ -25,6 +25,14 @@ pub(crate) fn either(a: u8x16, b: u8x16) -> u8x16
     ensures { HasLanes result (λ k. bit_or (slice_index a k) (slice_index b k)) }
 {
     a | b
+}
+
+// A lane is 0 where the two are the same, and else not.
+#[inline(always)]
+pub(crate) fn apart(a: u8x16, b: u8x16) -> u8x16
+    ensures { HasLanes result (λ k. bit_xor (slice_index a k) (slice_index b k)) }
+{
+    a ^ b
 }
 
 // All bits of a lane that is this byte, and none of another.

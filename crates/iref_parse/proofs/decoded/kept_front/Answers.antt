@@ -1,12 +1,21 @@
-use Rattle.std.proofs.Common.{length-take-le, sym, arith}
-use Rattle.std.specs.Prelude.{nat_eq}
-use Rattle.std.proofs.lemmas.List.Sums.{common_prefix_len-le}
-use Rattle.iref_parse.proofs.KeptLemmas.{IsKeptFront-to_percent}
+use Rattle.std.proofs.Common.{◌+◌, ◌-◌, arith}
+use Rattle.iref_parse.proofs.KeptLemmas.{AreKept-fewer, AreKept-more, IsKeptFront-more}
 use Rattle.iref_parse.proofs.decoded.kept_front.Goals as goal
 
-pub slice_bounds-position_of-end : goal.slice_bounds-position_of-end
-slice_bounds-position_of-end c =
-    sym (length-take-le c.common_front.result c.args.a.now (omega (arith, (common_prefix_len-le nat_eq c.args.a.now c.args.b.now).0)))
+pub returns-then-kept-lt16 : goal.returns-then-kept-lt16
+returns-then-kept-lt16 c =
+    IsKeptFront-more c.args.a.now c.args.b.now c.loop-at.at 16 c.kept_lanes-kept.result c.loop-at.invariant (omega arith) (omega arith) c.kept_lanes-kept.ensures
+    (λ all _ _. omega arith)
+
+pub loop-at-preserved : goal.loop-at-preserved
+loop-at-preserved c =
+    let kept = AreKept-more c.args.a.now c.args.b.now c.loop-at.at 16 c.kept_lanes-kept.result c.loop-at.invariant (omega arith) (omega arith) c.kept_lanes-kept.ensures in
+    AreKept-fewer c.args.a.now c.args.b.now (c.loop-at.at + c.kept_lanes-kept.result) (c.loop-at.at + 16) kept (omega arith)
 
 pub returns : goal.returns
-returns c = IsKeptFront-to_percent c.args.a.now c.args.b.now c.common_front.result c.position_of.result c.common_front.ensures c.position_of.ensures
+returns c =
+    let a = c.args.a.now in
+    let b = c.args.b.now in
+    let last = c.min-len.result - 16 in
+    IsKeptFront-more a b last 16 c.kept_lanes.result (AreKept-fewer a b c.loop-at.at last c.loop-at.invariant (omega arith)) (omega arith) (omega arith) c.kept_lanes.ensures
+    (λ all left right. omega arith)

@@ -1,4 +1,4 @@
-use Rattle.std.proofs.Common.{◌≡◌, refl, rules}
+use Rattle.std.proofs.Common.{◌≡◌, ◌∙◌, refl, sym, rules}
 use Rattle.std.specs.Char.{to_ascii_lowercase}
 use Rattle.std.specs.Ordering.{nat_cmp}
 use Rattle.std.proofs.lemmas.Iterator.{YieldsList-from_map}
@@ -6,7 +6,13 @@ use Rattle.std.proofs.lemmas.Iterator.Adapters.{YieldsList-from_bytes}
 use Rattle.std.proofs.lemmas.Iterator.Consumers.{YieldsList-at}
 use Rattle.std.proofs.lemmas.Iterator.Search.{cmp_from_yields_List}
 use borrow.Author.Tests.{tests}
+use Rattle.std.specs.Str.{str_to_ascii_lowercase}
+use Rattle.iref_component.specs.Comparisons.{by_text}
+use Rattle.iref_component.proofs.KeyLemmas.{same_keys}
 use Rattle.iref_component.proofs.key.LowerCaseKey.compare.Goals as goal
+
+pub returns-then-eq : goal.returns-then-eq
+returns-then-eq g c = same_keys (by_text str_to_ascii_lowercase) c.args.a.now c.args.b.now (sym c.eq.ensures ∙ c.if-eq.true)
 
 pub returns : goal.returns
 returns g c =
