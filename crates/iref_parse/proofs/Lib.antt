@@ -21,7 +21,7 @@ pub mod PlainTextLemmas
 pub mod PositionLemmas
 pub mod KeptLemmas
 pub mod OrderLemmas
-pub mod DotLemmas
+pub mod PairLemmas
 pub mod DotSegmentLemmas
 pub mod EncodedTextLemmas
 pub mod WideLemmas

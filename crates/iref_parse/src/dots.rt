@@ -1,31 +1,31 @@
-//! Whether a segment of a path begins with a dot.
-ghost use Rattle.std.specs.Prelude.{◌≡◌, ◌+◌, ◌≤◌, if◌then◌else◌, length, MatchBool};
+//! Whether a segment of a path begins with a dot, and whether two dots stand side by side.
+ghost use Rattle.std.specs.Prelude.{◌≡◌, ◌+◌, ◌≤◌, if◌then◌else◌, length};
 ghost use Rattle.iref_parse.specs.Lanes.{HasLanes};
-ghost use Rattle.iref_parse.specs.Dots.{HasDot, is_slash_dot, has_dot_segment};
+ghost use Rattle.iref_parse.specs.Dots.{begins_with_dot, has_dot_pair, has_dot_segment, has_pair, is_pair};
 
 use crate::lanes::{both, either, equal_to, is_clear, load};
 use crate::position::ends_of;
 use std::simd::prelude::*;
 
-// All bits of a lane where the bytes from it on are `/.`, and else none.
+// All bits of a lane where the bytes from it on are these two, and else none.
 #[inline(always)]
-fn slash_dots(path: &[u8], at: usize) -> u8x16
+fn pairs(path: &[u8], at: usize, first: u8, second: u8) -> u8x16
     requires { at + 17 ≤ length path.now }
-    ensures { HasLanes result (λ k. if is_slash_dot path.now (at + k) then 255 else 0) }
+    ensures { HasLanes result (λ k. if is_pair first second path.now (at + k) then 255 else 0) }
 {
     both(
-        equal_to(load(path, at), b'/'),
-        equal_to(load(path, at + 1), b'.'),
+        equal_to(load(path, at), first),
+        equal_to(load(path, at + 1), second),
     )
 }
 
-// Whether a segment of the path begins with a dot. The bytes are read one by one.
-fn has_few_dots(path: &[u8]) -> bool
-    ensures { MatchBool result (HasDot path.now) (¬ HasDot path.now) }
+// Whether two such bytes stand side by side. The bytes are read one by one.
+fn has_pair_in_few(path: &[u8], first: u8, second: u8) -> bool
+    ensures { result ≡ has_pair first second path.now }
 {
-    let mut at = 0;
+    let mut at = 1;
     while at < path.len() {
-        if path[at] == b'.' && (at == 0 || path[at - 1] == b'/') {
+        if path[at] == second && path[at - 1] == first {
             return true;
         }
         at += 1;
@@ -33,17 +33,49 @@ fn has_few_dots(path: &[u8]) -> bool
     false
 }
 
-// Whether a segment of a path of 9 to 16 bytes begins with a dot. A lane of the ends of the path
-// without its last byte is a byte, and the same lane of the ends without its first is the next.
+// Whether two such bytes stand side by side in 9 to 16. A lane of the ends of the path without its
+// last byte is a byte, and the same lane of the ends without its first is the next.
 #[inline(always)]
-fn has_dots_in_ends(path: &[u8]) -> bool
+fn has_pair_in_ends(path: &[u8], first: u8, second: u8) -> bool
     requires least { 9 ≤ length path.now }
     requires most { length path.now ≤ 16 }
-    ensures { result ≡ has_dot_segment path.now }
+    ensures { result ≡ has_pair first second path.now }
 {
-    let slashes = equal_to(load(&ends_of(&path[..path.len() - 1]), 0), b'/');
-    let dots = equal_to(load(&ends_of(&path[1..]), 0), b'.');
-    path[0] == b'.' || !is_clear(both(slashes, dots))
+    let firsts = equal_to(load(&ends_of(&path[..path.len() - 1]), 0), first);
+    let seconds = equal_to(load(&ends_of(&path[1..]), 0), second);
+    !is_clear(both(firsts, seconds))
+}
+
+// Whether two such bytes stand side by side.
+#[inline(always)]
+fn has_pair(path: &[u8], first: u8, second: u8) -> bool
+    ensures { result ≡ has_pair first second path.now }
+{
+    let len = path.len();
+    if len < 9 {
+        return has_pair_in_few(path, first, second);
+    }
+    if len < 17 {
+        return has_pair_in_ends(path, first, second);
+    }
+    let mut seen = pairs(path, len - 17, first, second);
+    let mut at = 0;
+    while 17 <= len - at {
+        seen = either(seen, pairs(path, at, first, second));
+        at += 16;
+    }
+    !is_clear(seen)
+}
+
+// Whether the text begins with a dot.
+#[inline(always)]
+fn begins_with_dot(text: &[u8]) -> bool
+    ensures { result ≡ begins_with_dot text.now }
+{
+    match text {
+        [first, ..] => *first == b'.',
+        [] => false,
+    }
 }
 
 /// Whether a segment of the path begins with a dot, as each `.` and each `..` does. Where none
@@ -52,21 +84,12 @@ fn has_dots_in_ends(path: &[u8]) -> bool
 pub fn has_dots(path: &[u8]) -> bool
     ensures { result ≡ has_dot_segment path.now }
 {
-    let len = path.len();
-    if len < 9 {
-        return has_few_dots(path);
-    }
-    if len < 17 {
-        return has_dots_in_ends(path);
-    }
-    if path[0] == b'.' {
-        return true;
-    }
-    let mut seen = slash_dots(path, len - 17);
-    let mut at = 0;
-    while 17 <= len - at {
-        seen = either(seen, slash_dots(path, at));
-        at += 16;
-    }
-    !is_clear(seen)
+    begins_with_dot(path) || has_pair(path, b'/', b'.')
+}
+
+/// Whether two dots stand side by side, as they do in each `..`.
+pub fn has_dot_pair(path: &[u8]) -> bool
+    ensures { result ≡ has_dot_pair path.now }
+{
+    has_pair(path, b'.', b'.')
 }

@@ -1,19 +1,17 @@
 -- The normal list of segments among which no `..` is.
-use Rattle.std.proofs.Common.{◌≡◌, ◌<◌, ℕ, Bool, true, false, List, [], ◌∷◌, ◌++◌, append_assoc, ◌+◌, length, drop, length-drop, ap, refl, sym, ◌∙◌, arith, Greater, Less}
+use Rattle.std.proofs.Common.{◌≡◌, ℕ, Bool, true, false, List, [], ◌∷◌, ◌++◌, append_assoc, length, ap, refl, sym, ◌∙◌, arith, Greater, Less}
 use Rattle.std.proofs.lemmas.Bool.Decides.{nat_tests}
 use Rattle.std.proofs.lemmas.List.{map-append}
 use Rattle.std.proofs.lemmas.List.Splits.{slice_split-cons_no, slice_split-cons_yes}
 use Rattle.std.proofs.lemmas.Slice.Eq.{bytes_eq-Decides}
-use Rattle.std.specs.Char.{char_set_contains}
 use Rattle.std.specs.Cmp.Lexicographic.{slice_cmp}
-use Rattle.std.specs.List.{list_any, position_or_len}
-use Rattle.std.specs.Prelude.{◌==◌, ◌||◌, Option, Some, None, if◌then◌else◌}
+use Rattle.std.specs.List.{list_any}
+use Rattle.std.specs.Prelude.{◌==◌, if◌then◌else◌}
 use Rattle.iref_grammar.specs.Grammar.{slash}
 use Rattle.iref_grammar.specs.Keys.{text_order}
 use Rattle.iref_grammar.specs.PathValue.{PathValue}
 use Rattle.iref_grammar.specs.Rules.{Text}
-use Rattle.iref_grammar.specs.Texts.{after, after_first_char, is_empty, pieces_at}
-use Rattle.iref_grammar.proofs.CutLemmas.{from_first-no, from_first-yes}
+use Rattle.iref_grammar.specs.Texts.{is_empty, pieces_at}
 use Rattle.iref_model.specs.NormalList.{ends_in_dots, is_dot, is_dot_dot, normal_segments, without_lone_empty}
 use Rattle.percent_encoding.specs.Percent.{percent_decode}
 use Rattle.percent_encoding.proofs.PercentLemmas.{length-percent_decode, percent_decode-nil}
@@ -21,8 +19,8 @@ use Rattle.iref_model.proofs.StayingLemmas.{open_before-append, staying_before-a
 use Rattle.iref_model.specs.NormalReading.{closing, leading_parents, open_before, staying_before}
 use Rattle.iref_model.proofs.ItemLemmas.{normal_segments-is}
 use Rattle.iref_model.proofs.PieceLemmas.{some_piece}
-use Rattle.iref_parse.specs.Dots.{begins_with_dot, is_some_dotted}
-use Rattle.iref_path_text.specs.Named.{has_dot_pair, named}
+use Rattle.iref_parse.specs.Dots.{begins_with, has_dot_pair, is_some_dotted}
+use Rattle.iref_path_text.specs.Named.{named}
 use Rattle.iref_path_text.specs.Pieces.{ShareFront}
 use Rattle.iref_path_text.proofs.DotlessLemmas.{dotless_name}
 use Rattle.iref_path_text.proofs.FrontOrderLemmas.{same_order}
@@ -51,7 +49,7 @@ dotless_parents (s ∷ rest) h = grind (arith, dotless_name, dotless_parents res
 -- ---- two dots side by side
 
 -- a text whose first segment begins with a byte begins with it
-byte_of_first : (c : ℕ) (text q : Text) (qs : List Text) → pieces_at slash text ≡ (c ∷ q) ∷ qs → begins_with_dot text ≡ (c == 0x2E)
+byte_of_first : (c : ℕ) (text q : Text) (qs : List Text) → pieces_at slash text ≡ (c ∷ q) ∷ qs → begins_with 0x2E text ≡ (c == 0x2E)
 byte_of_first c [] q qs h = absurd (cc h)
 byte_of_first c (d ∷ ds) q qs h = let some = some_piece slash ds in grind (arith, nat_tests)
 
@@ -81,33 +79,6 @@ module _ (c : ℕ) (cs : Text) (h : has_dot_pair (c ∷ cs) ≡ false) (others :
 pub paired-parents : (text : Text) → has_dot_pair text ≡ false → list_any is_dot_dot (pieces_at slash text) ≡ false
 paired-parents [] h = refl
 paired-parents (c ∷ cs) h = let others : has_dot_pair cs ≡ false = grind arith in parents_step c cs h (paired-parents cs others) (c == slash) refl
-
--- behind a dot
-abbrev pub pair_behind : Option Text → Bool
-pair_behind None = false
-pair_behind (Some text) = begins_with_dot text || has_dot_pair text
-
-module _ (c : ℕ) (cs : Text) (ih : has_dot_pair cs ≡ pair_behind (after 0x2E cs)) where
-  cut_step : (b : Bool) → (c == 0x2E) ≡ b → has_dot_pair (c ∷ cs) ≡ pair_behind (after 0x2E (c ∷ cs))
-  cut_step true h =
-      let mark : char_set_contains (0x2E ∷ []) c ≡ true = grind (arith, nat_tests) in
-      grind (arith, from_first-yes (0x2E ∷ []) c cs mark)
-  cut_step false h =
-      let none : char_set_contains (0x2E ∷ []) c ≡ false = grind (arith, nat_tests) in
-      grind (arith, from_first-no (0x2E ∷ []) c cs none)
-
-pub pair_cut : (text : Text) → has_dot_pair text ≡ pair_behind (after 0x2E text)
-pair_cut [] = refl
-pair_cut (c ∷ cs) = cut_step c cs (pair_cut cs) (c == 0x2E) refl
-
-first_dropped : (text behind : Text) → after_first_char text ≡ Some behind → length text ≡ length behind + 1
-first_dropped [] behind h = absurd (cc h)
-first_dropped (c ∷ cs) behind h = grind arith
-
-pub cut_shorter : (text behind : Text) → after 0x2E text ≡ Some behind → length behind < length text
-cut_shorter text behind h =
-    let n = position_or_len (char_set_contains (0x2E ∷ [])) text in
-    omega (arith, first_dropped (drop n text) behind h, length-drop n text)
 
 -- ---- the first item
 

@@ -1,20 +1,14 @@
 -- The normal list of segments among which no `..` is.
-use Rattle.std.specs.Prelude.{ℕ, ◌+◌, Bool, false, ◌||◌, List, [], ◌∷◌, ◌==◌, ◌&&◌, Option, Some, None, if◌then◌else◌}
+use Rattle.std.specs.Prelude.{ℕ, ◌+◌, List, [], ◌∷◌, ◌==◌, Option, Some, None, if◌then◌else◌}
 use Rattle.iref_grammar.specs.Grammar.{percent_sign, slash}
 use Rattle.iref_grammar.specs.Rules.{Text}
 use Rattle.iref_grammar.specs.Texts.{is_empty}
 use Rattle.iref_model.specs.NormalList.{is_dot}
-use Rattle.iref_parse.specs.Dots.{begins_with_dot}
 
 -- the segments but `.`, which closes the list with an empty one where it comes last
 abbrev pub named : List Text → List Text
 named [] = []
 named (s ∷ rest) = if is_dot s then (if is_empty rest then [] ∷ [] else named rest) else s ∷ named rest
-
--- two dots stand side by side, as they do in each `..`
-abbrev pub has_dot_pair : Text → Bool
-has_dot_pair [] = false
-has_dot_pair (c ∷ cs) = c == 0x2E && begins_with_dot cs || has_dot_pair cs
 
 -- what follows the bytes that two texts have in common before any `%`, as it counts in the order of their segments: the end,
 -- a `/`, another byte, or an escape, of which the order is not known

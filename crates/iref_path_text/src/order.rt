@@ -11,17 +11,16 @@ ghost use Rattle.percent_encoding.specs.Percent.{percent_decode};
 ghost use Rattle.iref_grammar.specs.{read_path, slash, text_order, Texts.{pieces_at}};
 ghost use Rattle.iref_model.specs.{is_dot_dot, normal_segments, path_key, path_key_cmp};
 ghost use Rattle.iref_model.specs.{fed_from_the_back, fed_path};
-ghost use Rattle.iref_parse.specs.Dots.{begins_with_dot, has_dot_segment, is_some_dotted};
-ghost use Rattle.iref_path_text.specs.Named.{has_dot_pair, named, rank};
+ghost use Rattle.iref_parse.specs.Dots.{has_dot_segment, is_some_dotted};
+ghost use Rattle.iref_path_text.specs.Named.{named, rank};
 ghost use Rattle.iref_path_text.specs.Pieces.{pieces_if_some};
 ghost use Rattle.iref_path_text.specs.Remaining.{IsSound, decoded_left};
 
 use crate::common::{compare_lists, items_cmp};
 use crate::remaining::Remaining;
 use crate::segments::{behind_directory, first_segment, last_segment, split_root};
-use iref_parse::cut::cut_bytes;
 use iref_parse::decoded::{hash_decoded, kept_front};
-use iref_parse::dots::has_dots;
+use iref_parse::dots::{has_dot_pair, has_dots};
 use std::cmp::Ordering;
 use std::hash::{Hash, Hasher};
 
@@ -75,30 +74,6 @@ fn compare_names(mut left: Option<&str>, mut right: Option<&str>) -> Ordering
     } else {
         Ordering::Less
     }
-}
-
-// Whether the text begins with a dot.
-fn begins_with_dot(text: &[u8]) -> bool
-    ensures { result ≡ begins_with_dot text.now }
-{
-    match text {
-        [first, ..] => *first == b'.',
-        [] => false,
-    }
-}
-
-// Whether two dots stand side by side.
-fn has_dot_pair(text: &[u8]) -> bool
-    ensures { result ≡ has_dot_pair text.now }
-{
-    let mut rest = text;
-    while let (_, Some(behind)) = cut_bytes(rest, b'.') {
-        if begins_with_dot(behind) {
-            return true;
-        }
-        rest = behind;
-    }
-    false
 }
 
 // Of what follows the bytes that two texts have in common before any `%`: how it counts in the
