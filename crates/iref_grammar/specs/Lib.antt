@@ -1,6 +1,6 @@
 -- what clauses cite, for the crates above
 pub use Rattle.iref_grammar.specs.Authority.{after_bracketed, AuthorityValue, bracketed, has_authority_parts, HasAuthorityParts, is_authority, read_authority, read_host_and_port, spell_authority}
-pub use Rattle.iref_grammar.specs.Characters.{AreAboveAscii, CharTests, iri_above_ascii, iri_chars, uri_above_ascii, uri_chars}
+pub use Rattle.iref_grammar.specs.Characters.{AreAboveAscii, CharTests, HasCommon, iri_above_ascii, iri_chars, uri_above_ascii, uri_chars}
 pub use Rattle.iref_grammar.specs.ComponentTexts.{AreComponents, read_components, spell_components}
 pub use Rattle.iref_grammar.specs.Contexts.{alone, fits, follows_authority, is_path_in, is_readable_path}
 pub use Rattle.iref_grammar.specs.Grammar.{colon, hash_sign, is_not_percent, IsAbEmptyPath, IsAbsolutePath, IsAuthority, IsFragment, IsHost, IsIpLiteral, IsIpv4Address, IsIpv6Address, IsIpvFuture, IsNoSchemePath, IsPath, IsPctStr, IsPort, IsQuery, IsRegName, IsRootlessPath, IsScheme, IsSegment, IsUri, IsUriReference, IsUserInfo, question_mark, slash}

@@ -1,8 +1,9 @@
 //! The characters that a grammar adds to those of ASCII.
 #![tactic(auto)]
 
-ghost use Rattle.std.specs.Prelude.{◌≡◌};
-ghost use Rattle.iref_grammar.specs.Characters.{CharTests, AreAboveAscii, uri_chars, iri_chars};
+ghost use Rattle.std.specs.Prelude.{◌≡◌, true};
+ghost use Rattle.iref_grammar.specs.Characters.{CharTests, AreAboveAscii, HasCommon};
+ghost use Rattle.iref_grammar.specs.Characters.{uri_chars, iri_chars};
 ghost use Rattle.iref_grammar.specs.Characters.{uri_above_ascii, iri_above_ascii};
 
 /// The characters that a grammar adds to those of ASCII.
@@ -17,6 +18,14 @@ pub trait CharSet {
     /// Whether the query also has it.
     fn is_private(c: char) -> bool
         ensures { result ≡ tests.private c };
+
+    /// Whether `unreserved` is known to have each character from U+00C0 to U+D7FF, which are then
+    /// read faster: of IRIs it is. An impl that does not say answers that it is not.
+    fn has_common() -> bool
+        ensures { result ≡ true → HasCommon tests }
+    {
+        false
+    }
 
     /// Both are false of ASCII.
     ghost above_ascii: { AreAboveAscii tests };
@@ -61,5 +70,9 @@ impl CharSet for IriChars {
             c,
             '\u{E000}'..='\u{F8FF}' | '\u{F0000}'..='\u{FFFFD}' | '\u{100000}'..='\u{10FFFD}'
         )
+    }
+
+    fn has_common() -> bool {
+        true
     }
 }
