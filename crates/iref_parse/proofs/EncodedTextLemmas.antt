@@ -1,8 +1,8 @@
 -- Texts of characters and escapes: steps over their front, and cuts at delimiters.
-use Rattle.std.proofs.Common.{◌≡◌, ℕ, ◌-◌, ◌<◌, ◌≤◌, zero, suc, Bool, true, false, not, ◌&&◌, List, [], ◌∷◌, ◌++◌, length, take, drop, get_or, length-append, chars, IsUtf8, refl, sym, ap, subst, ◌∙◌, arith, inl, inr, ⊎_elim}
+use Rattle.std.proofs.Common.{◌≡◌, ℕ, ◌+◌, ◌-◌, ◌<◌, ◌≤◌, zero, suc, Bool, true, false, not, ◌&&◌, List, [], ◌∷◌, ◌++◌, length, take, drop, get_or, length-append, chars, IsUtf8, refl, sym, ap, subst, ◌∙◌, arith, inl, inr, ⊎_elim}
 use Rattle.std.specs.Prelude.{◌==◌, Option, Some, None, nat_lt, encode_utf8_all, if◌then◌else◌}
 use Rattle.std.specs.List.{list_all, prefix_len}
-use Rattle.std.specs.Str.{all_scalars}
+use Rattle.std.specs.Str.{all_scalars, IsCharBoundary}
 use Rattle.std.specs.Char.{is_ascii_hexdigit, char_set_contains}
 use Rattle.std.proofs.Math.Bool.{and-true}
 use Rattle.std.proofs.Math.Utf8.{scalar, low_scalar, encode}
@@ -11,7 +11,7 @@ use Rattle.std.proofs.lemmas.Bool.Decides.{eqb_tells, nat_tests}
 use Rattle.std.proofs.lemmas.List.{get_or-take, length-drop, take-append-drop, take_all}
 use Rattle.std.proofs.lemmas.List.Sums.{list_all-from_AllPass, prefix_len-le-length, prefix_len_passes}
 use Rattle.std.proofs.lemmas.List.Folds.{length-prefix_len}
-use Rattle.std.proofs.lemmas.Str.{encode_ascii, length-encode, len_utf8_bounds, chars_from_encodes, encodes-chars, scalars-chars, is_utf8-from_IsUtf8, IsUtf8-from_is_utf8, IsUtf8-drop, IsCharBoundary-after_ascii}
+use Rattle.std.proofs.lemmas.Str.{encode_ascii, length-encode, len_utf8_bounds, chars_from_encodes, encodes-chars, scalars-chars, is_utf8-from_IsUtf8, IsUtf8-from_is_utf8, IsUtf8-drop, IsUtf8-past_char, IsCharBoundary-after_ascii}
 use mathlib.Core.Bool.{true≢false}
 use Rattle.iref_grammar.specs.Grammar.{percent_sign}
 use Rattle.iref_grammar.specs.Rules.{Text, InUtf8}
@@ -80,19 +80,26 @@ module _ (test : ℕ → Bool) where
   front_step p f text some =
       let n = prefix_len p text in
       let bound = prefix_len-le-length p text in
+      let last = (f _ (prefix_len_passes p text (n - 1) 0 (omega arith))).0 in
+      let next : n - 1 + 1 ≡ n = omega arith in
       record {
         encoded = λ k. subst (λ t. are_encoded test t ≡ true) (take-append-drop n text) (after_plain_bytes p f (take n text) (drop n text) (front_passes p text) k);
+        utf8 = λ u. IsUtf8-drop text n u (subst (IsCharBoundary text) next (IsCharBoundary-after_ascii text (n - 1) u (omega arith) last));
         shorter = omega (arith, some, bound, length-drop n text);
       }
+
+  -- the first character
+  pub char_step : (c : ℕ) (text rest : Text) → text ≡ encode c ++ rest → scalar c ≡ true → (c == percent_sign) ≡ false → test c ≡ true → StepsTo test text rest
+  char_step c text rest e s other h = record {
+    encoded = λ k. ap (are_encoded test) e ∙ encoded_from test (encode c ++ rest) (spelled_more test c rest s other h (spelled_from test rest k));
+    utf8 = λ u. IsUtf8-past_char text rest c u e;
+    shorter = omega (arith, ap length e, length-append (encode c) rest, length-encode c, len_utf8_bounds c);
+  }
 
   pub wide_step : (code : ℕ) (text rest : Text) → BeginsWide code text rest → scalar code ≡ true → test code ≡ true → StepsTo test text rest
   wide_step code text rest b s h =
       let wide = b.wide in
-      let other : (code == percent_sign) ≡ false = grind (arith, nat_tests) in
-      record {
-        encoded = λ k. ap (are_encoded test) b.spelled ∙ encoded_from test (encode code ++ rest) (spelled_more test code rest s other h (spelled_from test rest k));
-        shorter = omega (arith, ap length b.spelled, length-append (encode code) rest, length-encode code, len_utf8_bounds code);
-      }
+      char_step code text rest b.spelled s (grind (arith, nat_tests)) h
 
   digit_low : (c : ℕ) → is_ascii_hexdigit c ≡ true → c < 128
   digit_low c h = grind (arith, nat_tests)
@@ -122,6 +129,7 @@ module _ (test : ℕ → Bool) where
       let all : rest ≡ take (length (a ∷ b ∷ c ∷ rest) - 3) rest = sym (take_all _ rest (omega arith)) in
       subst (StepsTo test (a ∷ b ∷ c ∷ rest)) all (record {
         encoded = λ k. subst (λ d. are_encoded test (d ∷ b ∷ c ∷ rest) ≡ true) (sym e) (after_escaped_byte b c rest p q k);
+        utf8 = λ u. IsUtf8-drop (a ∷ b ∷ c ∷ rest) 3 u (IsCharBoundary-after_ascii (a ∷ b ∷ c ∷ rest) 2 u (omega arith) (digit_low c q));
         shorter = omega arith;
       })
 

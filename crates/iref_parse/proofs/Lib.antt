@@ -25,3 +25,4 @@ pub mod PairLemmas
 pub mod DotSegmentLemmas
 pub mod EncodedTextLemmas
 pub mod WideLemmas
+pub mod CommonLemmas

@@ -1,40 +1,45 @@
 -- The tables of plain bytes, checked entry by entry.
-use Rattle.std.proofs.Common.{◌≡◌, ◌≢◌, ℕ, ◌+◌, ◌<◌, ◌≤◌, List, true, false, eqb, length, get_or, refl, sym, ◌∙◌, arith, Fits, w8, inl, inr}
+use Rattle.std.proofs.Common.{◌≡◌, ◌≢◌, ℕ, ◌+◌, ◌<◌, ◌≤◌, Bool, List, true, false, length, get_or, refl, sym, ◌∙◌, arith, Fits, w8}
 use borrow.Author.Count.{below_more}
 use Rattle.std.specs.List.{prefix_len}
-use Rattle.std.proofs.lemmas.Bool.{agree_below_at, eq-eqb}
-use Rattle.std.proofs.lemmas.Bool.Decides.{eqb_tells}
-use Rattle.std.proofs.lemmas.List.Sums.{prefix_len_is}
-use Rattle.iref_parse.specs.declared.plain.TheConstants.{LOW, HIGH}
-use Rattle.iref_parse.specs.Plain.{is_plain_byte, other_groups}
+use Rattle.std.proofs.lemmas.Bool.{agree_below_at, eq-eqb, ne_eqb}
+use Rattle.std.proofs.lemmas.List.Sums.{prefix_len_is, prefix_len_passes, prefix_len_stops, prefix_len-le-length}
+use Rattle.iref_parse.specs.declared.plain.Groups.{Groups}
+use Rattle.iref_parse.specs.declared.plain.TheConstants.{ASCII, COMMON}
+use Rattle.iref_parse.specs.Plain.{is_plain_byte, is_common_byte, other_groups, is_in_no_group}
 use Rattle.iref_parse.proofs.PositionLemmas.{IsClearFront}
 
+-- a test that agrees with another on each byte of a list passes as many in front
+front_agrees : (p q : ℕ → Bool) (bytes : List ℕ) → ((k : ℕ) → p (get_or bytes k 0) ≡ q (get_or bytes k 0)) → prefix_len p bytes ≡ prefix_len q bytes
+front_agrees p q bytes same = sym (prefix_len_is q bytes (prefix_len p bytes) 0 (prefix_len-le-length p bytes) (λ k l. sym (same k) ∙ prefix_len_passes p bytes k 0 l) (λ l. sym (same (prefix_len p bytes)) ∙ prefix_len_stops p bytes 0 l))
+
 -- the tables give no group exactly to the plain bytes
-pub groups_show : (b : ℕ) → b < 256 → eqb (other_groups LOW HIGH b) 0 ≡ is_plain_byte b
-groups_show b h = agree_below_at (λ b. eqb (other_groups LOW HIGH b) 0) is_plain_byte 256 b refl h
+module _ (bytes : List ℕ) (fit : (k : ℕ) → Fits w8 (get_or bytes k 0)) where
+  pub ascii_front : prefix_len (is_in_no_group ASCII) bytes ≡ prefix_len is_plain_byte bytes
+  ascii_front = front_agrees (is_in_no_group ASCII) is_plain_byte bytes (λ k. agree_below_at (is_in_no_group ASCII) is_plain_byte 256 (get_or bytes k 0) refl (fit k).fits)
+
+  pub common_front : prefix_len (is_in_no_group COMMON) bytes ≡ prefix_len is_common_byte bytes
+  common_front = front_agrees (is_in_no_group COMMON) is_common_byte bytes (λ k. agree_below_at (is_in_no_group COMMON) is_common_byte 256 (get_or bytes k 0) refl (fit k).fits)
 
 -- the mark of the byte at index k
-abbrev pub groups_at : List ℕ → ℕ → ℕ
-groups_at bytes k = other_groups LOW HIGH (get_or bytes k 0)
+abbrev pub groups_at : Groups → List ℕ → ℕ → ℕ
+groups_at groups bytes k = other_groups groups (get_or bytes k 0)
 
 -- the bytes before this index are plain
-pub record IsPlainFront (bytes : List ℕ) (at : ℕ) : Type 0 where
+pub record IsPlainFront (groups : Groups) (bytes : List ℕ) (at : ℕ) : Type 0 where
   pub within : at ≤ length bytes
-  pub each : (k : ℕ) → k < at → is_plain_byte (get_or bytes k 0) ≡ true
+  pub each : (k : ℕ) → k < at → is_in_no_group groups (get_or bytes k 0) ≡ true
 
-pub IsPlainFront-more : (bytes : List ℕ) (at : ℕ) → IsPlainFront bytes at → at < length bytes → is_plain_byte (get_or bytes at 0) ≡ true → IsPlainFront bytes (at + 1)
-IsPlainFront-more bytes at old l e = record {
-  within = omega arith;
-  each = below_more (λ k. is_plain_byte (get_or bytes k 0) ≡ true) at old.each e;
-}
+module _ (groups : Groups) (bytes : List ℕ) (at : ℕ) where
+  pub IsPlainFront-more : IsPlainFront groups bytes at → at < length bytes → is_in_no_group groups (get_or bytes at 0) ≡ true → IsPlainFront groups bytes (at + 1)
+  IsPlainFront-more old l e = record {
+    within = omega arith;
+    each = below_more (λ k. is_in_no_group groups (get_or bytes k 0) ≡ true) at old.each e;
+  }
 
-pub plain_front_is : (bytes : List ℕ) (at : ℕ) → IsPlainFront bytes at → (at < length bytes → is_plain_byte (get_or bytes at 0) ≡ false) → at ≡ prefix_len is_plain_byte bytes
-plain_front_is bytes at h other = sym (prefix_len_is is_plain_byte bytes at 0 h.within h.each other)
+  pub plain_front_is : IsPlainFront groups bytes at → (at < length bytes → is_in_no_group groups (get_or bytes at 0) ≡ false) → at ≡ prefix_len (is_in_no_group groups) bytes
+  plain_front_is h other = sym (prefix_len_is (is_in_no_group groups) bytes at 0 h.within h.each other)
 
--- the front in which no byte has a mark
-pub plain_front_from_clear : (bytes : List ℕ) (at : ℕ) → ((k : ℕ) → Fits w8 (get_or bytes k 0)) → IsClearFront (groups_at bytes) (length bytes) at → (at < length bytes → groups_at bytes at ≢ 0)
-    → at ≡ prefix_len is_plain_byte bytes
-plain_front_from_clear bytes at fit h other =
-    let shows : (k : ℕ) → eqb (groups_at bytes k) 0 ≡ is_plain_byte (get_or bytes k 0) = λ k. groups_show (get_or bytes k 0) (fit k).fits in
-    plain_front_is bytes at (record { within = h.within; each = λ k l. sym (shows k) ∙ eq-eqb _ 0 (h.each k l) })
-    (λ l. elim (eqb_tells (groups_at bytes at) 0) [ inl e ↦ absurd (other l e.1) | inr e ↦ sym (shows at) ∙ e.0 ])
+  -- the front in which no byte has a mark
+  pub plain_front_from_clear : IsClearFront (groups_at groups bytes) (length bytes) at → (at < length bytes → groups_at groups bytes at ≢ 0) → at ≡ prefix_len (is_in_no_group groups) bytes
+  plain_front_from_clear h other = plain_front_is (record { within = h.within; each = λ k l. eq-eqb _ 0 (h.each k l) }) (λ l. ne_eqb _ 0 (other l))

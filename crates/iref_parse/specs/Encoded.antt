@@ -1,7 +1,8 @@
 -- Texts of plain bytes, escapes and the characters that a set has beyond ASCII.
 use Rattle.std.specs.Prelude.{◌≡◌, true, ℕ, ◌<◌, ◌≤◌, Bool, not, ◌&&◌, ◌||◌, List, [], ◌∷◌, ◌++◌, length, encode_utf8}
 use Rattle.std.specs.Char.{char_set_contains}
-use Rattle.iref_grammar.specs.Characters.{CharTests}
+use Rattle.std.specs.Str.{IsUtf8}
+use Rattle.iref_grammar.specs.Characters.{CharTests, is_common}
 use Rattle.iref_grammar.specs.ComponentTexts.{ComponentTexts}
 use Rattle.iref_grammar.specs.Grammar.{hash_sign, question_mark, slash}
 use Rattle.iref_grammar.specs.Rules.{Text}
@@ -24,9 +25,10 @@ is_authority_char set = but (slash ∷ []) (but (question_mark ∷ []) (but (has
 abbrev pub are_encoded : (ℕ → Bool) → Text → Bool
 are_encoded test bytes = in_utf8 (is_encoded test) bytes
 
--- a step over such a text: it is one if the rest is
+-- a step over such a text: it is one if the rest is, which begins where a character of UTF-8 ends
 pub record StepsTo (test : ℕ → Bool) (text rest : Text) : Type 0 where
   pub encoded : are_encoded test rest ≡ true → are_encoded test text ≡ true
+  pub utf8 : IsUtf8 text → IsUtf8 rest
   pub shorter : length rest < length text
 
 -- the bytes are those of a character beyond ASCII
@@ -36,6 +38,12 @@ IsWide bytes code = (128 ≤ code) × (encode_utf8 code ≡ bytes)
 -- the text begins with a character beyond ASCII, that the rest follows
 pub record BeginsWide (code : ℕ) (text rest : Text) : Type 0 where
   pub wide : 128 ≤ code
+  pub spelled : text ≡ encode_utf8 code ++ rest
+
+-- the text begins with a character from U+00C0 to U+D7FF, that the rest follows
+pub record BeginsCommon (text rest : Text) : Type 0 where
+  pub code : ℕ
+  pub common : is_common code ≡ true
   pub spelled : text ≡ encode_utf8 code ++ rest
 
 -- the components of such a text, of which two may still be refused

@@ -1,11 +1,29 @@
--- The plain bytes, which stand for themselves in a path, a query or a fragment, or begin one of the two.
-use Rattle.std.specs.Prelude.{ℕ, Bool, ◌&&◌, ◌||◌, ◌/◌, ◌%◌, List, codes, slice_index, bit_and}
+-- The plain bytes: those that stand for themselves in a path, a query or a fragment, or begin one of the two, and those of common characters.
+use Rattle.std.specs.Prelude.{ℕ, Bool, ◌==◌, ◌&&◌, ◌||◌, ◌/◌, ◌%◌, codes, slice_index, bit_and}
 use Rattle.std.specs.Char.{is_ascii, is_ascii_alphanumeric, char_set_contains}
+use Rattle.std.specs.Int.{is_in_range}
+use Rattle.iref_parse.specs.declared.plain.Groups.{Groups}
 
 -- a character of a URI's path, `?` or `#` (RFC 3986 section 3.3)
 abbrev pub is_plain_byte : ℕ → Bool
 is_plain_byte b = is_ascii b && (is_ascii_alphanumeric b || char_set_contains (codes "-._~!$&'()*+,;=:@/?#") b)
 
--- the groups that both halves of b are in, by a table for each half
-abbrev pub other_groups : List ℕ → List ℕ → ℕ → ℕ
-other_groups low high b = bit_and (slice_index low (b % 16)) (slice_index high (b / 16))
+-- a byte with which a character from U+00C0 to U+D7FF begins in UTF-8
+abbrev pub begins_common : ℕ → Bool
+begins_common = is_in_range 0xC3 0xED
+
+-- a byte of such a character
+abbrev pub is_of_common : ℕ → Bool
+is_of_common b = is_in_range 0x80 0xBF b || begins_common b
+
+-- a plain byte, or one of such a character
+abbrev pub is_common_byte : ℕ → Bool
+is_common_byte b = is_plain_byte b || is_of_common b
+
+-- the groups that both halves of b are in
+abbrev pub other_groups : Groups → ℕ → ℕ
+other_groups groups b = bit_and (slice_index groups.low (b % 16)) (slice_index groups.high (b / 16))
+
+-- b is in no group
+abbrev pub is_in_no_group : Groups → ℕ → Bool
+is_in_no_group groups b = other_groups groups b == 0

@@ -1,11 +1,13 @@
 //! Whether a text is of plain bytes, of escapes and of the characters that a set has beyond ASCII.
 ghost use Rattle.std.specs.Prelude.{◌≡◌, ◌+◌, ◌%◌, ◌<◌, ◌≤◌, true, length};
-ghost use Rattle.std.specs.Prelude.{IfSome, ◌∷◌, [], slice_index, nat_le, ◌==◌, ◌||◌};
-ghost use Rattle.iref_grammar.specs.Grammar.{percent_sign};
+ghost use Rattle.std.specs.Prelude.{IfSome, ◌∷◌, [], slice_index, drop, nat_le, ◌==◌, ◌||◌};
+ghost use Rattle.std.specs.Str.{IsUtf8};
+ghost use Rattle.iref_grammar.specs.{Characters.{HasCommon}, Grammar.{percent_sign}};
 ghost use Rattle.iref_parse.specs.Encoded.{are_encoded, is_plain_char, BeginsWide, IsWide};
-ghost use Rattle.iref_parse.specs.Encoded.{StepsTo};
+ghost use Rattle.iref_parse.specs.Encoded.{BeginsCommon, StepsTo};
+ghost use Rattle.iref_parse.specs.Plain.{begins_common};
 
-use crate::plain::plain_first;
+use crate::plain::{common_first, plain_first};
 use iref_grammar::chars::CharSet;
 
 // The low six bits of a byte that continues a character.
@@ -142,10 +144,6 @@ fn after_common<C: CharSet>(text: &[u8]) -> Option<&[u8]>
 fn after_extra<C: CharSet>(text: &[u8]) -> Option<&[u8]>
     ensures { IfSome result (λ rest. StepsTo (is_plain_char C.tests) text.now rest.now) }
 {
-    let common = after_common::<C>(text);
-    if common.is_some() {
-        return common;
-    }
     let (code, rest) = split_wide(text)?;
     after_code::<C>(text, code, rest)
 }
@@ -164,27 +162,96 @@ fn after_escape<C: CharSet>(text: &[u8]) -> Option<&[u8]>
     }
 }
 
+// Whether the text is known to be UTF-8, and the set has all characters from U+00C0 to U+D7FF. The
+// compiler knows the answer.
+#[inline(always)]
+fn passes_common<C: CharSet, const IS_UTF8: bool>() -> bool
+    ensures { result ≡ true → (IS_UTF8 ≡ true) × HasCommon C.tests }
+{
+    IS_UTF8 && C::has_common()
+}
+
+// How many plain bytes stand first. If `passes_common`, bytes of those characters are plain too.
+#[inline(always)]
+fn passed_first<C: CharSet, const IS_UTF8: bool>(text: &[u8]) -> usize
+    requires { IS_UTF8 ≡ true → IsUtf8 text.now }
+    ensures within { result ≤ length text.now }
+    ensures step { 0 < result
+        → StepsTo (is_plain_char C.tests) text.now (drop result text.now) }
+{
+    if passes_common::<C, IS_UTF8>() {
+        common_first(text)
+    } else {
+        plain_first(text)
+    }
+}
+
 // What follows the plain bytes that stand first, if there are any.
 #[inline(always)]
-fn after_plain<C: CharSet>(text: &[u8]) -> Option<&[u8]>
+fn after_plain<C: CharSet, const IS_UTF8: bool>(text: &[u8]) -> Option<&[u8]>
+    requires { IS_UTF8 ≡ true → IsUtf8 text.now }
     ensures { IfSome result (λ rest. StepsTo (is_plain_char C.tests) text.now rest.now) }
 {
-    let len = plain_first(text);
+    let len = passed_first::<C, IS_UTF8>(text);
     if len > 0 { Some(&text[len..]) } else { None }
+}
+
+// Whether a character from U+00C0 to U+D7FF begins with the byte, in UTF-8.
+#[inline(always)]
+fn begins_common(byte: u8) -> bool
+    ensures { result ≡ begins_common byte }
+{
+    matches!(byte, 0xC3..=0xED)
+}
+
+// What follows the first character, which is from U+00C0 to U+D7FF: its first byte tells how many
+// bytes it has.
+#[inline(always)]
+fn after_common_char(text: &[u8]) -> &[u8]
+    requires utf8 { IsUtf8 text.now }
+    requires common { begins_common (slice_index text.now 0) ≡ true }
+    ensures { BeginsCommon text.now result.now }
+{
+    if text[0] < 224 {
+        &text[2..]
+    } else {
+        &text[3..]
+    }
+}
+
+// What follows the first character, which is beyond ASCII, if the set has it.
+#[inline(always)]
+fn after_wide<C: CharSet, const IS_UTF8: bool>(text: &[u8]) -> Option<&[u8]>
+    requires not_empty { 0 < length text.now }
+    requires utf8 { IS_UTF8 ≡ true → IsUtf8 text.now }
+    ensures { IfSome result (λ rest. StepsTo (is_plain_char C.tests) text.now rest.now) }
+{
+    if passes_common::<C, IS_UTF8>() {
+        if begins_common(text[0]) {
+            return Some(after_common_char(text));
+        }
+    } else {
+        let common = after_common::<C>(text);
+        if common.is_some() {
+            return common;
+        }
+    }
+    after_extra::<C>(text)
 }
 
 // What follows the first bytes, if they are plain, an escape or a character of the set.
 #[inline(always)]
-fn after_front<C: CharSet>(text: &[u8]) -> Option<&[u8]>
-    requires { 0 < length text.now }
+fn after_front<C: CharSet, const IS_UTF8: bool>(text: &[u8]) -> Option<&[u8]>
+    requires not_empty { 0 < length text.now }
+    requires utf8 { IS_UTF8 ≡ true → IsUtf8 text.now }
     ensures { IfSome result (λ rest. StepsTo (is_plain_char C.tests) text.now rest.now) }
 {
     if text[0] >= 128 {
-        after_extra::<C>(text)
+        after_wide::<C, IS_UTF8>(text)
     } else if text[0] == b'%' {
         after_escape::<C>(text)
     } else {
-        after_plain::<C>(text)
+        after_plain::<C, IS_UTF8>(text)
     }
 }
 
@@ -198,7 +265,8 @@ fn is_percent_or_wide(byte: u8) -> bool
 
 // Whether the bytes are found to be such a text, from the front on. The first byte, if any,
 // is not plain.
-fn is_encoded_rest<C: CharSet>(text: &[u8]) -> bool
+fn is_encoded_rest<C: CharSet, const IS_UTF8: bool>(text: &[u8]) -> bool
+    requires { IS_UTF8 ≡ true → IsUtf8 text.now }
     ensures { result ≡ true → are_encoded (is_plain_char C.tests) text.now ≡ true }
 {
     if !text.is_empty() && !is_percent_or_wide(text[0]) {
@@ -206,7 +274,7 @@ fn is_encoded_rest<C: CharSet>(text: &[u8]) -> bool
     }
     let mut rest = text;
     while !rest.is_empty() {
-        match after_front::<C>(rest) {
+        match after_front::<C, IS_UTF8>(rest) {
             Some(after) => rest = after,
             None => return false,
         }
@@ -217,11 +285,12 @@ fn is_encoded_rest<C: CharSet>(text: &[u8]) -> bool
 /// Whether the bytes are found to be the UTF-8 of plain bytes, escapes and characters that the set
 /// has beyond ASCII. Most often all are plain.
 #[inline(always)]
-pub(crate) fn is_encoded_text<C: CharSet>(text: &[u8]) -> bool
+pub(crate) fn is_encoded_text<C: CharSet, const IS_UTF8: bool>(text: &[u8]) -> bool
+    requires { IS_UTF8 ≡ true → IsUtf8 text.now }
     ensures { result ≡ true → are_encoded (is_plain_char C.tests) text.now ≡ true }
 {
-    match after_plain::<C>(text) {
-        Some(rest) => rest.is_empty() || is_encoded_rest::<C>(rest),
-        None => is_encoded_rest::<C>(text),
+    match after_plain::<C, IS_UTF8>(text) {
+        Some(rest) => rest.is_empty() || is_encoded_rest::<C, IS_UTF8>(rest),
+        None => is_encoded_rest::<C, IS_UTF8>(text),
     }
 }

@@ -1,4 +1,4 @@
-//! How many bytes of a text, from its front on, are of a path, `?` or `#`.
+//! How many bytes of a text stand before the first that is not plain.
 ghost use Rattle.std.specs.Prelude.{◌≡◌, ◌+◌, ◌≤◌, length, slice_index};
 ghost use Rattle.std.specs.List.{prefix_len};
 ghost use Rattle.iref_parse.specs.Lanes.{HasLanes};
@@ -7,43 +7,79 @@ ghost use Rattle.iref_parse.specs.Plain as plain;
 use crate::lanes::{both, by_high_half, by_low_half, common_lanes, is_clear, load};
 use std::simd::prelude::*;
 
-/// By the low half of a byte, the groups of high halves with which it is not plain.
-static LOW: [u8; 16] = [
-    163, 129, 131, 129, 129, 131, 129, 129, 129, 129, 129, 209, 213, 209, 149, 193,
-];
+/// Groups of bytes, by a table for each half of a byte. A byte is plain if no group has both of its
+/// halves.
+pub(crate) struct Groups {
+    low: [u8; 16],
+    high: [u8; 16],
+}
 
-/// By the high half of a byte, its group.
-static HIGH: [u8; 16] = [
-    1, 1, 2, 4, 8, 16, 32, 64, 128, 128, 128, 128, 128, 128, 128, 128,
-];
+/// Plain are the bytes of a path, `?` and `#`.
+static ASCII: Groups = Groups {
+    low: [
+        163, 129, 131, 129, 129, 131, 129, 129, 129, 129, 129, 209, 213, 209, 149, 193,
+    ],
+    high: [
+        1, 1, 2, 4, 8, 16, 32, 64, 128, 128, 128, 128, 128, 128, 128, 128,
+    ],
+};
+
+/// Plain are also the bytes of the characters from U+00C0 to U+D7FF in UTF-8: those from 128 on but
+/// for 0xC0 to 0xC2 and 0xEE to 0xFF.
+static COMMON: Groups = Groups {
+    low: [43, 9, 11, 1, 1, 3, 1, 1, 1, 1, 1, 81, 85, 81, 149, 193],
+    high: [1, 1, 2, 4, 0, 16, 32, 64, 0, 0, 0, 0, 8, 0, 128, 1],
+};
 
 #[inline(always)]
-fn is_plain_byte(byte: u8) -> bool
-    ensures { result ≡ plain.is_plain_byte byte }
+fn is_plain_byte(groups: &Groups, byte: u8) -> bool
+    ensures { result ≡ plain.is_in_no_group groups.now byte }
 {
-    LOW[usize::from(byte % 16)] & HIGH[usize::from(byte / 16)] == 0
+    groups.low[usize::from(byte % 16)] & groups.high[usize::from(byte / 16)] == 0
 }
 
 // A lane is 0 where the byte is plain.
 #[inline(always)]
-fn marks(bytes: &[u8], at: usize) -> u8x16
+fn marks(groups: &Groups, bytes: &[u8], at: usize) -> u8x16
     requires { at + 16 ≤ length bytes.now }
-    ensures { HasLanes result (λ k. plain.other_groups LOW HIGH (slice_index bytes.now (at + k))) }
+    ensures { HasLanes result
+        (λ k. plain.other_groups groups.now (slice_index bytes.now (at + k))) }
 {
     let v = load(bytes, at);
-    both(by_low_half(&LOW, v), by_high_half(&HIGH, v))
+    both(by_low_half(&groups.low, v), by_high_half(&groups.high, v))
 }
 
-// How many plain bytes stand first. The bytes are read one by one.
+// How many bytes stand first that are plain by the groups. They are read one by one.
 #[inline(always)]
-fn few_plain_first(bytes: &[u8]) -> usize
-    ensures { result ≡ prefix_len plain.is_plain_byte bytes.now }
+fn few_plain_first(groups: &Groups, bytes: &[u8]) -> usize
+    ensures { result ≡ prefix_len (plain.is_in_no_group groups.now) bytes.now }
 {
     let mut at = 0;
-    while at < bytes.len() && is_plain_byte(bytes[at]) {
+    while at < bytes.len() && is_plain_byte(groups, bytes[at]) {
         at += 1;
     }
     at
+}
+
+// How many bytes stand first that are plain by the groups.
+#[inline(always)]
+fn first_by(groups: &Groups, bytes: &[u8]) -> usize
+    ensures { result ≡ prefix_len (plain.is_in_no_group groups.now) bytes.now }
+{
+    let len = bytes.len();
+    if len < 16 {
+        return few_plain_first(groups, bytes);
+    }
+    let last = len - 16;
+    let mut at = 0;
+    while at < last {
+        let found = marks(groups, bytes, at);
+        if !is_clear(found) {
+            return at + common_lanes(found, u8x16::splat(0));
+        }
+        at += 16;
+    }
+    last + common_lanes(marks(groups, bytes, last), u8x16::splat(0))
 }
 
 /// How many bytes stand first that are of a path, `?` or `#`.
@@ -51,18 +87,14 @@ fn few_plain_first(bytes: &[u8]) -> usize
 pub(crate) fn plain_first(bytes: &[u8]) -> usize
     ensures { result ≡ prefix_len plain.is_plain_byte bytes.now }
 {
-    let len = bytes.len();
-    if len < 16 {
-        return few_plain_first(bytes);
-    }
-    let last = len - 16;
-    let mut at = 0;
-    while at < last {
-        let found = marks(bytes, at);
-        if !is_clear(found) {
-            return at + common_lanes(found, u8x16::splat(0));
-        }
-        at += 16;
-    }
-    last + common_lanes(marks(bytes, last), u8x16::splat(0))
+    first_by(&ASCII, bytes)
+}
+
+/// How many bytes stand first that are such a byte or, in UTF-8, one of a character from U+00C0 to
+/// U+D7FF.
+#[inline(always)]
+pub(crate) fn common_first(bytes: &[u8]) -> usize
+    ensures { result ≡ prefix_len plain.is_common_byte bytes.now }
+{
+    first_by(&COMMON, bytes)
 }

@@ -310,7 +310,7 @@ fn is_encoded_path<C: CharSet>(text: &str) -> bool
     ensures { result ≡ true → test.is_path C.tests text.now ≡ true }
 {
     let bytes = text.as_bytes();
-    if bytes.len() < 16 || !is_encoded_text::<C>(bytes) {
+    if bytes.len() < 16 || !is_encoded_text::<C, true>(bytes) {
         return false;
     }
     position_of_either(bytes, b'?', b'#') == bytes.len()

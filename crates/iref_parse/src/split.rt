@@ -199,7 +199,7 @@ pub fn parse_reference<C: CharSet>(text: &str) -> Option<ReferenceSlices<'_>>
     ensures components { IfSome result (λ s. AreComponents C.tests (texts_of s)) }
 {
     let slices = split_reference(text);
-    if are_components::<C>(slices, is_encoded_text::<C>(text.as_bytes())) {
+    if are_components::<C>(slices, is_encoded_text::<C, true>(text.as_bytes())) {
         Some(slices)
     } else {
         None
@@ -228,7 +228,7 @@ pub fn parse_bytes<C: CharSet>(bytes: &[u8]) -> Option<ReferenceSlices<'_>>
     ensures texts { IfSome result (λ s. texts_of s ≡ spell_components (read_reference bytes.now)) }
     ensures components { IfSome result (λ s. AreComponents C.tests (texts_of s)) }
 {
-    let is_encoded = is_encoded_text::<C>(bytes);
+    let is_encoded = is_encoded_text::<C, false>(bytes);
     let slices = split_reference(text_of(bytes, is_encoded)?);
     if are_components::<C>(slices, is_encoded) {
         Some(slices)
