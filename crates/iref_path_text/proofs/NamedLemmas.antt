@@ -1,5 +1,5 @@
 -- The normal list of segments among which no `..` is.
-use Rattle.std.proofs.Common.{◌≡◌, ℕ, Bool, true, false, List, [], ◌∷◌, ◌++◌, append_assoc, length, ap, refl, sym, ◌∙◌, arith, Greater, Less}
+use Rattle.std.proofs.Common.{◌≡◌, ◌+◌, ℕ, Bool, true, false, List, [], ◌∷◌, ◌++◌, append_assoc, length, ap, refl, sym, ◌∙◌, arith, Greater, Less}
 use Rattle.std.proofs.lemmas.Bool.Decides.{nat_tests}
 use Rattle.std.proofs.lemmas.List.{map-append}
 use Rattle.std.proofs.lemmas.List.Splits.{slice_split-cons_no, slice_split-cons_yes}
@@ -90,6 +90,13 @@ some_named s (t ∷ rest) =
 -- a `.` is passed over
 pub named-dot : (text segment others : Text) → pieces_at slash text ≡ segment ∷ pieces_at slash others → is_dot segment ≡ true → named (pieces_at slash text) ≡ named (pieces_at slash others)
 named-dot text segment others e h = let some = some_piece slash others in grind arith
+
+-- so is a `./` in front
+pub named-dot_slash : (rest : Text) → named (pieces_at slash (0x2E ∷ slash ∷ rest)) ≡ named (pieces_at slash rest)
+named-dot_slash rest = named-dot (0x2E ∷ slash ∷ rest) (0x2E ∷ []) rest refl refl
+
+pub length-dot_slash : (rest : Text) → length (pieces_at slash (0x2E ∷ slash ∷ rest)) ≡ length (pieces_at slash rest) + 1
+length-dot_slash rest = omega arith
 
 pub longer_left : (text : Text) → slice_cmp text_order (decoded (named (pieces_at slash text))) [] ≡ Greater
 longer_left text = let some = some_piece slash text in let named = some_named some.0 some.1 in grind arith

@@ -6,19 +6,20 @@
 //! back. So is that of a path for its hash, unless no segment begins with a dot.
 
 ghost use Rattle.std.specs.{Cmp.Lexicographic.{slice_cmp}, List.{list_any}};
-ghost use Rattle.std.specs.Prelude.{◌≡◌, ◌∷◌, ◌<◌, IfSome, false, fold, length, map};
+ghost use Rattle.std.specs.Prelude.{◌≡◌, ◌∷◌, ◌<◌, ◌≤◌, IfSome, MatchOption, false, fold, length, map};
 ghost use Rattle.percent_encoding.specs.Percent.{percent_decode};
 ghost use Rattle.iref_grammar.specs.{read_path, slash, text_order, Texts.{pieces_at}};
 ghost use Rattle.iref_model.specs.{is_dot_dot, normal_segments, path_key, path_key_cmp};
 ghost use Rattle.iref_model.specs.{fed_from_the_back, fed_path};
-ghost use Rattle.iref_parse.specs.Dots.{has_dot_segment, is_some_dotted};
-ghost use Rattle.iref_path_text.specs.Named.{named, rank};
+ghost use Rattle.iref_parse.specs.Dots.{is_some_dotted};
+ghost use Rattle.iref_path_text.specs.Named.{begins_with_dot_slash, named, rank};
 ghost use Rattle.iref_path_text.specs.Pieces.{pieces_if_some};
 ghost use Rattle.iref_path_text.specs.Remaining.{IsSound, decoded_left};
 
 use crate::common::{compare_lists, items_cmp};
 use crate::remaining::Remaining;
 use crate::segments::{behind_directory, first_segment, last_segment, split_root};
+use iref_parse::cut::strip_mark;
 use iref_parse::decoded::{hash_decoded, kept_front};
 use iref_parse::dots::{has_dot_pair, has_dots};
 use std::cmp::Ordering;
@@ -31,22 +32,42 @@ pub(crate) fn is_absolute(path: &str) -> bool
     split_root(path).0
 }
 
+// What follows the `./` that a text begins with.
+#[inline(always)]
+fn strip_dot(text: &str) -> Option<&str>
+    ensures { MatchOption result (begins_with_dot_slash text.now ≡ false)
+        (λ rest. text.now ≡ 0x2E ∷ slash ∷ rest.now) }
+{
+    strip_mark(strip_mark(text, '.')?, '/')
+}
+
+// What follows each `./` that a text begins with.
+#[inline(always)]
+fn behind_dots(text: &str) -> &str
+    ensures names { named (pieces_at slash result.now) ≡ named (pieces_at slash text.now) }
+    ensures parents { list_any is_dot_dot (pieces_at slash result.now)
+        ≡ list_any is_dot_dot (pieces_at slash text.now) }
+    ensures fewer { length (pieces_at slash result.now) ≤ length (pieces_at slash text.now) }
+    ensures none { begins_with_dot_slash result.now ≡ false }
+{
+    let mut left = text;
+    while let Some(rest) = strip_dot(left) {
+        left = rest;
+    }
+    left
+}
+
 // The first item of segments among which no `..` is, and the text of the segments behind it.
 fn first_name(text: &str) -> (&str, Option<&str>)
     ensures items { named (pieces_at slash text.now)
         ≡ result.0.now ∷ named (pieces_if_some result.1) }
     ensures fewer { length (pieces_if_some result.1) < length (pieces_at slash text.now) }
 {
-    let mut left = text;
-    loop {
-        let (segment, rest) = first_segment(left);
-        if segment != "." {
-            return (segment, rest);
-        }
-        let Some(others) = rest else {
-            return ("", None);
-        };
-        left = others;
+    let (segment, rest) = first_segment(behind_dots(text));
+    if segment == "." {
+        ("", None)
+    } else {
+        (segment, rest)
     }
 }
 
@@ -101,17 +122,29 @@ fn compare_at_difference(left: &[u8], right: &[u8]) -> Option<Ordering>
     Some(rank(&left[front..])?.cmp(&rank(&right[front..])?))
 }
 
-// The order of the segments of two texts, none of which begins with a dot.
-fn compare_dotless(left: &str, right: &str) -> Ordering
-    requires left { has_dot_segment left.now ≡ false }
-    requires right { has_dot_segment right.now ≡ false }
+// The order of the segments of two texts. Their first difference decides, and behind segments that
+// are the same in other escapes the next one.
+fn compare_segments<'a>(mut left: &'a str, mut right: &'a str) -> Ordering
     ensures { result ≡ slice_cmp text_order
-        (map percent_decode (pieces_at slash left.now))
-        (map percent_decode (pieces_at slash right.now)) }
+        (map percent_decode (pieces_at slash left.entry.now))
+        (map percent_decode (pieces_at slash right.entry.now)) }
 {
-    match compare_at_difference(left.as_bytes(), right.as_bytes()) {
-        Some(order) => order,
-        None => compare_names(Some(left), Some(right)),
+    loop {
+        if let Some(order) = compare_at_difference(left.as_bytes(), right.as_bytes()) {
+            return order;
+        }
+        let (name, names) = first_segment(left);
+        let (other, others) = first_segment(right);
+        let order = items_cmp(name, other);
+        if order.is_ne() {
+            return order;
+        }
+        match (names, others) {
+            (Some(names), Some(others)) => (left, right) = behind_directory(names, others),
+            (Some(_), None) => return Ordering::Greater,
+            (None, Some(_)) => return Ordering::Less,
+            (None, None) => return Ordering::Equal,
+        }
     }
 }
 
@@ -125,9 +158,10 @@ fn compare_without_parents(left: &str, right: &str) -> Option<Ordering>
         (map percent_decode (named (pieces_at slash left.now)))
         (map percent_decode (named (pieces_at slash right.now)))) }
 {
+    let (left, right) = (behind_dots(left), behind_dots(right));
     let (a, b) = (left.as_bytes(), right.as_bytes());
     if !has_dots(a) && !has_dots(b) {
-        return Some(compare_dotless(left, right));
+        return Some(compare_segments(left, right));
     }
     if has_dot_pair(a) || has_dot_pair(b) {
         return None;
