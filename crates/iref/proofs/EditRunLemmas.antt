@@ -1,38 +1,19 @@
 -- A list of edits is done in runs.
-use Rattle.std.proofs.Common.{◌≡◌, ℕ, zero, suc, ◌+◌, ◌-◌, ◌<◌, ◌≤◌, List, [], ◌∷◌, ◌++◌, ◌∙◌, take, drop, length, length-drop, length-take-le, Ok, Err, refl, sym, ap, subst, arith}
-use Rattle.std.specs.Prelude.{Option, Some, None, IsSomeAnd, slice_get}
-use Rattle.std.proofs.lemmas.List.{take_all, take-take}
-use Rattle.std.proofs.lemmas.Option.{slice_get_within}
+use Rattle.std.proofs.Common.{◌≡◌, ℕ, zero, suc, ◌+◌, ◌-◌, ◌≤◌, List, [], ◌∷◌, ◌++◌, ◌∙◌, map, take, drop, length, length-take-le, Ok, Err, refl, sym, ap, subst, arith}
+use Rattle.std.specs.Prelude.{IsSomeAnd, slice_get}
+use Rattle.std.proofs.Math.Seq.{take-add}
+use Rattle.std.proofs.lemmas.List.{drop-map, length-map, take-append-drop, take-map, take-take, take_rest}
 use Rattle.iref_grammar.specs.Reference.{ReferenceValue}
 use Rattle.iref_model.specs.Edits as model
 use Rattle.iref_model.specs.Edits.{EditStep, EditRefusal, Edited, EditsOutcome, edited_from}
 use Rattle.iref.specs.declared.edits.EditFault.{EditFault}
 use Rattle.iref.specs.declared.edits.EditFault.TheVariants.{NoAuthority, SchemeNeeded, Memory}
-use Rattle.iref.specs.EditAnswers.{AreDone, StopsAt}
+use Rattle.iref.specs.EditAnswers.{AreDone, Refuses, StopsAt}
 
--- ---- a run is a part of the list
-
-take_drop : (n : ℕ) (xs : List EditStep) → take n xs ++ drop n xs ≡ xs
-take_drop zero xs = refl
-take_drop (suc n) [] = refl
-take_drop (suc n) (x ∷ xs) = ap (λ t. x ∷ t) (take_drop n xs)
-
-slice_get_front : (xs : List EditStep) (k i : ℕ) (x : EditStep) → slice_get (take k xs) i ≡ Some x → slice_get xs i ≡ Some x
-slice_get_front [] zero i x h = absurd (cc h)
-slice_get_front [] (suc k) i x h = absurd (cc h)
-slice_get_front (y ∷ xs) zero i x h = absurd (cc h)
-slice_get_front (y ∷ xs) (suc k) zero x h = h
-slice_get_front (y ∷ xs) (suc k) (suc i) x h = slice_get_front xs k i x h
-
-run_at : (xs : List EditStep) (d k i : ℕ) (x : EditStep) → slice_get (take k (drop d xs)) i ≡ Some x → slice_get xs (d + i) ≡ Some x
-run_at xs zero k i x h = grind (arith, slice_get_front xs k i x h)
-run_at [] (suc d) k i x h = absurd (let l = slice_get_front [] k i x h in cc)
-run_at (y ∷ xs) (suc d) k i x h = grind (arith, run_at xs d k i x h)
-
-take_run : (xs : List EditStep) (d k i : ℕ) → i ≤ k → take (d + i) xs ≡ take d xs ++ take i (take k (drop d xs))
-take_run xs zero k i l = grind (arith, take-take i k xs l)
-take_run [] (suc d) k i l = grind (arith, take_all)
-take_run (y ∷ xs) (suc d) k i l = let next : suc d + i ≡ suc (d + i) = omega arith in ap (λ n. take n (y ∷ xs)) next ∙ ap (λ t. y ∷ t) (take_run xs d k i l)
+slice_get_behind : (xs : List EditStep) (d i : ℕ) → slice_get xs (d + i) ≡ slice_get (drop d xs) i
+slice_get_behind xs zero i = grind arith
+slice_get_behind [] (suc d) i = grind arith
+slice_get_behind (x ∷ xs) (suc d) i = grind (arith, slice_get_behind xs d i)
 
 module _ (step : Edited) where
   -- what edits from a later number do
@@ -56,60 +37,33 @@ module _ (step : Edited) where
       let n : 0 + length front ≡ length front + 0 = omega arith in
       edited_from-append 0 front back old mid h ∙ ap (λ n. edited_from step n back mid) n ∙ edited_from-shifted (length front) 0 back mid
 
-  -- what is refused is so whatever follows
-  refused_before : (n : ℕ) (front back : List EditStep) (r last : ReferenceValue) (i : ℕ) (refusal : EditRefusal) → edited_from step n front r ≡ Err (i, refusal, last) → edited_from step n (front ++ back) r ≡ Err (i, refusal, last)
-  unfolding edited_from
-  refused_before n [] back r last i refusal h = absurd (cc h)
-  refused_before n (edit ∷ front) back r last i refusal h = grind (arith, λ (after : ReferenceValue). refused_before (n + 1) front back after last i refusal)
+  module _ {X : Type 0} (f : X → EditStep) (edits : List X) (d : ℕ) (old mid new : ReferenceValue) (h : AreDone step (take d (map f edits)) old mid) where
+    abbrev xs : List EditStep
+    xs = map f edits
 
-  refused_within : (n : ℕ) (edits : List EditStep) (r last : ReferenceValue) (i : ℕ) (refusal : EditRefusal) → edited_from step n edits r ≡ Err (i, refusal, last) → i < n + length edits
-  unfolding edited_from
-  refused_within n [] r last i refusal h = absurd (cc h)
-  refused_within n (edit ∷ edits) r last i refusal h = grind (arith, λ (after : ReferenceValue). refused_within (n + 1) edits after last i refusal)
+    taken_behind : (n : ℕ) → AreDone step (take n (drop d xs)) mid new → AreDone step (take (d + n) xs) old new
+    taken_behind n e =
+        ap (λ t. edited_from step 0 t old) (take-add d n xs) ∙ edited_from-behind (take d xs) (take n (drop d xs)) old mid h ∙ ap (shifted (length (take d xs))) e
 
-  -- the edit that stops a list is one of it
-  some_within : (edits : List EditStep) (i : ℕ) (P : EditStep → Type 0) → IsSomeAnd (slice_get edits i) P → i < length edits
-  some_within edits i P h = by (slice_get edits i) refl h
-    where
-      by : (o : Option EditStep) → slice_get edits i ≡ o → IsSomeAnd o P → i < length edits
-      by None e h = absurd h
-      by (Some edit) e h = slice_get_within edits i edit e
+    -- edits behind the first ones are done too
+    pub done_behind : (k n : ℕ) → n ≤ k → AreDone step (take n (map f (take k (drop d edits)))) mid new → AreDone step (take (d + n) xs) old new
+    done_behind k n l e =
+        let part = ap (take n) (sym (take-map f k (drop d edits))) ∙ take-take n k (map f (drop d edits)) l ∙ ap (take n) (sym (drop-map f d edits)) in
+        taken_behind n (subst (λ run. AreDone step run mid new) part e)
 
-  pub stops_within : (edits : List EditStep) (old new : ReferenceValue) (i : ℕ) (error : EditFault) → StopsAt step edits old new i error → i < length edits
-  stops_within edits old new i NoAuthority h = omega (arith, refused_within 0 edits old new i model.NoAuthority h)
-  stops_within edits old new i SchemeNeeded h = omega (arith, refused_within 0 edits old new i model.SchemeNeeded h)
-  stops_within edits old new i Memory h = some_within edits i _ h.1
+    refused_behind : d ≤ length xs → (i : ℕ) (refusal : EditRefusal) → edited_from step 0 (drop d xs) mid ≡ Err (i, refusal, new) → edited_from step 0 xs old ≡ Err (d + i, refusal, new)
+    refused_behind inside i refusal e =
+        ap (λ t. edited_from step 0 t old) (sym (take-append-drop d xs)) ∙ edited_from-behind (take d xs) (drop d xs) old mid h ∙ ap (shifted (length (take d xs))) e
+        ∙ ap (λ n. shifted n (Err (i, refusal, new))) (length-take-le d xs inside)
 
-  module _ (xs : List EditStep) (d k : ℕ) (old mid new : ReferenceValue) (inside : d ≤ length xs) (h : AreDone step (take d xs) old mid) where
-    abbrev run : List EditStep
-    run = take k (drop d xs)
+    stops_at_behind : d ≤ length xs → (i : ℕ) (fault : EditFault) → StopsAt step (drop d xs) mid new i fault → StopsAt step xs old new (d + i) fault
+    stops_at_behind inside i NoAuthority e = refused_behind inside i model.NoAuthority e
+    stops_at_behind inside i SchemeNeeded e = refused_behind inside i model.SchemeNeeded e
+    stops_at_behind inside i Memory e = (taken_behind i e.0, subst (λ o. IsSomeAnd o (λ edit. Refuses step edit new Memory)) (sym (slice_get_behind xs d i)) e.1)
 
-    pub length_run : k ≤ length xs - d → length run ≡ k
-    length_run l = let behind = length-drop d xs in length-take-le k (drop d xs) (omega arith)
-
-    pub run_done : length run ≤ k → AreDone step run mid new → AreDone step (take (d + length run) xs) old new
-    run_done l e =
-        ap (λ t. edited_from step 0 t old) (take_run xs d k (length run) l ∙ ap (λ t. take d xs ++ t) (take_all (length run) run (omega arith)))
-        ∙ edited_from-behind (take d xs) run old mid h ∙ ap (shifted (length (take d xs))) e
-
-    refused_at : (i : ℕ) (refusal : EditRefusal) → edited_from step 0 run mid ≡ Err (i, refusal, new) → edited_from step 0 xs old ≡ Err (d + i, refusal, new)
-    refused_at i refusal e =
-        let whole : take d xs ++ (run ++ drop k (drop d xs)) ≡ xs = ap (λ t. take d xs ++ t) (take_drop k (drop d xs)) ∙ take_drop d xs in
-        let size : length (take d xs) ≡ d = length-take-le d xs inside in
-        ap (λ t. edited_from step 0 t old) (sym whole) ∙ edited_from-behind (take d xs) (run ++ drop k (drop d xs)) old mid h
-        ∙ ap (shifted (length (take d xs))) (refused_before 0 run (drop k (drop d xs)) mid new i refusal e) ∙ ap (λ n. shifted n (Err (i, refusal, new))) size
-
-    memory_at : (i : ℕ) → i ≤ k → AreDone step (take i run) mid new → AreDone step (take (d + i) xs) old new
-    memory_at i l e = ap (λ t. edited_from step 0 t old) (take_run xs d k i l) ∙ edited_from-behind (take d xs) (take i run) old mid h ∙ ap (shifted (length (take d xs))) e
-
-    some_at : (i : ℕ) (P : EditStep → Type 0) → IsSomeAnd (slice_get run i) P → IsSomeAnd (slice_get xs (d + i)) P
-    some_at i P h = by (slice_get run i) refl h
-      where
-        by : (o : Option EditStep) → slice_get run i ≡ o → IsSomeAnd o P → IsSomeAnd (slice_get xs (d + i)) P
-        by None e h = absurd h
-        by (Some edit) e h = subst (λ o. IsSomeAnd o P) (sym (run_at xs d k i edit e)) h
-
-    pub run_stops : (i : ℕ) (error : EditFault) → length run ≤ k → StopsAt step run mid new i error → StopsAt step xs old new (d + i) error
-    run_stops i NoAuthority l e = refused_at i model.NoAuthority e
-    run_stops i SchemeNeeded l e = refused_at i model.SchemeNeeded e
-    run_stops i Memory l e = let short = stops_within run mid new i Memory e in (memory_at i (omega arith) e.0, some_at i _ e.1)
+    -- or one of them cannot be done
+    pub stops_behind : d ≤ length edits → (i : ℕ) (fault : EditFault) → StopsAt step (map f (take (length edits - d) (drop d edits))) mid new i fault → StopsAt step xs old new (d + i) fault
+    stops_behind inside i fault e =
+        let size = length-map edits f in
+        let rest = ap (map f) (take_rest edits d) ∙ sym (drop-map f d edits) in
+        stops_at_behind (omega arith) i fault (subst (λ run. StopsAt step run mid new i fault) rest e)

@@ -1,12 +1,12 @@
 -- What an edit leaves is the spelling of the step of the value.
 use Rattle.std.proofs.Common.{◌≡◌, ◌+◌, Bool, true, [], ◌∷◌, ◌++◌, length, rules, sym, ◌∙◌, ap, arith, append_assoc}
-use Rattle.std.specs.Prelude.{codes, Option, None, is_some, option_map, Result, Ok, Err, OnOk}
+use Rattle.std.specs.Prelude.{codes, Option, is_some, option_map, Result, Ok, Err, OnOk}
 use Rattle.std.specs.List.{splice}
 use Rattle.std.specs.Str.{IsCharBoundary}
 use Rattle.std.proofs.lemmas.Grind.{common_steps}
 use Rattle.std.proofs.lemmas.Str.{IsCharBoundary-end, IsCharBoundary-start}
 use Rattle.iref_grammar.proofs.ReferenceRuleLemmas.{Decides-is_uri_reference}
-use Rattle.std.proofs.lemmas.List.{append-nil, places, same_lists}
+use Rattle.std.proofs.lemmas.List.{places, same_lists}
 use Rattle.iref_grammar.specs.Characters.{CharTests, AreAboveAscii}
 use Rattle.iref_grammar.specs.Rules.{Text}
 use Rattle.iref_grammar.specs.Grammar.{colon, question_mark, hash_sign}
@@ -17,7 +17,6 @@ use Rattle.iref_grammar.specs.Reference.{ReferenceValue, context_of, spell, read
 use Rattle.iref_grammar.specs.ComponentOffsets.{offsets_in, offsets_of}
 use Rattle.iref_grammar.specs.Tests.{is_fragment, is_path, is_query, is_scheme, none_or}
 use Rattle.iref_grammar.proofs.ReadableLemmas.{readable_read}
-use Rattle.iref_grammar.proofs.ReadablePartsLemmas.{readable_parts}
 use Rattle.iref_grammar.proofs.ReferenceCutLemmas.{read_reference-spelled}
 use Rattle.iref_model.specs.ComponentSteps.{with_query, with_fragment, with_path, with_new_normal_path, with_authority, with_authority_step, with_scheme}
 use Rattle.iref_model.specs.Guard.{guarded}
@@ -59,12 +58,6 @@ is_step set above test allows allowed new r e h k =
 pub spells : (test : Text → Bool) (new : Text) (r : ReferenceValue) → IsStep test new r → Spells r new
 spells test new r step = (sym (read_reference-spelled new) ∙ ap spell step.value, step.value)
 
--- with the query and the fragment of another reference
-hierarchy_readable : (set : CharTests) (old r : ReferenceValue) → is_readable set old ≡ true → is_readable set r ≡ true → is_readable set (with_query old.query (with_fragment old.fragment r)) ≡ true
-hierarchy_readable set old r q h =
-    let parts = readable_parts set old q in
-    with_query-readable set old.query (with_fragment old.fragment r) parts.query (with_fragment-readable set old.fragment r parts.fragment h)
-
 -- what an edit answers for
 pub after_ok : {V E P Q : Type 0} (result : Result V E) → (P → Q) → OnOk result P → OnOk result Q
 after_ok (Ok v) f h = f h
@@ -87,9 +80,6 @@ module _ (s a p q f new : Text) where
 
   query_spliced : splice (s ++ a ++ p ++ q ++ f) (length s + length a + length p) (length s + length a + length p + length q) new ≡ s ++ a ++ p ++ new ++ f
   query_spliced = same_lists _ _ (search (rules, places)) (λ k d h. grind (arith, places))
-
-  hierarchy_spliced : splice (s ++ a ++ p ++ q ++ f) 0 (length s + length a + length p) new ≡ new ++ q ++ f
-  hierarchy_spliced = same_lists _ _ (search (rules, places)) (λ k d h. grind (arith, places))
 
   fragment_spliced : splice (s ++ a ++ p ++ q ++ f) (length s + length a + length p + length q) (length (s ++ a ++ p ++ q ++ f)) new ≡ s ++ a ++ p ++ q ++ new
   fragment_spliced = same_lists _ _ (search (rules, places)) (λ k d h. grind (arith, places))
@@ -127,10 +117,6 @@ module _ (text : Text) where
   pub fragment_replaced : (fragment : Option Text) → splice text (fragment_after l) (length text) (then_part (hash_sign ∷ []) fragment) ≡ spell (with_fragment fragment r)
   unfolding spell
   fragment_replaced fragment = grind (arith, spelled, fragment_after-lengths r, fragment_spliced)
-
-  pub hierarchy_replaced : (other : ReferenceValue) → splice text 0 (query_after l) (spell (with_query None (with_fragment None other))) ≡ spell (with_query r.query (with_fragment r.fragment other))
-  unfolding spell
-  hierarchy_replaced other = simp (append_assoc, append-nil) (grind (arith, common_steps, spelled, query_after-lengths r, hierarchy_spliced))
 
   pub path_replaced : (path : PathValue) → splice text (offsets_of text).path.start (offsets_of text).path.end (spell_path path) ≡ spell (record r { path = path })
   unfolding spell offsets_of offsets_in
@@ -199,9 +185,6 @@ module _ (set : CharTests) (above : AreAboveAscii set) (text : Text) (h : is_ref
   pub scheme_within : IsWithin text (record { start = 0; end = with_mark 1 lengths.scheme })
   scheme_within = record { start_le_end = omega arith; start = start_within; end = scheme_ends }
 
-  pub hierarchy_within : IsWithin text (record { start = 0; end = query_after lengths })
-  hierarchy_within = record { start_le_end = omega arith; start = start_within; end = path_ends }
-
 -- ---- the edits of a readable reference with a scheme that the rule allows
 
 module _ (set : CharTests) (above : AreAboveAscii set) (test : Text → Bool) (allows : Option Text → Bool)
@@ -209,9 +192,6 @@ module _ (set : CharTests) (above : AreAboveAscii set) (test : Text → Bool) (a
     (r : ReferenceValue) (h : is_readable set r ≡ true) (k : allows r.scheme ≡ true) (new : Text) where
   pub query_set : (query : Option Text) → none_or (is_query set) query ≡ true → new ≡ spell (with_query query r) → IsStep test new (with_query query r)
   query_set query q e = is_step set above test allows by_scheme new (with_query query r) e (with_query-readable set query r q h) k
-
-  pub hierarchy_set : (old : ReferenceValue) → is_readable set old ≡ true → new ≡ spell (with_query old.query (with_fragment old.fragment r)) → IsStep test new (with_query old.query (with_fragment old.fragment r))
-  hierarchy_set old q e = is_step set above test allows by_scheme new (with_query old.query (with_fragment old.fragment r)) e (hierarchy_readable set old r q h) k
 
   pub fragment_set : (fragment : Option Text) → none_or (is_fragment set) fragment ≡ true → new ≡ spell (with_fragment fragment r) → IsStep test new (with_fragment fragment r)
   fragment_set fragment q e = is_step set above test allows by_scheme new (with_fragment fragment r) e (with_fragment-readable set fragment r q h) k

@@ -1,16 +1,16 @@
 //! What stands before the query and the fragment of an owned reference, which a list of edits
-//! changes apart from these.
+//! changes on a copy.
 ghost use Rattle.std.specs.Prelude.{◌≡◌, None, IfOk};
 ghost use Rattle.iref_buffer.specs.{with_fragment, with_query};
-ghost use Rattle.iref_reference.specs.References.{Edits, reference_buf_value};
+ghost use Rattle.iref_reference.specs.References.{reference_buf_text, reference_buf_value};
 
 use crate::owned::ReferenceBuf;
 use iref_buffer::held::HeldRule;
 use iref_error::Memory;
 use iref_grammar::chars::CharSet;
 
-/// A copy of a reference up to its query and its fragment, under the same rule: of `s:/a?q`, `s:/a`
-/// (RFC 3986 section 3).
+/// A copy of a reference up to its query and its fragment, under the same rule, with as much room:
+/// of `s:/a?q`, `s:/a` (RFC 3986 section 3).
 pub fn copied_hierarchy<R: HeldRule, C: CharSet>(
     reference: &ReferenceBuf<R, C>,
 ) -> Result<ReferenceBuf<R, C>, Memory>
@@ -20,15 +20,12 @@ pub fn copied_hierarchy<R: HeldRule, C: CharSet>(
     Ok(ReferenceBuf::from_held(reference.held.copied_hierarchy()?))
 }
 
-/// Replaces what stands before the query and the fragment by that of another reference: `s:/a?q`
-/// with that of `t:b?r` becomes `t:b?q` (RFC 3986 section 3). At `Memory` nothing has changed.
-pub fn set_hierarchy<R: HeldRule, C: CharSet>(
+/// Makes room for at least this many bytes behind the text, which stays as it is.
+pub fn reserve<R: HeldRule, C: CharSet>(
     reference: &mut ReferenceBuf<R, C>,
-    other: &ReferenceBuf<R, C>,
+    additional: usize,
 ) -> Result<(), Memory>
-    ensures { Edits (λ r. with_query r.query
-        (with_fragment r.fragment (reference_buf_value other.now))) reference.old reference.new
-        result }
+    ensures { reference_buf_text reference.new ≡ reference_buf_text reference.old }
 {
-    reference.held.set_hierarchy(&other.held)
+    reference.held.reserve(additional)
 }

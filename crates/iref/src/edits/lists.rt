@@ -1,28 +1,25 @@
 //! Edits of a list, one after the other, up to the first that cannot be done.
-ghost use Rattle.std.specs.{Prelude.{◌≡◌, true, map, IfNone, IfSome}, List.{list_any}};
+ghost use Rattle.std.specs.Prelude.{◌≡◌, ◌≤◌, ◌<◌, true, length, map, take, IfNone, IfOk, IfSome};
+ghost use Rattle.iref_component.specs.{with_fragment, with_query};
 ghost use Rattle.iref_model.specs.Edits.{edited, edited_uri};
-ghost use Rattle.iref_reference.specs.References.{reference_buf_text};
-ghost use Rattle.iref.specs.EditAnswers.{AppliesEdit, AppliesTo, edited_in};
-ghost use Rattle.iref.specs.EditAnswers.{keeps_query_and_fragment, may_take_memory};
+ghost use Rattle.iref_reference.specs.References.{reference_buf_text, reference_buf_value};
+ghost use Rattle.iref.specs.EditAnswers.{AppliesEdit, AppliesTo, AreDone, StopsAt, edited_in};
+ghost use Rattle.iref.specs.EditAnswers.{keeps_query_and_fragment};
 ghost use Rattle.iref.specs.EditSteps.{AppliesList, all_keep_query_and_fragment, edit_step};
 
 use crate::edits::parts::{edit_authority, edit_path};
 use crate::edits::schemes::SetsScheme;
 use crate::edits::{Edit, EditFault};
+use iref_error::Memory;
 use iref_grammar::chars::CharSet;
-use iref_reference::hierarchy::{copied_hierarchy, set_hierarchy};
+use iref_reference::hierarchy::{copied_hierarchy, reserve};
 use iref_reference::owned::{ReferenceBuf, UriBuf, UriRefBuf};
 
-// How many edits a run has at most.
-const RUN: usize = 32;
+// A copy is taken where this many edits have changed the length, and as many follow that leave the
+// query and the fragment as they are.
+const MOVES: usize = 32;
 
-// A run of fewer edits is done in place.
-const MIN_EDITS: usize = 16;
-
-// So is a run where more bytes stand before the query and the fragment.
-const MAX_FRONT: usize = 4096;
-
-// So is a run where the query and the fragment have fewer bytes, with their delimiters.
+// So many bytes the query and the fragment have at least then, with their delimiters.
 const MIN_REST: usize = 1024;
 
 /// What a list of edits returns: the number of the first that cannot be done, from 0, and why.
@@ -63,19 +60,53 @@ fn apply<R: SetsScheme, C: CharSet>(
     }
 }
 
-// Does the edits in place, up to the first that cannot be done: its number is in the error.
+// What was done of some edits: how many, and why the next one cannot be done, if it cannot.
+#[derive(Drop)]
+struct Run {
+    done: usize,
+    fault: Option<EditFault>,
+}
+
+// Does edits, up to the first that cannot be done. On a copy, from which `rest` bytes of query and
+// fragment are left out, it keeps room for these, as they would have in place. With no bytes left out
+// it stops once `MOVES` edits have changed the length.
 fn apply_each<R: SetsScheme, C: CharSet>(
     reference: &mut ReferenceBuf<R, C>,
     edits: &[Edit<'_, C>],
-) -> Applied
-    ensures { AppliesList R.allows_scheme edits.now reference.old reference.new result }
+    rest: usize,
+) -> Run
+    ensures within { result.done ≤ length edits.now }
+    ensures done { AreDone (edited_in R.allows_scheme)
+        (take result.done (map edit_step edits.now))
+        (reference_buf_value reference.old) (reference_buf_value reference.new) }
+    ensures fault { IfSome result.fault (StopsAt (edited_in R.allows_scheme)
+        (map edit_step edits.now) (reference_buf_value reference.old)
+        (reference_buf_value reference.new) result.done) }
+    ensures goes_on { IfNone result.fault (0 < length edits.now → 0 < result.done) }
 {
+    // The next edit that changes the length is the first one.
+    let mut moves = 1;
+    let mut len = reference.as_str().len();
     for (i, edit) in edits.iter().enumerate() {
-        if let Err(error) = apply(reference, *edit) {
-            return Err((i, error));
+        if let Err(fault) = apply(reference, *edit) {
+            let fault = Some(fault);
+            return Run { done: i, fault };
+        }
+        if reference.as_str().len() != len {
+            len = reference.as_str().len();
+            if rest > 0 {
+                let _full = reserve(reference, rest);
+            } else if moves == MOVES {
+                let fault = None;
+                return Run { done: i + 1, fault };
+            }
+            moves += 1;
         }
     }
-    Ok(())
+    Run {
+        done: edits.len(),
+        fault: None,
+    }
 }
 
 // Whether the edit leaves the query and the fragment as they are.
@@ -85,100 +116,84 @@ fn keeps_query_and_fragment<C: CharSet>(edit: Edit<'_, C>) -> bool
     !matches!(edit, Edit::SetQuery(_) | Edit::SetFragment(_))
 }
 
-// Whether all edits leave the query and the fragment as they are.
-fn all_keep_query_and_fragment<C: CharSet>(edits: &[Edit<'_, C>]) -> bool
-    ensures { result ≡ all_keep_query_and_fragment edits.now }
+// How many edits stand before the first one of the query or of the fragment.
+fn kept_len<C: CharSet>(edits: &[Edit<'_, C>]) -> usize
+    ensures within { result ≤ length edits.now }
+    ensures kept { all_keep_query_and_fragment (take result edits.now) ≡ true }
 {
-    edits.iter().all(|edit| keeps_query_and_fragment(*edit))
+    for (i, edit) in edits.iter().enumerate() {
+        if !keeps_query_and_fragment(*edit) {
+            return i;
+        }
+    }
+    edits.len()
 }
 
-// Whether the edit may take memory. What takes a component away, or all segments, takes none.
-fn may_take_memory<C: CharSet>(edit: Edit<'_, C>) -> bool
-    ensures { result ≡ may_take_memory (edit_step edit.entry) }
-{
-    !matches!(
-        edit,
-        Edit::SetScheme(None)
-            | Edit::SetAuthority(None)
-            | Edit::SetUserInfo(None)
-            | Edit::SetPort(None)
-            | Edit::SetPortU32(None)
-            | Edit::SetQuery(None)
-            | Edit::SetFragment(None)
-            | Edit::Clear
-    )
+// How many bytes the query and the fragment have, with their delimiters.
+fn rest_len<R: SetsScheme, C: CharSet>(reference: &ReferenceBuf<R, C>) -> usize {
+    let front = reference.offsets().path.end;
+    reference.as_str().len().saturating_sub(front)
 }
 
-// Whether one of the edits may take memory.
-fn some_may_take_memory<C: CharSet>(edits: &[Edit<'_, C>]) -> bool
-    ensures { result ≡ list_any (λ edit. may_take_memory (edit_step edit)) edits.now }
-{
-    edits.iter().any(|edit| may_take_memory(*edit))
-}
-
-// Whether the edits are to be done on a copy of what stands before the query and the fragment: all
-// leave these as they are, one of them may take memory, and its sizes are within the limits above.
-fn is_done_on_copy<R: SetsScheme, C: CharSet>(
+// How many of the edits are to be done on a copy of what stands before the query and the fragment:
+// none, unless these are at least as long as that.
+fn copied_len<R: SetsScheme, C: CharSet>(
     reference: &ReferenceBuf<R, C>,
     edits: &[Edit<'_, C>],
-) -> bool
-    ensures keep { result ≡ true → all_keep_query_and_fragment edits.now ≡ true }
-    ensures memory { result ≡ true
-        → list_any (λ edit. may_take_memory (edit_step edit)) edits.now ≡ true }
+) -> usize
+    ensures within { result ≤ length edits.now }
+    ensures kept { all_keep_query_and_fragment (take result edits.now) ≡ true }
 {
-    if edits.len() < MIN_EDITS {
-        return false;
-    }
     let front = reference.offsets().path.end;
-    front <= MAX_FRONT
-        && reference.as_str().len() >= front + MIN_REST
-        && all_keep_query_and_fragment(edits)
-        && some_may_take_memory(edits)
+    if rest_len(reference) < front.max(MIN_REST) {
+        return 0;
+    }
+    let kept = kept_len(edits);
+    if kept < MOVES { 0 } else { kept }
 }
 
-// Does the edits on a copy of what stands before the query and the fragment, so that these move at
-// most once. `None` says that memory ran out: nothing has changed.
+// Gives a reference the query and the fragment of another.
+fn set_rest<R: SetsScheme, C: CharSet>(
+    front: &mut ReferenceBuf<R, C>,
+    other: &ReferenceBuf<R, C>,
+) -> Result<(), Memory>
+    ensures { IfOk result (λ _. reference_buf_value front.new
+        ≡ with_query (reference_buf_value other.now).query
+        (with_fragment (reference_buf_value other.now).fragment (reference_buf_value front.old))) }
+{
+    front.set_query(other.query())?;
+    front.set_fragment(other.fragment())
+}
+
+// Does edits on a copy of what stands before the query and the fragment, so that these move at most
+// once, up to the first that cannot be done: how many are done. None is, where memory for the copy
+// lacks.
 fn apply_on_copy<R: SetsScheme, C: CharSet>(
     reference: &mut ReferenceBuf<R, C>,
     edits: &[Edit<'_, C>],
-) -> Option<Applied>
+) -> usize
     requires { all_keep_query_and_fragment edits.now ≡ true }
-    ensures applied { IfSome result
-        (AppliesList R.allows_scheme edits.now reference.old reference.new) }
-    ensures none { IfNone result
-        (reference_buf_text reference.new ≡ reference_buf_text reference.old) }
+    ensures within { result ≤ length edits.now }
+    ensures done { AreDone (edited_in R.allows_scheme) (take result (map edit_step edits.now))
+        (reference_buf_value reference.old) (reference_buf_value reference.new) }
 {
+    if edits.is_empty() {
+        return 0;
+    }
     let Ok(mut front) = copied_hierarchy(reference) else {
-        return None;
+        return 0;
     };
-    let applied = apply_each(&mut front, edits);
-    if matches!(applied, Err((_, EditFault::Memory))) {
-        return None;
+    let rest = rest_len(reference);
+    let run = apply_each(&mut front, edits, rest);
+    if set_rest(&mut front, reference).is_err() {
+        return 0;
     }
-    match set_hierarchy(reference, &front) {
-        Ok(()) => Some(applied),
-        Err(_) => None,
-    }
+    *reference = front;
+    run.done
 }
 
-// Does a run of edits in place, or on a copy, where that is to be done and there is memory for it.
-// The first run is done in place, so a list that is refused early takes no copy.
-fn apply_run<R: SetsScheme, C: CharSet>(
-    reference: &mut ReferenceBuf<R, C>,
-    edits: &[Edit<'_, C>],
-    is_first: bool,
-) -> Applied
-    ensures { AppliesList R.allows_scheme edits.now reference.old reference.new result }
-{
-    if !is_first && is_done_on_copy(reference, edits) {
-        if let Some(applied) = apply_on_copy(reference, edits) {
-            return applied;
-        }
-    }
-    apply_each(reference, edits)
-}
-
-// Does the edits, run by run.
+// Does the edits, in place and on copies by turns. No copy is taken any more once edits of one were
+// not done.
 fn apply_list<R: SetsScheme, C: CharSet>(
     reference: &mut ReferenceBuf<R, C>,
     edits: &[Edit<'_, C>],
@@ -186,19 +201,26 @@ fn apply_list<R: SetsScheme, C: CharSet>(
     ensures { AppliesList R.allows_scheme edits.now reference.old reference.new result }
 {
     let mut done = 0;
+    let mut may_copy = true;
     while done < edits.len() {
-        let end = edits.len().min(done + RUN);
-        if let Err((i, error)) = apply_run(reference, &edits[done..end], done == 0) {
-            return Err((done + i, error));
+        let run = apply_each(reference, &edits[done..], 0);
+        done += run.done;
+        if let Some(fault) = run.fault {
+            return Err((done, fault));
         }
-        done = end;
+        if may_copy {
+            let len = copied_len(reference, &edits[done..]);
+            let copied = apply_on_copy(reference, &edits[done..done + len]);
+            may_copy = copied == len;
+            done += copied;
+        }
     }
     Ok(())
 }
 
-/// Does the edits one after the other. From the 33rd on, edits that leave a long query and fragment
-/// as they are may be done on a copy of the text before these, if there is memory for it, and else
-/// in place.
+/// Does the edits one after the other. Where 32 of them have changed the length, 32 or more that
+/// leave a long query and fragment as they are may be done on a copy of the text before these, if
+/// there is memory for it, and else in place.
 ///
 /// # Errors
 ///

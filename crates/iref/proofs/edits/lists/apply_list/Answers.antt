@@ -1,55 +1,50 @@
-use Rattle.std.proofs.Common.{◌≡◌, ◌+◌, ◌-◌, map, take, drop, length, sym, ap, subst, ◌∙◌, arith}
-use Rattle.std.proofs.lemmas.List.{take-map, drop-map, length-map}
+use Rattle.std.proofs.Common.{◌+◌, ◌-◌, drop, length, length-drop, length-take-le, map, arith}
 use Rattle.iref_reference.specs.References.{reference_buf_value}
-use Rattle.iref.specs.EditAnswers.{AreDone, StopsAt, edited_in}
+use Rattle.iref.specs.EditAnswers.{edited_in}
 use Rattle.iref.specs.EditSteps.{edit_step}
 use Rattle.iref.proofs.EditListLemmas.{none_done, all_done}
-use Rattle.iref.proofs.EditRunLemmas.{length_run, run_done, run_stops, stops_within}
+use Rattle.iref.proofs.EditRunLemmas.{done_behind, stops_behind}
 use Rattle.iref.proofs.edits.lists.apply_list.Goals as goal
 
 pub loop-done-init : goal.loop-done-init
 loop-done-init g c = record { within = omega arith; done = none_done (edited_in g.R.HeldRule.allows_scheme) (map edit_step c.args.edits.now) (reference_buf_value c.args.reference.now) }
 
-pub overflow_add-result : goal.overflow_add-result
-overflow_add-result g c =
-    let step = edited_in g.R.HeldRule.allows_scheme in
-    let xs = map edit_step c.args.edits.now in
-    let d = c.loop-done.done in
-    let k = c.min-end.result - d in
-    let size = length-map c.args.edits.now edit_step in
-    let same = sym (take-map edit_step k (drop d c.args.edits.now)) ∙ ap (take k) (sym (drop-map edit_step d c.args.edits.now)) in
-    let stops : StopsAt step (take k (drop d xs)) _ _ c.in-Err.i c.in-Err.error = subst (λ run. StopsAt step run (reference_buf_value c.loop-done.reference) (reference_buf_value c.apply_run.new.reference) c.in-Err.i c.in-Err.error) same c.in-Err.ensures in
-    let inside = stops_within step (take k (drop d xs)) _ _ c.in-Err.i c.in-Err.error stops in
-    let long = length_run step xs d k _ _ (reference_buf_value c.loop-done.reference) (omega arith) c.loop-done.invariant.done (omega arith) in
-    omega arith
+pub returns-in-Some : goal.returns-in-Some
+returns-in-Some g c =
+    stops_behind (edited_in g.R.HeldRule.allows_scheme) edit_step c.args.edits.now c.loop-done.done (reference_buf_value c.args.reference.now) (reference_buf_value c.loop-done.reference) (reference_buf_value c.apply_each-run.new.reference)
+    c.loop-done.invariant.done c.loop-done.invariant.within c.apply_each-run.result.done c.in-Some.fault (rw c.in-Some.is at c.apply_each-run.ensures.fault)
 
-pub returns-in-Err : goal.returns-in-Err
-returns-in-Err g c =
+pub loop-done-preserved-then-may_copy : goal.loop-done-preserved-then-may_copy
+loop-done-preserved-then-may_copy g c =
     let step = edited_in g.R.HeldRule.allows_scheme in
-    let xs = map edit_step c.args.edits.now in
-    let d = c.loop-done.done in
-    let k = c.min-end.result - d in
-    let size = length-map c.args.edits.now edit_step in
-    let same = sym (take-map edit_step k (drop d c.args.edits.now)) ∙ ap (take k) (sym (drop-map edit_step d c.args.edits.now)) in
-    let stops : StopsAt step (take k (drop d xs)) _ _ c.in-Err.i c.in-Err.error = subst (λ run. StopsAt step run (reference_buf_value c.loop-done.reference) (reference_buf_value c.apply_run.new.reference) c.in-Err.i c.in-Err.error) same c.in-Err.ensures in
-    let long = length_run step xs d k _ _ (reference_buf_value c.apply_run.new.reference) (omega arith) c.loop-done.invariant.done (omega arith) in
-    run_stops step xs d k _ _ _ (omega arith) c.loop-done.invariant.done c.in-Err.i c.in-Err.error (omega arith) stops
+    let edits = c.args.edits.now in
+    let old = reference_buf_value c.args.reference.now in
+    let mid = reference_buf_value c.apply_each-run.new.reference in
+    let start = c.loop-done.done in
+    let n = c.apply_each-run.result.done in
+    let d = start + n in
+    let part = d + c.copied_len-len.result - d in
+    let behind = length-drop start edits in
+    let run = length-take-le (length edits - start) (drop start edits) (omega arith) in
+    let first = done_behind step edit_step edits start old (reference_buf_value c.loop-done.reference) mid c.loop-done.invariant.done (length edits - start) n (omega arith) c.apply_each-run.ensures.done in
+    let left = length-drop d edits in
+    let asked = length-take-le (length edits - d) (drop d edits) (omega arith) in
+    let size = length-take-le part (drop d edits) (omega arith) in
+    record {
+      within = omega arith;
+      done = done_behind step edit_step edits d old mid (reference_buf_value c.apply_on_copy-copied.new.reference) first part c.apply_on_copy-copied.result (omega arith) c.apply_on_copy-copied.ensures.done;
+    }
 
 pub loop-done-preserved : goal.loop-done-preserved
 loop-done-preserved g c =
-    let step = edited_in g.R.HeldRule.allows_scheme in
-    let xs = map edit_step c.args.edits.now in
-    let d = c.loop-done.done in
-    let k = c.min-end.result - d in
-    let size = length-map c.args.edits.now edit_step in
-    let same = sym (take-map edit_step k (drop d c.args.edits.now)) ∙ ap (take k) (sym (drop-map edit_step d c.args.edits.now)) in
-    let run : AreDone step (take k (drop d xs)) _ _ = subst (λ run. AreDone step run (reference_buf_value c.loop-done.reference) (reference_buf_value c.apply_run.new.reference)) same c.in_default.ensures in
-    let long = length_run step xs d k _ _ (reference_buf_value c.apply_run.new.reference) (omega arith) c.loop-done.invariant.done (omega arith) in
-    let whole = run_done step xs d k _ _ _ (omega arith) c.loop-done.invariant.done (omega arith) run in
-    let end : d + length (take k (drop d xs)) ≡ c.min-end.result = omega arith in
+    let edits = c.args.edits.now in
+    let start = c.loop-done.done in
+    let behind = length-drop start edits in
+    let run = length-take-le (length edits - start) (drop start edits) (omega arith) in
     record {
       within = omega arith;
-      done = subst (λ n. AreDone step (take n xs) (reference_buf_value c.args.reference.now) (reference_buf_value c.apply_run.new.reference)) end whole;
+      done = done_behind (edited_in g.R.HeldRule.allows_scheme) edit_step edits start (reference_buf_value c.args.reference.now) (reference_buf_value c.loop-done.reference) (reference_buf_value c.apply_each-run.new.reference)
+          c.loop-done.invariant.done (length edits - start) c.apply_each-run.result.done (omega arith) c.apply_each-run.ensures.done;
     }
 
 pub returns : goal.returns
