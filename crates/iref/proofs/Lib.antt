@@ -5,13 +5,12 @@ pub mod EditListLemmas
 pub mod EditCopyLemmas
 pub mod EditRunLemmas
 pub mod PortTextLemmas
-pub mod PrefixFewLemmas
-pub mod PrefixIndexLemmas
-pub mod PrefixOrderLemmas
-pub mod PrefixSearchLemmas
-pub mod PrefixSortedLemmas
+pub mod PrefixBitLemmas
+pub mod PrefixFindLemmas
+pub mod PrefixInsertLemmas
 pub mod PrefixTextLemmas
 pub mod PrefixTableLemmas
+pub mod PrefixWayLemmas
 -- lemmas about the words of contracts, for callers that list this crate alone
 pub use Rattle.iref_grammar.proofs.AuthorityLemmas
 pub use Rattle.iref_grammar.proofs.CutLemmas

@@ -2,7 +2,7 @@ pub mod ComponentRules
 pub mod EditAnswers
 pub mod EditSteps
 pub mod Errors
-pub mod PrefixIndex
+pub mod PrefixTree
 pub mod Prefixes
 -- the words of contracts, for callers that list this crate alone
 pub use Rattle.iref_grammar.specs.Authority

@@ -1,33 +1,27 @@
 //! Prefix tables: labels that stand for the beginnings of IRIs, as in `ex:a` for
 //! `http://example.org/a`.
-ghost use Rattle.std.specs.Prelude.{◌≡◌, ◌+◌, ◌<◌, ◌≤◌, [], length, take, option_map, Ok, IfOk};
+ghost use Rattle.std.specs.Prelude.{◌≡◌, [], length, option_map, Ok, IfOk};
 ghost use Rattle.std.specs.{Prelude.{IfErr, IfSome, OnOk, OnErr}, String.{string_bytes}};
 ghost use Rattle.std.specs.List.{find};
 ghost use Rattle.std.specs.Option.{option_copied};
-ghost use Rattle.iref.specs.PrefixIndex.{has_text, FitsBelow, IsPredecessor};
 ghost use Rattle.iref.specs.Prefixes.{compact_value, RefusesExpand, RefusesInsert};
 ghost use Rattle.iref_mapping.specs.PrefixTable.{has_label, longest_fit, IsPrefixTable};
 ghost use Rattle.iref_mapping.specs.PrefixTable.{compact_text, compacted, expanded, get, inserted};
 ghost use Rattle.iref_reference.specs.References.{reference_buf_text, reference_text};
 
 mod entry;
-mod few;
-mod index;
-mod sorted;
 mod text;
+mod tree;
 
 use crate::iri::{Iri, IriBuf};
-use entry::{Entry, add};
-use few::{find_label, longest_of};
-use index::{Index, LONGEST_SORTED, LONGEST_UNINDEXED};
+use entry::{Entry, Key, add};
 use iref_error::Memory;
 use iref_parse::cut::cut;
-use iref_parse::front::common_front;
-use sorted::predecessor;
 use std::alloc::Global;
 use std::marker::Model;
 use text::{after_front, iri_of, is_label, joined};
 use thiserror::Error;
+use tree::Tree;
 
 /// Why an entry cannot be inserted, as one under the label `1x`.
 #[derive(Clone, Copy, Debug, PartialEq, Eq, Error)]
@@ -105,19 +99,24 @@ impl Compact<'_> {
 #[derive(Drop)]
 pub struct Prefixes {
     entries: Vec<Entry>,
-    index: Index,
+    // the entries by their labels
+    labels: Tree,
+    // the first entries of texts by the texts
+    texts: Tree,
 }
 
 impl Model for Prefixes {
     ghost use Rattle.iref_mapping.specs.PrefixTable.{PrefixTable, IsPrefixTable};
-    ghost use Rattle.iref.specs.PrefixIndex.{IsIndexedIfLong};
+    ghost use Rattle.iref.specs.PrefixTree.{keys_of, IsTree};
+    ghost use Rattle.iref.specs.declared.compact.entry.Key.TheVariants.{Label, Iri};
 
     ghost Value = { PrefixTable };
 
     ghost view = { λ p. p.entries.items };
 
     ghost invariant = { λ p. IsPrefixTable p.entries.items
-        × IsIndexedIfLong p.entries.items p.index };
+        × IsTree (keys_of Label p.entries.items) p.labels
+        × IsTree (keys_of Iri p.entries.items) p.texts };
 }
 
 impl Prefixes {
@@ -126,8 +125,9 @@ impl Prefixes {
         ensures { result ≡ [] }
     {
         let entries = Vec::new(alloc);
-        let index = Index::new(alloc);
-        Prefixes { entries, index }
+        let labels = Tree::new(alloc);
+        let texts = Tree::new(alloc);
+        Prefixes { entries, labels, texts }
     }
 
     /// How many entries the table has: after one `insert`, 1.
@@ -138,82 +138,10 @@ impl Prefixes {
     }
 
     // The entry of a label.
-    #[tactic(auto, using(crate::proofs::PrefixIndexLemmas::numbers))]
     fn find(&self, label: &str) -> Option<&Entry>
         ensures { option_copied result ≡ find (has_label label.now) self.now }
     {
-        if self.entries.len() <= LONGEST_UNINDEXED {
-            return find_label(&self.entries, label);
-        }
-        let at = self.index.number_of_label(label)?;
-        self.entries.get(at)
-    }
-
-    // The first entry whose text is the IRI's beginning of this length.
-    #[tactic(auto, using(crate::proofs::PrefixIndexLemmas::no_number))]
-    fn entry_of_beginning(&self, iri: &str, len: usize) -> Option<&Entry>
-        requires long { LONGEST_UNINDEXED < length self.now }
-        requires len { len ≤ length iri.now }
-        ensures { option_copied result ≡ find (has_text (take len iri.now)) self.now }
-    {
-        let index = &self.index;
-        if !iri.is_char_boundary(len) {
-            return None;
-        }
-        let at = index.number_of_text(&iri[..len])?;
-        self.entries.get(at)
-    }
-
-    // The first of the longest entries whose text is a beginning of the IRI's, where each such text
-    // is shorter than this: the lengths of texts are tried from the greatest down.
-    fn longest_fit_below(&self, iri: &str, mut end: usize) -> Option<&Entry>
-        requires long { LONGEST_UNINDEXED < length self.now }
-        requires end { end ≤ length iri.now + 1 }
-        requires below { FitsBelow iri.now self.now end }
-        ensures entry { option_copied result ≡ longest_fit iri.now self.now }
-        ensures table { IsPrefixTable self.now }
-    {
-        while let Some(len) = self.index.length_below(end) {
-            let entry = self.entry_of_beginning(iri, len);
-            if entry.is_some() {
-                return entry;
-            }
-            end = len;
-        }
-        None
-    }
-
-    // The entry of the last text up to this one.
-    fn predecessor(&self, text: &[u8]) -> Option<&Entry>
-        requires long { LONGEST_UNINDEXED < length self.now }
-        requires sorted { length self.now ≤ LONGEST_SORTED }
-        ensures { IsPredecessor text.now self.now (option_copied result) }
-    {
-        predecessor(&self.entries, self.index.sorted(), text)
-    }
-
-    // The first of the longest entries whose text is a beginning of the IRI's, by the index. The
-    // IRI is cut to the greatest length of an entry's text that is not above its own. A text that
-    // sorts between a beginning of this front and the front begins with that beginning. So the last
-    // text up to the front begins with each text that fits.
-    #[tactic(auto, using(crate::proofs::PrefixSearchLemmas::all_below))]
-    fn longest_by_index(&self, iri: &str) -> Option<&Entry>
-        requires { LONGEST_UNINDEXED < length self.now }
-        ensures entry { option_copied result ≡ longest_fit iri.now self.now }
-        ensures table { IsPrefixTable self.now }
-    {
-        if self.entries.len() > LONGEST_SORTED {
-            return self.longest_fit_below(iri, iri.len() + 1);
-        }
-        let len = self.index.length_below(iri.len() + 1)?;
-        let front = &iri.as_bytes()[..len];
-        let predecessor = self.predecessor(front)?;
-        let text = predecessor.text();
-        let common = common_front(text.as_bytes(), front);
-        if common == text.len() {
-            return Some(predecessor);
-        }
-        self.longest_fit_below(iri, common + 1)
+        self.labels.entry_of(&self.entries, Key::Label, label.as_bytes())
     }
 
     // The first of the longest entries whose text is a beginning of the IRI's.
@@ -221,11 +149,7 @@ impl Prefixes {
         ensures entry { option_copied result ≡ longest_fit iri.now self.now }
         ensures table { IsPrefixTable self.now }
     {
-        if self.entries.len() <= LONGEST_UNINDEXED {
-            longest_of(&self.entries, iri.as_bytes())
-        } else {
-            self.longest_by_index(iri)
-        }
+        self.texts.longest_fit(&self.entries, iri.as_bytes())
     }
 
     /// The IRI of a label, if the label has an entry: after `insert` of `ex` with `http://ex.org/`,
@@ -238,10 +162,8 @@ impl Prefixes {
     }
 
     /// Adds a last entry. A label is an ASCII letter, then ASCII letters, digits, `-` and `_`; it
-    /// differs from all labels that are there, by its text. The table keeps a copy of the label and
-    /// of the IRI. Beyond 32 entries it keeps an index, with a second copy of the label, and of the
-    /// IRI if no entry before has it; up to 4,096 entries the index also keeps the order of the
-    /// IRIs. The 33rd entry makes the index of all.
+    /// differs from all labels that are there, by its text. The table keeps one copy of the label
+    /// and of the IRI. It finds their places by their bits, however many entries it has.
     ///
     /// # Errors
     ///
@@ -260,15 +182,14 @@ impl Prefixes {
         if self.find(label).is_some() {
             return Err(PrefixFault::Taken);
         }
-        Ok(add(&mut self.entries, &mut self.index, label, iri.as_str())?)
+        Ok(add(&mut self.entries, &mut self.labels, &mut self.texts, label, iri.as_str())?)
     }
 
     /// The IRI by its longest beginning in the table: the label of the entry whose IRI's text is a
     /// beginning of this one's, and the rest. Where several are as long, the first inserted one
-    /// serves. None where no entry's IRI is a beginning. It takes no memory. Up to 32 entries it
-    /// compares each. Up to 4,096 it searches the order of their IRIs once, which mostly suffices.
-    /// Where it does not, and beyond, there is at most one look-up for each length, up to this
-    /// IRI's, of an IRI that was given to `insert`.
+    /// serves. None where no entry's IRI is a beginning. It takes no memory. However many entries
+    /// there are, it tests at most nine bits for each byte of this IRI, and compares it with one
+    /// entry's. If that entry is no beginning, and others are shorter, it may test the bits twice.
     #[tactic(auto, using(crate::proofs::PrefixTableLemmas::compacts))]
     pub fn compact<'a>(&'a self, iri: Iri<'a>) -> Option<Compact<'a>>
         ensures compacted { option_map compact_value result

@@ -1,16 +1,23 @@
-//! An entry of a prefix table, and how one is added to the table and its index.
-ghost use Rattle.std.specs.Prelude.{◌≡◌, ◌++◌, [], ◌∷◌, true, None, IfOk, OnOk, OnErr};
-ghost use Rattle.std.specs.{List.{find}, String.{string_bytes}};
-ghost use Rattle.iref.specs.PrefixIndex.{IsIndexedIfLong};
+//! An entry of a prefix table, and how one is added to the table and its trees.
+ghost use Rattle.std.specs.Prelude.{◌≡◌, ◌++◌, [], ◌∷◌, true, IfOk, OnOk, OnErr};
+ghost use Rattle.std.specs.{String.{string_bytes}};
 ghost use Rattle.iref_grammar.specs.{Characters.{iri_chars}, Reference.{is_uri}};
-ghost use Rattle.iref_mapping.specs.PrefixTable.{has_label, IsPrefixTable};
 ghost use Rattle.iref_reference.specs.References.{reference_text};
+ghost use Rattle.iref.specs.PrefixTree.{key_of, keys_of, IsTree};
+ghost use Rattle.iref.specs.declared.compact.entry.Key.TheVariants.{Label, Iri};
 
-use super::index::{Index, LONGEST_UNINDEXED};
+use super::tree::Tree;
 use crate::iri::Iri;
 use iref_error::Memory;
 use std::alloc::Global;
 use std::marker::Model;
+
+// What an entry is found by.
+#[derive(Clone, Copy)]
+pub(super) enum Key {
+    Label,
+    Iri,
+}
 
 // A label, and the text of its IRI.
 #[derive(Drop)]
@@ -55,6 +62,17 @@ impl Entry {
         self.iri.as_str()
     }
 
+    // What the entry is found by.
+    #[inline(always)]
+    pub(super) fn key(&self, key: Key) -> &str
+        ensures { result.now ≡ key_of key self.now }
+    {
+        match key {
+            Key::Label => self.label(),
+            Key::Iri => self.text(),
+        }
+    }
+
     pub(super) fn iri(&self) -> Iri<'_>
         ensures { reference_text result ≡ self.now.iri }
     {
@@ -62,55 +80,30 @@ impl Entry {
     }
 }
 
-// Adds a last entry to the index of a long table, or makes the index of all entries where the table
-// has just become too long to be without one.
-fn add_to_index(
-    alloc: Global,
-    index: &mut Index,
-    entries: &[Entry],
-    label: &str,
-    iri: &str,
-) -> Result<(), Memory>
-    requires table { IsPrefixTable entries.now }
-    requires label { find (has_label label.now) entries.now ≡ None }
-    requires indexed { IsIndexedIfLong entries.now index.old }
-    ensures ok { OnOk result (IsIndexedIfLong
-        (entries.now ++ record { label = label.now; iri = iri.now } ∷ []) index.new) }
-    ensures err { OnErr result (IsIndexedIfLong entries.now index.new) }
-{
-    if entries.len() < LONGEST_UNINDEXED {
-        return Ok(());
-    }
-    if entries.len() == LONGEST_UNINDEXED {
-        let mut all = Index::of(alloc, entries)?;
-        all.add(alloc, entries, label, iri)?;
-        *index = all;
-        return Ok(());
-    }
-    index.add(alloc, entries, label, iri)?;
-    Ok(())
-}
-
-// Adds a last entry, and its number to the index, if the table is long.
+// Adds a last entry, and finds it by its label and its text.
 pub(super) fn add(
     entries: &mut Vec<Entry>,
-    index: &mut Index,
+    labels: &mut Tree,
+    texts: &mut Tree,
     label: &str,
     iri: &str,
 ) -> Result<(), Memory>
     requires iri { is_uri iri_chars iri.now ≡ true }
-    requires table { IsPrefixTable entries.old.items }
-    requires label { find (has_label label.now) entries.old.items ≡ None }
-    requires indexed { IsIndexedIfLong entries.old.items index.old }
+    requires labels { IsTree (keys_of Label entries.old.items) labels.old }
+    requires texts { IsTree (keys_of Iri entries.old.items) texts.old }
     ensures ok { OnOk result (entries.new.items
         ≡ entries.old.items ++ record { label = label.now; iri = iri.now } ∷ []) }
     ensures err { OnErr result (entries.new.items ≡ entries.old.items) }
-    ensures indexed { IsIndexedIfLong entries.new.items index.new }
+    ensures labels { IsTree (keys_of Label entries.new.items) labels.new }
+    ensures texts { IsTree (keys_of Iri entries.new.items) texts.new }
 {
     let alloc = *entries.allocator();
     let entry = Entry::new(alloc, label, iri)?;
     entries.reserve(1)?;
-    add_to_index(alloc, index, entries, label, iri)?;
+    labels.reserve()?;
+    texts.reserve()?;
+    labels.add(entries, Key::Label, label.as_bytes());
+    texts.add(entries, Key::Iri, iri.as_bytes());
     entries.push_reserved(entry);
     Ok(())
 }

@@ -1,0 +1,710 @@
+-- A new text in a tree.
+use Rattle.std.proofs.Common.{arith, ◌≡◌, ◌≢◌, ℕ, zero, suc, ◌+◌, ◌-◌, ◌*◌, ◌<◌, ◌≤◌, ◌⊎◌, inl, inr, Bool, true, false, List, [], ◌∷◌, ◌++◌, length, get_or, refl, sym, ap, subst, ◌∙◌, ⊎_elim}
+use Rattle.std.specs.Prelude.{Option, Some, None, MatchOption, IfSome, unwrap_or}
+use Rattle.std.specs.Prelude.{nat_eq}
+use Rattle.std.specs.List.{common_prefix_len}
+use Rattle.std.proofs.lemmas.List.Sums.{common_prefix_len-le}
+use Rattle.std.proofs.lemmas.Bool.{cases_lt, cases_eq, cases_order}
+use Rattle.std.proofs.lemmas.List.{get_or_append_left, get_or_push, get_or-set_same, get_or-set_other, length_push}
+use Rattle.std.proofs.Math.ListN.{set, length-set}
+use Rattle.std.specs.Global.{Vec}
+use Rattle.iref_grammar.specs.Rules.{Text}
+use Rattle.iref.specs.declared.compact.tree.Bit.{Bit}
+use Rattle.iref.specs.declared.compact.tree.Child.{Child}
+use Rattle.iref.specs.declared.compact.tree.Child.TheVariants.{Inner, Leaf}
+use Rattle.iref.specs.declared.compact.tree.Near.{Near}
+use Rattle.iref.specs.declared.compact.tree.Node.{Node}
+use Rattle.iref.specs.declared.compact.tree.Tree.{Tree}
+use Rattle.iref.specs.PrefixTree.{text_at, bit, place_of, child, child_at, with_child, node_at, number_of, spot, Spot, SameBits, AreBytes, IsFirst, IsIn, IsOnSide, IsBelow, IsLink, IsNode, IsTree, IsNear, IsNearest, IsFirstDifference, IsAdded, IsNew, IsWay, Covers}
+use Rattle.iref.proofs.PrefixBitLemmas.{same_bits_refl, same_bits_sym, same_bits_trans, same_bits_less, same_bits_next, no_longer, differ_within, ended_at}
+use Rattle.iref.proofs.PrefixWayLemmas.{spot_text, root_link, read_node, bits_upto, comes_nearer}
+
+module _ (texts : List Text) (tree : Tree) (t : Text) (n : ℕ) (b : Bit) (h : IsNew texts tree t n b) where
+  abbrev pub nodes : List Node
+  nodes = tree.nodes.items
+
+  abbrev pub p : ℕ
+  p = place_of b
+
+  abbrev near : Text
+  near = text_at texts n
+
+  -- no text has the bits of the new one up to this bit, and it
+  differs : (m q : ℕ) → m < length texts → p < q → SameBits q (text_at texts m) t → ⊥
+  differs m q l above same =
+      let inside = h.inside in
+      h.split.differ ((h.nearest m (p + 1) l (omega arith) (same_bits_less (p + 1) (omega arith) same)).same p (omega arith))
+
+  -- no node of this bit has its bits before it
+  no_node : (k : ℕ) → k < length nodes → place_of (node_at nodes k).bit ≡ p → SameBits p (text_at texts (node_at nodes k).entry) t → ⊥
+  no_node k l at same =
+      let c : Child = child (node_at nodes k) (bit t p) in
+      let link = h.kept.link k (bit t p) l in
+      let below : SameBits p (text_at texts (node_at nodes k).entry) (spot texts nodes c).text = subst (λ q. SameBits q (text_at texts (node_at nodes k).entry) (spot texts nodes c).text) at link.belongs.same in
+      let on : bit (spot texts nodes c).text p ≡ bit t p = ap (bit (spot texts nodes c).text) (sym at) ∙ link.belongs.on in
+      let next = same_bits_next (same_bits_trans (same_bits_sym below) same) on in
+      differs (number_of nodes c) (p + 1) link.first.within (omega arith) (subst (λ s. SameBits (p + 1) s t) (spot_text texts nodes c) next)
+
+  -- ---- the way of the text
+
+  pub way_from_root : (c : Child) → c ≡ unwrap_or tree.root (Leaf 0) → IsWay texts tree t n b None c
+  way_from_root c is = by tree.root refl is
+    where
+      by : (o : Option Child) → tree.root ≡ o → c ≡ unwrap_or o (Leaf 0) → IsWay texts tree t n b None c
+      by None none c_is =
+          let empty : texts ≡ [] = subst (λ o. MatchOption o (texts ≡ []) (IsLink texts nodes (IsBelow texts nodes None))) none h.kept.root in
+          let within = h.first.within in
+          absurd (omega (arith, ap length empty))
+      by (Some d) some c_is =
+          let root_is : tree.root ≡ Some c = some ∙ ap (λ d. Some d) (sym c_is) in
+          let link = root_link texts tree c h.kept root_is in
+          record { at = link; is = root_is; above = tt; covers = link.whole (Leaf n) h.first.within tt }
+
+  -- what is above the bit is so of the new text and of the nearest
+  near_side : (k : ℕ) → k < length nodes → place_of (node_at nodes k).bit < p → SameBits (place_of (node_at nodes k).bit) (text_at texts (node_at nodes k).entry) t
+      → IsOnSide (spot texts nodes (Inner k)) (bit t (place_of (node_at nodes k).bit)) (spot texts nodes (Leaf n))
+  near_side k l above same = let within = h.within in record {
+    order = omega arith;
+    same = same_bits_trans same (same_bits_sym (same_bits_less (place_of (node_at nodes k).bit) (omega arith) h.split.same));
+    on = h.split.same.same (place_of (node_at nodes k).bit) above;
+  }
+
+  covered_near : (c : Child) → Covers (spot texts nodes c) (spot texts nodes (Leaf n)) → (spot texts nodes c).place ≤ p → SameBits (spot texts nodes c).place (spot texts nodes c).text t
+  covered_near c covers l = same_bits_trans covers.same (same_bits_less (spot texts nodes c).place l h.split.same)
+
+  pub way_down : (link : Option (ℕ × Bool)) (k : ℕ) (node : Node) (at next : Child) (side : Bool) → IsWay texts tree t n b link at → at ≡ Inner k → node ≡ get_or nodes k node → place_of node.bit < p → side ≡ bit t (place_of node.bit)
+      → next ≡ child node side → IsWay texts tree t n b (Some (k, side)) next
+  way_down link k node at next side way is read above side_is next_is =
+      let way : IsWay texts tree t n b link (Inner k) = subst (IsWay texts tree t n b link) is way in
+      let node_is = read_node nodes k node way.at.stands read in
+      let place_is = ap (λ (n : Node). place_of n.bit) node_is in
+      let above : place_of (node_at nodes k).bit < p = subst (λ q. q < p) place_is above in
+      let side_is : side ≡ bit t (place_of (node_at nodes k).bit) = side_is ∙ ap (bit t) place_is in
+      let next_is : next ≡ child (node_at nodes k) side = next_is ∙ ap (λ n. child n side) node_is in
+      let l = way.at.stands in
+      let same = covered_near (Inner k) way.covers (omega arith) in
+      let on = near_side k l above same in
+      subst (IsWay texts tree t n b (Some (k, side))) (sym next_is)
+          (subst (λ s. IsWay texts tree t n b (Some (k, s)) (child (node_at nodes k) s)) (sym side_is) (let link = h.kept.link k (bit t (place_of (node_at nodes k).bit)) l in record {
+            at = link;
+            is = refl;
+            above = (l, above, same, refl);
+            covers = link.whole (Leaf n) h.first.within on;
+          }))
+
+  -- the way ends behind the bit
+  pub behind_node : (link : Option (ℕ × Bool)) (at : Child) (k : ℕ) (node : Node) → IsWay texts tree t n b link at → at ≡ Inner k → node ≡ get_or nodes k node → p ≤ place_of node.bit
+      → IsWay texts tree t n b link (Inner k) × (p < (spot texts nodes (Inner k)).place)
+  behind_node link at k node way is read stops =
+      let way : IsWay texts tree t n b link (Inner k) = subst (IsWay texts tree t n b link) is way in
+      let place_is = ap (λ (n : Node). place_of n.bit) (read_node nodes k node way.at.stands read) in
+      (way, elim (cases_order p (place_of (node_at nodes k).bit)) [
+        | inl at ↦ absurd (no_node k way.at.stands (sym at) (subst (λ q. SameBits q (text_at texts (node_at nodes k).entry) t) (sym at) (covered_near (Inner k) way.covers (omega arith))))
+        | inr (inl above) ↦ above
+        | inr (inr below) ↦ absurd (omega arith)
+      ])
+
+  pub behind_leaf : (link : Option (ℕ × Bool)) (at : Child) (m : ℕ) → IsWay texts tree t n b link at → at ≡ Leaf m → IsWay texts tree t n b link at × (p < (spot texts nodes at).place)
+  behind_leaf link at m way is =
+      let leaf : IsWay texts tree t n b link (Leaf m) = subst (IsWay texts tree t n b link) is way in
+      let order = leaf.covers.order in
+      let within = h.within in
+      let short = no_longer (text_at texts m) leaf.covers.same (omega arith) in
+      let less : p < (spot texts nodes (Leaf m)).place = omega arith in
+      (way, subst (λ c. p < (spot texts nodes c).place) (sym is) less)
+
+  -- ---- the tree with one more node
+
+  module _ (link : Option (ℕ × Bool)) (c : Child) (way : IsWay texts tree t n b link c) (far : p < (spot texts nodes c).place) where
+    -- a link above the bit, but the way's, leads to a child above it
+    above_near : (k : ℕ) (side : Bool) (l : k < length nodes) → (link ≡ Some (k, side) → ⊥) → place_of (node_at nodes k).bit < p → SameBits (place_of (node_at nodes k).bit) (text_at texts (node_at nodes k).entry) t
+        → bit t (place_of (node_at nodes k).bit) ≡ side → Covers (spot texts nodes (child (node_at nodes k) side)) (spot texts nodes (Leaf n)) × ((spot texts nodes (child (node_at nodes k) side)).place ≤ p)
+    above_near k side l other above same on = (covers, ⊎_elim (λ behind. absurd (not_behind link refl other behind way.at way.above)) (λ less. less) (cases_lt p (spot texts nodes (child (node_at nodes k) side)).place))
+      where
+        covers : Covers (spot texts nodes (child (node_at nodes k) side)) (spot texts nodes (Leaf n))
+        covers = (h.kept.link k side l).whole (Leaf n) h.first.within (subst (λ s. IsOnSide (spot texts nodes (Inner k)) s (spot texts nodes (Leaf n))) on (near_side k l above same))
+
+        not_behind : (at : Option (ℕ × Bool)) → link ≡ at → (at ≡ Some (k, side) → ⊥) → p < (spot texts nodes (child (node_at nodes k) side)).place → IsLink texts nodes (IsBelow texts nodes at) c
+            → IfSome at (λ j. (j.0 < length nodes) × (place_of (node_at nodes j.0).bit < p) × SameBits (place_of (node_at nodes j.0).bit) (text_at texts (node_at nodes j.0).entry) t × (bit t (place_of (node_at nodes j.0).bit) ≡ j.1)) → ⊥
+        not_behind None is other behind root tt = let order = (root.whole (Inner k) l tt).order in absurd (omega arith)
+        not_behind (Some j) is other behind place (m, high, begun, turns) =
+            let q = place_of (node_at nodes j.0).bit in
+            let r = place_of (node_at nodes k).bit in
+            elim (cases_order q r) [
+            | inl at ↦
+                let j_is : j.0 ≡ k = h.kept.apart j.0 k m l at (same_bits_trans begun (same_bits_sym (subst (λ q. SameBits q (text_at texts (node_at nodes k).entry) t) (sym at) same))) in
+                let side_is : j.1 ≡ side = sym turns ∙ ap (bit t) at ∙ on in
+                other (λ i. Some (j_is i, side_is i))
+            | inr (inl lower) ↦
+                let order = (place.whole (Inner k) l (record {
+                  order = lower;
+                  same = same_bits_trans begun (same_bits_sym (same_bits_less q (omega arith) same));
+                  on = same.same q lower ∙ turns;
+                })).order in
+                absurd (omega arith)
+            | inr (inr higher) ↦
+                let order = ((h.kept.link k side l).whole (Inner j.0) m (record {
+                  order = higher;
+                  same = same_bits_trans same (same_bits_sym (same_bits_less r (omega arith) begun));
+                  on = begun.same r higher ∙ on;
+                })).order in
+                absurd (omega arith)
+          ]
+
+-- the new entry stands below the node on its side, and the child on the other
+pub record IsMade (texts : List Text) (t : Text) (n : ℕ) (b : Bit) (c : Child) (node : Node) : Type 0 where
+  pub bit_is : node.bit ≡ b
+  pub entry_is : (node.entry ≡ n) ⊎ (node.entry ≡ length texts)
+  pub ends : b.shift ≡ 8 → length (text_at (texts ++ t ∷ []) node.entry) ≡ b.at
+  pub on : child node (bit t (place_of b)) ≡ Leaf (length texts)
+  pub off : (side : Bool) → (side ≡ bit t (place_of b) → ⊥) → child node side ≡ c
+
+-- the list with the node at the end, to which the link leads
+pub record IsGrown (link : Option (ℕ × Bool)) (old new : Tree) (node : Node) : Type 0 where
+  pub long : length new.nodes.items ≡ length old.nodes.items + 1
+  pub last : node_at new.nodes.items (length old.nodes.items) ≡ node
+  pub bits : (k : ℕ) → k < length old.nodes.items → (node_at new.nodes.items k).bit ≡ (node_at old.nodes.items k).bit
+  pub entries : (k : ℕ) → k < length old.nodes.items → (node_at new.nodes.items k).entry ≡ (node_at old.nodes.items k).entry
+  pub stays : (k : ℕ) (side : Bool) → k < length old.nodes.items → (link ≡ Some (k, side) → ⊥) → child (node_at new.nodes.items k) side ≡ child (node_at old.nodes.items k) side
+  pub moves : (k : ℕ) (side : Bool) → link ≡ Some (k, side) → child (node_at new.nodes.items k) side ≡ Inner (length old.nodes.items)
+  pub root_stays : (j : ℕ × Bool) → link ≡ Some j → new.root ≡ old.root
+  pub root_moves : link ≡ None → new.root ≡ Some (Inner (length old.nodes.items))
+  pub least : new.least ≡ old.least
+
+-- of two sides one is no other
+other_side : (x y z : Bool) → x ≢ z → y ≢ z → x ≡ y
+other_side true true z l m = refl
+other_side false false z l m = refl
+other_side true false true l m = absurd (l refl)
+other_side true false false l m = absurd (m refl)
+other_side false true true l m = absurd (m refl)
+other_side false true false l m = absurd (l refl)
+
+sides : (x y : Bool) → (x ≡ y) ⊎ (x ≡ y → ⊥)
+sides true true = inl refl
+sides false false = inl refl
+sides true false = inr (λ e. cc e)
+sides false true = inr (λ e. cc e)
+
+abbrev node_of : Option (ℕ × Bool) → ℕ
+node_of None = 0
+node_of (Some link) = link.0
+
+abbrev side_of : Option (ℕ × Bool) → Bool
+side_of None = true
+side_of (Some link) = link.1
+
+links : (link : Option (ℕ × Bool)) (k : ℕ) (side : Bool) → (link ≡ Some (k, side)) ⊎ (link ≡ Some (k, side) → ⊥)
+links None k side = inr (λ e. cc e)
+links (Some j) k side = elim (cases_eq j.0 k) [
+    | inl l ↦ ⊎_elim (λ m. inl (λ i. Some (l i, m i))) (λ m. inr (λ e. m (ap side_of e))) (sides j.1 side)
+    | inr l ↦ inr (λ e. l (ap node_of e))
+  ]
+
+module _ (texts : List Text) (t : Text) where
+  abbrev more : List Text
+  more = texts ++ t ∷ []
+
+  text_old : (i : ℕ) → i < length texts → text_at more i ≡ text_at texts i
+  text_old i l = get_or_append_left texts (t ∷ []) [] i l
+
+  text_new : text_at more (length texts) ≡ t
+  text_new = get_or_push texts t [] (length texts) refl
+
+  first_old : (i : ℕ) → IsFirst texts i → IsFirst more i
+  first_old i f = let w = f.within in let l = length_push texts t in record {
+    within = omega arith;
+    new = λ j k e. f.new j k (sym (text_old j (omega arith)) ∙ e ∙ text_old i w);
+  }
+
+  -- what holds of each text of the longer list
+  each_text : (P : Text → Type 0) → ((i : ℕ) → i < length texts → P (text_at texts i)) → P t → (i : ℕ) → i < length more → P (text_at more i)
+  each_text P all last i l = elim (cases_order i (length texts)) [
+      | inl at ↦ subst P (sym (ap (text_at more) at ∙ text_new)) last
+      | inr (inl less) ↦ subst P (sym (text_old i less)) (all i less)
+      | inr (inr above) ↦ absurd (omega (arith, length_push texts t))
+    ]
+
+module _ (texts : List Text) (tree : Tree) (t : Text) (n : ℕ) (b : Bit) (h : IsNew texts tree t n b) (link : Option (ℕ × Bool)) (c : Child) (way : IsWay texts tree t n b link c)
+    (far : place_of b < (spot texts tree.nodes.items c).place) (tree' : Tree) (node : Node) (made : IsMade texts t n b c node) (grown : IsGrown link tree tree' node) where
+  abbrev old : List Node
+  old = tree.nodes.items
+
+  abbrev new : List Node
+  new = tree'.nodes.items
+
+  abbrev q : ℕ
+  q = place_of b
+
+  first_new : IsFirst (more texts t) (length texts)
+  first_new = let l = length_push texts t in record {
+    within = omega arith;
+    new = λ j k e. differs texts tree t n b h j (q + 1) k (omega arith) (subst (λ s. SameBits (q + 1) s t) (sym (sym (text_old texts t j k) ∙ e ∙ text_new texts t)) (same_bits_refl (q + 1) t));
+  }
+
+  -- the text of the new node
+  abbrev own : Text
+  own = text_at (more texts t) node.entry
+
+  own_bits : SameBits q own t
+  own_bits = elim made.entry_is [
+      | inl is ↦ subst (λ s. SameBits q s t) (sym (ap (text_at (more texts t)) is ∙ text_old texts t n h.first.within)) h.split.same
+      | inr is ↦ subst (λ s. SameBits q s t) (sym (ap (text_at (more texts t)) is ∙ text_new texts t)) (same_bits_refl q t)
+    ]
+
+  own_near : SameBits q own (text_at texts n)
+  own_near = same_bits_trans own_bits (same_bits_sym h.split.same)
+
+  own_first : IsFirst (more texts t) node.entry
+  own_first = elim made.entry_is [ inl is ↦ subst (IsFirst (more texts t)) (sym is) (first_old texts t n h.first) | inr is ↦ subst (IsFirst (more texts t)) (sym is) first_new ]
+
+  own_within : q ≤ 9 * length own
+  own_within = elim made.entry_is [
+      | inl is ↦ subst (λ s. q ≤ 9 * length s) (sym (ap (text_at (more texts t)) is ∙ text_old texts t n h.first.within)) h.within
+      | inr is ↦ subst (λ s. q ≤ 9 * length s) (sym (ap (text_at (more texts t)) is ∙ text_new texts t)) h.inside
+    ]
+
+  -- ---- what stood in the tree, the new entry and the new node
+
+  spot_old : (y : Child) → IsIn texts old y → spot (more texts t) new y ≡ spot texts old y
+  spot_old (Inner k) l =
+      let text_is : text_at (more texts t) (node_at new k).entry ≡ text_at texts (node_at old k).entry = ap (text_at (more texts t)) (grown.entries k l) ∙ text_old texts t (node_at old k).entry (h.kept.node k l).first.within in
+      let place_is : place_of (node_at new k).bit ≡ place_of (node_at old k).bit = ap place_of (grown.bits k l) in
+      λ i. record { text = text_is i; place = place_is i }
+  spot_old (Leaf m) l = let is = text_old texts t m l in λ i. record { text = is i; place = 9 * length (is i) + 1 }
+
+  abbrev leaf : Spot
+  leaf = record { text = t; place = 9 * length t + 1 }
+
+  abbrev inner : Spot
+  inner = record { text = own; place = q }
+
+  spot_leaf : spot (more texts t) new (Leaf (length texts)) ≡ leaf
+  spot_leaf = λ i. record { text = text_new texts t i; place = 9 * length (text_new texts t i) + 1 }
+
+  spot_inner : spot (more texts t) new (Inner (length old)) ≡ inner
+  spot_inner =
+      let text_is : text_at (more texts t) (node_at new (length old)).entry ≡ own = ap (λ (m : Node). text_at (more texts t) m.entry) grown.last in
+      let place_is : place_of (node_at new (length old)).bit ≡ q = ap (λ (m : Node). place_of m.bit) grown.last ∙ ap place_of made.bit_is in
+      λ i. record { text = text_is i; place = place_is i }
+
+  in_old : (y : Child) → IsIn texts old y → IsIn (more texts t) new y
+  in_old (Inner k) l = let m = grown.long in omega arith
+  in_old (Leaf m) l = omega (arith, length_push texts t)
+
+  number_old : (y : Child) → IsIn texts old y → number_of new y ≡ number_of old y
+  number_old (Inner k) l = grown.entries k l
+  number_old (Leaf m) l = refl
+
+  number_within : (y : Child) → IsIn texts old y → number_of old y < length texts
+  number_within (Inner k) l = (h.kept.node k l).first.within
+  number_within (Leaf m) l = l
+
+  whole_new : (B : Spot → Type 0) (x : Spot) → ((y : Child) → IsIn texts old y → B (spot texts old y) → Covers x (spot texts old y)) → (B leaf → Covers x leaf) → (B inner → Covers x inner)
+      → (y : Child) → IsIn (more texts t) new y → B (spot (more texts t) new y) → Covers x (spot (more texts t) new y)
+  whole_new B x all at_leaf at_inner (Leaf m) l = elim (cases_order m (length texts)) [
+      | inl at ↦ subst (λ s. B s → Covers x s) (sym (ap (λ m. spot (more texts t) new (Leaf m)) at ∙ spot_leaf)) at_leaf
+      | inr (inl less) ↦ subst (λ s. B s → Covers x s) (sym (spot_old (Leaf m) less)) (all (Leaf m) less)
+      | inr (inr above) ↦ absurd (omega (arith, length_push texts t))
+    ]
+  whole_new B x all at_leaf at_inner (Inner k) l = elim (cases_order k (length old)) [
+      | inl at ↦ subst (λ s. B s → Covers x s) (sym (ap (λ k. spot (more texts t) new (Inner k)) at ∙ spot_inner)) at_inner
+      | inr (inl less) ↦ subst (λ s. B s → Covers x s) (sym (spot_old (Inner k) less)) (all (Inner k) less)
+      | inr (inr above) ↦ let m = grown.long in absurd (omega arith)
+    ]
+
+  -- a child that stood in the tree
+  link_old : (B : Spot → Type 0) (d : Child) → IsIn texts old d → IsFirst texts (number_of old d) → B (spot texts old d) → ((y : Child) → IsIn texts old y → B (spot texts old y) → Covers (spot texts old d) (spot texts old y))
+      → (B leaf → Covers (spot texts old d) leaf) → (B inner → Covers (spot texts old d) inner) → IsLink (more texts t) new B d
+  link_old B d l f belongs all at_leaf at_inner = record {
+    stands = in_old d l;
+    first = subst (IsFirst (more texts t)) (sym (number_old d l)) (first_old texts t (number_of old d) f);
+    belongs = subst B (sym (spot_old d l)) belongs;
+    whole = subst (λ x. (y : Child) → IsIn (more texts t) new y → B (spot (more texts t) new y) → Covers x (spot (more texts t) new y)) (sym (spot_old d l)) (whole_new B (spot texts old d) all at_leaf at_inner);
+  }
+
+  -- the new node
+  link_inner : (B : Spot → Type 0) → B inner → ((y : Child) → IsIn texts old y → B (spot texts old y) → Covers inner (spot texts old y)) → (B leaf → Covers inner leaf) → IsLink (more texts t) new B (Inner (length old))
+  link_inner B belongs all at_leaf = let m = grown.long in record {
+    stands = omega arith;
+    first = subst (IsFirst (more texts t)) (sym (ap (λ (m : Node). m.entry) grown.last)) own_first;
+    belongs = subst B (sym spot_inner) belongs;
+    whole = subst (λ x. (y : Child) → IsIn (more texts t) new y → B (spot (more texts t) new y) → Covers x (spot (more texts t) new y)) (sym spot_inner)
+        (whole_new B inner all at_leaf (λ _. record { order = omega arith; same = same_bits_refl q own }));
+  }
+
+  own_child : SameBits q own (spot texts old c).text
+  own_child = same_bits_trans own_near (same_bits_sym (same_bits_less q (omega arith) way.covers.same))
+
+  -- what the way's child covers the new node covers
+  covers_more : (y : Spot) → Covers (spot texts old c) y → Covers inner y
+  covers_more y covers = let order = covers.order in record { order = omega arith; same = same_bits_trans own_child (same_bits_less q (omega arith) covers.same) }
+
+  covers_leaf : Covers inner leaf
+  covers_leaf = let inside = h.inside in record { order = omega arith; same = own_bits }
+
+  -- what stands before the bit, with its bits of the new text, covers the new entry and the new node
+  covers_new : (x : Spot) → x.place ≤ q → SameBits x.place x.text t → Covers x leaf × Covers x inner
+  covers_new x l same = let inside = h.inside in
+      (record { order = omega arith; same = same }, record { order = l; same = same_bits_trans same (same_bits_sym (same_bits_less x.place l own_bits)) })
+
+  -- ---- the links
+
+  link_stays : (k : ℕ) (side : Bool) → k < length old → (link ≡ Some (k, side) → ⊥) → IsLink (more texts t) new (IsOnSide (spot texts old (Inner k)) side) (child (node_at old k) side)
+  link_stays k side l other =
+      let place = h.kept.link k side l in
+      let x : Spot = spot texts old (Inner k) in
+      let d : Spot = spot texts old (child (node_at old k) side) in
+      let both : x.place < q → SameBits x.place x.text t → bit t x.place ≡ side → Covers d leaf × Covers d inner = λ above same on.
+          let near = above_near texts tree t n b h link c way far k side l other above same on in
+          covers_new d near.1 (covered_near texts tree t n b h (child (node_at old k) side) near.0 near.1) in
+      let above : SameBits x.place x.text t → x.place < q = λ same. elim (cases_order x.place q) [
+          | inl at ↦ absurd (no_node texts tree t n b h k l at (subst (λ r. SameBits r x.text t) at same))
+          | inr (inl less) ↦ less
+          | inr (inr past) ↦ absurd (differs texts tree t n b h (node_at old k).entry x.place (h.kept.node k l).first.within past same)
+        ] in
+      link_old (IsOnSide x side) (child (node_at old k) side) place.stands place.first place.belongs place.whole (λ on. (both (above on.same) on.same on.on).0)
+      (λ on. let same = same_bits_trans on.same (same_bits_less x.place (let o = on.order in omega arith) own_bits) in (both on.order same (sym (own_bits.same x.place on.order) ∙ on.on)).1)
+
+  link_moves : (j : ℕ × Bool) → link ≡ Some j → IsLink (more texts t) new (IsOnSide (spot texts old (Inner j.0)) j.1) (Inner (length old))
+  link_moves j is = by (subst (λ l. IsLink texts old (IsBelow texts old l) c) is way.at)
+      (subst (λ l. IfSome l (λ j. (j.0 < length old) × (place_of (node_at old j.0).bit < q) × SameBits (place_of (node_at old j.0).bit) (text_at texts (node_at old j.0).entry) t × (bit t (place_of (node_at old j.0).bit) ≡ j.1))) is way.above)
+    where
+      by : IsLink texts old (IsOnSide (spot texts old (Inner j.0)) j.1) c
+          → (j.0 < length old) × (place_of (node_at old j.0).bit < q) × SameBits (place_of (node_at old j.0).bit) (text_at texts (node_at old j.0).entry) t × (bit t (place_of (node_at old j.0).bit) ≡ j.1)
+          → IsLink (more texts t) new (IsOnSide (spot texts old (Inner j.0)) j.1) (Inner (length old))
+      by place (l, above, same, on) = link_inner (IsOnSide (spot texts old (Inner j.0)) j.1)
+          (record { order = above; same = same_bits_trans same (same_bits_sym (same_bits_less (place_of (node_at old j.0).bit) (omega arith) own_bits)); on = own_bits.same (place_of (node_at old j.0).bit) above ∙ on })
+          (λ y m below. covers_more (spot texts old y) (place.whole y m below)) (λ _. covers_leaf)
+
+  link_new : (side : Bool) → IsLink (more texts t) new (IsOnSide inner side) (child node side)
+  link_new side = elim (sides side (bit t q)) [
+      | inl on ↦ subst (λ s. IsLink (more texts t) new (IsOnSide inner s) (child node s)) (sym on) (subst (IsLink (more texts t) new (IsOnSide inner (bit t q))) (sym made.on) at_leaf)
+      | inr off ↦ subst (IsLink (more texts t) new (IsOnSide inner side)) (sym (made.off side off)) (at_child off)
+    ]
+    where
+      at_leaf : IsLink (more texts t) new (IsOnSide inner (bit t q)) (Leaf (length texts))
+      at_leaf = let inside = h.inside in record {
+        stands = omega (arith, length_push texts t);
+        first = first_new;
+        belongs = subst (IsOnSide inner (bit t q)) (sym spot_leaf) (record { order = omega arith; same = own_bits; on = refl });
+        whole = subst (λ x. (y : Child) → IsIn (more texts t) new y → IsOnSide inner (bit t q) (spot (more texts t) new y) → Covers x (spot (more texts t) new y)) (sym spot_leaf) (whole_new (IsOnSide inner (bit t q)) leaf
+            (λ y l on.
+            let next = same_bits_next (same_bits_trans (same_bits_sym on.same) own_bits) on.on in
+            absurd (differs texts tree t n b h (number_of old y) (q + 1) (number_within y l) (omega arith) (subst (λ s. SameBits (q + 1) s t) (spot_text texts old y) next)))
+            (λ _. record { order = omega arith; same = same_bits_refl (9 * length t + 1) t }) (λ on. let order = on.order in absurd (omega arith)));
+      }
+
+      belongs_there : (at : Option (ℕ × Bool)) → IfSome at (λ j. (j.0 < length old) × (place_of (node_at old j.0).bit < q) × SameBits (place_of (node_at old j.0).bit) (text_at texts (node_at old j.0).entry) t × (bit t (place_of (node_at old j.0).bit) ≡ j.1))
+          → (y : Spot) → IsOnSide inner side y → IsBelow texts old at y
+      belongs_there None tt y on = tt
+      belongs_there (Some j) (l, above, same, turns) y on =
+          let order = on.order in
+          let begun = same_bits_trans (same_bits_sym own_bits) on.same in
+          record {
+            order = omega arith;
+            same = same_bits_trans same (same_bits_less (place_of (node_at old j.0).bit) (omega arith) begun);
+            on = sym (begun.same (place_of (node_at old j.0).bit) above) ∙ turns;
+          }
+
+      at_child : (side ≡ bit t q → ⊥) → IsLink (more texts t) new (IsOnSide inner side) c
+      at_child off = link_old (IsOnSide inner side) c way.at.stands way.at.first
+          (record { order = far; same = own_child; on = way.covers.same.same q far ∙ other_side (bit (text_at texts n) q) side (bit t q) h.split.differ off })
+          (λ y l on. way.at.whole y l (belongs_there link way.above (spot texts old y) on)) (λ on. absurd (off (sym on.on))) (λ on. let order = on.order in absurd (omega arith))
+
+  link_all : (k : ℕ) (side : Bool) → k < length new → IsLink (more texts t) new (IsOnSide (spot (more texts t) new (Inner k)) side) (child (node_at new k) side)
+  link_all k side l = elim (cases_order k (length old)) [
+      | inl at ↦ subst (λ k. IsLink (more texts t) new (IsOnSide (spot (more texts t) new (Inner k)) side) (child (node_at new k) side)) (sym at)
+          (subst (λ x. IsLink (more texts t) new (IsOnSide x side) (child (node_at new (length old)) side)) (sym spot_inner) (subst (λ m. IsLink (more texts t) new (IsOnSide inner side) (child m side)) (sym grown.last) (link_new side)))
+      | inr (inl less) ↦ subst (λ x. IsLink (more texts t) new (IsOnSide x side) (child (node_at new k) side)) (sym (spot_old (Inner k) less)) (⊎_elim
+            (λ is. subst (IsLink (more texts t) new (IsOnSide (spot texts old (Inner k)) side)) (sym (grown.moves k side is)) (link_moves (k, side) is))
+            (λ other. subst (IsLink (more texts t) new (IsOnSide (spot texts old (Inner k)) side)) (sym (grown.stays k side less other)) (link_stays k side less other)) (links link k side))
+      | inr (inr above) ↦ let m = grown.long in absurd (omega arith)
+    ]
+
+  -- ---- the tree
+
+  root_more : MatchOption tree'.root ((more texts t) ≡ []) (IsLink (more texts t) new (IsBelow (more texts t) new None))
+  root_more = by link refl way.is way.at way.above
+    where
+      of_root : (c : Child) → tree'.root ≡ Some c → IsLink (more texts t) new (λ _. Unit {0}) c → MatchOption tree'.root ((more texts t) ≡ []) (IsLink (more texts t) new (IsBelow (more texts t) new None))
+      of_root c is = subst (λ o. MatchOption o ((more texts t) ≡ []) (IsLink (more texts t) new (IsBelow (more texts t) new None))) (sym is)
+
+      below_root : (j : ℕ × Bool) → link ≡ Some j → (r : Option Child) → tree.root ≡ r → j.0 < length old → place_of (node_at old j.0).bit < q → SameBits (place_of (node_at old j.0).bit) (text_at texts (node_at old j.0).entry) t
+          → MatchOption tree'.root ((more texts t) ≡ []) (IsLink (more texts t) new (IsBelow (more texts t) new None))
+      below_root j is None none l above same =
+          let empty : texts ≡ [] = subst (λ o. MatchOption o (texts ≡ []) (IsLink texts old (IsBelow texts old None))) none h.kept.root in
+          let within = h.first.within in
+          absurd (omega (arith, ap length empty))
+      below_root j is (Some r) some l above same =
+          let root = root_link texts tree r h.kept some in
+          let covers = root.whole (Inner j.0) l tt in
+          let order = covers.order in
+          let new_ones = covers_new (spot texts old r) (omega arith) (same_bits_trans covers.same (same_bits_less (spot texts old r).place order same)) in
+          of_root r (grown.root_stays j is ∙ some) (link_old (λ _. Unit {0}) r root.stands root.first tt (λ y m _. root.whole y m tt) (λ _. new_ones.0) (λ _. new_ones.1))
+
+      by : (at : Option (ℕ × Bool)) → link ≡ at → child_at tree at ≡ Some c → IsLink texts old (IsBelow texts old at) c
+          → IfSome at (λ j. (j.0 < length old) × (place_of (node_at old j.0).bit < q) × SameBits (place_of (node_at old j.0).bit) (text_at texts (node_at old j.0).entry) t × (bit t (place_of (node_at old j.0).bit) ≡ j.1))
+          → MatchOption tree'.root ((more texts t) ≡ []) (IsLink (more texts t) new (IsBelow (more texts t) new None))
+      by None is at place tt = of_root (Inner (length old)) (grown.root_moves is) (link_inner (λ _. Unit {0}) tt (λ y l _. covers_more (spot texts old y) (place.whole y l tt)) (λ _. covers_leaf))
+      by (Some j) is at place (l, above, same, on) = below_root j is tree.root refl l above same
+
+  node_all : (k : ℕ) → k < length new → IsNode (more texts t) new k
+  node_all k l = elim (cases_order k (length old)) [
+      | inl at ↦ subst (IsNode (more texts t) new) (sym at) (by_node (node_at new (length old)) grown.last)
+      | inr (inl less) ↦ by_old less
+      | inr (inr above) ↦ let m = grown.long in absurd (omega arith)
+    ]
+    where
+      by_node : (m : Node) → m ≡ node → IsNode (more texts t) new (length old)
+      by_node m is = record {
+        shift = subst (λ (b : Bit). b.shift ≤ 8) (sym (ap (λ (m : Node). m.bit) grown.last ∙ made.bit_is)) h.split.shift;
+        first = subst (IsFirst (more texts t)) (sym (ap (λ (m : Node). m.entry) grown.last)) own_first;
+        within = subst (λ (x : Spot). x.place ≤ 9 * length x.text) (sym spot_inner) own_within;
+        ends = λ e. ap (λ (m : Node). length (text_at (more texts t) m.entry)) grown.last ∙ made.ends (sym (ap (λ (m : Node). m.bit.shift) grown.last ∙ ap (λ (b : Bit). b.shift) made.bit_is) ∙ e)
+            ∙ sym (ap (λ (m : Node). m.bit.at) grown.last ∙ ap (λ (b : Bit). b.at) made.bit_is);
+      }
+
+      by_old : k < length old → IsNode (more texts t) new k
+      by_old less = let was = h.kept.node k less in record {
+        shift = subst (λ (b : Bit). b.shift ≤ 8) (sym (grown.bits k less)) was.shift;
+        first = subst (IsFirst (more texts t)) (sym (grown.entries k less)) (first_old texts t (node_at old k).entry was.first);
+        within = subst (λ (x : Spot). x.place ≤ 9 * length x.text) (sym (spot_old (Inner k) less)) was.within;
+        ends = λ e. ap (λ (x : Spot). length x.text) (spot_old (Inner k) less) ∙ was.ends (sym (ap (λ (b : Bit). b.shift) (grown.bits k less)) ∙ e) ∙ sym (ap (λ (b : Bit). b.at) (grown.bits k less));
+      }
+
+  -- two nodes of one place and of the same bits before it are one
+  abbrev Apart : Spot → Spot → ℕ → ℕ → Type 0
+  Apart x y j k = x.place ≡ y.place → SameBits x.place x.text y.text → j ≡ k
+
+  apart_all : (j k : ℕ) → j < length new → k < length new → Apart (spot (more texts t) new (Inner j)) (spot (more texts t) new (Inner k)) j k
+  apart_all j k l m = elim (cases_order j (length old)) [
+      | inl j_at ↦ subst (λ x. Apart x (spot (more texts t) new (Inner k)) j k) (sym (ap (λ k. spot (more texts t) new (Inner k)) j_at ∙ spot_inner)) (elim (cases_order k (length old)) [
+            | inl k_at ↦ λ _ _. j_at ∙ sym k_at
+            | inr (inl k_less) ↦ subst (λ x. Apart inner x j k) (sym (spot_old (Inner k) k_less))
+                (λ at same. absurd (no_node texts tree t n b h k k_less (sym at) (same_bits_trans (same_bits_sym same) own_bits)))
+            | inr (inr k_above) ↦ let long = grown.long in absurd (omega arith)
+          ])
+      | inr (inl j_less) ↦ subst (λ x. Apart x (spot (more texts t) new (Inner k)) j k) (sym (spot_old (Inner j) j_less)) (elim (cases_order k (length old)) [
+            | inl k_at ↦ subst (λ x. Apart (spot texts old (Inner j)) x j k) (sym (ap (λ k. spot (more texts t) new (Inner k)) k_at ∙ spot_inner))
+                (λ at same. absurd (no_node texts tree t n b h j j_less at (same_bits_trans (subst (λ r. SameBits r (spot texts old (Inner j)).text own) at same) own_bits)))
+            | inr (inl k_less) ↦ subst (λ x. Apart (spot texts old (Inner j)) x j k) (sym (spot_old (Inner k) k_less)) (h.kept.apart j k j_less k_less)
+            | inr (inr k_above) ↦ let long = grown.long in absurd (omega arith)
+          ])
+      | inr (inr j_above) ↦ let long = grown.long in absurd (omega arith)
+    ]
+
+  pub tree_grown : IsTree (texts ++ t ∷ []) tree'
+  tree_grown = record {
+    node = node_all;
+    link = link_all;
+    apart = apart_all;
+    root = root_more;
+    bytes = each_text texts t AreBytes h.kept.bytes h.bytes;
+    least = subst (λ n. (i : ℕ) → i < length (more texts t) → n ≤ length (text_at (more texts t) i)) (sym grown.least) (each_text texts t (λ s. tree.least ≤ length s) h.kept.least h.least);
+  }
+
+-- ---- a text that is there, and the first text
+
+pub lowered : (texts : List Text) (tree : Tree) (least : ℕ) → least ≤ tree.least → IsTree texts tree → IsTree texts (record tree { least = least })
+lowered texts tree least l h = record { node = h.node; link = h.link; apart = h.apart; root = h.root; bytes = h.bytes; least = λ i m. let k = h.least i m in omega arith }
+
+module _ (texts : List Text) (tree : Tree) (t : Text) (bytes : AreBytes t) (short : tree.least ≤ length t) (h : IsTree texts tree) where
+  abbrev kept : List Node
+  kept = tree.nodes.items
+
+  -- the text was there
+  module _ (m : ℕ) (l : m < length texts) (is : text_at texts m ≡ t) where
+    spot_stays : (y : Child) → IsIn texts kept y → spot (more texts t) kept y ≡ spot texts kept y
+    spot_stays (Inner k) w = let is = text_old texts t (node_at kept k).entry (h.node k w).first.within in λ i. record { text = is i; place = place_of (node_at kept k).bit }
+    spot_stays (Leaf i) w = let is = text_old texts t i w in λ j. record { text = is j; place = 9 * length (is j) + 1 }
+
+    spot_again : spot (more texts t) kept (Leaf (length texts)) ≡ spot texts kept (Leaf m)
+    spot_again = let is = text_new texts t ∙ sym is in λ j. record { text = is j; place = 9 * length (is j) + 1 }
+
+    in_stays : (y : Child) → IsIn texts kept y → IsIn (more texts t) kept y
+    in_stays (Inner k) w = w
+    in_stays (Leaf i) w = omega (arith, length_push texts t)
+
+    whole_stays : (B : Spot → Type 0) (x : Spot) → ((y : Child) → IsIn texts kept y → B (spot texts kept y) → Covers x (spot texts kept y)) → (y : Child) → IsIn (more texts t) kept y → B (spot (more texts t) kept y) → Covers x (spot (more texts t) kept y)
+    whole_stays B x all (Inner k) w = subst (λ s. B s → Covers x s) (sym (spot_stays (Inner k) w)) (all (Inner k) w)
+    whole_stays B x all (Leaf i) w = elim (cases_order i (length texts)) [
+        | inl at ↦ subst (λ s. B s → Covers x s) (sym (ap (λ i. spot (more texts t) kept (Leaf i)) at ∙ spot_again)) (all (Leaf m) l)
+        | inr (inl less) ↦ subst (λ s. B s → Covers x s) (sym (spot_stays (Leaf i) less)) (all (Leaf i) less)
+        | inr (inr above) ↦ absurd (omega (arith, length_push texts t))
+      ]
+
+    link_kept : (B : Spot → Type 0) (c : Child) → IsLink texts kept B c → IsLink (more texts t) kept B c
+    link_kept B c link = record {
+      stands = in_stays c link.stands;
+      first = first_old texts t (number_of kept c) link.first;
+      belongs = subst B (sym (spot_stays c link.stands)) link.belongs;
+      whole = subst (λ x. (y : Child) → IsIn (more texts t) kept y → B (spot (more texts t) kept y) → Covers x (spot (more texts t) kept y)) (sym (spot_stays c link.stands)) (whole_stays B (spot texts kept c) link.whole);
+    }
+
+    pub tree_again : IsTree (texts ++ t ∷ []) tree
+    tree_again = record {
+      node = λ k w. let was = h.node k w in let is = spot_stays (Inner k) w in record {
+        shift = was.shift;
+        first = first_old texts t (node_at kept k).entry was.first;
+        within = subst (λ (x : Spot). x.place ≤ 9 * length x.text) (sym is) was.within;
+        ends = λ e. ap (λ (x : Spot). length x.text) is ∙ was.ends e;
+      };
+      link = λ k side w. subst (λ x. IsLink (more texts t) kept (IsOnSide x side) (child (node_at kept k) side)) (sym (spot_stays (Inner k) w)) (link_kept (IsOnSide (spot texts kept (Inner k)) side) (child (node_at kept k) side) (h.link k side w));
+      apart = λ j k v w. subst (λ (x : Spot). x.place ≡ (spot (more texts t) kept (Inner k)).place → SameBits x.place x.text (spot (more texts t) kept (Inner k)).text → j ≡ k) (sym (spot_stays (Inner j) v))
+          (subst (λ (x : Spot). (spot texts kept (Inner j)).place ≡ x.place → SameBits (spot texts kept (Inner j)).place (spot texts kept (Inner j)).text x.text → j ≡ k) (sym (spot_stays (Inner k) w)) (h.apart j k v w));
+      root = by tree.root h.root;
+      bytes = each_text texts t AreBytes h.bytes bytes;
+      least = each_text texts t (λ s. tree.least ≤ length s) h.least short;
+    }
+      where
+        by : (o : Option Child) → MatchOption o (texts ≡ []) (IsLink texts kept (IsBelow texts kept None)) → MatchOption o ((more texts t) ≡ []) (IsLink (more texts t) kept (IsBelow (more texts t) kept None))
+        by None empty = absurd (omega (arith, ap length empty))
+        by (Some c) link = link_kept (λ _. Unit {0}) c link
+
+  pub tree_of_one : texts ≡ [] → IsTree (texts ++ t ∷ []) (record tree { root = Some (Leaf (length texts)) })
+  tree_of_one empty =
+      let none : length texts ≡ 0 = ap length empty in
+      let no_node : (k : ℕ) → k < length kept → ⊥ = λ k w. (let first = (h.node k w).first.within in omega arith) in
+      let only : (i : ℕ) → i < length (more texts t) → i ≡ length texts = λ i w. omega (arith, length_push texts t) in
+      record {
+        node = λ k w. absurd (no_node k w);
+        link = λ k side w. absurd (no_node k w);
+        apart = λ j k v w. absurd (no_node j v);
+        root = record {
+          stands = omega (arith, length_push texts t);
+          first = record { within = omega (arith, length_push texts t); new = λ i w. absurd (omega arith) };
+          belongs = tt;
+          whole = one none no_node;
+        };
+        bytes = each_text texts t AreBytes h.bytes bytes;
+        least = each_text texts t (λ s. tree.least ≤ length s) h.least short;
+      }
+    where
+      one : length texts ≡ 0 → ((k : ℕ) → k < length kept → ⊥) → (y : Child) → IsIn (more texts t) kept y → Unit {0} → Covers (spot (more texts t) kept (Leaf (length texts))) (spot (more texts t) kept y)
+      one none no_node (Inner k) w u = absurd (no_node k w)
+      one none no_node (Leaf i) w u = let at : i ≡ length texts = omega (arith, length_push texts t) in
+          subst (λ i. Covers (spot (more texts t) kept (Leaf (length texts))) (spot (more texts t) kept (Leaf i))) (sym at) (record { order = omega arith; same = same_bits_refl (9 * length (text_at (more texts t) (length texts)) + 1) (text_at (more texts t) (length texts)) })
+
+-- ---- how the list grows
+
+child_put : (node : Node) (side other : Bool) (c : Child) → (side ≡ other → ⊥) → child (with_child node side c) other ≡ child node other
+child_put node true true c ne = absurd (ne refl)
+child_put node true false c ne = refl
+child_put node false true c ne = refl
+child_put node false false c ne = absurd (ne refl)
+
+child_there : (node : Node) (side : Bool) (c : Child) → child (with_child node side c) side ≡ c
+child_there node true c = refl
+child_there node false c = refl
+
+bit_put : (node : Node) (side : Bool) (c : Child) → (with_child node side c).bit ≡ node.bit
+bit_put node true c = refl
+bit_put node false c = refl
+
+entry_put : (node : Node) (side : Bool) (c : Child) → (with_child node side c).entry ≡ node.entry
+entry_put node true c = refl
+entry_put node false c = refl
+
+pub made : (texts : List Text) (tree : Tree) (t : Text) (n : ℕ) (b : Bit) (entry number : ℕ) → IsAdded texts tree t n b entry number → (node : Node) (c : Child) (turn : Bool) → turn ≡ bit t (place_of b)
+    → ((turn ≡ true) × (node ≡ record { bit = b; entry = entry; left = c; right = Leaf number })) ⊎ ((turn ≡ false) × (node ≡ record { bit = b; entry = entry; left = Leaf number; right = c })) → IsMade texts t n b c node
+made texts tree t n b entry number h node c turn is cases = record {
+  bit_is = elim cases [ inl at ↦ ap (λ (m : Node). m.bit) at.1 | inr at ↦ ap (λ (m : Node). m.bit) at.1 ];
+  entry_is = subst (λ e. (e ≡ n) ⊎ (e ≡ length texts)) (sym entry_is) (⊎_elim (λ e. inl e) (λ e. inr (e ∙ h.last)) h.one);
+  ends = λ e. ap (λ e. length (text_at (texts ++ t ∷ []) e)) entry_is ∙ h.ends e;
+  on = subst (λ s. child node s ≡ Leaf (length texts)) is (elim cases [
+      | inl at ↦ (λ i. child (at.1 i) (at.0 i)) ∙ ap (λ n. Leaf n) h.last
+      | inr at ↦ (λ i. child (at.1 i) (at.0 i)) ∙ ap (λ n. Leaf n) h.last
+    ]);
+  off = λ side other. elim cases [
+      | inl at ↦ ap (λ m. child m side) at.1 ∙ left_of side (λ s. other (s ∙ sym at.0 ∙ is))
+      | inr at ↦ ap (λ m. child m side) at.1 ∙ right_of side (λ s. other (s ∙ sym at.0 ∙ is))
+    ];
+}
+  where
+    entry_is : node.entry ≡ entry
+    entry_is = elim cases [ inl at ↦ ap (λ (m : Node). m.entry) at.1 | inr at ↦ ap (λ (m : Node). m.entry) at.1 ]
+
+    left_of : (side : Bool) → (side ≡ true → ⊥) → child (record { bit = b; entry = entry; left = c; right = Leaf number }) side ≡ c
+    left_of true other = absurd (other refl)
+    left_of false other = refl
+
+    right_of : (side : Bool) → (side ≡ false → ⊥) → child (record { bit = b; entry = entry; left = Leaf number; right = c }) side ≡ c
+    right_of true other = refl
+    right_of false other = absurd (other refl)
+
+module _ (old : Tree) (node : Node) (root : Option Child) (vec : Vec Node) where
+  abbrev before : List Node
+  before = old.nodes.items
+
+  pub grown_above : vec.items ≡ before ++ node ∷ [] → root ≡ Some (Inner (length before)) → IsGrown None old (record { root = root; nodes = vec; least = old.least }) node
+  grown_above items root_is = record {
+    long = ap length items ∙ length_push before node;
+    last = ap (λ l. node_at l (length before)) items ∙ get_or_push before node _ (length before) refl;
+    bits = λ k l. ap (λ (m : Node). m.bit) (there k l);
+    entries = λ k l. ap (λ (m : Node). m.entry) (there k l);
+    stays = λ k side l other. ap (λ m. child m side) (there k l);
+    moves = λ k side is. cc is;
+    root_stays = λ j is. cc is;
+    root_moves = λ _. root_is;
+    least = refl;
+  }
+    where
+      there : (k : ℕ) → k < length before → node_at vec.items k ≡ node_at before k
+      there k l = ap (λ l. node_at l k) items ∙ get_or_append_left before (node ∷ []) _ k l
+
+  pub grown_below : (k : ℕ) (side : Bool) (was : Node) → k < length before → was ≡ get_or (before ++ node ∷ []) k was → vec.items ≡ set (before ++ node ∷ []) k (with_child was side (Inner (length before))) → root ≡ old.root
+      → IsGrown (Some (k, side)) old (record { root = root; nodes = vec; least = old.least }) node
+  grown_below k side was l read items root_is = record {
+    long = ap length items ∙ length-set (before ++ node ∷ []) k (with_child was side (Inner (length before))) ∙ length_push before node;
+    last = ap (λ l. node_at l (length before)) items ∙ get_or-set_other (before ++ node ∷ []) k (length before) _ _ (omega arith) ∙ get_or_push before node _ (length before) refl;
+    bits = λ j m. ⊎_elim (λ at. ap (λ (m : Node). m.bit) (here j at) ∙ bit_put (node_at before j) side _) (λ ne. ap (λ (m : Node). m.bit) (there j m ne)) (cases_eq j k);
+    entries = λ j m. ⊎_elim (λ at. ap (λ (m : Node). m.entry) (here j at) ∙ entry_put (node_at before j) side _) (λ ne. ap (λ (m : Node). m.entry) (there j m ne)) (cases_eq j k);
+    stays = λ j other m ne. ⊎_elim
+        (λ at. ap (λ m. child m other) (here j at) ∙ child_put (node_at before j) side other _ (λ same. ne (λ i. Some (sym at i, same i))))
+        (λ apart. ap (λ m. child m other) (there j m apart)) (cases_eq j k);
+    moves = λ j other is. ap (λ m. child m other) (here j (sym (ap node_of is))) ∙ ap (λ s. child (with_child (node_at before j) s (Inner (length before))) other) (ap side_of is) ∙ child_there (node_at before j) other _;
+    root_stays = λ j is. root_is;
+    root_moves = λ is. cc is;
+    least = refl;
+  }
+    where
+      in_more : k < length (before ++ node ∷ [])
+      in_more = omega (arith, length_push before node)
+
+      was_is : was ≡ node_at before k
+      was_is = read_node (before ++ node ∷ []) k was in_more read ∙ get_or_append_left before (node ∷ []) _ k l
+
+      here : (j : ℕ) → j ≡ k → node_at vec.items j ≡ with_child (node_at before j) side (Inner (length before))
+      here j at = ap (node_at vec.items) at ∙ ap (λ l. node_at l k) items ∙ get_or-set_same (before ++ node ∷ []) k _ _ in_more ∙ ap (λ m. with_child m side (Inner (length before))) (was_is ∙ ap (node_at before) (sym at))
+
+      there : (j : ℕ) → j < length before → (j ≡ k → ⊥) → node_at vec.items j ≡ node_at before j
+      there j m ne = ap (λ l. node_at l j) items ∙ get_or-set_other (before ++ node ∷ []) k j _ _ ne ∙ get_or_append_left before (node ∷ []) _ j m
+
+-- ---- what is added where a text leads
+
+pub added : (texts : List Text) (tree : Tree) (t : Text) → IsTree texts tree → AreBytes t → tree.least ≤ length t → (near : Near) → IsNear texts t (length t) near → (b : Bit) (at entry number : ℕ)
+    → at ≡ common_prefix_len nat_eq near.text.now t → IsFirstDifference b near.text.now t → b.at ≡ at → number ≡ length texts
+    → ((at ≡ length near.text.now) × (entry ≡ near.number)) ⊎ ((at ≢ length near.text.now) × (entry ≡ number)) → IsAdded texts tree t near.number b entry number
+added texts tree t h bytes least near is b at entry number common split at_is last cases = record {
+  new = record {
+    kept = h;
+    first = is.first;
+    bytes = bytes;
+    nearest = is.nearest;
+    split = subst (λ s. IsFirstDifference b s t) is.is split;
+    within = subst (λ (s : Text). place_of b ≤ 9 * length s) is.is (differ_within (place_of b) near.text.now t split.same split.differ);
+    inside = differ_within (place_of b) t near.text.now (same_bits_sym split.same) (λ e. split.differ (sym e));
+    least = least;
+  };
+  last = last;
+  one = ⊎_elim (λ own. inl own.1) (λ new. inr new.1) cases;
+  ends = λ e. elim cases [
+      | inl own ↦ ap (λ n. length (text_at (more texts t) n)) own.1 ∙ ap length (text_old texts t near.number is.first.within) ∙ sym (ap length is.is) ∙ sym own.0 ∙ sym at_is
+      | inr new ↦
+          let short = common_prefix_len-le nat_eq near.text.now t in
+          let place : place_of b ≡ 9 * at = omega arith in
+          ap (λ n. length (text_at (more texts t) n)) (new.1 ∙ last) ∙ ap length (text_new texts t)
+          ∙ ended_at near.text.now t at (omega (arith, new.0, short.0)) (omega (arith, short.1)) (subst (λ p. bit near.text.now p ≢ bit t p) place split.differ) ∙ sym at_is
+    ];
+}

@@ -1,0 +1,237 @@
+-- Where a text leads in a tree.
+use Rattle.std.proofs.Common.{arith, ◌≡◌, ◌≢◌, ℕ, zero, suc, ◌+◌, ◌-◌, ◌*◌, ◌<◌, ◌≤◌, ◌⊎◌, inl, inr, Bool, true, false, List, [], ◌∷◌, ◌++◌, length, get_or, refl, sym, ap, subst, ◌∙◌, ⊎_elim}
+use Rattle.std.specs.Prelude.{Option, Some, None, MatchOption}
+use Rattle.std.proofs.lemmas.Bool.{cases_lt, cases_order}
+use Rattle.std.proofs.lemmas.List.{get_or_read}
+use Rattle.iref_grammar.specs.Rules.{Text}
+use Rattle.iref.specs.declared.compact.tree.Child.{Child}
+use Rattle.iref.specs.declared.compact.tree.Child.TheVariants.{Inner, Leaf}
+use Rattle.iref.specs.declared.compact.tree.Node.{Node}
+use Rattle.iref.specs.declared.compact.tree.Tree.{Tree}
+use Rattle.iref.specs.PrefixTree.{text_at, bit, place_of, child, node_at, number_of, spot, Spot, SameBits, AreBytes, IsFirst, IsIn, IsOnSide, IsBelow, IsLink, IsNode, IsTree, IsFit, IsEnded, IsNearest, Covers}
+use Rattle.iref.proofs.PrefixBitLemmas.{same_bits_refl, same_bits_sym, same_bits_trans, same_bits_less, goes_within, as_long, no_longer, same_text}
+
+pub spot_text : (texts : List Text) (nodes : List Node) (c : Child) → (spot texts nodes c).text ≡ text_at texts (number_of nodes c)
+spot_text texts nodes (Inner k) = refl
+spot_text texts nodes (Leaf n) = refl
+
+-- a bit within a text is within each that has the bits before it
+pub before_end : {p : ℕ} (a b : Text) → p ≤ 9 * length a → SameBits p a b → p < 9 * length b + 1
+before_end {p} a b l h = elim (cases_lt p (9 * length b + 1)) [
+    | inl below ↦ below
+    | inr above ↦ let short = no_longer b (same_bits_sym h) (omega arith) in omega arith
+  ]
+
+-- the text of this number ends before the place, and goes on there
+pub record IsProper (texts : List Text) (x : Spot) (m : ℕ) : Type 0 where
+  pub within : m < length texts
+  pub before : 9 * length (text_at texts m) < x.place
+  pub goes : length (text_at texts m) < length x.text
+  pub same : SameBits (9 * length (text_at texts m)) (text_at texts m) x.text
+
+-- the last that ended on the way, of `len` bytes at most, is as long as each that ends before the place
+abbrev pub IsPassed : List Text → ℕ → Spot → Option ℕ → Type 0
+IsPassed texts len x None = (m : ℕ) → IsProper texts x m → ⊥
+IsPassed texts len x (Some e) = IsFirst texts e × (length (text_at texts e) ≤ len) × (9 * length (text_at texts e) < x.place) × SameBits (9 * length (text_at texts e)) (text_at texts e) x.text
+  × ((m : ℕ) → IsProper texts x m → length (text_at texts m) ≤ length (text_at texts e))
+
+-- the text leads there
+pub record IsOnWay (texts : List Text) (nodes : List Node) (t : Text) (len : ℕ) (c : Child) (ended : Option ℕ) : Type 0 where
+  pub stands : IsIn texts nodes c
+  pub first : IsFirst texts (number_of nodes c)
+  pub near : (m q : ℕ) → m < length texts → q ≤ (spot texts nodes c).place → SameBits q (text_at texts m) t → SameBits q (spot texts nodes c).text t
+  pub passed : IsPassed texts len (spot texts nodes c) ended
+
+module _ (texts : List Text) (nodes : List Node) (t : Text) (len : ℕ) where
+  -- what is covered does not end before
+  not_proper : (x : Spot) (m : ℕ) → Covers x (spot texts nodes (Leaf m)) → IsProper texts x m → ⊥
+  not_proper x m c p =
+      let before = p.before in
+      let goes = p.goes in
+      let order = c.order in
+      let short = no_longer (text_at texts m) (same_bits_sym c.same) (omega arith) in
+      absurd (omega arith)
+
+  pub way_root : (c : Child) → IsLink texts nodes (IsBelow texts nodes None) c → IsOnWay texts nodes t len c None
+  way_root c link = record {
+    stands = link.stands;
+    first = link.first;
+    near = λ m q l within same. same_bits_trans (same_bits_less q within (link.whole (Leaf m) l tt).same) same;
+    passed = λ m p. not_proper (spot texts nodes c) m (link.whole (Leaf m) p.within tt) p;
+  }
+
+  module _ (k : ℕ) (c : Child) (node : IsNode texts nodes k) (link : IsLink texts nodes (IsOnSide (spot texts nodes (Inner k)) (bit t (place_of (node_at nodes k).bit))) c) where
+    abbrev p : ℕ
+    p = place_of (node_at nodes k).bit
+
+    abbrev x : Text
+    x = text_at texts (node_at nodes k).entry
+
+    -- a text with the bits of the node and the next bit of this one is below
+    is_below : (m : ℕ) → m < length texts → SameBits p x (text_at texts m) → bit (text_at texts m) p ≡ bit t p → Covers (spot texts nodes c) (spot texts nodes (Leaf m))
+    is_below m l same on = link.whole (Leaf m) l (record { order = before_end x (text_at texts m) node.within same; same = same; on = on })
+
+    near_below : ((m q : ℕ) → m < length texts → q ≤ p → SameBits q (text_at texts m) t → SameBits q x t)
+        → (m q : ℕ) → m < length texts → q ≤ (spot texts nodes c).place → SameBits q (text_at texts m) t → SameBits q (spot texts nodes c).text t
+    near_below near m q l within same = elim (cases_lt p q) [
+        | inl below ↦
+            let up = near m p l (omega arith) (same_bits_less p (omega arith) same) in
+            let covered = is_below m l (same_bits_trans up (same_bits_sym (same_bits_less p (omega arith) same))) (same.same p below) in
+            same_bits_trans (same_bits_less q within covered.same) same
+        | inr above ↦ same_bits_trans (same_bits_sym (same_bits_less q above link.belongs.same)) (near m q l above same)
+      ]
+
+    -- what ends before the child ends before the node, or there
+    passed_below : (m : ℕ) → IsProper texts (spot texts nodes c) m → IsProper texts (spot texts nodes (Inner k)) m ⊎ (9 * length (text_at texts m) ≡ p)
+    passed_below m h =
+        let before = h.before in
+        elim (cases_order (9 * length (text_at texts m)) p) [
+        | inl at ↦ inr at
+        | inr (inl above) ↦ inl (record {
+            within = h.within;
+            before = above;
+            goes = goes_within (length (text_at texts m)) (same_bits_sym link.belongs.same) above h.goes;
+            same = same_bits_trans h.same (same_bits_sym (same_bits_less (9 * length (text_at texts m)) (omega arith) link.belongs.same));
+          })
+        | inr (inr below) ↦ absurd (not_proper (spot texts nodes c) m
+            (is_below m h.within (same_bits_trans link.belongs.same (same_bits_sym (same_bits_less p (omega arith) h.same))) (h.same.same p below ∙ link.belongs.on)) h)
+      ]
+
+    pub way_end : (ended : Option ℕ) → IsOnWay texts nodes t len (Inner k) ended → (node_at nodes k).bit.at ≤ len → (node_at nodes k).bit.shift ≡ 8 → IsOnWay texts nodes t len c (Some (node_at nodes k).entry)
+    way_end ended way l ends =
+        let size = node.ends ends in
+        let order = link.belongs.order in
+        let place : 9 * length x ≡ p = omega arith in
+        let upto : (m : ℕ) → IsProper texts (spot texts nodes (Inner k)) m → length (text_at texts m) ≤ length x = λ m h. (let before = h.before in omega arith) in
+        record {
+      stands = link.stands;
+      first = link.first;
+      near = near_below way.near;
+      passed = (
+        node.first,
+        omega arith,
+        omega arith,
+        same_bits_less (9 * length x) (omega arith) link.belongs.same,
+        λ m h. ⊎_elim (upto m) (λ at. omega arith) (passed_below m h),
+      );
+    }
+
+    pub way_on : (ended : Option ℕ) → IsOnWay texts nodes t len (Inner k) ended → (node_at nodes k).bit.shift ≢ 8 → IsOnWay texts nodes t len c ended
+    way_on ended way goes = record {
+      stands = link.stands;
+      first = link.first;
+      near = near_below way.near;
+      passed = by ended way.passed;
+    }
+      where
+        still : (m : ℕ) → IsProper texts (spot texts nodes c) m → IsProper texts (spot texts nodes (Inner k)) m
+        still m h = let shift = node.shift in ⊎_elim (λ above. above) (λ at. absurd (omega arith)) (passed_below m h)
+
+        by : (ended : Option ℕ) → IsPassed texts len (spot texts nodes (Inner k)) ended → IsPassed texts len (spot texts nodes c) ended
+        by None none = λ m h. none m (still m h)
+        by (Some e) some = let order = link.belongs.order in let above = some.2 in (
+          some.0,
+          some.1,
+          omega arith,
+          same_bits_trans some.3 (same_bits_less (9 * length (text_at texts e)) (omega arith) link.belongs.same),
+          λ m h. some.4 m (still m h),
+        )
+
+  -- ---- where the way ends
+
+  pub nearest_leaf : (n : ℕ) (ended : Option ℕ) → AreBytes t → AreBytes (text_at texts n) → IsOnWay texts nodes t len (Leaf n) ended → IsNearest texts t len n
+  nearest_leaf n ended bytes own way = λ m q l within same. elim (cases_lt (9 * length (text_at texts n) + 1) q) [
+      | inl more ↦
+          let is : text_at texts n ≡ t = same_text (text_at texts n) t own bytes (way.near m (9 * length (text_at texts n) + 1) l (omega arith) (same_bits_less (9 * length (text_at texts n) + 1) (omega arith) same)) in
+          subst (λ s. SameBits q s t) (sym is) (same_bits_refl q t)
+      | inr less ↦ way.near m q l less same
+    ]
+
+  pub nearest_inner : (k : ℕ) (ended : Option ℕ) → len < (node_at nodes k).bit.at → IsOnWay texts nodes t len (Inner k) ended → IsNearest texts t len (node_at nodes k).entry
+  nearest_inner k ended short way = λ m q l within same. way.near m q l (omega arith) same
+
+  -- what fits is as long as the nearest, or ends before it
+  module _ (n : ℕ) (x : Spot) (is : x.text ≡ text_at texts n) (nearest : IsNearest texts t len n)
+      (far : (m : ℕ) → length (text_at texts m) ≤ len → length (text_at texts m) < length (text_at texts n) → 9 * length (text_at texts m) < x.place) where
+    fits_near : (m : ℕ) → IsFit texts t m → length (text_at texts m) ≤ len → (length (text_at texts m) ≡ length (text_at texts n)) ⊎ IsProper texts x m
+    fits_near m (l, fit) short =
+        let same = same_bits_trans fit (same_bits_sym (nearest m (9 * length (text_at texts m)) l (omega arith) fit)) in
+        let long = as_long (length (text_at texts m)) (text_at texts m) (text_at texts n) (omega arith) same in
+        elim (cases_lt (length (text_at texts m)) (length (text_at texts n))) [
+        | inl less ↦ inr (record {
+            within = l;
+            before = far m short less;
+            goes = subst (λ s. length (text_at texts m) < length s) (sym is) less;
+            same = subst (SameBits (9 * length (text_at texts m)) (text_at texts m)) (sym is) same;
+          })
+        | inr more ↦ inl (omega arith)
+      ]
+
+    pub ended_near : (ended : Option ℕ) → IsPassed texts len x ended → IsEnded texts t len n ended
+    ended_near None none = λ m fit short. ⊎_elim (λ same. same) (λ h. absurd (none m h)) (fits_near m fit short)
+    ended_near (Some e) some = (
+      some.0,
+      some.1,
+      subst (SameBits (9 * length (text_at texts e)) (text_at texts e)) is some.3,
+      λ m fit short. ⊎_elim (λ same. inl same) (λ h. inr (some.4 m h)) (fits_near m fit short),
+    )
+
+-- how many bits the node is before this place
+abbrev pub bits_upto : ℕ → List Node → Child → ℕ
+bits_upto n nodes (Inner k) = n - place_of (node_at nodes k).bit
+bits_upto n nodes (Leaf m) = 0
+
+-- a way goes on to higher places
+pub comes_nearer : (texts : List Text) (nodes : List Node) (n k : ℕ) (c : Child) → place_of (node_at nodes k).bit < n → place_of (node_at nodes k).bit < (spot texts nodes c).place → bits_upto n nodes c < bits_upto n nodes (Inner k)
+comes_nearer texts nodes n k (Inner j) l m = omega arith
+comes_nearer texts nodes n k (Leaf j) l m = omega arith
+
+-- ---- the steps of the search
+
+pub read_node : (nodes : List Node) (k : ℕ) (node : Node) → k < length nodes → node ≡ get_or nodes k node → node ≡ node_at nodes k
+read_node nodes k node l is = get_or_read nodes k node l is (record { bit = record { at = 0; shift = 0 }; entry = 0; left = Leaf 0; right = Leaf 0 })
+
+pub root_link : (texts : List Text) (tree : Tree) (c : Child) → IsTree texts tree → tree.root ≡ Some c → IsLink texts tree.nodes.items (IsBelow texts tree.nodes.items None) c
+root_link texts tree c h is = subst (λ o. MatchOption o (texts ≡ []) (IsLink texts tree.nodes.items (IsBelow texts tree.nodes.items None))) is h.root
+
+module _ (texts : List Text) (tree : Tree) (t : Text) (len : ℕ) (h : IsTree texts tree) where
+  pub way_next : (k : ℕ) (node : Node) (at next : Child) (ended later : Option ℕ) → IsOnWay texts tree.nodes.items t len at ended → at ≡ Inner k → node ≡ get_or tree.nodes.items k node → node.bit.at ≤ len
+      → next ≡ child node (bit t (place_of node.bit)) → ((node.bit.shift ≡ 8) × (later ≡ Some node.entry)) ⊎ ((node.bit.shift ≢ 8) × (later ≡ ended)) → IsOnWay texts tree.nodes.items t len next later
+  way_next k node at next ended later way is read l next_is cases =
+      let nodes = tree.nodes.items in
+      let way : IsOnWay texts nodes t len (Inner k) ended = subst (λ c. IsOnWay texts nodes t len c ended) is way in
+      let node_is = read_node nodes k node way.stands read in
+      let next_is : next ≡ child (node_at nodes k) (bit t (place_of (node_at nodes k).bit)) = next_is ∙ ap (λ (n : Node). child n (bit t (place_of n.bit))) node_is in
+      let c : Child = child (node_at nodes k) (bit t (place_of (node_at nodes k).bit)) in
+      let node = h.node k way.stands in
+      let link = h.link k (bit t (place_of (node_at nodes k).bit)) way.stands in
+      subst (λ c. IsOnWay texts nodes t len c later) (sym next_is) (elim cases [
+        | inl ends ↦
+            let shift : (node_at nodes k).bit.shift ≡ 8 = sym (ap (λ (n : Node). n.bit.shift) node_is) ∙ ends.0 in
+            let at_is = ap (λ (n : Node). n.bit.at) node_is in
+            let later_is : later ≡ Some (node_at nodes k).entry = ends.1 ∙ ap (λ (n : Node). Some n.entry) node_is in
+            subst (IsOnWay texts nodes t len c) (sym later_is) (way_end texts nodes t len k c node link ended way (omega arith) shift)
+        | inr goes ↦
+            subst (IsOnWay texts nodes t len c) (sym goes.1) (way_on texts nodes t len k c node link ended way (λ e. goes.0 (ap (λ (n : Node). n.bit.shift) node_is ∙ e)))
+      ])
+
+  -- the number where the way ends
+  abbrev pub EndsAt : ℕ → Option ℕ → Type 0
+  EndsAt n ended = IsFirst texts n × IsNearest texts t len n × IsEnded texts t len n ended
+
+  pub way_to_leaf : (at : Child) (n : ℕ) (ended : Option ℕ) → AreBytes t → IsOnWay texts tree.nodes.items t len at ended → at ≡ Leaf n → EndsAt n ended
+  way_to_leaf at n ended bytes way is =
+      let way : IsOnWay texts tree.nodes.items t len (Leaf n) ended = subst (λ c. IsOnWay texts tree.nodes.items t len c ended) is way in
+      let nearest = nearest_leaf texts tree.nodes.items t len n ended bytes (h.bytes n way.stands) way in
+      (way.first, nearest, ended_near texts tree.nodes.items t len n (spot texts tree.nodes.items (Leaf n)) refl nearest (λ m l less. omega arith) ended way.passed)
+
+  pub way_to_inner : (at : Child) (k n : ℕ) (node other : Node) (ended : Option ℕ) → IsOnWay texts tree.nodes.items t len at ended → at ≡ Inner k → node ≡ get_or tree.nodes.items k node → len < node.bit.at
+      → other ≡ get_or tree.nodes.items k other → n ≡ other.entry → EndsAt n ended
+  way_to_inner at k n node other ended way is read short again n_is =
+      let nodes = tree.nodes.items in
+      let way : IsOnWay texts nodes t len (Inner k) ended = subst (λ c. IsOnWay texts nodes t len c ended) is way in
+      let at_is = ap (λ (n : Node). n.bit.at) (read_node nodes k node way.stands read) in
+      let far : len < (node_at nodes k).bit.at = omega arith in
+      let nearest = nearest_inner texts nodes t len k ended far way in
+      subst (λ n. EndsAt n ended) (sym (n_is ∙ ap (λ (n : Node). n.entry) (read_node nodes k other way.stands again)))
+          (way.first, nearest, ended_near texts nodes t len (node_at nodes k).entry (spot texts nodes (Inner k)) refl nearest (λ m l less. omega arith) ended way.passed)

@@ -1,0 +1,42 @@
+use Rattle.std.proofs.Common.{arith, ◌≡◌, inl, inr, get_or, sym, ap, subst, ◌∙◌}
+use Rattle.iref.specs.declared.compact.tree.Child.TheVariants.{Inner, Leaf}
+use Rattle.iref.specs.PrefixTree.{keys_of, child}
+use Rattle.iref.proofs.PrefixWayLemmas.{root_link, way_root, way_next, way_to_leaf, way_to_inner, EndsAt}
+use Rattle.iref.proofs.compact.tree.Tree.near.Goals as goal
+use Rattle.iref.proofs.compact.tree.Tree.near.Goals.{then-node-eq-GOES_ON, else-node-eq-GOES_ON, in-Inner+then-len-node, in_default, in-Inner-child, in-Leaf}
+
+pub loop-child-init : goal.loop-child-init
+loop-child-init c =
+    let texts = keys_of c.args.key c.args.entries.now in
+    way_root texts c.args.self.now.nodes.items c.args.text.now c.args.len c.in_ok-child.child (root_link texts c.args.self.now c.in_ok-child.child c.requires.tree c.in_ok-child.was)
+
+pub loop-child-preserved : goal.loop-child-preserved
+loop-child-preserved c =
+    let texts = keys_of c.args.key c.args.entries.now in
+    let node = c.index-node.result.now in
+    way_next texts c.args.self.now c.args.text.now c.args.len c.requires.tree c.in-Inner.at node c.loop-child.child c.child-child.result c.loop-child.ended c.if-node-eq-GOES_ON.ended
+    c.loop-child.invariant c.in-Inner.is c.index-node.ensures c.if-len-node.false (c.child-child.ensures ∙ ap (child node) c.is_in.ensures)
+    (elim c.if-node-eq-GOES_ON.branch [ then-node-eq-GOES_ON w ↦ inl (w.if-node-eq-GOES_ON.true, w.ended-is) | else-node-eq-GOES_ON w ↦ inr (w.if-node-eq-GOES_ON.false, w.ended-is) ])
+
+pub returns : goal.returns
+returns c =
+    let texts = keys_of c.args.key c.args.entries.now in
+    let way = c.loop-child.invariant in
+    let ends : EndsAt texts c.args.self.now c.args.text.now c.args.len c.requires.tree c.match-child-2.number c.loop-child.ended = elim c.match-child-2.branch [
+      | in-Inner-child w ↦ elim c.match-child.branch [
+        | in-Inner+then-len-node v ↦
+            let same : v.in-Inner.at ≡ w.in-Inner-child.at = cc (v.child-is, w.in-Inner-child.is) in
+            let at_is : c.loop-child.child ≡ Inner w.in-Inner-child.at = v.in-Inner.is ∙ ap (λ k. Inner k) same in
+            let node = v.index-node.result.now in
+            way_to_inner texts c.args.self.now c.args.text.now c.args.len c.requires.tree c.loop-child.child w.in-Inner-child.at c.match-child-2.number node w.index.result.now c.loop-child.ended way
+            at_is (subst (λ k. node ≡ get_or c.args.self.now.nodes.items k node) same v.index-node.ensures) v.if-len-node.true w.index.ensures w.number-is
+        | in_default v ↦ absurd (v.in_default.not-Inner w.in-Inner-child.at (sym v.child-is ∙ w.in-Inner-child.is))
+        ]
+      | in-Leaf w ↦
+          let leaf : c.loop-child.child ≡ Leaf c.match-child-2.number = elim c.match-child.branch [
+            | in-Inner+then-len-node v ↦ absurd (cc (v.child-is, w.in-Leaf.is))
+            | in_default v ↦ sym v.child-is ∙ w.in-Leaf.is ∙ ap (λ n. Leaf n) (sym w.number-is)
+            ] in
+          way_to_leaf texts c.args.self.now c.args.text.now c.args.len c.requires.tree c.loop-child.child c.match-child-2.number c.loop-child.ended (λ k. omega (arith, c.type_inv.text k)) way leaf
+      ] in
+    record { first = ends.0; is = c.text_of-text.ensures; bytes = λ k. omega (arith, c.type_inv.text k); nearest = ends.1; ended = ends.2 }
