@@ -1,12 +1,12 @@
 -- What stays before a path, and before a reference, where no segment begins with a dot.
-use Rattle.std.proofs.Common.{arith, ◌≡◌, ◌+◌, true, false, ◌||◌, List, [], ◌∷◌, ◌++◌, length, take, refl, ap, append_assoc}
-use Rattle.std.specs.Prelude.{◌≢◌, codes, is_some}
+use Rattle.std.proofs.Common.{arith, ◌≡◌, ◌+◌, ◌≤◌, true, false, ◌||◌, List, [], ◌∷◌, ◌++◌, ℕ, drop, length, take, refl, ap, append_assoc}
+use Rattle.std.specs.Prelude.{◌≢◌, codes, is_some, option_map}
 use Rattle.std.specs.List.{join_with_byte, list_all}
 use Rattle.std.proofs.lemmas.Grind.{common_steps}
-use Rattle.std.proofs.lemmas.List.{append-nil}
+use Rattle.std.proofs.lemmas.List.{append-nil, drop_at}
 use Rattle.iref_grammar.specs.declared.context.PathContext.{PathContext}
 use Rattle.iref_grammar.specs.Rules.{Text}
-use Rattle.iref_grammar.specs.Grammar.{colon, slash}
+use Rattle.iref_grammar.specs.Grammar.{colon, hash_sign, question_mark, slash}
 use Rattle.iref_grammar.specs.Texts.{all_but_last, lacks, part_then, pieces_at, then_part}
 use Rattle.iref_grammar.specs.PathValue.{PathValue, read_path, segments_of, spell_path}
 use Rattle.iref_grammar.specs.ComponentOffsets.{offsets_in}
@@ -25,7 +25,8 @@ use Rattle.iref_parse.specs.Dots.{has_dot_segment, is_some_dotted}
 use Rattle.iref_path_text.specs.Merged.{path_after}
 use Rattle.iref_path_text.proofs.DotlessLemmas.{both_dotted, dotless-spelled, normal_segments-dotless}
 use Rattle.iref_path_text.proofs.SlashLemmas.{read-absolute}
-use Rattle.iref_buffer.specs.Fronts.{StaysBefore, resolved_path}
+use Rattle.iref_buffer.specs.ComponentLengths.{lengths_of, lengths_of_texts}
+use Rattle.iref_buffer.specs.Fronts.{IsAround, IsSpelled, StaysBefore, resolved_path}
 use Rattle.iref_buffer.specs.MeasuredReferences.{spell_texts}
 use Rattle.iref_buffer.proofs.MeasuredLemmas.{after_resolved, spelled_texts}
 
@@ -144,3 +145,49 @@ module _ (b t : ComponentTexts) (none : (is_some t.scheme || is_some t.authority
   unfolding spell_texts
   front_spells =
       grind (arith, none, stays, put_behind, spelled_texts t (read_components t) (spell_components-read t), spelled_texts joined (resolved (read_components b) (read_components t)) front_components)
+
+-- ---- a path between what stands before the base's and what stands behind the reference's
+
+-- what stands before the path
+pub before_path : (t : ComponentTexts) → take (offsets_in (read_components t)).path.start (spell (read_components t)) ≡ part_then (colon ∷ []) t.scheme ++ then_part (codes "//") t.authority
+unfolding offsets_in spell
+before_path t = grind (arith, common_steps, authority_spelled, taken)
+
+pub path_within : (t : ComponentTexts) → (offsets_in (read_components t)).path.start ≤ length (spell (read_components t))
+unfolding offsets_in spell
+path_within t = grind (arith, common_steps)
+
+-- and behind it, where nothing stands before it
+pub path_first : (t : ComponentTexts) → (is_some t.scheme || is_some t.authority) ≡ false → length t.path ≤ length (spell (read_components t))
+unfolding spell
+path_first t none = grind (arith, common_steps, read_path-reads t.path)
+
+pub behind_path : (t : ComponentTexts) → (is_some t.scheme || is_some t.authority) ≡ false
+    → drop (length t.path) (spell (read_components t)) ≡ then_part (question_mark ∷ []) t.query ++ then_part (hash_sign ∷ []) t.fragment
+unfolding spell
+behind_path t none = grind (arith, common_steps, authority_spelled, read_path-reads t.path, append_assoc, drop_at)
+
+-- of a base with an authority, and of a reference with neither a scheme nor an authority
+module _ (b t : ComponentTexts) (authority : is_some b.authority ≡ true) (none : (is_some t.scheme || is_some t.authority) ≡ false) (some : t.path ≢ []) where
+  abbrev whole : ComponentTexts
+  whole = record { scheme = b.scheme; authority = b.authority; path = resolved_path b t.path; query = t.query; fragment = t.fragment }
+
+  whole_components : whole ≡ spell_components (resolved (read_components b) (read_components t))
+  whole_components = after_resolved b t none some (resolved_path b t.path) refl
+
+  pub path_length : length (resolved_path b t.path) ≡ (lengths_of (resolved (read_components b) (read_components t))).path
+  path_length = ap (λ (c : ComponentTexts). length c.path) whole_components
+
+  pub around_spelled : (front behind text : Text) (len : ℕ) → front ≡ part_then (colon ∷ []) b.scheme ++ then_part (codes "//") b.authority
+      → behind ≡ then_part (question_mark ∷ []) t.query ++ then_part (hash_sign ∷ []) t.fragment → IsAround front b.path t.path behind text len
+      → IsSpelled (resolved (read_components b) (read_components t)) text (record (lengths_of_texts b) { path = len; query = option_map length t.query; fragment = option_map length t.fragment })
+  unfolding spell_texts
+  around_spelled front behind text len f g around =
+      let context : PathContext = record { has_scheme = is_some b.scheme; has_authority = is_some b.authority } in
+      let put = around context authority in
+      let here : resolved_path b t.path ≡ spell_path (normalized context (path_after true (read_path b.path) (read_path t.path))) = ap (λ a. spell_path (normalized context (path_after a (read_path b.path) (read_path t.path)))) authority in
+      let spelled = spelled_texts whole (resolved (read_components b) (read_components t)) whole_components in
+      record {
+        text = grind (arith, append_assoc);
+        lengths = grind (arith, ap lengths_of_texts whole_components);
+      }

@@ -1,5 +1,5 @@
 -- The front part of a base's text that stays before a reference's text (RFC 3986 sections 5.2.3 and 5.3).
-use Rattle.std.specs.Prelude.{◌≡◌, [], ◌∷◌, ◌++◌, codes, is_some}
+use Rattle.std.specs.Prelude.{◌≡◌, ℕ, true, [], ◌∷◌, ◌++◌, codes, is_some, length}
 use Rattle.std.specs.Borrow.{Bor}
 use Rattle.iref_grammar.specs.declared.context.PathContext.{PathContext}
 use Rattle.iref_grammar.specs.Rules.{Text}
@@ -28,3 +28,14 @@ StaysBefore t path front = front ++ path ≡ part_then (colon ∷ []) t.scheme +
 pub record IsFront (base reference : ReferenceValue) (front : Bor Text × Lengths) : Type 0 where
   pub text : front.0.now ++ spell reference ≡ spell (resolved base reference)
   pub lengths : front.1 ≡ lengths_of (resolved base reference)
+
+-- the text spells the reference, of which the components are this long
+pub record IsSpelled (r : ReferenceValue) (whole : Text) (l : Lengths) : Type 0 where
+  pub text : whole ≡ spell r
+  pub lengths : l ≡ lengths_of r
+
+-- between two texts stands the path, this long, that one resolves to after an authority and a base's path
+abbrev pub IsAround : Text → Text → Text → Text → Text → ℕ → Type 0
+IsAround front base path behind text len =
+    (context : PathContext) → context.has_authority ≡ true → let between = spell_path (normalized context (path_after true (read_path base) (read_path path))) in
+    (text ≡ front ++ (between ++ behind)) × (len ≡ length between)

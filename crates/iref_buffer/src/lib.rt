@@ -2,6 +2,7 @@
 #![tactic(auto)]
 
 pub mod base;
+pub mod forward;
 pub mod fronts;
 pub mod held;
 mod lengths;

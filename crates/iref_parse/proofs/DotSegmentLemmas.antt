@@ -1,8 +1,9 @@
 -- A segment of the split path begins with a dot exactly where `.` stands at the front or after `/`.
-use Rattle.std.proofs.Common.{◌≡◌, ℕ, List, [], ◌∷◌, Bool, true, false, cond, ◌||◌, eqb, refl, ap, ◌∙◌, arith}
+use Rattle.std.proofs.Common.{◌≡◌, ℕ, List, [], ◌∷◌, Bool, true, false, cond, ◌||◌, eqb, refl, sym, ap, ◌∙◌, arith}
 use Rattle.std.specs.List.{list_any, slice_split, onto_first}
 use Rattle.std.proofs.lemmas.Bool.Decides.{nat_tests}
-use Rattle.iref_parse.specs.Dots.{begins_with, begins_with_dot, has_dot_segment, has_pair}
+use Rattle.iref_parse.specs.Dots.{begins_with, begins_with_dot, has_dot_segment, has_pair, is_slash_dot}
+use Rattle.iref_parse.proofs.PairLemmas.{no_pair}
 
 abbrev parts : List ℕ → List (List ℕ)
 parts path = slice_split (λ b. eqb b 0x2F) path
@@ -49,3 +50,8 @@ later_is (x ∷ xs) = later_step x xs (later_is xs) (eqb x 0x2F) refl
 -- a segment begins with a dot where the text does, or where `.` follows `/`
 pub dots_by_pairs : (path : List ℕ) → has_dot_segment path ≡ (begins_with_dot path || has_pair 0x2F 0x2E path)
 dots_by_pairs path = first_or_later path ∙ ap (λ t. begins_with_dot path || t) (later_is path)
+
+-- no segment after the first begins with a dot where no `/.` is
+pub later_dotless : (path s : List ℕ) (ss : List (List ℕ)) → parts path ≡ s ∷ ss → ((k : ℕ) → is_slash_dot path k ≡ false) → list_any begins_with_dot ss ≡ false
+later_dotless path s ss e none =
+    sym (ap (λ l. list_any begins_with_dot (rest l)) e) ∙ later_is path ∙ no_pair 0x2F 0x2E path (λ k l. none k)

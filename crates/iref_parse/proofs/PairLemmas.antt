@@ -34,6 +34,9 @@ module _ (first second : ℕ) where
   abbrev pub pairs_at : List ℕ → ℕ → ℕ
   pairs_at text k = cond (is_pair first second text k) 255 0
 
+  pub unmarked_pair : (text : List ℕ) (k : ℕ) → pairs_at text k ≡ 0 → is_pair first second text k ≡ false
+  unmarked_pair text k h = grind (arith, nat_tests)
+
   -- a vector that saw all indices says whether there is a pair
   module _ (text v : List ℕ) (at : ℕ) (near : length text < at + 17) (seen : Seen (pairs_at text) (length text - 1) at v) where
     none_from_clear : list_all (λ x. eqb x 0) v ≡ true → has_pair first second text ≡ false

@@ -27,6 +27,10 @@ begins_with byte (c ∷ cs) = c == byte
 abbrev pub is_pair : ℕ → ℕ → Text → ℕ → Bool
 is_pair first second text k = slice_index text k == first && slice_index text (k + 1) == second
 
+-- the bytes at k and after it are `/` and `.`
+abbrev pub is_slash_dot : Text → ℕ → Bool
+is_slash_dot path k = is_pair slash 0x2E path k
+
 -- these two stand side by side
 abbrev pub has_pair : ℕ → ℕ → Text → Bool
 has_pair first second [] = false

@@ -1,9 +1,11 @@
-//! Whether a segment of a path begins with a dot, and whether two dots stand side by side.
-ghost use Rattle.std.specs.Prelude.{◌≡◌, ◌+◌, ◌≤◌, if◌then◌else◌, length};
+//! Whether a segment of a path begins with a dot, where the first behind a `/` does, and whether two
+//! dots stand side by side.
+ghost use Rattle.std.specs.Prelude.{◌≡◌, ℕ, ◌+◌, ◌<◌, ◌≤◌, if◌then◌else◌, length, false, true};
 ghost use Rattle.iref_parse.specs.Lanes.{HasLanes};
-ghost use Rattle.iref_parse.specs.Dots.{begins_with_dot, has_dot_pair, has_dot_segment, has_pair, is_pair};
+ghost use Rattle.iref_parse.specs.Dots.{begins_with_dot, has_dot_segment, is_slash_dot};
+ghost use Rattle.iref_parse.specs.Dots.{has_dot_pair, has_pair, is_pair};
 
-use crate::lanes::{both, either, equal_to, is_clear, load};
+use crate::lanes::{both, common_lanes, either, equal_to, is_clear, load};
 use crate::position::ends_of;
 use std::simd::prelude::*;
 
@@ -92,4 +94,42 @@ pub fn has_dot_pair(path: &[u8]) -> bool
     ensures { result ≡ has_dot_pair path.now }
 {
     has_pair(path, b'.', b'.')
+}
+
+// Where the first `/.` stands from an index on, or the length. The bytes are read one by one.
+fn slash_dot_near(path: &[u8], from: usize) -> usize
+    requires { from ≤ length path.now }
+    ensures within { result ≤ length path.now }
+    ensures none_before { (k : ℕ) → from ≤ k → k < result → is_slash_dot path.now k ≡ false }
+    ensures found { result < length path.now → is_slash_dot path.now result ≡ true }
+{
+    let len = path.len();
+    let mut at = from;
+    while 2 <= len - at {
+        if path[at] == b'/' && path[at + 1] == b'.' {
+            return at;
+        }
+        at += 1;
+    }
+    len
+}
+
+/// Where the first `/.` stands, or the length. No segment that ends before it begins with a dot,
+/// unless it is the first.
+#[inline(always)]
+pub fn position_of_slash_dot(path: &[u8]) -> usize
+    ensures within { result ≤ length path.now }
+    ensures none_before { (k : ℕ) → k < result → is_slash_dot path.now k ≡ false }
+    ensures found { result < length path.now → is_slash_dot path.now result ≡ true }
+{
+    let len = path.len();
+    let mut at = 0;
+    while 17 <= len - at {
+        let lane = common_lanes(pairs(path, at, b'/', b'.'), u8x16::splat(0));
+        if lane < 16 {
+            return at + lane;
+        }
+        at += 16;
+    }
+    slash_dot_near(path, at)
 }

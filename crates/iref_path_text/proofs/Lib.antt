@@ -21,3 +21,4 @@ pub mod RewritingLemmas
 pub mod WrittenLemmas
 pub mod DotlessLemmas
 pub mod ApartLemmas
+pub mod ForwardLemmas

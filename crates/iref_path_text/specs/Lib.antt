@@ -33,3 +33,4 @@ pub mod Listed
 pub mod Rewriting
 pub mod Written
 pub mod Slashes
+pub mod Forward

@@ -7,6 +7,7 @@ pub mod apart;
 pub mod body;
 pub mod common;
 pub mod equality;
+pub mod forward;
 pub mod guard;
 pub mod measured;
 pub mod names;

@@ -41,7 +41,7 @@ fn highest_bit(bits: u64) -> usize
 
 // Where the last `/` is.
 #[inline(always)]
-fn last_slash(bytes: &[u8]) -> Option<usize>
+pub(crate) fn last_slash(bytes: &[u8]) -> Option<usize>
     ensures { MatchOption result (LacksSlashFrom bytes.now 0) (IsLastSlash bytes.now) }
 {
     let mut end = bytes.len();

@@ -10,7 +10,7 @@ use Rattle.iref_grammar.proofs.ReferenceCutLemmas.{read_reference-spelled}
 use Rattle.iref_model.specs.Resolution.{resolved}
 use Rattle.iref_model.proofs.ResolvedLemmas.{resolved-readable}
 use Rattle.iref_buffer.specs.ComponentLengths.{HasLengths}
-use Rattle.iref_buffer.specs.Fronts.{IsFront}
+use Rattle.iref_buffer.specs.Fronts.{IsFront, IsSpelled}
 use Rattle.iref_buffer.specs.declared.lengths.Lengths.{Lengths}
 use Rattle.iref_buffer.proofs.EditLemmas.{IsStep, is_step}
 use Rattle.iref_reference.specs.Resolutions.{IsResolved}
@@ -26,19 +26,31 @@ pub readable_slices : (set : CharTests) (text : Text) (value : ReferenceValue) �
 unfolding is_reference
 readable_slices set text value e h = grind arith
 
--- ---- a front part of a base's text and a reference's text
+-- ---- a text that spells what a reference resolves to
 
-module _ (set : CharTests) (above : AreAboveAscii set) (base text : Text) (b r : ReferenceValue) (front : Bor Text × Lengths)
-    (base_is : b ≡ read_reference base) (text_is : r ≡ read_reference text) (h : is_uri set base ≡ true) (k : is_reference set text ≡ true) (kept : IsFront b r front) where
-  front_step : IsStep (is_uri set) (front.0.now ++ text) (resolved b r)
-  front_step =
-      is_step set above (is_uri set) is_some (uri_if_scheme set) (front.0.now ++ text) (resolved b r)
-      (grind (arith, read_reference-spelled)) (grind (arith, resolved-readable, readable_slices, reference_if_uri)) (resolved-scheme set base b r base_is h)
+module _ (set : CharTests) (above : AreAboveAscii set) (base text : Text) (b r : ReferenceValue)
+    (base_is : b ≡ read_reference base) (text_is : r ≡ read_reference text) (h : is_uri set base ≡ true) (k : is_reference set text ≡ true) where
+  module _ (whole : Text) (lengths : Lengths) (spelled : IsSpelled (resolved b r) whole lengths) where
+    whole_step : IsStep (is_uri set) whole (resolved b r)
+    whole_step =
+        is_step set above (is_uri set) is_some (uri_if_scheme set) whole (resolved b r)
+        spelled.text (grind (arith, resolved-readable, readable_slices, reference_if_uri)) (resolved-scheme set base b r base_is h)
 
-  -- are in the rule, with components of these lengths
-  pub front-leaves : HasLengths (is_uri set) front.1 (front.0.now ++ text)
-  front-leaves = grind (arith, front_step)
+    -- is in the rule, with components of these lengths
+    pub whole-leaves : HasLengths (is_uri set) lengths whole
+    whole-leaves = grind (arith, whole_step)
 
-  -- and are what the reference resolves to
-  pub front-resolved : IsResolved base text (front.0.now ++ text)
-  front-resolved = grind (arith, read_reference-spelled, front_step)
+    -- and is what the reference resolves to
+    pub whole-resolved : IsResolved base text whole
+    whole-resolved = grind (arith, read_reference-spelled, whole_step)
+
+  -- a front part of the base's text, and the reference's text
+  module _ (front : Bor Text × Lengths) (kept : IsFront b r front) where
+    front_spelled : IsSpelled (resolved b r) (front.0.now ++ text) front.1
+    front_spelled = record { text = grind (arith, read_reference-spelled); lengths = kept.lengths }
+
+    pub front-leaves : HasLengths (is_uri set) front.1 (front.0.now ++ text)
+    front-leaves = whole-leaves (front.0.now ++ text) front.1 front_spelled
+
+    pub front-resolved : IsResolved base text (front.0.now ++ text)
+    front-resolved = whole-resolved (front.0.now ++ text) front.1 front_spelled

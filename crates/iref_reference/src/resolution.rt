@@ -15,6 +15,7 @@ use crate::borrowed::{Reference, Uri, UriRef};
 use crate::composed::{Composed, ComposedUri};
 use crate::owned::{ReferenceBuf, UriBuf};
 use crate::parts::{Parts, SchemePart, UriParts};
+use iref_buffer::forward::resolved_forward;
 use iref_buffer::fronts::front_kept;
 use iref_buffer::held::{Held, HeldRule};
 use iref_error::{InvalidUri, InvalidUriRef, Memory, TryError};
@@ -23,7 +24,8 @@ use iref_parse::split::{ReferenceSlices, split_reference};
 use std::alloc::Global;
 
 // What a reference resolves to against a base, given the components of both texts. Most often it is
-// a front part of the base's text and then the reference's text.
+// a front part of the base's text and then the reference's text. Else it is written forward, after
+// an authority and where there is room for both paths, or it is measured first.
 fn resolved_uri<C: CharSet>(
     alloc: Global,
     base_text: &str,
@@ -41,12 +43,16 @@ fn resolved_uri<C: CharSet>(
         let held = Held::of_texts(alloc, front, text, lengths)?;
         return Ok(ReferenceBuf::from_held(held));
     }
+    if let Some((bytes, lengths)) = resolved_forward(alloc, base_text, base, text, reference) {
+        return Ok(ReferenceBuf::from_held(Held::of_bytes(bytes, lengths)));
+    }
     Composed::resolved(base, reference)?.to_owned(alloc)
 }
 
 impl<R: HeldRule, C: CharSet> Reference<'_, R, C> {
     /// What the reference resolves to against a base: `../g` and `http://a/b/c` give `http://a/g`.
-    /// A reference without a path keeps the base's as it stands.
+    /// A reference without a path keeps the base's as it stands. Where dot segments are removed, the
+    /// result may hold room that it does not need.
     pub fn resolved(&self, alloc: Global, base: Uri<'_, C>) -> Result<UriBuf<C>, Memory>
         ensures { IfOk result (λ uri. IsResolved (reference_text base.entry)
             (reference_text self.now) (reference_buf_text uri)) }

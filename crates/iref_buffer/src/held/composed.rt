@@ -57,4 +57,20 @@ impl<R: HeldRule, C: CharSet> Held<R, C> {
             rule,
         })
     }
+
+    /// The text of these bytes, which is in the rule and has components of these lengths.
+    #[inline(always)]
+    pub fn of_bytes(bytes: Vec<u8>, lengths: Lengths) -> Self
+        requires { HasLengths (R.test C.tests) lengths bytes.items }
+        ensures { result ≡ bytes.items }
+    {
+        // What is in the rule is text, so no byte is read again.
+        let text = unsafe { String::from_utf8_unchecked(bytes) };
+        let rule = PhantomData;
+        Held {
+            text,
+            lengths,
+            rule,
+        }
+    }
 }
