@@ -4,7 +4,7 @@ ghost use Rattle.iref_buffer.specs.Fronts.{IsAround, IsSpelled};
 ghost use Rattle.iref_grammar.specs.{is_empty, read_path, Reference.{context_of}};
 ghost use Rattle.iref_model.specs.{fits, read_reference, resolved};
 ghost use Rattle.iref_parse.specs.{value_of};
-ghost use Rattle.std.specs.Prelude.{◌≡◌, ◌≢◌, ◌||◌, [], IfOk, IfSome, true};
+ghost use Rattle.std.specs.Prelude.{◌≡◌, ◌≢◌, ◌+◌, ◌||◌, [], IfOk, IfSome, length, true};
 
 use crate::lengths::{Lengths, len_of};
 use iref_error::Memory;
@@ -14,7 +14,10 @@ use iref_path_text::forward::append_normal_after;
 use std::alloc::{AllocError, Global};
 
 // How many bytes two paths take, what stands around them, and a `/`, if that can be counted.
-fn room_for(base: &str, path: &str, front: &[u8], behind: &[u8]) -> Option<usize> {
+fn room_for(base: &str, path: &str, front: &[u8], behind: &[u8]) -> Option<usize>
+    ensures { IfSome result (λ room. room ≡ length base.now + length path.now
+        + (length front.now + length behind.now) + 1) }
+{
     let paths = base.len().checked_add(path.len())?;
     let around = front.len().checked_add(behind.len())?;
     paths.checked_add(around)?.checked_add(1)
