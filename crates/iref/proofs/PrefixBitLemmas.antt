@@ -1,10 +1,10 @@
 -- The bits of texts.
-use Rattle.std.proofs.Common.{arith, ◌⊎◌, inl, inr, ◌≡◌, ◌≢◌, ℕ, zero, suc, ◌+◌, ◌-◌, ◌*◌, ◌/◌, ◌%◌, ◌^◌, ◌<◌, ◌≤◌, Bool, true, false, List, [], ◌∷◌, ◌++◌, length, get_or, take, drop, refl, sym, ap, subst, ◌∙◌, ⊎_elim}
+use Rattle.std.proofs.Common.{arith, ◌⊎◌, inl, inr, ◌≡◌, ◌≢◌, ℕ, zero, suc, ◌+◌, ◌-◌, ◌*◌, ◌/◌, ◌%◌, ◌^◌, ◌<◌, ◌≤◌, true, false, [], ◌∷◌, ◌++◌, length, get_or, take, drop, refl, sym, ap, subst, ◌∙◌, ⊎_elim}
 use Rattle.std.specs.Prelude.{nat_lt, nat_eq, ◌==◌}
 use Rattle.std.specs.Int.{bit_at}
 use Rattle.std.specs.List.{common_prefix_len}
 use Rattle.std.specs.Cmp.Lexicographic.{bytes_decides}
-use Rattle.std.proofs.lemmas.Bool.{eqb-false, eqb-true, ne_eqb, lt-ltb, le-ltb, ltb-true, ltb-false, cases_lt, cases_order}
+use Rattle.std.proofs.lemmas.Bool.{lt-ltb, le-ltb, ltb-true, ltb-false, cases_lt}
 use Rattle.std.proofs.lemmas.Bool.Decides.{nat_tests}
 use Rattle.std.proofs.lemmas.Grind.{common_steps}
 use Rattle.std.proofs.lemmas.Nat.{shr-shr}
@@ -141,22 +141,22 @@ common_bits a b n e =
 -- the symbols behind what is in common differ, unless both texts end there
 pub symbols_differ : (a b : Text) (n : ℕ) → AreBytes a → AreBytes b → n ≡ common_prefix_len nat_eq a b → n < length a ⊎ n < length b → symbol a n ≢ symbol b n
 symbols_differ a b n p q e within same = elim (cases_lt n (length a)) [
-    | inl l ↦ elim (cases_lt n (length b)) [
-      | inl m ↦ common_stops a b n e l m (omega (arith, same, symbol_within a n l, symbol_within b n m, p n, q n))
-      | inr m ↦ omega (arith, same, symbol_within a n l, symbol_behind b n m)
-    ]
-    | inr l ↦ elim (cases_lt n (length b)) [
-      | inl m ↦ omega (arith, same, symbol_behind a n l, symbol_within b n m)
-      | inr m ↦ elim within [ inl j ↦ absurd (omega arith) | inr j ↦ absurd (omega arith) ]
-    ]
+  | inl l ↦ elim (cases_lt n (length b)) [
+    | inl m ↦ common_stops a b n e l m (omega (arith, same, symbol_within a n l, symbol_within b n m, p n, q n))
+    | inr m ↦ omega (arith, same, symbol_within a n l, symbol_behind b n m)
   ]
+  | inr l ↦ elim (cases_lt n (length b)) [
+    | inl m ↦ omega (arith, same, symbol_behind a n l, symbol_within b n m)
+    | inr m ↦ elim within [ inl j ↦ absurd (omega arith) | inr j ↦ absurd (omega arith) ]
+  ]
+]
 
 -- what has as many bits of a text has as many of its bytes
 pub common_upto : (q : ℕ) (a b : Text) → AreBytes a → AreBytes b → q ≤ length a → SameBits (9 * q) a b → q ≤ common_prefix_len nat_eq a b
 common_upto q a b p r l h = elim (cases_lt (common_prefix_len nat_eq a b) q) [
-    | inl less ↦ absurd (symbols_differ a b (common_prefix_len nat_eq a b) p r refl (inl (omega arith)) (same_symbol a b (common_prefix_len nat_eq a b) (same_bits_less (9 * common_prefix_len nat_eq a b + 9) (omega arith) h)))
-    | inr more ↦ more
-  ]
+  | inl less ↦ absurd (symbols_differ a b (common_prefix_len nat_eq a b) p r refl (inl (omega arith)) (same_symbol a b (common_prefix_len nat_eq a b) (same_bits_less (9 * common_prefix_len nat_eq a b + 9) (omega arith) h)))
+  | inr more ↦ more
+]
 
 -- ---- the first bit by which two symbols differ
 
@@ -192,9 +192,9 @@ bit_behind text i l = ap (λ s. bit_at s (8 - i % 9) == 1) (symbol_behind text (
 -- two texts differ no later than where each ends
 pub differ_within : (n : ℕ) (a b : Text) → SameBits n a b → bit a n ≢ bit b n → n ≤ 9 * length a
 differ_within n a b h differ = elim (cases_lt (9 * length a) n) [
-    | inl above ↦ let short = no_longer a h above in absurd (differ (bit_behind a n (omega arith) ∙ sym (bit_behind b n (omega arith))))
-    | inr within ↦ within
-  ]
+  | inl above ↦ let short = no_longer a h above in absurd (differ (bit_behind a n (omega arith) ∙ sym (bit_behind b n (omega arith))))
+  | inr within ↦ within
+]
 
 -- what has as many bits has the next one too, if both texts end there
 pub ends_there : (n : ℕ) (a b : Text) → length a ≡ n → length b ≡ n → SameBits (9 * n) a b → SameBits (9 * n + 1) a b
@@ -210,6 +210,6 @@ same_whole a b n p q e l m = same_text a b p q (subst (λ n. SameBits (9 * n + 1
 -- a text whose bit says that it has ended where the other goes on
 pub ended_at : (a b : Text) (n : ℕ) → n < length a → n ≤ length b → bit a (9 * n) ≢ bit b (9 * n) → length b ≡ n
 ended_at a b n l m differ = elim (cases_lt n (length b)) [
-    | inl goes ↦ absurd (differ (goes_on a n ∙ lt-ltb n (length a) l ∙ sym (goes_on b n ∙ lt-ltb n (length b) goes)))
-    | inr ended ↦ omega arith
-  ]
+  | inl goes ↦ absurd (differ (goes_on a n ∙ lt-ltb n (length a) l ∙ sym (goes_on b n ∙ lt-ltb n (length b) goes)))
+  | inr ended ↦ omega arith
+]

@@ -1,21 +1,20 @@
 -- The entries that a tree finds.
-use Rattle.std.proofs.Common.{arith, ◌≡◌, ◌≢◌, ℕ, zero, suc, ◌+◌, ◌-◌, ◌*◌, ◌<◌, ◌≤◌, ◌⊎◌, inl, inr, Bool, true, false, List, [], ◌∷◌, length, get_or, take, refl, sym, ap, subst, ◌∙◌, ⊎_elim}
-use Rattle.std.specs.Prelude.{nat_eq, nat_lt, bytes_eq, Option, Some, None}
+use Rattle.std.proofs.Common.{arith, ◌≡◌, ◌≢◌, ℕ, zero, suc, ◌+◌, ◌-◌, ◌*◌, ◌<◌, ◌≤◌, inl, inr, true, false, List, [], ◌∷◌, length, get_or, take, refl, sym, ap, subst, ◌∙◌, ⊎_elim}
+use Rattle.std.specs.Prelude.{nat_eq, Some, None}
 use Rattle.std.specs.List.{AllByRecursion, common_prefix_len, find}
 use Rattle.std.specs.Cmp.Lexicographic.{bytes_decides}
 use Rattle.std.proofs.lemmas.Bool.{cases_lt, false_from_ne_true}
 use Rattle.std.proofs.lemmas.List.{length-take, length-take-le, length-map}
 use Rattle.std.proofs.lemmas.List.Sums.{common_prefix_len-le}
 use Rattle.iref_grammar.specs.Rules.{Text}
-use Rattle.iref_grammar.specs.Texts.{begins_with}
 use Rattle.iref_mapping.specs.PrefixTable.{PrefixEntry, PrefixTable, fits, longest_fit}
 use Rattle.iref.specs.declared.compact.entry.Key.{Key}
-use Rattle.iref.specs.declared.compact.entry.Key.TheVariants.{Label, Iri}
+use Rattle.iref.specs.declared.compact.entry.Key.TheVariants.{Iri}
 use Rattle.iref.specs.declared.compact.tree.Child.TheVariants.{Inner, Leaf}
 use Rattle.iref.specs.declared.compact.tree.Near.{Near}
 use Rattle.iref.specs.declared.compact.tree.Node.{Node}
 use Rattle.iref.specs.declared.compact.tree.Tree.{Tree}
-use Rattle.iref.specs.PrefixTree.{key_of, keys_of, has_key, text_at, node_at, place_of, bit, symbol, SameBits, AreBytes, IsFirst, IsTree, IsFit, IsEnded, IsNearest, IsNear}
+use Rattle.iref.specs.PrefixTree.{key_of, keys_of, has_key, text_at, node_at, SameBits, AreBytes, IsFirst, IsTree, IsFit, IsEnded, IsNear}
 use Rattle.iref.proofs.PrefixBitLemmas.{same_bits_refl, same_bits_sym, same_bits_trans, same_bits_less, as_long, no_longer, goes_within, goes_there, ends_there, same_text, common_bits, common_upto, bits_of_begun, begins_by_bits, same_byte}
 use Rattle.iref.proofs.PrefixWayLemmas.{root_link, read_node}
 
@@ -173,19 +172,19 @@ module _ (iri : Text) (table : PrefixTable) (bytes : AreBytes iri) (all : (n : �
         -- what fits is not as long as the text there
         not_last : (m : ℕ) → IsFit texts iri m → length (text_at texts m) ≡ length end → ⊥
         not_last m (l, fit) same = elim (cases_lt common (length iri)) [
-            | inl goes ↦
-                let next = at_last.nearest near.number (9 * common + 1) is.first.within (omega arith) (goes_there common own iri less goes (common_bits own iri common own_common)) in
-                let longer = goes_within common (same_bits_sym next) (omega arith) goes in
-                let upto = fit_common m (l, fit) in
-                omega arith
-            | inr ended ↦
-                let upto = fit_common m (l, fit) in
-                let long = end_long in
-                let size : length iri ≡ length (text_at texts m) = (let i = inside in omega arith) in
-                let next = is.nearest m (9 * length (text_at texts m) + 1) l (omega arith) (ends_there (length (text_at texts m)) (text_at texts m) iri refl size fit) in
-                let shorter = no_longer iri (same_bits_sym next) (omega arith) in
-                omega (arith, less, inside)
-          ]
+          | inl goes ↦
+              let next = at_last.nearest near.number (9 * common + 1) is.first.within (omega arith) (goes_there common own iri less goes (common_bits own iri common own_common)) in
+              let longer = goes_within common (same_bits_sym next) (omega arith) goes in
+              let upto = fit_common m (l, fit) in
+              omega arith
+          | inr ended ↦
+              let upto = fit_common m (l, fit) in
+              let long = end_long in
+              let size : length iri ≡ length (text_at texts m) = (let i = inside in omega arith) in
+              let next = is.nearest m (9 * length (text_at texts m) + 1) l (omega arith) (ends_there (length (text_at texts m)) (text_at texts m) iri refl size fit) in
+              let shorter = no_longer iri (same_bits_sym next) (omega arith) in
+              omega (arith, less, inside)
+        ]
 
         pub last_none : last.ended ≡ None → longest_fit iri table ≡ None
         last_none none = none_longest iri table (λ m fit. not_last m fit ((subst (IsEnded texts iri common last.number) none at_last.ended) m fit (fit_common m fit)))

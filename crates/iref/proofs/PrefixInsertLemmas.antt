@@ -1,5 +1,5 @@
 -- A new text in a tree.
-use Rattle.std.proofs.Common.{arith, ◌≡◌, ◌≢◌, ℕ, zero, suc, ◌+◌, ◌-◌, ◌*◌, ◌<◌, ◌≤◌, ◌⊎◌, inl, inr, Bool, true, false, List, [], ◌∷◌, ◌++◌, length, get_or, refl, sym, ap, subst, ◌∙◌, ⊎_elim}
+use Rattle.std.proofs.Common.{arith, ◌≡◌, ◌≢◌, ℕ, ◌+◌, ◌*◌, ◌<◌, ◌≤◌, ◌⊎◌, inl, inr, Bool, true, false, List, [], ◌∷◌, ◌++◌, length, get_or, refl, sym, ap, subst, ◌∙◌, ⊎_elim}
 use Rattle.std.specs.Prelude.{Option, Some, None, MatchOption, IfSome, unwrap_or}
 use Rattle.std.specs.Prelude.{nat_eq}
 use Rattle.std.specs.List.{common_prefix_len}
@@ -15,9 +15,9 @@ use Rattle.iref.specs.declared.compact.tree.Child.TheVariants.{Inner, Leaf}
 use Rattle.iref.specs.declared.compact.tree.Near.{Near}
 use Rattle.iref.specs.declared.compact.tree.Node.{Node}
 use Rattle.iref.specs.declared.compact.tree.Tree.{Tree}
-use Rattle.iref.specs.PrefixTree.{text_at, bit, place_of, child, child_at, with_child, node_at, number_of, spot, Spot, SameBits, AreBytes, IsFirst, IsIn, IsOnSide, IsBelow, IsLink, IsNode, IsTree, IsNear, IsNearest, IsFirstDifference, IsAdded, IsNew, IsWay, Covers}
+use Rattle.iref.specs.PrefixTree.{text_at, bit, place_of, child, child_at, with_child, node_at, number_of, spot, Spot, SameBits, AreBytes, IsFirst, IsIn, IsOnSide, IsBelow, IsLink, IsNode, IsTree, IsNear, IsFirstDifference, IsAdded, IsNew, IsWay, Covers}
 use Rattle.iref.proofs.PrefixBitLemmas.{same_bits_refl, same_bits_sym, same_bits_trans, same_bits_less, same_bits_next, no_longer, differ_within, ended_at}
-use Rattle.iref.proofs.PrefixWayLemmas.{spot_text, root_link, read_node, bits_upto, comes_nearer}
+use Rattle.iref.proofs.PrefixWayLemmas.{spot_text, root_link, read_node}
 
 module _ (texts : List Text) (tree : Tree) (t : Text) (n : ℕ) (b : Bit) (h : IsNew texts tree t n b) where
   abbrev pub nodes : List Node
@@ -85,24 +85,26 @@ module _ (texts : List Text) (tree : Tree) (t : Text) (n : ℕ) (b : Bit) (h : I
       let same = covered_near (Inner k) way.covers (omega arith) in
       let on = near_side k l above same in
       subst (IsWay texts tree t n b (Some (k, side))) (sym next_is)
-          (subst (λ s. IsWay texts tree t n b (Some (k, s)) (child (node_at nodes k) s)) (sym side_is) (let link = h.kept.link k (bit t (place_of (node_at nodes k).bit)) l in record {
-            at = link;
-            is = refl;
-            above = (l, above, same, refl);
-            covers = link.whole (Leaf n) h.first.within on;
-          }))
+      (subst (λ s. IsWay texts tree t n b (Some (k, s)) (child (node_at nodes k) s)) (sym side_is) (let link = h.kept.link k (bit t (place_of (node_at nodes k).bit)) l in record {
+        at = link;
+        is = refl;
+        above = (l, above, same, refl);
+        covers = link.whole (Leaf n) h.first.within on;
+      }))
 
   -- the way ends behind the bit
   pub behind_node : (link : Option (ℕ × Bool)) (at : Child) (k : ℕ) (node : Node) → IsWay texts tree t n b link at → at ≡ Inner k → node ≡ get_or nodes k node → p ≤ place_of node.bit
       → IsWay texts tree t n b link (Inner k) × (p < (spot texts nodes (Inner k)).place)
   behind_node link at k node way is read stops =
       let way : IsWay texts tree t n b link (Inner k) = subst (IsWay texts tree t n b link) is way in
-      let place_is = ap (λ (n : Node). place_of n.bit) (read_node nodes k node way.at.stands read) in
-      (way, elim (cases_order p (place_of (node_at nodes k).bit)) [
-        | inl at ↦ absurd (no_node k way.at.stands (sym at) (subst (λ q. SameBits q (text_at texts (node_at nodes k).entry) t) (sym at) (covered_near (Inner k) way.covers (omega arith))))
-        | inr (inl above) ↦ above
-        | inr (inr below) ↦ absurd (omega arith)
-      ])
+      let place_is = ap (λ (n : Node). place_of n.bit) (read_node nodes k node way.at.stands read) in (
+        way,
+        elim (cases_order p (place_of (node_at nodes k).bit)) [
+          | inl at ↦ absurd (no_node k way.at.stands (sym at) (subst (λ q. SameBits q (text_at texts (node_at nodes k).entry) t) (sym at) (covered_near (Inner k) way.covers (omega arith))))
+          | inr (inl above) ↦ above
+          | inr (inr below) ↦ absurd (omega arith)
+        ],
+      )
 
   pub behind_leaf : (link : Option (ℕ × Bool)) (at : Child) (m : ℕ) → IsWay texts tree t n b link at → at ≡ Leaf m → IsWay texts tree t n b link at × (p < (spot texts nodes at).place)
   behind_leaf link at m way is =
@@ -131,25 +133,25 @@ module _ (texts : List Text) (tree : Tree) (t : Text) (n : ℕ) (b : Bit) (h : I
             let q = place_of (node_at nodes j.0).bit in
             let r = place_of (node_at nodes k).bit in
             elim (cases_order q r) [
-            | inl at ↦
-                let j_is : j.0 ≡ k = h.kept.apart j.0 k m l at (same_bits_trans begun (same_bits_sym (subst (λ q. SameBits q (text_at texts (node_at nodes k).entry) t) (sym at) same))) in
-                let side_is : j.1 ≡ side = sym turns ∙ ap (bit t) at ∙ on in
-                other (λ i. Some (j_is i, side_is i))
-            | inr (inl lower) ↦
-                let order = (place.whole (Inner k) l (record {
-                  order = lower;
-                  same = same_bits_trans begun (same_bits_sym (same_bits_less q (omega arith) same));
-                  on = same.same q lower ∙ turns;
-                })).order in
-                absurd (omega arith)
-            | inr (inr higher) ↦
-                let order = ((h.kept.link k side l).whole (Inner j.0) m (record {
-                  order = higher;
-                  same = same_bits_trans same (same_bits_sym (same_bits_less r (omega arith) begun));
-                  on = begun.same r higher ∙ on;
-                })).order in
-                absurd (omega arith)
-          ]
+              | inl at ↦
+                  let j_is : j.0 ≡ k = h.kept.apart j.0 k m l at (same_bits_trans begun (same_bits_sym (subst (λ q. SameBits q (text_at texts (node_at nodes k).entry) t) (sym at) same))) in
+                  let side_is : j.1 ≡ side = sym turns ∙ ap (bit t) at ∙ on in
+                  other (λ i. Some (j_is i, side_is i))
+              | inr (inl lower) ↦
+                  let order = (place.whole (Inner k) l (record {
+                    order = lower;
+                    same = same_bits_trans begun (same_bits_sym (same_bits_less q (omega arith) same));
+                    on = same.same q lower ∙ turns;
+                  })).order in
+                  absurd (omega arith)
+              | inr (inr higher) ↦
+                  let order = ((h.kept.link k side l).whole (Inner j.0) m (record {
+                    order = higher;
+                    same = same_bits_trans same (same_bits_sym (same_bits_less r (omega arith) begun));
+                    on = begun.same r higher ∙ on;
+                  })).order in
+                  absurd (omega arith)
+            ]
 
 -- the new entry stands below the node on its side, and the child on the other
 pub record IsMade (texts : List Text) (t : Text) (n : ℕ) (b : Bit) (c : Child) (node : Node) : Type 0 where
@@ -197,9 +199,9 @@ side_of (Some link) = link.1
 links : (link : Option (ℕ × Bool)) (k : ℕ) (side : Bool) → (link ≡ Some (k, side)) ⊎ (link ≡ Some (k, side) → ⊥)
 links None k side = inr (λ e. cc e)
 links (Some j) k side = elim (cases_eq j.0 k) [
-    | inl l ↦ ⊎_elim (λ m. inl (λ i. Some (l i, m i))) (λ m. inr (λ e. m (ap side_of e))) (sides j.1 side)
-    | inr l ↦ inr (λ e. l (ap node_of e))
-  ]
+  | inl l ↦ ⊎_elim (λ m. inl (λ i. Some (l i, m i))) (λ m. inr (λ e. m (ap side_of e))) (sides j.1 side)
+  | inr l ↦ inr (λ e. l (ap node_of e))
+]
 
 module _ (texts : List Text) (t : Text) where
   abbrev more : List Text
@@ -220,10 +222,10 @@ module _ (texts : List Text) (t : Text) where
   -- what holds of each text of the longer list
   each_text : (P : Text → Type 0) → ((i : ℕ) → i < length texts → P (text_at texts i)) → P t → (i : ℕ) → i < length more → P (text_at more i)
   each_text P all last i l = elim (cases_order i (length texts)) [
-      | inl at ↦ subst P (sym (ap (text_at more) at ∙ text_new)) last
-      | inr (inl less) ↦ subst P (sym (text_old i less)) (all i less)
-      | inr (inr above) ↦ absurd (omega (arith, length_push texts t))
-    ]
+    | inl at ↦ subst P (sym (ap (text_at more) at ∙ text_new)) last
+    | inr (inl less) ↦ subst P (sym (text_old i less)) (all i less)
+    | inr (inr above) ↦ absurd (omega (arith, length_push texts t))
+  ]
 
 module _ (texts : List Text) (tree : Tree) (t : Text) (n : ℕ) (b : Bit) (h : IsNew texts tree t n b) (link : Option (ℕ × Bool)) (c : Child) (way : IsWay texts tree t n b link c)
     (far : place_of b < (spot texts tree.nodes.items c).place) (tree' : Tree) (node : Node) (made : IsMade texts t n b c node) (grown : IsGrown link tree tree' node) where
@@ -248,9 +250,9 @@ module _ (texts : List Text) (tree : Tree) (t : Text) (n : ℕ) (b : Bit) (h : I
 
   own_bits : SameBits q own t
   own_bits = elim made.entry_is [
-      | inl is ↦ subst (λ s. SameBits q s t) (sym (ap (text_at (more texts t)) is ∙ text_old texts t n h.first.within)) h.split.same
-      | inr is ↦ subst (λ s. SameBits q s t) (sym (ap (text_at (more texts t)) is ∙ text_new texts t)) (same_bits_refl q t)
-    ]
+    | inl is ↦ subst (λ s. SameBits q s t) (sym (ap (text_at (more texts t)) is ∙ text_old texts t n h.first.within)) h.split.same
+    | inr is ↦ subst (λ s. SameBits q s t) (sym (ap (text_at (more texts t)) is ∙ text_new texts t)) (same_bits_refl q t)
+  ]
 
   own_near : SameBits q own (text_at texts n)
   own_near = same_bits_trans own_bits (same_bits_sym h.split.same)
@@ -260,9 +262,9 @@ module _ (texts : List Text) (tree : Tree) (t : Text) (n : ℕ) (b : Bit) (h : I
 
   own_within : q ≤ 9 * length own
   own_within = elim made.entry_is [
-      | inl is ↦ subst (λ s. q ≤ 9 * length s) (sym (ap (text_at (more texts t)) is ∙ text_old texts t n h.first.within)) h.within
-      | inr is ↦ subst (λ s. q ≤ 9 * length s) (sym (ap (text_at (more texts t)) is ∙ text_new texts t)) h.inside
-    ]
+    | inl is ↦ subst (λ s. q ≤ 9 * length s) (sym (ap (text_at (more texts t)) is ∙ text_old texts t n h.first.within)) h.within
+    | inr is ↦ subst (λ s. q ≤ 9 * length s) (sym (ap (text_at (more texts t)) is ∙ text_new texts t)) h.inside
+  ]
 
   -- ---- what stood in the tree, the new entry and the new node
 
@@ -303,15 +305,15 @@ module _ (texts : List Text) (tree : Tree) (t : Text) (n : ℕ) (b : Bit) (h : I
   whole_new : (B : Spot → Type 0) (x : Spot) → ((y : Child) → IsIn texts old y → B (spot texts old y) → Covers x (spot texts old y)) → (B leaf → Covers x leaf) → (B inner → Covers x inner)
       → (y : Child) → IsIn (more texts t) new y → B (spot (more texts t) new y) → Covers x (spot (more texts t) new y)
   whole_new B x all at_leaf at_inner (Leaf m) l = elim (cases_order m (length texts)) [
-      | inl at ↦ subst (λ s. B s → Covers x s) (sym (ap (λ m. spot (more texts t) new (Leaf m)) at ∙ spot_leaf)) at_leaf
-      | inr (inl less) ↦ subst (λ s. B s → Covers x s) (sym (spot_old (Leaf m) less)) (all (Leaf m) less)
-      | inr (inr above) ↦ absurd (omega (arith, length_push texts t))
-    ]
+    | inl at ↦ subst (λ s. B s → Covers x s) (sym (ap (λ m. spot (more texts t) new (Leaf m)) at ∙ spot_leaf)) at_leaf
+    | inr (inl less) ↦ subst (λ s. B s → Covers x s) (sym (spot_old (Leaf m) less)) (all (Leaf m) less)
+    | inr (inr above) ↦ absurd (omega (arith, length_push texts t))
+  ]
   whole_new B x all at_leaf at_inner (Inner k) l = elim (cases_order k (length old)) [
-      | inl at ↦ subst (λ s. B s → Covers x s) (sym (ap (λ k. spot (more texts t) new (Inner k)) at ∙ spot_inner)) at_inner
-      | inr (inl less) ↦ subst (λ s. B s → Covers x s) (sym (spot_old (Inner k) less)) (all (Inner k) less)
-      | inr (inr above) ↦ let m = grown.long in absurd (omega arith)
-    ]
+    | inl at ↦ subst (λ s. B s → Covers x s) (sym (ap (λ k. spot (more texts t) new (Inner k)) at ∙ spot_inner)) at_inner
+    | inr (inl less) ↦ subst (λ s. B s → Covers x s) (sym (spot_old (Inner k) less)) (all (Inner k) less)
+    | inr (inr above) ↦ let m = grown.long in absurd (omega arith)
+  ]
 
   -- a child that stood in the tree
   link_old : (B : Spot → Type 0) (d : Child) → IsIn texts old d → IsFirst texts (number_of old d) → B (spot texts old d) → ((y : Child) → IsIn texts old y → B (spot texts old y) → Covers (spot texts old d) (spot texts old y))
@@ -356,13 +358,13 @@ module _ (texts : List Text) (tree : Tree) (t : Text) (n : ℕ) (b : Bit) (h : I
       let x : Spot = spot texts old (Inner k) in
       let d : Spot = spot texts old (child (node_at old k) side) in
       let both : x.place < q → SameBits x.place x.text t → bit t x.place ≡ side → Covers d leaf × Covers d inner = λ above same on.
-          let near = above_near texts tree t n b h link c way far k side l other above same on in
-          covers_new d near.1 (covered_near texts tree t n b h (child (node_at old k) side) near.0 near.1) in
+      let near = above_near texts tree t n b h link c way far k side l other above same on in
+      covers_new d near.1 (covered_near texts tree t n b h (child (node_at old k) side) near.0 near.1) in
       let above : SameBits x.place x.text t → x.place < q = λ same. elim (cases_order x.place q) [
-          | inl at ↦ absurd (no_node texts tree t n b h k l at (subst (λ r. SameBits r x.text t) at same))
-          | inr (inl less) ↦ less
-          | inr (inr past) ↦ absurd (differs texts tree t n b h (node_at old k).entry x.place (h.kept.node k l).first.within past same)
-        ] in
+        | inl at ↦ absurd (no_node texts tree t n b h k l at (subst (λ r. SameBits r x.text t) at same))
+        | inr (inl less) ↦ less
+        | inr (inr past) ↦ absurd (differs texts tree t n b h (node_at old k).entry x.place (h.kept.node k l).first.within past same)
+      ] in
       link_old (IsOnSide x side) (child (node_at old k) side) place.stands place.first place.belongs place.whole (λ on. (both (above on.same) on.same on.on).0)
       (λ on. let same = same_bits_trans on.same (same_bits_less x.place (let o = on.order in omega arith) own_bits) in (both on.order same (sym (own_bits.same x.place on.order) ∙ on.on)).1)
 
@@ -379,9 +381,9 @@ module _ (texts : List Text) (tree : Tree) (t : Text) (n : ℕ) (b : Bit) (h : I
 
   link_new : (side : Bool) → IsLink (more texts t) new (IsOnSide inner side) (child node side)
   link_new side = elim (sides side (bit t q)) [
-      | inl on ↦ subst (λ s. IsLink (more texts t) new (IsOnSide inner s) (child node s)) (sym on) (subst (IsLink (more texts t) new (IsOnSide inner (bit t q))) (sym made.on) at_leaf)
-      | inr off ↦ subst (IsLink (more texts t) new (IsOnSide inner side)) (sym (made.off side off)) (at_child off)
-    ]
+    | inl on ↦ subst (λ s. IsLink (more texts t) new (IsOnSide inner s) (child node s)) (sym on) (subst (IsLink (more texts t) new (IsOnSide inner (bit t q))) (sym made.on) at_leaf)
+    | inr off ↦ subst (IsLink (more texts t) new (IsOnSide inner side)) (sym (made.off side off)) (at_child off)
+  ]
     where
       at_leaf : IsLink (more texts t) new (IsOnSide inner (bit t q)) (Leaf (length texts))
       at_leaf = let inside = h.inside in record {
@@ -414,13 +416,13 @@ module _ (texts : List Text) (tree : Tree) (t : Text) (n : ℕ) (b : Bit) (h : I
 
   link_all : (k : ℕ) (side : Bool) → k < length new → IsLink (more texts t) new (IsOnSide (spot (more texts t) new (Inner k)) side) (child (node_at new k) side)
   link_all k side l = elim (cases_order k (length old)) [
-      | inl at ↦ subst (λ k. IsLink (more texts t) new (IsOnSide (spot (more texts t) new (Inner k)) side) (child (node_at new k) side)) (sym at)
-          (subst (λ x. IsLink (more texts t) new (IsOnSide x side) (child (node_at new (length old)) side)) (sym spot_inner) (subst (λ m. IsLink (more texts t) new (IsOnSide inner side) (child m side)) (sym grown.last) (link_new side)))
-      | inr (inl less) ↦ subst (λ x. IsLink (more texts t) new (IsOnSide x side) (child (node_at new k) side)) (sym (spot_old (Inner k) less)) (⊎_elim
-            (λ is. subst (IsLink (more texts t) new (IsOnSide (spot texts old (Inner k)) side)) (sym (grown.moves k side is)) (link_moves (k, side) is))
-            (λ other. subst (IsLink (more texts t) new (IsOnSide (spot texts old (Inner k)) side)) (sym (grown.stays k side less other)) (link_stays k side less other)) (links link k side))
-      | inr (inr above) ↦ let m = grown.long in absurd (omega arith)
-    ]
+    | inl at ↦ subst (λ k. IsLink (more texts t) new (IsOnSide (spot (more texts t) new (Inner k)) side) (child (node_at new k) side)) (sym at)
+        (subst (λ x. IsLink (more texts t) new (IsOnSide x side) (child (node_at new (length old)) side)) (sym spot_inner) (subst (λ m. IsLink (more texts t) new (IsOnSide inner side) (child m side)) (sym grown.last) (link_new side)))
+    | inr (inl less) ↦ subst (λ x. IsLink (more texts t) new (IsOnSide x side) (child (node_at new k) side)) (sym (spot_old (Inner k) less)) (⊎_elim
+        (λ is. subst (IsLink (more texts t) new (IsOnSide (spot texts old (Inner k)) side)) (sym (grown.moves k side is)) (link_moves (k, side) is))
+        (λ other. subst (IsLink (more texts t) new (IsOnSide (spot texts old (Inner k)) side)) (sym (grown.stays k side less other)) (link_stays k side less other)) (links link k side))
+    | inr (inr above) ↦ let m = grown.long in absurd (omega arith)
+  ]
 
   -- ---- the tree
 
@@ -451,10 +453,10 @@ module _ (texts : List Text) (tree : Tree) (t : Text) (n : ℕ) (b : Bit) (h : I
 
   node_all : (k : ℕ) → k < length new → IsNode (more texts t) new k
   node_all k l = elim (cases_order k (length old)) [
-      | inl at ↦ subst (IsNode (more texts t) new) (sym at) (by_node (node_at new (length old)) grown.last)
-      | inr (inl less) ↦ by_old less
-      | inr (inr above) ↦ let m = grown.long in absurd (omega arith)
-    ]
+    | inl at ↦ subst (IsNode (more texts t) new) (sym at) (by_node (node_at new (length old)) grown.last)
+    | inr (inl less) ↦ by_old less
+    | inr (inr above) ↦ let m = grown.long in absurd (omega arith)
+  ]
     where
       by_node : (m : Node) → m ≡ node → IsNode (more texts t) new (length old)
       by_node m is = record {
@@ -479,20 +481,20 @@ module _ (texts : List Text) (tree : Tree) (t : Text) (n : ℕ) (b : Bit) (h : I
 
   apart_all : (j k : ℕ) → j < length new → k < length new → Apart (spot (more texts t) new (Inner j)) (spot (more texts t) new (Inner k)) j k
   apart_all j k l m = elim (cases_order j (length old)) [
-      | inl j_at ↦ subst (λ x. Apart x (spot (more texts t) new (Inner k)) j k) (sym (ap (λ k. spot (more texts t) new (Inner k)) j_at ∙ spot_inner)) (elim (cases_order k (length old)) [
-            | inl k_at ↦ λ _ _. j_at ∙ sym k_at
-            | inr (inl k_less) ↦ subst (λ x. Apart inner x j k) (sym (spot_old (Inner k) k_less))
-                (λ at same. absurd (no_node texts tree t n b h k k_less (sym at) (same_bits_trans (same_bits_sym same) own_bits)))
-            | inr (inr k_above) ↦ let long = grown.long in absurd (omega arith)
-          ])
-      | inr (inl j_less) ↦ subst (λ x. Apart x (spot (more texts t) new (Inner k)) j k) (sym (spot_old (Inner j) j_less)) (elim (cases_order k (length old)) [
-            | inl k_at ↦ subst (λ x. Apart (spot texts old (Inner j)) x j k) (sym (ap (λ k. spot (more texts t) new (Inner k)) k_at ∙ spot_inner))
-                (λ at same. absurd (no_node texts tree t n b h j j_less at (same_bits_trans (subst (λ r. SameBits r (spot texts old (Inner j)).text own) at same) own_bits)))
-            | inr (inl k_less) ↦ subst (λ x. Apart (spot texts old (Inner j)) x j k) (sym (spot_old (Inner k) k_less)) (h.kept.apart j k j_less k_less)
-            | inr (inr k_above) ↦ let long = grown.long in absurd (omega arith)
-          ])
-      | inr (inr j_above) ↦ let long = grown.long in absurd (omega arith)
-    ]
+    | inl j_at ↦ subst (λ x. Apart x (spot (more texts t) new (Inner k)) j k) (sym (ap (λ k. spot (more texts t) new (Inner k)) j_at ∙ spot_inner)) (elim (cases_order k (length old)) [
+      | inl k_at ↦ λ _ _. j_at ∙ sym k_at
+      | inr (inl k_less) ↦ subst (λ x. Apart inner x j k) (sym (spot_old (Inner k) k_less))
+          (λ at same. absurd (no_node texts tree t n b h k k_less (sym at) (same_bits_trans (same_bits_sym same) own_bits)))
+      | inr (inr k_above) ↦ let long = grown.long in absurd (omega arith)
+    ])
+    | inr (inl j_less) ↦ subst (λ x. Apart x (spot (more texts t) new (Inner k)) j k) (sym (spot_old (Inner j) j_less)) (elim (cases_order k (length old)) [
+      | inl k_at ↦ subst (λ x. Apart (spot texts old (Inner j)) x j k) (sym (ap (λ k. spot (more texts t) new (Inner k)) k_at ∙ spot_inner))
+          (λ at same. absurd (no_node texts tree t n b h j j_less at (same_bits_trans (subst (λ r. SameBits r (spot texts old (Inner j)).text own) at same) own_bits)))
+      | inr (inl k_less) ↦ subst (λ x. Apart (spot texts old (Inner j)) x j k) (sym (spot_old (Inner k) k_less)) (h.kept.apart j k j_less k_less)
+      | inr (inr k_above) ↦ let long = grown.long in absurd (omega arith)
+    ])
+    | inr (inr j_above) ↦ let long = grown.long in absurd (omega arith)
+  ]
 
   pub tree_grown : IsTree (texts ++ t ∷ []) tree'
   tree_grown = record {
@@ -529,10 +531,10 @@ module _ (texts : List Text) (tree : Tree) (t : Text) (bytes : AreBytes t) (shor
     whole_stays : (B : Spot → Type 0) (x : Spot) → ((y : Child) → IsIn texts kept y → B (spot texts kept y) → Covers x (spot texts kept y)) → (y : Child) → IsIn (more texts t) kept y → B (spot (more texts t) kept y) → Covers x (spot (more texts t) kept y)
     whole_stays B x all (Inner k) w = subst (λ s. B s → Covers x s) (sym (spot_stays (Inner k) w)) (all (Inner k) w)
     whole_stays B x all (Leaf i) w = elim (cases_order i (length texts)) [
-        | inl at ↦ subst (λ s. B s → Covers x s) (sym (ap (λ i. spot (more texts t) kept (Leaf i)) at ∙ spot_again)) (all (Leaf m) l)
-        | inr (inl less) ↦ subst (λ s. B s → Covers x s) (sym (spot_stays (Leaf i) less)) (all (Leaf i) less)
-        | inr (inr above) ↦ absurd (omega (arith, length_push texts t))
-      ]
+      | inl at ↦ subst (λ s. B s → Covers x s) (sym (ap (λ i. spot (more texts t) kept (Leaf i)) at ∙ spot_again)) (all (Leaf m) l)
+      | inr (inl less) ↦ subst (λ s. B s → Covers x s) (sym (spot_stays (Leaf i) less)) (all (Leaf i) less)
+      | inr (inr above) ↦ absurd (omega (arith, length_push texts t))
+    ]
 
     link_kept : (B : Spot → Type 0) (c : Child) → IsLink texts kept B c → IsLink (more texts t) kept B c
     link_kept B c link = record {
@@ -613,13 +615,13 @@ made texts tree t n b entry number h node c turn is cases = record {
   entry_is = subst (λ e. (e ≡ n) ⊎ (e ≡ length texts)) (sym entry_is) (⊎_elim (λ e. inl e) (λ e. inr (e ∙ h.last)) h.one);
   ends = λ e. ap (λ e. length (text_at (texts ++ t ∷ []) e)) entry_is ∙ h.ends e;
   on = subst (λ s. child node s ≡ Leaf (length texts)) is (elim cases [
-      | inl at ↦ (λ i. child (at.1 i) (at.0 i)) ∙ ap (λ n. Leaf n) h.last
-      | inr at ↦ (λ i. child (at.1 i) (at.0 i)) ∙ ap (λ n. Leaf n) h.last
-    ]);
+    | inl at ↦ (λ i. child (at.1 i) (at.0 i)) ∙ ap (λ n. Leaf n) h.last
+    | inr at ↦ (λ i. child (at.1 i) (at.0 i)) ∙ ap (λ n. Leaf n) h.last
+  ]);
   off = λ side other. elim cases [
-      | inl at ↦ ap (λ m. child m side) at.1 ∙ left_of side (λ s. other (s ∙ sym at.0 ∙ is))
-      | inr at ↦ ap (λ m. child m side) at.1 ∙ right_of side (λ s. other (s ∙ sym at.0 ∙ is))
-    ];
+    | inl at ↦ ap (λ m. child m side) at.1 ∙ left_of side (λ s. other (s ∙ sym at.0 ∙ is))
+    | inr at ↦ ap (λ m. child m side) at.1 ∙ right_of side (λ s. other (s ∙ sym at.0 ∙ is))
+  ];
 }
   where
     entry_is : node.entry ≡ entry
@@ -700,11 +702,11 @@ added texts tree t h bytes least near is b at entry number common split at_is la
   last = last;
   one = ⊎_elim (λ own. inl own.1) (λ new. inr new.1) cases;
   ends = λ e. elim cases [
-      | inl own ↦ ap (λ n. length (text_at (more texts t) n)) own.1 ∙ ap length (text_old texts t near.number is.first.within) ∙ sym (ap length is.is) ∙ sym own.0 ∙ sym at_is
-      | inr new ↦
-          let short = common_prefix_len-le nat_eq near.text.now t in
-          let place : place_of b ≡ 9 * at = omega arith in
-          ap (λ n. length (text_at (more texts t) n)) (new.1 ∙ last) ∙ ap length (text_new texts t)
-          ∙ ended_at near.text.now t at (omega (arith, new.0, short.0)) (omega (arith, short.1)) (subst (λ p. bit near.text.now p ≢ bit t p) place split.differ) ∙ sym at_is
-    ];
+    | inl own ↦ ap (λ n. length (text_at (more texts t) n)) own.1 ∙ ap length (text_old texts t near.number is.first.within) ∙ sym (ap length is.is) ∙ sym own.0 ∙ sym at_is
+    | inr new ↦
+        let short = common_prefix_len-le nat_eq near.text.now t in
+        let place : place_of b ≡ 9 * at = omega arith in
+        ap (λ n. length (text_at (more texts t) n)) (new.1 ∙ last) ∙ ap length (text_new texts t)
+        ∙ ended_at near.text.now t at (omega (arith, new.0, short.0)) (omega (arith, short.1)) (subst (λ p. bit near.text.now p ≢ bit t p) place split.differ) ∙ sym at_is
+  ];
 }

@@ -1,5 +1,5 @@
 -- Where a text leads in a tree.
-use Rattle.std.proofs.Common.{arith, ◌≡◌, ◌≢◌, ℕ, zero, suc, ◌+◌, ◌-◌, ◌*◌, ◌<◌, ◌≤◌, ◌⊎◌, inl, inr, Bool, true, false, List, [], ◌∷◌, ◌++◌, length, get_or, refl, sym, ap, subst, ◌∙◌, ⊎_elim}
+use Rattle.std.proofs.Common.{arith, ◌≡◌, ◌≢◌, ℕ, ◌+◌, ◌-◌, ◌*◌, ◌<◌, ◌≤◌, ◌⊎◌, inl, inr, List, [], length, get_or, refl, sym, ap, subst, ◌∙◌, ⊎_elim}
 use Rattle.std.specs.Prelude.{Option, Some, None, MatchOption}
 use Rattle.std.proofs.lemmas.Bool.{cases_lt, cases_order}
 use Rattle.std.proofs.lemmas.List.{get_or_read}
@@ -18,9 +18,9 @@ spot_text texts nodes (Leaf n) = refl
 -- a bit within a text is within each that has the bits before it
 pub before_end : {p : ℕ} (a b : Text) → p ≤ 9 * length a → SameBits p a b → p < 9 * length b + 1
 before_end {p} a b l h = elim (cases_lt p (9 * length b + 1)) [
-    | inl below ↦ below
-    | inr above ↦ let short = no_longer b (same_bits_sym h) (omega arith) in omega arith
-  ]
+  | inl below ↦ below
+  | inr above ↦ let short = no_longer b (same_bits_sym h) (omega arith) in omega arith
+]
 
 -- the text of this number ends before the place, and goes on there
 pub record IsProper (texts : List Text) (x : Spot) (m : ℕ) : Type 0 where
@@ -33,7 +33,7 @@ pub record IsProper (texts : List Text) (x : Spot) (m : ℕ) : Type 0 where
 abbrev pub IsPassed : List Text → ℕ → Spot → Option ℕ → Type 0
 IsPassed texts len x None = (m : ℕ) → IsProper texts x m → ⊥
 IsPassed texts len x (Some e) = IsFirst texts e × (length (text_at texts e) ≤ len) × (9 * length (text_at texts e) < x.place) × SameBits (9 * length (text_at texts e)) (text_at texts e) x.text
-  × ((m : ℕ) → IsProper texts x m → length (text_at texts m) ≤ length (text_at texts e))
+    × ((m : ℕ) → IsProper texts x m → length (text_at texts m) ≤ length (text_at texts e))
 
 -- the text leads there
 pub record IsOnWay (texts : List Text) (nodes : List Node) (t : Text) (len : ℕ) (c : Child) (ended : Option ℕ) : Type 0 where
@@ -74,28 +74,28 @@ module _ (texts : List Text) (nodes : List Node) (t : Text) (len : ℕ) where
     near_below : ((m q : ℕ) → m < length texts → q ≤ p → SameBits q (text_at texts m) t → SameBits q x t)
         → (m q : ℕ) → m < length texts → q ≤ (spot texts nodes c).place → SameBits q (text_at texts m) t → SameBits q (spot texts nodes c).text t
     near_below near m q l within same = elim (cases_lt p q) [
-        | inl below ↦
-            let up = near m p l (omega arith) (same_bits_less p (omega arith) same) in
-            let covered = is_below m l (same_bits_trans up (same_bits_sym (same_bits_less p (omega arith) same))) (same.same p below) in
-            same_bits_trans (same_bits_less q within covered.same) same
-        | inr above ↦ same_bits_trans (same_bits_sym (same_bits_less q above link.belongs.same)) (near m q l above same)
-      ]
+      | inl below ↦
+          let up = near m p l (omega arith) (same_bits_less p (omega arith) same) in
+          let covered = is_below m l (same_bits_trans up (same_bits_sym (same_bits_less p (omega arith) same))) (same.same p below) in
+          same_bits_trans (same_bits_less q within covered.same) same
+      | inr above ↦ same_bits_trans (same_bits_sym (same_bits_less q above link.belongs.same)) (near m q l above same)
+    ]
 
     -- what ends before the child ends before the node, or there
     passed_below : (m : ℕ) → IsProper texts (spot texts nodes c) m → IsProper texts (spot texts nodes (Inner k)) m ⊎ (9 * length (text_at texts m) ≡ p)
     passed_below m h =
         let before = h.before in
         elim (cases_order (9 * length (text_at texts m)) p) [
-        | inl at ↦ inr at
-        | inr (inl above) ↦ inl (record {
+          | inl at ↦ inr at
+          | inr (inl above) ↦ inl (record {
             within = h.within;
             before = above;
             goes = goes_within (length (text_at texts m)) (same_bits_sym link.belongs.same) above h.goes;
             same = same_bits_trans h.same (same_bits_sym (same_bits_less (9 * length (text_at texts m)) (omega arith) link.belongs.same));
           })
-        | inr (inr below) ↦ absurd (not_proper (spot texts nodes c) m
-            (is_below m h.within (same_bits_trans link.belongs.same (same_bits_sym (same_bits_less p (omega arith) h.same))) (h.same.same p below ∙ link.belongs.on)) h)
-      ]
+          | inr (inr below) ↦ absurd (not_proper (spot texts nodes c) m
+              (is_below m h.within (same_bits_trans link.belongs.same (same_bits_sym (same_bits_less p (omega arith) h.same))) (h.same.same p below ∙ link.belongs.on)) h)
+        ]
 
     pub way_end : (ended : Option ℕ) → IsOnWay texts nodes t len (Inner k) ended → (node_at nodes k).bit.at ≤ len → (node_at nodes k).bit.shift ≡ 8 → IsOnWay texts nodes t len c (Some (node_at nodes k).entry)
     way_end ended way l ends =
@@ -104,17 +104,17 @@ module _ (texts : List Text) (nodes : List Node) (t : Text) (len : ℕ) where
         let place : 9 * length x ≡ p = omega arith in
         let upto : (m : ℕ) → IsProper texts (spot texts nodes (Inner k)) m → length (text_at texts m) ≤ length x = λ m h. (let before = h.before in omega arith) in
         record {
-      stands = link.stands;
-      first = link.first;
-      near = near_below way.near;
-      passed = (
-        node.first,
-        omega arith,
-        omega arith,
-        same_bits_less (9 * length x) (omega arith) link.belongs.same,
-        λ m h. ⊎_elim (upto m) (λ at. omega arith) (passed_below m h),
-      );
-    }
+          stands = link.stands;
+          first = link.first;
+          near = near_below way.near;
+          passed = (
+            node.first,
+            omega arith,
+            omega arith,
+            same_bits_less (9 * length x) (omega arith) link.belongs.same,
+            λ m h. ⊎_elim (upto m) (λ at. omega arith) (passed_below m h),
+          );
+        }
 
     pub way_on : (ended : Option ℕ) → IsOnWay texts nodes t len (Inner k) ended → (node_at nodes k).bit.shift ≢ 8 → IsOnWay texts nodes t len c ended
     way_on ended way goes = record {
@@ -141,11 +141,11 @@ module _ (texts : List Text) (nodes : List Node) (t : Text) (len : ℕ) where
 
   pub nearest_leaf : (n : ℕ) (ended : Option ℕ) → AreBytes t → AreBytes (text_at texts n) → IsOnWay texts nodes t len (Leaf n) ended → IsNearest texts t len n
   nearest_leaf n ended bytes own way = λ m q l within same. elim (cases_lt (9 * length (text_at texts n) + 1) q) [
-      | inl more ↦
-          let is : text_at texts n ≡ t = same_text (text_at texts n) t own bytes (way.near m (9 * length (text_at texts n) + 1) l (omega arith) (same_bits_less (9 * length (text_at texts n) + 1) (omega arith) same)) in
-          subst (λ s. SameBits q s t) (sym is) (same_bits_refl q t)
-      | inr less ↦ way.near m q l less same
-    ]
+    | inl more ↦
+        let is : text_at texts n ≡ t = same_text (text_at texts n) t own bytes (way.near m (9 * length (text_at texts n) + 1) l (omega arith) (same_bits_less (9 * length (text_at texts n) + 1) (omega arith) same)) in
+        subst (λ s. SameBits q s t) (sym is) (same_bits_refl q t)
+    | inr less ↦ way.near m q l less same
+  ]
 
   pub nearest_inner : (k : ℕ) (ended : Option ℕ) → len < (node_at nodes k).bit.at → IsOnWay texts nodes t len (Inner k) ended → IsNearest texts t len (node_at nodes k).entry
   nearest_inner k ended short way = λ m q l within same. way.near m q l (omega arith) same
@@ -158,14 +158,14 @@ module _ (texts : List Text) (nodes : List Node) (t : Text) (len : ℕ) where
         let same = same_bits_trans fit (same_bits_sym (nearest m (9 * length (text_at texts m)) l (omega arith) fit)) in
         let long = as_long (length (text_at texts m)) (text_at texts m) (text_at texts n) (omega arith) same in
         elim (cases_lt (length (text_at texts m)) (length (text_at texts n))) [
-        | inl less ↦ inr (record {
+          | inl less ↦ inr (record {
             within = l;
             before = far m short less;
             goes = subst (λ s. length (text_at texts m) < length s) (sym is) less;
             same = subst (SameBits (9 * length (text_at texts m)) (text_at texts m)) (sym is) same;
           })
-        | inr more ↦ inl (omega arith)
-      ]
+          | inr more ↦ inl (omega arith)
+        ]
 
     pub ended_near : (ended : Option ℕ) → IsPassed texts len x ended → IsEnded texts t len n ended
     ended_near None none = λ m fit short. ⊎_elim (λ same. same) (λ h. absurd (none m h)) (fits_near m fit short)
@@ -234,4 +234,4 @@ module _ (texts : List Text) (tree : Tree) (t : Text) (len : ℕ) (h : IsTree te
       let far : len < (node_at nodes k).bit.at = omega arith in
       let nearest = nearest_inner texts nodes t len k ended far way in
       subst (λ n. EndsAt n ended) (sym (n_is ∙ ap (λ (n : Node). n.entry) (read_node nodes k other way.stands again)))
-          (way.first, nearest, ended_near texts nodes t len (node_at nodes k).entry (spot texts nodes (Inner k)) refl nearest (λ m l less. omega arith) ended way.passed)
+      (way.first, nearest, ended_near texts nodes t len (node_at nodes k).entry (spot texts nodes (Inner k)) refl nearest (λ m l less. omega arith) ended way.passed)

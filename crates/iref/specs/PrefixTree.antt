@@ -1,5 +1,5 @@
 -- The trees by which a prefix table finds its entries: by their labels, and by their texts.
-use Rattle.std.specs.Prelude.{◌≡◌, ◌≢◌, ℕ, ◌+◌, ◌-◌, ◌*◌, ◌/◌, ◌%◌, ◌^◌, ◌<◌, ◌≤◌, ◌==◌, ◌⊎◌, Bool, true, false, List, [], ◌∷◌, ◌++◌, length, map, nat_lt, slice_index, slice_index_or, bytes_eq, Option, Some, None, MatchOption, IfSome, if◌then◌else◌}
+use Rattle.std.specs.Prelude.{◌≡◌, ◌≢◌, ℕ, ◌+◌, ◌-◌, ◌*◌, ◌/◌, ◌%◌, ◌<◌, ◌≤◌, ◌==◌, ◌⊎◌, Bool, true, false, List, [], ◌∷◌, ◌++◌, length, map, nat_lt, slice_index, slice_index_or, bytes_eq, Option, Some, None, MatchOption, IfSome, if◌then◌else◌}
 use Rattle.std.specs.Int.{bit_at}
 use Rattle.iref_grammar.specs.Rules.{Text}
 use Rattle.iref_mapping.specs.PrefixTable.{PrefixEntry, PrefixTable}
@@ -135,7 +135,7 @@ IsFit texts text n = (n < length texts) × SameBits (9 * length (text_at texts n
 abbrev pub IsEnded : List Text → Text → ℕ → ℕ → Option ℕ → Type 0
 IsEnded texts text len n None = (m : ℕ) → IsFit texts text m → length (text_at texts m) ≤ len → length (text_at texts m) ≡ length (text_at texts n)
 IsEnded texts text len n (Some e) = IsFirst texts e × (length (text_at texts e) ≤ len) × SameBits (9 * length (text_at texts e)) (text_at texts e) (text_at texts n)
-  × ((m : ℕ) → IsFit texts text m → length (text_at texts m) ≤ len → (length (text_at texts m) ≡ length (text_at texts n)) ⊎ (length (text_at texts m) ≤ length (text_at texts e)))
+    × ((m : ℕ) → IsFit texts text m → length (text_at texts m) ≤ len → (length (text_at texts m) ≡ length (text_at texts n)) ⊎ (length (text_at texts m) ≤ length (text_at texts e)))
 
 -- the text of this number has as many first bits in common with the text as any, of those of the first symbols
 abbrev pub IsNearest : List Text → Text → ℕ → ℕ → Type 0

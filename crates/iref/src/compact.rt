@@ -127,7 +127,11 @@ impl Prefixes {
         let entries = Vec::new(alloc);
         let labels = Tree::new(alloc);
         let texts = Tree::new(alloc);
-        Prefixes { entries, labels, texts }
+        Prefixes {
+            entries,
+            labels,
+            texts,
+        }
     }
 
     /// How many entries the table has: after one `insert`, 1.
@@ -141,7 +145,8 @@ impl Prefixes {
     fn find(&self, label: &str) -> Option<&Entry>
         ensures { option_copied result ≡ find (has_label label.now) self.now }
     {
-        self.labels.entry_of(&self.entries, Key::Label, label.as_bytes())
+        self.labels
+            .entry_of(&self.entries, Key::Label, label.as_bytes())
     }
 
     // The first of the longest entries whose text is a beginning of the IRI's.
@@ -182,7 +187,13 @@ impl Prefixes {
         if self.find(label).is_some() {
             return Err(PrefixFault::Taken);
         }
-        Ok(add(&mut self.entries, &mut self.labels, &mut self.texts, label, iri.as_str())?)
+        Ok(add(
+            &mut self.entries,
+            &mut self.labels,
+            &mut self.texts,
+            label,
+            iri.as_str(),
+        )?)
     }
 
     /// The IRI by its longest beginning in the table: the label of the entry whose IRI's text is a

@@ -148,7 +148,11 @@ impl Tree {
     {
         let nodes = Vec::new(alloc);
         let least = usize::MAX;
-        Tree { root: None, nodes, least }
+        Tree {
+            root: None,
+            nodes,
+            least,
+        }
     }
 
     // Makes room for one more entry.
@@ -185,7 +189,11 @@ impl Tree {
             Child::Leaf(number) => number,
         };
         let text = text_of(entries, key, number);
-        Some(Near { number, text, ended })
+        Some(Near {
+            number,
+            text,
+            ended,
+        })
     }
 
     // Whether an entry's text may be a beginning of this one: not if this one is shorter than all,
@@ -271,7 +279,11 @@ impl Tree {
             return;
         }
         let bit = Bit::of_difference(near.text, text, at);
-        let entry = if at == near.text.len() { near.number } else { number };
+        let entry = if at == near.text.len() {
+            near.number
+        } else {
+            number
+        };
         self.put(bit, entry, text, number);
     }
 
@@ -308,9 +320,19 @@ impl Tree {
         let (above, below) = self.way(bit, text);
         let leaf = Child::Leaf(number);
         let node = if bit.is_in(text) {
-            Node { bit, entry, left: below, right: leaf }
+            Node {
+                bit,
+                entry,
+                left: below,
+                right: leaf,
+            }
         } else {
-            Node { bit, entry, left: leaf, right: below }
+            Node {
+                bit,
+                entry,
+                left: leaf,
+                right: below,
+            }
         };
         let new = Child::Inner(self.nodes.len());
         self.nodes.push_reserved(node);

@@ -1,4 +1,4 @@
-use Rattle.std.proofs.Common.{arith, ◌≡◌, ◌<◌, ◌+◌, ◌-◌, ◌*◌, ◌/◌, ◌^◌, ap, sym, subst, ◌∙◌}
+use Rattle.std.proofs.Common.{arith, ◌≡◌, ◌<◌, ◌/◌, ◌^◌, subst}
 use Rattle.iref.specs.PrefixTree.{symbol, SameBits}
 use Rattle.iref.proofs.PrefixBitLemmas.{same_high, symbol_small, same_next, some_shift, differ_at}
 use Rattle.iref.proofs.compact.tree.Bit.of_difference.Goals as goal

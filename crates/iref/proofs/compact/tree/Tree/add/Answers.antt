@@ -1,9 +1,8 @@
-use Rattle.std.proofs.Common.{arith, rules, ◌≡◌, ◌≤◌, length, inl, inr, sym, ap, subst, ◌∙◌}
+use Rattle.std.proofs.Common.{arith, ◌≤◌, length, inl, inr, sym, subst, ◌∙◌}
 use Rattle.std.specs.Prelude.{nat_eq}
 use Rattle.std.proofs.lemmas.List.{length-map}
 use Rattle.std.proofs.lemmas.List.Sums.{common_prefix_len-le}
-use Rattle.iref_grammar.specs.Rules.{Text}
-use Rattle.iref.specs.PrefixTree.{key_of, keys_of, symbol, AreBytes, IsTree}
+use Rattle.iref.specs.PrefixTree.{key_of, keys_of, AreBytes}
 use Rattle.iref.proofs.PrefixBitLemmas.{common_bits, symbols_differ, same_whole}
 use Rattle.iref.proofs.PrefixInsertLemmas.{lowered, added, tree_again}
 use Rattle.iref.proofs.compact.tree.Tree.add.Goals as goal

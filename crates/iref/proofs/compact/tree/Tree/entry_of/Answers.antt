@@ -1,7 +1,7 @@
-use Rattle.std.proofs.Common.{arith, ◌≡◌, false, sym, subst, ◌∙◌}
+use Rattle.std.proofs.Common.{◌≡◌, sym, subst, ◌∙◌}
 use Rattle.std.proofs.lemmas.Bool.{both_ways}
 use Rattle.std.specs.Cmp.Lexicographic.{bytes_decides}
-use Rattle.iref.specs.PrefixTree.{keys_of, AreBytes}
+use Rattle.iref.specs.PrefixTree.{AreBytes}
 use Rattle.iref.proofs.PrefixFindLemmas.{none_fits_none_is, found, near_is_not}
 use Rattle.iref.proofs.compact.tree.Tree.entry_of.Goals as goal
 

@@ -1,8 +1,8 @@
-use Rattle.std.proofs.Common.{rules, arith, ◌≡◌, length, ap, sym, subst, ◌∙◌}
+use Rattle.std.proofs.Common.{rules, arith, ◌≡◌, length, ap, sym, ◌∙◌}
 use Rattle.std.specs.Prelude.{None}
 use Rattle.std.specs.Option.{option_copied}
 use Rattle.iref.specs.declared.compact.entry.Key.TheVariants.{Iri}
-use Rattle.iref.specs.PrefixTree.{keys_of, AreBytes}
+use Rattle.iref.specs.PrefixTree.{AreBytes}
 use Rattle.iref.proofs.PrefixFindLemmas.{none_longest, near_longest, nothing_ended, ended_first, ended_longest, last_none, last_longest, key_is}
 use Rattle.iref.proofs.compact.tree.Tree.longest_fit.Goals as goal
 

@@ -31,12 +31,12 @@ returns c =
             way_to_inner texts c.args.self.now c.args.text.now c.args.len c.requires.tree c.loop-child.child w.in-Inner-child.at c.match-child-2.number node w.index.result.now c.loop-child.ended way
             at_is (subst (λ k. node ≡ get_or c.args.self.now.nodes.items k node) same v.index-node.ensures) v.if-len-node.true w.index.ensures w.number-is
         | in_default v ↦ absurd (v.in_default.not-Inner w.in-Inner-child.at (sym v.child-is ∙ w.in-Inner-child.is))
-        ]
+      ]
       | in-Leaf w ↦
           let leaf : c.loop-child.child ≡ Leaf c.match-child-2.number = elim c.match-child.branch [
             | in-Inner+then-len-node v ↦ absurd (cc (v.child-is, w.in-Leaf.is))
             | in_default v ↦ sym v.child-is ∙ w.in-Leaf.is ∙ ap (λ n. Leaf n) (sym w.number-is)
-            ] in
+          ] in
           way_to_leaf texts c.args.self.now c.args.text.now c.args.len c.requires.tree c.loop-child.child c.match-child-2.number c.loop-child.ended (λ k. omega (arith, c.type_inv.text k)) way leaf
-      ] in
+    ] in
     record { first = ends.0; is = c.text_of-text.ensures; bytes = λ k. omega (arith, c.type_inv.text k); nearest = ends.1; ended = ends.2 }

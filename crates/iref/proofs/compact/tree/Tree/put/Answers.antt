@@ -1,5 +1,5 @@
-use Rattle.std.proofs.Common.{rules, ℕ, Bool, List, ◌≡◌, length, get_or, refl, inl, inr, sym, ap, subst, ◌∙◌}
-use Rattle.std.specs.Prelude.{Option, Some, None}
+use Rattle.std.proofs.Common.{rules, ◌≡◌, length, get_or, refl, inl, inr, ap, subst, ◌∙◌}
+use Rattle.std.specs.Prelude.{Some, None}
 use Rattle.std.specs.Vec.{with_item}
 use Rattle.std.proofs.Math.ListN.{set}
 use Rattle.iref.specs.PrefixTree.{with_child, IsWay}
