@@ -193,9 +193,6 @@ module _ (iri : Text) (table : PrefixTable) (bytes : AreBytes iri) (all : (n : �
           last_ends : IsEnded texts iri common last.number (Some e)
           last_ends = subst (IsEnded texts iri common last.number) some at_last.ended
 
-          pub last_first : IsFirst texts e
-          last_first = last_ends.0
-
           pub last_longest : (d : PrefixEntry) → d ≡ get_or table e d → longest_fit iri table ≡ Some d
           last_longest d at = let upto = last_ends.1 in longest e d last_ends.0 at (same_bits_trans last_ends.2 (same_bits_less (9 * length (text_at texts e)) (omega arith) end_common))
               (λ m fit. ⊎_elim (λ same. absurd (not_last m fit same)) (λ l. l) (last_ends.3 m fit (fit_common m fit)))

@@ -564,30 +564,6 @@ module _ (texts : List Text) (tree : Tree) (t : Text) (bytes : AreBytes t) (shor
         by None empty = absurd (omega (arith, ap length empty))
         by (Some c) link = link_kept (λ _. Unit {0}) c link
 
-  pub tree_of_one : texts ≡ [] → IsTree (texts ++ t ∷ []) (record tree { root = Some (Leaf (length texts)) })
-  tree_of_one empty =
-      let none : length texts ≡ 0 = ap length empty in
-      let no_node : (k : ℕ) → k < length kept → ⊥ = λ k w. (let first = (h.node k w).first.within in omega arith) in
-      let only : (i : ℕ) → i < length (more texts t) → i ≡ length texts = λ i w. omega (arith, length_push texts t) in
-      record {
-        node = λ k w. absurd (no_node k w);
-        link = λ k side w. absurd (no_node k w);
-        apart = λ j k v w. absurd (no_node j v);
-        root = record {
-          stands = omega (arith, length_push texts t);
-          first = record { within = omega (arith, length_push texts t); new = λ i w. absurd (omega arith) };
-          belongs = tt;
-          whole = one none no_node;
-        };
-        bytes = each_text texts t AreBytes h.bytes bytes;
-        least = each_text texts t (λ s. tree.least ≤ length s) h.least short;
-      }
-    where
-      one : length texts ≡ 0 → ((k : ℕ) → k < length kept → ⊥) → (y : Child) → IsIn (more texts t) kept y → Unit {0} → Covers (spot (more texts t) kept (Leaf (length texts))) (spot (more texts t) kept y)
-      one none no_node (Inner k) w u = absurd (no_node k w)
-      one none no_node (Leaf i) w u = let at : i ≡ length texts = omega (arith, length_push texts t) in
-          subst (λ i. Covers (spot (more texts t) kept (Leaf (length texts))) (spot (more texts t) kept (Leaf i))) (sym at) (record { order = omega arith; same = same_bits_refl (9 * length (text_at (more texts t) (length texts)) + 1) (text_at (more texts t) (length texts)) })
-
 -- ---- how the list grows
 
 child_put : (node : Node) (side other : Bool) (c : Child) → (side ≡ other → ⊥) → child (with_child node side c) other ≡ child node other

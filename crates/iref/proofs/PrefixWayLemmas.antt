@@ -181,11 +181,6 @@ abbrev pub bits_upto : ℕ → List Node → Child → ℕ
 bits_upto n nodes (Inner k) = n - place_of (node_at nodes k).bit
 bits_upto n nodes (Leaf m) = 0
 
--- a way goes on to higher places
-pub comes_nearer : (texts : List Text) (nodes : List Node) (n k : ℕ) (c : Child) → place_of (node_at nodes k).bit < n → place_of (node_at nodes k).bit < (spot texts nodes c).place → bits_upto n nodes c < bits_upto n nodes (Inner k)
-comes_nearer texts nodes n k (Inner j) l m = omega arith
-comes_nearer texts nodes n k (Leaf j) l m = omega arith
-
 -- ---- the steps of the search
 
 pub read_node : (nodes : List Node) (k : ℕ) (node : Node) → k < length nodes → node ≡ get_or nodes k node → node ≡ node_at nodes k
