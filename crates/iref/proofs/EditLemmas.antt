@@ -8,7 +8,7 @@ use Rattle.iref_grammar.specs.ComponentOffsets.{offsets_of}
 use Rattle.iref_grammar.specs.Reference.{context_of, is_readable, is_reference, read_reference}
 use Rattle.iref_model.specs.ComponentSteps.{with_path_step}
 use Rattle.iref_model.specs.Edits.{EditStep, edited}
-use Rattle.iref_buffer.proofs.EditLemmas.{readable_of}
+use Rattle.iref_reference_text.proofs.EditLemmas.{readable_of}
 use Rattle.iref_component.specs.declared.path_mut.PathMut.{PathMut}
 use Rattle.iref_component.specs.PathEdits.{edited_bytes, IsEditorOf, Edits}
 use Rattle.iref_reference.proofs.PathStepLemmas.{path_step}

@@ -6,8 +6,8 @@ mod parts;
 mod schemes;
 
 use iref_component::authority::Authority;
+use iref_component::named_texts::{Fragment, Host, Port, Query, Scheme, Segment, UserInfo};
 use iref_component::path::Path;
-use iref_component::texts::{Fragment, Host, Port, Query, Scheme, Segment, UserInfo};
 use iref_error::Memory;
 use iref_grammar::chars::CharSet;
 pub use lists::{Applied, apply_all, apply_all_uri};

@@ -22,10 +22,10 @@ pub use uri::{InvalidUri, InvalidUriRef, Uri, UriBuf, UriError, UriRef, UriRefBu
 /// The names for code that is generic over components (`Rule`, `BorrowedText`) or over references
 /// (`HeldRule`, `Composed`).
 pub mod rules {
-    pub use iref_buffer::held::HeldRule;
     pub use iref_component::borrowed::BorrowedText;
     pub use iref_component::rule::Rule;
     pub use iref_reference::composed::Composed;
+    pub use iref_reference_text::reference_text::HeldRule;
 }
 
 /// URIs and references of URIs, with their components (RFC 3986 sections 3 and 4.1).
@@ -85,15 +85,15 @@ pub mod uri {
     pub type AuthorityParts<'a> = iref_component::authority_parts::AuthorityParts<'a, UriChars>;
 
     /// A user info (RFC 3986 section 3.2.1): in `//u:p@h` it is `u:p`.
-    pub type UserInfo<'a> = iref_component::texts::UserInfo<'a, UriChars>;
+    pub type UserInfo<'a> = iref_component::named_texts::UserInfo<'a, UriChars>;
     /// A user info that owns its text (RFC 3986 section 3.2.1), such as `u:p` of `//u:p@h`.
-    pub type UserInfoBuf = iref_component::texts::UserInfoBuf<UriChars>;
+    pub type UserInfoBuf = iref_component::named_texts::UserInfoBuf<UriChars>;
 
     /// A host (RFC 3986 section 3.2.2): a name such as `a.org`, an address such as `10.0.0.1`, or
     /// one in brackets, such as `[::1]`. In `//u@:80` it is empty.
-    pub type Host<'a> = iref_component::texts::Host<'a, UriChars>;
+    pub type Host<'a> = iref_component::named_texts::Host<'a, UriChars>;
     /// A host that owns its text (RFC 3986 section 3.2.2): that of the IPv6 number 1 is `[::1]`.
-    pub type HostBuf = iref_component::texts::HostBuf<UriChars>;
+    pub type HostBuf = iref_component::named_texts::HostBuf<UriChars>;
 
     /// A path (RFC 3986 section 3.3): `/a/b` has the segments `a` and `b`, `a/` the segments `a`
     /// and an empty one.
@@ -108,9 +108,9 @@ pub mod uri {
 
     /// A segment of a path (RFC 3986 section 3.3): `b%2Fc` and the empty text are segments, `b/c`
     /// is not.
-    pub type Segment<'a> = iref_component::texts::Segment<'a, UriChars>;
+    pub type Segment<'a> = iref_component::named_texts::Segment<'a, UriChars>;
     /// A segment that owns its text (RFC 3986 section 3.3), such as `b` of `a/b`.
-    pub type SegmentBuf = iref_component::texts::SegmentBuf<UriChars>;
+    pub type SegmentBuf = iref_component::named_texts::SegmentBuf<UriChars>;
 
     /// A double-ended iterator over the segments of a path (RFC 3986 section 3.3): of `/a//b` they
     /// are `a`, an empty one and `b`.
@@ -120,14 +120,14 @@ pub mod uri {
     pub type NormalizedSegments<'a> = iref_component::normal::NormalizedSegments<'a, UriChars>;
 
     /// A query (RFC 3986 section 3.4): in `a?x=1?y` it is `x=1?y`.
-    pub type Query<'a> = iref_component::texts::Query<'a, UriChars>;
+    pub type Query<'a> = iref_component::named_texts::Query<'a, UriChars>;
     /// A query that owns its text (RFC 3986 section 3.4), such as `q` of `a?q`.
-    pub type QueryBuf = iref_component::texts::QueryBuf<UriChars>;
+    pub type QueryBuf = iref_component::named_texts::QueryBuf<UriChars>;
 
     /// A fragment (RFC 3986 section 3.5): in `a#b/c` it is `b/c`.
-    pub type Fragment<'a> = iref_component::texts::Fragment<'a, UriChars>;
+    pub type Fragment<'a> = iref_component::named_texts::Fragment<'a, UriChars>;
     /// A fragment that owns its text (RFC 3986 section 3.5), such as `f` of `a#f`.
-    pub type FragmentBuf = iref_component::texts::FragmentBuf<UriChars>;
+    pub type FragmentBuf = iref_component::named_texts::FragmentBuf<UriChars>;
 
     /// An edit of a list, for `apply_all`: `Edit::Push` with the segment `b` turns `http://h/a`
     /// into `http://h/a/b`.
@@ -191,15 +191,15 @@ pub mod iri {
     pub type AuthorityParts<'a> = iref_component::authority_parts::AuthorityParts<'a, IriChars>;
 
     /// A user info (RFC 3987 section 2.2): in `//é:p@h` it is `é:p`.
-    pub type UserInfo<'a> = iref_component::texts::UserInfo<'a, IriChars>;
+    pub type UserInfo<'a> = iref_component::named_texts::UserInfo<'a, IriChars>;
     /// A user info that owns its text (RFC 3987 section 2.2), such as `é` of `//é@h`.
-    pub type UserInfoBuf = iref_component::texts::UserInfoBuf<IriChars>;
+    pub type UserInfoBuf = iref_component::named_texts::UserInfoBuf<IriChars>;
 
     /// A host (RFC 3987 section 2.2): a name such as `é.org`, an address such as `10.0.0.1`, or
     /// one in brackets, such as `[::1]`. In `//u@:80` it is empty.
-    pub type Host<'a> = iref_component::texts::Host<'a, IriChars>;
+    pub type Host<'a> = iref_component::named_texts::Host<'a, IriChars>;
     /// A host that owns its text (RFC 3987 section 2.2): that of the IPv6 number 1 is `[::1]`.
-    pub type HostBuf = iref_component::texts::HostBuf<IriChars>;
+    pub type HostBuf = iref_component::named_texts::HostBuf<IriChars>;
 
     /// A path (RFC 3987 section 2.2): `/é/b` has the segments `é` and `b`, `é/` the segments `é`
     /// and an empty one.
@@ -214,9 +214,9 @@ pub mod iri {
 
     /// A segment of a path (RFC 3987 section 2.2): `é%2Fc` and the empty text are segments, `é/c`
     /// is not.
-    pub type Segment<'a> = iref_component::texts::Segment<'a, IriChars>;
+    pub type Segment<'a> = iref_component::named_texts::Segment<'a, IriChars>;
     /// A segment that owns its text (RFC 3987 section 2.2), such as `é` of `a/é`.
-    pub type SegmentBuf = iref_component::texts::SegmentBuf<IriChars>;
+    pub type SegmentBuf = iref_component::named_texts::SegmentBuf<IriChars>;
 
     /// A double-ended iterator over the segments of a path (RFC 3987 section 2.2): of `/é//b` they
     /// are `é`, an empty one and `b`.
@@ -227,14 +227,14 @@ pub mod iri {
 
     /// A query (RFC 3987 section 2.2): in `a?é=1` it is `é=1`. Only a query may hold private
     /// characters, such as U+E000.
-    pub type Query<'a> = iref_component::texts::Query<'a, IriChars>;
+    pub type Query<'a> = iref_component::named_texts::Query<'a, IriChars>;
     /// A query that owns its text (RFC 3987 section 2.2), such as `é` of `a?é`.
-    pub type QueryBuf = iref_component::texts::QueryBuf<IriChars>;
+    pub type QueryBuf = iref_component::named_texts::QueryBuf<IriChars>;
 
     /// A fragment (RFC 3987 section 2.2): in `a#é/c` it is `é/c`.
-    pub type Fragment<'a> = iref_component::texts::Fragment<'a, IriChars>;
+    pub type Fragment<'a> = iref_component::named_texts::Fragment<'a, IriChars>;
     /// A fragment that owns its text (RFC 3987 section 2.2), such as `é` of `a#é`.
-    pub type FragmentBuf = iref_component::texts::FragmentBuf<IriChars>;
+    pub type FragmentBuf = iref_component::named_texts::FragmentBuf<IriChars>;
 
     /// An edit of a list, for `apply_all`: `Edit::Push` with the segment `é` turns `http://h/a`
     /// into `http://h/a/é`.

@@ -7,4 +7,4 @@ pub mod Runs
 pub mod StdStreams
 -- the words of contracts, for callers that list this crate alone
 pub use Rattle.iref.specs.Rules
-pub use Rattle.iref_lines.specs.Lines
+pub use Rattle.iref_answers.specs.Lines

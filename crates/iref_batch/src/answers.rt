@@ -2,8 +2,8 @@
 ghost use Rattle.std.specs.Prelude.{◌≡◌, ◌+◌, ◌≤◌, ◌++◌, ◌∷◌, length, take, option_map};
 ghost use Rattle.std.specs.Prelude.{IfSome, OnOk, OnErr, option_and_then};
 ghost use Rattle.iref.specs.{Components.{text_of}, Parts.{uri_ref_part_texts}, Rules.{Text}};
-ghost use Rattle.iref_lines.specs.Lines.{Answered, answer_text, part_field, part_fields, tab};
-ghost use Rattle.iref_lines.specs.Lines.{yes_or_no, Parts, Normal, Equal, ToUri};
+ghost use Rattle.iref_answers.specs.Lines.{Answered, answer_text, part_field, part_fields, tab};
+ghost use Rattle.iref_answers.specs.Lines.{yes_or_no, Parts, Normal, Equal, ToUri};
 ghost use Rattle.iref_batch.specs.{EditFields.{IsRefusal}, Gathering.{Puts, PutsReply}};
 ghost use Rattle.iref_batch.specs.{Requests.{request_of}, Runs.{reply_to, line_reply}};
 ghost use Rattle.iref_batch.specs.Runs.{with_newline};

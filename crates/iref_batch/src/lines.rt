@@ -1,7 +1,7 @@
 //! Lines as their bytes come in, and the replies to them.
 ghost use Rattle.std.specs.Prelude.{◌≡◌, ◌++◌, ◌∷◌, [], true, false, is_err, OnOk, OnErr};
 ghost use Rattle.iref.specs.{Rules.{Text}, Texts.{is_empty}};
-ghost use Rattle.iref_lines.specs.Lines.{newline};
+ghost use Rattle.iref_answers.specs.Lines.{newline};
 ghost use Rattle.iref_batch.specs.Runs.{memory_refused, with_newline, AnswersAll};
 ghost use Rattle.iref_batch.specs.Gathering.{Cuts, Lacks, Writes, WritesPart, Replies, RepliesPart};
 ghost use Rattle.iref_batch.specs.Gathering.{IsNothing, Holds, InRun, SeesMore, SeesSameLines};

@@ -1,14 +1,14 @@
 //! What a line asks for.
 ghost use Rattle.std.specs.{Iterator.{YieldsFirstBy}, Option.{option_copied}};
 ghost use Rattle.std.specs.Prelude.{◌≡◌, ◌∷◌, bytes_eq, List, option_and_then, option_map};
-ghost use Rattle.iref_lines.specs.Lines as spec;
+ghost use Rattle.iref_answers.specs.Lines as spec;
 ghost use Rattle.iref.specs.{Texts.{pieces_at}, Rules.{Text}};
-ghost use Rattle.iref_lines.specs.Lines.{tab, read_line, one_text, two_texts, all_verbs};
-ghost use Rattle.iref_lines.specs.Lines.{text_and_edits, text_and_entries};
+ghost use Rattle.iref_answers.specs.Lines.{tab, read_line, one_text, two_texts, all_verbs};
+ghost use Rattle.iref_answers.specs.Lines.{text_and_edits, text_and_entries};
 ghost use Rattle.iref.specs.PrefixTable.{PrefixEntry};
 ghost use Rattle.iref_batch.specs.{Fields.{fields_of}, Requests.{request_of}};
 
-use iref_lines::cut_bytes;
+use iref_answers::cut_bytes;
 
 /// What a line asks of a prefix table.
 #[derive(Clone, Copy)]

@@ -7,7 +7,7 @@ use Rattle.std.specs.Str.{IsCharBoundary, IsUtf8}
 use Rattle.std.proofs.lemmas.List.{places, same_lists}
 use Rattle.std.proofs.lemmas.Str.{IsCharBoundary-start, IsCharBoundary-end, IsCharBoundary-at_seam}
 use Rattle.std.proofs.lemmas.Result.{MatchResult-weaker}
-use Rattle.iref_edit.specs.Changes.{IsWithin}
+use Rattle.iref_splice.specs.Changes.{IsWithin}
 use Rattle.iref_grammar.specs.Characters.{CharTests, AreAboveAscii}
 use Rattle.iref_grammar.specs.Rules.{Text}
 use Rattle.iref_grammar.specs.Grammar.{at_sign, colon}

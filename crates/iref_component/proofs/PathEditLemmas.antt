@@ -13,11 +13,11 @@ use Rattle.iref_grammar.proofs.PathLemmas.{read_path-reads}
 use Rattle.iref_model.specs.DotSegments.{RemovesDotSegments}
 use Rattle.iref_model.specs.PathSteps.{normalized}
 use Rattle.iref_model.proofs.RewritingLemmas.{path_removes_dot_segments}
-use Rattle.iref_path_text.specs.Rewriting.{rewritten}
-use Rattle.iref_path_text.specs.Spelling.{normal_in}
-use Rattle.iref_path_text.proofs.SpellLemmas.{normalized-in_context}
+use Rattle.iref_path.specs.Rewriting.{rewritten}
+use Rattle.iref_path.specs.Spelling.{normal_in}
+use Rattle.iref_path.proofs.SpellLemmas.{normalized-in_context}
 use Rattle.iref_grammar.specs.PathValue.{PathValue, read_path, spell_path}
-use Rattle.iref_path_text.specs.PathParts.{is_path_after, StepsTo}
+use Rattle.iref_path.specs.PathParts.{is_path_after, StepsTo}
 use Rattle.iref_component.specs.declared.path_mut.PathMut.{PathMut}
 use Rattle.iref_component.specs.PathEdits.{edited_bytes, path_mut_context, path_mut_text, path_mut_value, IsEditorOf, BecomesPath}
 

@@ -2,7 +2,7 @@
 use mathlib.Core.HLevel.{is_prop→PathP}
 use Rattle.std.proofs.Common.{◌≡◌, true}
 use Rattle.std.proofs.Math.Bool.{Bool-set}
-use Rattle.iref_component.specs.declared.text.RuleText.{RuleText}
+use Rattle.iref_component.specs.declared.rule_text.RuleText.{RuleText}
 
 -- two texts of a rule are one where what they are kept in is one
 pub same_text : {S R C K s r k c : _} (v w : RuleText S R C K s r k c) → v.text ≡ w.text → v.rule ≡ w.rule → v ≡ w

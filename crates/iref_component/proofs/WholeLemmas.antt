@@ -1,8 +1,8 @@
 -- A part that is all of a text, after a change of it.
 use Rattle.std.proofs.Common.{◌≡◌, ◌+◌, length, ap, arith}
-use Rattle.iref_edit.specs.declared.change.Change.{Change}
-use Rattle.iref_edit.specs.declared.change.Span.{Span}
-use Rattle.iref_edit.specs.Changes.{changed, changed_at, changed_part, part_at}
+use Rattle.iref_splice.specs.declared.change.Change.{Change}
+use Rattle.iref_splice.specs.declared.change.Span.{Span}
+use Rattle.iref_splice.specs.Changes.{changed, changed_at, changed_part, part_at}
 use Rattle.iref_grammar.specs.Rules.{Text}
 use Rattle.iref_component.proofs.PathEditLemmas.{slice_all, splice_all}
 

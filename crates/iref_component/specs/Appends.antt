@@ -10,7 +10,7 @@ use Rattle.iref_grammar.specs.PathValue.{PathValue}
 use Rattle.iref_grammar.specs.Rules.{Text, InUtf8}
 use Rattle.iref_model.specs.NormalList.{ends_in_dots}
 use Rattle.iref_model.specs.PathSteps.{appended, followed, lazy_appended}
-use Rattle.iref_component.specs.declared.text.RuleText.{RuleText}
+use Rattle.iref_component.specs.declared.rule_text.RuleText.{RuleText}
 use Rattle.iref_component.specs.Components.{text_of}
 use Rattle.iref_error.specs.Tried.{InvalidIfOutside}
 use Rattle.iref_error.specs.declared.edit.TryError.{TryError}

@@ -2,7 +2,7 @@
 use Rattle.std.specs.Prelude.{◌≡◌, Result, MatchResult}
 use Rattle.iref_grammar.specs.Authority.{AuthorityValue}
 use Rattle.iref_component.specs.Components.{text_of}
-use Rattle.iref_component.specs.declared.text.RuleText.{RuleText}
+use Rattle.iref_component.specs.declared.rule_text.RuleText.{RuleText}
 use Rattle.iref_component.specs.AuthorityTexts.{IsStep}
 
 -- an edit of an owned authority: at Ok it is this step of the text, and at an Err the text is as it was

@@ -1,7 +1,7 @@
 -- What callers see of the normal segments of a path.
 use Rattle.std.specs.Prelude.{List}
 use Rattle.iref_grammar.specs.Rules.{Text}
-use Rattle.iref_path_text.specs.Listed.{listed_left}
+use Rattle.iref_path.specs.Listed.{listed_left}
 use Rattle.iref_component.specs.declared.normal.NormalizedSegments.{NormalizedSegments}
 
 -- the texts of the normal segments that are left

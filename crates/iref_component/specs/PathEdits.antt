@@ -7,7 +7,7 @@ use Rattle.iref_grammar.specs.Contexts.{alone}
 use Rattle.iref_grammar.specs.Rules.{Text}
 use Rattle.iref_grammar.specs.PathValue.{PathValue, read_path, spell_path}
 use Rattle.iref_component.specs.declared.path_mut.PathMut.{PathMut}
-use Rattle.iref_component.specs.declared.text.RuleText.{RuleText}
+use Rattle.iref_component.specs.declared.rule_text.RuleText.{RuleText}
 use Rattle.iref_component.specs.Components.{text_of}
 use Rattle.iref_component.specs.Paths.{path_value}
 

@@ -4,8 +4,8 @@ use Rattle.iref_grammar.specs.PathValue.{PathValue, read_path}
 use Rattle.iref_grammar.specs.Rules.{Text}
 use Rattle.iref_component.specs.Components.{text_of}
 use Rattle.iref_component.specs.declared.segments.Segments.{Segments}
-use Rattle.iref_component.specs.declared.text.RuleText.{RuleText}
-use Rattle.iref_path_text.specs.Pieces.{pieces_if_some}
+use Rattle.iref_component.specs.declared.rule_text.RuleText.{RuleText}
+use Rattle.iref_path.specs.Pieces.{pieces_if_some}
 
 -- the flag and the list that the text of a path is read as
 abbrev pub path_value : {S R C K s r k c : _} → RuleText S R C K s r k c → PathValue

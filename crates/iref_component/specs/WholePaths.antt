@@ -4,7 +4,7 @@ use Rattle.std.proofs.Props.{props}
 use Rattle.iref_grammar.specs.declared.context.PathContext.{PathContext}
 use Rattle.iref_grammar.specs.Characters.{CharTests}
 use Rattle.iref_grammar.specs.Rules.{Text}
-use Rattle.iref_path_text.specs.PathParts.{is_path_after}
+use Rattle.iref_path.specs.PathParts.{is_path_after}
 
 -- the path is all of the text, and may stand in the context
 abbrev pub IsWholePath : CharTests → Text → PathContext → ℕ → ℕ → Type 0

@@ -9,10 +9,10 @@ mod edits;
 
 use crate::authority_parts::{AuthorityParts, parts_of};
 use crate::borrowed::BorrowedText;
+use crate::component_rules::AuthorityRule;
+use crate::named_texts::{Host, Port, UserInfo};
 use crate::owned::TextBuf;
-use crate::rules::AuthorityRule;
-use crate::text::{RuleText, Storage};
-use crate::texts::{Host, Port, UserInfo};
+use crate::rule_text::{RuleText, Storage};
 use iref_grammar::chars::CharSet;
 use std::hash::Hash;
 

@@ -2,7 +2,7 @@
 ghost use Rattle.std.specs.Prelude.{◌≡◌, ◌≤◌, ◌+◌, ◌-◌, ◌++◌, true, length, slice_range, vec_len};
 ghost use Rattle.std.specs.{Prelude.{Some, IfOk, IsOk, IsNone, option_map}, Borrow.{sem}};
 ghost use Rattle.std.specs.Borrow.{RestsIfErr};
-ghost use Rattle.iref_edit.specs.Changes.{IsWithin, replaced};
+ghost use Rattle.iref_splice.specs.Changes.{IsWithin, replaced};
 ghost use Rattle.iref_component.specs.AuthorityTexts.{SpellsAuthority, authority_is_text};
 ghost use Rattle.iref_component.specs.{Components.{text_of}, Makers.{ParsesUtf8}};
 ghost use Rattle.iref_grammar.specs.{AuthorityValue, IsAuthority, is_authority, read_authority};
@@ -14,12 +14,12 @@ mod try_edits;
 
 use crate::authority::Authority;
 use crate::borrowed::text_of;
-use crate::texts::{Host, Port, UserInfo};
-use iref_edit::change::{Change, Span};
-use iref_edit::target::{Part, Target};
-use iref_edit::text::{marked, marked_after};
+use crate::named_texts::{Host, Port, UserInfo};
 use iref_error::{InvalidAuthority, Memory};
 use iref_grammar::chars::CharSet;
+use iref_splice::change::{Change, Span};
+use iref_splice::target::{Part, Target};
+use iref_splice::text::{marked, marked_after};
 use itoa::Buffer;
 use ranges::{host_range, port_range, user_info_range};
 use std::fmt;

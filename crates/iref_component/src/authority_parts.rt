@@ -6,7 +6,7 @@ ghost use Rattle.iref_grammar.specs.{is_authority, read_authority};
 ghost use Rattle.iref_model.specs.{authority_key_cmp, fed_authority};
 
 use crate::borrowed::borrowed_of;
-use crate::texts::{Host, Port, UserInfo};
+use crate::named_texts::{Host, Port, UserInfo};
 use iref_grammar::chars::CharSet;
 use iref_parse::authority::split_parts;
 use std::alloc::AllocError;

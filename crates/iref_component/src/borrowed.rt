@@ -4,8 +4,8 @@ ghost use Rattle.iref_grammar.specs.{none_or};
 ghost use Rattle.iref_component.specs.{Makers.{ParsesUtf8}, Components.{text_of}};
 
 use crate::rule::{AllowsEmpty, Refuses, Rule};
-pub use crate::text::BorrowedText;
-use crate::text::{Borrowed, RuleText, TextBuf};
+pub use crate::rule_text::BorrowedText;
+use crate::rule_text::{Borrowed, RuleText, TextBuf};
 use iref_error::Memory;
 use iref_grammar::chars::CharSet;
 use std::alloc::Global;

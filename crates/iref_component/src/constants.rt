@@ -2,7 +2,7 @@
 ghost use Rattle.std.specs.Prelude.{◌≡◌, codes};
 ghost use Rattle.iref_component.specs.Components.{text_of};
 
-use crate::texts::{Port, Scheme, Segment};
+use crate::named_texts::{Port, Scheme, Segment};
 use iref_grammar::chars::CharSet;
 
 #[tactic(auto, unfolding(iref_grammar::specs::Tests::is_scheme))]

@@ -4,10 +4,10 @@ ghost use Rattle.iref_grammar.specs.{is_ip_literal, is_ipv4, ipv4_value};
 ghost use Rattle.iref_model.specs.{ipv4_text, ipv6_host_text, literal_value};
 ghost use Rattle.iref_component.specs.Components.{text_of};
 
+use crate::component_rules::HostRule;
 use crate::host_numbers::{ipv4_string, ipv6_string};
-use crate::rules::HostRule;
-use crate::text::{RuleText, Storage};
-use crate::texts::HostBuf;
+use crate::named_texts::HostBuf;
+use crate::rule_text::{RuleText, Storage};
 use iref_error::Memory;
 use iref_grammar::chars::CharSet;
 use iref_parse::{host, ip};

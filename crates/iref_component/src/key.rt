@@ -10,8 +10,8 @@ use crate::authority_parts::parts_of;
 use iref_grammar::chars::CharSet;
 use iref_parse::chunk::Chunk;
 use iref_parse::decoded::{decoded_cmp, hash_decoded};
-use iref_path_text::equality::path_texts_eq;
-use iref_path_text::order::{hash_path_text, path_texts_cmp};
+use iref_path::counted::path_texts_eq;
+use iref_path::order::{hash_path_text, path_texts_cmp};
 use std::cmp::Ordering;
 use std::hash::{Hash, Hasher};
 

@@ -6,11 +6,11 @@ ghost use Rattle.std.specs.Iterator.SizeHint.{IsWithinCount};
 ghost use Rattle.iref_component.specs.Components.{text_of};
 ghost use Rattle.iref_grammar.specs.{is_path, is_segment, read_path};
 ghost use Rattle.iref_model.specs.{normal_segments};
-ghost use Rattle.iref_path_text.specs.Listed.{listed_left};
+ghost use Rattle.iref_path.specs.Listed.{listed_left};
 
-use crate::texts::Segment;
+use crate::named_texts::Segment;
 use iref_grammar::chars::CharSet;
-use iref_path_text::remaining::listed::Listed;
+use iref_path::both_ends::listed::Listed;
 use std::marker::PhantomData;
 
 /// The normal segments of a path that are left, from both ends (RFC 3986 section 5.2.4): of

@@ -1,15 +1,15 @@
 //! Owned texts of a rule: the calls that those of all rules have.
 ghost use Rattle.std.specs.{Prelude.{◌≡◌, true, [], OnOk, OnErr, IsOk}, String.{string_bytes}};
-ghost use Rattle.iref_edit.specs.Changes.{IsNoLonger, IsWithin, changed};
+ghost use Rattle.iref_splice.specs.Changes.{IsNoLonger, IsWithin, changed};
 ghost use Rattle.iref_component.specs.{Makers.{ParsesUtf8}, Components.{text_of}};
 
 use crate::rule::{AllowsEmpty, Refuses, Rule};
-use crate::text::RuleText;
-pub use crate::text::TextBuf;
-use iref_edit::change::Change;
-use iref_edit::text::replace;
+use crate::rule_text::RuleText;
+pub use crate::rule_text::TextBuf;
 use iref_error::Memory;
 use iref_grammar::chars::CharSet;
+use iref_splice::change::Change;
+use iref_splice::text::replace;
 use std::alloc::Global;
 use std::convert::TryFrom;
 use std::marker::PhantomData;

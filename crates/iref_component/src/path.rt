@@ -11,20 +11,20 @@ ghost use Rattle.iref_model.specs.{fed_path, normal_segments, path_key, path_key
 ghost use Rattle.iref_model.specs.PathSuffix.{path_suffix};
 
 use crate::borrowed::BorrowedText;
+use crate::component_rules::PathRule;
+use crate::named_texts::Segment;
 use crate::normal::NormalizedSegments;
 use crate::path_buf::PathBuf;
-use crate::rules::PathRule;
-use crate::segment::looks_like_scheme;
+use crate::rule_text::{RuleText, Storage};
+use crate::scheme_like::looks_like_scheme;
 use crate::segments::Segments;
-use crate::text::{RuleText, Storage};
-use crate::texts::Segment;
 use iref_error::Memory;
 use iref_grammar::chars::CharSet;
 use iref_grammar::context::PathContext;
-use iref_path_text::path_text::{directory_text, parent_text};
-use iref_path_text::segments::split_root;
-use iref_path_text::spell::{append_normalized, normalized_text};
-use iref_path_text::suffix::suffix_text;
+use iref_path::directory::{directory_text, parent_text};
+use iref_path::segments::split_root;
+use iref_path::spell::{append_normalized, normalized_text};
+use iref_path::suffix::suffix_text;
 use std::alloc::Global;
 use std::hash::Hash;
 
@@ -34,7 +34,7 @@ pub type Path<'a, C> = BorrowedText<'a, PathRule, C>;
 
 impl<S: Storage, C: CharSet> RuleText<S, PathRule, C> {
     /// Whether the path has no segments: `/` and the empty path have none, `//` has two.
-    #[tactic(auto, using(iref_path_text::proofs::SlashLemmas::some_pieces))]
+    #[tactic(auto, using(iref_path::proofs::SlashLemmas::some_pieces))]
     pub fn is_empty(&self) -> bool
         ensures { result ≡ is_empty (path_value self.now).segments }
     {

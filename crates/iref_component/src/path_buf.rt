@@ -9,12 +9,12 @@ mod appends;
 mod edits;
 mod try_edits;
 
+use crate::component_rules::PathRule;
+use crate::named_texts::Segment;
 use crate::normal::NormalizedSegments;
 use crate::owned::TextBuf;
 use crate::path::Path;
-use crate::rules::PathRule;
 use crate::segments::Segments;
-use crate::texts::Segment;
 use iref_grammar::chars::CharSet;
 
 /// A path that owns its text (RFC 3986 section 3.3), such as `/a`, which is edited in place to

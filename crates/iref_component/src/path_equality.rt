@@ -2,15 +2,15 @@
 ghost use Rattle.std.specs.Prelude.{◌≡◌, ◌≢◌, ◌↔◌, ◌+◌, ◌<◌, ◌≤◌, ◌^◌, true};
 ghost use Rattle.iref_component.specs.Paths.{path_value};
 ghost use Rattle.iref_model.specs.{IsCountedAnswer, path_key, segment_count};
-ghost use Rattle.iref_path_text.specs.{HasRoomFor, steps_count, steps_taken};
+ghost use Rattle.iref_path.specs.{HasRoomFor, steps_count, steps_taken};
 
 use crate::path::Path;
 use iref_grammar::chars::CharSet;
-pub use iref_path_text::equality::Steps;
-use iref_path_text::equality::path_texts_eq_counted;
+pub use iref_path::counted::Steps;
+use iref_path::counted::path_texts_eq_counted;
 
 /// A new count has room for the segments of any two paths.
-#[tactic(auto, using(iref_path_text::proofs::SlashLemmas::segment_counts))]
+#[tactic(auto, using(iref_path::proofs::SlashLemmas::segment_counts))]
 pub fn new_steps_have_room<C: CharSet>(a: Path<'_, C>, b: Path<'_, C>)
     ensures { segment_count (path_value a.entry) + segment_count (path_value b.entry) < 2 ^ 128 }
 {

@@ -1,10 +1,10 @@
 //! Edits of a path in place (RFC 3986 section 3.3).
 ghost use Rattle.std.specs.Prelude.{◌≡◌, ◌&&◌, true, not, length, Some, IfOk, IsOk};
-ghost use Rattle.iref_edit.specs.Changes.{IsNoLonger, IsWithin, changed};
+ghost use Rattle.iref_splice.specs.Changes.{IsNoLonger, IsWithin, changed};
 ghost use Rattle.iref_component.specs.{Components.{text_of}, Paths.{path_value}};
 ghost use Rattle.iref_grammar.specs.{alone, is_empty, is_path_in, read_path, PathValue.{PathValue}};
 ghost use Rattle.iref_grammar.specs.Contexts.{follows_authority};
-ghost use Rattle.iref_path_text.specs.PathParts.{is_path_after, StepsTo};
+ghost use Rattle.iref_path.specs.PathParts.{is_path_after, StepsTo};
 ghost use Rattle.iref_model.specs.PathSteps as step;
 
 mod appends;
@@ -12,16 +12,16 @@ mod bytes;
 mod normal;
 mod try_edits;
 
+use crate::named_texts::Segment;
 use crate::path::Path;
 use crate::path_buf::PathBuf;
-use crate::texts::Segment;
-use iref_edit::change::{Change, Span};
-use iref_edit::target::Target;
 use iref_error::Memory;
 use iref_grammar::chars::CharSet;
 use iref_grammar::context::PathContext;
-use iref_path_text::part::PathPart;
-use iref_path_text::steps;
+use iref_path::path_part::PathPart;
+use iref_path::steps;
+use iref_splice::change::{Change, Span};
+use iref_splice::target::Target;
 use std::alloc::Global;
 use std::fmt;
 use std::marker::PhantomData;

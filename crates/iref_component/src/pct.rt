@@ -4,9 +4,9 @@ ghost use Rattle.percent_encoding.specs.{Iter.{decoded_bytes}, Percent.{percent_
 ghost use Rattle.iref_component.specs.Components.{text_of};
 
 use crate::borrowed::BorrowedText;
+use crate::component_rules::PctStrRule;
 use crate::owned::TextBuf;
 use crate::rule::Escaped;
-use crate::rules::PctStrRule;
 pub use iref_error::InvalidPctStr;
 use iref_grammar::chars::{CharSet, UriChars};
 use percent_encoding::{PercentDecode, percent_decode_str};

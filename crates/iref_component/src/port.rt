@@ -5,9 +5,9 @@ ghost use Rattle.iref_model.specs.PortNumbers.{port_text};
 ghost use Rattle.iref_component.specs.Components.{text_of};
 ghost use Rattle.iref_component.specs.Ports.{port_number, signed_port_number};
 
-use crate::rules::PortRule;
-use crate::text::{RuleText, Storage};
-use crate::texts::{Port, PortBuf};
+use crate::component_rules::PortRule;
+use crate::named_texts::{Port, PortBuf};
+use crate::rule_text::{RuleText, Storage};
 use iref_error::{Memory, PortError};
 use iref_grammar::chars::UriChars;
 use std::alloc::Global;

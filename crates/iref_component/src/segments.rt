@@ -5,11 +5,11 @@ ghost use Rattle.std.specs.Iterator.{YieldsFirstBy, YieldsLastBy, item_count, Up
 ghost use Rattle.std.specs.Iterator.SizeHint.{IsWithinCount};
 ghost use Rattle.iref_component.specs.Components.{text_of};
 ghost use Rattle.iref_grammar.specs.{is_segment};
-ghost use Rattle.iref_path_text.specs.{pieces_if_some};
+ghost use Rattle.iref_path.specs.{pieces_if_some};
 
-use crate::texts::Segment;
+use crate::named_texts::Segment;
 use iref_grammar::chars::CharSet;
-use iref_path_text::segments::{count_segments, first_segment, last_segment};
+use iref_path::segments::{count_segments, first_segment, last_segment};
 use std::marker::PhantomData;
 
 /// The segments of a path that are left, from both ends (RFC 3986 section 3.3): of `/a//b` they are

@@ -10,9 +10,9 @@ use Rattle.iref_grammar.proofs.ReadableLemmas.{readable_read}
 use Rattle.iref_model.specs.ComponentSteps.{with_authority_step}
 use Rattle.iref_component.specs.declared.authority_mut.AuthorityMut.{AuthorityMut}
 use Rattle.iref_component.specs.AuthorityEdits.{edited_bytes, authority_mut_value, IsEditorAt, BecomesAuthority}
-use Rattle.iref_buffer.proofs.AuthorityRangeLemmas.{authority_read_there, range_is, some_if_placed}
-use Rattle.iref_buffer.proofs.EditLemmas.{authority_part_replaced}
-use Rattle.iref_buffer.specs.Steps.{IsStep}
+use Rattle.iref_reference_text.proofs.AuthorityRangeLemmas.{authority_read_there, range_is, some_if_placed}
+use Rattle.iref_reference_text.proofs.EditLemmas.{authority_part_replaced}
+use Rattle.iref_reference_text.specs.Steps.{IsStep}
 
 pub authority_step : {C T c H : _} {old new : AuthorityMut C T c H} {text : Text} (set : CharTests) → AreAboveAscii set → (step : AuthorityValue → AuthorityValue)
     → is_reference set text ≡ true → is_readable set (with_authority_step step (read_reference text)) ≡ true → IsEditorAt old text (offsets_of text).authority

@@ -12,9 +12,9 @@ use Rattle.iref_grammar.proofs.ReadableLemmas.{readable_read}
 use Rattle.iref_model.specs.ComponentSteps.{with_path_step}
 use Rattle.iref_component.specs.declared.path_mut.PathMut.{PathMut}
 use Rattle.iref_component.specs.PathEdits.{edited_bytes, path_mut_context, path_mut_value, IsEditorOf, BecomesPath}
-use Rattle.iref_buffer.proofs.EditLemmas.{path_replaced}
-use Rattle.iref_buffer.proofs.PathRangeLemmas.{path_stands}
-use Rattle.iref_buffer.specs.Steps.{IsStep}
+use Rattle.iref_reference_text.proofs.EditLemmas.{path_replaced}
+use Rattle.iref_reference_text.proofs.PathRangeLemmas.{path_stands}
+use Rattle.iref_reference_text.specs.Steps.{IsStep}
 
 pub path_step : {C : _} {T : _} {c : _} {t : _} {old new : PathMut C T c t} {text : Text} (set : CharTests) → AreAboveAscii set → (step : PathContext → PathValue → PathValue)
     → is_reference set text ≡ true → is_readable set (with_path_step step (read_reference text)) ≡ true

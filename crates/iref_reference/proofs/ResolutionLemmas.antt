@@ -9,10 +9,10 @@ use Rattle.iref_grammar.proofs.ComponentLemmas.{reference_if_uri, scheme_if_uri,
 use Rattle.iref_grammar.proofs.ReferenceCutLemmas.{read_reference-spelled}
 use Rattle.iref_model.specs.Resolution.{resolved}
 use Rattle.iref_model.proofs.ResolvedLemmas.{resolved-readable}
-use Rattle.iref_buffer.specs.ComponentLengths.{HasLengths}
-use Rattle.iref_buffer.specs.Fronts.{IsFront, IsSpelled}
-use Rattle.iref_buffer.specs.declared.lengths.Lengths.{Lengths}
-use Rattle.iref_buffer.proofs.EditLemmas.{IsStep, is_step}
+use Rattle.iref_reference_text.specs.ComponentLengths.{HasLengths}
+use Rattle.iref_reference_text.specs.Fronts.{IsFront, IsSpelled}
+use Rattle.iref_reference_text.specs.declared.lengths.Lengths.{Lengths}
+use Rattle.iref_reference_text.proofs.EditLemmas.{IsStep, is_step}
 use Rattle.iref_reference.specs.Resolutions.{IsResolved}
 
 pub scheme_of_base : (base r : ReferenceValue) → is_some base.scheme ≡ true → is_some (resolved base r).scheme ≡ true

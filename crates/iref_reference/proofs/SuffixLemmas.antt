@@ -5,7 +5,7 @@ use Rattle.iref_grammar.specs.PathValue.{PathValue}
 use Rattle.iref_grammar.specs.Reference.{ReferenceValue}
 use Rattle.iref_grammar.specs.Rules.{Text}
 use Rattle.iref_component.specs.Components.{text_of}
-use Rattle.iref_component.specs.declared.text.RuleText.{RuleText}
+use Rattle.iref_component.specs.declared.rule_text.RuleText.{RuleText}
 use Rattle.iref_model.specs.PathSuffix.{path_suffix}
 use Rattle.iref_model.specs.ReferenceSuffix.{reference_suffix}
 use Rattle.iref_model.specs.Relative.{have_same_authority, have_same_scheme}

@@ -5,7 +5,7 @@ use Rattle.iref_grammar.specs.Rules.{Text}
 use Rattle.iref_grammar.specs.ComponentTexts.{ComponentTexts, read_components}
 use Rattle.iref_grammar.specs.Reference.{ReferenceValue}
 use Rattle.iref_component.specs.Components.{text_of}
-use Rattle.iref_component.specs.declared.text.RuleText.{RuleText}
+use Rattle.iref_component.specs.declared.rule_text.RuleText.{RuleText}
 use Rattle.iref_model.specs.Key.{key}
 use Rattle.iref_reference.specs.declared.parts.Parts.{Parts}
 

@@ -4,7 +4,7 @@ use Rattle.iref_grammar.specs.PathValue.{PathValue, spell_path}
 use Rattle.iref_grammar.specs.Reference.{ReferenceValue}
 use Rattle.iref_grammar.specs.Rules.{Text}
 use Rattle.iref_component.specs.Components.{text_of}
-use Rattle.iref_component.specs.declared.text.RuleText.{RuleText}
+use Rattle.iref_component.specs.declared.rule_text.RuleText.{RuleText}
 use Rattle.iref_model.specs.ReferenceSuffix.{reference_suffix}
 use Rattle.iref_component.specs.Paths.{path_value}
 

@@ -5,7 +5,7 @@ use Rattle.iref_grammar.specs.Reference.{ReferenceValue, read_reference}
 use Rattle.iref_model.specs.Key.{key}
 use Rattle.iref_component.specs.Components.{text_of}
 use Rattle.iref_component.specs.Makers.{ParsesUtf8}
-use Rattle.iref_buffer.specs.Steps.{IsStep, StepsOrStays}
+use Rattle.iref_reference_text.specs.Steps.{IsStep, StepsOrStays}
 use Rattle.iref_reference.specs.declared.borrowed.Reference.{Reference}
 use Rattle.iref_reference.specs.declared.owned.ReferenceBuf.{ReferenceBuf}
 
@@ -16,7 +16,7 @@ abbrev pub reference_value : {R C K r k c : _} → Reference R C K r k c → Ref
 reference_value r = read_reference (reference_text r)
 
 abbrev pub reference_buf_text : {R C K : _} → ReferenceBuf R C K → Text
-reference_buf_text r = r.held
+reference_buf_text r = r.inner
 
 abbrev pub reference_buf_value : {R C K : _} → ReferenceBuf R C K → ReferenceValue
 reference_buf_value r = read_reference (reference_buf_text r)

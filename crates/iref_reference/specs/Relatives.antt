@@ -6,7 +6,7 @@ use Rattle.iref_model.specs.Key.{AreAlike}
 use Rattle.iref_model.specs.Relative.{relative_to}
 use Rattle.iref_model.specs.RelativeLaws.{ClimbsLeast, DoAgree, IsOnlyPath, Leads}
 use Rattle.iref_model.specs.Resolution.{resolved}
-use Rattle.iref_buffer.specs.Steps.{Spells}
+use Rattle.iref_reference_text.specs.Steps.{Spells}
 
 -- it takes its scheme from any base
 abbrev pub takes_scheme : ReferenceValue → Bool

@@ -2,7 +2,7 @@
 use Rattle.iref_grammar.specs.Rules.{Text}
 use Rattle.iref_grammar.specs.Reference.{read_reference}
 use Rattle.iref_model.specs.Resolution.{resolved}
-use Rattle.iref_buffer.specs.Steps.{Spells}
+use Rattle.iref_reference_text.specs.Steps.{Spells}
 
 -- the text spells what the reference resolves to against the base, and is read as that
 abbrev pub IsResolved : Text → Text → Text → Type 0

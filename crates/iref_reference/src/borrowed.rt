@@ -1,7 +1,7 @@
 //! Borrowed references (RFC 3986 sections 3 and 4.1).
 ghost use Rattle.std.specs.Prelude.{IfOk, IfSome, is_some, ◌≡◌, true, [], ◌∷◌, Some, None};
 ghost use Rattle.std.specs.Prelude.{option_map};
-ghost use Rattle.iref_buffer.specs.{is_readable};
+ghost use Rattle.iref_reference_text.specs.{is_readable};
 ghost use Rattle.iref_component.specs.{text_of, spell_components, hierarchy, spell, hash_sign};
 ghost use Rattle.iref_component.specs.{spell_authority, with_query, with_fragment};
 ghost use Rattle.iref_component.specs.{user_info_of, host_of, port_of, base_of, spell_path, before};
@@ -13,16 +13,16 @@ ghost use Rattle.iref_reference.specs.References.{reference_buf_text, NarrowsToU
 use crate::owned::ReferenceBuf;
 use crate::parts::{Parts, UriRefParts};
 use crate::rule::{HasScheme, ReferenceRule, UriRule};
-use iref_buffer::base::base_text;
-use iref_buffer::held::HeldRule;
 use iref_component::authority::Authority;
 use iref_component::borrowed::BorrowedText;
+use iref_component::named_texts::{Fragment, Host, Port, Query, UserInfo};
 use iref_component::path::Path;
 use iref_component::rule::{AllowsEmpty, Refuses};
-use iref_component::texts::{Fragment, Host, Port, Query, UserInfo};
 use iref_error::{InvalidUri, Memory};
 use iref_grammar::chars::CharSet;
 use iref_parse::cut::cut;
+use iref_reference_text::base::base_text;
+use iref_reference_text::reference_text::HeldRule;
 use std::alloc::Global;
 use std::convert::TryFrom;
 use std::fmt;
@@ -208,7 +208,7 @@ impl<'a, R: HasScheme<'a>, C: CharSet> Reference<'a, R, C> {
     /// The components, as slices of the text (RFC 3986 section 3): of `//h/a?q` no scheme, the
     /// authority `h`, the path `/a`, the query `q` and no fragment. No other reference spells this
     /// text.
-    #[tactic(auto, using(iref_buffer::proofs::HeldLemmas::spelled))]
+    #[tactic(auto, using(iref_reference_text::proofs::ReferenceTextLemmas::spelled))]
     pub fn parts(&self) -> Parts<'a, R::Scheme, C>
         ensures texts { part_texts R.Scheme.text result
             ≡ spell_components (reference_value self.now) }

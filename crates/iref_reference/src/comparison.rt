@@ -10,8 +10,8 @@ ghost use Rattle.iref_model.proofs.KeyOrderLemmas.{keys_total, fed_where_tied};
 use crate::borrowed::{Uri, UriRef};
 use crate::owned::ReferenceBuf;
 use crate::parts::{UriParts, UriRefParts};
-use iref_buffer::held::HeldRule;
 use iref_grammar::chars::CharSet;
+use iref_reference_text::reference_text::HeldRule;
 use std::cmp::Ordering;
 use std::hash::{Hash, Hasher};
 

@@ -1,8 +1,8 @@
 //! References that are composed of the components of others, and not written yet (RFC 3986 sections
 //! 5.2 and 5.3).
-ghost use Rattle.iref_buffer.specs.MeasuredReferences.{IsComposed, measured_components};
-ghost use Rattle.iref_buffer.specs.{MeasuredReferences.{spell_texts}, Relatives.{agree}};
-ghost use Rattle.iref_buffer.specs.{Steps.{Spells}, is_readable, value_of};
+ghost use Rattle.iref_reference_text.specs.MeasuredReferences.{IsComposed, measured_components};
+ghost use Rattle.iref_reference_text.specs.{MeasuredReferences.{spell_texts}, Relatives.{agree}};
+ghost use Rattle.iref_reference_text.specs.{Steps.{Spells}, is_readable, value_of};
 ghost use Rattle.iref_grammar.specs.{Rules.{Text}, Texts.{is_empty}};
 ghost use Rattle.iref_model.specs.{Relative.{relative_to}, Resolution.{resolved}};
 ghost use Rattle.iref_reference.specs.References.{reference_buf_text};
@@ -10,11 +10,11 @@ ghost use Rattle.std.specs.Prelude.{◌≡◌, ◌≤◌, ◌++◌, drop, IfOk, 
 
 use crate::owned::ReferenceBuf;
 use crate::rule::{ReferenceRule, UriRule};
-use iref_buffer::held::{Held, HeldRule};
-use iref_buffer::measured::{MeasuredReference, count_paths};
 use iref_error::Memory;
 use iref_grammar::chars::CharSet;
 use iref_parse::split::ReferenceSlices;
+use iref_reference_text::measured::{MeasuredReference, count_paths};
+use iref_reference_text::reference_text::{HeldRule, ReferenceText};
 use std::alloc::{AllocError, Global};
 use std::marker::{Model, PhantomData};
 
@@ -131,7 +131,7 @@ impl<'a, R: HeldRule, C: CharSet> Composed<'a, R, C> {
     pub fn to_owned(&self, alloc: Global) -> Result<ReferenceBuf<R, C>, Memory>
         ensures { IfOk result (λ owner. reference_buf_text owner ≡ self.now) }
     {
-        let held = Held::of_components(alloc, &self.components, self.len)?;
-        Ok(ReferenceBuf::from_held(held))
+        let inner = ReferenceText::of_components(alloc, &self.components, self.len)?;
+        Ok(ReferenceBuf::from_inner(inner))
     }
 }

@@ -2,23 +2,23 @@
 ghost use Rattle.std.specs.{Prelude.{◌≡◌, true, is_some, IfSome}, Borrow.{sem, RestsIfNone}};
 ghost use Rattle.iref_grammar.specs.{context_of, is_reference, offsets_of};
 ghost use Rattle.iref_component.specs.PathEdits.{Borrows, IsEditorOf};
-ghost use Rattle.iref_buffer.specs.PathRanges.{IsPathOf, one_path, path_is_within};
-ghost use Rattle.iref_buffer.specs.AuthorityRanges.{IsAuthorityOf, one_authority};
-ghost use Rattle.iref_buffer.specs.AuthorityRanges.{authority_is_within};
+ghost use Rattle.iref_reference_text.specs.PathRanges.{IsPathOf, one_path, path_is_within};
+ghost use Rattle.iref_reference_text.specs.AuthorityRanges.{IsAuthorityOf, one_authority};
+ghost use Rattle.iref_reference_text.specs.AuthorityRanges.{authority_is_within};
 ghost use Rattle.iref_reference.specs.contracts.owned.ReferenceBuf.{the_row};
 ghost use Rattle.iref_reference.specs.References.{reference_buf_text, reference_buf_value};
 
 use crate::owned::ReferenceBuf;
-use iref_buffer::held::HeldRule;
 use iref_component::authority_mut::{AuthorityMut, AuthorityPart};
 use iref_component::path_mut::PathMut;
-use iref_edit::change::{Change, Span};
-use iref_edit::target::Target;
 use iref_error::Memory;
 use iref_grammar::chars::CharSet;
 use iref_grammar::context::PathContext;
-use iref_path_text::part::PathPart;
-use iref_path_text::target::PathTarget;
+use iref_path::path_part::PathPart;
+use iref_path::target::PathTarget;
+use iref_reference_text::reference_text::HeldRule;
+use iref_splice::change::{Change, Span};
+use iref_splice::target::Target;
 use std::alloc::Global;
 
 impl<R: HeldRule, C: CharSet> Target<PathPart, C> for ReferenceBuf<R, C> {
@@ -31,21 +31,21 @@ impl<R: HeldRule, C: CharSet> Target<PathPart, C> for ReferenceBuf<R, C> {
     ghost is_within = { path_is_within C.tests };
 
     fn alloc(&self) -> Global {
-        Target::<PathPart, C>::alloc(&self.held)
+        Target::<PathPart, C>::alloc(&self.inner)
     }
 
     fn part(&self, after: PathContext, at: Span) -> &str {
-        Target::<PathPart, C>::part(&self.held, after, at)
+        Target::<PathPart, C>::part(&self.inner, after, at)
     }
 
     fn replace(&mut self, after: PathContext, at: Span, by: Change<'_>) -> Result<usize, Memory> {
-        Target::<PathPart, C>::replace(&mut self.held, after, at, by)
+        Target::<PathPart, C>::replace(&mut self.inner, after, at, by)
     }
 }
 
 impl<R: HeldRule, C: CharSet> PathTarget<C> for ReferenceBuf<R, C> {
     fn rewrite(&mut self, after: PathContext, at: Span, lead: &str) -> usize {
-        self.held.rewrite(after, at, lead)
+        self.inner.rewrite(after, at, lead)
     }
 }
 
@@ -59,15 +59,15 @@ impl<R: HeldRule, C: CharSet> Target<AuthorityPart, C> for ReferenceBuf<R, C> {
     ghost is_within = { λ text _. authority_is_within C.tests text };
 
     fn alloc(&self) -> Global {
-        Target::<AuthorityPart, C>::alloc(&self.held)
+        Target::<AuthorityPart, C>::alloc(&self.inner)
     }
 
     fn part(&self, after: (), at: Span) -> &str {
-        Target::<AuthorityPart, C>::part(&self.held, after, at)
+        Target::<AuthorityPart, C>::part(&self.inner, after, at)
     }
 
     fn replace(&mut self, after: (), at: Span, by: Change<'_>) -> Result<usize, Memory> {
-        Target::<AuthorityPart, C>::replace(&mut self.held, after, at, by)
+        Target::<AuthorityPart, C>::replace(&mut self.inner, after, at, by)
     }
 }
 
@@ -89,7 +89,7 @@ impl<R: HeldRule, C: CharSet> ReferenceBuf<R, C> {
             (reference_buf_text self.old) (offsets_of (reference_buf_text self.old)).authority) }
         ensures reference { is_reference C.tests (reference_buf_text self.old) ≡ true }
     {
-        let Some(range) = self.held.offsets().authority else {
+        let Some(range) = self.inner.offsets().authority else {
             return None;
         };
         Some(AuthorityMut::of_target(self, range))
@@ -106,8 +106,8 @@ impl<R: HeldRule, C: CharSet> ReferenceBuf<R, C> {
             (offsets_of (reference_buf_text self.old)).path.end }
         ensures reference { is_reference C.tests (reference_buf_text self.old) ≡ true }
     {
-        let context = self.held.context();
-        let range = self.held.path_range();
+        let context = self.inner.context();
+        let range = self.inner.path_range();
         PathMut::of_target(self, context, range)
     }
 }

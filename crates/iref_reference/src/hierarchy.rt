@@ -1,13 +1,13 @@
 //! What stands before the query and the fragment of an owned reference, which a list of edits
 //! changes on a copy.
 ghost use Rattle.std.specs.Prelude.{◌≡◌, None, IfOk};
-ghost use Rattle.iref_buffer.specs.{with_fragment, with_query};
+ghost use Rattle.iref_reference_text.specs.{with_fragment, with_query};
 ghost use Rattle.iref_reference.specs.References.{reference_buf_text, reference_buf_value};
 
 use crate::owned::ReferenceBuf;
-use iref_buffer::held::HeldRule;
 use iref_error::Memory;
 use iref_grammar::chars::CharSet;
+use iref_reference_text::reference_text::HeldRule;
 
 /// A copy of a reference up to its query and its fragment, under the same rule, with as much room:
 /// of `s:/a?q`, `s:/a` (RFC 3986 section 3).
@@ -17,7 +17,7 @@ pub fn copied_hierarchy<R: HeldRule, C: CharSet>(
     ensures { IfOk result (λ copy. reference_buf_value copy
         ≡ with_query None (with_fragment None (reference_buf_value reference.now))) }
 {
-    Ok(ReferenceBuf::from_held(reference.held.copied_hierarchy()?))
+    Ok(ReferenceBuf::from_inner(reference.inner.copied_hierarchy()?))
 }
 
 /// Makes room for at least this many bytes behind the text, which stays as it is.
@@ -27,5 +27,5 @@ pub fn reserve<R: HeldRule, C: CharSet>(
 ) -> Result<(), Memory>
     ensures { reference_buf_text reference.new ≡ reference_buf_text reference.old }
 {
-    reference.held.reserve(additional)
+    reference.inner.reserve(additional)
 }

@@ -4,9 +4,7 @@
 pub mod borrowed;
 pub mod comparison;
 pub mod composed;
-pub mod conversions;
 pub mod editors;
-pub mod families;
 pub mod hierarchy;
 pub mod mapping;
 pub mod owned;
@@ -16,3 +14,5 @@ pub mod resolution;
 pub mod rule;
 pub mod setters;
 pub mod suffix;
+pub mod uri_or_iri;
+pub mod uri_or_reference;

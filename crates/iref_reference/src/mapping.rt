@@ -9,9 +9,9 @@ ghost use Rattle.std.specs.Prelude.{true};
 
 use crate::borrowed::{Reference, Uri, UriRef};
 use crate::owned::{ReferenceBuf, UriBuf, UriRefBuf};
-use iref_buffer::held::{Held, HeldRule};
 use iref_error::Memory;
 use iref_grammar::chars::{IriChars, UriChars};
+use iref_reference_text::reference_text::{HeldRule, ReferenceText};
 use std::alloc::Global;
 
 impl<R: HeldRule> Reference<'_, R, IriChars> {
@@ -20,8 +20,8 @@ impl<R: HeldRule> Reference<'_, R, IriChars> {
         ensures { IfOk result (IsMappingOf (InUtf8 (R.rule uri_chars)) (reference_text self.now)
             (key_of_reference self.now)) }
     {
-        let held = Held::mapped::<IriChars>(alloc, self.as_str())?;
-        Ok(ReferenceBuf::from_held(held))
+        let inner = ReferenceText::mapped::<IriChars>(alloc, self.as_str())?;
+        Ok(ReferenceBuf::from_inner(inner))
     }
 }
 
@@ -53,9 +53,9 @@ impl<R: HeldRule> ReferenceBuf<R, IriChars> {
         ensures ascii { list_all is_ascii (reference_buf_text self) ≡ true → IsOk result }
         ensures err { IfErr result (λ error. error.0 ≡ self) }
     {
-        match self.held.into_mapped() {
-            Ok(held) => Ok(ReferenceBuf::from_held(held)),
-            Err(held) => Err((ReferenceBuf::from_held(held), Memory)),
+        match self.inner.into_mapped() {
+            Ok(inner) => Ok(ReferenceBuf::from_inner(inner)),
+            Err(inner) => Err((ReferenceBuf::from_inner(inner), Memory)),
         }
     }
 }

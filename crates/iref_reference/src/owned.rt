@@ -5,7 +5,7 @@ ghost use Rattle.iref_component.specs.{colon, hash_sign, spell_authority, before
 ghost use Rattle.iref_component.specs.{spell_components, hierarchy, spell, with_query, offsets_of};
 ghost use Rattle.iref_component.specs.{with_fragment, user_info_of, host_of, port_of, base_of};
 ghost use Rattle.iref_component.specs.{text_of};
-ghost use Rattle.iref_buffer.specs.{is_readable};
+ghost use Rattle.iref_reference_text.specs.{is_readable};
 ghost use Rattle.iref_reference.specs.References.{reference_text, reference_value};
 ghost use Rattle.iref_reference.specs.References.{reference_buf_text, reference_buf_value};
 ghost use Rattle.iref_reference.specs.References.{OwnerNarrowsToUri, ParsesReferenceBuf};
@@ -15,14 +15,14 @@ ghost use Rattle.iref_reference.specs.Parts.{parts_value};
 use crate::borrowed::{Reference, UriRef};
 use crate::parts::{Parts, UriRefParts};
 use crate::rule::{HasScheme, ReferenceRule, UriRule};
-use iref_buffer::held::{Held, HeldRule};
 use iref_component::authority::Authority;
+use iref_component::named_texts::{Fragment, Host, Port, Query, SchemeBuf, UserInfo};
 use iref_component::path::Path;
 use iref_component::rule::Refuses;
-use iref_component::texts::{Fragment, Host, Port, Query, SchemeBuf, UserInfo};
 use iref_error::{InvalidUri, Memory};
 use iref_grammar::chars::CharSet;
 use iref_grammar::offsets::Offsets;
+use iref_reference_text::reference_text::{HeldRule, ReferenceText};
 use std::alloc::Global;
 use std::convert::TryFrom;
 use std::fmt;
@@ -32,7 +32,7 @@ use std::fmt;
 /// it (RFC 3986 sections 3 and 4.1).
 #[derive(Drop)]
 pub struct ReferenceBuf<R: HeldRule, C: CharSet> {
-    pub(crate) held: Held<R, C>,
+    pub(crate) inner: ReferenceText<R, C>,
 }
 
 /// A reference that owns its text, such as `../b?c` (RFC 3986 section 4.1).
@@ -47,8 +47,8 @@ impl<R: HeldRule + Refuses<String>, C: CharSet> ReferenceBuf<R, C> {
     pub fn new(text: String) -> Result<Self, R::Error>
         ensures { ParsesReferenceBuf (R.rule C.tests) R.refused (string_bytes text) text result }
     {
-        match Held::new(text) {
-            Ok(held) => Ok(ReferenceBuf { held }),
+        match ReferenceText::new(text) {
+            Ok(inner) => Ok(ReferenceBuf { inner }),
             Err(text) => Err(R::refuse(text)),
         }
     }
@@ -61,8 +61,8 @@ impl<R: HeldRule + Refuses<Vec<u8>>, C: CharSet> ReferenceBuf<R, C> {
     pub fn from_bytes(bytes: Vec<u8>) -> Result<Self, R::Error>
         ensures { ParsesReferenceBuf (R.rule C.tests) R.refused bytes.items bytes result }
     {
-        match Held::from_bytes(bytes) {
-            Ok(held) => Ok(ReferenceBuf { held }),
+        match ReferenceText::from_bytes(bytes) {
+            Ok(inner) => Ok(ReferenceBuf { inner }),
             Err(bytes) => Err(R::refuse(bytes)),
         }
     }
@@ -70,10 +70,10 @@ impl<R: HeldRule + Refuses<Vec<u8>>, C: CharSet> ReferenceBuf<R, C> {
 
 impl<R: HeldRule, C: CharSet> ReferenceBuf<R, C> {
     // The owned value of a text with its offsets.
-    pub(crate) fn from_held(held: Held<R, C>) -> Self
-        ensures { reference_buf_text result ≡ held }
+    pub(crate) fn from_inner(inner: ReferenceText<R, C>) -> Self
+        ensures { reference_buf_text result ≡ inner }
     {
-        ReferenceBuf { held }
+        ReferenceBuf { inner }
     }
 
     // The borrowed value.
@@ -88,7 +88,7 @@ impl<R: HeldRule, C: CharSet> ReferenceBuf<R, C> {
         ensures text { result.now ≡ reference_buf_text self.now }
         ensures in_rule { R.test C.tests result.now ≡ true }
     {
-        self.held.as_str()
+        self.inner.as_str()
     }
 
     /// The bytes of the text: of `s:a` they are 115, 58 and 97.
@@ -103,7 +103,7 @@ impl<R: HeldRule, C: CharSet> ReferenceBuf<R, C> {
     pub fn offsets(&self) -> Offsets
         ensures { result ≡ offsets_of (reference_buf_text self.now) }
     {
-        self.held.offsets()
+        self.inner.offsets()
     }
 
     // The components, with a scheme if there is one.
@@ -112,7 +112,7 @@ impl<R: HeldRule, C: CharSet> ReferenceBuf<R, C> {
             ≡ spell_components (reference_buf_value self.now) }
         ensures value { uri_ref_parts_value result ≡ reference_buf_value self.now }
     {
-        UriRefParts::from_slices(self.held.slices())
+        UriRefParts::from_slices(self.inner.slices())
     }
 
     /// The authority, if the reference has one (RFC 3986 section 3.2): of `//u@h:80/a`, `u@h:80`.
@@ -174,7 +174,7 @@ impl<R: HeldRule, C: CharSet> ReferenceBuf<R, C> {
             ≡ before (hash_sign ∷ []) (reference_buf_text self.now) }
         ensures value { reference_value result ≡ with_fragment None (reference_buf_value self.now) }
     {
-        UriRef::new_unchecked(self.held.without_fragment())
+        UriRef::new_unchecked(self.inner.without_fragment())
     }
 
     /// The reference up to its query and its fragment: of `a?b#c`, `a`.
@@ -183,7 +183,7 @@ impl<R: HeldRule, C: CharSet> ReferenceBuf<R, C> {
         ensures value { reference_value result
             ≡ with_query None (with_fragment None (reference_buf_value self.now)) }
     {
-        UriRef::new_unchecked(self.held.without_query_and_fragment())
+        UriRef::new_unchecked(self.inner.without_query_and_fragment())
     }
 
     /// The reference up to the end of the path's directory: of `a/b/c?d`, `a/b/` (RFC 3986
@@ -192,7 +192,7 @@ impl<R: HeldRule, C: CharSet> ReferenceBuf<R, C> {
         ensures text { reference_text result ≡ spell (base_of (reference_buf_value self.now)) }
         ensures value { reference_value result ≡ base_of (reference_buf_value self.now) }
     {
-        Reference::new_unchecked(self.held.base_text())
+        Reference::new_unchecked(self.inner.base_text())
     }
 
     /// The text, with no copy: of the URI `s:a`, `s:a`.
@@ -200,7 +200,7 @@ impl<R: HeldRule, C: CharSet> ReferenceBuf<R, C> {
         ensures text { string_bytes result ≡ reference_buf_text self }
         ensures in_rule { R.test C.tests (string_bytes result) ≡ true }
     {
-        self.held.into_string()
+        self.inner.into_string()
     }
 
     /// The bytes of the text, with no copy: of `s:a` they are 115, 58 and 97.
@@ -215,7 +215,7 @@ impl<R: HeldRule, C: CharSet> ReferenceBuf<R, C> {
         ensures { OwnerNarrowsToUri (λ error. error.0) self result }
     {
         if self.reference_parts().scheme.is_some() {
-            Ok(UriBuf::from_held(self.held.into_rule()))
+            Ok(UriBuf::from_inner(self.inner.into_rule()))
         } else {
             Err(InvalidUri(self))
         }
@@ -226,7 +226,7 @@ impl<'a, R: HasScheme<'a>, C: CharSet> ReferenceBuf<R, C> {
     /// The components, as slices of the text (RFC 3986 section 3): of `//h/a?q` no scheme, the
     /// authority `h`, the path `/a`, the query `q` and no fragment. No other reference spells this
     /// text.
-    #[tactic(auto, using(iref_buffer::proofs::HeldLemmas::spelled))]
+    #[tactic(auto, using(iref_reference_text::proofs::ReferenceTextLemmas::spelled))]
     pub fn parts(&'a self) -> Parts<'a, R::Scheme, C>
         ensures texts { part_texts R.Scheme.text result
             ≡ spell_components (reference_buf_value self.now) }
@@ -234,7 +234,7 @@ impl<'a, R: HasScheme<'a>, C: CharSet> ReferenceBuf<R, C> {
         ensures spelled { spell (reference_buf_value self.now) ≡ reference_buf_text self.now }
         ensures readable { is_readable C.tests (parts_value R.Scheme.text result) ≡ true }
     {
-        Parts::from_slices(self.held.slices())
+        Parts::from_slices(self.inner.slices())
     }
 
     /// The scheme (RFC 3986 section 3.1): of the URI `s:a`, `s`. A reference may have none, as `a`.
@@ -251,7 +251,7 @@ impl<C: CharSet> UriRefBuf<C> {
     pub fn empty(alloc: Global) -> Self
         ensures { reference_buf_text result ≡ [] }
     {
-        UriRefBuf::from_held(Held::new_unchecked(String::new(alloc)))
+        UriRefBuf::from_inner(ReferenceText::new_unchecked(String::new(alloc)))
     }
 }
 
@@ -262,7 +262,7 @@ impl<C: CharSet> UriBuf<C> {
         ensures { IfOk result (λ uri.
             reference_buf_text uri ≡ text_of scheme ++ colon ∷ []) }
     {
-        Ok(UriBuf::from_held(Held::from_scheme(scheme.into_string())?))
+        Ok(UriBuf::from_inner(ReferenceText::from_scheme(scheme.into_string())?))
     }
 
     // The reference of the same text, with no copy.
@@ -270,7 +270,7 @@ impl<C: CharSet> UriBuf<C> {
     pub(crate) fn into_reference(self) -> UriRefBuf<C>
         ensures { reference_buf_text result ≡ reference_buf_text self }
     {
-        UriRefBuf::from_held(self.held.into_rule())
+        UriRefBuf::from_inner(self.inner.into_rule())
     }
 }
 
@@ -316,7 +316,7 @@ impl<R: HeldRule + Refuses<Vec<u8>>, C: CharSet> TryFrom<Vec<u8>> for ReferenceB
 
 impl<R: HeldRule, C: CharSet> fmt::Debug for ReferenceBuf<R, C> {
     fn fmt<W: fmt::Write>(&self, f: &mut fmt::Formatter<W>) -> fmt::Result {
-        fmt::Debug::fmt(&self.held, f)
+        fmt::Debug::fmt(&self.inner, f)
     }
 }
 

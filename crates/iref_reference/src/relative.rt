@@ -1,6 +1,6 @@
 //! References that lead from a base to a target, the way back from resolution (RFC 3986 section
 //! 5.2).
-ghost use Rattle.iref_buffer.specs.{Relatives.{agree}, Steps.{Spells}, is_readable};
+ghost use Rattle.iref_reference_text.specs.{Relatives.{agree}, Steps.{Spells}, is_readable};
 ghost use Rattle.iref_model.specs.Relative.{relative_to, schemes_agree};
 ghost use Rattle.iref_reference.specs.Parts.{parts_value, uri_ref_parts_value};
 ghost use Rattle.iref_reference.specs.References.{reference_buf_text, reference_buf_value};
@@ -13,9 +13,9 @@ use crate::borrowed::{Reference, UriRef};
 use crate::composed::{Composed, ComposedUriRef};
 use crate::owned::{ReferenceBuf, UriRefBuf};
 use crate::parts::{Parts, SchemePart, UriRefParts};
-use iref_buffer::held::HeldRule;
 use iref_error::Memory;
 use iref_grammar::chars::CharSet;
+use iref_reference_text::reference_text::HeldRule;
 use std::alloc::Global;
 
 // Whether the target takes its scheme from any base.

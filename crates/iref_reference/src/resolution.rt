@@ -1,7 +1,7 @@
 //! References resolved against a base, strict (RFC 3986 section 5.2).
 ghost use Rattle.iref_grammar.specs.{Grammar.{IsUri, IsUriReference}, Rules.{InUtf8}};
 ghost use Rattle.iref_error.specs.Tried.{TellsInvalid};
-ghost use Rattle.iref_buffer.specs.{Steps.{Spells}, is_readable, value_of};
+ghost use Rattle.iref_reference_text.specs.{Steps.{Spells}, is_readable, value_of};
 ghost use Rattle.iref_component.specs.{is_reference, is_uri, read_reference};
 ghost use Rattle.iref_model.specs.Resolution.{resolved};
 ghost use Rattle.iref_reference.specs.Parts.{parts_value, uri_parts_value};
@@ -15,12 +15,12 @@ use crate::borrowed::{Reference, Uri, UriRef};
 use crate::composed::{Composed, ComposedUri};
 use crate::owned::{ReferenceBuf, UriBuf};
 use crate::parts::{Parts, SchemePart, UriParts};
-use iref_buffer::forward::resolved_forward;
-use iref_buffer::fronts::front_kept;
-use iref_buffer::held::{Held, HeldRule};
 use iref_error::{InvalidUri, InvalidUriRef, Memory, TryError};
 use iref_grammar::chars::CharSet;
 use iref_parse::split::{ReferenceSlices, split_reference};
+use iref_reference_text::forward::resolved_forward;
+use iref_reference_text::fronts::front_kept;
+use iref_reference_text::reference_text::{HeldRule, ReferenceText};
 use std::alloc::Global;
 
 // What a reference resolves to against a base, given the components of both texts. Most often it is
@@ -40,11 +40,11 @@ fn resolved_uri<C: CharSet>(
     ensures { IfOk result (λ uri. IsResolved base_text.now text.now (reference_buf_text uri)) }
 {
     if let Some((front, lengths)) = front_kept::<C>(base_text, base, reference) {
-        let held = Held::of_texts(alloc, front, text, lengths)?;
-        return Ok(ReferenceBuf::from_held(held));
+        let inner = ReferenceText::of_texts(alloc, front, text, lengths)?;
+        return Ok(ReferenceBuf::from_inner(inner));
     }
     if let Some((bytes, lengths)) = resolved_forward(alloc, base_text, base, text, reference) {
-        return Ok(ReferenceBuf::from_held(Held::of_bytes(bytes, lengths)));
+        return Ok(ReferenceBuf::from_inner(ReferenceText::of_bytes(bytes, lengths)));
     }
     Composed::resolved(base, reference)?.to_owned(alloc)
 }

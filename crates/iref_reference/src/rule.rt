@@ -8,16 +8,16 @@ ghost use Rattle.iref_grammar.proofs.ReferenceRuleLemmas.{Decides-is_uri_referen
 ghost use Rattle.iref_grammar.proofs.ComponentLemmas.{reference_if_uri, scheme_if_uri};
 ghost use Rattle.iref_grammar.proofs.ComponentLemmas.{uri_if_scheme};
 ghost use Rattle.iref_reference.specs.Comparisons.{by_components};
-ghost use Rattle.iref_buffer.proofs.BaseLemmas.{base_of_in_rule, base_of_in_uri_rule};
+ghost use Rattle.iref_reference_text.proofs.BaseLemmas.{base_of_in_rule, base_of_in_uri_rule};
 
 use crate::parts::{SchemePart, UriRefParts};
-use iref_buffer::held::HeldRule;
 use iref_component::key::Key;
+use iref_component::named_texts::Scheme;
 use iref_component::rule::{AllowsEmpty, Refuses, Rule};
-use iref_component::texts::Scheme;
 use iref_error::{InvalidUri, InvalidUriRef};
 use iref_grammar::chars::CharSet;
 use iref_parse::split::{self, ReferenceSlices, parse_reference};
+use iref_reference_text::reference_text::HeldRule;
 use std::cmp::Ordering;
 use std::hash::{Hash, Hasher};
 

@@ -1,8 +1,8 @@
 //! Owned values edited in place, a component at a time (RFC 3986 sections 3 and 4.2).
 ghost use Rattle.std.specs.Prelude.{Some, OnOk, IsNone, IsOk, option_map};
 ghost use Rattle.iref_component.specs.{path_value, read_authority, text_of};
-ghost use Rattle.iref_buffer.specs.{with_authority, with_fragment, with_path, with_query};
-ghost use Rattle.iref_buffer.specs.{with_scheme, PathRanges.{RemovesDots}};
+ghost use Rattle.iref_reference_text.specs.{with_authority, with_fragment, with_path, with_query};
+ghost use Rattle.iref_reference_text.specs.{with_scheme, PathRanges.{RemovesDots}};
 ghost use Rattle.iref_model.specs.ComponentSteps.{with_new_normal_path};
 ghost use Rattle.iref_reference.specs.References.{Edits, reference_buf_value};
 
@@ -10,13 +10,13 @@ pub mod copies;
 mod try_setters;
 
 use crate::owned::{ReferenceBuf, UriBuf, UriRefBuf};
-use iref_buffer::held::HeldRule;
 use iref_component::authority::Authority;
 use iref_component::borrowed::text_of;
+use iref_component::named_texts::{Fragment, Query, Scheme};
 use iref_component::path::Path;
-use iref_component::texts::{Fragment, Query, Scheme};
 use iref_error::Memory;
 use iref_grammar::chars::CharSet;
+use iref_reference_text::reference_text::HeldRule;
 
 impl<R: HeldRule, C: CharSet> ReferenceBuf<R, C> {
     /// Replaces, adds or removes the authority (RFC 3986 section 3.2); removing takes no memory.
@@ -28,7 +28,7 @@ impl<R: HeldRule, C: CharSet> ReferenceBuf<R, C> {
             (option_map text_of authority.entry))) self.old self.new result }
         ensures none { IsNone authority.entry → IsOk result }
     {
-        self.held.set_authority(text_of(authority))
+        self.inner.set_authority(text_of(authority))
     }
 
     /// Replaces the path, with a guard where it would be read as something else (RFC 3986 section
@@ -36,7 +36,7 @@ impl<R: HeldRule, C: CharSet> ReferenceBuf<R, C> {
     pub fn set_path(&mut self, path: Path<'_, C>) -> Result<(), Memory>
         ensures { Edits (with_path (path_value path.entry)) self.old self.new result }
     {
-        self.held.set_path(path.as_str())
+        self.inner.set_path(path.as_str())
     }
 
     /// Sets the path and normalizes it, as one edit: after an authority `/a/../b/.` leaves `/b/`
@@ -48,7 +48,7 @@ impl<R: HeldRule, C: CharSet> ReferenceBuf<R, C> {
             (with_path (path_value path.entry) (reference_buf_value self.old))
             (reference_buf_value self.new)) }
     {
-        self.held.set_and_normalize_path(path.as_str())
+        self.inner.set_and_normalize_path(path.as_str())
     }
 
     /// Replaces, adds or removes the query (RFC 3986 section 3.4): `a` with `q` becomes `a?q`.
@@ -58,7 +58,7 @@ impl<R: HeldRule, C: CharSet> ReferenceBuf<R, C> {
             result }
         ensures none { IsNone query.entry → IsOk result }
     {
-        self.held.set_query(text_of(query))
+        self.inner.set_query(text_of(query))
     }
 
     /// Replaces, adds or removes the fragment (RFC 3986 section 3.5): `a` with `f` becomes `a#f`.
@@ -68,7 +68,7 @@ impl<R: HeldRule, C: CharSet> ReferenceBuf<R, C> {
             result }
         ensures none { IsNone fragment.entry → IsOk result }
     {
-        self.held.set_fragment(text_of(fragment))
+        self.inner.set_fragment(text_of(fragment))
     }
 }
 
@@ -81,7 +81,7 @@ impl<C: CharSet> UriRefBuf<C> {
             result }
         ensures none { IsNone scheme.entry → IsOk result }
     {
-        self.held.set_scheme(text_of(scheme))
+        self.inner.set_scheme(text_of(scheme))
     }
 }
 
@@ -91,6 +91,6 @@ impl<C: CharSet> UriBuf<C> {
     pub fn set_scheme(&mut self, scheme: Scheme<'_>) -> Result<(), Memory>
         ensures { Edits (with_scheme (Some (text_of scheme.entry))) self.old self.new result }
     {
-        self.held.set_scheme(Some(scheme.as_str()))
+        self.inner.set_scheme(Some(scheme.as_str()))
     }
 }

@@ -1,15 +1,15 @@
 //! Owned values of the text of a URL.
 ghost use Rattle.std.specs.Prelude.{◌≡◌};
-ghost use Rattle.iref_buffer.specs.{Text, InUtf8, Parses};
+ghost use Rattle.iref_reference_text.specs.{Text, InUtf8, Parses};
 ghost use Rattle.iref_reference.specs.References.{reference_buf_text};
 ghost use Rattle.url.specs.Parts.{serialize};
 ghost use Rattle.iref_url.specs.declared.error.FromUrlError.TheVariants.{Invalid};
 
 use crate::error::FromUrlError;
-use iref_buffer::held::HeldRule;
 use iref_component::rule::Refuses;
 use iref_grammar::chars::CharSet;
 use iref_reference::owned::ReferenceBuf;
+use iref_reference_text::reference_text::HeldRule;
 use url::Url;
 
 /// An owned value that is made of the text of a URL: `UriBuf`, `UriRefBuf`, `IriBuf` and

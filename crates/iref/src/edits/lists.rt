@@ -226,7 +226,7 @@ fn apply_list<R: SetsScheme, C: CharSet>(
 ///
 /// The number of the first edit that is refused, from 0, and why: those before it are done.
 /// `NoAuthority` if it edits a subcomponent of an absent authority, even to remove it.
-#[tactic(auto, using(iref_buffer::proofs::HeldLemmas::spelled))]
+#[tactic(auto, using(iref_reference_text::proofs::ReferenceTextLemmas::spelled))]
 pub fn apply_all<C: CharSet>(reference: &mut UriRefBuf<C>, edits: &[Edit<'_, C>]) -> Applied
     ensures { AppliesTo edited (map edit_step edits.now) reference.old reference.new result }
 {
@@ -234,7 +234,7 @@ pub fn apply_all<C: CharSet>(reference: &mut UriRefBuf<C>, edits: &[Edit<'_, C>]
 }
 
 /// Does the edits of a URI as `apply_all` does; `SchemeNeeded` if an edit removes the scheme.
-#[tactic(auto, using(iref_buffer::proofs::HeldLemmas::spelled))]
+#[tactic(auto, using(iref_reference_text::proofs::ReferenceTextLemmas::spelled))]
 pub fn apply_all_uri<C: CharSet>(uri: &mut UriBuf<C>, edits: &[Edit<'_, C>]) -> Applied
     ensures { AppliesTo edited_uri (map edit_step edits.now) uri.old uri.new result }
 {

@@ -1,20 +1,20 @@
 //! Edits of the path and of the parts of the authority, by the editors of these.
 ghost use Rattle.std.specs.Prelude.{◌≡◌, true, is_some};
-ghost use Rattle.iref_buffer.specs.{offsets_of, context_of, is_reference, read_reference};
+ghost use Rattle.iref_reference_text.specs.{offsets_of, context_of, is_reference, read_reference};
 ghost use Rattle.iref_component.specs.PathEdits.{Borrows, IsEditorOf};
 ghost use Rattle.iref.specs.EditAnswers.{DoesEdit, is_authority_edit, is_path_edit};
 ghost use Rattle.iref.specs.EditSteps.{edit_step};
 ghost use Rattle.iref_component.specs.AuthorityEdits as authority;
 
 use crate::edits::Edit;
-use iref_buffer::held::HeldRule;
 use iref_component::authority_mut::{AuthorityMut, AuthorityPart};
 use iref_component::path_mut::PathMut;
-use iref_edit::target::Target;
 use iref_error::Memory;
 use iref_grammar::chars::CharSet;
-use iref_path_text::target::PathTarget;
+use iref_path::target::PathTarget;
 use iref_reference::owned::ReferenceBuf;
+use iref_reference_text::reference_text::HeldRule;
+use iref_splice::target::Target;
 
 // Two traits, each for `ReferenceBuf` alone: the kit's borrow checker covers the calls of an editor
 // only where its owner is a type parameter.

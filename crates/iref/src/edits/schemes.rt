@@ -5,11 +5,11 @@ ghost use Rattle.iref_model.specs.Edits.{SetScheme};
 ghost use Rattle.iref.specs.EditAnswers.{AppliesEdit, edited_in};
 
 use crate::edits::EditFault;
-use iref_buffer::held::HeldRule;
-use iref_component::texts::Scheme;
+use iref_component::named_texts::Scheme;
 use iref_grammar::chars::CharSet;
 use iref_reference::owned::{ReferenceBuf, UriBuf, UriRefBuf};
 use iref_reference::rule::{ReferenceRule, UriRule};
+use iref_reference_text::reference_text::HeldRule;
 
 /// A rule of references, with what an edit of the scheme does under it.
 pub trait SetsScheme: HeldRule {

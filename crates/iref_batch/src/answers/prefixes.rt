@@ -2,14 +2,14 @@
 ghost use Rattle.std.specs.Prelude.{◌≡◌, ◌∷◌, Some, true, OnOk, OnErr, IfErr};
 ghost use Rattle.std.specs.Option.{option_copied};
 ghost use Rattle.iref.specs.Characters.{iri_chars};
-ghost use Rattle.iref_lines.specs.Lines.{Answered, answer_text, are_valid_entries, part_field};
-ghost use Rattle.iref_lines.specs.Lines.{read_entry, text_and_entries};
+ghost use Rattle.iref_answers.specs.Lines.{Answered, answer_text, are_valid_entries, part_field};
+ghost use Rattle.iref_answers.specs.Lines.{read_entry, text_and_entries};
 ghost use Rattle.iref.specs.PrefixTable.{compact_text};
 ghost use Rattle.iref.specs.Prefixes.{compact_value};
 ghost use Rattle.iref_batch.specs.{EditFields.{IsRead}, Fields.{fields_of}, Gathering.{Puts}};
 ghost use Rattle.iref_batch.specs.{Gathering.{PutsReply}, PrefixFields.{entries_read, HasTaken}};
 ghost use Rattle.iref_batch.specs.{PrefixFields.{TakesNot}, Requests.{asked_of}, Runs.{reply_to}};
-ghost use Rattle.iref_lines.specs.Lines as spec;
+ghost use Rattle.iref_answers.specs.Lines as spec;
 
 use super::{put_answered, put_refused, put_text};
 use crate::edit_fields::FieldError;
@@ -17,7 +17,7 @@ use crate::request::{TableVerb, next_field};
 use iref::Memory;
 use iref::compact::{Compact, ExpandFault, PrefixFault, Prefixes};
 use iref::iri::Iri;
-use iref_lines::cut_bytes;
+use iref_answers::cut_bytes;
 use std::alloc::Global;
 use std::str;
 

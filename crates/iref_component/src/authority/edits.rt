@@ -6,17 +6,17 @@ ghost use Rattle.iref_component.specs.{AuthorityTexts.{one_whole}, Components.{t
 ghost use Rattle.iref_component.specs.Tries.{Tests, TestsIfSome};
 ghost use Rattle.iref_grammar.specs.{IsAuthority, IsHost, IsPort, IsUserInfo};
 ghost use Rattle.iref_model.specs.{port_text};
-ghost use Rattle.iref_edit.proofs.PartLemmas.{whole_is_within};
+ghost use Rattle.iref_splice.proofs.PartLemmas.{whole_is_within};
 ghost use Rattle.iref_model.specs.AuthoritySteps.{with_user_info, with_host, with_port};
 
 use crate::authority::{Authority, AuthorityBuf};
 use crate::authority_mut::{AuthorityMut, AuthorityPart};
-use crate::tested::Tried;
-use crate::texts::{Host, Port, UserInfo};
-use iref_edit::change::{Change, Span};
-use iref_edit::target::Target;
+use crate::named_texts::{Host, Port, UserInfo};
+use crate::test_before_edit::Tried;
 use iref_error::{InvalidAuthority, InvalidHost, InvalidPort, InvalidUserInfo, Memory};
 use iref_grammar::chars::CharSet;
+use iref_splice::change::{Change, Span};
+use iref_splice::target::Target;
 use std::alloc::Global;
 
 impl<C: CharSet> Target<AuthorityPart, C> for AuthorityBuf<C> {

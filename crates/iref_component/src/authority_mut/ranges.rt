@@ -7,7 +7,7 @@ ghost use Rattle.iref_grammar.specs.{Texts.{then_part}, Tests.{is_user_info, is_
 ghost use Rattle.iref_grammar.specs.{Tests.{none_or}, Authority.{is_authority, read_authority}};
 ghost use Rattle.iref_model.specs.AuthoritySteps.{with_user_info, with_host, with_port};
 ghost use Rattle.iref_component.specs.AuthorityTexts.{SpellsAuthority, marked_length};
-ghost use Rattle.iref_edit.specs.Changes.{IsWithin};
+ghost use Rattle.iref_splice.specs.Changes.{IsWithin};
 
 use iref_grammar::chars::CharSet;
 use iref_parse::authority::split_parts;

@@ -7,12 +7,12 @@ ghost use Rattle.iref_model.specs.AuthoritySteps.{with_user_info, with_host, wit
 use crate::authority::Authority;
 use crate::authority_mut::{AuthorityMut, AuthorityPart};
 use crate::borrowed::borrowed_of;
-use crate::rules::{AuthorityRule, HostRule, PortRule, UserInfoRule};
-use crate::tested::{Tried, test};
-use crate::texts::Host;
-use iref_edit::target::Target;
+use crate::component_rules::{AuthorityRule, HostRule, PortRule, UserInfoRule};
+use crate::named_texts::Host;
+use crate::test_before_edit::{Tried, test};
 use iref_error::{InvalidAuthority, InvalidHost, InvalidPort, InvalidUserInfo, TryError};
 use iref_grammar::chars::CharSet;
+use iref_splice::target::Target;
 
 impl<C: CharSet, T: Target<AuthorityPart, C>> AuthorityMut<'_, C, T> {
     ghost use Rattle.iref_component.specs.AuthorityEdits.{Edits};

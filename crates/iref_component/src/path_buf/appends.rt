@@ -6,9 +6,9 @@ ghost use Rattle.iref_component.specs.{PathEdits.{SpellsPath}, Paths.{path_value
 ghost use Rattle.iref_grammar.specs.{alone};
 ghost use Rattle.iref_model.specs.PathSteps as step;
 
+use crate::named_texts::Segment;
 use crate::path::Path;
 use crate::path_buf::PathBuf;
-use crate::texts::Segment;
 use iref_error::Memory;
 use iref_grammar::chars::CharSet;
 use std::alloc::Global;

@@ -4,21 +4,21 @@ ghost use Rattle.iref_component.specs.{Components.{text_of}, PathEdits.{Borrows,
 ghost use Rattle.iref_component.specs.{PathEdits.{IsEditorOf, SpellsPath}, Paths.{path_value}};
 ghost use Rattle.iref_component.specs.WholePaths.{IsWholePath, one_whole_path};
 ghost use Rattle.iref_grammar.specs.{alone, is_empty, spell_path};
-ghost use Rattle.iref_edit.proofs.PartLemmas.{whole_is_within};
+ghost use Rattle.iref_splice.proofs.PartLemmas.{whole_is_within};
 ghost use Rattle.iref_model.specs.PathSteps as step;
 
+use crate::named_texts::Segment;
 use crate::path::Path;
 use crate::path_buf::PathBuf;
 use crate::path_mut::PathMut;
-use crate::texts::Segment;
-use iref_edit::change::{Change, Span};
-use iref_edit::target::Target;
 use iref_error::Memory;
 use iref_grammar::chars::CharSet;
 use iref_grammar::context::PathContext;
-use iref_path_text::part::PathPart;
-use iref_path_text::rewriting::rewrite_text;
-use iref_path_text::target::PathTarget;
+use iref_path::path_part::PathPart;
+use iref_path::rewriting::rewrite_text;
+use iref_path::target::PathTarget;
+use iref_splice::change::{Change, Span};
+use iref_splice::target::Target;
 use std::alloc::Global;
 use std::mem;
 

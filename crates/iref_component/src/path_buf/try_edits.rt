@@ -6,7 +6,7 @@ ghost use Rattle.iref_grammar.specs.{IsPath, IsSegment, alone, read_path};
 ghost use Rattle.iref_model.specs.PathSteps as step;
 
 use crate::path_buf::PathBuf;
-use crate::tested::Tried;
+use crate::test_before_edit::Tried;
 use iref_error::{InvalidPath, InvalidSegment};
 use iref_grammar::chars::CharSet;
 

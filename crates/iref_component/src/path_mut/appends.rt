@@ -5,15 +5,15 @@ ghost use Rattle.iref_component.specs.{Components.{text_of}, PathEdits.{Becomes,
 ghost use Rattle.iref_component.specs.{PathEdits.{IsSameEditor}, Paths.{path_value}};
 ghost use Rattle.iref_model.specs.PathSteps as step;
 
+use crate::named_texts::Segment;
 use crate::path::Path;
 use crate::path_mut::PathMut;
-use crate::texts::Segment;
-use iref_edit::target::Target;
 use iref_error::Memory;
 use iref_grammar::chars::CharSet;
-use iref_path_text::names::is_name;
-use iref_path_text::part::PathPart;
-use iref_path_text::steps;
+use iref_path::path_part::PathPart;
+use iref_path::staying_names::is_name;
+use iref_path::steps;
+use iref_splice::target::Target;
 use std::alloc::Global;
 
 // Room for the `/` or the guard before the first segment that is appended, and the `/` at the end.

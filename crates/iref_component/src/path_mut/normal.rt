@@ -8,10 +8,10 @@ ghost use Rattle.iref_model.specs.PathSteps as step;
 use crate::path_mut::PathMut;
 use iref_error::Memory;
 use iref_grammar::chars::CharSet;
-use iref_path_text::rewriting::normal_lead;
-use iref_path_text::segments::split_root;
-use iref_path_text::spell::normalized_text;
-use iref_path_text::target::PathTarget;
+use iref_path::rewriting::normal_lead;
+use iref_path::segments::split_root;
+use iref_path::spell::normalized_text;
+use iref_path::target::PathTarget;
 
 impl<C: CharSet, T: PathTarget<C>> PathMut<'_, C, T> {
     /// Replaces the path by its normal form, guarded where that is needed (RFC 3986 section 5.2.4).

@@ -6,14 +6,14 @@ ghost use Rattle.iref_component.specs.Tries.{Tests};
 ghost use Rattle.iref_grammar.specs.{IsPath, IsSegment, read_path};
 ghost use Rattle.iref_model.specs.PathSteps as step;
 
+use crate::component_rules::{PathRule, SegmentRule};
 use crate::path_mut::PathMut;
-use crate::rules::{PathRule, SegmentRule};
-use crate::tested::{Tried, read};
-use iref_edit::target::Target;
+use crate::test_before_edit::{Tried, read};
 use iref_error::{InvalidPath, InvalidSegment, TryError};
 use iref_grammar::chars::CharSet;
-use iref_path_text::names::is_name;
-use iref_path_text::part::PathPart;
+use iref_path::path_part::PathPart;
+use iref_path::staying_names::is_name;
+use iref_splice::target::Target;
 
 impl<C: CharSet, T: Target<PathPart, C>> PathMut<'_, C, T> {
     /// Appends a text as a segment, as it is: `a` with `..` becomes `a/..`. `Invalid` holds a text

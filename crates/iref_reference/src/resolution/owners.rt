@@ -10,10 +10,10 @@ ghost use Rattle.std.specs.Prelude.{◌≡◌, IfErr, IfOk, IsSome, OnErr, OnOk}
 use super::resolved_uri;
 use crate::borrowed::{Uri, UriRef};
 use crate::owned::{ReferenceBuf, UriBuf, UriRefBuf};
-use iref_buffer::held::HeldRule;
 use iref_error::{InvalidUri, InvalidUriRef, Memory, TryError};
 use iref_grammar::chars::CharSet;
 use iref_parse::split::split_reference;
+use iref_reference_text::reference_text::HeldRule;
 use std::alloc::Global;
 
 impl<R: HeldRule, C: CharSet> ReferenceBuf<R, C> {
@@ -33,8 +33,8 @@ impl<C: CharSet> UriRefBuf<C> {
             (reference_buf_text self.now) (reference_buf_text uri)) }
         ensures scheme { IfOk result (λ uri. IsSome (reference_buf_value uri).scheme) }
     {
-        let (base, alloc) = (base.as_str(), *self.held.allocator());
-        let reference = self.held.slices();
+        let (base, alloc) = (base.as_str(), *self.inner.allocator());
+        let reference = self.inner.slices();
         resolved_uri(alloc, base, split_reference(base), self.as_str(), reference)
     }
 
@@ -106,8 +106,8 @@ impl<C: CharSet> UriBuf<C> {
             (reference_text reference.entry) (reference_buf_text self.new)) }
         ensures err { OnErr result (reference_buf_text self.new ≡ reference_buf_text self.old) }
     {
-        let (text, alloc) = (reference.as_str(), *self.held.allocator());
-        let base = self.held.slices();
+        let (text, alloc) = (reference.as_str(), *self.inner.allocator());
+        let base = self.inner.slices();
         *self = resolved_uri(alloc, self.as_str(), base, text, split_reference(text))?;
         Ok(())
     }

@@ -5,18 +5,18 @@ ghost use Rattle.iref_component.specs.{with_authority, with_fragment, with_path,
 ghost use Rattle.iref_component.specs.{with_scheme};
 ghost use Rattle.iref_reference.specs.HandedBack.{TellsInvalidBeside};
 ghost use Rattle.iref_reference.specs.References.{reference_buf_text, reference_text, StepsFrom};
-ghost use Rattle.iref_buffer.specs.Steps.{IsStep};
+ghost use Rattle.iref_reference_text.specs.Steps.{IsStep};
 
 use crate::borrowed::{Reference, UriRef};
 use crate::owned::{ReferenceBuf, UriBuf, UriRefBuf};
-use iref_buffer::held::{Held, HeldRule};
 use iref_component::authority::Authority;
 use iref_component::borrowed::text_of;
+use iref_component::named_texts::{Fragment, Query, Scheme};
 use iref_component::path::Path;
-use iref_component::tested::read;
-use iref_component::texts::{Fragment, Query, Scheme};
+use iref_component::test_before_edit::read;
 use iref_error::{InvalidScheme, Memory, TryError};
 use iref_grammar::chars::CharSet;
+use iref_reference_text::reference_text::{HeldRule, ReferenceText};
 use std::alloc::Global;
 
 /// A copy of a reference, such as `a?x` of `a?q` with the query `x`, or `Memory` where memory runs
@@ -28,7 +28,7 @@ impl<R: HeldRule, C: CharSet> Reference<'_, R, C> {
     pub(crate) fn copy_for(&self, alloc: Global, part: Option<&str>) -> Copied<R, C>
         ensures { IfOk result (λ copy. reference_buf_text copy ≡ reference_text self.now) }
     {
-        Ok(ReferenceBuf::from_held(Held::copied(alloc, self.as_str(), part)?))
+        Ok(ReferenceBuf::from_inner(ReferenceText::copied(alloc, self.as_str(), part)?))
     }
 
     /// A copy under a scheme: of `x`, under `s`, `s:x`.
@@ -88,9 +88,9 @@ impl<C: CharSet> UriRefBuf<C> {
             (reference_buf_text self) (reference_buf_text uri)) }
         ensures err { IfErr result (λ error. error.0 ≡ self) }
     {
-        match self.held.into_with_scheme(scheme.as_str()) {
-            Ok(held) => Ok(UriBuf::from_held(held)),
-            Err(held) => Err((UriRefBuf::from_held(held), Memory)),
+        match self.inner.into_with_scheme(scheme.as_str()) {
+            Ok(inner) => Ok(UriBuf::from_inner(inner)),
+            Err(inner) => Err((UriRefBuf::from_inner(inner), Memory)),
         }
     }
 

@@ -7,13 +7,15 @@ ghost use Rattle.iref_component.specs.{with_path, with_query, with_scheme, Tests
 ghost use Rattle.iref_reference.specs.References.{Edits};
 
 use crate::owned::{ReferenceBuf, UriRefBuf};
-use iref_buffer::held::HeldRule;
-use iref_component::rules::{AuthorityRule, FragmentRule, PathRule, QueryRule, SchemeRule};
-use iref_component::tested::{Tried, test};
+use iref_component::component_rules::{
+    AuthorityRule, FragmentRule, PathRule, QueryRule, SchemeRule,
+};
+use iref_component::test_before_edit::{Tried, test};
 use iref_error::{
     InvalidAuthority, InvalidFragment, InvalidPath, InvalidQuery, InvalidScheme, TryError,
 };
 use iref_grammar::chars::CharSet;
+use iref_reference_text::reference_text::HeldRule;
 
 impl<R: HeldRule, C: CharSet> ReferenceBuf<R, C> {
     /// Does as `set_authority` does with a text: `Invalid` holds a text that is not an authority.
@@ -26,7 +28,9 @@ impl<R: HeldRule, C: CharSet> ReferenceBuf<R, C> {
         ensures text { TestsIfSome (IsAuthority C.tests) authority.entry (λ error. error.0) result }
     {
         test::<AuthorityRule, C>(authority)?;
-        self.held.set_authority(authority).or(Err(TryError::Memory))
+        self.inner
+            .set_authority(authority)
+            .or(Err(TryError::Memory))
     }
 
     /// Does as `set_path` does with a text: `Invalid` holds a text that is not a path.
@@ -35,7 +39,7 @@ impl<R: HeldRule, C: CharSet> ReferenceBuf<R, C> {
         ensures text { Tests (IsPath C.tests) path.entry (λ error. error.0) result }
     {
         test::<PathRule, C>(Some(path))?;
-        self.held.set_path(path).or(Err(TryError::Memory))
+        self.inner.set_path(path).or(Err(TryError::Memory))
     }
 
     /// Does as `set_query` does with a text: `Invalid` holds a text that is not a query.
@@ -44,7 +48,7 @@ impl<R: HeldRule, C: CharSet> ReferenceBuf<R, C> {
         ensures text { TestsIfSome (IsQuery C.tests) query.entry (λ error. error.0) result }
     {
         test::<QueryRule, C>(query)?;
-        self.held.set_query(query).or(Err(TryError::Memory))
+        self.inner.set_query(query).or(Err(TryError::Memory))
     }
 
     /// Does as `set_fragment` does with a text: `Invalid` holds a text that is not a fragment.
@@ -57,7 +61,7 @@ impl<R: HeldRule, C: CharSet> ReferenceBuf<R, C> {
         ensures text { TestsIfSome (IsFragment C.tests) fragment.entry (λ error. error.0) result }
     {
         test::<FragmentRule, C>(fragment)?;
-        self.held.set_fragment(fragment).or(Err(TryError::Memory))
+        self.inner.set_fragment(fragment).or(Err(TryError::Memory))
     }
 }
 
@@ -68,6 +72,6 @@ impl<C: CharSet> UriRefBuf<C> {
         ensures text { TestsIfSome IsScheme scheme.entry (λ error. error.0) result }
     {
         test::<SchemeRule, C>(scheme)?;
-        self.held.set_scheme(scheme).or(Err(TryError::Memory))
+        self.inner.set_scheme(scheme).or(Err(TryError::Memory))
     }
 }

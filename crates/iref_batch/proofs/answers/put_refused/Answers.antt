@@ -1,5 +1,5 @@
 use Rattle.std.proofs.Common.{◌≡◌, [], append-nil, sym}
-use Rattle.iref_lines.specs.Lines.{BadCommand, InvalidText, answer_text}
+use Rattle.iref_answers.specs.Lines.{BadCommand, InvalidText, answer_text}
 use Rattle.iref_batch.proofs.answers.put_refused.Goals as goal
 
 pub returns-in-Command : goal.returns-in-Command

@@ -2,7 +2,7 @@ use Rattle.std.proofs.Common.{subst, Option}
 use Rattle.std.specs.Option.{option_copied}
 use Rattle.iref.specs.Characters.{iri_chars}
 use Rattle.iref.specs.Edits.{EditStep}
-use Rattle.iref_lines.specs.Lines.{is_valid_edit}
+use Rattle.iref_answers.specs.Lines.{is_valid_edit}
 use Rattle.iref_batch.specs.EditFields.{IsRead}
 use Rattle.iref.specs.EditSteps.{edit_step}
 use Rattle.iref_batch.proofs.EditFieldLemmas.{read_is_named}

@@ -3,8 +3,8 @@ use Rattle.iref_grammar.proofs.ComponentLemmas.{Decides-AreComponents, reference
 use Rattle.iref_model.specs.Resolution.{resolved}
 use Rattle.iref_grammar.specs.Reference.{read_reference}
 use Rattle.iref_parse.specs.ReferenceSlices.{texts_of, value_of}
-use Rattle.iref_buffer.proofs.LeadLemmas.{readable-fits}
-use Rattle.iref_buffer.proofs.MeasuredLemmas.{spells_same}
+use Rattle.iref_reference_text.proofs.LeadLemmas.{readable-fits}
+use Rattle.iref_reference_text.proofs.MeasuredLemmas.{spells_same}
 use Rattle.iref_reference.proofs.ResolutionLemmas.{front-leaves, front-resolved, readable_slices, resolved-scheme, whole-leaves, whole-resolved}
 use Rattle.iref_reference.proofs.resolution.resolved_uri.Goals as goal
 
@@ -24,7 +24,7 @@ returns-in-Some g c =
     spells_same (resolved (read_reference c.args.base_text.now) (read_reference c.args.text.now)) _ _
     (front-resolved g.C.CharSet.tests g.met.C.CharSet.above_ascii c.args.base_text.now c.args.text.now (value_of c.args.base) (value_of c.args.reference)
     c.requires.base c.requires.reference c.requires.base_text c.requires.text (c.in-Some.front, c.in-Some.lengths) c.in-Some.ensures)
-    (c.from_held.ensures ∙ c.in_ok-held.ensures)
+    (c.from_inner.ensures ∙ c.in_ok-inner.ensures)
 
 pub resolved-requires-clause-base : goal.resolved-requires-clause-base
 resolved-requires-clause-base g c =
@@ -53,4 +53,4 @@ returns-in-Some-resolved_forward g c =
     spells_same (resolved (read_reference c.args.base_text.now) (read_reference c.args.text.now)) _ _
     (whole-resolved g.C.CharSet.tests g.met.C.CharSet.above_ascii c.args.base_text.now c.args.text.now (value_of c.args.base) (value_of c.args.reference)
     c.requires.base c.requires.reference c.requires.base_text c.requires.text c.in-Some-resolved_forward.bytes.items c.in-Some-resolved_forward.lengths c.in-Some-resolved_forward.ensures)
-    (c.from_held-in-Some-resolved_forward.ensures ∙ c.of_bytes.ensures)
+    (c.from_inner-in-Some-resolved_forward.ensures ∙ c.of_bytes.ensures)

@@ -1,4 +1,4 @@
-use Rattle.iref_path_text.specs.Listed.{listed_left}
+use Rattle.iref_path.specs.Listed.{listed_left}
 use Rattle.iref_model.proofs.NormalGrammarLemmas.{normal_in_grammar}
 use Rattle.iref_component.proofs.normal.NormalizedSegments.of_text.Goals as goal
 

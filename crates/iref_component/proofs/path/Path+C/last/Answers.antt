@@ -2,7 +2,7 @@ use Rattle.std.proofs.Common.{ap, ◌∙◌, None}
 use Rattle.std.specs.List.{last_or}
 use Rattle.iref_component.specs.Components.{text_of}
 use Rattle.iref_component.specs.Paths.{segments_left}
-use Rattle.iref_path_text.proofs.SlashLemmas.{last_given}
+use Rattle.iref_path.proofs.SlashLemmas.{last_given}
 use Rattle.iref_component.proofs.path.Path+C.last.Goals as goal
 
 pub returns : goal.returns

@@ -1,6 +1,6 @@
 use Rattle.std.proofs.Common.{◌+◌, length, refl, sym, ap, ◌∙◌}
 use Rattle.std.specs.List.{splice}
-use Rattle.iref_edit.proofs.PartLemmas.{part_stands}
+use Rattle.iref_splice.proofs.PartLemmas.{part_stands}
 use Rattle.iref_grammar.specs.PathValue.{read_path}
 use Rattle.iref_component.specs.PathEdits.{edited_bytes}
 use Rattle.iref_component.proofs.path_mut.PathMut.apply.Goals as goal

@@ -1,11 +1,11 @@
 use Rattle.std.proofs.Common.{◌+◌, length, refl, ap, ◌∙◌}
 use Rattle.std.specs.List.{splice}
 use Rattle.std.proofs.lemmas.Result.{MatchResult-weaker}
-use Rattle.iref_edit.proofs.PartLemmas.{part_stands}
+use Rattle.iref_splice.proofs.PartLemmas.{part_stands}
 use Rattle.iref_grammar.specs.PathValue.{read_path}
 use Rattle.iref_component.specs.PathEdits.{edited_bytes, path_mut_context, path_mut_text}
 use Rattle.iref_component.proofs.PathEditLemmas.{normal_dots, normal_fits}
-use Rattle.iref_path_text.proofs.SpellLemmas.{normalized-read}
+use Rattle.iref_path.proofs.SpellLemmas.{normalized-read}
 use Rattle.iref_component.proofs.path_mut.PathMut.normalize.Goals as goal
 
 pub returns-then-len-path-clause-dots : goal.returns-then-len-path-clause-dots

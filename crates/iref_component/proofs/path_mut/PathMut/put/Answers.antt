@@ -1,9 +1,9 @@
 use Rattle.std.proofs.Common.{[], ◌++◌, length, refl, ap, subst, ◌∙◌}
 use Rattle.std.proofs.lemmas.List.{append-nil}
 use Rattle.std.proofs.lemmas.Str.{IsCharBoundary-start}
-use Rattle.iref_edit.specs.Changes.{IsWithin}
+use Rattle.iref_splice.specs.Changes.{IsWithin}
 use Rattle.iref_grammar.specs.PathValue.{read_path}
-use Rattle.iref_path_text.proofs.StepTextLemmas.{to_end}
+use Rattle.iref_path.proofs.StepTextLemmas.{to_end}
 use Rattle.iref_component.specs.PathEdits.{path_mut_context, path_mut_text}
 use Rattle.iref_component.proofs.PathEditLemmas.{put_steps, splice_all}
 use Rattle.iref_component.proofs.path_mut.PathMut.put.Goals as goal

@@ -1,7 +1,7 @@
 use Rattle.std.proofs.Common.{ap, ◌∙◌}
-use Rattle.iref_buffer.specs.ComponentLengths.{total_length}
-use Rattle.iref_buffer.specs.MeasuredReferences.{measured_components}
-use Rattle.iref_buffer.proofs.MeasuredLemmas.{total-texts}
+use Rattle.iref_reference_text.specs.ComponentLengths.{total_length}
+use Rattle.iref_reference_text.specs.MeasuredReferences.{measured_components}
+use Rattle.iref_reference_text.proofs.MeasuredLemmas.{total-texts}
 use Rattle.iref_reference.proofs.composed.Composed.of_components.Goals as goal
 
 pub invariant_of-result : goal.invariant_of-result

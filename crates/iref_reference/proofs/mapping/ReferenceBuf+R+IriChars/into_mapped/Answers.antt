@@ -8,5 +8,5 @@ pub returns-in-Ok-clause-ok : goal.returns-in-Ok-clause-ok
 returns-in-Ok-clause-ok g c =
     let iri = reference_buf_text c.args.self in
     let tested : g.R.Rule.test iri_chars iri ≡ true = search rules in
-    kept iri (reference_buf_text c.from_held.result) _ (g.met.R.HeldRule.references iri_chars iri tested) (λ u. g.met.R.HeldRule.references uri_chars iri ((g.R.Rule.decided uri_chars uri_above_ascii iri).1 u))
-    (c.from_held.ensures ∙ c.in-Ok.ensures.ok)
+    kept iri (reference_buf_text c.from_inner.result) _ (g.met.R.HeldRule.references iri_chars iri tested) (λ u. g.met.R.HeldRule.references uri_chars iri ((g.R.Rule.decided uri_chars uri_above_ascii iri).1 u))
+    (c.from_inner.ensures ∙ c.in-Ok.ensures.ok)

@@ -6,7 +6,7 @@ use Rattle.iref_grammar.specs.Authority.{AuthorityValue, spell_authority}
 use Rattle.iref_grammar.specs.ComponentOffsets.{offsets_of, text_at}
 use Rattle.iref_grammar.specs.Reference.{read_reference}
 use Rattle.iref_grammar.proofs.RangeLemmas.{authority_range}
-use Rattle.iref_buffer.proofs.AuthorityRangeLemmas.{some_if_placed}
+use Rattle.iref_reference_text.proofs.AuthorityRangeLemmas.{some_if_placed}
 use Rattle.iref_reference.specs.References.{reference_buf_text}
 use Rattle.iref_reference.proofs.owned.ReferenceBuf.authority_mut.Goals as goal
 

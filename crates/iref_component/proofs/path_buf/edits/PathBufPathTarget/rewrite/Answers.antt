@@ -1,8 +1,8 @@
 use Rattle.std.proofs.Common.{◌≡◌, sym, ap, subst, ◌∙◌}
 use Rattle.std.specs.Prelude.{IsUtf8}
 use Rattle.std.specs.String.{string_bytes}
-use Rattle.iref_path_text.specs.PathParts.{path_is_text}
-use Rattle.iref_path_text.specs.Rewriting.{rewritten_at}
+use Rattle.iref_path.specs.PathParts.{path_is_text}
+use Rattle.iref_path.specs.Rewriting.{rewritten_at}
 use Rattle.iref_component.specs.Components.{text_of}
 use Rattle.iref_component.proofs.PathEditLemmas.{splice_all}
 use Rattle.iref_component.proofs.path_buf.edits.PathBufPathTarget.rewrite.Goals as goal

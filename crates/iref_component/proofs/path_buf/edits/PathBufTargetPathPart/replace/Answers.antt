@@ -1,6 +1,6 @@
 use Rattle.std.proofs.Common.{sym, ap, ◌∙◌}
 use Rattle.iref_grammar.proofs.TextLemmas.{first_of_both}
-use Rattle.iref_path_text.specs.PathParts.{is_path_after}
+use Rattle.iref_path.specs.PathParts.{is_path_after}
 use Rattle.iref_component.specs.Components.{text_of}
 use Rattle.iref_component.proofs.WholeLemmas.{whole_part, whole_changed, whole_at, whole_end}
 use Rattle.iref_component.proofs.path_buf.edits.PathBufTargetPathPart.replace.Goals as goal

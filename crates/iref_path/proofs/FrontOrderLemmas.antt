@@ -1,0 +1,46 @@
+-- Lists of segments that are compared from the front.
+use Rattle.std.proofs.Common.{◌≡◌, false, List, [], ◌∷◌, ◌++◌, refl, sym, ap, ◌∙◌, arith, Equal}
+use Rattle.std.proofs.lemmas.List.{map-append}
+use Rattle.std.specs.Ordering.{ordering_then}
+use Rattle.percent_encoding.specs.Percent.{percent_decode}
+use Rattle.std.proofs.lemmas.Map.Text.{is_eq-slice_cmp}
+use Rattle.std.proofs.lemmas.Slice.Eq.{bytes_eq-Decides}
+use Rattle.std.specs.Cmp.Lexicographic.{slice_cmp}
+use Rattle.iref_grammar.specs.Keys.{text_order}
+use Rattle.iref_grammar.specs.PathValue.{read_path, is_one_empty}
+use Rattle.iref_grammar.specs.Rules.{Text}
+use Rattle.iref_model.specs.NormalList.{normal_segments}
+use Rattle.iref_parse.specs.Dots.{is_some_dotted}
+use Rattle.iref_path.specs.Pieces.{ShareFront}
+use Rattle.iref_path.proofs.OrderLemmas.{decoded}
+use Rattle.iref_path.proofs.DotlessLemmas.{normal_segments-dotless, whole_text}
+
+-- ---- what both begin with does not count
+
+own_order : (text : Text) → text_order text text ≡ Equal
+own_order text = grind (arith, bytes_eq-Decides, is_eq-slice_cmp text text)
+
+pub same_order : (front xs ys : List Text) → slice_cmp text_order (front ++ xs) (front ++ ys) ≡ slice_cmp text_order xs ys
+same_order [] xs ys = refl
+same_order (s ∷ front) xs ys = grind (arith, own_order, same_order front)
+
+-- nor does a first segment that decodes to the same bytes
+pub order_behind_first : (s t : Text) (names others below rest : List Text) → text_order (percent_decode s) (percent_decode t) ≡ Equal → ShareFront names others below rest
+    → slice_cmp text_order (decoded below) (decoded rest) ≡ slice_cmp text_order (decoded (s ∷ names)) (decoded (t ∷ others))
+order_behind_first s t names others below rest same shared =
+    let front = decoded shared.front in
+    sym (same_order front (decoded below) (decoded rest))
+    ∙ sym (λ i. slice_cmp text_order ((ap decoded shared.first ∙ map-append percent_decode shared.front below) i) ((ap decoded shared.second ∙ map-append percent_decode shared.front rest) i))
+    ∙ sym (ap (λ o. ordering_then o (slice_cmp text_order (decoded names) (decoded others))) same)
+
+-- ---- paths without dots
+
+-- the segments of a text are not one empty segment
+pub several : (path : Text) → is_one_empty (read_path path).segments ≡ false
+unfolding read_path
+several [] = refl
+several (c ∷ []) = grind arith
+several (c ∷ d ∷ cs) = grind (arith, whole_text)
+
+pub dotless_list : (path : Text) → is_some_dotted (read_path path).segments ≡ false → normal_segments (read_path path) ≡ (read_path path).segments
+dotless_list path h = grind (arith, normal_segments-dotless, several)

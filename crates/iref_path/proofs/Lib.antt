@@ -1,0 +1,24 @@
+pub mod SlashLemmas
+pub mod CountedPathLemmas
+pub mod PathTextLemmas
+pub mod BothEndsLemmas
+pub mod OrderLemmas
+pub mod SpellLemmas
+pub mod StepTextLemmas
+pub mod StepValueLemmas
+mod DifferenceLemmas
+pub mod DirectoryLemmas
+pub mod FrontOrderLemmas
+pub mod NamedLemmas
+pub mod GuardTextLemmas
+pub mod PopTextLemmas
+pub mod MergedLemmas
+pub mod CompareListLemmas
+pub mod WayLemmas
+pub mod SuffixLemmas
+pub mod StackLemmas
+pub mod RewritingLemmas
+pub mod WrittenLemmas
+pub mod DotlessLemmas
+pub mod RelativeStepLemmas
+pub mod ForwardLemmas

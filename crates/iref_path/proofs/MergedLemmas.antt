@@ -1,0 +1,80 @@
+-- The names that stay of two lists read as one, from the back.
+use Rattle.std.proofs.Common.{append_assoc, ◌≡◌, ℕ, ◌+◌, ◌*◌, ◌≤◌, Bool, cond, List, [], ◌∷◌, ◌++◌, length, Option, Some, None, arith}
+use Rattle.std.proofs.lemmas.List.{append-nil}
+use Rattle.std.specs.Borrow.{Bor}
+use Rattle.std.specs.Option.{option_or}
+use Rattle.std.specs.Prelude.{◌==◌, codes}
+use Rattle.iref_grammar.specs.Grammar.{slash}
+use Rattle.iref_grammar.specs.Rules.{Text}
+use Rattle.iref_grammar.specs.Texts.{all_but_last}
+use Rattle.iref_grammar.specs.PathValue.{read_path}
+use Rattle.iref_model.specs.NormalList.{ends_in_dots}
+use Rattle.iref_model.specs.NormalReading.{open_before, staying_before}
+use Rattle.iref_model.proofs.PieceLemmas.{some_piece}
+use Rattle.iref_model.proofs.SettledLemmas.{ends-append}
+use Rattle.iref_model.proofs.StayingLemmas.{open_before-append, staying_before-append}
+use Rattle.iref_path.specs.declared.both_ends.merged.Merged.{Merged}
+use Rattle.iref_path.specs.Merged.{IsBehind, IsMergeSound, merged_left}
+use Rattle.iref_path.specs.Pieces.{pieces_if_some}
+use Rattle.iref_path.specs.BothEnds.{IsSound, first_or, normal_left}
+use Rattle.iref_path.specs.Spelling.{each_closed}
+use Rattle.iref_path.proofs.SpellLemmas.{kept_size, last_size, list_size, read_size, size-append, size-cons, size-parents}
+use Rattle.iref_path.proofs.BothEndsLemmas.{parts_left}
+
+-- this number of `..` is open before the list behind, of which this is left
+module _ (front back left : List Text) (n m : ℕ) (open_is : open_before left m ≡ open_before back n) where
+  pub opened_before : open_before (front ++ left) m ≡ open_before (front ++ back) n
+  opened_before = grind (arith, open_before-append)
+
+  -- a name of the list behind stays
+  pub back_gives : (s : Text) → staying_before back n ≡ staying_before left m ++ s ∷ [] → staying_before (front ++ back) n ≡ staying_before (front ++ left) m ++ s ∷ []
+  back_gives s e = grind (arith, append_assoc, append-nil, staying_before-append)
+
+  -- none is left of the list behind
+  module _ (done : left ≡ []) where
+    pub front_opened : open_before front m ≡ open_before (front ++ back) n
+    front_opened = grind (arith, open_before-append)
+
+    pub front_remains : staying_before back n ≡ [] → staying_before (front ++ back) n ≡ staying_before front m
+    front_remains e = grind (arith, append_assoc, append-nil, staying_before-append)
+
+pub ends-both : (front back : Option (Bor Text)) → ends_in_dots (pieces_if_some (option_or back front)) ≡ ends_in_dots (pieces_if_some front ++ pieces_if_some back)
+ends-both front None = grind (arith, append_assoc, append-nil)
+ends-both front (Some text) = grind (arith, append_assoc, append-nil, some_piece slash text.now, ends-append)
+
+-- how much is written of both at most
+pub after_size : (base path : Text) (front segments kept : List Text) (absolute base_absolute : Bool) → read_path base ≡ record { absolute = base_absolute; segments = front }
+    → read_path path ≡ record { absolute = absolute; segments = segments } → kept ≡ all_but_last front
+    → length (each_closed (kept ++ segments)) ≤ length base + length path + 2
+after_size base path front segments kept absolute base_absolute b p k = grind (arith, size-append, last_size front, read_size base _ b, read_size path _ p)
+
+-- ---- what one reading finds
+
+-- one item more
+pub size_last : (list front : List Text) (s : Text) → list ≡ front ++ s ∷ [] → length (each_closed list) ≡ length (each_closed front) + (length s + 1)
+size_last list front s e = grind (arith, size-append front (s ∷ []), size-cons s [])
+
+pub size-parts : (parents : ℕ) (names : List Text) (closes : Bool) → length (each_closed (parts_left parents names closes)) ≡ 3 * parents + length (each_closed names) + cond closes 1 0
+size-parts parents names closes = grind (arith, size-append, size-parents)
+
+-- what is added up takes no more than the segments
+module _ (list : List Text) (absolute closes : Bool) (opened parents names size closed : ℕ)
+    (opened_is : opened ≡ open_before list 0) (parents_are : parents ≡ cond absolute 0 opened) (names_are : names ≡ length (staying_before list 0))
+    (size_is : size ≡ length (each_closed (staying_before list 0))) (closed_is : closed ≡ cond closes 1 0) where
+  pub size_most : 3 * parents + size + closed ≤ length (each_closed list) + 1
+  size_most = grind (arith, kept_size list)
+
+  pub count_most : parents + names + closed ≤ length (each_closed list) + 1
+  count_most = grind (arith, list_size (staying_before list 0), size_most)
+
+pub first-parts : (parents : ℕ) (names : List Text) (closes : Bool) → first_or [] (parts_left parents names closes) ≡ cond (parents == 0) (first_or [] names) (codes "..")
+first-parts parents names closes = grind arith
+
+-- ---- no segments stand in front
+
+pub behind-left : (m : Merged) → IsBehind m → normal_left m.back ≡ merged_left m
+unfolding normal_left merged_left
+behind-left m h = grind arith
+
+pub behind-sound : (m : Merged) → IsBehind m → IsMergeSound m → IsSound m.back
+behind-sound m h sound = grind arith

@@ -1,0 +1,40 @@
+-- A normal list that is put on a stack from its end.
+use Rattle.std.proofs.Common.{◌≡◌, ℕ, ◌+◌, ◌<◌, ◌≤◌, Bool, List, [], ◌∷◌, ◌++◌, length, map, reverse, take, drop, get_or, ◌∙◌, ap, append_assoc, arith}
+use Rattle.std.specs.Prelude.{replicate, codes}
+use Rattle.std.specs.Borrow.{Bor}
+use Rattle.std.proofs.lemmas.List.{map-append, reverse-append, take-append-drop, take_more}
+use Rattle.iref_grammar.specs.Rules.{Text}
+use Rattle.iref_model.specs.NormalReading.{closing}
+use Rattle.iref_path.specs.Spelling.{each_closed}
+use Rattle.iref_path.specs.Pieces.{text_at}
+use Rattle.iref_path.specs.Stacks.{Completes, in_order}
+use Rattle.iref_path.specs.declared.both_ends.stack.Stack.{Stack}
+use Rattle.iref_path.proofs.BothEndsLemmas.{parts_left}
+use Rattle.iref_path.proofs.SpellLemmas.{size-append, size-cons}
+
+-- the three parts, one after the other
+pub parts_put : (none closed named all : Stack) (parents : ℕ) (names : List Text) (closes : Bool)
+    → ((whole : List Text) → Completes none whole whole)
+    → ((front whole : List Text) → Completes none (front ++ closing closes) whole → Completes closed front whole)
+    → ((front whole : List Text) → Completes closed (front ++ names) whole → Completes named front whole)
+    → ((whole : List Text) → Completes named (replicate parents (codes "..")) whole → Completes all [] whole)
+    → Completes all [] (parts_left parents names closes)
+parts_put none closed named all parents names closes empty h k l =
+    let whole = parts_left parents names closes in
+    l whole (k _ whole (h _ whole (rw append_assoc (empty whole))))
+
+-- ---- items in order
+
+pub in_order-cons : (item : Bor Text) (items : List (Bor Text)) → in_order (item ∷ items) ≡ in_order items ++ text_at item ∷ []
+in_order-cons item items = reverse-append (text_at item ∷ []) (map text_at items)
+
+pub in_order-append : (front back : List (Bor Text)) → in_order (front ++ back) ≡ in_order back ++ in_order front
+in_order-append front back = ap reverse (map-append text_at front back) ∙ reverse-append (map text_at front) (map text_at back)
+
+-- what has been written of them leaves room for the next
+pub stacked_room : (items : List (Bor Text)) (i : ℕ) (d : Bor Text) → i < length items
+    → length (text_at (get_or items i d)) + 1 + length (each_closed (in_order (take i items))) ≤ length (each_closed (in_order items))
+stacked_room items i d h =
+    let next = in_order-append (take i items) (get_or items i d ∷ []) in
+    let all = in_order-append (take (i + 1) items) (drop (i + 1) items) in
+    grind (arith, take_more items i d h, take-append-drop (i + 1) items, size-append, size-cons)

@@ -1,0 +1,45 @@
+-- The way from the directory of one path to another, up to their common beginning and down.
+use Rattle.std.proofs.Common.{◌≡◌, ◌+◌, ◌-◌, ◌*◌, ◌<◌, ◌≤◌, List, [], ◌∷◌, ◌++◌, length, sym, arith, length-append}
+use Rattle.std.specs.Prelude.{Option, Some, None, MatchOption}
+use Rattle.std.specs.Borrow.{Bor}
+use Rattle.std.specs.List.{common_prefix_len}
+use Rattle.iref_grammar.specs.Rules.{Text}
+use Rattle.iref_grammar.specs.Texts.{all_but_last}
+use Rattle.iref_model.specs.PathSuffix.{same_decoded}
+use Rattle.iref_model.specs.Relative.{last_or_empty, steps_between}
+use Rattle.iref_model.proofs.DirectoryLemmas.{all_but_last-snoc}
+use Rattle.iref_model.proofs.LeadingLemmas.{divided_last}
+use Rattle.iref_path.specs.Spelling.{each_closed}
+use Rattle.iref_path.specs.Ways.{with_last}
+use Rattle.iref_path.proofs.SpellLemmas.{size-append, size-parents}
+use Rattle.iref_path.proofs.SuffixLemmas.{size-drop}
+
+-- ---- all items but the last
+
+pub fewer_without_last : (list : List Text) → length (all_but_last list) ≤ length list
+fewer_without_last [] = omega arith
+fewer_without_last (s ∷ rest) = grind (arith, fewer_without_last rest)
+
+pub whole_divided : (list : List Text) → 0 < length list → list ≡ with_last list
+whole_divided [] some = absurd (omega (arith, some))
+whole_divided (s ∷ rest) some = sym (divided_last s rest)
+
+pub length-with_last : (list : List Text) → length (with_last list) ≡ length (all_but_last list) + 1
+length-with_last list = length-append (all_but_last list) (last_or_empty list ∷ [])
+
+-- the last item is taken of a list that has one
+pub last_taken : (list items left : List Text) (given : Option (Bor Text)) → items ≡ with_last list
+    → MatchOption given ((items ≡ []) × (left ≡ [])) (λ s. items ≡ left ++ s.now ∷ []) → left ≡ all_but_last list
+last_taken list items left None e h = grind (arith, length-with_last list)
+last_taken list items left (Some s) e h = grind (arith, all_but_last-snoc left s.now, all_but_last-snoc (all_but_last list) (last_or_empty list))
+
+-- ---- its size
+
+size-with_last : (list : List Text) → length (each_closed (with_last list)) ≤ length (each_closed list) + 1
+size-with_last [] = omega arith
+size-with_last (s ∷ rest) = grind (arith, divided_last s rest)
+
+pub size-steps : (directory list : List Text) → length (each_closed (steps_between directory list)) ≤ 3 * length directory + length (each_closed list) + 1
+size-steps directory list =
+    let shared = common_prefix_len same_decoded directory (all_but_last list) in
+    grind (arith, size-append, size-parents (length directory - shared), size-drop shared (all_but_last list), size-with_last list)

@@ -1,0 +1,16 @@
+use Rattle.std.proofs.Common.{◌≡◌, length}
+use Rattle.iref_model.specs.CountedEquality.{items_compared}
+use Rattle.iref_path.specs.CountedPath.{HaveRoom, IsCountable, AreCounted, items_unread}
+use Rattle.iref_path.proofs.equality.items_eq.Given as goal
+
+abbrev pub invariant-loop-item : goal.invariant-loop-item
+invariant-loop-item l = record {
+  same : items_compared (items_unread l.left) (items_unread l.right) ≡ items_compared (items_unread l.fn.left) (items_unread l.fn.right);
+  left : IsCountable l.left;
+  right : IsCountable l.right;
+  room : HaveRoom l.steps l.left l.right;
+  counted : AreCounted l.fn.steps l.fn.left l.fn.right l.steps l.left l.right;
+}
+
+abbrev pub decreases-loop-item : goal.decreases-loop-item
+decreases-loop-item l = length (items_unread l.left)

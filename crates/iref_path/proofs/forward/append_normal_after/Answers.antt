@@ -1,0 +1,32 @@
+use Rattle.std.proofs.Common.{◌++◌, ◌∙◌, ap, arith}
+use Rattle.std.proofs.lemmas.Result.{on_ok_weaker}
+use Rattle.iref_grammar.specs.Grammar.{slash}
+use Rattle.iref_grammar.specs.PathValue.{read_path}
+use Rattle.iref_grammar.specs.Texts.{pieces_at}
+use Rattle.iref_path.proofs.ForwardLemmas.{absolute_after, appended_once, appended_twice, relative_after}
+use Rattle.iref_path.proofs.forward.append_normal_after.Goals as goal
+
+pub returns-in-Some : goal.returns-in-Some
+returns-in-Some c =
+    let old = c.args.out.now.items in
+    let base = read_path c.args.base.now in
+    let path = c.args.path.now in
+    let segments = c.in-Some.segments.now in
+    on_ok_weaker c.put_all.result
+    (λ e context h.
+    appended_once old c.extend_from_slice.new.self.items c.len-floor.result (pieces_at slash segments) (grind arith) (grind arith) c.put_all.new.out.items (grind arith)
+    ∙ ap (λ t. old ++ t) (absolute_after context base path segments h c.in-Some.ensures))
+    c.put_all.ensures
+
+pub returns : goal.returns
+returns c =
+    let old = c.args.out.now.items in
+    let base = read_path c.args.base.now in
+    let path = c.args.path.now in
+    let below = c.below_root.result.now in
+    let dir = pieces_at slash c.directory.result.now in
+    on_ok_weaker c.put_all-3.result
+    (λ e context h.
+    appended_twice old c.extend_from_slice.new.self.items c.len-floor.result dir (grind arith) (grind arith) c.put_all-2.new.out.items c.put_all-3.new.out.items (pieces_at slash path) (grind arith) (grind arith)
+    ∙ ap (λ t. old ++ t) (relative_after context base below path dir h c.requires.base c.below_root.ensures c.requires.path c.in_default.ensures (grind arith)))
+    c.put_all-3.ensures

@@ -1,0 +1,20 @@
+use Rattle.std.proofs.Common.{length-append, length-drop, ◌∙◌, arith}
+use Rattle.iref_path.proofs.RewritingLemmas.{listed}
+use Rattle.iref_path.proofs.WrittenLemmas.{nothing_behind}
+use Rattle.iref_path.proofs.rewriting.write_list.Goals as goal
+
+pub write_parents-requires-clause-room : goal.write_parents-requires-clause-room
+write_parents-requires-clause-room c =
+    let text = listed c.args.absolute c.args.bytes.now _ c.moved_end-end.result c.bytes_stay-stays.new.open_parents c.bytes_stay-stays.result
+    c.segment_before-last.ensures.pieces c.bytes_stay-stays.ensures.stays c.bytes_stay-stays.ensures.counted c.moved_end-end.ensures.index in
+    grind (arith, length-append, length-drop)
+
+pub returns : goal.returns
+returns c =
+    let text = listed c.args.absolute c.args.bytes.now _ c.moved_end-end.result c.bytes_stay-stays.new.open_parents c.bytes_stay-stays.result
+    c.segment_before-last.ensures.pieces c.bytes_stay-stays.ensures.stays c.bytes_stay-stays.ensures.counted c.moved_end-end.ensures.index in
+    record {
+      range = grind (arith, length-append, length-drop);
+      written = grind (arith, nothing_behind);
+      len = c.write_parents.ensures.len ∙ c.move_names-start.ensures.text.len;
+    }

@@ -1,0 +1,16 @@
+-- What is left of a normal list that is given from both ends.
+use Rattle.std.specs.Prelude.{List, Option, Some, None}
+use Rattle.std.specs.Borrow.{Bor}
+use Rattle.iref_grammar.specs.Rules.{Text}
+use Rattle.iref_path.specs.BothEnds.{normal_left}
+use Rattle.iref_path.specs.Stacks.{in_order}
+use Rattle.iref_path.specs.declared.both_ends.BothEnds.{BothEnds}
+use Rattle.iref_path.specs.declared.both_ends.listed.Listed.{Listed}
+
+-- the items that are left in the text, if they are there, and else those on the stack
+unfoldable pub left_of : List (Bor Text) → Option BothEnds → List Text
+left_of items (Some rest) = normal_left rest
+left_of items None = in_order items
+
+abbrev pub listed_left : Listed → List Text
+listed_left l = left_of l.items l.rest

@@ -1,0 +1,27 @@
+-- A path that is rewritten over its own bytes, from the back.
+use Rattle.std.specs.Prelude.{ℕ, Bool, ◌-◌, ◌==◌, List, [], ◌++◌, take, if◌then◌else◌}
+use Rattle.std.specs.List.{join_with_byte, splice}
+use Rattle.iref_splice.specs.Changes.{part_at}
+use Rattle.iref_splice.specs.declared.change.Span.{Span}
+use Rattle.iref_grammar.specs.Grammar.{slash}
+use Rattle.iref_grammar.specs.PathValue.{read_path}
+use Rattle.iref_grammar.specs.Rules.{Text}
+use Rattle.iref_grammar.specs.Texts.{pieces_at}
+use Rattle.iref_model.specs.NormalList.{normal_segments}
+use Rattle.iref_model.specs.NormalReading.{items}
+
+-- the segments before an index, where one begins: a `/` stands after each
+abbrev pub pieces_before : Text → ℕ → List Text
+pieces_before text index = if index == 0 then [] else pieces_at slash (take (index - 1) text)
+
+-- the items of these segments with `/` between
+abbrev pub items_text : Bool → Text → Text
+items_text absolute segments = join_with_byte slash (items (record { absolute = absolute; segments = pieces_at slash segments }))
+
+-- what stands first, and the normal list of the path with `/` between
+abbrev pub rewritten : Text → Text → Text
+rewritten lead path = lead ++ join_with_byte slash (normal_segments (read_path path))
+
+-- the text with that instead of the path in a range
+abbrev pub rewritten_at : Text → Text → Span → Text
+rewritten_at lead text range = splice text range.start range.end (rewritten lead (part_at text range))

@@ -1,0 +1,39 @@
+-- A way up and down: a number of `..`, and the last items of a normal list.
+use Rattle.std.specs.Prelude.{◌-◌, false, List, [], ◌∷◌, ◌++◌, codes, drop, length, replicate, if◌then◌else◌}
+use Rattle.iref_grammar.specs.Rules.{Text}
+use Rattle.iref_grammar.specs.Grammar.{slash}
+use Rattle.iref_grammar.specs.Texts.{all_but_last, pieces_at}
+use Rattle.iref_grammar.specs.Contexts.{alone}
+use Rattle.iref_grammar.specs.PathValue.{PathValue}
+use Rattle.iref_model.specs.Guard.{guarded}
+use Rattle.iref_model.specs.NormalList.{normal, normal_segments}
+use Rattle.iref_model.specs.Relative.{directory_names, last_or_empty, steps_between}
+use Rattle.iref_path.specs.Merged.{IsMergeSound, merged_left}
+use Rattle.iref_path.specs.declared.both_ends.way.Way.{Way}
+
+-- the last of the items, at most this number
+abbrev pub items_down : Way → List Text
+items_down w = drop (length (merged_left w.items) - w.down) (merged_left w.items)
+
+-- the items that are left
+unfoldable pub way_left : Way → List Text
+way_left w = replicate w.up (codes "..") ++ items_down w
+
+abbrev pub IsWaySound : Way → Type 0
+IsWaySound w = IsMergeSound w.items
+
+-- the list, and one empty item where it has none
+abbrev pub with_last : List Text → List Text
+with_last list = all_but_last list ++ last_or_empty list ∷ []
+
+-- the segments that lead from the directory of one text of segments to another text
+abbrev pub text_steps : Text → Text → List Text
+text_steps base path = steps_between (all_but_last (pieces_at slash base)) (pieces_at slash path)
+
+-- the path that leads from a base's to this one
+abbrev pub path_between : PathValue → PathValue → PathValue
+path_between base p =
+    guarded alone
+    (if base.absolute
+    then record { absolute = false; segments = steps_between (directory_names base) (normal_segments p) }
+    else normal p)

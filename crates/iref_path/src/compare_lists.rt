@@ -1,0 +1,95 @@
+//! Where two normal lists, which are read from the back, differ first: that takes no memory.
+
+ghost use Rattle.std.specs.{List.{common_prefix_len}, Prelude.{◌≡◌, ◌-◌, ◌≤◌, length, take}};
+ghost use Rattle.std.specs.Cmp.Lexicographic.{slice_cmp};
+ghost use Rattle.iref_grammar.specs.{text_order};
+ghost use Rattle.iref_model.specs.PathSuffix.{same_decoded};
+ghost use Rattle.iref_path.specs.BothEnds.{IsSound, decoded_left, normal_left};
+ghost use Rattle.percent_encoding.specs.Percent.{percent_decode};
+
+use crate::both_ends::BothEnds;
+use iref_parse::decoded::decoded_cmp;
+use std::cmp::Ordering;
+
+// Passes over the last `count` items.
+fn skip_back(left: &mut BothEnds<'_>, count: usize)
+    requires sound { IsSound left.old }
+    requires within { count ≤ length (normal_left left.old) }
+    ensures items { normal_left left.new
+        ≡ take (length (normal_left left.old) - count) (normal_left left.old) }
+    ensures sound { IsSound left.new }
+{
+    for _skipped in 0..count {
+        left.next_back();
+    }
+}
+
+// The order of the bytes that two items decode to. Most are the same text, which is not decoded.
+#[inline(always)]
+pub(crate) fn items_cmp(a: &str, b: &str) -> Ordering
+    ensures { result ≡ text_order (percent_decode a.now) (percent_decode b.now) }
+{
+    if a == b {
+        Ordering::Equal
+    } else {
+        decoded_cmp(a, b)
+    }
+}
+
+// Two lists of this number of items each: the foremost difference decides, and is read last.
+fn compare_same_length(
+    mut left: BothEnds<'_>,
+    mut right: BothEnds<'_>,
+    len: usize,
+) -> (usize, Ordering)
+    requires left { IsSound left }
+    requires right { IsSound right }
+    requires left_len { length (normal_left left) ≡ len }
+    requires right_len { length (normal_left right) ≡ len }
+    ensures common { result.0
+        ≡ common_prefix_len same_decoded (normal_left left.entry) (normal_left right.entry) }
+    ensures order { result.1
+        ≡ slice_cmp text_order (decoded_left left.entry) (decoded_left right.entry) }
+{
+    let mut common = len;
+    let mut order = Ordering::Equal;
+    let mut index = len;
+    while let Some(item) = left.next_back() {
+        let Some(other) = right.next_back() else {
+            return (common, order);
+        };
+        index -= 1;
+        let here = items_cmp(item, other);
+        if !here.is_eq() {
+            common = index;
+        }
+        order = here.then(order);
+    }
+    (common, order)
+}
+
+/// How many items two lists of these lengths have in common from the front, where each pair decodes
+/// to the same bytes, and their order: the first difference decides, and then the shorter is less.
+///
+/// Of `a`, `b`, `c` and `a`, `%62`, `d`, `e` it is 2 and `Less`. Each segment that is left is read
+/// once.
+pub fn compare_lists(
+    mut left: BothEnds<'_>,
+    left_len: usize,
+    mut right: BothEnds<'_>,
+    right_len: usize,
+) -> (usize, Ordering)
+    requires left { IsSound left }
+    requires right { IsSound right }
+    requires left_len { left_len ≡ length (normal_left left) }
+    requires right_len { right_len ≡ length (normal_left right) }
+    ensures common { result.0
+        ≡ common_prefix_len same_decoded (normal_left left.entry) (normal_left right.entry) }
+    ensures order { result.1
+        ≡ slice_cmp text_order (decoded_left left.entry) (decoded_left right.entry) }
+{
+    skip_back(&mut left, left_len.saturating_sub(right_len));
+    skip_back(&mut right, right_len.saturating_sub(left_len));
+    let (common, order) = compare_same_length(left, right, left_len.min(right_len));
+    (common, order.then(left_len.cmp(&right_len)))
+}

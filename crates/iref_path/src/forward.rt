@@ -1,0 +1,156 @@
+//! The normal list of a path that stands after an authority, written forward (RFC 3986 section
+//! 5.2.4). A `..` cuts off what was written last.
+
+ghost use Rattle.iref_grammar.specs.declared.context.PathContext.{PathContext};
+ghost use Rattle.iref_grammar.specs.Texts.{all_but_last};
+ghost use Rattle.iref_grammar.specs.{is_empty, pieces_at, read_path, segments_of, slash};
+ghost use Rattle.iref_grammar.specs.{spell_path, Text};
+ghost use Rattle.iref_model.specs.{PathSteps.{normalized}, NormalList.{is_name}};
+ghost use Rattle.iref_path.specs.Forward.{Follows, IsBehindDots, forward, popped_text};
+ghost use Rattle.iref_path.specs.Merged.{path_after};
+ghost use Rattle.std.specs.Prelude.{◌≡◌, ◌≢◌, ◌<◌, ◌≤◌, ◌||◌, [], ◌∷◌, ◌++◌, List};
+ghost use Rattle.std.specs.Prelude.{drop, IfOk, length, MatchOption, OnOk, take, true, vec_len};
+
+use crate::segments::last_slash;
+use iref_error::Memory;
+use iref_parse::cut::{cut_bytes, strip_mark};
+use iref_parse::dots::position_of_slash_dot;
+
+// Where the last segment begins of a text whose segments each have a `/` after them.
+#[inline(always)]
+fn last_start(text: &[u8]) -> usize
+    requires { text.now ≢ [] }
+    ensures cut { take result text.now ≡ popped_text text.now }
+    ensures within { result ≤ length text.now }
+{
+    match last_slash(&text[..text.len() - 1]) {
+        Some(slash) => slash + 1,
+        None => 0,
+    }
+}
+
+// Cuts off the last of the segments that stand from `floor` on, each with a `/` after it.
+fn pop(out: &mut Vec<u8>, floor: usize)
+    requires { floor ≤ vec_len out.old }
+    ensures { out.new.items
+        ≡ take floor out.old.items ++ popped_text (drop floor out.old.items) }
+{
+    if floor < out.len() {
+        let start = last_start(&out[floor..]);
+        out.truncate(floor + start);
+    }
+}
+
+// Where the names end that begin a text, if its first segment is one: behind the `/` before the
+// first of the other segments that begins with a dot.
+#[inline(always)]
+fn names_end(text: &[u8]) -> usize
+    requires some { text.now ≢ [] }
+    requires name { (s : Text) (rest : List Text) → pieces_at slash text.now ≡ s ∷ rest
+        → is_name s ≡ true }
+    ensures some { 0 < result }
+    ensures within { result ≤ length text.now }
+    ensures names { (written : Text) → forward written (pieces_at slash text.now)
+        ≡ forward (written ++ take result text.now) (pieces_at slash (drop result text.now)) }
+{
+    let slash = position_of_slash_dot(text);
+    if slash < text.len() { slash + 1 } else { slash }
+}
+
+// What follows the first segment, if this is `.` or `..`, and whether it is `..`.
+#[inline(always)]
+fn behind_dots(text: &[u8]) -> Option<(bool, &[u8])>
+    requires { text.now ≢ [] }
+    ensures { MatchOption result
+        ((s : Text) (rest : List Text) → pieces_at slash text.now ≡ s ∷ rest → is_name s ≡ true)
+        (λ dots. IsBehindDots text.now dots.0 dots.1.now) }
+{
+    if text[0] != b'.' {
+        return None;
+    }
+    let (segment, rest) = cut_bytes(text, b'/');
+    if segment == b"..".as_slice() {
+        return Some((true, rest.unwrap_or(&[])));
+    }
+    if segment == b".".as_slice() {
+        return Some((false, rest.unwrap_or(&[])));
+    }
+    None
+}
+
+// Writes the first segments of a text, and returns the text of the others.
+#[inline(always)]
+fn follow<'t>(out: &mut Vec<u8>, floor: usize, text: &'t [u8]) -> Result<&'t [u8], Memory>
+    requires floor { floor ≤ vec_len out.old }
+    requires some { text.now ≢ [] }
+    ensures follows { IfOk result (λ left.
+        Follows floor out.old.items out.new.items text.now left.now) }
+    ensures shorter { IfOk result (λ left. length left.now < length text.now) }
+{
+    match behind_dots(text) {
+        Some((is_parent, rest)) => {
+            if is_parent {
+                pop(out, floor);
+            }
+            Ok(rest)
+        }
+        None => {
+            let (names, rest) = text.split_at(names_end(text));
+            out.extend_from_slice(names)?;
+            Ok(rest)
+        }
+    }
+}
+
+// Writes the segments of a text from `floor` on, behind those that stand there.
+fn put_all(out: &mut Vec<u8>, floor: usize, text: &[u8]) -> Result<(), Memory>
+    requires { floor ≤ vec_len out.old }
+    ensures { OnOk result (out.new.items ≡ take floor out.old.items
+        ++ forward (drop floor out.old.items) (pieces_at slash text.now)) }
+{
+    let mut left = text;
+    while !left.is_empty() {
+        left = follow(out, floor, left)?;
+    }
+    Ok(())
+}
+
+// All up to and with the last `/`.
+fn directory(text: &[u8]) -> &[u8]
+    ensures { pieces_at slash result.now ≡ all_but_last (pieces_at slash text.now) ++ [] ∷ [] }
+{
+    match last_slash(text) {
+        Some(slash) => &text[..slash + 1],
+        None => &[],
+    }
+}
+
+// The text of the segments of a path.
+#[inline(always)]
+fn below_root(path: &str) -> &str
+    ensures { segments_of result.now ≡ (read_path path.now).segments }
+{
+    match strip_mark(path, '/') {
+        Some(segments) => segments,
+        None => path,
+    }
+}
+
+/// Appends the normalized path of a reference to the text that stands before the path of its base,
+/// after an authority (RFC 3986 sections 5.2.3 and 5.2.4): for `/b/c` and `../g` this is `/g`. It
+/// takes no more room on the way than for both paths and a `/`.
+pub fn append_normal_after(out: &mut Vec<u8>, base: &str, path: &str) -> Result<(), Memory>
+    requires base { (read_path base.now).absolute || is_empty (read_path base.now).segments ≡ true }
+    requires path { path.now ≢ [] }
+    ensures { OnOk result ((context : PathContext) → context.has_authority ≡ true
+        → out.new.items ≡ out.old.items ++ spell_path (normalized context
+        (path_after true (read_path base.now) (read_path path.now)))) }
+{
+    out.extend_from_slice(b"/")?;
+    let floor = out.len();
+    if let Some(segments) = strip_mark(path, '/') {
+        return put_all(out, floor, segments.as_bytes());
+    }
+    put_all(out, floor, directory(below_root(base).as_bytes()))?;
+    put_all(out, floor, path.as_bytes())
+}

@@ -1,0 +1,259 @@
+//! The text of a path, which is measured before it is written (RFC 3986 sections 5.2.3 and 5.2.4).
+
+ghost use Rattle.iref_grammar.specs.{alone, slash, read_path, spell_path, is_path, is_empty};
+ghost use Rattle.iref_grammar.specs.Texts.{pieces_at};
+ghost use Rattle.iref_model.specs.{Guard.{guarded}, PathSteps.{normalized}};
+ghost use Rattle.iref_parse.specs.Dots.{has_dot_segment};
+ghost use Rattle.iref_path.specs.Bodies.{after_front, parents_then};
+ghost use Rattle.iref_path.specs.Merged.{merged_list, merged_path, path_after};
+ghost use Rattle.iref_path.specs.MeasuredPaths.{IsMeasured, measured_text};
+ghost use Rattle.iref_path.specs.{Pieces.{pieces_if_some}, Spelling.{each_closed}};
+ghost use Rattle.iref_path.specs.Ways.{IsWaySound, path_between};
+ghost use Rattle.iref_path.specs.{Ways.{way_left}, Written.{WritesBefore}};
+ghost use Rattle.std.specs.Prelude.{◌||◌, ◌&&◌, ◌≡◌, ◌+◌, ◌*◌, ◌<◌, ◌≤◌, ◌^◌, ◌++◌, IfOk};
+ghost use Rattle.std.specs.Prelude.{Bool, Some, [], codes, false, length, replicate, true, ℕ};
+ghost use Rattle.std.specs.String.{string_bytes};
+ghost use Rattle.iref_path.specs.BothEnds.{first_or};
+ghost use Rattle.iref_path.specs.Spelling as spelling;
+
+use crate::both_ends::merged::Merged;
+use crate::both_ends::way::Way;
+use crate::measured_body::Body;
+use crate::relative_steps::{behind_roots, first_step, steps_apart};
+use crate::segments::{first_segment, split_root, without_last};
+use crate::spell::{lead_in, measure, write_before};
+use iref_error::Memory;
+use iref_grammar::chars::CharSet;
+use iref_grammar::context::PathContext;
+use iref_parse::dots::has_dots;
+use std::alloc::Global;
+
+// Nothing stands before the path.
+const ALONE: PathContext = PathContext {
+    has_scheme: false,
+    has_authority: false,
+};
+
+/// The text of a path, not written yet: texts that are kept, a number of `..` and a text, or the items
+/// of a normal list.
+#[derive(Clone, Copy)]
+pub struct MeasuredPath<'a> {
+    // What stands first: the root and the guard.
+    lead: &'a str,
+    body: Body<'a>,
+}
+
+// Whether a merged path is absolute: the base's is, or the base has an authority and no segments.
+#[tactic(auto, using(crate::proofs::SlashLemmas::some_pieces))]
+fn is_merged_absolute(has_authority: bool, absolute: bool, segments: Option<&str>) -> bool
+    ensures { result ≡ absolute || (has_authority && is_empty (pieces_if_some segments.entry)) }
+{
+    absolute || has_authority && segments.is_none()
+}
+
+// Whether a segment of the two texts begins with a dot.
+#[tactic(auto, using(crate::proofs::DotlessLemmas::both_dotted))]
+fn have_dots(front: Option<&str>, back: &str) -> bool
+    ensures { result ≡ has_dot_segment (after_front front.entry back.now) }
+{
+    match front {
+        Some(front) => has_dots(front.as_bytes()) | has_dots(back.as_bytes()),
+        None => has_dots(back.as_bytes()),
+    }
+}
+
+// The first segment of a text, which decides on a guard. After an authority none is needed, and the
+// text is returned unread.
+#[inline(always)]
+fn first_to_guard(context: PathContext, text: &str) -> &str
+    ensures { (absolute : Bool) (size : ℕ) → spelling.lead_in context absolute size result.now
+        ≡ spelling.lead_in context absolute size (first_or [] (pieces_at slash text.now)) }
+{
+    if context.has_authority {
+        return text;
+    }
+    first_segment(text).0
+}
+
+// Writes what stands first, mostly the root alone, as `write_before` does.
+#[inline(always)]
+fn write_lead(buffer: &mut [u8], end: usize, lead: &str) -> usize
+    requires room { length lead.now ≤ end }
+    requires within { end ≤ length buffer.old }
+    ensures { WritesBefore end lead.now buffer.old buffer.new result }
+{
+    if lead == "/" {
+        write_before(buffer, end, "/")
+    } else {
+        write_before(buffer, end, lead)
+    }
+}
+
+impl<'a> MeasuredPath<'a> {
+    /// The text as it stands.
+    pub fn kept(path: &'a str) -> Self
+        ensures text { measured_text result ≡ path.now }
+        ensures measured { IsMeasured result }
+    {
+        MeasuredPath {
+            lead: "",
+            body: Body::Kept(None, path),
+        }
+    }
+
+    /// The text of the normalized path in its context.
+    #[inline(always)]
+    pub fn normalized(context: PathContext, path: &'a str) -> Self
+        ensures text { measured_text result ≡ spell_path (normalized context (read_path path.now)) }
+        ensures measured { IsMeasured result }
+    {
+        let (absolute, segments) = split_root(path);
+        MeasuredPath::of_segments(context, absolute, None, segments)
+    }
+
+    /// The text of the normalized path of a reference in the context of its base, to whose
+    /// directory a relative path is added (RFC 3986 section 5.2.3).
+    #[inline(always)]
+    pub fn normalized_after(context: PathContext, base: &'a str, path: &'a str) -> Self
+        requires { length base.now + length path.now + 6 < 2 ^ 64 }
+        ensures text { measured_text result ≡ spell_path (normalized context
+            (path_after context.has_authority (read_path base.now) (read_path path.now))) }
+        ensures measured { IsMeasured result }
+    {
+        let (absolute, segments) = split_root(path);
+        if absolute {
+            return MeasuredPath::of_segments(context, true, None, segments);
+        }
+        let (absolute, front) = split_root(base);
+        let absolute = is_merged_absolute(context.has_authority, absolute, front);
+        MeasuredPath::of_segments(context, absolute, without_last(front), segments)
+    }
+
+    /// The text of the normalized path of these segments, in its context.
+    pub fn of_segments(
+        context: PathContext,
+        absolute: bool,
+        front: Option<&'a str>,
+        back: Option<&'a str>,
+    ) -> Self
+        requires { length (each_closed (merged_list front back)) + 4 < 2 ^ 64 }
+        ensures text { measured_text result
+            ≡ spell_path (normalized context (merged_path absolute front.entry back.entry)) }
+        ensures measured { IsMeasured result }
+    {
+        if let Some(back) = back {
+            if !have_dots(front, back) {
+                return MeasuredPath::dotless(context, absolute, front, back);
+            }
+        }
+        let all = Merged::new(absolute, front, back);
+        let lead = lead_in(context, absolute, all.size, all.first);
+        let body = Body::Items(Way::all(all.items), all.size);
+        MeasuredPath { lead, body }
+    }
+
+    // The text of segments of which none begins with a dot: they stay as they are.
+    fn dotless(context: PathContext, absolute: bool, front: Option<&'a str>, back: &'a str) -> Self
+        requires dotless { has_dot_segment (after_front front back.now) ≡ false }
+        requires room { length (after_front front back.now) + 3 < 2 ^ 64 }
+        ensures text { measured_text result ≡ spell_path
+            (normalized context (merged_path absolute front.entry (Some back.entry))) }
+        ensures measured { IsMeasured result }
+    {
+        let first = first_to_guard(context, front.unwrap_or(back));
+        let body = Body::Kept(front, back);
+        let lead = lead_in(context, absolute, body.len(), first);
+        MeasuredPath { lead, body }
+    }
+
+    /// The text of a relative path of these items, which stands alone.
+    pub fn relative(items: Way<'a>) -> Self
+        requires sound { IsWaySound items }
+        requires room { length (each_closed (way_left items)) + 4 < 2 ^ 64 }
+        ensures text { measured_text result ≡ spell_path (guarded alone (record {
+          absolute = false;
+          segments = way_left items.entry;
+        })) }
+        ensures measured { IsMeasured result }
+    {
+        let (size, first) = measure(items);
+        let lead = lead_in(ALONE, false, size, first);
+        let body = Body::Items(items, size);
+        MeasuredPath { lead, body }
+    }
+
+    // The text of a relative path of a number of `..` and the segments of a text, which stands
+    // alone.
+    fn up(up: usize, path: &'a str) -> Self
+        requires { length (parents_then up path.now) + 4 < 2 ^ 64 }
+        ensures text { measured_text result ≡ spell_path (guarded alone (record {
+          absolute = false;
+          segments = replicate up (codes "..") ++ pieces_at slash path.now;
+        })) }
+        ensures measured { IsMeasured result }
+    {
+        let body = Body::Up(up, path);
+        let lead = lead_in(ALONE, false, body.len() + 1, first_step(up, path));
+        MeasuredPath { lead, body }
+    }
+
+    /// The text of the path that leads from a base's to this one: from the base's directory where
+    /// the base is absolute, and else the normalized path.
+    pub fn between(base: &'a str, path: &'a str) -> Self
+        requires { 3 * length base.now + length path.now + 16 < 2 ^ 64 }
+        ensures text { measured_text result
+            ≡ spell_path (path_between (read_path base.now) (read_path path.now)) }
+        ensures measured { IsMeasured result }
+    {
+        if !split_root(base).0 {
+            return MeasuredPath::normalized(ALONE, path);
+        }
+        if let Some((base, path)) = behind_roots(base, path) {
+            let (up, path) = steps_apart(base, path);
+            return MeasuredPath::up(up, path);
+        }
+        MeasuredPath::relative(Way::between(base, path))
+    }
+
+    /// How many bytes the text has.
+    pub fn len(&self) -> usize
+        requires { IsMeasured self.now }
+        ensures { result ≡ length (measured_text self.now) }
+    {
+        self.lead.len() + self.body.len()
+    }
+
+    /// The text of a path. The room is taken once; out of memory, it returns an `Err`.
+    pub fn to_text<C: CharSet>(self, alloc: Global) -> Result<String, Memory>
+        requires measured { IsMeasured self }
+        requires path { is_path C.tests (measured_text self) ≡ true }
+        ensures { IfOk result (λ text. string_bytes text ≡ measured_text self.entry) }
+    {
+        let bytes = self.bytes(alloc)?;
+        // What spells a path is text, so no byte is read again.
+        let text = unsafe { String::from_utf8_unchecked(bytes) };
+        Ok(text)
+    }
+
+    // The bytes of the text.
+    pub(crate) fn bytes(self, alloc: Global) -> Result<Vec<u8>, Memory>
+        requires { IsMeasured self }
+        ensures { IfOk result (λ bytes. bytes.items ≡ measured_text self.entry) }
+    {
+        let len = self.len();
+        let mut bytes = vec![in alloc; 0u8; len]?;
+        self.write_before(&mut bytes, len);
+        Ok(bytes)
+    }
+
+    /// Writes the text so that it ends at `end`, and returns where it begins.
+    pub fn write_before(self, buffer: &mut [u8], end: usize) -> usize
+        requires measured { IsMeasured self }
+        requires room { length (measured_text self) ≤ end }
+        requires within { end ≤ length buffer.old }
+        ensures { WritesBefore end (measured_text self.entry) buffer.old buffer.new result }
+    {
+        let start = self.body.write_before(buffer, end);
+        write_lead(buffer, start, self.lead)
+    }
+}

@@ -1,0 +1,254 @@
+//! Order and hash of paths, by their keys. Both take no memory.
+//!
+//! What two paths have in common up to their last common `/` does not count in their order, if no
+//! `..` follows it. So where no two dots stand side by side behind it, or no segment there begins
+//! with a dot, what follows is compared from the front. Else both normal lists are read from the
+//! back. So is that of a path for its hash, unless no segment begins with a dot.
+
+ghost use Rattle.std.specs.{Cmp.Lexicographic.{slice_cmp}, List.{list_any}};
+ghost use Rattle.std.specs.Prelude.{◌≡◌, ◌∷◌, ◌<◌, ◌≤◌, IfSome, MatchOption, false, fold, length, map};
+ghost use Rattle.percent_encoding.specs.Percent.{percent_decode};
+ghost use Rattle.iref_grammar.specs.{read_path, slash, text_order, Texts.{pieces_at}};
+ghost use Rattle.iref_model.specs.{is_dot_dot, normal_segments, path_key, path_key_cmp};
+ghost use Rattle.iref_model.specs.{fed_from_the_back, fed_path};
+ghost use Rattle.iref_parse.specs.Dots.{is_some_dotted};
+ghost use Rattle.iref_path.specs.Named.{begins_with_dot_slash, named, rank};
+ghost use Rattle.iref_path.specs.Pieces.{pieces_if_some};
+ghost use Rattle.iref_path.specs.BothEnds.{IsSound, decoded_left};
+
+use crate::both_ends::BothEnds;
+use crate::compare_lists::{compare_lists, items_cmp};
+use crate::segments::{behind_directory, first_segment, last_segment, split_root};
+use iref_parse::cut::strip_mark;
+use iref_parse::decoded::{hash_decoded, kept_front};
+use iref_parse::dots::{has_dot_pair, has_dots};
+use std::cmp::Ordering;
+use std::hash::{Hash, Hasher};
+
+/// Whether the path is absolute.
+pub(crate) fn is_absolute(path: &str) -> bool
+    ensures { result ≡ (read_path path.now).absolute }
+{
+    split_root(path).0
+}
+
+// What follows the `./` that a text begins with.
+#[inline(always)]
+fn strip_dot(text: &str) -> Option<&str>
+    ensures { MatchOption result (begins_with_dot_slash text.now ≡ false)
+        (λ rest. text.now ≡ 0x2E ∷ slash ∷ rest.now) }
+{
+    strip_mark(strip_mark(text, '.')?, '/')
+}
+
+// What follows each `./` that a text begins with.
+#[inline(always)]
+fn behind_dots(text: &str) -> &str
+    ensures names { named (pieces_at slash result.now) ≡ named (pieces_at slash text.now) }
+    ensures parents { list_any is_dot_dot (pieces_at slash result.now)
+        ≡ list_any is_dot_dot (pieces_at slash text.now) }
+    ensures fewer { length (pieces_at slash result.now) ≤ length (pieces_at slash text.now) }
+    ensures none { begins_with_dot_slash result.now ≡ false }
+{
+    let mut left = text;
+    while let Some(rest) = strip_dot(left) {
+        left = rest;
+    }
+    left
+}
+
+// The first item of segments among which no `..` is, and the text of the segments behind it.
+fn first_name(text: &str) -> (&str, Option<&str>)
+    ensures items { named (pieces_at slash text.now)
+        ≡ result.0.now ∷ named (pieces_if_some result.1) }
+    ensures fewer { length (pieces_if_some result.1) < length (pieces_at slash text.now) }
+{
+    let (segment, rest) = first_segment(behind_dots(text));
+    if segment == "." {
+        ("", None)
+    } else {
+        (segment, rest)
+    }
+}
+
+// The order of two lists of segments among which no `..` is: the first difference decides, and then
+// the shorter is less.
+fn compare_names(mut left: Option<&str>, mut right: Option<&str>) -> Ordering
+    ensures { result ≡ slice_cmp text_order (map percent_decode (named (pieces_if_some left.entry)))
+        (map percent_decode (named (pieces_if_some right.entry))) }
+{
+    while let Some(text) = left {
+        let Some(other_text) = right else {
+            return Ordering::Greater;
+        };
+        let (name, names) = first_name(text);
+        let (other, others) = first_name(other_text);
+        let order = items_cmp(name, other);
+        if order.is_ne() {
+            return order;
+        }
+        left = names;
+        right = others;
+    }
+    if right.is_none() {
+        Ordering::Equal
+    } else {
+        Ordering::Less
+    }
+}
+
+// Of what follows the bytes that two texts have in common before any `%`: how it counts in the
+// order of their segments, unless it begins with an escape. The end of a text is least, then a `/`.
+#[inline(always)]
+fn rank(rest: &[u8]) -> Option<u16>
+    ensures { result ≡ rank rest.now }
+{
+    match rest {
+        [] => Some(0),
+        [b'%', ..] => None,
+        [b'/', ..] => Some(1),
+        [byte, ..] => Some(2 + u16::from(*byte)),
+    }
+}
+
+// The order of the segments of two texts, unless an escape stands before their first difference, or
+// there.
+fn compare_at_difference(left: &[u8], right: &[u8]) -> Option<Ordering>
+    ensures { IfSome result (λ order. order ≡ slice_cmp text_order
+        (map percent_decode (pieces_at slash left.now))
+        (map percent_decode (pieces_at slash right.now))) }
+{
+    let front = kept_front(left, right);
+    Some(rank(&left[front..])?.cmp(&rank(&right[front..])?))
+}
+
+// The order of the segments of two texts. Their first difference decides, and behind segments that
+// are the same in other escapes the next one.
+fn compare_segments<'a>(mut left: &'a str, mut right: &'a str) -> Ordering
+    ensures { result ≡ slice_cmp text_order
+        (map percent_decode (pieces_at slash left.entry.now))
+        (map percent_decode (pieces_at slash right.entry.now)) }
+{
+    loop {
+        if let Some(order) = compare_at_difference(left.as_bytes(), right.as_bytes()) {
+            return order;
+        }
+        let (name, names) = first_segment(left);
+        let (other, others) = first_segment(right);
+        let order = items_cmp(name, other);
+        if order.is_ne() {
+            return order;
+        }
+        match (names, others) {
+            (Some(names), Some(others)) => (left, right) = behind_directory(names, others),
+            (Some(_), None) => return Ordering::Greater,
+            (None, Some(_)) => return Ordering::Less,
+            (None, None) => return Ordering::Equal,
+        }
+    }
+}
+
+// The order of the segments of two texts but for each `.`, unless one of them may be `..`.
+fn compare_without_parents(left: &str, right: &str) -> Option<Ordering>
+    ensures left { IfSome result (λ order.
+        list_any is_dot_dot (pieces_at slash left.now) ≡ false) }
+    ensures right { IfSome result (λ order.
+        list_any is_dot_dot (pieces_at slash right.now) ≡ false) }
+    ensures order { IfSome result (λ order. order ≡ slice_cmp text_order
+        (map percent_decode (named (pieces_at slash left.now)))
+        (map percent_decode (named (pieces_at slash right.now)))) }
+{
+    let (left, right) = (behind_dots(left), behind_dots(right));
+    let (a, b) = (left.as_bytes(), right.as_bytes());
+    if !has_dots(a) && !has_dots(b) {
+        return Some(compare_segments(left, right));
+    }
+    if has_dot_pair(a) || has_dot_pair(b) {
+        return None;
+    }
+    Some(compare_names(Some(left), Some(right)))
+}
+
+// The order of the normal lists of two paths.
+fn compare_normal(a: &str, b: &str) -> Ordering
+    ensures { result ≡ slice_cmp text_order
+        (map percent_decode (normal_segments (read_path a.now)))
+        (map percent_decode (normal_segments (read_path b.now))) }
+{
+    let (left, left_len) = BothEnds::new(a);
+    let (right, right_len) = BothEnds::new(b);
+    compare_lists(left, left_len, right, right_len).1
+}
+
+/// The order of the paths of two texts: relative before absolute, then segment by segment, the
+/// shorter list first.
+pub fn path_texts_cmp(a: &str, b: &str) -> Ordering
+    ensures { result ≡ path_key_cmp (path_key (read_path a.now)) (path_key (read_path b.now)) }
+{
+    let flags = is_absolute(a).cmp(&is_absolute(b));
+    if flags.is_ne() {
+        return flags;
+    }
+    if let (Some(left), Some(right)) = (split_root(a).1, split_root(b).1) {
+        let (left, right) = behind_directory(left, right);
+        if let Some(order) = compare_without_parents(left, right) {
+            return order;
+        }
+    }
+    compare_normal(a, b)
+}
+
+// Feeds the hasher the segments, from the last to the first.
+fn hash_segments<H: Hasher>(segments: Option<&str>, state: &mut H)
+    ensures { state.new ≡ fold H.write state.old
+        (fed_from_the_back (map percent_decode (pieces_if_some segments.entry))) }
+{
+    let mut rest = segments;
+    while let Some(text) = rest {
+        let (front, segment) = last_segment(text);
+        hash_decoded(segment, state);
+        rest = front;
+    }
+}
+
+// Feeds the hasher the items that are left, from the last to the first.
+fn hash_left<H: Hasher>(left: &mut BothEnds<'_>, state: &mut H)
+    requires { IsSound left.old }
+    ensures { state.new ≡ fold H.write state.old (fed_from_the_back (decoded_left left.old)) }
+{
+    while let Some(item) = left.next_back() {
+        hash_decoded(item, state);
+    }
+}
+
+// Whether one of the segments begins with a dot.
+fn is_dotted(segments: Option<&str>) -> bool
+    ensures { result ≡ is_some_dotted (pieces_if_some segments.entry) }
+{
+    match segments {
+        Some(text) => has_dots(text.as_bytes()),
+        None => false,
+    }
+}
+
+// Feeds the hasher the normal list of a path, from the last item to the first.
+fn hash_items<H: Hasher>(path: &str, state: &mut H)
+    ensures { state.new ≡ fold H.write state.old
+        (fed_from_the_back (map percent_decode (normal_segments (read_path path.now)))) }
+{
+    let segments = split_root(path).1;
+    if is_dotted(segments) {
+        hash_left(&mut BothEnds::new(path).0, state);
+    } else {
+        hash_segments(segments, state);
+    }
+}
+
+/// Feeds the hasher the key of the path of a text.
+pub fn hash_path_text<H: Hasher>(path: &str, state: &mut H)
+    ensures { state.new ≡ fold H.write state.old (fed_path (path_key (read_path path.now))) }
+{
+    is_absolute(path).hash(state);
+    hash_items(path, state);
+    state.write_u8(0xff);
+}

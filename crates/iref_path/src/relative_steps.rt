@@ -1,0 +1,80 @@
+//! The steps that lead from one text of segments to another, found on the texts: what both begin
+//! with is passed over.
+
+ghost use Rattle.iref_grammar.specs.{slash, Texts.{all_but_last, pieces_at}};
+ghost use Rattle.iref_model.specs.{normal_segments, read_path, Relative.{directory_names}};
+ghost use Rattle.iref_model.specs.Relative.{steps_between};
+ghost use Rattle.iref_path.specs.{BothEnds.{first_or}, Ways.{text_steps}};
+ghost use Rattle.std.specs.Prelude.{◌≡◌, ◌<◌, ◌≤◌, ◌++◌, IfNone, IfSome, [], codes, length};
+ghost use Rattle.std.specs.Prelude.{replicate};
+
+use crate::segments::{first_segment, slash_count};
+use iref_parse::decoded::decoded_eq;
+use iref_parse::dots::has_dots;
+
+// What follows the first segments of both, where these decode to the same bytes and neither is the
+// last.
+fn behind_first<'a>(base: &'a str, path: &'a str) -> Option<(&'a str, &'a str)>
+    ensures steps { IfSome result (λ left.
+        text_steps left.0.now left.1.now ≡ text_steps base.now path.now) }
+    ensures base { IfSome result (λ left. length left.0.now < length base.now) }
+    ensures path { IfSome result (λ left. length left.1.now ≤ length path.now) }
+    ensures apart { IfNone result (text_steps base.now path.now
+        ≡ replicate (length (all_but_last (pieces_at slash base.now))) (codes "..")
+        ++ pieces_at slash path.now) }
+{
+    let (name, below) = first_segment(base);
+    let Some(below) = below else {
+        return None;
+    };
+    let (other, rest) = first_segment(path);
+    let Some(rest) = rest else {
+        return None;
+    };
+    if decoded_eq(name, other) {
+        Some((below, rest))
+    } else {
+        None
+    }
+}
+
+/// The steps from the directory of `base` to `path`: how many `..`, and the text of the segments
+/// after them. From `a/b/c` to `a/d` they are one `..` and `d`.
+pub(crate) fn steps_apart<'a>(mut base: &'a str, mut path: &'a str) -> (usize, &'a str)
+    ensures steps { text_steps base.entry.now path.entry.now
+        ≡ replicate result.0 (codes "..") ++ pieces_at slash result.1.now }
+    ensures up { result.0 ≤ length base.entry.now }
+    ensures down { length result.1.now ≤ length path.entry.now }
+{
+    while let Some((below, rest)) = behind_first(base, path) {
+        base = below;
+        path = rest;
+    }
+    (slash_count(base), path)
+}
+
+/// The first of a number of `..` and the segments of a text.
+pub(crate) fn first_step(up: usize, path: &str) -> &str
+    ensures { result.now
+        ≡ first_or [] (replicate up (codes "..") ++ pieces_at slash path.now) }
+{
+    if up > 0 {
+        return "..";
+    }
+    first_segment(path).0
+}
+
+/// What follows the roots of two absolute paths, where no segment of either begins with a dot.
+pub(crate) fn behind_roots<'a>(base: &'a str, path: &'a str) -> Option<(&'a str, &'a str)>
+    ensures steps { IfSome result (λ left. text_steps left.0.now left.1.now ≡ steps_between
+        (directory_names (read_path base.now)) (normal_segments (read_path path.now))) }
+    ensures base { IfSome result (λ left. length left.0.now ≤ length base.now) }
+    ensures path { IfSome result (λ left. length left.1.now ≤ length path.now) }
+{
+    let base = base.strip_prefix('/')?;
+    let path = path.strip_prefix('/')?;
+    if has_dots(base.as_bytes()) | has_dots(path.as_bytes()) {
+        return None;
+    }
+    Some((base, path))
+}

@@ -1,0 +1,156 @@
+//! The segments of a text, taken from either end.
+
+ghost use Rattle.std.specs.Prelude.{◌≡◌, ◌+◌, ◌<◌, ◌≤◌, ◌^◌, ◌++◌, ◌∷◌, ◌==◌, [], length};
+ghost use Rattle.std.specs.Prelude.{true, false, MatchOption, count_by, drop, take};
+ghost use Rattle.iref_grammar.specs.{slash, pieces_at, segments_of, read_path};
+ghost use Rattle.iref_grammar.specs.Texts.{all_but_last};
+ghost use Rattle.iref_path.specs.Pieces.{ShareFront, pieces_if_some};
+ghost use Rattle.iref_path.specs.Slashes.{IsLastSlash, LacksSlashFrom, slash_mask};
+
+use iref_parse::cut::{cut, strip_mark};
+use iref_parse::front::common_front;
+use std::simd::prelude::*;
+
+/// The first segment, and the text of the others.
+pub fn first_segment(text: &str) -> (&str, Option<&str>)
+    ensures { pieces_at slash text.now ≡ result.0.now ∷ pieces_if_some result.1 }
+{
+    cut(text, '/')
+}
+
+// A bit for each of the 16 bytes from an index on that is a `/`.
+#[inline(always)]
+fn slashes(bytes: &[u8], at: usize) -> u64
+    requires { at + 16 ≤ length bytes.now }
+    ensures { result ≡ slash_mask (take 16 (drop at bytes.now)) }
+{
+    u8x16::from_slice(&bytes[at..])
+        .simd_eq(u8x16::splat(b'/'))
+        .to_bitmask()
+}
+
+// The index of the highest bit.
+#[inline(always)]
+fn highest_bit(bits: u64) -> usize
+    requires { 0 < bits }
+    ensures above { 2 ^ result ≤ bits }
+    ensures below { bits < 2 ^ (result + 1) }
+{
+    63 - bits.leading_zeros() as usize
+}
+
+// Where the last `/` is.
+#[inline(always)]
+pub(crate) fn last_slash(bytes: &[u8]) -> Option<usize>
+    ensures { MatchOption result (LacksSlashFrom bytes.now 0) (IsLastSlash bytes.now) }
+{
+    let mut end = bytes.len();
+    while 16 <= end {
+        let bits = slashes(bytes, end - 16);
+        if bits != 0 {
+            return Some(end - 16 + highest_bit(bits));
+        }
+        end -= 16;
+    }
+    while 0 < end {
+        end -= 1;
+        if bytes[end] == b'/' {
+            return Some(end);
+        }
+    }
+    None
+}
+
+/// The text of the segments before the last one, and the last one.
+#[inline(always)]
+pub fn last_segment(text: &str) -> (Option<&str>, &str)
+    ensures { pieces_at slash text.now ≡ pieces_if_some result.0 ++ result.1.now ∷ [] }
+{
+    match last_slash(text.as_bytes()) {
+        Some(at) => (Some(&text[..at]), &text[at + 1..]),
+        None => (None, text),
+    }
+}
+
+/// What follows the directories that both texts begin with, byte by byte.
+pub(crate) fn behind_directory<'a>(left: &'a str, right: &'a str) -> (&'a str, &'a str)
+    ensures shared { ShareFront (pieces_at slash left.now) (pieces_at slash right.now)
+        (pieces_at slash result.0.now) (pieces_at slash result.1.now) }
+    ensures left { length result.0.now ≤ length left.now }
+    ensures right { length result.1.now ≤ length right.now }
+{
+    let common = common_front(left.as_bytes(), right.as_bytes());
+    match last_slash(&left.as_bytes()[..common]) {
+        Some(at) => (&left[at + 1..], &right[at + 1..]),
+        None => (left, right),
+    }
+}
+
+/// The text of all segments but the last.
+pub fn without_last(segments: Option<&str>) -> Option<&str>
+    ensures { pieces_if_some result ≡ all_but_last (pieces_if_some segments.entry) }
+{
+    match segments {
+        Some(text) => last_segment(text).0,
+        None => None,
+    }
+}
+
+/// The text, unless it is empty: the empty text of a path has no segment.
+#[tactic(auto, using(crate::proofs::SlashLemmas::counts))]
+fn unless_empty(text: &str) -> Option<&str>
+    ensures segments { pieces_if_some result ≡ segments_of text.now }
+    ensures fewer { length (pieces_if_some result) ≤ length text.now + 1 }
+{
+    if text.is_empty() { None } else { Some(text) }
+}
+
+/// Whether the path is absolute, and the text of its segments if it has any.
+#[tactic(auto, unfolding(iref_grammar::specs::PathValue::read_path))]
+pub fn split_root(path: &str) -> (bool, Option<&str>)
+    ensures path { read_path path.now
+        ≡ record { absolute = result.0; segments = pieces_if_some result.1 } }
+    ensures fewer { length (pieces_if_some result.1) ≤ length path.now + 1 }
+{
+    match strip_mark(path, '/') {
+        Some(text) => (true, unless_empty(text)),
+        None => (false, unless_empty(path)),
+    }
+}
+
+// How many `/` a part has. So small a count is kept in a byte, so that one instruction counts in 16
+// bytes.
+fn count_in_part(part: &[u8]) -> u8
+    requires { length part.now ≤ 255 }
+    ensures { result ≡ count_by (λ c. c == slash) part.now }
+{
+    let mut count = 0;
+    for byte in part {
+        count += u8::from(*byte == b'/');
+    }
+    count
+}
+
+/// How many `/` the text has. A part of 240 bytes is of whole pieces of 16; a text of few bytes is
+/// one part.
+pub(crate) fn slash_count(text: &str) -> usize
+    ensures { result ≡ count_by (λ c. c == slash) text.now }
+{
+    let bytes = text.as_bytes();
+    if bytes.len() < 8 {
+        return usize::from(count_in_part(bytes));
+    }
+    let mut count = 0;
+    for part in bytes.chunks(240) {
+        count += usize::from(count_in_part(part));
+    }
+    count
+}
+
+/// How many segments the text has.
+#[tactic(auto, using(crate::proofs::SlashLemmas::counts))]
+pub fn count_segments(text: &str) -> usize
+    ensures { result ≡ length (pieces_at slash text.now) }
+{
+    slash_count(text) + 1
+}

@@ -1,0 +1,64 @@
+//! What is left of a path after a prefix, by normal lists.
+
+ghost use Rattle.iref_grammar.specs.{PathValue.{read_path, spell_path}, Tests.{is_path}};
+ghost use Rattle.iref_model.specs.PathSuffix.{path_suffix};
+ghost use Rattle.iref_path.specs.{Spelling.{each_closed}, Suffixes.{way_path}};
+ghost use Rattle.iref_path.specs.Ways.{IsWaySound, way_left};
+ghost use Rattle.std.specs.Prelude.{◌≡◌, ◌+◌, ◌<◌, ◌^◌, IfOk, IfSome, IsNone, IsOk, length};
+ghost use Rattle.std.specs.{Prelude.{option_map, true}, String.{string_bytes}};
+
+use crate::both_ends::BothEnds;
+use crate::both_ends::way::Way;
+use crate::compare_lists::compare_lists;
+use crate::measured::MeasuredPath;
+use crate::order::is_absolute;
+use iref_error::Memory;
+use iref_grammar::chars::CharSet;
+use std::alloc::Global;
+
+// The items of the path after those of the prefix, if these are a beginning of them, and both paths
+// are absolute or both relative.
+fn rest_after<'a>(prefix: &str, path: &'a str) -> Option<Way<'a>>
+    ensures rest { option_map way_path result
+        ≡ path_suffix (read_path prefix.now) (read_path path.now) }
+    ensures sound { IfSome result (λ rest. IsWaySound rest) }
+    ensures room { IfSome result (λ rest. length (each_closed (way_left rest)) + 4 < 2 ^ 64) }
+{
+    if is_absolute(prefix) != is_absolute(path) {
+        return None;
+    }
+    let (start, len) = BothEnds::new(prefix);
+    let (items, count) = BothEnds::new(path);
+    let (common, _) = compare_lists(start, len, items, count);
+    if common < len {
+        return None;
+    }
+    Some(Way::new(0, count - len, items))
+}
+
+/// The text of what is left of a path after a prefix, as a relative path: of `/foo/bar` after
+/// `/foo` it is `bar`. None where the normal list of the prefix is not a beginning of the path's,
+/// segment by segment after decoding, or where only one of both is absolute; that takes no memory.
+///
+/// The room is taken once; out of memory, it returns an `Err`.
+pub fn suffix_text<C: CharSet>(
+    alloc: Global,
+    prefix: &str,
+    path: &str,
+) -> Result<Option<String>, Memory>
+    requires { is_path C.tests path.now ≡ true }
+    ensures text { IfOk result (λ found. option_map string_bytes found
+        ≡ option_map spell_path (path_suffix (read_path prefix.now) (read_path path.now))) }
+    ensures value { IfOk result (λ found. option_map (λ text. read_path (string_bytes text)) found
+        ≡ path_suffix (read_path prefix.now) (read_path path.now)) }
+    ensures path { IfOk result (λ found. IfSome found (λ text.
+        is_path C.tests (string_bytes text) ≡ true)) }
+    ensures none { IsNone (path_suffix (read_path prefix.now) (read_path path.now))
+        → IsOk result }
+{
+    let Some(rest) = rest_after(prefix, path) else {
+        return Ok(None);
+    };
+    let text = MeasuredPath::relative(rest).to_text::<C>(alloc)?;
+    Ok(Some(text))
+}

@@ -1,6 +1,0 @@
-use Rattle.std.proofs.Common.{arith}
-use Rattle.iref_path_text.proofs.ApartLemmas.{climbs}
-use Rattle.iref_path_text.proofs.apart.steps_apart.Goals as goal
-
-pub returns-clause-steps : goal.returns-clause-steps
-returns-clause-steps c = grind (arith, climbs)

@@ -1,0 +1,13 @@
+pub mod ReferenceTextLemmas
+pub mod BaseLemmas
+pub mod LengthLemmas
+pub mod EditLemmas
+pub mod PathEditLemmas
+pub mod LeadLemmas
+pub mod PathRangeLemmas
+pub mod MeasuredLemmas
+pub mod RelativeLemmas
+pub mod SchemeLemmas
+pub mod MappingLemmas
+pub mod AuthorityRangeLemmas
+pub mod FrontLemmas

@@ -1,0 +1,100 @@
+-- The components of what a reference resolves to, as texts.
+use Rattle.std.proofs.Common.{arith, ◌≡◌, Bool, true, false, ◌||◌, [], ◌∷◌, length, refl, ◌∙◌, ap}
+use Rattle.std.proofs.lemmas.Grind.{common_steps}
+use Rattle.iref_mapping.proofs.MappedMarkLemmas.{is_some-map}
+use Rattle.std.specs.Prelude.{◌≢◌, Option, is_some}
+use Rattle.std.specs.Borrow.{Bor}
+use Rattle.std.specs.Option.{option_copied, option_or}
+use Rattle.iref_grammar.specs.Rules.{Text}
+use Rattle.iref_grammar.specs.PathValue.{read_path, spell_path}
+use Rattle.iref_grammar.specs.Contexts.{fits}
+use Rattle.iref_grammar.specs.Characters.{AreAboveAscii, CharTests}
+use Rattle.iref_grammar.specs.Reference.{ReferenceValue, context_of, is_readable, is_reference, read_reference, spell}
+use Rattle.iref_grammar.specs.ComponentTexts.{ComponentTexts, read_components, spell_components}
+use Rattle.iref_grammar.proofs.PathLemmas.{read_path-reads}
+use Rattle.iref_grammar.proofs.ComponentLemmas.{authority_spelled}
+use Rattle.iref_model.specs.ComponentSteps.{guarded_reference}
+use Rattle.iref_model.specs.NormalList.{normal}
+use Rattle.iref_model.specs.PathSteps.{normalized}
+use Rattle.iref_model.specs.Resolution.{is_no_path, resolved}
+use Rattle.iref_model.proofs.PieceLemmas.{some_piece}
+use Rattle.iref_path.specs.Merged.{path_after}
+use Rattle.iref_path.proofs.GuardTextLemmas.{guarded-same}
+use Rattle.iref_reference_text.specs.ComponentLengths.{lengths_of_texts, total_length}
+use Rattle.iref_reference_text.specs.MeasuredReferences.{IsComposed, IsReady, measured_components, spell_texts}
+use Rattle.iref_reference_text.specs.Steps.{Spells}
+use Rattle.iref_reference_text.specs.declared.measured.MeasuredReference.{MeasuredReference}
+use Rattle.iref_reference_text.proofs.EditLemmas.{is_step}
+use Rattle.iref_reference_text.proofs.LengthLemmas.{first_len, marked_len, placed-read}
+
+pub or-copied : (first second : Option (Bor Text)) → option_copied (option_or first second) ≡ option_or (option_copied first) (option_copied second)
+or-copied first second = grind arith
+
+-- ---- a reference with a scheme or an authority
+
+pub own_spelled : (scheme : Option Text) (t : ComponentTexts) (path : Text) → path ≡ spell_path (normalized (record { has_scheme = is_some scheme; has_authority = is_some t.authority }) (read_path t.path))
+    → record t { scheme = scheme; path = path } ≡ spell_components (guarded_reference (record (read_components t) { scheme = scheme; path = normal (read_path t.path) }))
+own_spelled scheme t path e = grind (arith, authority_spelled, is_some-map)
+
+pub own_resolved : (base r : ReferenceValue) → (is_some r.scheme || is_some r.authority) ≡ true → guarded_reference (record r { scheme = option_or r.scheme base.scheme; path = normal r.path }) ≡ resolved base r
+unfolding resolved
+own_resolved base r h = grind arith
+
+-- ---- a reference with neither
+
+no_path : (text : Text) → text ≡ [] → is_no_path (read_path text) ≡ true
+unfolding read_path
+no_path text e = rw e
+
+some_path : (text : Text) → text ≢ [] → is_no_path (read_path text) ≡ false
+unfolding read_path
+some_path [] h = absurd (h refl)
+some_path (c ∷ cs) h = grind (arith, some_piece)
+
+module _ (b t : ComponentTexts) (none : (is_some t.scheme || is_some t.authority) ≡ false) where
+  abbrev base : ReferenceValue
+  base = read_components b
+
+  abbrev reference : ReferenceValue
+  reference = read_components t
+
+  pub kept_resolved : t.path ≡ [] → fits (context_of base) base.path ≡ true
+      → record { scheme = b.scheme; authority = b.authority; path = b.path; query = option_or t.query b.query; fragment = t.fragment } ≡ spell_components (resolved base reference)
+  unfolding resolved
+  kept_resolved e fit = grind (arith, none, is_some-map, no_path t.path e, guarded-same (context_of base) base.path fit, authority_spelled, read_path-reads b.path)
+
+  pub after_resolved : t.path ≢ [] → (path : Text)
+      → path ≡ spell_path (normalized (record { has_scheme = is_some b.scheme; has_authority = is_some b.authority }) (path_after (is_some b.authority) (read_path b.path) (read_path t.path)))
+      → record { scheme = b.scheme; authority = b.authority; path = path; query = t.query; fragment = t.fragment } ≡ spell_components (resolved base reference)
+  unfolding resolved
+  after_resolved some path e = grind (arith, none, some_path t.path some, authority_spelled, is_some-map)
+
+-- ---- the text of components
+
+-- how long the text of components is
+pub total-texts : (t : ComponentTexts) → total_length (lengths_of_texts t) ≡ length (spell_texts t)
+unfolding spell_texts
+total-texts t = grind (arith, common_steps, first_len, marked_len)
+
+-- the text of the components of a reference is its spelling
+pub spelled_texts : (t : ComponentTexts) (r : ReferenceValue) → t ≡ spell_components r → spell_texts t ≡ spell r
+unfolding spell_texts spell
+spelled_texts t r e = ap spell_texts e
+
+-- ---- the text of the components of a readable reference that the rule allows
+
+pub record Composes (test : Text → Bool) (m : MeasuredReference) (r : ReferenceValue) : Type 0 where
+  pub composed : IsComposed test m
+  pub spelled : Spells r (spell_texts (measured_components m))
+
+pub composes : (set : CharTests) → AreAboveAscii set → (test : Text → Bool) (allows : Option Text → Bool)
+    → ((text : Text) → is_reference set text ≡ true → allows (read_reference text).scheme ≡ true → test text ≡ true)
+    → (m : MeasuredReference) (r : ReferenceValue) → IsReady m → measured_components m ≡ spell_components r → is_readable set r ≡ true → allows r.scheme ≡ true → Composes test m r
+composes set above test allows allowed m r ready e h k =
+    let t = measured_components m in
+    let step = is_step set above test allows allowed (spell_texts t) r (spelled_texts t r e) h k in
+    grind (arith, ready, step, spelled_texts t r e, placed-read (spell_texts t))
+
+-- what is given this text is given what it spells
+pub spells_same : (r : ReferenceValue) (text same : Text) → Spells r text → same ≡ text → Spells r same
+spells_same r text same spelled e = (e ∙ spelled.0, ap read_reference e ∙ spelled.1)

@@ -1,0 +1,17 @@
+use Rattle.std.proofs.Common.{true, false, refl, length-append, append_assoc, arith}
+use Rattle.iref_grammar.specs.declared.context.PathContext.{PathContext}
+use Rattle.iref_reference_text.proofs.forward.path_between.Goals as goal
+
+some_authority : PathContext
+some_authority = record { has_scheme = false; has_authority = true }
+
+pub overflow_sub-len : goal.overflow_sub-len
+unfolding some_authority
+overflow_sub-len c =
+    let put = c.in_ok-append_normal_after.ensures some_authority refl in
+    grind (arith, length-append)
+
+pub returns : goal.returns
+returns c = λ context h.
+    let put = c.in_ok-append_normal_after.ensures context h in
+    (grind (arith, append_assoc), grind (arith, length-append))

@@ -1,0 +1,10 @@
+//! Texts of references, with the lengths of their components beside them.
+#![tactic(auto)]
+
+pub mod base;
+pub mod forward;
+pub mod fronts;
+mod lengths;
+pub mod measured;
+pub mod reference_text;
+pub mod relative;

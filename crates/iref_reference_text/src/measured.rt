@@ -1,0 +1,188 @@
+//! References that are measured before they are written: what one resolves to against a base,
+//! strict (RFC 3986 sections 5.2.2 and 5.3).
+ghost use Rattle.iref_reference_text.specs.ComponentLengths.{lengths_of_texts};
+ghost use Rattle.iref_reference_text.specs.MeasuredReferences.{IsReady, spell_texts, measured_components};
+ghost use Rattle.iref_grammar.specs.{ComponentTexts.{spell_components}, Reference.{context_of}};
+ghost use Rattle.iref_grammar.specs.{Grammar.{colon}, Texts.{part_then, then_part}};
+ghost use Rattle.iref_model.specs.{fits, normal, resolved, ComponentSteps.{guarded_reference}};
+ghost use Rattle.iref_parse.specs.ReferenceSlices.{value_of};
+ghost use Rattle.iref_path.specs.Written.{WritesBefore};
+ghost use Rattle.std.specs.{Option.{option_copied}, Prelude.{◌≡◌, ◌+◌, ◌*◌, ◌<◌, ◌≤◌, ◌^◌}};
+ghost use Rattle.std.specs.Prelude.{[], ◌∷◌, IfOk, is_some, length, true};
+
+use crate::lengths::{Lengths, len_of};
+use iref_error::Memory;
+use iref_grammar::context::PathContext;
+use iref_parse::split::ReferenceSlices;
+use iref_path::measured::MeasuredPath;
+use iref_path::spell::write_before;
+use std::alloc::{AllocError, Global};
+
+/// The components of a reference that is not written yet, as of what `../g` resolves to against
+/// `http://a/b/c`, which takes 10 bytes (RFC 3986 section 5.3).
+#[derive(Clone, Copy)]
+pub struct MeasuredReference<'a> {
+    pub(crate) scheme: Option<&'a str>,
+    pub(crate) authority: Option<&'a str>,
+    pub(crate) path: MeasuredPath<'a>,
+    pub(crate) query: Option<&'a str>,
+    pub(crate) fragment: Option<&'a str>,
+}
+
+/// Refuses a base's path and another one of which the bytes and the steps between cannot be
+/// counted, since no text can hold them.
+pub fn count_paths(base: &str, other: &str) -> Result<(), AllocError>
+    ensures { IfOk result (λ _. 3 * length base.now + length other.now + 16 < 2 ^ 64) }
+{
+    let climbs = base.len().checked_mul(3).ok_or(AllocError)?;
+    let steps = climbs.checked_add(other.len()).ok_or(AllocError)?;
+    steps.checked_add(16).ok_or(AllocError)?;
+    Ok(())
+}
+
+// What stands before a path after these components.
+fn context_after(scheme: Option<&str>, authority: Option<&str>) -> PathContext
+    ensures { result ≡ record {
+      has_scheme = is_some (option_copied scheme.entry);
+      has_authority = is_some (option_copied authority.entry);
+    } }
+{
+    PathContext {
+        has_scheme: scheme.is_some(),
+        has_authority: authority.is_some(),
+    }
+}
+
+// Writes a delimiter and a part so that they end at `end`, or nothing, and returns where they begin.
+#[inline(always)]
+#[tactic(auto, using(iref_path::proofs::WrittenLemmas::both_written))]
+fn write_marked(buffer: &mut [u8], end: usize, mark: &str, part: Option<&str>) -> usize
+    requires room { length (then_part mark.now (option_copied part)) ≤ end }
+    requires within { end ≤ length buffer.old }
+    ensures { WritesBefore end (then_part mark.entry.now (option_copied part.entry))
+        buffer.old buffer.new result }
+{
+    match part {
+        Some(part) => {
+            let start = write_before(buffer, end, part);
+            write_before(buffer, start, mark)
+        }
+        None => end,
+    }
+}
+
+// Writes a scheme and its delimiter so, or nothing.
+#[inline(always)]
+#[tactic(auto, using(iref_path::proofs::WrittenLemmas::both_written))]
+fn write_scheme(buffer: &mut [u8], end: usize, scheme: Option<&str>) -> usize
+    requires room { length (part_then (colon ∷ []) (option_copied scheme)) ≤ end }
+    requires within { end ≤ length buffer.old }
+    ensures { WritesBefore end (part_then (colon ∷ []) (option_copied scheme.entry))
+        buffer.old buffer.new result }
+{
+    match scheme {
+        Some(scheme) => {
+            let start = write_before(buffer, end, ":");
+            write_before(buffer, start, scheme)
+        }
+        None => end,
+    }
+}
+
+impl<'a> MeasuredReference<'a> {
+    // A reference under a scheme, its path made normal.
+    fn with_own_path(scheme: Option<&'a str>, reference: ReferenceSlices<'a>) -> Self
+        ensures texts { measured_components result ≡ spell_components (guarded_reference
+            (record (value_of reference.entry) {
+              scheme = option_copied scheme.entry;
+              path = normal (value_of reference.entry).path;
+            })) }
+        ensures ready { IsReady result }
+    {
+        let context = context_after(scheme, reference.authority);
+        MeasuredReference {
+            scheme,
+            authority: reference.authority,
+            path: MeasuredPath::normalized(context, reference.path),
+            query: reference.query,
+            fragment: reference.fragment,
+        }
+    }
+
+    /// The components of what the reference resolves to. A reference without a path keeps the
+    /// base's as it stands, and its query where it has none.
+    pub fn resolved(base: ReferenceSlices<'a>, reference: ReferenceSlices<'a>) -> Self
+        requires fits { fits (context_of (value_of base)) (value_of base).path ≡ true }
+        requires room { length base.path.now + length reference.path.now + 6 < 2 ^ 64 }
+        ensures texts { measured_components result ≡ spell_components
+            (resolved (value_of base.entry) (value_of reference.entry)) }
+        ensures ready { IsReady result }
+    {
+        let is_own = reference.scheme.is_some() | reference.authority.is_some();
+        if is_own {
+            return MeasuredReference::with_own_path(reference.scheme.or(base.scheme), reference);
+        }
+        let ReferenceSlices {
+            scheme,
+            authority,
+            ..
+        } = base;
+        let fragment = reference.fragment;
+        if reference.path.is_empty() {
+            return MeasuredReference {
+                scheme,
+                authority,
+                path: MeasuredPath::kept(base.path),
+                query: reference.query.or(base.query),
+                fragment,
+            };
+        }
+        let context = context_after(scheme, authority);
+        MeasuredReference {
+            scheme,
+            authority,
+            path: MeasuredPath::normalized_after(context, base.path, reference.path),
+            query: reference.query,
+            fragment,
+        }
+    }
+
+    /// How long the components are.
+    pub fn lengths(&self) -> Lengths
+        requires { IsReady self.now }
+        ensures { result ≡ lengths_of_texts (measured_components self.now) }
+    {
+        Lengths {
+            scheme: len_of(self.scheme),
+            authority: len_of(self.authority),
+            path: self.path.len(),
+            query: len_of(self.query),
+            fragment: len_of(self.fragment),
+        }
+    }
+
+    /// The bytes of the text, which is this long.
+    pub fn bytes(&self, alloc: Global, len: usize) -> Result<Vec<u8>, Memory>
+        requires ready { IsReady self.now }
+        requires len { len ≡ length (spell_texts (measured_components self.now)) }
+        ensures { IfOk result (λ bytes. bytes.items ≡ spell_texts (measured_components self.now)) }
+    {
+        let mut bytes = vec![in alloc; 0u8; len]?;
+        self.write(&mut bytes);
+        Ok(bytes)
+    }
+
+    /// Fills the buffer with the text, from its end.
+    pub fn write(&self, buffer: &mut [u8])
+        requires ready { IsReady self.now }
+        requires room { length (spell_texts (measured_components self.now)) ≡ length buffer.old }
+        ensures { buffer.new ≡ spell_texts (measured_components self.now) }
+    {
+        let end = buffer.len();
+        let end = write_marked(buffer, end, "#", self.fragment);
+        let end = write_marked(buffer, end, "?", self.query);
+        let end = self.path.write_before(buffer, end);
+        let end = write_marked(buffer, end, "//", self.authority);
+        write_scheme(buffer, end, self.scheme);
+    }
+}

@@ -1,0 +1,277 @@
+//! Edits of a held text: each is one step of the reference, and keeps the lengths with the text.
+ghost use Rattle.std.specs.Prelude.{◌≡◌, ◌≤◌, ◌<◌, ◌+◌, ◌-◌, ◌^◌, ◌++◌, true, false, [], ◌∷◌};
+ghost use Rattle.std.specs.Prelude.{length, Option, is_some, option_map, codes, OnOk, OnErr, IsOk};
+ghost use Rattle.std.specs.{Prelude.{IsNone}, Option.{option_copied}, List.{splice}};
+ghost use Rattle.std.specs.String.{string_bytes};
+ghost use Rattle.iref_component.specs.{Text, colon, question_mark, hash_sign, AuthorityValue};
+ghost use Rattle.iref_component.specs.{spell_authority, read_authority, is_authority, part_then};
+ghost use Rattle.iref_component.specs.{then_part, none_or, is_scheme, is_path, is_query};
+ghost use Rattle.iref_component.specs.{is_fragment, offsets_of, read_reference, spell};
+ghost use Rattle.iref_component.specs.{PathValue, read_path, spell_path, with_query, with_fragment};
+ghost use Rattle.iref_component.specs.{with_path, with_authority, with_scheme};
+ghost use Rattle.iref_reference_text.specs.PathTexts.{authority_text};
+ghost use Rattle.iref_reference_text.specs.Steps.{StepsOrStays};
+ghost use Rattle.iref_reference_text.specs.ComponentLengths.{HasLengths, lengths_of, with_mark};
+ghost use Rattle.iref_splice.specs.Changes.{IsNoLonger, IsWithin, changed, replaced};
+
+use super::{HeldRule, ReferenceText};
+use crate::lengths::{Lengths, len_of, marked_len};
+use iref_error::Memory;
+use iref_grammar::chars::CharSet;
+use iref_grammar::context::PathContext;
+use iref_path::guard::{guard_of, root_of};
+use iref_splice::change::Change;
+use iref_splice::text::{self, marked, marked_after};
+use std::alloc::AllocError;
+use std::ops::Range;
+
+// Replaces a range of a text by a delimiter and a part, or removes it, which takes no memory.
+fn put_marked(
+    text: &mut String,
+    within: Range<usize>,
+    mark: &str,
+    part: Option<&str>,
+) -> Result<(), AllocError>
+    requires { IsWithin (string_bytes text.old) within }
+    ensures ok { OnOk result (string_bytes text.new ≡ replaced (string_bytes text.old) within
+        (then_part mark.now (option_copied part.entry))) }
+    ensures err { OnErr result (string_bytes text.new ≡ string_bytes text.old) }
+    ensures none { IsNone part.entry → IsOk result }
+{
+    let (lead, middle) = marked(mark, part);
+    let close = "";
+    let change = Change {
+        within,
+        lead,
+        middle,
+        close,
+    };
+    text::replace(text, change)
+}
+
+impl<R: HeldRule, C: CharSet> ReferenceText<R, C> {
+    /// Replaces, adds or removes the query; removing takes no memory.
+    pub fn set_query(&mut self, query: Option<&str>) -> Result<(), Memory>
+        requires { none_or (is_query C.tests) (option_copied query) ≡ true }
+        ensures set { StepsOrStays (with_query (option_copied query.entry)) self.old self.new
+            result }
+        ensures none { IsNone query.entry → IsOk result }
+    {
+        let within = self.query_range();
+        put_marked(&mut self.text, within, "?", query)?;
+        self.lengths.query = len_of(query);
+        Ok(())
+    }
+
+    /// Replaces, adds or removes the fragment; removing takes no memory.
+    pub fn set_fragment(&mut self, fragment: Option<&str>) -> Result<(), Memory>
+        requires { none_or (is_fragment C.tests) (option_copied fragment) ≡ true }
+        ensures set { StepsOrStays (with_fragment (option_copied fragment.entry)) self.old self.new
+            result }
+        ensures none { IsNone fragment.entry → IsOk result }
+    {
+        let within = self.fragment_range();
+        put_marked(&mut self.text, within, "#", fragment)?;
+        self.lengths.fragment = len_of(fragment);
+        Ok(())
+    }
+
+    /// Replaces the path, with a guard where it would be read as something else.
+    pub fn set_path(&mut self, path: &str) -> Result<(), Memory>
+        requires { is_path C.tests path.now ≡ true }
+        ensures { StepsOrStays (with_path (read_path path.now)) self.old self.new result }
+    {
+        let old = self.lengths();
+        let guard = guard_of(old.context(), path);
+        let lengths = Lengths {
+            path: guard.len() + path.len(),
+            ..old
+        };
+        let change = Change {
+            within: self.path_range(),
+            lead: guard,
+            middle: path,
+            close: "",
+        };
+        self.step(lengths, change)
+    }
+
+    /// Replaces, adds or removes the scheme; removing takes no memory. A path whose first segment
+    /// holds a `:` is guarded where no scheme stands before it any more.
+    pub fn set_scheme(&mut self, scheme: Option<&str>) -> Result<(), Memory>
+        requires scheme { none_or is_scheme (option_copied scheme) ≡ true }
+        requires allowed { R.allows_scheme (option_copied scheme) ≡ true }
+        ensures set { StepsOrStays (with_scheme (option_copied scheme.entry)) self.old self.new
+            result }
+        ensures none { IsNone scheme.entry → IsOk result }
+    {
+        let old = self.lengths();
+        let lead = self.scheme_lead(scheme.is_some());
+        let len = lead.len() + old.path;
+        let within = self.scheme_range();
+        let (part, mark) = marked_after(scheme, ":");
+        let change = Change {
+            within,
+            lead: part,
+            middle: mark,
+            close: lead,
+        };
+        text::replace(&mut self.text, change)?;
+        self.lengths.scheme = len_of(scheme);
+        self.lengths.path = len;
+        Ok(())
+    }
+
+    /// Replaces, adds or removes the authority; removing takes no memory. Where one comes to stand
+    /// the path becomes absolute, and where it goes a path that begins with `//` is guarded.
+    pub fn set_authority(&mut self, authority: Option<&str>) -> Result<(), Memory>
+        requires { none_or (is_authority C.tests) (option_copied authority) ≡ true }
+        ensures set { StepsOrStays (with_authority
+            (option_map read_authority (option_copied authority.entry))) self.old self.new result }
+        ensures none { IsNone authority.entry → IsOk result }
+    {
+        let old = self.lengths();
+        let lead = self.authority_lead(authority.is_some());
+        let len = lead.len() + old.path;
+        let within = self.authority_range();
+        let (mark, part) = marked("//", authority);
+        let change = Change {
+            within,
+            lead: mark,
+            middle: part,
+            close: lead,
+        };
+        text::replace(&mut self.text, change)?;
+        self.lengths.authority = len_of(authority);
+        self.lengths.path = len;
+        Ok(())
+    }
+
+    // Makes a change of the text, which leaves components of these lengths.
+    pub(super) fn step(&mut self, lengths: Lengths, change: Change<'_>) -> Result<(), Memory>
+        requires within { IsWithin self.old change.within }
+        requires leaves { HasLengths (R.test C.tests) lengths (changed self.old change) }
+        ensures ok { OnOk result (self.new ≡ changed self.old change.entry) }
+        ensures err { OnErr result (self.new ≡ self.old) }
+        ensures shorter { IsNoLonger change.entry → IsOk result }
+    {
+        text::replace(&mut self.text, change)?;
+        self.lengths = lengths;
+        Ok(())
+    }
+
+    // The query and its delimiter, or where they would stand.
+    fn query_range(&self) -> Range<usize>
+        ensures within { IsWithin self.now result }
+        ensures replaced { (query : Option Text)
+            → splice self.now result.start result.end (then_part (question_mark ∷ []) query)
+            ≡ spell (with_query query (read_reference self.now)) }
+    {
+        let lengths = self.lengths();
+        lengths.query_mark()..lengths.fragment_mark()
+    }
+
+    // The fragment and its delimiter, or where they would stand.
+    fn fragment_range(&self) -> Range<usize>
+        ensures within { IsWithin self.now result }
+        ensures replaced { (fragment : Option Text)
+            → splice self.now result.start result.end (then_part (hash_sign ∷ []) fragment)
+            ≡ spell (with_fragment fragment (read_reference self.now)) }
+    {
+        self.lengths().fragment_mark()..self.text.as_str().len()
+    }
+
+    /// Where the path stands.
+    pub fn path_range(&self) -> Range<usize>
+        ensures range { result ≡ (offsets_of self.now).path }
+        ensures in_rule { R.test C.tests self.now ≡ true }
+        ensures within { IsWithin self.now result }
+        ensures replaced { (path : PathValue) → replaced self.now result (spell_path path)
+            ≡ spell (record (read_reference self.now) { path = path }) }
+    {
+        let lengths = self.lengths();
+        lengths.path_start()..lengths.query_mark()
+    }
+
+    // The authority and its delimiter, or where they would stand.
+    fn authority_range(&self) -> Range<usize>
+        ensures within { IsWithin self.now result }
+        ensures len { result.end - result.start
+            ≡ with_mark 2 (lengths_of (read_reference self.now)).authority }
+        ensures replaced { (authority : Option AuthorityValue) (path : PathValue) (lead : Text)
+            → lead ++ spell_path (read_reference self.now).path ≡ spell_path path
+            → splice self.now result.start result.end
+            (then_part (codes "//") (option_map spell_authority authority) ++ lead)
+            ≡ spell (record (read_reference self.now) { authority = authority; path = path }) }
+    {
+        let lengths = self.lengths();
+        marked_len(1, lengths.scheme)..lengths.path_start()
+    }
+
+    // What is written before the path where an authority is put, or removed.
+    fn authority_lead(&self, has_authority: bool) -> &'static str
+        ensures spelled { (authority : Option AuthorityValue) → is_some authority ≡ has_authority
+            → result.now ++ spell_path (read_reference self.now).path
+            ≡ spell_path (with_authority authority (read_reference self.now)).path }
+        ensures short { has_authority ≡ false → length result.now
+            ≤ with_mark 2 (lengths_of (read_reference self.now)).authority }
+        ensures fits { length result.now
+            + (lengths_of (read_reference self.now)).path < 2 ^ 64 }
+    {
+        let path = self.slices().path;
+        let context = self.lengths().context();
+        let comes = has_authority & !context.has_authority;
+        if comes {
+            root_of(path)
+        } else {
+            guard_of(
+                PathContext {
+                    has_authority,
+                    ..context
+                },
+                path,
+            )
+        }
+    }
+
+    // The scheme and its delimiter, or where they would stand.
+    fn scheme_range(&self) -> Range<usize>
+        ensures within { IsWithin self.now result }
+        ensures len { result.end - result.start
+            ≡ with_mark 1 (lengths_of (read_reference self.now)).scheme }
+        ensures replaced { (scheme : Option Text) (path : PathValue) (lead : Text)
+            → lead ++ authority_text self.now ++ spell_path (read_reference self.now).path
+            ≡ authority_text self.now ++ spell_path path
+            → splice self.now result.start result.end (part_then (colon ∷ []) scheme ++ lead)
+            ≡ spell (record (read_reference self.now) { scheme = scheme; path = path }) }
+    {
+        0..marked_len(1, self.lengths().scheme)
+    }
+
+    // What is written before the authority and the path where a scheme is put, or removed.
+    fn scheme_lead(&self, has_scheme: bool) -> &'static str
+        ensures spelled { (scheme : Option Text) → is_some scheme ≡ has_scheme
+            → result.now ++ authority_text self.now ++ spell_path (read_reference self.now).path
+            ≡ authority_text self.now
+            ++ spell_path (with_scheme scheme (read_reference self.now)).path }
+        ensures short { has_scheme ≡ false → length result.now
+            ≤ with_mark 1 (lengths_of (read_reference self.now)).scheme }
+        ensures fits { length result.now
+            + (lengths_of (read_reference self.now)).path < 2 ^ 64 }
+    {
+        let path = self.slices().path;
+        let context = self.lengths().context();
+        let stays = has_scheme | context.has_authority;
+        if stays {
+            ""
+        } else {
+            guard_of(
+                PathContext {
+                    has_scheme,
+                    ..context
+                },
+                path,
+            )
+        }
+    }
+}

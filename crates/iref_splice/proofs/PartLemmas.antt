@@ -1,0 +1,53 @@
+-- A part after an edit within it.
+use Rattle.std.proofs.Common.{◌≡◌, ℕ, ◌+◌, ◌-◌, ◌≤◌, List, length, ◌∙◌, length-append, length-take, length-drop, arith, rules}
+use Rattle.std.specs.List.{splice, slice_range}
+use Rattle.std.proofs.lemmas.List.{places, same_lists}
+use Rattle.iref_splice.specs.declared.change.Change.{Change}
+use Rattle.iref_splice.specs.declared.change.Span.{Span}
+use Rattle.iref_splice.specs.Changes.{IsWithin, changed, cut_length, part_at, pieces, pieces_length}
+
+splice-within : (bs text : List ℕ) (start end from to : ℕ) → start ≤ from → from ≤ to → to ≤ end → end ≤ length bs → splice bs from to text ≡ splice bs start end (splice (slice_range bs start end) (from - start) (to - start) text)
+splice-within bs text start end from to h1 h2 h3 h4 = same_lists _ _ (search (rules, places)) (λ k d h. grind (arith, places))
+
+pub slice-length : (bs : List ℕ) (start end : ℕ) → end ≤ length bs → length (slice_range bs start end) ≡ end - start
+slice-length bs start end h = simp (length-take, length-drop) (omega arith)
+
+-- what was put in a range of the part is put in the part
+pub part_put : (text new pieces : List ℕ) (start end from to : ℕ) → start ≤ end → end ≤ length text → from ≤ to → to ≤ length (slice_range text start end) → new ≡ splice text (start + from) (start + to) pieces
+    → new ≡ splice text start end (splice (slice_range text start end) from to pieces)
+part_put text new pieces start end from to a b c d e =
+    let fits : start + to ≤ end = omega (arith, slice-length text start end b) in
+    let back : (n : ℕ) → start + n - start ≡ n = λ n. omega arith in
+    e ∙ splice-within text pieces start end (start + from) (start + to) (omega arith) (omega arith) fits b
+    ∙ (λ i. splice text start end (splice (slice_range text start end) (back from i) (back to i) pieces))
+
+slice-spliced : (text part : List ℕ) (start end : ℕ) → start ≤ end → end ≤ length text → slice_range (splice text start end part) start (start + length part) ≡ part
+slice-spliced text part start end a b = same_lists _ _ (search (rules, places)) (λ k d h. grind (arith, places))
+
+length-spliced : (bs text : List ℕ) (start end : ℕ) → start ≤ end → end ≤ length bs → length (splice bs start end text) + end ≡ length bs + start + length text
+length-spliced bs text start end h1 h2 = simp (length-append, length-take, length-drop) (omega arith)
+
+-- a part that is all of a text is within it
+pub whole_is_within : {start end n : ℕ} → start ≡ 0 → end ≡ n → (start ≤ end) × (end ≤ n)
+whole_is_within from to = (omega (arith, from), omega (arith, to))
+
+-- where the part stands then
+pub record StandsThere (new part : List ℕ) (start new_end : ℕ) : Type 0 where
+  pub start_le_end : start ≤ new_end
+  pub in_bounds : new_end ≤ length new
+  pub holds : slice_range new start new_end ≡ part
+
+pub part_stands : (text new part : List ℕ) (start end new_end : ℕ) → start ≤ end → end ≤ length text → new ≡ splice text start end part → new_end ≡ start + length part → StandsThere new part start new_end
+part_stands text new part start end new_end a b e f = record {
+  start_le_end = omega arith;
+  in_bounds = rw e (omega (arith, length-spliced text part start end a b));
+  holds = rw (e, f) (slice-spliced text part start end a b);
+}
+
+-- how long the part is then
+pub part_len : (text : List ℕ) (change : Change) (range : Span) → range.start ≤ range.end → range.end ≤ length text → IsWithin (part_at text range) change.within
+    → range.end - range.start - cut_length change + pieces_length change ≡ length (changed (part_at text range) change)
+part_len text change range a b within =
+    let part = part_at text range in
+    let added : length (pieces change) ≡ pieces_length change = simp length-append in
+    omega (arith, added, slice-length text range.start range.end b, length-spliced part (pieces change) change.within.start change.within.end within.start_le_end within.end.0)

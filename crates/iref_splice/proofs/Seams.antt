@@ -1,0 +1,19 @@
+-- A text after a change between characters is text.
+use Rattle.std.proofs.Common.{◌≡◌, ◌++◌, take, drop, IsUtf8, OnOk, OnErr, sym, subst}
+use Rattle.std.specs.Prelude.{Result, Ok, Err}
+use Rattle.std.proofs.lemmas.Str.{IsUtf8-append, IsUtf8-drop, IsUtf8-take}
+use Rattle.iref_grammar.specs.Rules.{Text}
+use Rattle.iref_splice.specs.declared.change.Change.{Change}
+use Rattle.iref_splice.specs.Changes.{IsWithin, changed, pieces}
+
+pub changed_is_text : (text : Text) (change : Change) → IsWithin text change.within → IsUtf8 text → IsUtf8 change.lead.now → IsUtf8 change.middle.now → IsUtf8 change.close.now
+    → IsUtf8 (changed text change)
+changed_is_text text change within u lead middle close =
+    let put = IsUtf8-append (change.lead.now ++ change.middle.now) change.close.now (IsUtf8-append change.lead.now change.middle.now lead middle) close in
+    IsUtf8-append (take change.within.start text) (pieces change ++ drop change.within.end text) (IsUtf8-take text change.within.start u within.start)
+    (IsUtf8-append (pieces change) (drop change.within.end text) put (IsUtf8-drop text change.within.end u within.end))
+
+-- and so is what a change leaves that may be refused
+pub left_is_text : {V E : Type 0} (result : Result V E) (old new : Text) (change : Change) → OnOk result (new ≡ changed old change) → OnErr result (new ≡ old) → IsUtf8 old → IsUtf8 (changed old change) → IsUtf8 new
+left_is_text (Ok v) old new change ok err before after = subst IsUtf8 (sym ok) after
+left_is_text (Err e) old new change ok err before after = subst IsUtf8 (sym err) before
