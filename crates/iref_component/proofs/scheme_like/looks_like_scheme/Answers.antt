@@ -1,7 +1,7 @@
 use Rattle.std.proofs.Common.{◌∙◌, ap}
 use Rattle.iref_grammar.specs.Tests.{is_scheme}
 use Rattle.iref_component.proofs.SchemeLookLemmas.{looks_like-marked, looks_like-unmarked}
-use Rattle.iref_component.proofs.segment.looks_like_scheme.Goals as goal
+use Rattle.iref_component.proofs.scheme_like.looks_like_scheme.Goals as goal
 
 pub returns-then-is_some : goal.returns-then-is_some
 returns-then-is_some c =

@@ -3,7 +3,7 @@ use Rattle.iref_model.specs.PathSuffix.{same_decoded}
 use Rattle.iref_path.specs.BothEnds.{normal_left}
 use Rattle.iref_path.proofs.CompareListLemmas.{common-cut}
 use Rattle.iref_path.proofs.OrderLemmas.{order-cut}
-use Rattle.iref_path.proofs.common.compare_lists.Goals as goal
+use Rattle.iref_path.proofs.compare_lists.compare_lists.Goals as goal
 
 pub returns : goal.returns
 returns c =

@@ -1,7 +1,7 @@
 use Rattle.std.proofs.Common.{◌≡◌, length}
 use Rattle.iref_path.specs.BothEnds.{IsSound, normal_left}
 use Rattle.iref_path.proofs.CompareListLemmas.{IsCompared}
-use Rattle.iref_path.proofs.common.compare_same_length.Given as goal
+use Rattle.iref_path.proofs.compare_lists.compare_same_length.Given as goal
 
 abbrev pub invariant-loop-item : goal.invariant-loop-item
 invariant-loop-item l = record {

@@ -1,7 +1,7 @@
 use Rattle.std.proofs.Common.{arith, ◌-◌, length}
 use Rattle.iref_path.specs.BothEnds.{normal_left}
 use Rattle.iref_path.proofs.OrderLemmas.{one_less}
-use Rattle.iref_path.proofs.common.skip_back.Goals as goal
+use Rattle.iref_path.proofs.compare_lists.skip_back.Goals as goal
 
 pub loop-skipped-preserved : goal.loop-skipped-preserved
 loop-skipped-preserved c =

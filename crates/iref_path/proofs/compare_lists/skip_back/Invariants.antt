@@ -1,6 +1,6 @@
 use Rattle.std.proofs.Common.{◌≡◌, ◌-◌, length, take}
 use Rattle.iref_path.specs.BothEnds.{IsSound, normal_left}
-use Rattle.iref_path.proofs.common.skip_back.Given as goal
+use Rattle.iref_path.proofs.compare_lists.skip_back.Given as goal
 
 abbrev pub invariant-loop-skipped : goal.invariant-loop-skipped
 invariant-loop-skipped l = record {

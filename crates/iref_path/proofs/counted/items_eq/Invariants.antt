@@ -1,7 +1,7 @@
 use Rattle.std.proofs.Common.{◌≡◌, length}
 use Rattle.iref_model.specs.CountedEquality.{items_compared}
 use Rattle.iref_path.specs.CountedPath.{HaveRoom, IsCountable, AreCounted, items_unread}
-use Rattle.iref_path.proofs.equality.items_eq.Given as goal
+use Rattle.iref_path.proofs.counted.items_eq.Given as goal
 
 abbrev pub invariant-loop-item : goal.invariant-loop-item
 invariant-loop-item l = record {

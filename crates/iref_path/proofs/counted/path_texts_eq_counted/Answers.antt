@@ -4,7 +4,7 @@ use Rattle.std.proofs.lemmas.Bool.{not-false, not-true}
 use Rattle.iref_model.proofs.CountedLemmas.{flags_apart}
 use Rattle.iref_path.specs.CountedPath.{path_unread}
 use Rattle.iref_path.proofs.CountedPathLemmas.{counted_by_items}
-use Rattle.iref_path.proofs.equality.path_texts_eq_counted.Goals as goal
+use Rattle.iref_path.proofs.counted.path_texts_eq_counted.Goals as goal
 
 pub returns-then-left-right-clause-counted : goal.returns-then-left-right-clause-counted
 returns-then-left-right-clause-counted c =

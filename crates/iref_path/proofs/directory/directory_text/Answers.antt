@@ -3,7 +3,7 @@ use Rattle.std.proofs.lemmas.Str.Pattern.{rfind_char}
 use Rattle.iref_grammar.specs.Grammar.{slash}
 use Rattle.iref_model.proofs.PathGrammarLemmas.{is_path_empty}
 use Rattle.iref_path.proofs.PathTextLemmas.{directory-cut, directory-uncut, is_path-directory}
-use Rattle.iref_path.proofs.path_text.directory_text.Goals as goal
+use Rattle.iref_path.proofs.directory.directory_text.Goals as goal
 
 pub returns-in-Some-clause-text : goal.returns-in-Some-clause-text
 returns-in-Some-clause-text g c =

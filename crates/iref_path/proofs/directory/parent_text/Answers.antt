@@ -6,7 +6,7 @@ use Rattle.iref_path.specs.Pieces.{value_at}
 use Rattle.iref_path.proofs.SlashLemmas.{cut_last, lacks_if_none}
 use Rattle.iref_model.proofs.PathGrammarLemmas.{path_parts, is_path-root, is_path-guard}
 use Rattle.iref_path.proofs.PathTextLemmas.{parent-slice, parent-guarded, parent-root, parent-none, parent-uncut, nothing, something}
-use Rattle.iref_path.proofs.path_text.parent_text.Goals as goal
+use Rattle.iref_path.proofs.directory.parent_text.Goals as goal
 
 pub returns-in_err-front-clause-parent : goal.returns-in_err-front-clause-parent
 returns-in_err-front-clause-parent g c = ap (option_map value_at) c.from_residual.ensures ∙ sym (parent-uncut c.args.path.now (lacks_if_none _ c.in_err-front.ensures.cases))

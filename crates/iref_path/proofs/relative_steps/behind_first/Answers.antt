@@ -1,6 +1,6 @@
 use Rattle.std.proofs.Common.{arith}
 use Rattle.iref_path.proofs.RelativeStepLemmas.{apart-base, apart-first, behind, shorter}
-use Rattle.iref_path.proofs.apart.behind_first.Goals as goal
+use Rattle.iref_path.proofs.relative_steps.behind_first.Goals as goal
 
 pub returns-in_default-clause-apart : goal.returns-in_default-clause-apart
 returns-in_default-clause-apart c = grind (arith, apart-base)

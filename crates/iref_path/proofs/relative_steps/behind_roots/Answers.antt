@@ -2,7 +2,7 @@ use Rattle.std.proofs.Common.{arith, Some}
 use Rattle.std.proofs.lemmas.Str.Pattern.{strip_prefix_char}
 use Rattle.iref_grammar.specs.Grammar.{slash}
 use Rattle.iref_path.proofs.DotlessLemmas.{dotless-steps}
-use Rattle.iref_path.proofs.apart.behind_roots.Goals as goal
+use Rattle.iref_path.proofs.relative_steps.behind_roots.Goals as goal
 
 pub returns-clause-steps : goal.returns-clause-steps
 returns-clause-steps c =

@@ -1,6 +1,6 @@
 use Rattle.std.proofs.Common.{refl, ◌∙◌, sym, ap}
 use Rattle.std.proofs.lemmas.Bool.Decides.{not_from_Decides}
-use Rattle.iref_component.proofs.text.RuleText.read.Goals as goal
+use Rattle.iref_component.proofs.rule_text.RuleText.read.Goals as goal
 
 pub returns-else-accepts : goal.returns-else-accepts
 returns-else-accepts g c =

@@ -2,7 +2,7 @@ use Rattle.std.proofs.Common.{◌≡◌, ◌+◌, ◌≤◌, true, length}
 use Rattle.iref_path.specs.Pieces.{pieces_if_some}
 use Rattle.iref_path.specs.BothEnds.{are_no_parents, names_left, open_at_start}
 use Rattle.iref_path.proofs.BothEndsLemmas.{IsScanned}
-use Rattle.iref_path.proofs.remaining.BothEnds.fate.Given as goal
+use Rattle.iref_path.proofs.both_ends.BothEnds.fate.Given as goal
 
 abbrev pub invariant-loop-rest : goal.invariant-loop-rest
 invariant-loop-rest l = record {

@@ -1,7 +1,7 @@
 use Rattle.std.proofs.Common.{arith, refl}
 use Rattle.iref_path.proofs.MergedLemmas.{behind-left, behind-sound}
 use Rattle.iref_path.proofs.SpellLemmas.{read_size}
-use Rattle.iref_path.proofs.remaining.BothEnds.new.Goals as goal
+use Rattle.iref_path.proofs.both_ends.BothEnds.new.Goals as goal
 
 pub new-all-requires : goal.new-all-requires
 new-all-requires c = omega (arith, read_size c.args.path.now _ c.split_root-absolute.ensures.path)

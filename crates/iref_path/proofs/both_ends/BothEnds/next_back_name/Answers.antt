@@ -2,7 +2,7 @@ use Rattle.std.proofs.Common.{rules, length-append, arith}
 use Rattle.iref_model.proofs.StayingLemmas.{open_before-append, staying_before-append}
 use Rattle.std.proofs.lemmas.List.{append-nil}
 use Rattle.std.proofs.lemmas.List.Folds.{list_all-append}
-use Rattle.iref_path.proofs.remaining.BothEnds.next_back_name.Goals as goal
+use Rattle.iref_path.proofs.both_ends.BothEnds.next_back_name.Goals as goal
 
 pub returns-then-name_stays-clause-name : goal.returns-then-name_stays-clause-name
 returns-then-name_stays-clause-name c = grind (arith, staying_before-append)

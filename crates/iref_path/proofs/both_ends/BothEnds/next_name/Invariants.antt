@@ -1,7 +1,7 @@
 use Rattle.std.proofs.Common.{◌≡◌, length}
 use Rattle.iref_path.specs.Pieces.{pieces_if_some}
 use Rattle.iref_path.specs.BothEnds.{IsSound, KeepsEnds, names_left}
-use Rattle.iref_path.proofs.remaining.BothEnds.next_name.Given as goal
+use Rattle.iref_path.proofs.both_ends.BothEnds.next_name.Given as goal
 
 abbrev pub invariant-loop-self : goal.invariant-loop-self
 invariant-loop-self l = record {

@@ -3,7 +3,7 @@ use Rattle.iref_model.specs.NormalReading.{staying_before}
 use Rattle.iref_path.specs.Merged.{merged_list}
 use Rattle.iref_path.proofs.SpellLemmas.{kept_size, list_size}
 use Rattle.iref_path.proofs.MergedLemmas.{size_last}
-use Rattle.iref_path.proofs.remaining.merged.survey.Goals as goal
+use Rattle.iref_path.proofs.both_ends.merged.survey.Goals as goal
 
 pub loop-name-init : goal.loop-name-init
 loop-name-init c = record {

@@ -5,7 +5,7 @@ use Rattle.iref_model.specs.NormalReading.{open_before, staying_before}
 use Rattle.iref_path.specs.Merged.{IsMergeSound, merged_list, merged_names, open_before_both, to_read_of_both}
 use Rattle.iref_path.specs.BothEnds.{first_or}
 use Rattle.iref_path.specs.Spelling.{each_closed}
-use Rattle.iref_path.proofs.remaining.merged.survey.Given as goal
+use Rattle.iref_path.proofs.both_ends.merged.survey.Given as goal
 
 abbrev pub invariant-loop-name : goal.invariant-loop-name
 invariant-loop-name l = record {

@@ -1,7 +1,7 @@
 use Rattle.std.proofs.Common.{arith}
 use Rattle.iref_path.specs.CountedPath.{all_items_unread, items_unread}
 use Rattle.std.proofs.Math.Bool.{and-true}
-use Rattle.iref_path.proofs.equality.CountedPath.first_back.Goals as goal
+use Rattle.iref_path.proofs.counted.CountedPath.first_back.Goals as goal
 
 pub returns-in_default-clause-item : goal.returns-in_default-clause-item
 unfolding items_unread all_items_unread

@@ -1,7 +1,7 @@
 use Rattle.std.proofs.Common.{rules, arith}
 use Rattle.iref_path.specs.CountedPath.{items_unread}
-use Rattle.iref_path.proofs.equality.CountedPath.next_back.Goals.{then-self-via-then-self, then-self-via-else-self+then-self-eq0}
-use Rattle.iref_path.proofs.equality.CountedPath.next_back.Goals as goal
+use Rattle.iref_path.proofs.counted.CountedPath.next_back.Goals.{then-self-via-then-self, then-self-via-else-self+then-self-eq0}
+use Rattle.iref_path.proofs.counted.CountedPath.next_back.Goals as goal
 
 pub returns-then-name_stays-clause-item : goal.returns-then-name_stays-clause-item
 unfolding items_unread

@@ -1,6 +1,6 @@
 use Rattle.std.proofs.Common.{◌≡◌, length}
 use Rattle.iref_path.specs.CountedPath.{HasRoom, IsCountable, IsCounted, items_unread, segments_unread}
-use Rattle.iref_path.proofs.equality.CountedPath.next_back.Given as goal
+use Rattle.iref_path.proofs.counted.CountedPath.next_back.Given as goal
 
 abbrev pub invariant-loop-segment : goal.invariant-loop-segment
 invariant-loop-segment l = record {

@@ -1,7 +1,7 @@
 use Rattle.std.proofs.Common.{arith}
 use Rattle.iref_path.proofs.SpellLemmas.{length-join}
 use Rattle.iref_path.proofs.RelativeStepLemmas.{up_length}
-use Rattle.iref_path.proofs.body.Body.len.Goals as goal
+use Rattle.iref_path.proofs.measured_body.Body.len.Goals as goal
 
 pub returns-in-Items : goal.returns-in-Items
 returns-in-Items c = grind (arith, c.requires, length-join)

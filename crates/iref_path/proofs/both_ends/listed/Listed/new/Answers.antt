@@ -1,7 +1,7 @@
 use Rattle.std.proofs.Common.{length, sym, ap, ◌∙◌}
 use Rattle.iref_path.specs.Listed.{left_of}
 use Rattle.iref_path.specs.Stacks.{in_order}
-use Rattle.iref_path.proofs.remaining.listed.Listed.new.Goals as goal
+use Rattle.iref_path.proofs.both_ends.listed.Listed.new.Goals as goal
 
 pub returns-then-count-gt-ROOM-clause-items : goal.returns-then-count-gt-ROOM-clause-items
 unfolding left_of

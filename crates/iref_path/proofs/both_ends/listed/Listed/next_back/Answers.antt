@@ -1,7 +1,7 @@
 use Rattle.iref_path.specs.Listed.{left_of}
 use Rattle.std.proofs.Common.{arith}
 use Rattle.iref_path.proofs.StackLemmas.{in_order-cons}
-use Rattle.iref_path.proofs.remaining.listed.Listed.next_back.Goals as goal
+use Rattle.iref_path.proofs.both_ends.listed.Listed.next_back.Goals as goal
 
 pub returns-in-Some : goal.returns-in-Some
 unfolding left_of

@@ -5,7 +5,7 @@ use Rattle.iref_path.proofs.MergedLemmas.{count_most, ends-both, first-parts, si
 use Rattle.iref_path.proofs.BothEndsLemmas.{length-parts, one_empty, parts-whole}
 use Rattle.iref_path.proofs.RewritingLemmas.{root_is}
 use Rattle.iref_path.proofs.SpellLemmas.{kept_size, list_size}
-use Rattle.iref_path.proofs.remaining.merged.Merged.new.Goals as goal
+use Rattle.iref_path.proofs.both_ends.merged.Merged.new.Goals as goal
 
 pub returns-then-is_one_empty-clause-items : goal.returns-then-is_one_empty-clause-items
 unfolding merged_left

@@ -1,7 +1,7 @@
 use Rattle.std.proofs.Common.{arith}
 use Rattle.iref_path.specs.Pieces.{pieces_if_some}
 use Rattle.iref_path.proofs.MergedLemmas.{back_gives, front_opened, front_remains, opened_before}
-use Rattle.iref_path.proofs.remaining.merged.Merged.next_back_name.Goals as goal
+use Rattle.iref_path.proofs.both_ends.merged.Merged.next_back_name.Goals as goal
 
 pub returns-in-Some-clause-name : goal.returns-in-Some-clause-name
 returns-in-Some-clause-name c = grind (arith, back_gives)

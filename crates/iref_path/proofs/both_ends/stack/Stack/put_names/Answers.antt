@@ -4,7 +4,7 @@ use Rattle.iref_path.specs.Pieces.{pieces_if_some}
 use Rattle.iref_path.specs.BothEnds.{names_left}
 use Rattle.iref_path.proofs.SpellLemmas.{kept_size, list_size}
 use Rattle.iref_path.proofs.MergedLemmas.{size_last}
-use Rattle.iref_path.proofs.remaining.stack.Stack.put_names.Goals as goal
+use Rattle.iref_path.proofs.both_ends.stack.Stack.put_names.Goals as goal
 
 pub loop-name-init : goal.loop-name-init
 loop-name-init c = record {

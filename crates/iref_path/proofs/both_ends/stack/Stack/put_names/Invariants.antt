@@ -5,7 +5,7 @@ use Rattle.iref_path.specs.Pieces.{pieces_if_some}
 use Rattle.iref_path.specs.BothEnds.{IsSound, names_left, open_at_start}
 use Rattle.iref_path.specs.Spelling.{each_closed}
 use Rattle.iref_path.specs.Stacks.{Completes}
-use Rattle.iref_path.proofs.remaining.stack.Stack.put_names.Given as goal
+use Rattle.iref_path.proofs.both_ends.stack.Stack.put_names.Given as goal
 
 abbrev pub invariant-loop-name : goal.invariant-loop-name
 invariant-loop-name l = record {

@@ -1,7 +1,7 @@
 use Rattle.std.specs.Prelude.{codes, replicate}
 use Rattle.std.proofs.Common.{◌-◌, arith, ◌≡◌, ◌++◌, ◌∷◌, []}
 use Rattle.std.proofs.lemmas.Grind.{common_steps}
-use Rattle.iref_path.proofs.remaining.stack.Stack.put_parents.Goals as goal
+use Rattle.iref_path.proofs.both_ends.stack.Stack.put_parents.Goals as goal
 
 pub loop-left-preserved : goal.loop-left-preserved
 loop-left-preserved c =

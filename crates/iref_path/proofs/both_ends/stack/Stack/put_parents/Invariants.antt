@@ -2,7 +2,7 @@ use Rattle.std.proofs.Common.{◌≡◌, ◌+◌, ◌*◌, List}
 use Rattle.std.specs.Prelude.{codes, replicate}
 use Rattle.iref_grammar.specs.Rules.{Text}
 use Rattle.iref_path.specs.Stacks.{Completes}
-use Rattle.iref_path.proofs.remaining.stack.Stack.put_parents.Given as goal
+use Rattle.iref_path.proofs.both_ends.stack.Stack.put_parents.Given as goal
 
 abbrev pub invariant-loop-left : goal.invariant-loop-left
 invariant-loop-left l = record {

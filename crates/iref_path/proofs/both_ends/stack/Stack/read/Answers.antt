@@ -5,7 +5,7 @@ use Rattle.iref_path.specs.Stacks.{path_of}
 use Rattle.iref_path.proofs.BothEndsLemmas.{parts-whole}
 use Rattle.iref_path.proofs.SpellLemmas.{kept_size}
 use Rattle.iref_path.proofs.StackLemmas.{parts_put}
-use Rattle.iref_path.proofs.remaining.stack.Stack.read.Goals as goal
+use Rattle.iref_path.proofs.both_ends.stack.Stack.read.Goals as goal
 
 pub put_parents-requires : goal.put_parents-requires
 put_parents-requires c = grind (arith, kept_size (pieces_if_some c.args.segments), c.requires.empty [])

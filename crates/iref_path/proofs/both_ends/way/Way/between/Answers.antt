@@ -2,7 +2,7 @@ use Rattle.iref_path.proofs.WayLemmas.{length-with_last, last_taken}
 use Rattle.std.proofs.Common.{arith, append_assoc}
 use Rattle.std.proofs.lemmas.List.{drop-append-le}
 use Rattle.std.proofs.lemmas.List.Sums.{common_prefix_len-le}
-use Rattle.iref_path.proofs.remaining.way.Way.between.Goals as goal
+use Rattle.iref_path.proofs.both_ends.way.Way.between.Goals as goal
 
 pub overflow_sub-depth : goal.overflow_sub-depth
 overflow_sub-depth c = grind (arith, common_prefix_len-le)
