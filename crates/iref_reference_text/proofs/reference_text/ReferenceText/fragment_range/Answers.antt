@@ -1,5 +1,5 @@
 use Rattle.iref_reference_text.proofs.EditLemmas.{fragment_within, fragment_replaced}
-use Rattle.iref_reference_text.proofs.inner.ReferenceText.fragment_range.Goals as goal
+use Rattle.iref_reference_text.proofs.reference_text.ReferenceText.fragment_range.Goals as goal
 
 pub returns-clause-within : goal.returns-clause-within
 returns-clause-within g c =

@@ -1,6 +1,6 @@
 use Rattle.std.proofs.Common.{rules}
 use Rattle.iref_reference_text.proofs.SchemeLemmas.{scheme_alone}
-use Rattle.iref_reference_text.proofs.inner.ReferenceText.from_scheme.Goals as goal
+use Rattle.iref_reference_text.proofs.reference_text.ReferenceText.from_scheme.Goals as goal
 
 pub new_unchecked-requires : goal.new_unchecked-requires
 new_unchecked-requires g c =

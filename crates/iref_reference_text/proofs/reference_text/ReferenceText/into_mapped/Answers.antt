@@ -5,8 +5,8 @@ use Rattle.iref_mapping.specs.Mapping.{mapped}
 use Rattle.iref_mapping.proofs.MappedLemmas.{mapped-ascii, none_escaped}
 use Rattle.iref_reference_text.proofs.ReferenceTextLemmas.{in_rule_utf8}
 use Rattle.iref_reference_text.proofs.MappingLemmas.{mapping-in_rule}
-use Rattle.iref_reference_text.proofs.inner.ReferenceText.into_mapped.Given.{Over}
-use Rattle.iref_reference_text.proofs.inner.ReferenceText.into_mapped.Goals as goal
+use Rattle.iref_reference_text.proofs.reference_text.ReferenceText.into_mapped.Given.{Over}
+use Rattle.iref_reference_text.proofs.reference_text.ReferenceText.into_mapped.Goals as goal
 
 in_rule : (g : Over) (text : Text) → g.R.Rule.test g.C.CharSet.tests text ≡ true → g.R.Rule.test uri_chars (mapped text) ≡ true
 in_rule g =

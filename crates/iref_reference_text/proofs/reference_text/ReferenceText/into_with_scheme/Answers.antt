@@ -1,7 +1,7 @@
 use Rattle.std.proofs.Common.{ap, ◌∙◌}
 use Rattle.iref_grammar.specs.Reference.{ReferenceValue}
 use Rattle.iref_model.specs.ComponentSteps.{with_scheme}
-use Rattle.iref_reference_text.proofs.inner.ReferenceText.into_with_scheme.Goals as goal
+use Rattle.iref_reference_text.proofs.reference_text.ReferenceText.into_with_scheme.Goals as goal
 
 pub into_rule-requires : goal.into_rule-requires
 unfolding with_scheme

@@ -3,7 +3,7 @@ use Rattle.std.specs.String.{string_bytes}
 use Rattle.iref_reference_text.specs.ComponentLengths.{total_length}
 use Rattle.iref_reference_text.proofs.LengthLemmas.{total-read}
 use Rattle.iref_reference_text.proofs.EditLemmas.{readable_of}
-use Rattle.iref_reference_text.proofs.inner.ReferenceText.lengths.Goals as goal
+use Rattle.iref_reference_text.proofs.reference_text.ReferenceText.lengths.Goals as goal
 
 pub returns-clause-readable : goal.returns-clause-readable
 returns-clause-readable g c =

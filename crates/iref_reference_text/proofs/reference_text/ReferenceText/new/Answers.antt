@@ -1,7 +1,7 @@
 use Rattle.std.proofs.Common.{rules, arith}
 use Rattle.std.specs.String.{string_bytes}
 use Rattle.iref_reference_text.proofs.LengthLemmas.{lengths-slices}
-use Rattle.iref_reference_text.proofs.inner.ReferenceText.new.Goals as goal
+use Rattle.iref_reference_text.proofs.reference_text.ReferenceText.new.Goals as goal
 
 pub invariant_of-result : goal.invariant_of-result
 invariant_of-result g c = (search rules, grind (arith, lengths-slices c.in-Some.slices _ c.in-Some.ensures.value))

@@ -1,5 +1,5 @@
 use Rattle.iref_reference_text.proofs.ReferenceTextLemmas.{in_rule_utf8}
-use Rattle.iref_reference_text.proofs.inner.ReferenceText.of_bytes.Goals as goal
+use Rattle.iref_reference_text.proofs.reference_text.ReferenceText.of_bytes.Goals as goal
 
 pub from_utf8_unchecked-text-requires : goal.from_utf8_unchecked-text-requires
 from_utf8_unchecked-text-requires g c =

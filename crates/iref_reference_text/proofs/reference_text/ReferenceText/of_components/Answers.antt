@@ -1,7 +1,7 @@
 use Rattle.std.proofs.Common.{arith, ap, ◌∙◌}
 use Rattle.iref_reference_text.proofs.ReferenceTextLemmas.{in_rule_utf8}
 use Rattle.iref_reference_text.proofs.LengthLemmas.{lengths_by_offsets}
-use Rattle.iref_reference_text.proofs.inner.ReferenceText.of_components.Goals as goal
+use Rattle.iref_reference_text.proofs.reference_text.ReferenceText.of_components.Goals as goal
 
 pub from_utf8_unchecked-text-requires : goal.from_utf8_unchecked-text-requires
 from_utf8_unchecked-text-requires g c =

@@ -2,7 +2,7 @@ use Rattle.std.proofs.Common.{refl}
 use Rattle.iref_grammar.specs.ComponentOffsets.{offsets_in, offsets_of}
 use Rattle.iref_reference_text.proofs.LengthLemmas.{path_after-lengths, query_after-lengths}
 use Rattle.iref_reference_text.proofs.EditLemmas.{path_replaced, path_within}
-use Rattle.iref_reference_text.proofs.inner.ReferenceText.path_range.Goals as goal
+use Rattle.iref_reference_text.proofs.reference_text.ReferenceText.path_range.Goals as goal
 
 pub returns-clause-within : goal.returns-clause-within
 returns-clause-within g c =

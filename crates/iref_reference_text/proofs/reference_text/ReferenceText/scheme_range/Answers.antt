@@ -1,5 +1,5 @@
 use Rattle.iref_reference_text.proofs.EditLemmas.{scheme_within, scheme_replaced}
-use Rattle.iref_reference_text.proofs.inner.ReferenceText.scheme_range.Goals as goal
+use Rattle.iref_reference_text.proofs.reference_text.ReferenceText.scheme_range.Goals as goal
 
 pub returns-clause-within : goal.returns-clause-within
 returns-clause-within g c =

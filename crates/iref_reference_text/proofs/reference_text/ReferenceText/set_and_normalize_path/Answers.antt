@@ -7,7 +7,7 @@ use Rattle.iref_model.specs.ComponentSteps.{with_path, with_new_normal_path}
 use Rattle.iref_reference_text.specs.PathRanges.{RemovesDots}
 use Rattle.iref_reference_text.proofs.EditLemmas.{after_ok, normal_path_set}
 use Rattle.iref_reference_text.proofs.PathRangeLemmas.{normal_in_place, removes_dots}
-use Rattle.iref_reference_text.proofs.inner.ReferenceText.set_and_normalize_path.Goals as goal
+use Rattle.iref_reference_text.proofs.reference_text.ReferenceText.set_and_normalize_path.Goals as goal
 
 pub step-requires-clause-leaves : goal.step-requires-clause-leaves
 unfolding with_path

@@ -7,7 +7,7 @@ use Rattle.iref_grammar.proofs.ComponentLemmas.{authority_spelled, is_some-copie
 use Rattle.iref_mapping.proofs.MappedMarkLemmas.{is_some-map}
 use Rattle.iref_model.specs.ComponentSteps.{with_authority}
 use Rattle.iref_reference_text.proofs.EditLemmas.{authority_set}
-use Rattle.iref_reference_text.proofs.inner.ReferenceText.set_authority.Goals as goal
+use Rattle.iref_reference_text.proofs.reference_text.ReferenceText.set_authority.Goals as goal
 
 pub invariant_of-self-2 : goal.invariant_of-self-2
 unfolding with_authority

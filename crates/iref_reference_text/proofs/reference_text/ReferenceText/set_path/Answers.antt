@@ -6,7 +6,7 @@ use Rattle.iref_model.specs.ComponentSteps.{with_path}
 use Rattle.iref_model.specs.Guard.{guarded}
 use Rattle.iref_reference_text.proofs.LengthLemmas.{context-lengths}
 use Rattle.iref_reference_text.proofs.EditLemmas.{path_set}
-use Rattle.iref_reference_text.proofs.inner.ReferenceText.set_path.Goals as goal
+use Rattle.iref_reference_text.proofs.reference_text.ReferenceText.set_path.Goals as goal
 
 pub step-requires-clause-leaves : goal.step-requires-clause-leaves
 unfolding with_path

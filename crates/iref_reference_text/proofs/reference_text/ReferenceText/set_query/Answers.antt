@@ -2,7 +2,7 @@ use Rattle.std.proofs.Common.{arith, ◌∙◌}
 use Rattle.std.specs.Option.{option_copied}
 use Rattle.iref_grammar.specs.Reference.{read_reference}
 use Rattle.iref_reference_text.proofs.EditLemmas.{query_set, readable_of}
-use Rattle.iref_reference_text.proofs.inner.ReferenceText.set_query.Goals as goal
+use Rattle.iref_reference_text.proofs.reference_text.ReferenceText.set_query.Goals as goal
 
 pub invariant_of-self-2 : goal.invariant_of-self-2
 invariant_of-self-2 g c =

@@ -5,7 +5,7 @@ use Rattle.iref_grammar.specs.Reference.{read_reference}
 use Rattle.iref_grammar.proofs.ComponentLemmas.{is_some-copied}
 use Rattle.iref_model.specs.ComponentSteps.{with_scheme}
 use Rattle.iref_reference_text.proofs.EditLemmas.{scheme_set, spells, with_scheme-parts}
-use Rattle.iref_reference_text.proofs.inner.ReferenceText.set_scheme.Goals as goal
+use Rattle.iref_reference_text.proofs.reference_text.ReferenceText.set_scheme.Goals as goal
 
 pub invariant_of-self-2 : goal.invariant_of-self-2
 invariant_of-self-2 g c =

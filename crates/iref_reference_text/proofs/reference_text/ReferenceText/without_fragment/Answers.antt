@@ -4,7 +4,7 @@ use Rattle.iref_grammar.specs.Texts.{before}
 use Rattle.iref_grammar.proofs.FrontLemmas.{read_reference-before_hash, is_reference-before_hash}
 use Rattle.iref_reference_text.proofs.EditLemmas.{front_ends}
 use Rattle.iref_reference_text.proofs.ReferenceTextLemmas.{front-range}
-use Rattle.iref_reference_text.proofs.inner.ReferenceText.without_fragment.Goals as goal
+use Rattle.iref_reference_text.proofs.reference_text.ReferenceText.without_fragment.Goals as goal
 
 pub range-requires-clause-end_boundary : goal.range-requires-clause-end_boundary
 range-requires-clause-end_boundary g c = search (rules, front_ends g.C.CharSet.tests g.met.C.CharSet.above_ascii, g.met.R.HeldRule.references g.C.CharSet.tests)

@@ -1,6 +1,6 @@
 use Rattle.std.proofs.Common.{arith}
 use Rattle.iref_reference_text.proofs.AuthorityRangeLemmas.{authority_in_rule, authority_range_within, range_is, some_if_placed}
-use Rattle.iref_reference_text.proofs.inner.authority.ReferenceTextTargetAuthorityPart.part.Goals as goal
+use Rattle.iref_reference_text.proofs.reference_text.authority.ReferenceTextTargetAuthorityPart.part.Goals as goal
 
 pub range-requires-clause-start_le_end : goal.range-requires-clause-start_le_end
 range-requires-clause-start_le_end g c = (authority_range_within g.C.CharSet.tests g.met.C.CharSet.above_ascii c.args.self.now c.args.at c.requires).start_le_end

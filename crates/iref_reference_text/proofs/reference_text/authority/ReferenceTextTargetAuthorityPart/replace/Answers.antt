@@ -3,7 +3,7 @@ use Rattle.iref_splice.specs.Changes.{changed_part}
 use Rattle.iref_splice.proofs.PartLemmas.{slice-length}
 use Rattle.iref_reference_text.proofs.PathEditLemmas.{part_changed, part_within}
 use Rattle.iref_reference_text.proofs.AuthorityRangeLemmas.{authority_put, authority_range_within}
-use Rattle.iref_reference_text.proofs.inner.authority.ReferenceTextTargetAuthorityPart.replace.Goals as goal
+use Rattle.iref_reference_text.proofs.reference_text.authority.ReferenceTextTargetAuthorityPart.replace.Goals as goal
 
 pub overflow_sub-at : goal.overflow_sub-at
 overflow_sub-at g c = (authority_range_within g.C.CharSet.tests g.met.C.CharSet.above_ascii c.args.self.now c.args.at c.requires.stands).start_le_end

@@ -3,7 +3,7 @@ use Rattle.iref_splice.specs.Changes.{part_at}
 use Rattle.iref_path.specs.Rewriting.{rewritten, rewritten_at}
 use Rattle.iref_reference_text.proofs.ReferenceTextLemmas.{in_rule_utf8}
 use Rattle.iref_reference_text.proofs.PathRangeLemmas.{path_put, path_range_within}
-use Rattle.iref_reference_text.proofs.inner.path.ReferenceTextPathTarget.rewrite.Goals as goal
+use Rattle.iref_reference_text.proofs.reference_text.path.ReferenceTextPathTarget.rewrite.Goals as goal
 
 pub rewrite_text-end-requires-clause-start_le_end : goal.rewrite_text-end-requires-clause-start_le_end
 rewrite_text-end-requires-clause-start_le_end g c = (path_range_within g.C.CharSet.tests g.met.C.CharSet.above_ascii c.args.self.now c.args.after c.args.at c.requires.stands).start_le_end

@@ -1,7 +1,7 @@
 use Rattle.std.proofs.Common.{arith}
 use Rattle.iref_grammar.proofs.RangeLemmas.{path_range}
 use Rattle.iref_reference_text.proofs.PathRangeLemmas.{path_stands, path_range_within}
-use Rattle.iref_reference_text.proofs.inner.path.ReferenceTextTargetPathPart.part.Goals as goal
+use Rattle.iref_reference_text.proofs.reference_text.path.ReferenceTextTargetPathPart.part.Goals as goal
 
 pub range-requires-clause-start_le_end : goal.range-requires-clause-start_le_end
 range-requires-clause-start_le_end g c = (path_range_within g.C.CharSet.tests g.met.C.CharSet.above_ascii c.args.self.now c.args.after c.args.at c.requires).start_le_end

@@ -3,7 +3,7 @@ use Rattle.iref_splice.specs.Changes.{changed_part}
 use Rattle.iref_splice.proofs.PartLemmas.{slice-length}
 use Rattle.iref_reference_text.proofs.PathEditLemmas.{part_changed, part_within}
 use Rattle.iref_reference_text.proofs.PathRangeLemmas.{path_put, path_range_within}
-use Rattle.iref_reference_text.proofs.inner.path.ReferenceTextTargetPathPart.replace.Goals as goal
+use Rattle.iref_reference_text.proofs.reference_text.path.ReferenceTextTargetPathPart.replace.Goals as goal
 
 pub overflow_sub-at : goal.overflow_sub-at
 overflow_sub-at g c = (path_range_within g.C.CharSet.tests g.met.C.CharSet.above_ascii c.args.self.now c.args.after c.args.at c.requires.stands).start_le_end
