@@ -6,54 +6,47 @@ use iref_error::{
     InvalidScheme, InvalidSegment, InvalidUri, InvalidUriRef, InvalidUserInfo,
 };
 use std::alloc::AllocError;
-use std::error::Error;
 use std::fmt;
+use thiserror::Error;
 
 /// The error of any constructor for IRIs, with its input, into which `?` converts it:
 /// `Port(InvalidPort("8a"))` is printed as `invalid IRI authority port: 8a`.
-#[derive(Copy, Debug, PartialEq, Eq, Drop)]
+#[derive(Copy, Debug, PartialEq, Eq, Drop, Error)]
+#[error_bound(T: fmt::Display)]
 pub enum IriError<T> {
     /// The input is not an IRI.
+    #[error("invalid IRI: {0}")]
     Iri(InvalidUri<T>),
     /// The input is not a reference.
+    #[error("invalid IRI reference: {0}")]
     Reference(InvalidUriRef<T>),
     /// The input is not a scheme.
+    #[error("invalid IRI scheme: {0}")]
     Scheme(InvalidScheme<T>),
     /// The input is not an authority.
+    #[error("invalid IRI authority: {0}")]
     Authority(InvalidAuthority<T>),
     /// The input is not a user info.
+    #[error("invalid IRI authority user info: {0}")]
     UserInfo(InvalidUserInfo<T>),
     /// The input is not a host.
+    #[error("invalid IRI authority host: {0}")]
     Host(InvalidHost<T>),
     /// The input is not a port.
+    #[error("invalid IRI authority port: {0}")]
     Port(InvalidPort<T>),
     /// The input is not a path.
+    #[error("invalid IRI path: {0}")]
     Path(InvalidPath<T>),
     /// The input is not a segment.
+    #[error("invalid IRI path segment: {0}")]
     PathSegment(InvalidSegment<T>),
     /// The input is not a query.
+    #[error("invalid IRI query: {0}")]
     Query(InvalidQuery<T>),
     /// The input is not a fragment.
+    #[error("invalid IRI fragment: {0}")]
     Fragment(InvalidFragment<T>),
-}
-
-impl<T> IriError<T> {
-    // What the input was to be, and the input.
-    fn name_and_input(&self) -> (&'static str, &T) {
-        match self {
-            IriError::Iri(InvalidUri(input)) => ("IRI", input),
-            IriError::Reference(InvalidUriRef(input)) => ("IRI reference", input),
-            IriError::Scheme(InvalidScheme(input)) => ("IRI scheme", input),
-            IriError::Authority(InvalidAuthority(input)) => ("IRI authority", input),
-            IriError::UserInfo(InvalidUserInfo(input)) => ("IRI authority user info", input),
-            IriError::Host(InvalidHost(input)) => ("IRI authority host", input),
-            IriError::Port(InvalidPort(input)) => ("IRI authority port", input),
-            IriError::Path(InvalidPath(input)) => ("IRI path", input),
-            IriError::PathSegment(InvalidSegment(input)) => ("IRI path segment", input),
-            IriError::Query(InvalidQuery(input)) => ("IRI query", input),
-            IriError::Fragment(InvalidFragment(input)) => ("IRI fragment", input),
-        }
-    }
 }
 
 impl<T: Copy> Clone for IriError<T> {
@@ -65,12 +58,3 @@ impl<T: Copy> Clone for IriError<T> {
         Ok(*self)
     }
 }
-
-impl<T: fmt::Display> fmt::Display for IriError<T> {
-    fn fmt<W: fmt::Write>(&self, f: &mut fmt::Formatter<W>) -> fmt::Result {
-        let (name, input) = self.name_and_input();
-        write!(f, "invalid {name}: {input}")
-    }
-}
-
-impl<T: fmt::Debug + fmt::Display + Drop> Error for IriError<T> {}

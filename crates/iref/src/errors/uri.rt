@@ -6,54 +6,47 @@ use iref_error::{
     InvalidScheme, InvalidSegment, InvalidUri, InvalidUriRef, InvalidUserInfo,
 };
 use std::alloc::AllocError;
-use std::error::Error;
 use std::fmt;
+use thiserror::Error;
 
 /// The error of any constructor for URIs, with its input, into which `?` converts it:
 /// `Port(InvalidPort("8a"))` is printed as `invalid URI authority port: 8a`.
-#[derive(Copy, Debug, PartialEq, Eq, Drop)]
+#[derive(Copy, Debug, PartialEq, Eq, Drop, Error)]
+#[error_bound(T: fmt::Display)]
 pub enum UriError<T> {
     /// The input is not a URI.
+    #[error("invalid URI: {0}")]
     Uri(InvalidUri<T>),
     /// The input is not a reference.
+    #[error("invalid URI reference: {0}")]
     Reference(InvalidUriRef<T>),
     /// The input is not a scheme.
+    #[error("invalid URI scheme: {0}")]
     Scheme(InvalidScheme<T>),
     /// The input is not an authority.
+    #[error("invalid URI authority: {0}")]
     Authority(InvalidAuthority<T>),
     /// The input is not a user info.
+    #[error("invalid URI authority user info: {0}")]
     UserInfo(InvalidUserInfo<T>),
     /// The input is not a host.
+    #[error("invalid URI authority host: {0}")]
     Host(InvalidHost<T>),
     /// The input is not a port.
+    #[error("invalid URI authority port: {0}")]
     Port(InvalidPort<T>),
     /// The input is not a path.
+    #[error("invalid URI path: {0}")]
     Path(InvalidPath<T>),
     /// The input is not a segment.
+    #[error("invalid URI path segment: {0}")]
     PathSegment(InvalidSegment<T>),
     /// The input is not a query.
+    #[error("invalid URI query: {0}")]
     Query(InvalidQuery<T>),
     /// The input is not a fragment.
+    #[error("invalid URI fragment: {0}")]
     Fragment(InvalidFragment<T>),
-}
-
-impl<T> UriError<T> {
-    // What the input was to be, and the input.
-    fn name_and_input(&self) -> (&'static str, &T) {
-        match self {
-            UriError::Uri(InvalidUri(input)) => ("URI", input),
-            UriError::Reference(InvalidUriRef(input)) => ("URI reference", input),
-            UriError::Scheme(InvalidScheme(input)) => ("URI scheme", input),
-            UriError::Authority(InvalidAuthority(input)) => ("URI authority", input),
-            UriError::UserInfo(InvalidUserInfo(input)) => ("URI authority user info", input),
-            UriError::Host(InvalidHost(input)) => ("URI authority host", input),
-            UriError::Port(InvalidPort(input)) => ("URI authority port", input),
-            UriError::Path(InvalidPath(input)) => ("URI path", input),
-            UriError::PathSegment(InvalidSegment(input)) => ("URI path segment", input),
-            UriError::Query(InvalidQuery(input)) => ("URI query", input),
-            UriError::Fragment(InvalidFragment(input)) => ("URI fragment", input),
-        }
-    }
 }
 
 impl<T: Copy> Clone for UriError<T> {
@@ -65,12 +58,3 @@ impl<T: Copy> Clone for UriError<T> {
         Ok(*self)
     }
 }
-
-impl<T: fmt::Display> fmt::Display for UriError<T> {
-    fn fmt<W: fmt::Write>(&self, f: &mut fmt::Formatter<W>) -> fmt::Result {
-        let (name, input) = self.name_and_input();
-        write!(f, "invalid {name}: {input}")
-    }
-}
-
-impl<T: fmt::Debug + fmt::Display + Drop> Error for UriError<T> {}
