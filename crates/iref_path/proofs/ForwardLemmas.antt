@@ -7,7 +7,7 @@ use Rattle.std.proofs.lemmas.Bool.{and_parts, cases_lt, eqb-true}
 use Rattle.std.proofs.Math.Seq.{take-suc}
 use Rattle.std.specs.Prelude.{◌≢◌}
 use Rattle.std.specs.List.{join_with_byte, list_all}
-use Rattle.iref_grammar.proofs.TextLemmas.{join-pieces_at, lacks-pieces_at, pieces_at-join}
+use Rattle.iref_grammar.proofs.TextLemmas.{join-pieces_at, lacks-pieces_at, pieces_at-front, pieces_at-join}
 use Rattle.iref_grammar.specs.declared.context.PathContext.{PathContext}
 use Rattle.iref_grammar.specs.Rules.{Text}
 use Rattle.iref_grammar.specs.Grammar.{slash}
@@ -63,16 +63,14 @@ through_slash text at h e = grind (arith, add-one, take-suc)
 cut_at_slash : (text : Text) (at : ℕ) → at < length text → get_or text at 0 ≡ slash → text ≡ take at text ++ slash ∷ drop (at + 1) text
 cut_at_slash text at h e = grind (arith, take-append-drop, drop-cons text at 0, add-one)
 
-pub popped-cut : (text : Text) (at : ℕ) → IsLastSlash (take (length text - 1) text) at → take (at + 1) text ≡ popped_text text
-unfolding popped_text
-popped-cut text at h =
-    let hay = take (length text - 1) text in
-    let cut = pieces-cut_last hay at h in
-    grind (arith, all_but_last-append, closed-pieces (take at hay), through_slash hay at h.within h.slash_there, take-take, length-take)
+-- all before the last segment
+pub closed_to_last : (text : Text) (at : ℕ) → IsLastSlash text at → take (at + 1) text ≡ each_closed (all_but_last (pieces_at slash text))
+closed_to_last text at h =
+    let cut = pieces-cut_last text at h in
+    grind (arith, all_but_last-append, closed-pieces (take at text), through_slash text at h.within h.slash_there)
 
-pub popped-whole : (text : Text) → LacksSlashFrom (take (length text - 1) text) 0 → [] ≡ popped_text text
-unfolding popped_text
-popped-whole text h = grind (arith, pieces-uncut (take (length text - 1) text) (λ i within. h i (omega arith) within))
+pub closed_if_one : (text : Text) → LacksSlashFrom text 0 → [] ≡ each_closed (all_but_last (pieces_at slash text))
+closed_if_one text h = grind (arith, pieces-uncut text (λ i within. h i (omega arith) within))
 
 without_end : (text : Text) (c : ℕ) → take (length (text ++ c ∷ []) - 1) (text ++ c ∷ []) ≡ text
 without_end text c = grind (arith, length-append, take_at)
@@ -186,13 +184,9 @@ all_but_last-all : (test : Text → Bool) (list : List Text) → list_all test l
 all_but_last-all test [] h = refl
 all_but_last-all test (s ∷ rest) h = grind (arith, common_steps, all_but_last-all test rest)
 
-pub directory_pieces : (text : Text) (at : ℕ) → IsLastSlash text at → pieces_at slash (take (at + 1) text) ≡ all_but_last (pieces_at slash text) ++ [] ∷ []
-directory_pieces text at h =
-    let cut : all_but_last (pieces_at slash text) ≡ pieces_at slash (take at text) = ap all_but_last (pieces-cut_last text at h) ∙ all_but_last-append (pieces_at slash (take at text)) (drop (at + 1) text) in
-    ap (pieces_at slash) (sym (through_slash text at h.within h.slash_there)) ∙ pieces-append slash (take at text) [] ∙ ap (λ l. l ++ [] ∷ []) (sym cut)
-
-pub no_directory : (text : Text) → LacksSlashFrom text 0 → pieces_at slash [] ≡ all_but_last (pieces_at slash text) ++ [] ∷ []
-no_directory text h = grind (arith, pieces-uncut text (λ i within. h i (omega arith) within))
+pieces-closed : (list : List Text) → list_all (lacks slash) list ≡ true → pieces_at slash (each_closed list) ≡ list ++ [] ∷ []
+pieces-closed [] h = refl
+pieces-closed (s ∷ rest) h = grind (arith, common_steps, append_assoc, pieces_at-front slash s (each_closed rest), pieces-closed rest)
 
 -- an absolute path
 pub absolute_after : (context : PathContext) (base : PathValue) (path segments : Text) → context.has_authority ≡ true → path ≡ slash ∷ segments
@@ -203,10 +197,6 @@ absolute_after context base path segments h e =
     let read = read-absolute path segments (segments_of segments) e refl in
     grind (arith, some.2, read, join-segments true segments, after_authority context (segments_of segments) h)
 
-front_is : (below : Text) → all_but_last (segments_of below) ≡ all_but_last (pieces_at slash below)
-front_is [] = refl
-front_is (c ∷ below) = refl
-
 some_segments : (path : Text) → path ≢ [] → segments_of path ≡ pieces_at slash path
 some_segments [] h = absurd (h refl)
 some_segments (c ∷ path) h = refl
@@ -216,17 +206,19 @@ merged_list : (base : PathValue) (front segments : List Text) → (base.absolute
 merged_list base front segments h e = grind arith
 
 -- a relative path, after the directory of its base
-pub relative_after : (context : PathContext) (base : PathValue) (below path : Text) (dir : List Text) → context.has_authority ≡ true → (base.absolute || is_empty base.segments) ≡ true
-    → segments_of below ≡ base.segments → path ≢ [] → ((rest : Text) → path ≢ slash ∷ rest) → dir ≡ all_but_last (pieces_at slash below) ++ [] ∷ []
-    → slash ∷ forward (forward [] dir) (pieces_at slash path) ≡ spell_path (normalized context (path_after true base (read_path path)))
-relative_after context base below path dir h k e some relative d =
+pub relative_after : (context : PathContext) (base : PathValue) (below path closed : Text) → context.has_authority ≡ true → (base.absolute || is_empty base.segments) ≡ true
+    → all_but_last (pieces_at slash below) ≡ all_but_last base.segments → path ≢ [] → ((rest : Text) → path ≢ slash ∷ rest) → closed ≡ each_closed (all_but_last (pieces_at slash below))
+    → slash ∷ forward (forward [] (pieces_at slash closed)) (pieces_at slash path) ≡ spell_path (normalized context (path_after true base (read_path path)))
+relative_after context base below path closed h k e some relative d =
     let front = all_but_last (pieces_at slash below) in
     let piece = some_piece slash path in
-    let lacks_all : list_all (lacks slash) (front ++ piece.0 ∷ piece.1) ≡ true = grind (arith, common_steps, piece.2, lacks-pieces_at slash below, lacks-pieces_at slash path, all_but_last-all) in
-    let list : forward (forward [] dir) (pieces_at slash path) ≡ join_with_byte slash (items (absolute_list (front ++ pieces_at slash path))) =
-    (λ i. forward (forward [] (d i)) (piece.2 i)) ∙ forward-closed [] front piece.0 piece.1 ∙ forward-list front piece.0 piece.1 lacks_all ∙ ap (λ l. join_with_byte slash (items (absolute_list (front ++ l)))) (sym piece.2) in
+    let names : list_all (lacks slash) front ≡ true = all_but_last-all (lacks slash) (pieces_at slash below) (lacks-pieces_at slash below) in
+    let lacks_all : list_all (lacks slash) (front ++ piece.0 ∷ piece.1) ≡ true = grind (arith, common_steps, piece.2, names, lacks-pieces_at slash path) in
+    let dir : pieces_at slash closed ≡ front ++ [] ∷ [] = ap (pieces_at slash) d ∙ pieces-closed front names in
+    let list : forward (forward [] (pieces_at slash closed)) (pieces_at slash path) ≡ join_with_byte slash (items (absolute_list (front ++ pieces_at slash path))) =
+    (λ i. forward (forward [] (dir i)) (piece.2 i)) ∙ forward-closed [] front piece.0 piece.1 ∙ forward-list front piece.0 piece.1 lacks_all ∙ ap (λ l. join_with_byte slash (items (absolute_list (front ++ l)))) (sym piece.2) in
     let read = read-relative path (pieces_at slash path) relative (sym (some_segments path some)) in
-    let whole = ap (path_after true base) read ∙ merged_list base front (pieces_at slash path) k (sym (front_is below) ∙ ap all_but_last e) in
+    let whole = ap (path_after true base) read ∙ merged_list base front (pieces_at slash path) k e in
     ap (λ t. slash ∷ t) list ∙ sym (after_authority context (front ++ pieces_at slash path) h) ∙ ap (λ p. spell_path (normalized context p)) (sym whole)
 
 -- ---- what is appended

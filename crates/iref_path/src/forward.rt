@@ -3,40 +3,42 @@
 
 ghost use Rattle.iref_grammar.specs.declared.context.PathContext.{PathContext};
 ghost use Rattle.iref_grammar.specs.Texts.{all_but_last};
-ghost use Rattle.iref_grammar.specs.{is_empty, pieces_at, read_path, segments_of, slash};
+ghost use Rattle.iref_grammar.specs.{is_empty, pieces_at, read_path, slash};
 ghost use Rattle.iref_grammar.specs.{spell_path, Text};
 ghost use Rattle.iref_model.specs.{PathSteps.{normalized}, NormalList.{is_name}};
 ghost use Rattle.iref_path.specs.Forward.{Follows, IsBehindDots, forward, popped_text};
-ghost use Rattle.iref_path.specs.Merged.{path_after};
+ghost use Rattle.iref_path.specs.{Merged.{path_after}, Spelling.{each_closed}};
 ghost use Rattle.std.specs.Prelude.{◌≡◌, ◌≢◌, ◌<◌, ◌≤◌, ◌||◌, [], ◌∷◌, ◌++◌, List};
 ghost use Rattle.std.specs.Prelude.{drop, IfOk, length, MatchOption, OnOk, take, true, vec_len};
 
-use crate::segments::last_slash;
+use crate::segments::{last_slash, split_root};
 use iref_error::Memory;
 use iref_parse::cut::{cut_bytes, strip_mark};
 use iref_parse::dots::position_of_slash_dot;
 
-// Where the last segment begins of a text whose segments each have a `/` after them.
+// Where the last segment of a text begins.
 #[inline(always)]
 fn last_start(text: &[u8]) -> usize
-    requires { text.now ≢ [] }
-    ensures cut { take result text.now ≡ popped_text text.now }
+    ensures before { take result text.now
+        ≡ each_closed (all_but_last (pieces_at slash text.now)) }
     ensures within { result ≤ length text.now }
 {
-    match last_slash(&text[..text.len() - 1]) {
+    match last_slash(text) {
         Some(slash) => slash + 1,
         None => 0,
     }
 }
 
 // Cuts off the last of the segments that stand from `floor` on, each with a `/` after it.
+#[tactic(auto, unfolding(crate::specs::Forward::popped_text))]
 fn pop(out: &mut Vec<u8>, floor: usize)
     requires { floor ≤ vec_len out.old }
     ensures { out.new.items
         ≡ take floor out.old.items ++ popped_text (drop floor out.old.items) }
 {
     if floor < out.len() {
-        let start = last_start(&out[floor..]);
+        let text = &out[floor..];
+        let start = last_start(&text[..text.len() - 1]);
         out.truncate(floor + start);
     }
 }
@@ -59,7 +61,7 @@ fn names_end(text: &[u8]) -> usize
 
 // What follows the first segment, if this is `.` or `..`, and whether it is `..`.
 #[inline(always)]
-fn behind_dots(text: &[u8]) -> Option<(bool, &[u8])>
+fn behind_dot_segment(text: &[u8]) -> Option<(bool, &[u8])>
     requires { text.now ≢ [] }
     ensures { MatchOption result
         ((s : Text) (rest : List Text) → pieces_at slash text.now ≡ s ∷ rest → is_name s ≡ true)
@@ -87,7 +89,7 @@ fn follow<'t>(out: &mut Vec<u8>, floor: usize, text: &'t [u8]) -> Result<&'t [u8
         Follows floor out.old.items out.new.items text.now left.now) }
     ensures shorter { IfOk result (λ left. length left.now < length text.now) }
 {
-    match behind_dots(text) {
+    match behind_dot_segment(text) {
         Some((is_parent, rest)) => {
             if is_parent {
                 pop(out, floor);
@@ -115,27 +117,6 @@ fn put_all(out: &mut Vec<u8>, floor: usize, text: &[u8]) -> Result<(), Memory>
     Ok(())
 }
 
-// All up to and with the last `/`.
-fn directory(text: &[u8]) -> &[u8]
-    ensures { pieces_at slash result.now ≡ all_but_last (pieces_at slash text.now) ++ [] ∷ [] }
-{
-    match last_slash(text) {
-        Some(slash) => &text[..slash + 1],
-        None => &[],
-    }
-}
-
-// The text of the segments of a path.
-#[inline(always)]
-fn below_root(path: &str) -> &str
-    ensures { segments_of result.now ≡ (read_path path.now).segments }
-{
-    match strip_mark(path, '/') {
-        Some(segments) => segments,
-        None => path,
-    }
-}
-
 /// Appends the normalized path of a reference to the text that stands before the path of its base,
 /// after an authority (RFC 3986 sections 5.2.3 and 5.2.4): for `/b/c` and `../g` this is `/g`. It
 /// takes no more room on the way than for both paths and a `/`.
@@ -151,6 +132,7 @@ pub fn append_normal_after(out: &mut Vec<u8>, base: &str, path: &str) -> Result<
     if let Some(segments) = strip_mark(path, '/') {
         return put_all(out, floor, segments.as_bytes());
     }
-    put_all(out, floor, directory(below_root(base).as_bytes()))?;
+    let segments = split_root(base).1.unwrap_or("").as_bytes();
+    put_all(out, floor, &segments[..last_start(segments)])?;
     put_all(out, floor, path.as_bytes())
 }

@@ -43,7 +43,7 @@ fn strip_dot(text: &str) -> Option<&str>
 
 // What follows each `./` that a text begins with.
 #[inline(always)]
-fn behind_dots(text: &str) -> &str
+fn strip_dots(text: &str) -> &str
     ensures names { named (pieces_at slash result.now) ≡ named (pieces_at slash text.now) }
     ensures parents { list_any is_dot_dot (pieces_at slash result.now)
         ≡ list_any is_dot_dot (pieces_at slash text.now) }
@@ -63,7 +63,7 @@ fn first_name(text: &str) -> (&str, Option<&str>)
         ≡ result.0.now ∷ named (pieces_if_some result.1) }
     ensures fewer { length (pieces_if_some result.1) < length (pieces_at slash text.now) }
 {
-    let (segment, rest) = first_segment(behind_dots(text));
+    let (segment, rest) = first_segment(strip_dots(text));
     if segment == "." {
         ("", None)
     } else {
@@ -158,7 +158,7 @@ fn compare_without_parents(left: &str, right: &str) -> Option<Ordering>
         (map percent_decode (named (pieces_at slash left.now)))
         (map percent_decode (named (pieces_at slash right.now)))) }
 {
-    let (left, right) = (behind_dots(left), behind_dots(right));
+    let (left, right) = (strip_dots(left), strip_dots(right));
     let (a, b) = (left.as_bytes(), right.as_bytes());
     if !has_dots(a) && !has_dots(b) {
         return Some(compare_segments(left, right));

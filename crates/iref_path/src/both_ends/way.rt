@@ -24,7 +24,7 @@ pub struct Way<'a> {
 
 // The names that stay of a path without its last segment, and how many they are.
 #[tactic(auto, unfolding(crate::specs::BothEnds::normal_left))]
-fn directory(path: &str) -> (BothEnds<'_>, usize)
+fn directory_names(path: &str) -> (BothEnds<'_>, usize)
     ensures items { normal_left result.0 ≡ directory_names (read_path path.now) }
     ensures count { result.1 ≡ length (normal_left result.0) }
     ensures sound { IsSound result.0 }
@@ -60,7 +60,7 @@ impl<'a> Way<'a> {
         ensures depth { length (directory_names (read_path base.now)) ≤ length base.now + 1 }
         ensures sound { IsWaySound result }
     {
-        let (directory, depth) = directory(base);
+        let (directory, depth) = directory_names(base);
         let (items, count) = some_items(path);
         let mut middle = items;
         middle.next_back();

@@ -1,4 +1,4 @@
-use Rattle.std.proofs.Common.{◌++◌, ◌∙◌, ap, arith}
+use Rattle.std.proofs.Common.{◌++◌, ◌∙◌, ap, arith, take}
 use Rattle.std.proofs.lemmas.Result.{on_ok_weaker}
 use Rattle.iref_grammar.specs.Grammar.{slash}
 use Rattle.iref_grammar.specs.PathValue.{read_path}
@@ -23,10 +23,10 @@ returns c =
     let old = c.args.out.now.items in
     let base = read_path c.args.base.now in
     let path = c.args.path.now in
-    let below = c.below_root.result.now in
-    let dir = pieces_at slash c.directory.result.now in
+    let below = c.unwrap_or.result.now in
+    let closed = take c.last_start.result c.as_bytes-segments.result.now in
     on_ok_weaker c.put_all-3.result
     (λ e context h.
-    appended_twice old c.extend_from_slice.new.self.items c.len-floor.result dir (grind arith) (grind arith) c.put_all-2.new.out.items c.put_all-3.new.out.items (pieces_at slash path) (grind arith) (grind arith)
-    ∙ ap (λ t. old ++ t) (relative_after context base below path dir h c.requires.base c.below_root.ensures c.requires.path c.in_default.ensures (grind arith)))
+    appended_twice old c.extend_from_slice.new.self.items c.len-floor.result (pieces_at slash closed) (grind arith) (grind arith) c.put_all-2.new.out.items c.put_all-3.new.out.items (pieces_at slash path) (grind arith) (grind arith)
+    ∙ ap (λ t. old ++ t) (relative_after context base below path closed h c.requires.base (grind arith) c.requires.path c.in_default.ensures (grind arith)))
     c.put_all-3.ensures

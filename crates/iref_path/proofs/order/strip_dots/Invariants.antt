@@ -6,7 +6,7 @@ use Rattle.iref_grammar.specs.Grammar.{slash}
 use Rattle.iref_grammar.specs.Texts.{pieces_at}
 use Rattle.iref_model.specs.NormalList.{is_dot_dot}
 use Rattle.iref_path.specs.Named.{named}
-use Rattle.iref_path.proofs.order.behind_dots.Given as goal
+use Rattle.iref_path.proofs.order.strip_dots.Given as goal
 
 abbrev pub invariant-loop-rest : goal.invariant-loop-rest
 invariant-loop-rest l = record {

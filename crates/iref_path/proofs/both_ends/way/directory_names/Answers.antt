@@ -6,7 +6,7 @@ use Rattle.iref_path.specs.BothEnds.{normal_left}
 use Rattle.iref_path.specs.Spelling.{each_closed}
 use Rattle.iref_path.proofs.SpellLemmas.{last_size, read_size}
 use Rattle.iref_path.proofs.WayLemmas.{fewer_without_last}
-use Rattle.iref_path.proofs.both_ends.way.directory.Goals as goal
+use Rattle.iref_path.proofs.both_ends.way.directory_names.Goals as goal
 
 pub survey-names-requires : goal.survey-names-requires
 survey-names-requires c =

@@ -1,6 +1,6 @@
 use Rattle.std.proofs.Common.{arith}
 use Rattle.iref_path.proofs.SlashLemmas.{pieces-first}
-use Rattle.iref_path.proofs.forward.behind_dots.Goals as goal
+use Rattle.iref_path.proofs.forward.behind_dot_segment.Goals as goal
 
 pub returns : goal.returns
 returns c = λ s rest e.

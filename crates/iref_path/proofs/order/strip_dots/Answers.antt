@@ -5,7 +5,7 @@ use Rattle.iref_grammar.specs.Texts.{pieces_at}
 use Rattle.iref_model.specs.NormalList.{is_dot_dot}
 use Rattle.iref_path.specs.Named.{named}
 use Rattle.iref_path.proofs.NamedLemmas.{length-dot_slash, named-dot_slash}
-use Rattle.iref_path.proofs.order.behind_dots.Goals as goal
+use Rattle.iref_path.proofs.order.strip_dots.Goals as goal
 
 pub loop-rest-smaller : goal.loop-rest-smaller
 loop-rest-smaller c = grind (arith, length-dot_slash c.in-Some.rest.now)
