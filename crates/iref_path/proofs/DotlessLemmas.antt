@@ -25,7 +25,7 @@ use Rattle.iref_parse.specs.Dots.{begins_with_dot, has_dot_segment, is_some_dott
 use Rattle.iref_path.specs.Bodies.{after_front}
 use Rattle.iref_path.specs.Pieces.{pieces_if_some}
 use Rattle.iref_path.specs.BothEnds.{first_or}
-use Rattle.iref_path.specs.Spelling.{each_closed, lead_in}
+use Rattle.iref_path.specs.Spelling.{each_closed, guard_in}
 use Rattle.iref_path.specs.Ways.{text_steps}
 use Rattle.iref_path.proofs.SlashLemmas.{read-absolute}
 use Rattle.iref_path.proofs.SpellLemmas.{length-joined, normalized-spelled}
@@ -57,12 +57,12 @@ pub whole_text : (c : ℕ) (cs : Text) → is_one_empty (pieces_at slash (c ∷ 
 whole_text c cs = grind (arith, join-pieces_at slash (c ∷ cs))
 
 -- after an authority no first segment needs a guard
-pub unguarded : (context : PathContext) (absolute : Bool) (n : ℕ) (s t : Text) → context.has_authority ≡ true → lead_in context absolute n s ≡ lead_in context absolute n t
+pub unguarded : (context : PathContext) (absolute : Bool) (n : ℕ) (s t : Text) → context.has_authority ≡ true → guard_in context absolute n s ≡ guard_in context absolute n t
 unguarded context absolute n s t h = grind arith
 
 -- the text of the segments, after what stands first, spells the normalized path
 pub dotless-spelled : (context : PathContext) (absolute : Bool) (text first : Text) (rest : List Text) → pieces_at slash text ≡ first ∷ rest → has_dot_segment text ≡ false
-    → lead_in context absolute (length text) first ++ text ≡ spell_path (normalized context (record { absolute = absolute; segments = pieces_at slash text }))
+    → guard_in context absolute (length text) first ++ text ≡ spell_path (normalized context (record { absolute = absolute; segments = pieces_at slash text }))
 dotless-spelled context absolute [] first rest e h =
     let p : PathValue = record { absolute = absolute; segments = [] ∷ [] } in
     normalized-spelled context p [] 0 [] (sym (normal_segments-dotless p h)) refl refl

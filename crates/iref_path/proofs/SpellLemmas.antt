@@ -25,7 +25,7 @@ use Rattle.iref_model.specs.NormalReading.{open_before, staying_before}
 use Rattle.iref_model.specs.PathSteps.{normalized}
 use Rattle.iref_path.specs.PathParts.{is_path_after}
 use Rattle.iref_path.specs.BothEnds.{first_or, flagged_path}
-use Rattle.iref_path.specs.Spelling.{each_closed, lead, lead_in, normal_in}
+use Rattle.iref_path.specs.Spelling.{each_closed, guard, guard_in, normal_in}
 use Rattle.iref_model.proofs.GuardLemmas.{guarded-fits}
 use Rattle.iref_model.proofs.PieceLemmas.{some_piece}
 use Rattle.iref_model.proofs.ItemLemmas.{name_no_parent, normal_segments-is}
@@ -91,21 +91,21 @@ normal_size-text absolute text = omega (arith, normal_size (flagged_path absolut
 
 -- the root and the guard of a list, in its text
 list-spelled : (context : PathContext) (absolute : Bool) (list : List Text) → is_one_empty list ≡ false
-    → spell_path (guarded context (record { absolute = absolute; segments = list })) ≡ lead_in context absolute (length (each_closed list)) (first_or [] list) ++ join_with_byte slash list
+    → spell_path (guarded context (record { absolute = absolute; segments = list })) ≡ guard_in context absolute (length (each_closed list)) (first_or [] list) ++ join_with_byte slash list
 unfolding spell_path guarded
 list-spelled context absolute [] h = grind (arith, append-nil)
 list-spelled context absolute (s ∷ rest) h = grind (arith, nat_tests, size-cons)
 
 -- a relative list that stands alone, which may be one empty segment
 pub relative-spelled : (list : List Text) (size : ℕ) (first : Text) → size ≡ length (each_closed list) → first ≡ first_or [] list
-    → lead_in alone false size first ++ join_with_byte slash list ≡ spell_path (guarded alone (record { absolute = false; segments = list }))
+    → guard_in alone false size first ++ join_with_byte slash list ≡ spell_path (guarded alone (record { absolute = false; segments = list }))
 unfolding spell_path guarded
 relative-spelled ([] ∷ []) size first h k = grind arith
 relative-spelled list size first h k = grind (arith, list-spelled)
 
 -- the text of the normalized path
 pub normalized-spelled : (context : PathContext) (p : PathValue) (list : List Text) (size : ℕ) (first : Text) → list ≡ normal_segments p → size ≡ length (each_closed list) → first ≡ first_or [] list
-    → lead_in context p.absolute size first ++ join_with_byte slash list ≡ spell_path (normalized context p)
+    → guard_in context p.absolute size first ++ join_with_byte slash list ≡ spell_path (normalized context p)
 normalized-spelled context p list size first e h k = grind (arith, list-spelled, normal_segments-is, not_lone)
 
 -- ---- what is read in it
@@ -162,5 +162,5 @@ last_size [] = omega arith
 last_size (s ∷ rest) = grind (arith, size-cons, last_size rest)
 
 -- what comes before the items, and these
-pub length-lead : (lead : Text) (list : List Text) → length (lead ++ join_with_byte slash list) ≡ length lead + (length (each_closed list) - 1)
-length-lead lead list = grind (arith, append_assoc, length-append, nat_tests, length-join)
+pub length-guard : (guard : Text) (list : List Text) → length (guard ++ join_with_byte slash list) ≡ length guard + (length (each_closed list) - 1)
+length-guard guard list = grind (arith, append_assoc, length-append, nat_tests, length-join)

@@ -18,17 +18,17 @@ use Rattle.iref_grammar.proofs.PathLemmas.{read_path-reads}
 use Rattle.iref_model.specs.Guard.{guarded}
 use Rattle.iref_model.specs.PathSteps.{lazy_pushed, closed_path}
 use Rattle.iref_splice.specs.Changes.{IsWithin}
-use Rattle.iref_path.specs.Spelling.{first_needs_guard, lead}
+use Rattle.iref_path.specs.Spelling.{first_needs_guard, guard}
 use Rattle.iref_path.specs.StepTexts.{closed_by}
 
 -- before a first segment that is pushed
-abbrev pub pushed_lead : PathContext → Bool → Text → Text
-pushed_lead context absolute s =
+abbrev pub pushed_guard : PathContext → Bool → Text → Text
+pushed_guard context absolute s =
     let rooted = absolute || context.has_authority in
-    lead rooted (first_needs_guard context rooted s)
+    guard rooted (first_needs_guard context rooted s)
 
 -- the first segment
-pub first_pushed : (context : PathContext) (p : PathValue) (s : Text) → is_empty p.segments ≡ true → pushed_lead context p.absolute s ++ s ≡ spell_path (lazy_pushed context s p)
+pub first_pushed : (context : PathContext) (p : PathValue) (s : Text) → is_empty p.segments ≡ true → pushed_guard context p.absolute s ++ s ≡ spell_path (lazy_pushed context s p)
 unfolding guarded lazy_pushed spell_path
 first_pushed context p s h = grind (arith, common_steps)
 

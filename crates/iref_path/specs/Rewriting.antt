@@ -20,8 +20,8 @@ items_text absolute segments = join_with_byte slash (items (record { absolute = 
 
 -- what stands first, and the normal list of the path with `/` between
 abbrev pub rewritten : Text → Text → Text
-rewritten lead path = lead ++ join_with_byte slash (normal_segments (read_path path))
+rewritten guard path = guard ++ join_with_byte slash (normal_segments (read_path path))
 
 -- the text with that instead of the path in a range
 abbrev pub rewritten_at : Text → Text → Span → Text
-rewritten_at lead text range = splice text range.start range.end (rewritten lead (part_at text range))
+rewritten_at guard text range = splice text range.start range.end (rewritten guard (part_at text range))

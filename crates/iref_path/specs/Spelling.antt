@@ -21,16 +21,16 @@ first_needs_guard context rooted s = is_empty s || not (rooted || context.has_sc
 abbrev pub needs_guard : PathContext → Bool → Text → Bool
 needs_guard context absolute first = not context.has_authority && first_needs_guard context absolute first
 
--- the root, and the guard
-abbrev pub lead : Bool → Bool → Text
-lead absolute guard = (if absolute then codes "/" else []) ++ (if guard then codes "./" else [])
+-- a root, and the segment `.`
+abbrev pub guard : Bool → Bool → Text
+guard rooted dotted = (if rooted then codes "/" else []) ++ (if dotted then codes "./" else [])
 
 -- what comes before a list that has this number of bytes and begins with this segment
-abbrev pub lead_in : PathContext → Bool → ℕ → Text → Text
-lead_in context absolute size first =
+abbrev pub guard_in : PathContext → Bool → ℕ → Text → Text
+guard_in context absolute size first =
     if size == 0
-    then lead absolute false
-    else lead (absolute || context.has_authority) (needs_guard context absolute first)
+    then guard absolute false
+    else guard (absolute || context.has_authority) (needs_guard context absolute first)
 
 -- the normalized path, in its context, of a text that is read with a flag of its own
 abbrev pub normal_in : PathContext → Bool → Text → PathValue

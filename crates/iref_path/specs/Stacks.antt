@@ -16,7 +16,7 @@ in_order items = reverse (map text_at items)
 
 -- what stands first, and these items with `/` between
 unfoldable pub stacked_text : Text → List (Bor Text) → Text
-stacked_text lead items = lead ++ join_with_byte slash (in_order items)
+stacked_text guard items = guard ++ join_with_byte slash (in_order items)
 
 -- The stack has what follows these items in a whole list: their size, the first of them, and the items themselves
 -- where each found room.

@@ -21,7 +21,7 @@ use crate::both_ends::way::Way;
 use crate::measured_body::Body;
 use crate::relative_steps::{behind_roots, first_step, steps_apart};
 use crate::segments::{first_segment, split_root, without_last};
-use crate::spell::{lead_in, measure, write_before};
+use crate::spell::{guard_in, measure, write_before};
 use iref_error::Memory;
 use iref_grammar::chars::CharSet;
 use iref_grammar::context::PathContext;
@@ -38,8 +38,8 @@ const ALONE: PathContext = PathContext {
 /// of a normal list.
 #[derive(Clone, Copy)]
 pub struct MeasuredPath<'a> {
-    // What stands first: the root and the guard.
-    lead: &'a str,
+    // The root, and `./` where it is needed.
+    guard: &'a str,
     body: Body<'a>,
 }
 
@@ -66,8 +66,8 @@ fn have_dots(front: Option<&str>, back: &str) -> bool
 // text is returned unread.
 #[inline(always)]
 fn first_to_guard(context: PathContext, text: &str) -> &str
-    ensures { (absolute : Bool) (size : ℕ) → spelling.lead_in context absolute size result.now
-        ≡ spelling.lead_in context absolute size (first_or [] (pieces_at slash text.now)) }
+    ensures { (absolute : Bool) (size : ℕ) → spelling.guard_in context absolute size result.now
+        ≡ spelling.guard_in context absolute size (first_or [] (pieces_at slash text.now)) }
 {
     if context.has_authority {
         return text;
@@ -75,17 +75,17 @@ fn first_to_guard(context: PathContext, text: &str) -> &str
     first_segment(text).0
 }
 
-// Writes what stands first, mostly the root alone, as `write_before` does.
+// Writes the guard as `write_before` does. Mostly it is the root alone.
 #[inline(always)]
-fn write_lead(buffer: &mut [u8], end: usize, lead: &str) -> usize
-    requires room { length lead.now ≤ end }
+fn write_guard(buffer: &mut [u8], end: usize, guard: &str) -> usize
+    requires room { length guard.now ≤ end }
     requires within { end ≤ length buffer.old }
-    ensures { WritesBefore end lead.now buffer.old buffer.new result }
+    ensures { WritesBefore end guard.now buffer.old buffer.new result }
 {
-    if lead == "/" {
+    if guard == "/" {
         write_before(buffer, end, "/")
     } else {
-        write_before(buffer, end, lead)
+        write_before(buffer, end, guard)
     }
 }
 
@@ -96,7 +96,7 @@ impl<'a> MeasuredPath<'a> {
         ensures measured { IsMeasured result }
     {
         MeasuredPath {
-            lead: "",
+            guard: "",
             body: Body::Kept(None, path),
         }
     }
@@ -147,9 +147,9 @@ impl<'a> MeasuredPath<'a> {
             }
         }
         let all = Merged::new(absolute, front, back);
-        let lead = lead_in(context, absolute, all.size, all.first);
+        let guard = guard_in(context, absolute, all.size, all.first);
         let body = Body::Items(Way::all(all.items), all.size);
-        MeasuredPath { lead, body }
+        MeasuredPath { guard, body }
     }
 
     // The text of segments of which none begins with a dot: they stay as they are.
@@ -162,8 +162,8 @@ impl<'a> MeasuredPath<'a> {
     {
         let first = first_to_guard(context, front.unwrap_or(back));
         let body = Body::Kept(front, back);
-        let lead = lead_in(context, absolute, body.len(), first);
-        MeasuredPath { lead, body }
+        let guard = guard_in(context, absolute, body.len(), first);
+        MeasuredPath { guard, body }
     }
 
     /// The text of a relative path of these items, which stands alone.
@@ -177,9 +177,9 @@ impl<'a> MeasuredPath<'a> {
         ensures measured { IsMeasured result }
     {
         let (size, first) = measure(items);
-        let lead = lead_in(ALONE, false, size, first);
+        let guard = guard_in(ALONE, false, size, first);
         let body = Body::Items(items, size);
-        MeasuredPath { lead, body }
+        MeasuredPath { guard, body }
     }
 
     // The text of a relative path of a number of `..` and the segments of a text, which stands
@@ -193,8 +193,8 @@ impl<'a> MeasuredPath<'a> {
         ensures measured { IsMeasured result }
     {
         let body = Body::Up(up, path);
-        let lead = lead_in(ALONE, false, body.len() + 1, first_step(up, path));
-        MeasuredPath { lead, body }
+        let guard = guard_in(ALONE, false, body.len() + 1, first_step(up, path));
+        MeasuredPath { guard, body }
     }
 
     /// The text of the path that leads from a base's to this one: from the base's directory where
@@ -220,7 +220,7 @@ impl<'a> MeasuredPath<'a> {
         requires { IsMeasured self.now }
         ensures { result ≡ length (measured_text self.now) }
     {
-        self.lead.len() + self.body.len()
+        self.guard.len() + self.body.len()
     }
 
     /// The text of a path. The room is taken once; out of memory, it returns an `Err`.
@@ -254,6 +254,6 @@ impl<'a> MeasuredPath<'a> {
         ensures { WritesBefore end (measured_text self.entry) buffer.old buffer.new result }
     {
         let start = self.body.write_before(buffer, end);
-        write_lead(buffer, start, self.lead)
+        write_guard(buffer, start, self.guard)
     }
 }

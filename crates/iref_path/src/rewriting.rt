@@ -14,7 +14,7 @@ ghost use Rattle.iref_splice.specs.Changes.{part_at};
 use crate::both_ends::leading_parents;
 use crate::both_ends::merged::Merged;
 use crate::segments::split_root;
-use crate::spell::{lead_in, write_before, write_parents};
+use crate::spell::{guard_in, write_before, write_parents};
 use crate::staying_names::bytes_stay;
 use iref_grammar::context::PathContext;
 use iref_splice::bytes::replace;
@@ -119,29 +119,29 @@ fn write_list(bytes: &mut [u8], absolute: bool) -> usize
 
 // Writes what stands first and the normal list of the path over the path, so that they end where it
 // ends, and returns where they begin.
-fn write_over(path: &mut [u8], lead: &str) -> usize
-    requires { length (rewritten lead.now path.old) ≤ length path.old }
-    ensures { WritesBefore (length path.old) (rewritten lead.now path.old)
+fn write_over(path: &mut [u8], guard: &str) -> usize
+    requires { length (rewritten guard.now path.old) ≤ length path.old }
+    ensures { WritesBefore (length path.old) (rewritten guard.now path.old)
         path.old path.new result }
 {
     let absolute = path.starts_with(b"/");
     let root = usize::from(absolute);
     let start = write_list(&mut path[root..], absolute);
-    write_before(path, root + start, lead)
+    write_before(path, root + start, guard)
 }
 
 // Writes it over the path that is at `at`, and returns how many bytes of the path stand before it.
-fn write_at(bytes: &mut [u8], at: Span, lead: &str) -> usize
+fn write_at(bytes: &mut [u8], at: Span, guard: &str) -> usize
     requires start_le_end { at.start ≤ at.end }
     requires in_bounds { at.end ≤ length bytes.old }
-    requires shorter { length (rewritten lead.now (part_at bytes.old at)) ≤ at.end - at.start }
-    ensures index { result + length (rewritten lead.now (part_at bytes.old at))
+    requires shorter { length (rewritten guard.now (part_at bytes.old at)) ≤ at.end - at.start }
+    ensures index { result + length (rewritten guard.now (part_at bytes.old at))
         ≡ at.end - at.start }
     ensures written { splice bytes.new at.start (at.start + result) []
-        ≡ rewritten_at lead.now bytes.old at }
+        ≡ rewritten_at guard.now bytes.old at }
     ensures len { length bytes.new ≡ length bytes.old }
 {
-    write_over(&mut bytes[at.start..at.end], lead)
+    write_over(&mut bytes[at.start..at.end], guard)
 }
 
 // Takes the bytes of the range away.
@@ -161,46 +161,46 @@ fn cut(bytes: &mut Vec<u8>, within: Range<usize>)
 
 /// Replaces the path that is at `at` by what stands first and the path's normal list, and returns
 /// where that ends. It takes no memory.
-pub fn rewrite(bytes: &mut Vec<u8>, at: Span, lead: &str) -> usize
+pub fn rewrite(bytes: &mut Vec<u8>, at: Span, guard: &str) -> usize
     requires start_le_end { at.start ≤ at.end }
     requires in_bounds { at.end ≤ vec_len bytes.old }
-    requires shorter { length (rewritten lead.now (part_at bytes.old.items at))
+    requires shorter { length (rewritten guard.now (part_at bytes.old.items at))
         ≤ at.end - at.start }
-    ensures items { bytes.new.items ≡ rewritten_at lead.now bytes.old.items at }
-    ensures end { result ≡ at.start + length (rewritten lead.now (part_at bytes.old.items at)) }
+    ensures items { bytes.new.items ≡ rewritten_at guard.now bytes.old.items at }
+    ensures end { result ≡ at.start + length (rewritten guard.now (part_at bytes.old.items at)) }
 {
-    let unused = write_at(bytes.as_mut_slice(), at, lead);
+    let unused = write_at(bytes.as_mut_slice(), at, guard);
     cut(bytes, at.start..at.start + unused);
     at.end - unused
 }
 
 /// Replaces the path that is at `at` of a text, as `rewrite` does.
-pub fn rewrite_text(text: &mut String, at: Span, lead: &str) -> usize
+pub fn rewrite_text(text: &mut String, at: Span, guard: &str) -> usize
     requires start_le_end { at.start ≤ at.end }
     requires in_bounds { at.end ≤ string_len text.old }
-    requires shorter { length (rewritten lead.now (part_at (string_bytes text.old) at))
+    requires shorter { length (rewritten guard.now (part_at (string_bytes text.old) at))
         ≤ at.end - at.start }
-    requires utf8 { IsUtf8 (rewritten_at lead.now (string_bytes text.old) at) }
-    ensures bytes { string_bytes text.new ≡ rewritten_at lead.now (string_bytes text.old) at }
+    requires utf8 { IsUtf8 (rewritten_at guard.now (string_bytes text.old) at) }
+    ensures bytes { string_bytes text.new ≡ rewritten_at guard.now (string_bytes text.old) at }
     ensures end { result
-        ≡ at.start + length (rewritten lead.now (part_at (string_bytes text.old) at)) }
+        ≡ at.start + length (rewritten guard.now (part_at (string_bytes text.old) at)) }
 {
     let empty = String::new(*text.allocator());
     let mut bytes = mem::replace(text, empty).into_bytes();
-    let end = rewrite(&mut bytes, at, lead);
+    let end = rewrite(&mut bytes, at, guard);
     // What is left is text, so no byte is read again.
     *text = unsafe { String::from_utf8_unchecked(bytes) };
     end
 }
 
 /// What stands first in the normal form of a path in its context, and how many bytes this has.
-pub fn normal_lead(context: PathContext, path: &str) -> (&'static str, usize)
+pub fn normal_guard(context: PathContext, path: &str) -> (&'static str, usize)
     ensures text { rewritten result.0.now path.now
         ≡ spell_path (normalized context (read_path path.now)) }
     ensures len { result.1 ≡ length (rewritten result.0.now path.now) }
 {
     let (absolute, segments) = split_root(path);
     let all = Merged::new(absolute, None, segments);
-    let lead = lead_in(context, absolute, all.size, all.first);
-    (lead, lead.len() + all.size.saturating_sub(1))
+    let guard = guard_in(context, absolute, all.size, all.first);
+    (guard, guard.len() + all.size.saturating_sub(1))
 }

@@ -106,8 +106,8 @@ pub fn has_colon(text: &str) -> bool
     text.bytes().any(|byte| byte == b':')
 }
 
-/// Whether a first segment needs a guard: an empty one does, and one with a `:` where neither a root
-/// nor a scheme stands before it.
+/// Whether a first segment needs `./` before it. An empty one would not show. One with a `:` would be
+/// read as a scheme, unless a root or a scheme stands before it.
 pub(crate) fn first_needs_guard(context: PathContext, rooted: bool, segment: &str) -> bool
     ensures { result ≡ spelling.first_needs_guard context rooted segment.now }
 {
@@ -115,11 +115,11 @@ pub(crate) fn first_needs_guard(context: PathContext, rooted: bool, segment: &st
     segment.is_empty() || !after_mark && has_colon(segment)
 }
 
-/// The root, and the guard.
-pub(crate) fn lead(absolute: bool, guard: bool) -> &'static str
-    ensures { result.now ≡ spelling.lead absolute guard }
+/// A root, and the segment `.` with its `/`, each where its flag says so.
+pub(crate) fn guard(rooted: bool, dotted: bool) -> &'static str
+    ensures { result.now ≡ spelling.guard rooted dotted }
 {
-    match (absolute, guard) {
+    match (rooted, dotted) {
         (true, true) => "/./",
         (true, false) => "/",
         (false, true) => "./",
@@ -127,24 +127,23 @@ pub(crate) fn lead(absolute: bool, guard: bool) -> &'static str
     }
 }
 
-/// What comes before a list that takes `size` bytes with a `/` after each item, and begins with this
-/// segment: after an authority such a list is absolute.
-pub(crate) fn lead_in(
+/// What guards a list in its context. The list takes `size` bytes with a `/` after each item, and
+/// begins with the segment `first`. After an authority, a list that has items is absolute.
+pub(crate) fn guard_in(
     context: PathContext,
     absolute: bool,
     size: usize,
     first: &str,
 ) -> &'static str
-    ensures text { result.now ≡ spelling.lead_in context absolute size first.now }
+    ensures text { result.now ≡ spelling.guard_in context absolute size first.now }
     ensures short { length result.now ≤ 3 }
 {
     if size == 0 {
-        return lead(absolute, false);
+        return guard(absolute, false);
     }
-    lead(
-        absolute || context.has_authority,
-        !context.has_authority && first_needs_guard(context, absolute, first),
-    )
+    let rooted = absolute || context.has_authority;
+    let dotted = !context.has_authority && first_needs_guard(context, absolute, first);
+    guard(rooted, dotted)
 }
 
 // Writes items that are given the last first, each with a `/` after it, so that they end at `end`,
@@ -177,18 +176,18 @@ fn write_stacked(items: &[&str], buffer: &mut [u8], end: usize) -> usize
     write_stacked_closed(others, buffer, start)
 }
 
-// What stands first, and items that are given the last first, with `/` between. `size` is the
-// length of the items with a `/` after each.
-fn stacked_bytes(alloc: Global, lead: &str, items: &[&str], size: usize) -> Result<Vec<u8>, Memory>
+// The guard, and the items with `/` between. The items are given the last first. `size` is their
+// length with a `/` after each.
+fn stacked_bytes(alloc: Global, guard: &str, items: &[&str], size: usize) -> Result<Vec<u8>, Memory>
     requires size { size ≡ length (each_closed (in_order items.now)) }
-    requires countable { length lead.now + size < 2 ^ 64 }
-    ensures { IfOk result (λ bytes. bytes.items ≡ stacked_text lead.now items.now) }
+    requires countable { length guard.now + size < 2 ^ 64 }
+    ensures { IfOk result (λ bytes. bytes.items ≡ stacked_text guard.now items.now) }
 {
-    let len = lead.len() + size.saturating_sub(1);
+    let len = guard.len() + size.saturating_sub(1);
     let mut bytes = vec![in alloc; 0u8; len]?;
     let buffer = bytes.as_mut_slice();
     let start = write_stacked(items, buffer, len);
-    write_before(buffer, start, lead);
+    write_before(buffer, start, guard);
     Ok(bytes)
 }
 
@@ -212,8 +211,8 @@ fn normal_bytes(
         let mut stack = Stack::new(alloc);
         stack.read(absolute, segments);
         if stack.is_whole {
-            let lead = lead_in(context, absolute, stack.size, stack.first);
-            return stacked_bytes(alloc, lead, stack.items.as_slice(), stack.size);
+            let guard = guard_in(context, absolute, stack.size, stack.first);
+            return stacked_bytes(alloc, guard, stack.items.as_slice(), stack.size);
         }
     }
     MeasuredPath::of_segments(context, absolute, None, segments).bytes(alloc)

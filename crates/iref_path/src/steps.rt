@@ -9,7 +9,7 @@ ghost use Rattle.iref_path.specs.StepTexts.{closed_by};
 
 use crate::guard::guard_of;
 use crate::segments::{last_segment, split_root};
-use crate::spell::{first_needs_guard, lead};
+use crate::spell::{first_needs_guard, guard};
 use iref_grammar::chars::CharSet;
 use iref_grammar::context::PathContext;
 use iref_splice::change::Change;
@@ -137,7 +137,7 @@ fn push_text<'a>(
     let rooted = absolute | context.has_authority;
     Change {
         within: 0..path.len(),
-        lead: lead(rooted, first_needs_guard(context, rooted, segment)),
+        lead: guard(rooted, first_needs_guard(context, rooted, segment)),
         middle: segment,
         close,
     }

@@ -8,7 +8,7 @@ ghost use Rattle.iref_model.specs.PathSteps as step;
 use crate::path_mut::PathMut;
 use iref_error::Memory;
 use iref_grammar::chars::CharSet;
-use iref_path::rewriting::normal_lead;
+use iref_path::rewriting::normal_guard;
 use iref_path::segments::split_root;
 use iref_path::spell::normalized_text;
 use iref_path::target::PathTarget;
@@ -27,11 +27,11 @@ impl<C: CharSet, T: PathTarget<C>> PathMut<'_, C, T> {
             ≤ length (path_mut_text self.old) → IsOk result }
     {
         let path = self.text();
-        let (lead, len) = normal_lead(self.context, path);
+        let (guard, len) = normal_guard(self.context, path);
         if len > path.len() {
             return self.put_normal();
         }
-        self.range.end = self.target.rewrite(self.context, self.range, lead);
+        self.range.end = self.target.rewrite(self.context, self.range, guard);
         Ok(())
     }
 

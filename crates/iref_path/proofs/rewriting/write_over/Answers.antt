@@ -23,7 +23,7 @@ write_before-requires-clause-room c =
 pub returns : goal.returns
 returns c =
     let path = c.args.path.now in
-    let lead = c.args.lead.now in
+    let guard = c.args.guard.now in
     let starts = starts_is Decides-eqb path (codes "/") c.starts_with-absolute.result c.starts_with-absolute.ensures.value in
     let same = list_in_path path c.starts_with-absolute.result c.from-root.result starts.0 starts.1 (c.from-root.ensures ∙ root_is c.starts_with-absolute.result) in
     let within : c.from-root.result ≤ length path = grind (arith, common_steps, root_is) in

@@ -2,7 +2,7 @@ use Rattle.std.proofs.Common.{arith}
 use Rattle.std.specs.List.{join_with_byte}
 use Rattle.iref_grammar.specs.Grammar.{slash}
 use Rattle.iref_path.specs.Stacks.{in_order, stacked_text}
-use Rattle.iref_path.proofs.SpellLemmas.{length-join, length-lead}
+use Rattle.iref_path.proofs.SpellLemmas.{length-join, length-guard}
 use Rattle.iref_path.proofs.WrittenLemmas.{both_written, written_whole}
 use Rattle.iref_path.proofs.spell.stacked_bytes.Goals as goal
 
@@ -12,7 +12,7 @@ write_before-requires-clause-room c = omega (arith, length-join (in_order c.args
 pub returns : goal.returns
 unfolding stacked_text
 returns c =
-    let whole = length-lead c.args.lead.now (in_order c.args.items.now) in
-    let both = both_written c.args.lead.now (join_with_byte slash (in_order c.args.items.now)) c.write_stacked-start.ensures c.write_before.ensures in
+    let whole = length-guard c.args.guard.now (in_order c.args.items.now) in
+    let both = both_written c.args.guard.now (join_with_byte slash (in_order c.args.items.now)) c.write_stacked-start.ensures c.write_before.ensures in
     let len = c.in_ok-bytes.ensures.len in
-    written_whole (stacked_text c.args.lead.now c.args.items.now) _ _ (omega (arith, whole)) (omega (arith, len)) (omega (arith, both.len, c.as_mut_slice-buffer.ensures.len)) both
+    written_whole (stacked_text c.args.guard.now c.args.items.now) _ _ (omega (arith, whole)) (omega (arith, len)) (omega (arith, both.len, c.as_mut_slice-buffer.ensures.len)) both

@@ -20,5 +20,5 @@ returns-clause-within c = to_end c.args.path.now 0 (IsCharBoundary-start c.args.
 
 pub returns-clause-text : goal.returns-clause-text
 returns-clause-text c =
-    put_to_end c.args.path.now (c.lead.result.now ++ c.args.segment.now ++ c.args.close.now) 0
+    put_to_end c.args.path.now (c.guard.result.now ++ c.args.segment.now ++ c.args.close.now) 0
     ∙ grind (arith, append_assoc, is_empty-pieces, first_pushed c.args.context (read_path c.args.path.now) c.args.segment.now)

@@ -14,13 +14,13 @@ returns-then-len-path-clause-dots g c = λ authority is_absolute.
 
 pub rewrite-self-requires-clause-test : goal.rewrite-self-requires-clause-test
 rewrite-self-requires-clause-test g c =
-    (normal_fits g.C.CharSet.tests g.met.C.CharSet.above_ascii (path_mut_context c.args.self.now) c.text-path.result.now (path_mut_text c.args.self.now) c.normal_lead-len.result.0.now
-    c.text-path.ensures.value c.normal_lead-len.ensures.text c.text-path.ensures.test).2
+    (normal_fits g.C.CharSet.tests g.met.C.CharSet.above_ascii (path_mut_context c.args.self.now) c.text-path.result.now (path_mut_text c.args.self.now) c.normal_guard-len.result.0.now
+    c.text-path.ensures.value c.normal_guard-len.ensures.text c.text-path.ensures.test).2
 
 pub rewrite-self-requires-clause-reads : goal.rewrite-self-requires-clause-reads
 rewrite-self-requires-clause-reads g c = λ _.
-    (normal_fits g.C.CharSet.tests g.met.C.CharSet.above_ascii (path_mut_context c.args.self.now) c.text-path.result.now (path_mut_text c.args.self.now) c.normal_lead-len.result.0.now
-    c.text-path.ensures.value c.normal_lead-len.ensures.text c.text-path.ensures.test).1
+    (normal_fits g.C.CharSet.tests g.met.C.CharSet.above_ascii (path_mut_context c.args.self.now) c.text-path.result.now (path_mut_text c.args.self.now) c.normal_guard-len.result.0.now
+    c.text-path.ensures.value c.normal_guard-len.ensures.text c.text-path.ensures.test).1
 
 pub returns-clause-edit : goal.returns-clause-edit
 returns-clause-edit g c =
@@ -31,8 +31,8 @@ returns-clause-edit g c =
     let start = c.args.self.now.range.start in
     let end = c.args.self.now.range.end in
     let e = c.rewrite-self.ensures in
-    let spelled = (normal_fits g.C.CharSet.tests g.met.C.CharSet.above_ascii context c.text-path.result.now path c.normal_lead-len.result.0.now
-    c.text-path.ensures.value c.normal_lead-len.ensures.text c.text-path.ensures.test).0 in
+    let spelled = (normal_fits g.C.CharSet.tests g.met.C.CharSet.above_ascii context c.text-path.result.now path c.normal_guard-len.result.0.now
+    c.text-path.ensures.value c.normal_guard-len.ensures.text c.text-path.ensures.test).0 in
     let bytes = e.text ∙ ap (splice old start end) spelled in
     let to = e.end ∙ ap (λ t. start + length t) spelled in record {
       same = refl;

@@ -8,10 +8,10 @@ pub write_before-start-requires-clause-room : goal.write_before-start-requires-c
 unfolding measured_text
 write_before-start-requires-clause-room c = grind (arith, length-append)
 
-pub write_lead-requires-clause-room : goal.write_lead-requires-clause-room
+pub write_guard-requires-clause-room : goal.write_guard-requires-clause-room
 unfolding measured_text
-write_lead-requires-clause-room c = grind (arith, length-append)
+write_guard-requires-clause-room c = grind (arith, length-append)
 
 pub returns : goal.returns
 unfolding measured_text
-returns c = both_written c.args.self.lead.now (body_text c.args.self.body) c.write_before-start.ensures c.write_lead.ensures
+returns c = both_written c.args.self.guard.now (body_text c.args.self.body) c.write_before-start.ensures c.write_guard.ensures

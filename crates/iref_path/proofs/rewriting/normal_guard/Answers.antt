@@ -2,8 +2,8 @@ use Rattle.std.proofs.Common.{None, refl, length, arith, ap, ◌∙◌}
 use Rattle.iref_model.specs.NormalList.{normal_segments}
 use Rattle.iref_path.specs.Merged.{merged_path}
 use Rattle.iref_path.specs.Spelling.{each_closed}
-use Rattle.iref_path.proofs.SpellLemmas.{length-lead, normal_size, normalized-spelled, read_size}
-use Rattle.iref_path.proofs.rewriting.normal_lead.Goals as goal
+use Rattle.iref_path.proofs.SpellLemmas.{length-guard, normal_size, normalized-spelled, read_size}
+use Rattle.iref_path.proofs.rewriting.normal_guard.Goals as goal
 
 pub new-all-requires : goal.new-all-requires
 new-all-requires c = omega (arith, read_size c.args.path.now _ c.split_root-absolute.ensures.path)
@@ -21,4 +21,4 @@ returns-clause-text c =
     grind arith
 
 pub returns-clause-len : goal.returns-clause-len
-returns-clause-len c = grind (arith, length-lead)
+returns-clause-len c = grind (arith, length-guard)
