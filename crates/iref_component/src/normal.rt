@@ -27,7 +27,7 @@ pub struct NormalizedSegments<'a, C: CharSet> {
 impl<'a, C: CharSet> NormalizedSegments<'a, C> {
     ghost use Rattle.iref_component.specs.NormalPaths.{normal_segments_left};
 
-    /// Those of a path's text.
+    /// The normal segments of the path of a text.
     pub(crate) fn of_text(path: &'a str) -> Self
         requires { is_path C.tests path.now ≡ true }
         ensures { normal_segments_left result ≡ normal_segments (read_path path.now) }

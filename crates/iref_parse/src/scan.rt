@@ -27,25 +27,25 @@ pub(crate) trait CharRule {
         ensures { result ≡ (is_ascii byte && (is_not_percent byte && allowed byte)) };
 }
 
-/// Those of registered names (RFC 3986 section 3.2.2).
+/// The characters of registered names (RFC 3986 section 3.2.2).
 pub(crate) struct RegNameChars<C: CharSet>(PhantomData<C>);
 
-/// Those of user infos (RFC 3986 section 3.2.1).
+/// The characters of user infos (RFC 3986 section 3.2.1).
 pub(crate) struct UserInfoChars<C: CharSet>(PhantomData<C>);
 
-/// Those of segments (RFC 3986 section 3.3).
+/// The characters of segments (RFC 3986 section 3.3).
 pub(crate) struct SegmentChars<C: CharSet>(PhantomData<C>);
 
-/// Those of paths (RFC 3986 section 3.3).
+/// The characters of paths (RFC 3986 section 3.3).
 pub(crate) struct PathChars<C: CharSet>(PhantomData<C>);
 
-/// Those of queries (RFC 3986 section 3.4).
+/// The characters of queries (RFC 3986 section 3.4).
 pub(crate) struct QueryChars<C: CharSet>(PhantomData<C>);
 
-/// Those of fragments (RFC 3986 section 3.5).
+/// The characters of fragments (RFC 3986 section 3.5).
 pub(crate) struct FragmentChars<C: CharSet>(PhantomData<C>);
 
-/// Those of percent-encoded texts: all but `%`.
+/// The characters of percent-encoded texts: all but `%`.
 pub(crate) struct PctStrChars;
 
 // Whether the character is `unreserved` (RFC 3986 section 2.3).
@@ -280,24 +280,24 @@ fn is_encoded<R: CharRule>(text: &str) -> bool
     true
 }
 
-#[tactic(auto, using(crate::proofs::ScanLemmas::utf8), unfolding(iref_grammar::specs::Tests::is_user_info))]
 /// Whether the text is a user info (RFC 3986 section 3.2.1).
+#[tactic(auto, using(crate::proofs::ScanLemmas::utf8), unfolding(iref_grammar::specs::Tests::is_user_info))]
 pub fn is_user_info<C: CharSet>(text: &str) -> bool
     ensures { result ≡ test.is_user_info C.tests text.now }
 {
     is_encoded::<UserInfoChars<C>>(text)
 }
 
-#[tactic(auto, using(crate::proofs::ScanLemmas::utf8), unfolding(iref_grammar::specs::Tests::is_reg_name))]
 /// Whether the text is a registered name (RFC 3986 section 3.2.2).
+#[tactic(auto, using(crate::proofs::ScanLemmas::utf8), unfolding(iref_grammar::specs::Tests::is_reg_name))]
 pub fn is_reg_name<C: CharSet>(text: &str) -> bool
     ensures { result ≡ test.is_reg_name C.tests text.now }
 {
     is_encoded::<RegNameChars<C>>(text)
 }
 
-#[tactic(auto, using(crate::proofs::ScanLemmas::utf8), unfolding(iref_grammar::specs::Tests::is_segment))]
 /// Whether the text is a segment (RFC 3986 section 3.3).
+#[tactic(auto, using(crate::proofs::ScanLemmas::utf8), unfolding(iref_grammar::specs::Tests::is_segment))]
 pub fn is_segment<C: CharSet>(text: &str) -> bool
     ensures { result ≡ test.is_segment C.tests text.now }
 {
@@ -316,8 +316,8 @@ fn is_encoded_path<C: CharSet>(text: &str) -> bool
     position_of_either(bytes, b'?', b'#') == bytes.len()
 }
 
-#[tactic(auto, using(crate::proofs::ScanLemmas::utf8), unfolding(iref_grammar::specs::Tests::is_path))]
 // Whether the text is a path, by a scan of each character.
+#[tactic(auto, using(crate::proofs::ScanLemmas::utf8), unfolding(iref_grammar::specs::Tests::is_path))]
 fn is_scanned_path<C: CharSet>(text: &str) -> bool
     ensures { result ≡ test.is_path C.tests text.now }
 {
@@ -331,16 +331,16 @@ pub fn is_path<C: CharSet>(text: &str) -> bool
     is_encoded_path::<C>(text) || is_scanned_path::<C>(text)
 }
 
-#[tactic(auto, using(crate::proofs::ScanLemmas::utf8), unfolding(iref_grammar::specs::Tests::is_query))]
 /// Whether the text is a query (RFC 3986 section 3.4).
+#[tactic(auto, using(crate::proofs::ScanLemmas::utf8), unfolding(iref_grammar::specs::Tests::is_query))]
 pub fn is_query<C: CharSet>(text: &str) -> bool
     ensures { result ≡ test.is_query C.tests text.now }
 {
     is_encoded::<QueryChars<C>>(text)
 }
 
-#[tactic(auto, using(crate::proofs::ScanLemmas::utf8), unfolding(iref_grammar::specs::Tests::is_fragment))]
 /// Whether the text is a fragment (RFC 3986 section 3.5).
+#[tactic(auto, using(crate::proofs::ScanLemmas::utf8), unfolding(iref_grammar::specs::Tests::is_fragment))]
 pub fn is_fragment<C: CharSet>(text: &str) -> bool
     ensures { result ≡ test.is_fragment C.tests text.now }
 {
@@ -354,8 +354,8 @@ fn are_scheme_chars(bytes: &[u8]) -> bool
     bytes.iter().all(|b| is_scheme_char(char::from(*b)))
 }
 
-#[tactic(auto, unfolding(iref_grammar::specs::Tests::is_scheme))]
 /// Whether the text is a scheme (RFC 3986 section 3.1).
+#[tactic(auto, unfolding(iref_grammar::specs::Tests::is_scheme))]
 pub fn is_scheme(text: &str) -> bool
     ensures { result ≡ test.is_scheme text.now }
 {
@@ -372,16 +372,16 @@ pub(crate) fn are_digits(bytes: &[u8]) -> bool
     bytes.iter().all(|b| b.is_ascii_digit())
 }
 
-#[tactic(auto, unfolding(iref_grammar::specs::Tests::is_port))]
 /// Whether the text is a port (RFC 3986 section 3.2.3).
+#[tactic(auto, unfolding(iref_grammar::specs::Tests::is_port))]
 pub fn is_port(text: &str) -> bool
     ensures { result ≡ test.is_port text.now }
 {
     are_digits(text.as_bytes())
 }
 
-#[tactic(auto, using(crate::proofs::ScanLemmas::utf8), unfolding(iref_grammar::specs::Tests::is_pct_str))]
 /// Whether each `%` of the text stands before two hexadecimal digits (RFC 3986 section 2.1).
+#[tactic(auto, using(crate::proofs::ScanLemmas::utf8), unfolding(iref_grammar::specs::Tests::is_pct_str))]
 pub fn is_pct_str(text: &str) -> bool
     ensures { result ≡ test.is_pct_str text.now }
 {
