@@ -13,6 +13,10 @@ use Rattle.iref_path.specs.declared.both_ends.merged.Merged.{Merged}
 abbrev pub merged_list : Option (Bor Text) → Option (Bor Text) → List Text
 merged_list front back = pieces_if_some front ++ pieces_if_some back
 
+-- the names that stay of them
+abbrev pub both_names : Option (Bor Text) → Option (Bor Text) → List Text
+both_names front back = staying_before (merged_list front back) 0
+
 -- the path of these segments
 abbrev pub merged_path : Bool → Option (Bor Text) → Option (Bor Text) → PathValue
 merged_path absolute front back = record { absolute = absolute; segments = merged_list front back }

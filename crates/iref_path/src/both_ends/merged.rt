@@ -1,8 +1,8 @@
 //! What is left of the normal list of two texts that are read as one, from the back (RFC 3986
 //! sections 5.2.3 and 5.2.4).
 
-ghost use Rattle.iref_model.specs.{normal_segments, open_before, staying_before};
-ghost use Rattle.iref_path.specs.Merged.{IsBehind, IsMergeSound, merged_left, merged_list};
+ghost use Rattle.iref_model.specs.{normal_segments, open_before};
+ghost use Rattle.iref_path.specs.Merged.{both_names, IsBehind, IsMergeSound, merged_left, merged_list};
 ghost use Rattle.iref_path.specs.Merged.{merged_names, merged_path, open_before_both};
 ghost use Rattle.iref_path.specs.{Merged.{to_read_of_both}, Pieces.{text_at}};
 ghost use Rattle.iref_path.specs.BothEnds.{IsSound, KeepsEnds, first_or, normal_left};
@@ -46,16 +46,15 @@ pub struct Surveyed<'a> {
     pub first: &'a str,
 }
 
-/// Reads the segments once.
+/// Finds the names that stay of the segments of both texts, and the `..` before them. Each segment
+/// is read once, the last first.
 #[inline(always)]
 pub(super) fn survey<'a>(front: Option<&'a str>, back: Option<&'a str>) -> FoundNames<'a>
     requires { length (each_closed (merged_list front back)) < 2 ^ 64 }
     ensures parents { result.parents ≡ open_before (merged_list front.entry back.entry) 0 }
-    ensures names { result.names ≡ length (staying_before (merged_list front.entry back.entry) 0) }
-    ensures size { result.size
-        ≡ length (each_closed (staying_before (merged_list front.entry back.entry) 0)) }
-    ensures first { result.first.now
-        ≡ first_or [] (staying_before (merged_list front.entry back.entry) 0) }
+    ensures names { result.names ≡ length (both_names front.entry back.entry) }
+    ensures size { result.size ≡ length (each_closed (both_names front.entry back.entry)) }
+    ensures first { result.first.now ≡ first_or [] (both_names front.entry back.entry) }
     ensures fewer { result.parents + result.names ≤ length (merged_list front.entry back.entry) }
 {
     let mut left = Merged {
