@@ -13,9 +13,10 @@ use iref_parse::offsets::offsets_of;
 use iref_parse::split::ReferenceSlices;
 use iref_path::segments::split_root;
 
-// The front part of the base's text that stays before a path: of `//h/x/y` it is `//h` before `/a`,
-// and `//h/x/` before `a`. None where a segment of the path begins with a dot; before a relative path
-// also where one of the base's does, or where the base's path is not absolute.
+// The front part of the base's text that stays before a path. Of `//h/x/y` it is `//h` before `/a`,
+// and `//h/x/` before `a`. There is none where a segment of the path begins with a dot. Before a
+// relative path there is none either where the base's path is relative, or where one of its
+// segments begins with a dot.
 #[inline(always)]
 fn front_before<'a, C: CharSet>(
     text: &'a str,
@@ -40,9 +41,11 @@ fn front_before<'a, C: CharSet>(
     Some(base_slice::<C>(text, base))
 }
 
-/// The front part of the base's text that stays before the reference's text, with the lengths of
-/// the components of the two together. None where the reference has a scheme, an authority or no
-/// path, where the base has no authority, and where no front part stays before the path.
+/// The front part of the base's text that stays before the reference's text, and the lengths of the
+/// components of the two together.
+///
+/// There is none where the reference has a scheme, an authority or no path, where the base has no
+/// authority, and where no front part stays before the path.
 #[inline(always)]
 pub fn front_kept<'a, C: CharSet>(
     text: &'a str,
