@@ -129,15 +129,15 @@ module _ (text : Text) where
       let there = λ (old : AuthorityValue). marked_spliced s (spell_authority old) p q f (spell_authority value) (codes "//") in
       grind (arith, spelled, there)
 
-  pub authority_replaced : (authority : Option AuthorityValue) (path : PathValue) (lead : Text) → lead ++ p ≡ spell_path path
-      → splice text (with_mark 1 l.scheme) (path_after l) (then_part (codes "//") (option_map spell_authority authority) ++ lead) ≡ spell (record r { authority = authority; path = path })
+  pub authority_replaced : (authority : Option AuthorityValue) (path : PathValue) (guard : Text) → guard ++ p ≡ spell_path path
+      → splice text (with_mark 1 l.scheme) (path_after l) (then_part (codes "//") (option_map spell_authority authority) ++ guard) ≡ spell (record r { authority = authority; path = path })
   unfolding spell
-  authority_replaced authority path lead e = rw (← e) (simp append_assoc (grind (arith, common_steps, spelled, first_len, path_after-lengths r, authority_spliced)))
+  authority_replaced authority path guard e = rw (← e) (simp append_assoc (grind (arith, common_steps, spelled, first_len, path_after-lengths r, authority_spliced)))
 
-  pub scheme_replaced : (scheme : Option Text) (path : PathValue) (lead : Text) → lead ++ a ++ p ≡ a ++ spell_path path
-      → splice text 0 (with_mark 1 l.scheme) (part_then (colon ∷ []) scheme ++ lead) ≡ spell (record r { scheme = scheme; path = path })
+  pub scheme_replaced : (scheme : Option Text) (path : PathValue) (guard : Text) → guard ++ a ++ p ≡ a ++ spell_path path
+      → splice text 0 (with_mark 1 l.scheme) (part_then (colon ∷ []) scheme ++ guard) ≡ spell (record r { scheme = scheme; path = path })
   unfolding spell
-  scheme_replaced scheme path lead e = grind (arith, common_steps, spelled, first_len, scheme_spliced)
+  scheme_replaced scheme path guard e = grind (arith, common_steps, spelled, first_len, scheme_spliced)
 
 -- ---- where the parts stand in a text
 

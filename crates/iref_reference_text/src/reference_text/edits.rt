@@ -106,15 +106,15 @@ impl<R: HeldRule, C: CharSet> ReferenceText<R, C> {
         ensures none { IsNone scheme.entry → IsOk result }
     {
         let old = self.lengths();
-        let lead = self.scheme_lead(scheme.is_some());
-        let len = lead.len() + old.path;
+        let guard = self.scheme_guard(scheme.is_some());
+        let len = guard.len() + old.path;
         let within = self.scheme_range();
         let (part, mark) = marked_after(scheme, ":");
         let change = Change {
             within,
             lead: part,
             middle: mark,
-            close: lead,
+            close: guard,
         };
         text::replace(&mut self.text, change)?;
         self.lengths.scheme = len_of(scheme);
@@ -131,15 +131,15 @@ impl<R: HeldRule, C: CharSet> ReferenceText<R, C> {
         ensures none { IsNone authority.entry → IsOk result }
     {
         let old = self.lengths();
-        let lead = self.authority_lead(authority.is_some());
-        let len = lead.len() + old.path;
+        let guard = self.authority_guard(authority.is_some());
+        let len = guard.len() + old.path;
         let within = self.authority_range();
         let (mark, part) = marked("//", authority);
         let change = Change {
             within,
             lead: mark,
             middle: part,
-            close: lead,
+            close: guard,
         };
         text::replace(&mut self.text, change)?;
         self.lengths.authority = len_of(authority);
@@ -198,10 +198,10 @@ impl<R: HeldRule, C: CharSet> ReferenceText<R, C> {
         ensures within { IsWithin self.now result }
         ensures len { result.end - result.start
             ≡ with_mark 2 (lengths_of (read_reference self.now)).authority }
-        ensures replaced { (authority : Option AuthorityValue) (path : PathValue) (lead : Text)
-            → lead ++ spell_path (read_reference self.now).path ≡ spell_path path
+        ensures replaced { (authority : Option AuthorityValue) (path : PathValue) (guard : Text)
+            → guard ++ spell_path (read_reference self.now).path ≡ spell_path path
             → splice self.now result.start result.end
-            (then_part (codes "//") (option_map spell_authority authority) ++ lead)
+            (then_part (codes "//") (option_map spell_authority authority) ++ guard)
             ≡ spell (record (read_reference self.now) { authority = authority; path = path }) }
     {
         let lengths = self.lengths();
@@ -209,7 +209,7 @@ impl<R: HeldRule, C: CharSet> ReferenceText<R, C> {
     }
 
     // What is written before the path where an authority is put, or removed.
-    fn authority_lead(&self, has_authority: bool) -> &'static str
+    fn authority_guard(&self, has_authority: bool) -> &'static str
         ensures spelled { (authority : Option AuthorityValue) → is_some authority ≡ has_authority
             → result.now ++ spell_path (read_reference self.now).path
             ≡ spell_path (with_authority authority (read_reference self.now)).path }
@@ -239,17 +239,17 @@ impl<R: HeldRule, C: CharSet> ReferenceText<R, C> {
         ensures within { IsWithin self.now result }
         ensures len { result.end - result.start
             ≡ with_mark 1 (lengths_of (read_reference self.now)).scheme }
-        ensures replaced { (scheme : Option Text) (path : PathValue) (lead : Text)
-            → lead ++ authority_text self.now ++ spell_path (read_reference self.now).path
+        ensures replaced { (scheme : Option Text) (path : PathValue) (guard : Text)
+            → guard ++ authority_text self.now ++ spell_path (read_reference self.now).path
             ≡ authority_text self.now ++ spell_path path
-            → splice self.now result.start result.end (part_then (colon ∷ []) scheme ++ lead)
+            → splice self.now result.start result.end (part_then (colon ∷ []) scheme ++ guard)
             ≡ spell (record (read_reference self.now) { scheme = scheme; path = path }) }
     {
         0..marked_len(1, self.lengths().scheme)
     }
 
     // What is written before the authority and the path where a scheme is put, or removed.
-    fn scheme_lead(&self, has_scheme: bool) -> &'static str
+    fn scheme_guard(&self, has_scheme: bool) -> &'static str
         ensures spelled { (scheme : Option Text) → is_some scheme ≡ has_scheme
             → result.now ++ authority_text self.now ++ spell_path (read_reference self.now).path
             ≡ authority_text self.now

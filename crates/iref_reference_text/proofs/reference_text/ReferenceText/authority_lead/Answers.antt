@@ -2,7 +2,7 @@ use Rattle.std.proofs.Common.{arith}
 use Rattle.iref_grammar.specs.Reference.{read_reference}
 use Rattle.iref_reference_text.proofs.LengthLemmas.{context-lengths}
 use Rattle.iref_reference_text.proofs.LeadLemmas.{authority_rooted, authority_kept, authority_short}
-use Rattle.iref_reference_text.proofs.reference_text.ReferenceText.authority_lead.Goals as goal
+use Rattle.iref_reference_text.proofs.reference_text.ReferenceText.authority_guard.Goals as goal
 
 pub returns-then-comes-clause-spelled : goal.returns-then-comes-clause-spelled
 returns-then-comes-clause-spelled g c = λ authority e.

@@ -2,7 +2,7 @@ use Rattle.std.proofs.Common.{arith}
 use Rattle.iref_grammar.specs.Reference.{read_reference}
 use Rattle.iref_reference_text.proofs.LengthLemmas.{context-lengths}
 use Rattle.iref_reference_text.proofs.LeadLemmas.{scheme_kept, scheme_dropped, scheme_short}
-use Rattle.iref_reference_text.proofs.reference_text.ReferenceText.scheme_lead.Goals as goal
+use Rattle.iref_reference_text.proofs.reference_text.ReferenceText.scheme_guard.Goals as goal
 
 pub returns-then-stays-clause-spelled : goal.returns-then-stays-clause-spelled
 returns-then-stays-clause-spelled g c = λ scheme e.

@@ -16,10 +16,10 @@ invariant_of-self-2 g c =
     let old = read_reference c.args.self.now in
     let text = option_copied c.args.authority in
     let new = option_map read_authority text in
-    let lead = c.authority_lead-lead.result.now in
-    let put = c.authority_lead-lead.ensures.spelled new (is_some-map read_authority text ∙ sym (is_some-copied c.args.authority) ∙ sym c.is_some.ensures) in
+    let guard = c.authority_guard-guard.result.now in
+    let put = c.authority_guard-guard.ensures.spelled new (is_some-map read_authority text ∙ sym (is_some-copied c.args.authority) ∙ sym c.is_some.ensures) in
     let spelled = rw (c.self.view_is, c.marked.ensures.pieces, authority_spelled text) at c.in_ok-replace.ensures.ok
-    ∙ c.authority_range-within.ensures.replaced new (with_authority new old).path lead put in
+    ∙ c.authority_range-within.ensures.replaced new (with_authority new old).path guard put in
     let step = authority_set set g.met.C.CharSet.above_ascii (g.R.Rule.test set) g.R.HeldRule.allows_scheme (g.met.R.HeldRule.by_scheme set) old
     c.lengths-old.ensures.readable c.lengths-old.ensures.allowed _ text c.requires spelled in
     grind (arith, length-append, put, authority_spelled text, step)
@@ -31,10 +31,10 @@ returns-clause-set g c =
     let old = read_reference c.args.self.now in
     let text = option_copied c.args.authority in
     let new = option_map read_authority text in
-    let lead = c.authority_lead-lead.result.now in
-    let put = c.authority_lead-lead.ensures.spelled new (is_some-map read_authority text ∙ sym (is_some-copied c.args.authority) ∙ sym c.is_some.ensures) in
+    let guard = c.authority_guard-guard.result.now in
+    let put = c.authority_guard-guard.ensures.spelled new (is_some-map read_authority text ∙ sym (is_some-copied c.args.authority) ∙ sym c.is_some.ensures) in
     let spelled = rw (c.self.view_is, c.marked.ensures.pieces, authority_spelled text) at c.in_ok-replace.ensures.ok
-    ∙ c.authority_range-within.ensures.replaced new (with_authority new old).path lead put in
+    ∙ c.authority_range-within.ensures.replaced new (with_authority new old).path guard put in
     let step = authority_set set g.met.C.CharSet.above_ascii (g.R.Rule.test set) g.R.HeldRule.allows_scheme (g.met.R.HeldRule.by_scheme set) old
     c.lengths-old.ensures.readable c.lengths-old.ensures.allowed _ text c.requires spelled in
     (spelled, step.value)
