@@ -1,7 +1,9 @@
 -- A buffer whose first byte is to say how many of those behind it are kept.
-use Rattle.std.proofs.Common.{◌≡◌, ℕ, suc, ◌+◌, ◌<◌, List, [], ◌∷◌, ◌++◌, length, take, drop, set, fold, sym, ◌∙◌, ap, arith, length-append, length-set}
+use Rattle.std.proofs.Common.{◌≡◌, ℕ, suc, ◌+◌, ◌-◌, ◌<◌, ◌≤◌, List, [], ◌∷◌, ◌++◌, length, take, drop, set, fold, sym, ◌∙◌, ap, arith, length-append, length-set, append_assoc, append-nil}
 use Rattle.std.proofs.lemmas.Bool.Decides.{nat_tests}
-use Rattle.std.proofs.lemmas.List.{drop-set-add, take_more_set, length-take-le, length-drop, take_all}
+use Rattle.std.proofs.lemmas.List.{drop-set-add, take_more_set, length-take-le, length-drop, take_all, take-append-le, take-take, take-append-drop}
+use Rattle.std.proofs.lemmas.Slice.{take-put_mid}
+use borrow.Rule.Slice.PartMut.{put_mid}
 use Rattle.iref_grammar.specs.Rules.{Text}
 use Rattle.iref_grammar.specs.Keys.{piece, fed_after}
 
@@ -18,7 +20,7 @@ room_step inner b rest e = grind (arith, nat_tests)
 abbrev pub held_in : List ℕ → ℕ → Text
 held_in buffer n = take n (drop 1 buffer)
 
-held_size : (buffer : List ℕ) (n : ℕ) → n < length buffer → length (held_in buffer n) ≡ n
+pub held_size : (buffer : List ℕ) (n : ℕ) → n < length buffer → length (held_in buffer n) ≡ n
 held_size buffer n low = let size = length-drop 1 buffer in length-take-le n (drop 1 buffer) (omega (arith, size, low))
 
 held_more : (buffer : List ℕ) (n b : ℕ) → n + 1 < length buffer → held_in (set buffer (n + 1) b) (n + 1) ≡ held_in buffer n ++ b ∷ []
@@ -32,6 +34,36 @@ held_more buffer n b low =
 numbered : (buffer : List ℕ) (n v : ℕ) → 0 < length buffer → take (n + 1) (set buffer 0 v) ≡ v ∷ held_in buffer n
 numbered [] n v low = absurd (omega (arith, low))
 numbered (x ∷ xs) n v low = let range : n + 1 ≡ suc n = omega arith in ap (λ k. take k (v ∷ xs)) range
+
+pub counted : (buffer : List ℕ) (n : ℕ) → n < length buffer → take (n + 1) (set buffer 0 n) ≡ piece (held_in buffer n)
+counted buffer n low = numbered buffer n n (omega (arith, low)) ∙ ap (λ k. k ∷ held_in buffer n) (sym (held_size buffer n low))
+
+-- one byte more of a text that is held so far, and the whole text
+pub more_held : (buffer : List ℕ) (n b : ℕ) (before after whole : Text) → n + 1 < length buffer → before ≡ b ∷ after → held_in buffer n ++ before ≡ whole
+    → held_in (set buffer (n + 1) b) (n + 1) ++ after ≡ whole
+more_held buffer n b before after whole low e w =
+    ap (λ held. held ++ after) (held_more buffer n b low)
+    ∙ append_assoc (held_in buffer n) (b ∷ []) after
+    ∙ ap (λ rest. held_in buffer n ++ rest) (sym e)
+    ∙ w
+
+pub all_held : (held rest whole : Text) → rest ≡ [] → held ++ rest ≡ whole → held ≡ whole
+all_held held rest whole e w = sym (append-nil held) ∙ ap (λ left. held ++ left) (sym e) ∙ w
+
+-- the first eight bytes of a text and its last eight, put behind its length, which may be put on some of the first
+pub both_ends : (xs front back tail : Text) (k : ℕ) → 8 ≤ length xs → length xs < 16 → front ≡ take 8 xs → back ≡ drop (length xs - 8) xs
+    → take (length xs + 1) (put_mid (length xs - 7) k (length xs ∷ (front ++ tail)) back) ≡ piece xs
+both_ends xs front back tail k least most first last =
+    let n = length xs - 8 in
+    let at : length xs - 7 ≡ suc n = omega arith in
+    let eight = length-take-le 8 xs least in
+    let low : length front ≡ 8 = ap length first ∙ eight in
+    let high = ap length last ∙ length-drop n xs in
+    let wide = length-append front tail in
+    take-put_mid (length xs - 7) k (length xs ∷ (front ++ tail)) back (length xs + 1) (omega (arith, high)) (omega (arith, low, wide))
+    ∙ (λ i. take (at i) (length xs ∷ (first i ++ tail)) ++ last i)
+    ∙ ap (λ l. length xs ∷ (l ++ drop n xs)) (take-append-le n (take 8 xs) tail (omega (arith, eight)) ∙ take-take n 8 xs (omega arith))
+    ∙ ap (λ l. length xs ∷ l) (take-append-drop n xs)
 
 module _ {S : Type 0} (write : S → List ℕ → S) where
   -- a byte that fills the piece, one that does not, and the end of the text
@@ -60,5 +92,4 @@ module _ {S : Type 0} (write : S → List ℕ → S) where
       → t ≡ fold write s (fed_after (held_in buffer n) [])
   unfolding fed_after
   last_turn s t buffer n size low e =
-      let many = held_size buffer n (omega (arith, size, low)) in
-      e ∙ ap (write s) (numbered buffer n n (omega (arith, size)) ∙ ap (λ k. k ∷ held_in buffer n) (sym many))
+      e ∙ ap (write s) (counted buffer n (omega (arith, size, low)))

@@ -1,7 +1,7 @@
 //! A text hashed in chunks of 63 bytes, each by one write.
 
 ghost use Rattle.std.specs.Prelude.{◌≡◌, ◌<◌, [], ◌∷◌, drop, fold, length, take};
-ghost use Rattle.iref_grammar.specs.Keys.{fed_after};
+ghost use Rattle.iref_grammar.specs.Keys.{fed_after, fed_bytes};
 ghost use Rattle.iref_grammar.specs.Rules.{Text};
 
 use std::hash::Hasher;
@@ -55,4 +55,14 @@ impl Chunk {
         self.bytes[0] = self.len as u8;
         state.write(&self.bytes[..=self.len]);
     }
+}
+
+/// Feeds the hasher a text of at most seven bytes, which a buffer holds behind its first byte.
+#[inline(always)]
+pub fn hash_held<H: Hasher>(buffer: &mut [u8; 8], len: usize, state: &mut H)
+    requires { len < 8 }
+    ensures { state.new ≡ fold H.write state.old (fed_bytes (take len (drop 1 buffer.old))) }
+{
+    buffer[0] = len as u8;
+    state.write(&buffer[..=len]);
 }
