@@ -1,5 +1,5 @@
 //! What texts are compared by, in their order, and hashed by (RFC 3986 section 6.2.2).
-ghost use Rattle.std.specs.{Prelude.{◌≡◌, fold, true}, Ordering.{eq_by_cmp}};
+ghost use Rattle.std.specs.{Prelude.{◌≡◌, ◌<◌, fold, length, true}, Ordering.{eq_by_cmp}};
 ghost use Rattle.std.specs.Str.{str_to_ascii_lowercase};
 ghost use Rattle.percent_encoding.specs.Percent.{percent_decode};
 ghost use Rattle.iref_grammar.specs.{CharTests, Text, fed_bytes, text_order};
@@ -8,7 +8,7 @@ ghost use Rattle.iref_component.specs.Comparisons.{Comparison, by_parts, by_segm
 
 use crate::authority_parts::parts_of;
 use iref_grammar::chars::CharSet;
-use iref_parse::chunk::Chunk;
+use iref_parse::chunk::{Chunk, hash_held};
 use iref_parse::decoded::{decoded_cmp, hash_decoded};
 use iref_path::counted::path_texts_eq;
 use iref_path::order::{hash_path_text, path_texts_cmp};
@@ -62,6 +62,21 @@ impl Key for DecodedBytes {
     }
 }
 
+// Feeds the hasher a text of at most seven bytes with its ASCII letters in lower case.
+#[inline(always)]
+fn hash_few_in_lower_case<H: Hasher>(bytes: &[u8], state: &mut H)
+    requires { length bytes.now < 8 }
+    ensures { state.new ≡ fold H.write state.old (fed_bytes (str_to_ascii_lowercase bytes.now)) }
+{
+    let mut buffer = [0; 8];
+    let mut at = 0;
+    while at < bytes.len() {
+        buffer[at + 1] = bytes[at].to_ascii_lowercase();
+        at += 1;
+    }
+    hash_held(&mut buffer, at, state);
+}
+
 /// The text with its ASCII letters in lower case (RFC 3986 section 6.2.2.1): `HTTP` has `http`.
 pub struct LowerCase;
 
@@ -77,6 +92,10 @@ impl Key for LowerCase {
     }
 
     fn feed<C: CharSet, H: Hasher>(text: &str, state: &mut H) {
+        if text.len() < 8 {
+            hash_few_in_lower_case(text.as_bytes(), state);
+            return;
+        }
         let mut chunk = Chunk::new();
         for byte in text.bytes() {
             chunk.add(byte.to_ascii_lowercase(), state);
