@@ -136,7 +136,7 @@ fn rest_len<R: SetsScheme, C: CharSet>(reference: &ReferenceBuf<R, C>) -> usize 
 }
 
 // How many of the edits are to be done on a copy of what stands before the query and the fragment:
-// none, unless these are at least as long as that.
+// none, unless `MOVES` or more leave these as they are, and these are as long as what stands before.
 fn copied_len<R: SetsScheme, C: CharSet>(
     reference: &ReferenceBuf<R, C>,
     edits: &[Edit<'_, C>],
@@ -144,6 +144,9 @@ fn copied_len<R: SetsScheme, C: CharSet>(
     ensures within { result ≤ length edits.now }
     ensures kept { all_keep_query_and_fragment (take result edits.now) ≡ true }
 {
+    if edits.len() < MOVES {
+        return 0;
+    }
     let front = reference.offsets().path.end;
     if rest_len(reference) < front.max(MIN_REST) {
         return 0;
