@@ -1,7 +1,7 @@
 -- Where a text leads in a tree.
-use Rattle.std.proofs.Common.{arith, ◌≡◌, ◌≢◌, ℕ, ◌+◌, ◌-◌, ◌*◌, ◌<◌, ◌≤◌, ◌⊎◌, inl, inr, List, [], length, get_or, refl, sym, ap, subst, ◌∙◌, ⊎_elim}
+use Rattle.std.proofs.Common.{arith, Bool, ◌≡◌, ◌≢◌, ℕ, ◌+◌, ◌-◌, ◌*◌, ◌<◌, ◌≤◌, ◌⊎◌, inl, inr, List, [], length, get_or, refl, sym, ap, subst, ◌∙◌, ⊎_elim}
 use Rattle.std.specs.Prelude.{Option, Some, None, MatchOption}
-use Rattle.std.proofs.lemmas.Bool.{cases_lt, cases_order}
+use Rattle.std.proofs.lemmas.Bool.{cases_lt, cases_order, lt-ltb}
 use Rattle.std.proofs.lemmas.List.{get_or_read}
 use Rattle.iref_grammar.specs.Rules.{Text}
 use Rattle.iref.specs.declared.compact.tree.Child.{Child}
@@ -9,7 +9,7 @@ use Rattle.iref.specs.declared.compact.tree.Child.TheVariants.{Inner, Leaf}
 use Rattle.iref.specs.declared.compact.tree.Node.{Node}
 use Rattle.iref.specs.declared.compact.tree.Tree.{Tree}
 use Rattle.iref.specs.PrefixTree.{text_at, bit, place_of, child, node_at, number_of, spot, Spot, SameBits, AreBytes, IsFirst, IsIn, IsOnSide, IsBelow, IsLink, IsNode, IsTree, IsFit, IsEnded, IsNearest, Covers}
-use Rattle.iref.proofs.PrefixBitLemmas.{same_bits_refl, same_bits_sym, same_bits_trans, same_bits_less, goes_within, as_long, no_longer, same_text}
+use Rattle.iref.proofs.PrefixBitLemmas.{same_bits_refl, same_bits_sym, same_bits_trans, same_bits_less, goes_within, as_long, no_longer, same_text, ends_there, goes_on}
 
 pub spot_text : (texts : List Text) (nodes : List Node) (c : Child) → (spot texts nodes c).text ≡ text_at texts (number_of nodes c)
 spot_text texts nodes (Inner k) = refl
@@ -150,6 +150,28 @@ module _ (texts : List Text) (nodes : List Node) (t : Text) (len : ℕ) where
   pub nearest_inner : (k : ℕ) (ended : Option ℕ) → len < (node_at nodes k).bit.at → IsOnWay texts nodes t len (Inner k) ended → IsNearest texts t len (node_at nodes k).entry
   nearest_inner k ended short way = λ m q l within same. way.near m q l (omega arith) same
 
+  -- a text that ends before the bit of a node has no more bits of a text there, unless it is the one that ends there
+  pub nearest_end : (k : ℕ) (ended : Option ℕ) → length t ≤ (node_at nodes k).bit.at → AreBytes t → AreBytes (text_at texts (node_at nodes k).entry) → IsNode texts nodes k → IsOnWay texts nodes t len (Inner k) ended
+      → IsNearest texts t len (node_at nodes k).entry
+  nearest_end k ended short bytes own node way = λ m q l within same. elim (cases_lt (place_of (node_at nodes k).bit) q) [
+    | inl more ↦
+        let x = text_at texts (node_at nodes k).entry in
+        let upto : SameBits (place_of (node_at nodes k).bit) x t = way.near m (place_of (node_at nodes k).bit) l (omega arith) (same_bits_less (place_of (node_at nodes k).bit) (omega arith) same) in
+        let shift = node.shift in
+        let inside = node.within in
+        let ends : length t ≡ (node_at nodes k).bit.at × (node_at nodes k).bit.shift ≡ 8 = elim (cases_lt (9 * length t) (place_of (node_at nodes k).bit)) [
+          | inl before ↦ let no_more = no_longer t (same_bits_sym upto) before in absurd (omega arith)
+          | inr there ↦ (omega arith, omega arith)
+        ] in
+        let size = node.ends ends.1 in
+        let at = ends.0 in
+        let eight = ends.1 in
+        let place : place_of (node_at nodes k).bit ≡ 9 * length x = omega arith in
+        let both = ends_there (length x) x t refl (omega arith) (subst (λ p. SameBits p x t) place upto) in
+        subst (λ s. SameBits q s t) (sym (same_text x t own bytes both)) (same_bits_refl q t)
+    | inr less ↦ way.near m q l less same
+  ]
+
   -- what fits is as long as the nearest, or ends before it
   module _ (n : ℕ) (x : Spot) (is : x.text ≡ text_at texts n) (nearest : IsNearest texts t len n)
       (far : (m : ℕ) → length (text_at texts m) ≤ len → length (text_at texts m) < length (text_at texts n) → 9 * length (text_at texts m) < x.place) where
@@ -189,6 +211,29 @@ read_node nodes k node l is = get_or_read nodes k node l is (record { bit = reco
 pub root_link : (texts : List Text) (tree : Tree) (c : Child) → IsTree texts tree → tree.root ≡ Some c → IsLink texts tree.nodes.items (IsBelow texts tree.nodes.items None) c
 root_link texts tree c h is = subst (λ o. MatchOption o (texts ≡ []) (IsLink texts tree.nodes.items (IsBelow texts tree.nodes.items None))) is h.root
 
+-- a text that goes on has the bit that says so
+pub goes_right : (t : Text) (node : Node) → node.bit.shift ≡ 8 → node.bit.at < length t → node.right ≡ child node (bit t (place_of node.bit))
+goes_right t node eight l =
+    let place : place_of node.bit ≡ 9 * node.bit.at = omega arith in
+    sym (ap (λ i. child node (bit t i)) place ∙ ap (child node) (goes_on t node.bit.at ∙ lt-ltb node.bit.at (length t) l))
+
+-- fewer bits are left below a node
+pub bits_fewer : (texts : List Text) (tree : Tree) (len k : ℕ) (node : Node) (at : Child) (side : Bool) → IsTree texts tree → IsIn texts tree.nodes.items at → at ≡ Inner k → node ≡ get_or tree.nodes.items k node → node.bit.at ≤ len
+    → bits_upto (9 * (len + 1)) tree.nodes.items (child node side) < bits_upto (9 * (len + 1)) tree.nodes.items at
+bits_fewer texts tree len k node at side h stands is read l =
+    let nodes = tree.nodes.items in
+    let within : k < length nodes = subst (IsIn texts nodes) is stands in
+    let node_is = read_node nodes k node within read in
+    let at_is = ap (λ (n : Node). n.bit.at) node_is in
+    let order = (h.link k side within).belongs.order in
+    let less : bits_upto (9 * (len + 1)) nodes (child (node_at nodes k) side) < 9 * (len + 1) - place_of (node_at nodes k).bit = go (child (node_at nodes k) side) (omega arith) order in
+    subst (λ c. bits_upto (9 * (len + 1)) nodes (child node side) < bits_upto (9 * (len + 1)) nodes c) (sym is) (subst (λ (n : Node). bits_upto (9 * (len + 1)) nodes (child n side) < 9 * (len + 1) - place_of (node_at nodes k).bit) (sym node_is) less)
+  where
+    go : (c : Child) → place_of (node_at tree.nodes.items k).bit < 9 * (len + 1) → place_of (node_at tree.nodes.items k).bit < (spot texts tree.nodes.items c).place
+        → bits_upto (9 * (len + 1)) tree.nodes.items c < 9 * (len + 1) - place_of (node_at tree.nodes.items k).bit
+    go (Inner j) upto order = omega arith
+    go (Leaf n) upto order = omega arith
+
 module _ (texts : List Text) (tree : Tree) (t : Text) (len : ℕ) (h : IsTree texts tree) where
   pub way_next : (k : ℕ) (node : Node) (at next : Child) (ended later : Option ℕ) → IsOnWay texts tree.nodes.items t len at ended → at ≡ Inner k → node ≡ get_or tree.nodes.items k node → node.bit.at ≤ len
       → next ≡ child node (bit t (place_of node.bit)) → ((node.bit.shift ≡ 8) × (later ≡ Some node.entry)) ⊎ ((node.bit.shift ≢ 8) × (later ≡ ended)) → IsOnWay texts tree.nodes.items t len next later
@@ -220,13 +265,24 @@ module _ (texts : List Text) (tree : Tree) (t : Text) (len : ℕ) (h : IsTree te
       let nearest = nearest_leaf texts tree.nodes.items t len n ended bytes (h.bytes n way.stands) way in
       (way.first, nearest, ended_near texts tree.nodes.items t len n (spot texts tree.nodes.items (Leaf n)) refl nearest (λ m l less. omega arith) ended way.passed)
 
-  pub way_to_inner : (at : Child) (k n : ℕ) (node other : Node) (ended : Option ℕ) → IsOnWay texts tree.nodes.items t len at ended → at ≡ Inner k → node ≡ get_or tree.nodes.items k node → len < node.bit.at
-      → other ≡ get_or tree.nodes.items k other → n ≡ other.entry → EndsAt n ended
-  way_to_inner at k n node other ended way is read short again n_is =
+  pub way_to_inner : (at : Child) (k n : ℕ) (node other : Node) (ended : Option ℕ) → AreBytes t → len ≤ length t → IsOnWay texts tree.nodes.items t len at ended → at ≡ Inner k → node ≡ get_or tree.nodes.items k node
+      → (len < node.bit.at) ⊎ (length t ≤ node.bit.at) → other ≡ get_or tree.nodes.items k other → n ≡ other.entry → EndsAt n ended
+  way_to_inner at k n node other ended bytes within way is read short again n_is =
       let nodes = tree.nodes.items in
       let way : IsOnWay texts nodes t len (Inner k) ended = subst (λ c. IsOnWay texts nodes t len c ended) is way in
       let at_is = ap (λ (n : Node). n.bit.at) (read_node nodes k node way.stands read) in
-      let far : len < (node_at nodes k).bit.at = omega arith in
-      let nearest = nearest_inner texts nodes t len k ended far way in
+      let node = h.node k way.stands in
+      let e = (node_at nodes k).entry in
+      let nearest : IsNearest texts t len e = elim short [
+        | inl before ↦ nearest_inner texts nodes t len k ended (omega arith) way
+        | inr behind ↦ nearest_end texts nodes t len k ended (omega arith) bytes (h.bytes e node.first.within) node way
+      ] in
+      let far : (m : ℕ) → length (text_at texts m) ≤ len → length (text_at texts m) < length (text_at texts e) → 9 * length (text_at texts m) < place_of (node_at nodes k).bit = λ m upto less. elim (cases_lt (node_at nodes k).bit.shift 8) [
+        | inl later ↦ elim short [ inl before ↦ omega arith | inr behind ↦ omega arith ]
+        | inr first ↦
+            let shift = node.shift in
+            let size = node.ends (omega arith) in
+            omega arith
+      ] in
       subst (λ n. EndsAt n ended) (sym (n_is ∙ ap (λ (n : Node). n.entry) (read_node nodes k other way.stands again)))
-      (way.first, nearest, ended_near texts nodes t len (node_at nodes k).entry (spot texts nodes (Inner k)) refl nearest (λ m l less. omega arith) ended way.passed)
+      (way.first, nearest, ended_near texts nodes t len e (spot texts nodes (Inner k)) refl nearest far ended way.passed)

@@ -176,13 +176,15 @@ impl Tree {
         let mut ended = None;
         while let Child::Inner(at) = child {
             let node = &self.nodes[at];
-            if len < node.bit.at {
+            if len < node.bit.at || text.len() <= node.bit.at {
                 break;
             }
             if node.bit.shift == GOES_ON {
                 ended = Some(node.entry);
+                child = node.right;
+            } else {
+                child = node.child(node.bit.is_in(text));
             }
-            child = node.child(node.bit.is_in(text));
         }
         let number = match child {
             Child::Inner(at) => self.nodes[at].entry,
