@@ -8,7 +8,7 @@ use Rattle.iref.specs.Reference.{ReferenceValue}
 module _ {U V S : Type 0} (value : U → ReferenceValue) where
   -- what stands under the URI that has the key of this one
   abbrev pub found : HashMap U V S → U → Option V
-  found cache uri = lookup (λ inner. are_alike (value uri) (value inner)) cache.entries
+  found cache uri = lookup (λ held. are_alike (value uri) (value held)) cache.entries
 
   -- each spelling of the URI finds what was put, and any other URI what it found before
   abbrev pub HasPut : HashMap U V S → HashMap U V S → U → V → Type 0

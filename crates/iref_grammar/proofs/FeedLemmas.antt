@@ -23,7 +23,7 @@ cut (x ∷ u) [] r s n e = absurd (omega (arith, n))
 cut (x ∷ u) (y ∷ v) r s n e = grind (arith, cut u v r s)
 
 abbrev next : Bool → Text → ℕ → Text → HashWrites
-next t inner b bs = cond t (piece (inner ++ b ∷ []) ∷ fed_after [] bs) (fed_after (inner ++ b ∷ []) bs)
+next t held b bs = cond t (piece (held ++ b ∷ []) ∷ fed_after [] bs) (fed_after (held ++ b ∷ []) bs)
 
 abbrev AreDetermined : Text → Text → Text → Text → Type 0
 AreDetermined h a k b = (r s : List ℕ) → concat (fed_after h a) ++ r ≡ concat (fed_after k b) ++ s → (h ++ a ≡ k ++ b) × (r ≡ s)

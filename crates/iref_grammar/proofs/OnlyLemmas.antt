@@ -23,10 +23,10 @@ use Rattle.iref_grammar.proofs.AuthorityLemmas.{IsDelimitedAuthority, read_autho
 
 pub scheme-back : (s rest : Text) → lacks colon s ≡ true → lacks slash s ≡ true → split_scheme (s ++ colon ∷ rest) ≡ (Some s, rest)
 scheme-back s rest h k =
-    (λ i. scheme_of (before-part colon s (Some rest) h i) (after-part colon s (Some rest) h i) (s ++ colon ∷ rest)) ∙ ap (λ b. cond b (None, s ++ colon ∷ rest) (Some s, rest)) (inner k)
+    (λ i. scheme_of (before-part colon s (Some rest) h i) (after-part colon s (Some rest) h i) (s ++ colon ∷ rest)) ∙ ap (λ b. cond b (None, s ++ colon ∷ rest) (Some s, rest)) (held k)
   where
-    inner : not (char_set_contains s slash) ≡ true → char_set_contains s slash ≡ false
-    inner e = not-true (char_set_contains s slash) e
+    held : not (char_set_contains s slash) ≡ true → char_set_contains s slash ≡ false
+    held e = not-true (char_set_contains s slash) e
 
 hidden : (front : Text) (o : Option Text) (text : Text) → char_set_contains front slash ≡ true → scheme_of front o text ≡ (None, text)
 hidden front None text h = refl

@@ -21,9 +21,9 @@ piece bytes = length bytes ∷ bytes
 
 -- the bytes of a text that are hashed, where some wait already: 63 bytes are written as one chunk, and the last chunk has fewer
 unfoldable pub fed_after : Text → Text → HashWrites
-fed_after inner [] = piece inner ∷ []
-fed_after inner (b ∷ bs) =
-    if length inner == 62 then piece (inner ++ b ∷ []) ∷ fed_after [] bs else fed_after (inner ++ b ∷ []) bs
+fed_after held [] = piece held ∷ []
+fed_after held (b ∷ bs) =
+    if length held == 62 then piece (held ++ b ∷ []) ∷ fed_after [] bs else fed_after (held ++ b ∷ []) bs
 
 -- the bytes that are hashed of a text: chunks of 63 bytes, each in one write after its length; a shorter chunk ends the text
 abbrev pub fed_bytes : Text → HashWrites

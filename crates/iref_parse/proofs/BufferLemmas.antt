@@ -8,13 +8,13 @@ use Rattle.iref_grammar.specs.Rules.{Text}
 use Rattle.iref_grammar.specs.Keys.{piece, fed_after}
 
 -- one byte more, where a piece is full with it and where it is not
-pub full_step : (inner : Text) (b : ℕ) (rest : Text) → length inner ≡ 62 → fed_after inner (b ∷ rest) ≡ piece (inner ++ b ∷ []) ∷ fed_after [] rest
+pub full_step : (held : Text) (b : ℕ) (rest : Text) → length held ≡ 62 → fed_after held (b ∷ rest) ≡ piece (held ++ b ∷ []) ∷ fed_after [] rest
 unfolding fed_after
-full_step inner b rest e = grind (arith, nat_tests)
+full_step held b rest e = grind (arith, nat_tests)
 
-pub room_step : (inner : Text) (b : ℕ) (rest : Text) → length inner < 62 → fed_after inner (b ∷ rest) ≡ fed_after (inner ++ b ∷ []) rest
+pub room_step : (held : Text) (b : ℕ) (rest : Text) → length held < 62 → fed_after held (b ∷ rest) ≡ fed_after (held ++ b ∷ []) rest
 unfolding fed_after
-room_step inner b rest e = grind (arith, nat_tests)
+room_step held b rest e = grind (arith, nat_tests)
 
 -- those that the buffer holds
 abbrev pub held_in : List ℕ → ℕ → Text

@@ -6,21 +6,21 @@ use Rattle.iref_grammar.specs.Keys.{piece, fed_after}
 use Rattle.iref_parse.proofs.BufferLemmas.{full_step, room_step}
 
 -- the bytes that fill the piece, where n more than one are missing
-filled : (n : ℕ) (inner xs : Text) → length inner + suc n ≡ 63 → suc n ≤ length xs → fed_after inner xs ≡ piece (inner ++ take (suc n) xs) ∷ fed_after [] (drop (suc n) xs)
-filled n inner [] e l = absurd (omega arith)
-filled zero inner (b ∷ bs) e l = full_step inner b bs (omega arith)
-filled (suc n) inner (b ∷ bs) e l =
-    let more = length-append inner (b ∷ []) in
-    room_step inner b bs (omega arith)
-    ∙ filled n (inner ++ b ∷ []) bs (omega arith) (omega arith)
-    ∙ ap (λ p. piece p ∷ fed_after [] (drop (suc n) bs)) (append_assoc inner (b ∷ []) (take (suc n) bs))
+filled : (n : ℕ) (held xs : Text) → length held + suc n ≡ 63 → suc n ≤ length xs → fed_after held xs ≡ piece (held ++ take (suc n) xs) ∷ fed_after [] (drop (suc n) xs)
+filled n held [] e l = absurd (omega arith)
+filled zero held (b ∷ bs) e l = full_step held b bs (omega arith)
+filled (suc n) held (b ∷ bs) e l =
+    let more = length-append held (b ∷ []) in
+    room_step held b bs (omega arith)
+    ∙ filled n (held ++ b ∷ []) bs (omega arith) (omega arith)
+    ∙ ap (λ p. piece p ∷ fed_after [] (drop (suc n) bs)) (append_assoc held (b ∷ []) (take (suc n) bs))
 
-unfilled : (inner xs : Text) → length inner + length xs < 63 → fed_after inner xs ≡ piece (inner ++ xs) ∷ []
+unfilled : (held xs : Text) → length held + length xs < 63 → fed_after held xs ≡ piece (held ++ xs) ∷ []
 unfolding fed_after
-unfilled inner [] l = ap (λ p. piece p ∷ []) (sym (append-nil inner))
-unfilled inner (b ∷ bs) l =
-    let more = length-append inner (b ∷ []) in
-    room_step inner b bs (omega arith) ∙ unfilled (inner ++ b ∷ []) bs (omega arith) ∙ ap (λ p. piece p ∷ []) (append_assoc inner (b ∷ []) bs)
+unfilled held [] l = ap (λ p. piece p ∷ []) (sym (append-nil held))
+unfilled held (b ∷ bs) l =
+    let more = length-append held (b ∷ []) in
+    room_step held b bs (omega arith) ∙ unfilled (held ++ b ∷ []) bs (omega arith) ∙ ap (λ p. piece p ∷ []) (append_assoc held (b ∷ []) bs)
 
 module _ {S : Type 0} (write : S → Text → S) (s t : S) (xs : Text) where
   -- one piece of a text that is hashed, and the last

@@ -43,9 +43,9 @@ returns-then-ends_in_dots-clause-edit g c =
     let it = c.into_iter-segment-iterator in
     let dots = sym c.loop-segment.invariant.dots ∙ c.if-ends_in_dots.true in
     let path = c.loop-segment.invariant.path in
-    let inner = MatchResult-weaker c.close.result c.close.ensures.outcome (λ _ step. closed_edit (g.T.Target.is_within _ _ _ _ c.args.self.now.placed) _ dots path step) (λ _ same. refused_then path same) in
+    let held = MatchResult-weaker c.close.result c.close.ensures.outcome (λ _ step. closed_edit (g.T.Target.is_within _ _ _ _ c.args.self.now.placed) _ dots path step) (λ _ same. refused_then path same) in
     rw c.or.ensures (tries_to_close following g.C.CharSet.tests g.I.IntoIterator.into_iter_gives g.I.IntoIter.Iterator.next_gives c.args.segments it.result c.loop-segment.yielded
-    (Becomes c.args.self.now c.close.new.self) c.close.result it.ensures.into_iter_gives (search rules) c.loop-segment.invariant.segments dots inner)
+    (Becomes c.args.self.now c.close.new.self) c.close.result it.ensures.into_iter_gives (search rules) c.loop-segment.invariant.segments dots held)
 
 pub returns-else-ends_in_dots-clause-edit : goal.returns-else-ends_in_dots-clause-edit
 returns-else-ends_in_dots-clause-edit g c =

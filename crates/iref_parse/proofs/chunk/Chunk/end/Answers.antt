@@ -6,4 +6,4 @@ use Rattle.iref_parse.proofs.chunk.Chunk.end.Goals as goal
 pub returns : goal.returns
 returns g c =
     last_turn g.H.Hasher.write c.args.state.now c.write.new.self c.self.inside.bytes c.self.inside.len c.self.invariant.1 c.self.invariant.0 c.write.ensures
-    ∙ ap (λ inner. fold g.H.Hasher.write c.args.state.now (fed_after inner [])) c.self.view_is
+    ∙ ap (λ held. fold g.H.Hasher.write c.args.state.now (fed_after held [])) c.self.view_is
