@@ -51,7 +51,7 @@ impl<'a, R: HeldRule, C: CharSet> Composed<'a, R, C> {
         ensures { IfOk result (λ composed.
             composed ≡ spell_texts (measured_components components.entry)) }
     {
-        let len = components.lengths().total()?;
+        let len = components.total()?;
         Ok(Composed {
             components,
             len,

@@ -20,6 +20,7 @@ use iref_grammar::chars::CharSet;
 use iref_parse::split::{ReferenceSlices, split_reference};
 use iref_reference_text::forward::resolved_forward;
 use iref_reference_text::fronts::front_kept;
+use iref_reference_text::lengths::Lengths;
 use iref_reference_text::reference_text::{HeldRule, ReferenceText};
 use std::alloc::Global;
 
@@ -39,12 +40,15 @@ fn resolved_uri<C: CharSet>(
     requires reference { value_of reference ≡ read_reference text.now }
     ensures { IfOk result (λ uri. IsResolved base_text.now text.now (reference_buf_text uri)) }
 {
-    if let Some((front, lengths)) = front_kept::<C>(base_text, base, reference) {
-        let inner = ReferenceText::of_texts(alloc, front, text, lengths)?;
+    let lengths = Lengths::of(base);
+    if let Some((front, joined)) = front_kept::<C>(base_text, base, lengths, reference) {
+        let inner = ReferenceText::of_texts(alloc, front, text, joined)?;
         return Ok(ReferenceBuf::from_inner(inner));
     }
-    if let Some((bytes, lengths)) = resolved_forward(alloc, base_text, base, text, reference) {
-        return Ok(ReferenceBuf::from_inner(ReferenceText::of_bytes(bytes, lengths)));
+    if let Some((bytes, joined)) = resolved_forward(
+        alloc, base_text, base, lengths, text, reference,
+    ) {
+        return Ok(ReferenceBuf::from_inner(ReferenceText::of_bytes(bytes, joined)));
     }
     Composed::resolved(base, reference)?.to_owned(alloc)
 }

@@ -19,7 +19,7 @@ use Rattle.iref_model.proofs.ReferenceStepLemmas.{with_whole_authority-readable}
 use Rattle.iref_splice.specs.Changes.{IsWithin}
 use Rattle.iref_splice.specs.declared.change.Span.{Span}
 use Rattle.iref_reference_text.specs.AuthorityRanges.{IsAuthorityOf, authority_part, range_of_authority}
-use Rattle.iref_reference_text.specs.ComponentLengths.{HasLengths, lengths_of}
+use Rattle.iref_reference_text.specs.ComponentLengths.{HasLengths, lengths_of, with_mark}
 use Rattle.iref_reference_text.proofs.EditLemmas.{authority_part_replaced, authority_read as authority_has_parts, is_step, readable_of}
 use Rattle.iref_reference_text.proofs.ReferenceTextLemmas.{components_of, offsets_within}
 
@@ -65,13 +65,13 @@ range_of_new_authority : (old new part : Text) → is_some (read_reference old).
 unfolding offsets_of offsets_in
 range_of_new_authority old new part has e = grind (arith, read_authority-spelled)
 
-length_of_new_authority : (o : Option AuthorityValue) (part : Text) → is_some o ≡ true → Some (length part) ≡ option_map length (option_map spell_authority (option_map (λ a. read_authority part) o))
+length_of_new_authority : (o : Option AuthorityValue) (part : Text) → is_some o ≡ true → 2 + length part ≡ with_mark 2 (option_map spell_authority (option_map (λ a. read_authority part) o))
 length_of_new_authority o part h = grind (arith, read_authority-spelled)
 
 -- the new authority stands where the old one did, and the other components stay
 pub record HoldsAuthority (set : CharTests) (test : Text → Bool) (old : ReferenceValue) (start : ℕ) (part new : Text) : Type 0 where
   pub stands : IsAuthorityOf set new start (start + length part)
-  pub leaves : HasLengths test (record (lengths_of old) { authority = Some (length part) }) new
+  pub leaves : HasLengths test (record (lengths_of old) { authority = 2 + length part }) new
 
 module _ (set : CharTests) (above : AreAboveAscii set) (test : Text → Bool) (allows : Option Text → Bool)
     (by_scheme : (text : Text) → is_reference set text ≡ true → allows (read_reference text).scheme ≡ true → test text ≡ true)

@@ -15,7 +15,7 @@ use Rattle.iref_grammar.specs.PathValue.{spell_path, read_path, segments_of}
 use Rattle.iref_grammar.specs.Contexts.{fits}
 use Rattle.iref_grammar.specs.ComponentTexts.{ComponentTexts, AreComponents, read_components}
 use Rattle.iref_grammar.specs.Reference.{ReferenceValue, context_of, is_readable, spell, read_reference, is_reference, is_uri}
-use Rattle.iref_grammar.specs.ComponentOffsets.{offsets_in}
+use Rattle.iref_grammar.specs.ComponentOffsets.{query_mark}
 use Rattle.iref_grammar.proofs.TextLemmas.{join-pieces_at}
 use Rattle.iref_grammar.proofs.PathLemmas.{read_path-reads}
 use Rattle.iref_grammar.proofs.ReadablePartsLemmas.{readable_parts}
@@ -27,6 +27,8 @@ use Rattle.iref_model.proofs.DirectoryLemmas.{all_but_last-snoc}
 use Rattle.iref_model.proofs.PieceLemmas.{some_piece}
 use Rattle.iref_grammar.proofs.EmptyLemmas.{is_segment_empty}
 use Rattle.iref_model.specs.ReferenceParts.{base_of}
+use Rattle.iref_reference_text.specs.ComponentLengths.{lengths_of_texts, query_after}
+use Rattle.iref_reference_text.proofs.LengthLemmas.{query_after-texts}
 use Rattle.iref_reference_text.proofs.ReferenceTextLemmas.{behind_path, components_utf8}
 
 -- ---- the base of a readable reference is readable
@@ -90,9 +92,11 @@ module _ (t : ComponentTexts) (front : List Text) (file_name : Text) (cut : piec
   unfolding spell base_of
   base-joins = rw (← same_path) (simp (append_assoc, append-nil))
 
-  pub base-ends : (offsets_in (read_components t)).path.end ≡ length (spell (base_of (read_components t))) + length file_name
-  unfolding spell base_of offsets_in
-  base-ends = rw (← same_path) (simp (length-append, append-nil) (omega arith))
+  pub base-ends : query_after (lengths_of_texts t) ≡ length (spell (base_of (read_components t))) + length file_name
+  unfolding spell base_of
+  base-ends =
+      let end : query_mark (read_components t) ≡ length (spell (base_of (read_components t))) + length file_name = rw (← same_path) (simp (length-append, append-nil) (omega arith)) in
+      query_after-texts t ∙ end
 
 -- ---- and what follows it is UTF-8
 

@@ -24,7 +24,7 @@ use Rattle.iref_model.proofs.ReferenceStepLemmas.{with_authority-readable, with_
 use Rattle.iref_grammar.proofs.PathTestLemmas.{is_path-segments}
 use Rattle.iref_reference_text.specs.AuthorityRanges.{range_of_authority}
 use Rattle.iref_reference_text.specs.declared.lengths.Lengths.{Lengths}
-use Rattle.iref_reference_text.specs.ComponentLengths.{fragment_after, HasLengths, lengths_of, path_after, query_after, with_mark}
+use Rattle.iref_reference_text.specs.ComponentLengths.{fragment_after, HasLengths, lengths_of, path_after, query_after}
 use Rattle.iref_reference_text.specs.Steps.{Spells}
 use Rattle.iref_splice.specs.Changes.{IsWithin}
 use Rattle.iref_reference_text.proofs.ReferenceTextLemmas.{authority_mark_within, fragment_mark_within, in_rule_utf8, offsets_within}
@@ -130,12 +130,12 @@ module _ (text : Text) where
       grind (arith, spelled, there)
 
   pub authority_replaced : (authority : Option AuthorityValue) (path : PathValue) (guard : Text) → guard ++ p ≡ spell_path path
-      → splice text (with_mark 1 l.scheme) (path_after l) (then_part (codes "//") (option_map spell_authority authority) ++ guard) ≡ spell (record r { authority = authority; path = path })
+      → splice text l.scheme (path_after l) (then_part (codes "//") (option_map spell_authority authority) ++ guard) ≡ spell (record r { authority = authority; path = path })
   unfolding spell
   authority_replaced authority path guard e = rw (← e) (simp append_assoc (grind (arith, common_steps, spelled, first_len, path_after-lengths r, authority_spliced)))
 
   pub scheme_replaced : (scheme : Option Text) (path : PathValue) (guard : Text) → guard ++ a ++ p ≡ a ++ spell_path path
-      → splice text 0 (with_mark 1 l.scheme) (part_then (colon ∷ []) scheme ++ guard) ≡ spell (record r { scheme = scheme; path = path })
+      → splice text 0 l.scheme (part_then (colon ∷ []) scheme ++ guard) ≡ spell (record r { scheme = scheme; path = path })
   unfolding spell
   scheme_replaced scheme path guard e = grind (arith, common_steps, spelled, first_len, scheme_spliced)
 
@@ -153,7 +153,7 @@ module _ (set : CharTests) (above : AreAboveAscii set) (text : Text) (h : is_ref
   abbrev lengths : Lengths
   lengths = lengths_of (read_reference text)
 
-  path_starts : IsCharBoundary text (path_after lengths)
+  pub path_starts : IsCharBoundary text (path_after lengths)
   unfolding offsets_of offsets_in
   path_starts = rw path_after-lengths (offsets_within set above text h).path.start
 
@@ -164,7 +164,7 @@ module _ (set : CharTests) (above : AreAboveAscii set) (text : Text) (h : is_ref
   pub front_ends : IsCharBoundary text (fragment_after lengths)
   front_ends = rw fragment_after-lengths (fragment_mark_within set above text h)
 
-  scheme_ends : IsCharBoundary text (with_mark 1 lengths.scheme)
+  scheme_ends : IsCharBoundary text (lengths.scheme)
   scheme_ends = rw first_len (authority_mark_within set above text h)
 
   pub query_within : IsWithin text (record { start = query_after lengths; end = fragment_after lengths })
@@ -176,13 +176,13 @@ module _ (set : CharTests) (above : AreAboveAscii set) (text : Text) (h : is_ref
   pub path_within : IsWithin text (record { start = path_after lengths; end = query_after lengths })
   path_within = record { start_le_end = omega arith; start = path_starts; end = path_ends }
 
-  pub authority_within : IsWithin text (record { start = with_mark 1 lengths.scheme; end = path_after lengths })
+  pub authority_within : IsWithin text (record { start = lengths.scheme; end = path_after lengths })
   authority_within = record { start_le_end = omega arith; start = scheme_ends; end = path_starts }
 
   start_within : IsCharBoundary text 0
   start_within = IsCharBoundary-start text (in_rule_utf8 _ text ((Decides-is_uri_reference set above text).0 h))
 
-  pub scheme_within : IsWithin text (record { start = 0; end = with_mark 1 lengths.scheme })
+  pub scheme_within : IsWithin text (record { start = 0; end = lengths.scheme })
   scheme_within = record { start_le_end = omega arith; start = start_within; end = scheme_ends }
 
 -- ---- the edits of a readable reference with a scheme that the rule allows

@@ -1,6 +1,6 @@
 -- What stays before a path, and before a reference, where no segment begins with a dot.
 use Rattle.std.proofs.Common.{arith, ◌≡◌, ◌+◌, ◌≤◌, true, false, ◌||◌, List, [], ◌∷◌, ◌++◌, ℕ, drop, length, take, refl, ap, append_assoc}
-use Rattle.std.specs.Prelude.{◌≢◌, codes, is_some, option_map}
+use Rattle.std.specs.Prelude.{◌≢◌, codes, is_some}
 use Rattle.std.specs.List.{join_with_byte, list_all}
 use Rattle.std.proofs.lemmas.Grind.{common_steps}
 use Rattle.std.proofs.lemmas.List.{append-nil, drop_at}
@@ -9,7 +9,6 @@ use Rattle.iref_grammar.specs.Rules.{Text}
 use Rattle.iref_grammar.specs.Grammar.{colon, hash_sign, question_mark, slash}
 use Rattle.iref_grammar.specs.Texts.{all_but_last, lacks, part_then, pieces_at, then_part}
 use Rattle.iref_grammar.specs.PathValue.{PathValue, read_path, segments_of, spell_path}
-use Rattle.iref_grammar.specs.ComponentOffsets.{offsets_in}
 use Rattle.iref_grammar.specs.ComponentTexts.{ComponentTexts, read_components, spell_components}
 use Rattle.iref_grammar.specs.Reference.{spell}
 use Rattle.iref_grammar.proofs.ComponentLemmas.{authority_spelled, spell_components-read}
@@ -25,9 +24,10 @@ use Rattle.iref_parse.specs.Dots.{has_dot_segment, is_some_dotted}
 use Rattle.iref_path.specs.Merged.{path_after}
 use Rattle.iref_path.proofs.DotlessLemmas.{both_dotted, dotless-spelled, normal_segments-dotless}
 use Rattle.iref_path.proofs.SlashLemmas.{read-absolute}
-use Rattle.iref_reference_text.specs.ComponentLengths.{lengths_of, lengths_of_texts}
+use Rattle.iref_reference_text.specs.ComponentLengths.{lengths_of_texts, path_after as lengths_before, with_mark}
 use Rattle.iref_reference_text.specs.Fronts.{IsAround, IsSpelled, StaysBefore, resolved_path}
 use Rattle.iref_reference_text.specs.MeasuredReferences.{spell_texts}
+use Rattle.iref_reference_text.proofs.LengthLemmas.{path_after-texts}
 use Rattle.iref_reference_text.proofs.MeasuredLemmas.{after_resolved, spelled_texts}
 
 -- ---- an absolute list after an authority
@@ -101,6 +101,10 @@ relative-stays context base path has absolute h some relative k =
 taken : (s a p q f : Text) → take (length s + length a) (s ++ a ++ p ++ q ++ f) ≡ s ++ a
 taken s a p q f = grind (arith, common_steps)
 
+pub before_path : (t : ComponentTexts) → take (lengths_before (lengths_of_texts t)) (spell (read_components t)) ≡ part_then (colon ∷ []) t.scheme ++ then_part (codes "//") t.authority
+unfolding spell
+before_path t = grind (arith, common_steps, path_after-texts t, authority_spelled, taken)
+
 module _ (t : ComponentTexts) (authority : is_some t.authority ≡ true) (path : Text) (dotless : has_dot_segment path ≡ false) where
   abbrev context : PathContext
   context = record { has_scheme = is_some t.scheme; has_authority = is_some t.authority }
@@ -112,9 +116,8 @@ module _ (t : ComponentTexts) (authority : is_some t.authority ≡ true) (path :
   a = then_part (codes "//") t.authority
 
   -- it ends where the base's path begins
-  pub before_absolute : (read_path path).absolute ≡ true → StaysBefore t path (take (offsets_in (read_components t)).path.start (spell (read_components t)))
-  unfolding offsets_in spell
-  before_absolute e = grind (arith, common_steps, authority_spelled, taken, absolute-stays context t.path path authority e dotless)
+  pub before_absolute : (read_path path).absolute ≡ true → StaysBefore t path (take (lengths_before (lengths_of_texts t)) (spell (read_components t)))
+  before_absolute e = grind (arith, common_steps, before_path t, absolute-stays context t.path path authority e dotless)
 
   -- or where its directory ends
   pub before_relative : (read_path t.path).absolute ≡ true → has_dot_segment t.path ≡ false → path ≢ [] → (read_path path).absolute ≡ false → StaysBefore t path (spell (base_of (read_components t)))
@@ -127,9 +130,8 @@ put_behind : (s a p front path q f : Text) → front ++ path ≡ s ++ a ++ p →
 put_behind s a p front path q f e = rw (← e) (simp append_assoc)
 
 -- how long the path is then
-pub front_length : (b : ComponentTexts) (path front : Text) → StaysBefore b path front → length front + length path ≡ (offsets_in (read_components b)).path.start + length (resolved_path b path)
-unfolding offsets_in
-front_length b path front stays = grind (arith, common_steps, ap length stays, authority_spelled)
+pub front_length : (b : ComponentTexts) (path front : Text) → StaysBefore b path front → length front + length path ≡ lengths_before (lengths_of_texts b) + length (resolved_path b path)
+front_length b path front stays = grind (arith, common_steps, ap length stays, path_after-texts b)
 
 -- of a base, and of a reference with neither scheme nor authority
 module _ (b t : ComponentTexts) (none : (is_some t.scheme || is_some t.authority) ≡ false) (some : t.path ≢ []) (front : Text) (stays : StaysBefore b t.path front) where
@@ -148,16 +150,7 @@ module _ (b t : ComponentTexts) (none : (is_some t.scheme || is_some t.authority
 
 -- ---- a path between what stands before the base's and what stands behind the reference's
 
--- what stands before the path
-pub before_path : (t : ComponentTexts) → take (offsets_in (read_components t)).path.start (spell (read_components t)) ≡ part_then (colon ∷ []) t.scheme ++ then_part (codes "//") t.authority
-unfolding offsets_in spell
-before_path t = grind (arith, common_steps, authority_spelled, taken)
-
-pub path_within : (t : ComponentTexts) → (offsets_in (read_components t)).path.start ≤ length (spell (read_components t))
-unfolding offsets_in spell
-path_within t = grind (arith, common_steps)
-
--- and behind it, where nothing stands before it
+-- what stands behind the path, where nothing stands before it
 pub path_first : (t : ComponentTexts) → (is_some t.scheme || is_some t.authority) ≡ false → length t.path ≤ length (spell (read_components t))
 unfolding spell
 path_first t none = grind (arith, common_steps, read_path-reads t.path)
@@ -175,12 +168,9 @@ module _ (b t : ComponentTexts) (authority : is_some b.authority ≡ true) (none
   whole_components : whole ≡ spell_components (resolved (read_components b) (read_components t))
   whole_components = after_resolved b t none some (resolved_path b t.path) refl
 
-  pub path_length : length (resolved_path b t.path) ≡ (lengths_of (resolved (read_components b) (read_components t))).path
-  path_length = ap (λ (c : ComponentTexts). length c.path) whole_components
-
   pub around_spelled : (front behind text : Text) (len : ℕ) → front ≡ part_then (colon ∷ []) b.scheme ++ then_part (codes "//") b.authority
       → behind ≡ then_part (question_mark ∷ []) t.query ++ then_part (hash_sign ∷ []) t.fragment → IsAround front b.path t.path behind text len
-      → IsSpelled (resolved (read_components b) (read_components t)) text (record (lengths_of_texts b) { path = len; query = option_map length t.query; fragment = option_map length t.fragment })
+      → IsSpelled (resolved (read_components b) (read_components t)) text (record (lengths_of_texts b) { path = len; query = with_mark 1 t.query; fragment = with_mark 1 t.fragment })
   unfolding spell_texts
   around_spelled front behind text len f g around =
       let context : PathContext = record { has_scheme = is_some b.scheme; has_authority = is_some b.authority } in

@@ -46,7 +46,7 @@ no_longer guard p q e same = omega (arith, length-append guard (spell_path p), a
 
 pub authority_short : (set : CharTests) (r : ReferenceValue) (guard : Text) → is_readable set r ≡ true
     → guard ++ spell_path r.path ≡ spell_path (guarded (context_with (is_some r.scheme) false) r.path) → length guard ≤ 2
-    → length guard ≤ with_mark 2 (option_map length (option_map spell_authority r.authority))
+    → length guard ≤ with_mark 2 (option_map spell_authority r.authority)
 authority_short set r guard h e short = grind (arith, no_longer guard r.path _ e, guarded-same (context_with (is_some r.scheme) false) r.path, readable-fits set r h)
 
 -- ---- the scheme
@@ -67,5 +67,5 @@ some_scheme s h = grind arith
 
 pub scheme_short : (set : CharTests) (r : ReferenceValue) (guard : Text) → is_readable set r ≡ true
     → guard ++ spell_path r.path ≡ spell_path (guarded (context_with false (is_some r.authority)) r.path) → length guard ≤ 2
-    → length guard ≤ with_mark 1 (option_map length r.scheme)
+    → length guard ≤ with_mark 1 r.scheme
 scheme_short set r guard h e short = grind (arith, no_longer guard r.path _ e, guarded-same (context_with false (is_some r.authority)) r.path, readable_parts set r h, readable-fits set r h, some_scheme)

@@ -25,7 +25,7 @@ use Rattle.iref_reference_text.specs.MeasuredReferences.{IsComposed, IsReady, me
 use Rattle.iref_reference_text.specs.Steps.{Spells}
 use Rattle.iref_reference_text.specs.declared.measured.MeasuredReference.{MeasuredReference}
 use Rattle.iref_reference_text.proofs.EditLemmas.{is_step}
-use Rattle.iref_reference_text.proofs.LengthLemmas.{first_len, marked_len, placed-read}
+use Rattle.iref_reference_text.proofs.LengthLemmas.{first_len, marked_len}
 
 pub or-copied : (first second : Option (Bor Text)) → option_copied (option_or first second) ≡ option_or (option_copied first) (option_copied second)
 or-copied first second = grind arith
@@ -93,7 +93,7 @@ pub composes : (set : CharTests) → AreAboveAscii set → (test : Text → Bool
 composes set above test allows allowed m r ready e h k =
     let t = measured_components m in
     let step = is_step set above test allows allowed (spell_texts t) r (spelled_texts t r e) h k in
-    grind (arith, ready, step, spelled_texts t r e, placed-read (spell_texts t))
+    grind (arith, ready, step, spelled_texts t r e, ap lengths_of_texts e)
 
 -- what is given this text is given what it spells
 pub spells_same : (r : ReferenceValue) (text same : Text) → Spells r text → same ≡ text → Spells r same

@@ -1,6 +1,6 @@
 -- How long the components of a reference are, and where they stand then.
-use Rattle.std.specs.Prelude.{◌≡◌, Bool, true, ℕ, ◌+◌, ◌-◌, length}
-use Rattle.std.specs.Prelude.{Option, Some, None, is_some, option_map}
+use Rattle.std.specs.Prelude.{◌≡◌, Bool, true, not, nat_eq, ℕ, zero, suc, ◌+◌, length}
+use Rattle.std.specs.Prelude.{Option, Some, None, option_map}
 use Rattle.std.specs.declared.ops.Range.{Range}
 use Rattle.iref_grammar.specs.declared.context.PathContext.{PathContext}
 use Rattle.iref_grammar.specs.declared.offsets.Offsets.{Offsets}
@@ -11,74 +11,67 @@ use Rattle.iref_grammar.specs.PathValue.{spell_path}
 use Rattle.iref_grammar.specs.Reference.{ReferenceValue, read_reference}
 use Rattle.iref_reference_text.specs.declared.lengths.Lengths.{Lengths}
 
-abbrev pub range_len : Range ℕ → ℕ
-range_len range = range.end - range.start
+-- of a part with its delimiter, where there is a part
+abbrev pub with_mark : ℕ → Option Text → ℕ
+with_mark mark None = 0
+with_mark mark (Some part) = mark + length part
 
--- of what stands at the offsets
-abbrev pub lengths_at : Offsets → Lengths
-lengths_at offsets = record {
-  scheme = option_map range_len offsets.scheme;
-  authority = option_map range_len offsets.authority;
-  path = range_len offsets.path;
-  query = option_map range_len offsets.query;
-  fragment = option_map range_len offsets.fragment;
-}
-
--- of the components of a reference
+-- of the components of a reference, each with its delimiter
 abbrev pub lengths_of : ReferenceValue → Lengths
 lengths_of r = record {
-  scheme = option_map length r.scheme;
-  authority = option_map length (option_map spell_authority r.authority);
+  scheme = with_mark 1 r.scheme;
+  authority = with_mark 2 (option_map spell_authority r.authority);
   path = length (spell_path r.path);
-  query = option_map length r.query;
-  fragment = option_map length r.fragment;
+  query = with_mark 1 r.query;
+  fragment = with_mark 1 r.fragment;
 }
 
 -- of texts of components
 abbrev pub lengths_of_texts : ComponentTexts → Lengths
 lengths_of_texts t = record {
-  scheme = option_map length t.scheme;
-  authority = option_map length t.authority;
+  scheme = with_mark 1 t.scheme;
+  authority = with_mark 2 t.authority;
   path = length t.path;
-  query = option_map length t.query;
-  fragment = option_map length t.fragment;
+  query = with_mark 1 t.query;
+  fragment = with_mark 1 t.fragment;
 }
 
 -- what stands before the path
 abbrev pub context_by : Lengths → PathContext
-context_by l = record { has_scheme = is_some l.scheme; has_authority = is_some l.authority }
+context_by l = record { has_scheme = not (nat_eq l.scheme 0); has_authority = not (nat_eq l.authority 0) }
 
--- of a part with its delimiter, where there is a part
-abbrev pub with_mark : ℕ → Option ℕ → ℕ
-with_mark mark None = 0
-with_mark mark (Some n) = mark + n
+-- the scheme, where it and its delimiter are this long
+abbrev pub range_before : ℕ → Option (Range ℕ)
+range_before zero = None
+range_before (suc n) = Some (record { start = 0; end = n })
 
--- a part that begins at start
-abbrev pub range_with_len : ℕ → ℕ → Range ℕ
-range_with_len start n = record { start = start; end = start + n }
+-- a part after a delimiter that stands at start, where the two are this long
+abbrev pub range_after : ℕ → ℕ → ℕ → Option (Range ℕ)
+range_after start mark zero = None
+range_after start mark (suc n) = Some (record { start = start + mark; end = start + suc n })
 
 abbrev pub path_after : Lengths → ℕ
-path_after l = with_mark 1 l.scheme + with_mark 2 l.authority
+path_after l = l.scheme + l.authority
 
 abbrev pub query_after : Lengths → ℕ
 query_after l = path_after l + l.path
 
 abbrev pub fragment_after : Lengths → ℕ
-fragment_after l = query_after l + with_mark 1 l.query
+fragment_after l = query_after l + l.query
 
 -- the offsets of components of these lengths
 abbrev pub placed : Lengths → Offsets
 placed l = record {
-  scheme = option_map (range_with_len 0) l.scheme;
-  authority = option_map (range_with_len (with_mark 1 l.scheme + 2)) l.authority;
-  path = range_with_len (path_after l) l.path;
-  query = option_map (range_with_len (query_after l + 1)) l.query;
-  fragment = option_map (range_with_len (fragment_after l + 1)) l.fragment;
+  scheme = range_before l.scheme;
+  authority = range_after l.scheme 2 l.authority;
+  path = record { start = path_after l; end = query_after l };
+  query = range_after (query_after l) 1 l.query;
+  fragment = range_after (fragment_after l) 1 l.fragment;
 }
 
 -- of the whole text
 abbrev pub total_length : Lengths → ℕ
-total_length l = fragment_after l + with_mark 1 l.fragment
+total_length l = fragment_after l + l.fragment
 
 -- the text is in the rule, and its components are this long
 pub record HasLengths (test : Text → Bool) (l : Lengths) (text : Text) : Type 0 where

@@ -1,13 +1,12 @@
 -- The components of a reference that is not written yet.
-use Rattle.std.specs.Prelude.{◌≡◌, Bool, true, [], ◌∷◌, ◌++◌, codes}
+use Rattle.std.specs.Prelude.{Bool, [], ◌∷◌, ◌++◌, codes}
 use Rattle.std.specs.Option.{option_copied}
 use Rattle.iref_grammar.specs.Rules.{Text}
 use Rattle.iref_grammar.specs.Grammar.{colon, question_mark, hash_sign}
 use Rattle.iref_grammar.specs.Texts.{part_then, then_part}
-use Rattle.iref_grammar.specs.ComponentOffsets.{offsets_of}
 use Rattle.iref_grammar.specs.ComponentTexts.{ComponentTexts}
 use Rattle.iref_path.specs.MeasuredPaths.{IsMeasured, measured_text}
-use Rattle.iref_reference_text.specs.ComponentLengths.{lengths_of_texts, placed}
+use Rattle.iref_reference_text.specs.ComponentLengths.{HasLengths, lengths_of_texts}
 use Rattle.iref_reference_text.specs.declared.measured.MeasuredReference.{MeasuredReference}
 
 abbrev pub measured_components : MeasuredReference → ComponentTexts
@@ -29,8 +28,7 @@ spell_texts t =
     part_then (colon ∷ []) t.scheme ++ then_part (codes "//") t.authority ++ t.path
     ++ then_part (question_mark ∷ []) t.query ++ then_part (hash_sign ∷ []) t.fragment
 
--- and the text is in the rule, and read as these components
+-- and the text is in the rule, and read as components of these lengths
 pub record IsComposed (test : Text → Bool) (t : MeasuredReference) : Type 0 where
   pub ready : IsReady t
-  pub in_rule : test (spell_texts (measured_components t)) ≡ true
-  pub offsets : placed (lengths_of_texts (measured_components t)) ≡ offsets_of (spell_texts (measured_components t))
+  pub leaves : HasLengths test (lengths_of_texts (measured_components t)) (spell_texts (measured_components t))

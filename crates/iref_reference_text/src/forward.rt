@@ -1,14 +1,14 @@
 //! The text of what a reference resolves to against a base with an authority, written forward (RFC
 //! 3986 sections 5.2.2 and 5.3).
+ghost use Rattle.iref_reference_text.specs.ComponentLengths.{lengths_of_texts};
 ghost use Rattle.iref_reference_text.specs.Fronts.{IsAround, IsSpelled};
 ghost use Rattle.iref_grammar.specs.{is_empty, read_path, Reference.{context_of}};
 ghost use Rattle.iref_model.specs.{fits, read_reference, resolved};
-ghost use Rattle.iref_parse.specs.{value_of};
+ghost use Rattle.iref_parse.specs.{texts_of, value_of};
 ghost use Rattle.std.specs.Prelude.{◌≡◌, ◌≢◌, ◌+◌, ◌||◌, [], IfOk, IfSome, length, true};
 
-use crate::lengths::{Lengths, len_of};
+use crate::lengths::{Lengths, marked_len};
 use iref_error::Memory;
-use iref_parse::offsets::offsets_of;
 use iref_parse::split::ReferenceSlices;
 use iref_path::forward::append_normal_after;
 use std::alloc::{AllocError, Global};
@@ -47,18 +47,20 @@ fn path_between(
 }
 
 /// The bytes of what a reference resolves to against a base, and the lengths of its components,
-/// given both texts and their components. None where the reference has a scheme, an authority or no
-/// path, where the base has no authority, and where there is no room for both paths. The room that
-/// the normal path does not need stays in the vector.
+/// given both texts, their components and the lengths of the base's. None where the reference has a
+/// scheme, an authority or no path, where the base has no authority, and where there is no room for
+/// both paths. The room that the normal path does not need stays in the vector.
 #[inline(always)]
 pub fn resolved_forward(
     alloc: Global,
     base_text: &str,
     base: ReferenceSlices<'_>,
+    lengths: Lengths,
     text: &str,
     reference: ReferenceSlices<'_>,
 ) -> Option<(Vec<u8>, Lengths)>
     requires base { value_of base ≡ read_reference base_text.now }
+    requires lengths { lengths ≡ lengths_of_texts (texts_of base) }
     requires fits { fits (context_of (value_of base)) (value_of base).path ≡ true }
     requires reference { value_of reference ≡ read_reference text.now }
     ensures { IfSome result (λ written. IsSpelled
@@ -68,16 +70,16 @@ pub fn resolved_forward(
     if is_own || base.authority.is_none() || reference.path.is_empty() {
         return None;
     }
-    let front = &base_text.as_bytes()[..offsets_of(base).path.start];
+    let front = &base_text.as_bytes()[..lengths.path_start()];
     let (_, behind) = text.as_bytes().split_at(reference.path.len());
     let Ok((bytes, path)) = path_between(alloc, front, base.path, reference.path, behind) else {
         return None;
     };
-    let lengths = Lengths {
+    let joined = Lengths {
         path,
-        query: len_of(reference.query),
-        fragment: len_of(reference.fragment),
-        ..Lengths::of(base)
+        query: marked_len(1, reference.query),
+        fragment: marked_len(1, reference.fragment),
+        ..lengths
     };
-    Some((bytes, lengths))
+    Some((bytes, joined))
 }

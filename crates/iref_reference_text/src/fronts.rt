@@ -1,15 +1,15 @@
 //! The front part of a base's text that stays before a reference's text: what `d` resolves to
 //! against `http://a/b/c` is `http://a/b/` and `d` (RFC 3986 sections 5.2.3 and 5.3).
+ghost use Rattle.iref_reference_text.specs.ComponentLengths.{lengths_of_texts};
 ghost use Rattle.iref_reference_text.specs.Fronts.{IsFront, StaysBefore};
 ghost use Rattle.iref_grammar.specs.{AreComponents, read_reference};
 ghost use Rattle.iref_parse.specs.{texts_of, value_of};
 ghost use Rattle.std.specs.Prelude.{◌≡◌, ◌≢◌, [], IfSome, is_some, true};
 
 use crate::base::base_slice;
-use crate::lengths::{Lengths, len_of};
+use crate::lengths::{Lengths, marked_len};
 use iref_grammar::chars::CharSet;
 use iref_parse::dots::has_dots;
-use iref_parse::offsets::offsets_of;
 use iref_parse::split::ReferenceSlices;
 use iref_path::segments::split_root;
 
@@ -21,10 +21,12 @@ use iref_path::segments::split_root;
 fn front_before<'a, C: CharSet>(
     text: &'a str,
     base: ReferenceSlices<'a>,
+    lengths: Lengths,
     path: &str,
 ) -> Option<&'a str>
     requires value { value_of base ≡ read_reference text.now }
     requires components { AreComponents C.tests (texts_of base) }
+    requires lengths { lengths ≡ lengths_of_texts (texts_of base) }
     requires authority { is_some base.authority ≡ true }
     requires path { path.now ≢ [] }
     ensures { IfSome result (λ front. StaysBefore (texts_of base.entry) path.now front.now) }
@@ -33,16 +35,16 @@ fn front_before<'a, C: CharSet>(
         return None;
     }
     if split_root(path).0 {
-        return Some(&text[..offsets_of(base).path.start]);
+        return Some(&text[..lengths.path_start()]);
     }
     if !split_root(base.path).0 || has_dots(base.path.as_bytes()) {
         return None;
     }
-    Some(base_slice::<C>(text, base))
+    Some(base_slice::<C>(text, base, lengths))
 }
 
 /// The front part of the base's text that stays before the reference's text, and the lengths of the
-/// components of the two together.
+/// components of the two together, given those of the base's components.
 ///
 /// There is none where the reference has a scheme, an authority or no path, where the base has no
 /// authority, and where no front part stays before the path.
@@ -50,22 +52,24 @@ fn front_before<'a, C: CharSet>(
 pub fn front_kept<'a, C: CharSet>(
     text: &'a str,
     base: ReferenceSlices<'a>,
+    lengths: Lengths,
     reference: ReferenceSlices<'_>,
 ) -> Option<(&'a str, Lengths)>
     requires value { value_of base ≡ read_reference text.now }
     requires components { AreComponents C.tests (texts_of base) }
+    requires lengths { lengths ≡ lengths_of_texts (texts_of base) }
     ensures { IfSome result (IsFront (value_of base.entry) (value_of reference.entry)) }
 {
     let is_own = reference.scheme.is_some() | reference.authority.is_some();
     if is_own || base.authority.is_none() || reference.path.is_empty() {
         return None;
     }
-    let front = front_before::<C>(text, base, reference.path)?;
-    let lengths = Lengths {
-        path: front.len() + reference.path.len() - offsets_of(base).path.start,
-        query: len_of(reference.query),
-        fragment: len_of(reference.fragment),
-        ..Lengths::of(base)
+    let front = front_before::<C>(text, base, lengths, reference.path)?;
+    let joined = Lengths {
+        path: front.len() + reference.path.len() - lengths.path_start(),
+        query: marked_len(1, reference.query),
+        fragment: marked_len(1, reference.fragment),
+        ..lengths
     };
-    Some((front, lengths))
+    Some((front, joined))
 }

@@ -1,31 +1,32 @@
-//! How long the components of a reference are, from which their offsets follow.
-ghost use Rattle.std.specs.Prelude.{◌≡◌, ◌+◌, ◌<◌, ◌^◌, IfOk, IfSome, length, option_map};
+//! How long the components of a reference are with their delimiters, from which all its offsets
+//! follow.
+ghost use Rattle.std.specs.Prelude.{◌≡◌, ◌+◌, ◌≤◌, ◌<◌, ◌^◌};
 ghost use Rattle.std.specs.Option.{option_copied};
 ghost use Rattle.iref_reference_text.specs.ComponentLengths.{context_by, fragment_after, lengths_of_texts};
 ghost use Rattle.iref_reference_text.specs.ComponentLengths.{path_after, placed, query_after};
-ghost use Rattle.iref_reference_text.specs.ComponentLengths.{range_with_len, total_length, with_mark};
+ghost use Rattle.iref_reference_text.specs.ComponentLengths.{range_after, range_before, total_length};
+ghost use Rattle.iref_reference_text.specs.ComponentLengths.{with_mark};
 ghost use Rattle.iref_parse.specs.{texts_of};
 
 use iref_grammar::context::PathContext;
 use iref_grammar::offsets::Offsets;
 use iref_parse::split::ReferenceSlices;
-use std::alloc::AllocError;
 use std::ops::Range;
 
-/// The lengths of the components in bytes, without `:`, `//`, `?` and `#`: of `s:/a?q` they are 1,
-/// none, 2, 1 and none (RFC 3986 section 5.3).
+/// The lengths of the components in bytes, each with its delimiter, and 0 for one that is absent:
+/// of `s:/a?q` they are 2, 0, 2, 2 and 0 (RFC 3986 section 5.3).
 #[derive(Clone, Copy)]
 pub struct Lengths {
-    /// The scheme's, if there is one.
-    pub scheme: Option<usize>,
-    /// The authority's, if there is one.
-    pub authority: Option<usize>,
+    /// The scheme's, with its `:`.
+    pub scheme: usize,
+    /// The authority's, with its `//`.
+    pub authority: usize,
     /// The path's.
     pub path: usize,
-    /// The query's, if there is one.
-    pub query: Option<usize>,
-    /// The fragment's, if there is one.
-    pub fragment: Option<usize>,
+    /// The query's, with its `?`.
+    pub query: usize,
+    /// The fragment's, with its `#`.
+    pub fragment: usize,
 }
 
 impl Lengths {
@@ -34,11 +35,11 @@ impl Lengths {
         ensures { result ≡ lengths_of_texts (texts_of slices.entry) }
     {
         Lengths {
-            scheme: len_of(slices.scheme),
-            authority: len_of(slices.authority),
+            scheme: marked_len(1, slices.scheme),
+            authority: marked_len(2, slices.authority),
             path: slices.path.len(),
-            query: len_of(slices.query),
-            fragment: len_of(slices.fragment),
+            query: marked_len(1, slices.query),
+            fragment: marked_len(1, slices.fragment),
         }
     }
 
@@ -47,18 +48,9 @@ impl Lengths {
         ensures { result ≡ context_by self }
     {
         PathContext {
-            has_scheme: self.scheme.is_some(),
-            has_authority: self.authority.is_some(),
+            has_scheme: self.scheme != 0,
+            has_authority: self.authority != 0,
         }
-    }
-
-    /// How long the whole text is, if that can be counted.
-    pub fn total(self) -> Result<usize, AllocError>
-        ensures { IfOk result (λ len. len ≡ total_length self) }
-    {
-        let path = add_part(add_part(0, 1, self.scheme)?, 2, self.authority)?;
-        let query = path.checked_add(self.path).ok_or(AllocError)?;
-        add_part(add_part(query, 1, self.query)?, 1, self.fragment)
     }
 
     /// Where the path begins: of `s:/a?q` at 2.
@@ -66,7 +58,7 @@ impl Lengths {
         requires { path_after self < 2 ^ 64 }
         ensures { result ≡ path_after self }
     {
-        marked_len(1, self.scheme) + marked_len(2, self.authority)
+        self.scheme + self.authority
     }
 
     /// Where the path ends, and the delimiter of a query stands: of `s:/a?q` at 4.
@@ -82,7 +74,7 @@ impl Lengths {
         requires { fragment_after self < 2 ^ 64 }
         ensures { result ≡ fragment_after self }
     {
-        self.query_mark() + marked_len(1, self.query)
+        self.query_mark() + self.query
     }
 
     /// Where components of these lengths stand in their text.
@@ -90,52 +82,48 @@ impl Lengths {
         requires { total_length self < 2 ^ 63 }
         ensures { result ≡ placed self }
     {
+        let path = self.path_start();
+        let query = path + self.path;
+        let fragment = query + self.query;
         Offsets {
-            scheme: range_at(0, self.scheme),
-            authority: range_at(marked_len(1, self.scheme) + 2, self.authority),
-            path: self.path_start()..self.query_mark(),
-            query: range_at(self.query_mark() + 1, self.query),
-            fragment: range_at(self.fragment_mark() + 1, self.fragment),
+            scheme: range_before(self.scheme),
+            authority: range_after(self.scheme, 2, self.authority),
+            path: path..query,
+            query: range_after(query, 1, self.query),
+            fragment: range_after(fragment, 1, self.fragment),
         }
     }
 }
 
-// A length and that of a part with its delimiter, if there is one.
-fn add_part(len: usize, mark: usize, part: Option<usize>) -> Result<usize, AllocError>
-    ensures { IfOk result (λ sum. sum ≡ len + with_mark mark part) }
-{
-    let Some(part) = part else {
-        return Ok(len);
-    };
-    let marked = len.checked_add(mark).ok_or(AllocError)?;
-    marked.checked_add(part).ok_or(AllocError)
-}
-
-/// How long a part is with its delimiter, or 0 without one: of a scheme of 4 bytes 5.
-pub fn marked_len(mark: usize, part: Option<usize>) -> usize
-    requires { with_mark mark part < 2 ^ 64 }
-    ensures { result ≡ with_mark mark part }
+/// How long a part is with its delimiter, or 0 without a part: of a scheme of 4 bytes 5.
+pub fn marked_len(mark: usize, part: Option<&str>) -> usize
+    requires { mark ≤ 2 }
+    ensures { result ≡ with_mark mark (option_copied part.entry) }
 {
     match part {
-        Some(len) => mark + len,
+        Some(part) => mark + part.len(),
         None => 0,
     }
 }
 
-// Where a part that begins at `start` stands.
-fn range_at(start: usize, len: Option<usize>) -> Option<Range<usize>>
-    requires { IfSome len (λ len. start + len < 2 ^ 64) }
-    ensures { result ≡ option_map (range_with_len start) len }
+// Where the scheme stands, if it and its delimiter are this long.
+fn range_before(len: usize) -> Option<Range<usize>>
+    ensures { result ≡ range_before len }
 {
-    match len {
-        Some(len) => Some(start..start + len),
+    match len.checked_sub(1) {
+        Some(end) => Some(0..end),
         None => None,
     }
 }
 
-/// The length of a part, if there is one.
-pub fn len_of(part: Option<&str>) -> Option<usize>
-    ensures { result ≡ option_map length (option_copied part.entry) }
+// Where a part stands after a delimiter at `start`, if the two are this long.
+fn range_after(start: usize, mark: usize, len: usize) -> Option<Range<usize>>
+    requires len { start + len < 2 ^ 63 }
+    requires mark { mark ≤ 2 }
+    ensures { result ≡ range_after start mark len }
 {
-    part.map(|part| part.len())
+    if len == 0 {
+        return None;
+    }
+    Some(start + mark..start + len)
 }

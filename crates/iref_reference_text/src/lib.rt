@@ -4,7 +4,7 @@
 pub mod base;
 pub mod forward;
 pub mod fronts;
-mod lengths;
+pub mod lengths;
 pub mod measured;
 pub mod reference_text;
 pub mod relative;

@@ -1,6 +1,6 @@
 //! References that are measured before they are written: what one resolves to against a base,
 //! strict (RFC 3986 sections 5.2.2 and 5.3).
-ghost use Rattle.iref_reference_text.specs.ComponentLengths.{lengths_of_texts};
+ghost use Rattle.iref_reference_text.specs.ComponentLengths.{lengths_of_texts, with_mark};
 ghost use Rattle.iref_reference_text.specs.MeasuredReferences.{IsReady, spell_texts, measured_components};
 ghost use Rattle.iref_grammar.specs.{ComponentTexts.{spell_components}, Reference.{context_of}};
 ghost use Rattle.iref_grammar.specs.{Grammar.{colon}, Texts.{part_then, then_part}};
@@ -10,7 +10,7 @@ ghost use Rattle.iref_path.specs.Written.{WritesBefore};
 ghost use Rattle.std.specs.{Option.{option_copied}, Prelude.{◌≡◌, ◌+◌, ◌*◌, ◌<◌, ◌≤◌, ◌^◌}};
 ghost use Rattle.std.specs.Prelude.{[], ◌∷◌, IfOk, is_some, length, true};
 
-use crate::lengths::{Lengths, len_of};
+use crate::lengths::{Lengths, marked_len};
 use iref_error::Memory;
 use iref_grammar::context::PathContext;
 use iref_parse::split::ReferenceSlices;
@@ -38,6 +38,18 @@ pub fn count_paths(base: &str, other: &str) -> Result<(), AllocError>
     let steps = climbs.checked_add(other.len()).ok_or(AllocError)?;
     steps.checked_add(16).ok_or(AllocError)?;
     Ok(())
+}
+
+// A length and that of a part with its delimiter, if there is a part and the sum can be counted.
+fn add_part(len: usize, mark: usize, part: Option<&str>) -> Result<usize, AllocError>
+    requires { mark ≤ 2 }
+    ensures { IfOk result (λ sum. sum ≡ len + with_mark mark (option_copied part.entry)) }
+{
+    let Some(part) = part else {
+        return Ok(len);
+    };
+    let marked = len.checked_add(mark).ok_or(AllocError)?;
+    marked.checked_add(part.len()).ok_or(AllocError)
 }
 
 // What stands before a path after these components.
@@ -147,18 +159,28 @@ impl<'a> MeasuredReference<'a> {
         }
     }
 
-    /// How long the components are.
+    /// How long the components are, with their delimiters.
     pub fn lengths(&self) -> Lengths
         requires { IsReady self.now }
         ensures { result ≡ lengths_of_texts (measured_components self.now) }
     {
         Lengths {
-            scheme: len_of(self.scheme),
-            authority: len_of(self.authority),
+            scheme: marked_len(1, self.scheme),
+            authority: marked_len(2, self.authority),
             path: self.path.len(),
-            query: len_of(self.query),
-            fragment: len_of(self.fragment),
+            query: marked_len(1, self.query),
+            fragment: marked_len(1, self.fragment),
         }
+    }
+
+    /// How long the text is, if that can be counted.
+    pub fn total(&self) -> Result<usize, AllocError>
+        requires { IsReady self.now }
+        ensures { IfOk result (λ len. len ≡ length (spell_texts (measured_components self.now))) }
+    {
+        let path = add_part(add_part(0, 1, self.scheme)?, 2, self.authority)?;
+        let query = path.checked_add(self.path.len()).ok_or(AllocError)?;
+        add_part(add_part(query, 1, self.query)?, 1, self.fragment)
     }
 
     /// The bytes of the text, which is this long.

@@ -58,9 +58,8 @@ pub trait HeldRule: Rule {
         → Self.test tests (spell (base_of (read_reference text))) ≡ true };
 }
 
-/// A text in a rule of references, with the lengths of its components beside it, in bytes: of
-/// `s:/a?q` they are 1, none, 2, 1 and none. `new` returns a text outside the rule as its error
-/// (RFC 3986 sections 3 and 4.1).
+/// A text in a rule of references, with the lengths of its components beside it. `new` returns a
+/// text outside the rule as its error (RFC 3986 sections 3 and 4.1).
 #[derive(Drop)]
 pub struct ReferenceText<R: HeldRule, C: CharSet> {
     text: String,
@@ -187,7 +186,7 @@ impl<R: HeldRule, C: CharSet> ReferenceText<R, C> {
         ensures value { read_reference result.now ≡ base_of (read_reference self.now) }
         ensures in_rule { R.test C.tests result.now ≡ true }
     {
-        base_slice::<C>(self.as_str(), self.slices())
+        base_slice::<C>(self.as_str(), self.slices(), self.lengths())
     }
 
     /// The same text under another rule that it is in, of its own characters or of others, with

@@ -32,7 +32,7 @@ impl<R: HeldRule, C: CharSet> Target<AuthorityPart, C> for ReferenceText<R, C> {
         let len = by.len_after(at.end - at.start)?;
         let within = at.start + by.within.start..at.start + by.within.end;
         text::replace(&mut self.text, Change { within, ..by })?;
-        self.lengths.authority = Some(len);
+        self.lengths.authority = 2 + len;
         Ok(at.start + len)
     }
 }

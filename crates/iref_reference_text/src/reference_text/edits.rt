@@ -11,11 +11,11 @@ ghost use Rattle.iref_component.specs.{PathValue, read_path, spell_path, with_qu
 ghost use Rattle.iref_component.specs.{with_path, with_authority, with_scheme};
 ghost use Rattle.iref_reference_text.specs.PathTexts.{authority_text};
 ghost use Rattle.iref_reference_text.specs.Steps.{StepsOrStays};
-ghost use Rattle.iref_reference_text.specs.ComponentLengths.{HasLengths, lengths_of, with_mark};
+ghost use Rattle.iref_reference_text.specs.ComponentLengths.{HasLengths, lengths_of};
 ghost use Rattle.iref_splice.specs.Changes.{IsNoLonger, IsWithin, changed, replaced};
 
 use super::{HeldRule, ReferenceText};
-use crate::lengths::{Lengths, len_of, marked_len};
+use crate::lengths::{Lengths, marked_len};
 use iref_error::Memory;
 use iref_grammar::chars::CharSet;
 use iref_grammar::context::PathContext;
@@ -59,7 +59,7 @@ impl<R: HeldRule, C: CharSet> ReferenceText<R, C> {
     {
         let within = self.query_range();
         put_marked(&mut self.text, within, "?", query)?;
-        self.lengths.query = len_of(query);
+        self.lengths.query = marked_len(1, query);
         Ok(())
     }
 
@@ -72,7 +72,7 @@ impl<R: HeldRule, C: CharSet> ReferenceText<R, C> {
     {
         let within = self.fragment_range();
         put_marked(&mut self.text, within, "#", fragment)?;
-        self.lengths.fragment = len_of(fragment);
+        self.lengths.fragment = marked_len(1, fragment);
         Ok(())
     }
 
@@ -117,7 +117,7 @@ impl<R: HeldRule, C: CharSet> ReferenceText<R, C> {
             close: guard,
         };
         text::replace(&mut self.text, change)?;
-        self.lengths.scheme = len_of(scheme);
+        self.lengths.scheme = marked_len(1, scheme);
         self.lengths.path = len;
         Ok(())
     }
@@ -142,7 +142,7 @@ impl<R: HeldRule, C: CharSet> ReferenceText<R, C> {
             close: guard,
         };
         text::replace(&mut self.text, change)?;
-        self.lengths.authority = len_of(authority);
+        self.lengths.authority = marked_len(2, authority);
         self.lengths.path = len;
         Ok(())
     }
@@ -197,7 +197,7 @@ impl<R: HeldRule, C: CharSet> ReferenceText<R, C> {
     fn authority_range(&self) -> Range<usize>
         ensures within { IsWithin self.now result }
         ensures len { result.end - result.start
-            ≡ with_mark 2 (lengths_of (read_reference self.now)).authority }
+            ≡ (lengths_of (read_reference self.now)).authority }
         ensures replaced { (authority : Option AuthorityValue) (path : PathValue) (guard : Text)
             → guard ++ spell_path (read_reference self.now).path ≡ spell_path path
             → splice self.now result.start result.end
@@ -205,7 +205,7 @@ impl<R: HeldRule, C: CharSet> ReferenceText<R, C> {
             ≡ spell (record (read_reference self.now) { authority = authority; path = path }) }
     {
         let lengths = self.lengths();
-        marked_len(1, lengths.scheme)..lengths.path_start()
+        lengths.scheme..lengths.path_start()
     }
 
     // What is written before the path where an authority is put, or removed.
@@ -214,7 +214,7 @@ impl<R: HeldRule, C: CharSet> ReferenceText<R, C> {
             → result.now ++ spell_path (read_reference self.now).path
             ≡ spell_path (with_authority authority (read_reference self.now)).path }
         ensures short { has_authority ≡ false → length result.now
-            ≤ with_mark 2 (lengths_of (read_reference self.now)).authority }
+            ≤ (lengths_of (read_reference self.now)).authority }
         ensures fits { length result.now
             + (lengths_of (read_reference self.now)).path < 2 ^ 64 }
     {
@@ -238,14 +238,14 @@ impl<R: HeldRule, C: CharSet> ReferenceText<R, C> {
     fn scheme_range(&self) -> Range<usize>
         ensures within { IsWithin self.now result }
         ensures len { result.end - result.start
-            ≡ with_mark 1 (lengths_of (read_reference self.now)).scheme }
+            ≡ (lengths_of (read_reference self.now)).scheme }
         ensures replaced { (scheme : Option Text) (path : PathValue) (guard : Text)
             → guard ++ authority_text self.now ++ spell_path (read_reference self.now).path
             ≡ authority_text self.now ++ spell_path path
             → splice self.now result.start result.end (part_then (colon ∷ []) scheme ++ guard)
             ≡ spell (record (read_reference self.now) { scheme = scheme; path = path }) }
     {
-        0..marked_len(1, self.lengths().scheme)
+        0..self.lengths().scheme
     }
 
     // What is written before the authority and the path where a scheme is put, or removed.
@@ -255,7 +255,7 @@ impl<R: HeldRule, C: CharSet> ReferenceText<R, C> {
             ≡ authority_text self.now
             ++ spell_path (with_scheme scheme (read_reference self.now)).path }
         ensures short { has_scheme ≡ false → length result.now
-            ≤ with_mark 1 (lengths_of (read_reference self.now)).scheme }
+            ≤ (lengths_of (read_reference self.now)).scheme }
         ensures fits { length result.now
             + (lengths_of (read_reference self.now)).path < 2 ^ 64 }
     {

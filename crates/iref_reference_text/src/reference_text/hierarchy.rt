@@ -17,8 +17,8 @@ impl<R: HeldRule, C: CharSet> ReferenceText<R, C> {
         let mut text = String::with_capacity(*self.text.allocator(), self.text.capacity())?;
         text.push_str(self.without_query_and_fragment())?;
         let lengths = Lengths {
-            query: None,
-            fragment: None,
+            query: 0,
+            fragment: 0,
             ..self.lengths()
         };
         let rule = PhantomData;

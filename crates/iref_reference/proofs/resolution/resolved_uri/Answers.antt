@@ -17,13 +17,13 @@ front_kept-requires-clause-components g c =
 pub of_texts-requires : goal.of_texts-requires
 of_texts-requires g c =
     front-leaves g.C.CharSet.tests g.met.C.CharSet.above_ascii c.args.base_text.now c.args.text.now (value_of c.args.base) (value_of c.args.reference)
-    c.requires.base c.requires.reference c.requires.base_text c.requires.text (c.in-Some.front, c.in-Some.lengths) c.in-Some.ensures
+    c.requires.base c.requires.reference c.requires.base_text c.requires.text (c.in-Some.front, c.in-Some.joined) c.in-Some.ensures
 
 pub returns-in-Some : goal.returns-in-Some
 returns-in-Some g c =
     spells_same (resolved (read_reference c.args.base_text.now) (read_reference c.args.text.now)) _ _
     (front-resolved g.C.CharSet.tests g.met.C.CharSet.above_ascii c.args.base_text.now c.args.text.now (value_of c.args.base) (value_of c.args.reference)
-    c.requires.base c.requires.reference c.requires.base_text c.requires.text (c.in-Some.front, c.in-Some.lengths) c.in-Some.ensures)
+    c.requires.base c.requires.reference c.requires.base_text c.requires.text (c.in-Some.front, c.in-Some.joined) c.in-Some.ensures)
     (c.from_inner.ensures ∙ c.in_ok-inner.ensures)
 
 pub resolved-requires-clause-base : goal.resolved-requires-clause-base
@@ -46,11 +46,11 @@ resolved_forward-requires-clause-fits g c =
 pub of_bytes-requires : goal.of_bytes-requires
 of_bytes-requires g c =
     whole-leaves g.C.CharSet.tests g.met.C.CharSet.above_ascii c.args.base_text.now c.args.text.now (value_of c.args.base) (value_of c.args.reference)
-    c.requires.base c.requires.reference c.requires.base_text c.requires.text c.in-Some-resolved_forward.bytes.items c.in-Some-resolved_forward.lengths c.in-Some-resolved_forward.ensures
+    c.requires.base c.requires.reference c.requires.base_text c.requires.text c.in-Some-resolved_forward.bytes.items c.in-Some-resolved_forward.joined c.in-Some-resolved_forward.ensures
 
 pub returns-in-Some-resolved_forward : goal.returns-in-Some-resolved_forward
 returns-in-Some-resolved_forward g c =
     spells_same (resolved (read_reference c.args.base_text.now) (read_reference c.args.text.now)) _ _
     (whole-resolved g.C.CharSet.tests g.met.C.CharSet.above_ascii c.args.base_text.now c.args.text.now (value_of c.args.base) (value_of c.args.reference)
-    c.requires.base c.requires.reference c.requires.base_text c.requires.text c.in-Some-resolved_forward.bytes.items c.in-Some-resolved_forward.lengths c.in-Some-resolved_forward.ensures)
+    c.requires.base c.requires.reference c.requires.base_text c.requires.text c.in-Some-resolved_forward.bytes.items c.in-Some-resolved_forward.joined c.in-Some-resolved_forward.ensures)
     (c.from_inner-in-Some-resolved_forward.ensures ∙ c.of_bytes.ensures)

@@ -5,12 +5,13 @@ use Rattle.iref_grammar.specs.Reference.{spell}
 use Rattle.iref_grammar.proofs.ReferenceCutLemmas.{read_reference-spelled}
 use Rattle.iref_parse.specs.ReferenceSlices.{texts_of, value_of}
 use Rattle.iref_model.specs.ReferenceParts.{base_of}
+use Rattle.iref_reference_text.proofs.LengthLemmas.{total-slices}
 use Rattle.iref_reference_text.proofs.BaseLemmas.{base-joins, base-ends, tail, tail_utf8}
 use Rattle.iref_path.specs.Pieces.{pieces_if_some}
 use Rattle.iref_reference_text.proofs.base.base_slice.Goals as goal
 
-pub offsets_of-requires : goal.offsets_of-requires
-offsets_of-requires g c = omega (arith, ap length (ap spell c.requires.value ∙ read_reference-spelled c.args.text.now))
+pub query_mark-requires : goal.query_mark-requires
+query_mark-requires g c = rw c.requires.lengths (omega (arith, total-slices c.args.slices c.args.text.now c.requires.value))
 
 pub overflow_sub-end : goal.overflow_sub-end
 overflow_sub-end g c = grind (arith, base-ends (texts_of c.args.slices) (pieces_if_some c.last_segment.result.0) c.last_segment.result.1.now c.last_segment.ensures)
@@ -20,7 +21,7 @@ range-requires-clause-end_boundary g c =
     let t = texts_of c.args.slices in
     let name = c.last_segment.result.1.now in
     let base = spell (base_of (value_of c.args.slices)) in
-    let size : length base ≡ c.offsets_of.result.path.end - length name = grind (arith, base-ends t (pieces_if_some c.last_segment.result.0) name c.last_segment.ensures) in
+    let size : length base ≡ c.query_mark.result - length name = grind (arith, base-ends t (pieces_if_some c.last_segment.result.0) name c.last_segment.ensures) in
     let whole = base-joins t (pieces_if_some c.last_segment.result.0) name c.last_segment.ensures ∙ ap spell c.requires.value ∙ read_reference-spelled c.args.text.now in
     rw (← size) (IsCharBoundary-at_seam c.args.text.now base (name ++ tail t) (sym whole)
     (IsUtf8-append name (tail t) (search rules) (tail_utf8 g.C.CharSet.tests g.met.C.CharSet.above_ascii t c.requires.components)))

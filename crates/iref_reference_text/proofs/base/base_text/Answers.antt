@@ -5,7 +5,7 @@ use Rattle.iref_parse.specs.ReferenceSlices.{texts_of}
 use Rattle.iref_reference_text.proofs.base.base_text.Goals as goal
 
 pub base_slice-requires-clause-components : goal.base_slice-requires-clause-components
-base_slice-requires-clause-components g c = (Decides-AreComponents g.C.CharSet.tests g.met.C.CharSet.above_ascii c.args.text.now (texts_of c.split_reference.result) c.split_reference.ensures.value).0 c.requires
+base_slice-requires-clause-components g c = (Decides-AreComponents g.C.CharSet.tests g.met.C.CharSet.above_ascii c.args.text.now (texts_of c.split_reference-slices.result) c.split_reference-slices.ensures.value).0 c.requires
 
 pub returns-clause-value : goal.returns-clause-value
 returns-clause-value g c = grind (arith, base_of-read g.C.CharSet.tests g.met.C.CharSet.above_ascii)

@@ -1,20 +1,20 @@
-use Rattle.std.proofs.Common.{◌≡◌, ◌||◌, ◌++◌, ◌∷◌, [], false, true, length, length-take-le, take, ap, ◌∙◌, sym, arith}
+use Rattle.std.proofs.Common.{◌≡◌, ◌||◌, ◌++◌, ◌∷◌, [], false, true, length-take-le, take, sym, arith}
 use Rattle.std.specs.Prelude.{codes, is_some}
 use Rattle.iref_grammar.specs.Grammar.{colon, hash_sign, question_mark}
 use Rattle.iref_grammar.specs.Texts.{part_then, then_part}
-use Rattle.iref_grammar.specs.Reference.{spell}
 use Rattle.iref_grammar.proofs.ComponentLemmas.{is_some-copied}
 use Rattle.iref_grammar.proofs.ReferenceCutLemmas.{read_reference-spelled}
 use Rattle.iref_parse.specs.ReferenceSlices.{texts_of}
 use Rattle.iref_path.proofs.PathTextLemmas.{something}
-use Rattle.iref_reference_text.proofs.FrontLemmas.{around_spelled, before_path, behind_path, path_first, path_within}
+use Rattle.iref_reference_text.proofs.LengthLemmas.{total-slices}
+use Rattle.iref_reference_text.proofs.FrontLemmas.{around_spelled, before_path, behind_path, path_first}
 use Rattle.iref_reference_text.proofs.forward.resolved_forward.Goals as goal
 
-pub offsets_of-requires : goal.offsets_of-requires
-offsets_of-requires c = omega (arith, ap length (ap spell c.requires.base ∙ read_reference-spelled c.args.base_text.now))
+pub path_start-requires : goal.path_start-requires
+path_start-requires c = rw c.requires.lengths (omega (arith, total-slices c.args.base c.args.base_text.now c.requires.base))
 
 pub slice_bounds-front-end : goal.slice_bounds-front-end
-slice_bounds-front-end c = sym (length-take-le _ _ (grind (arith, path_within (texts_of c.args.base), read_reference-spelled c.args.base_text.now)))
+slice_bounds-front-end c = sym (length-take-le _ _ (grind (arith, total-slices c.args.base c.args.base_text.now c.requires.base)))
 
 pub split_at-requires : goal.split_at-requires
 split_at-requires c =
@@ -28,7 +28,7 @@ returns c =
     let t = texts_of c.args.reference in
     let none : (is_some t.scheme || is_some t.authority) ≡ false = grind (arith, is_some-copied) in
     let authority : is_some b.authority ≡ true = grind (arith, is_some-copied) in
-    let front : take c.offsets_of.result.path.start c.as_bytes.result.now ≡ part_then (colon ∷ []) b.scheme ++ then_part (codes "//") b.authority =
+    let front : take c.path_start.result c.as_bytes.result.now ≡ part_then (colon ∷ []) b.scheme ++ then_part (codes "//") b.authority =
     grind (arith, before_path b, read_reference-spelled c.args.base_text.now) in
     let behind : c.split_at.result.1.now ≡ then_part (question_mark ∷ []) t.query ++ then_part (hash_sign ∷ []) t.fragment =
     grind (arith, behind_path t none, read_reference-spelled c.args.text.now) in

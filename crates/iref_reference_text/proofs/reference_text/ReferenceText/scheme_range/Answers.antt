@@ -5,7 +5,7 @@ pub returns-clause-within : goal.returns-clause-within
 returns-clause-within g c =
     let set = g.C.CharSet.tests in
     let text = c.args.self.now in
-    rw (c.marked_len.ensures, c.lengths.ensures.lengths) (scheme_within set g.met.C.CharSet.above_ascii text (g.met.R.HeldRule.references set text c.lengths.ensures.in_rule))
+    rw c.lengths.ensures.lengths (scheme_within set g.met.C.CharSet.above_ascii text (g.met.R.HeldRule.references set text c.lengths.ensures.in_rule))
 
 pub returns-clause-replaced : goal.returns-clause-replaced
-returns-clause-replaced g c = rw (c.marked_len.ensures, c.lengths.ensures.lengths) (scheme_replaced c.args.self.now)
+returns-clause-replaced g c = rw c.lengths.ensures.lengths (scheme_replaced c.args.self.now)

@@ -19,7 +19,7 @@ invariant_of-self-2 g c =
     c.lengths-old.ensures.readable c.lengths-old.ensures.allowed _ new c.requires.scheme c.requires.allowed spelled in
     let len : length guard + c.lengths-old.result.path ≡ length (spell_path (with_scheme new old).path) = rw c.lengths-old.ensures.lengths (omega (arith, simp length-append at (ap length put))) in
     let lengths = rw c.self.view_is at c.self.invariant.1 in
-    (step.leaves.in_rule, (λ i. record (lengths i) { scheme = c.len_of-self-inside.ensures i; path = len i }) ∙ step.leaves.lengths)
+    (step.leaves.in_rule, (λ i. record (lengths i) { scheme = c.marked_len-self-inside.ensures i; path = len i }) ∙ step.leaves.lengths)
 
 pub returns-clause-set : goal.returns-clause-set
 returns-clause-set g c =

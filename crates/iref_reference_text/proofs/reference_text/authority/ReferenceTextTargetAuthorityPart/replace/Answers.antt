@@ -26,6 +26,12 @@ overflow_add-result g c =
     let placed = authority_range_within g.C.CharSet.tests g.met.C.CharSet.above_ascii text c.args.at c.requires.stands in
     omega (arith, (part_changed _ text _ c.args.at c.args.by _ c.self.view_is placed c.requires.within c.in_ok-replace.ensures.ok c.in_ok-len.ensures.sum).ends)
 
+pub overflow_add-self : goal.overflow_add-self
+overflow_add-self g c =
+    let text = c.args.self.now in
+    let placed = authority_range_within g.C.CharSet.tests g.met.C.CharSet.above_ascii text c.args.at c.requires.stands in
+    omega (arith, (part_changed _ text _ c.args.at c.args.by _ c.self.view_is placed c.requires.within c.in_ok-replace.ensures.ok c.in_ok-len.ensures.sum).ends)
+
 pub invariant_of-self-2 : goal.invariant_of-self-2
 invariant_of-self-2 g c =
     let set = g.C.CharSet.tests in
