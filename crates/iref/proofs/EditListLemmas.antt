@@ -1,5 +1,5 @@
 -- A list of edits is done an edit at a time.
-use Rattle.std.proofs.Common.{◌≡◌, ℕ, ◌+◌, zero, suc, Bool, true, false, List, [], ◌∷◌, ◌<◌, ◌≤◌, map, take, length, get_or, Result, Ok, Err, refl, add-one, arith}
+use Rattle.std.proofs.Common.{◌≡◌, ℕ, ◌+◌, zero, suc, Bool, true, false, List, [], ◌∷◌, ◌<◌, ◌≤◌, map, take, length, get_or, Result, Ok, Err, refl, ap, add-one, arith}
 use Rattle.std.specs.Prelude.{Option, Some, IsOk, is_some, is_none, option_map, slice_get}
 use Rattle.std.proofs.lemmas.List.{take_all, length-map}
 use Rattle.std.proofs.lemmas.Option.{slice_get-map, slice_get_read}
@@ -74,3 +74,9 @@ module _ (step : Edited) where
     -- it stops there
     pub stops_at : (error : EditFault) → AppliesEdit step (f x) before after (Err error) → StopsAt step (map f xs) old (read_reference after) i error
     stops_at error e = grind (arith, stops_next, here)
+
+-- a list of one element
+pub one_of : {X : Type 0} (xs : List X) (x : X) → length xs ≡ 1 → x ≡ get_or xs 0 x → x ∷ [] ≡ xs
+one_of [] x one is = absurd (omega arith)
+one_of (y ∷ []) x one is = ap (λ e. e ∷ []) is
+one_of (y ∷ z ∷ zs) x one is = absurd (omega arith)

@@ -1,5 +1,5 @@
 //! Edits of a list, one after the other, up to the first that cannot be done.
-ghost use Rattle.std.specs.Prelude.{◌≡◌, ◌≤◌, ◌<◌, true, length, map, take, IfNone, IfOk, IfSome};
+ghost use Rattle.std.specs.Prelude.{◌≡◌, ◌≤◌, ◌<◌, ◌∷◌, [], true, length, map, take, IfNone, IfOk, IfSome};
 ghost use Rattle.iref_component.specs.{with_fragment, with_query};
 ghost use Rattle.iref_model.specs.Edits.{edited, edited_uri};
 ghost use Rattle.iref_reference.specs.References.{reference_buf_text, reference_buf_value};
@@ -195,6 +195,19 @@ fn apply_on_copy<R: SetsScheme, C: CharSet>(
     run.done
 }
 
+// Does a list of one edit.
+fn apply_one<R: SetsScheme, C: CharSet>(
+    reference: &mut ReferenceBuf<R, C>,
+    edit: Edit<'_, C>,
+) -> Applied
+    ensures { AppliesList R.allows_scheme (edit.entry ∷ []) reference.old reference.new result }
+{
+    match apply(reference, edit) {
+        Ok(()) => Ok(()),
+        Err(fault) => Err((0, fault)),
+    }
+}
+
 // Does the edits, in place and on copies by turns. No copy is taken any more once edits of one were
 // not done.
 fn apply_list<R: SetsScheme, C: CharSet>(
@@ -203,6 +216,9 @@ fn apply_list<R: SetsScheme, C: CharSet>(
 ) -> Applied
     ensures { AppliesList R.allows_scheme edits.now reference.old reference.new result }
 {
+    if edits.len() == 1 {
+        return apply_one(reference, edits[0]);
+    }
     let mut done = 0;
     let mut may_copy = true;
     while done < edits.len() {
