@@ -585,7 +585,7 @@ entry_put node true c = refl
 entry_put node false c = refl
 
 pub made : (texts : List Text) (tree : Tree) (t : Text) (n : ℕ) (b : Bit) (entry number : ℕ) → IsAdded texts tree t n b entry number → (node : Node) (c : Child) (turn : Bool) → turn ≡ bit t (place_of b)
-    → ((turn ≡ true) × (node ≡ record { bit = b; entry = entry; left = c; right = Leaf number })) ⊎ ((turn ≡ false) × (node ≡ record { bit = b; entry = entry; left = Leaf number; right = c })) → IsMade texts t n b c node
+    → ((turn ≡ true) × (node ≡ record { bit = b; entry = entry; left = c; right = Leaf number; spare = 0 })) ⊎ ((turn ≡ false) × (node ≡ record { bit = b; entry = entry; left = Leaf number; right = c; spare = 0 })) → IsMade texts t n b c node
 made texts tree t n b entry number h node c turn is cases = record {
   bit_is = elim cases [ inl at ↦ ap (λ (m : Node). m.bit) at.1 | inr at ↦ ap (λ (m : Node). m.bit) at.1 ];
   entry_is = subst (λ e. (e ≡ n) ⊎ (e ≡ length texts)) (sym entry_is) (⊎_elim (λ e. inl e) (λ e. inr (e ∙ h.last)) h.one);
@@ -603,11 +603,11 @@ made texts tree t n b entry number h node c turn is cases = record {
     entry_is : node.entry ≡ entry
     entry_is = elim cases [ inl at ↦ ap (λ (m : Node). m.entry) at.1 | inr at ↦ ap (λ (m : Node). m.entry) at.1 ]
 
-    left_of : (side : Bool) → (side ≡ true → ⊥) → child (record { bit = b; entry = entry; left = c; right = Leaf number }) side ≡ c
+    left_of : (side : Bool) → (side ≡ true → ⊥) → child (record { bit = b; entry = entry; left = c; right = Leaf number; spare = 0 }) side ≡ c
     left_of true other = absurd (other refl)
     left_of false other = refl
 
-    right_of : (side : Bool) → (side ≡ false → ⊥) → child (record { bit = b; entry = entry; left = Leaf number; right = c }) side ≡ c
+    right_of : (side : Bool) → (side ≡ false → ⊥) → child (record { bit = b; entry = entry; left = Leaf number; right = c; spare = 0 }) side ≡ c
     right_of true other = refl
     right_of false other = absurd (other refl)
 

@@ -1,8 +1,9 @@
 -- Where a text leads in a tree.
 use Rattle.std.proofs.Common.{arith, Bool, ◌≡◌, ◌≢◌, ℕ, ◌+◌, ◌-◌, ◌*◌, ◌<◌, ◌≤◌, ◌⊎◌, inl, inr, List, [], length, get_or, refl, sym, ap, subst, ◌∙◌, ⊎_elim}
-use Rattle.std.specs.Prelude.{Option, Some, None, MatchOption}
+use Rattle.std.specs.Prelude.{min, Option, Some, None, MatchOption}
 use Rattle.std.proofs.lemmas.Bool.{cases_lt, cases_order, lt-ltb}
 use Rattle.std.proofs.lemmas.List.{get_or_read}
+use Rattle.std.proofs.Math.Nat.{min-eq_left, min-eq_right, min-le_left, min-le_right}
 use Rattle.iref_grammar.specs.Rules.{Text}
 use Rattle.iref.specs.declared.compact.tree.Child.{Child}
 use Rattle.iref.specs.declared.compact.tree.Child.TheVariants.{Inner, Leaf}
@@ -205,8 +206,22 @@ bits_upto n nodes (Leaf m) = 0
 
 -- ---- the steps of the search
 
+-- a place before the end of what is read is within the first bytes, and within the text
+pub goes_before : (at len size : ℕ) {end : ℕ} → end ≡ min size (len + 1) → at < end → (at ≤ len) × (at < size)
+goes_before at len size is l =
+    let least = min-le_left size (len + 1) in
+    let most = min-le_right size (len + 1) in
+    (omega arith, omega arith)
+
+-- any other is behind one of the two
+pub ends_before : (at len size : ℕ) {end : ℕ} → end ≡ min size (len + 1) → end ≤ at → (len < at) ⊎ (size ≤ at)
+ends_before at len size is l = elim (cases_lt size (len + 1)) [
+  | inl less ↦ let at_size = min-eq_left {n = size} {m = len + 1} (omega arith) in inr (omega arith)
+  | inr more ↦ let at_len = min-eq_right {n = len + 1} {m = size} more in inl (omega arith)
+]
+
 pub read_node : (nodes : List Node) (k : ℕ) (node : Node) → k < length nodes → node ≡ get_or nodes k node → node ≡ node_at nodes k
-read_node nodes k node l is = get_or_read nodes k node l is (record { bit = record { at = 0; shift = 0 }; entry = 0; left = Leaf 0; right = Leaf 0 })
+read_node nodes k node l is = get_or_read nodes k node l is (record { bit = record { at = 0; shift = 0 }; entry = 0; left = Leaf 0; right = Leaf 0; spare = 0 })
 
 pub root_link : (texts : List Text) (tree : Tree) (c : Child) → IsTree texts tree → tree.root ≡ Some c → IsLink texts tree.nodes.items (IsBelow texts tree.nodes.items None) c
 root_link texts tree c h is = subst (λ o. MatchOption o (texts ≡ []) (IsLink texts tree.nodes.items (IsBelow texts tree.nodes.items None))) is h.root

@@ -66,7 +66,7 @@ pub record Spot : Type 0 where
   pub place : ℕ
 
 abbrev pub node_at : List Node → ℕ → Node
-node_at nodes k = slice_index_or nodes k (record { bit = record { at = 0; shift = 0 }; entry = 0; left = Leaf 0; right = Leaf 0 })
+node_at nodes k = slice_index_or nodes k (record { bit = record { at = 0; shift = 0 }; entry = 0; left = Leaf 0; right = Leaf 0; spare = 0 })
 
 abbrev pub child : Node → Bool → Child
 child node true = node.right

@@ -42,6 +42,8 @@ struct Node {
     entry: usize,
     left: Child,
     right: Child,
+    // A node takes 64 bytes so, and its place in the list is found by a shift.
+    spare: usize,
 }
 
 // The first entries of texts, by the texts.
@@ -172,11 +174,12 @@ impl Tree {
         ensures { let texts = keys_of key entries.now in
             MatchOption result (texts ≡ []) (IsNear texts text.now len) }
     {
+        let end = text.len().min(len + 1);
         let mut child = self.root?;
         let mut ended = None;
         while let Child::Inner(at) = child {
             let node = &self.nodes[at];
-            if len < node.bit.at || text.len() <= node.bit.at {
+            if end <= node.bit.at {
                 break;
             }
             if node.bit.shift == GOES_ON {
@@ -327,6 +330,7 @@ impl Tree {
                 entry,
                 left: below,
                 right: leaf,
+                spare: 0,
             }
         } else {
             Node {
@@ -334,6 +338,7 @@ impl Tree {
                 entry,
                 left: leaf,
                 right: below,
+                spare: 0,
             }
         };
         let new = Child::Inner(self.nodes.len());
