@@ -1,0 +1,3 @@
+pub mod Places
+pub mod Cut
+pub mod Faults

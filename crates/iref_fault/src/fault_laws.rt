@@ -1,1 +1,2 @@
 //! Laws of faults: each is the contract of a function that does nothing.
+#![tactic(auto)]

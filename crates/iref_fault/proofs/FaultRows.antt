@@ -1,0 +1,85 @@
+-- Worked rows of faults: why, where, and what stands there; computed.
+use Prim.Native.String.{String}
+use Rattle.std.specs.Prelude.{codes, encode_utf8_all, ◌≡◌, ℕ, List, [], ◌∷◌, map, Option, Some, None, refl}
+use Rattle.std.specs.Str.{chars, is_utf8}
+use Rattle.std.specs.Str.Lossy.{utf8_valid_len}
+use Rattle.std.specs.Char.{encode_utf8}
+use Rattle.iref_grammar.specs.Characters.{uri_chars, iri_chars}
+use Rattle.iref_grammar.specs.Rules.{Text}
+use Rattle.iref_grammar.specs.Grammar.{is_reg_name_char, is_user_info_char, is_path_char, is_fragment_char, is_query_char}
+use Rattle.iref_grammar.specs.IpAddresses.{ipv4_value, ipv6_value}
+use Rattle.iref_grammar.specs.Tests.{owed_after, is_ip_literal, is_ipvfuture}
+use Rattle.iref_fault.specs.declared.component.Cause.{Cause}
+use Rattle.iref_fault.specs.declared.component.Cause.TheVariants.{Invalid, NoScheme, NotUtf8}
+use Rattle.iref_fault.specs.declared.component.Component.TheVariants.{Scheme, UserInfo, Host, Port, Path, Query, Fragment}
+use Rattle.iref_fault.specs.Places.{place_in}
+use Rattle.iref_fault.specs.Cut.{authority_pieces, pieces_of}
+use Rattle.iref_fault.specs.Faults.{FaultValue, fault_of_piece, fault_of_reference, fault_of_uri}
+
+-- the bytes of a quoted text
+abbrev utf8 : String → Text
+utf8 text = encode_utf8_all (codes text)
+
+abbrev parts_of_fault : Option FaultValue → Option (Cause × ℕ × Option ℕ)
+parts_of_fault None = None
+parts_of_fault (Some f) = Some (f.cause, f.at, f.found)
+
+-- a text; why it is no reference of URIs, where, and what stands there
+abbrev references : List (String × Option (Cause × ℕ × Option ℕ))
+references =
+    ("1:2", Some (Invalid Scheme, 0, Some 0x31))
+    ∷ ("a b:c", Some (Invalid Scheme, 1, Some 0x20))
+    ∷ (":a", Some (Invalid Path, 0, Some 0x3A))
+    ∷ ("//user:pass", Some (Invalid Port, 7, Some 0x70))
+    ∷ ("//h:80:90", Some (Invalid Port, 6, Some 0x3A))
+    ∷ ("//h%4/x", Some (Invalid Host, 5, Some 0x2F))
+    ∷ ("//[::1]x:80", Some (Invalid Host, 2, Some 0x5B))
+    ∷ ("a%", Some (Invalid Path, 2, None))
+    ∷ ("a%4g", Some (Invalid Path, 3, Some 0x67))
+    ∷ ("%%41", Some (Invalid Path, 1, Some 0x25))
+    ∷ ("a%4?x", Some (Invalid Path, 3, Some 0x3F))
+    ∷ ("a#b#c", Some (Invalid Fragment, 3, Some 0x23))
+    ∷ ("a?é", Some (Invalid Query, 2, Some 0xE9))
+    ∷ ("http://h.org:8x0/", Some (Invalid Port, 14, Some 0x78))
+    ∷ ("a/b c", Some (Invalid Path, 3, Some 0x20))
+    ∷ ("http:a%4", Some (Invalid Path, 8, None))
+    ∷ ("http://[::1", Some (Invalid Host, 7, Some 0x5B))
+    ∷ ("http://[1::2::3]/", Some (Invalid Host, 7, Some 0x5B))
+    ∷ ("http://u@[::1]:80/a:b?c#d", None)
+    ∷ ("", None)
+    ∷ []
+
+pub references_hold : map (λ row. parts_of_fault (fault_of_reference uri_chars (utf8 row.0))) references ≡ map (λ row. row.1) references
+unfolding fault_of_reference fault_of_piece pieces_of authority_pieces place_in is_utf8 chars encode_utf8 owed_after is_reg_name_char is_user_info_char is_path_char is_fragment_char is_query_char is_ip_literal is_ipvfuture ipv6_value ipv4_value
+references_hold = refl
+
+-- a text; why it is no URI, where, and what stands there
+abbrev uris : List (String × Option (Cause × ℕ × Option ℕ))
+uris =
+    ("a/b", Some (NoScheme, 0, None))
+    ∷ (":a", Some (NoScheme, 0, None))
+    ∷ ("http://u ser@h", Some (Invalid UserInfo, 8, Some 0x20))
+    ∷ ("http://a@b@c", Some (Invalid Host, 10, Some 0x40))
+    ∷ ("http://h", None)
+    ∷ []
+
+pub uris_hold : map (λ row. parts_of_fault (fault_of_uri uri_chars (utf8 row.0))) uris ≡ map (λ row. row.1) uris
+unfolding fault_of_uri fault_of_piece pieces_of authority_pieces place_in is_utf8 chars encode_utf8 owed_after is_reg_name_char is_user_info_char is_path_char is_fragment_char is_query_char is_ip_literal is_ipvfuture ipv6_value ipv4_value
+uris_hold = refl
+
+-- bytes; why they are no reference of IRIs, where, and what stands there
+abbrev bytes : List (Text × Option (Cause × ℕ × Option ℕ))
+bytes =
+    (0x61 ∷ 0xEE ∷ 0x80 ∷ 0x80 ∷ [], Some (Invalid Path, 1, Some 0xE000))
+    ∷ (0x61 ∷ 0xC3 ∷ [], Some (NotUtf8, 1, None))
+    ∷ (0x20 ∷ 0x61 ∷ 0xC3 ∷ [], Some (NotUtf8, 2, None))
+    ∷ (0xC3 ∷ 0xA9 ∷ 0x3F ∷ 0xC3 ∷ 0xA9 ∷ 0x20 ∷ [], Some (Invalid Query, 5, Some 0x20))
+    ∷ []
+
+pub bytes_hold : map (λ row. parts_of_fault (fault_of_reference iri_chars row.0)) bytes ≡ map (λ row. row.1) bytes
+unfolding fault_of_reference fault_of_piece pieces_of authority_pieces place_in is_utf8 utf8_valid_len chars encode_utf8 owed_after is_reg_name_char is_user_info_char is_path_char is_fragment_char is_query_char is_ip_literal is_ipvfuture ipv6_value ipv4_value
+bytes_hold = refl
+
+pub empty_holds : fault_of_reference uri_chars [] ≡ None
+unfolding fault_of_reference fault_of_piece pieces_of authority_pieces place_in is_utf8 chars encode_utf8 owed_after is_reg_name_char is_user_info_char is_path_char is_fragment_char is_query_char is_ip_literal is_ipvfuture ipv6_value ipv4_value
+empty_holds = refl
