@@ -1,1 +1,6 @@
+pub mod EncodedPlaceLemmas
+pub mod PartPlaceLemmas
+pub mod CutSliceLemmas
+pub mod PieceLemmas
+pub mod CutPieceLemmas
 mod FaultRows

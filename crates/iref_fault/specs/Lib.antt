@@ -1,3 +1,4 @@
 pub mod Places
 pub mod Cut
 pub mod Faults
+pub mod FirstFault

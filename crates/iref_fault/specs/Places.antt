@@ -1,5 +1,5 @@
 -- Where a single text is outside its rule: the count of the characters before that place.
-use Rattle.std.specs.Prelude.{◌≡◌, ℕ, suc, Bool, true, not, ◌||◌, ◌==◌, [], ◌∷◌, ◌++◌, ◌⊎◌, length, take, Option, Some, None, option_map, if◌then◌else◌, encode_utf8_all}
+use Rattle.std.specs.Prelude.{◌≡◌, ℕ, suc, Bool, true, false, not, ◌||◌, ◌==◌, [], ◌∷◌, ◌++◌, ◌⊎◌, length, take, Option, Some, None, option_map, if◌then◌else◌, encode_utf8_all}
 use Rattle.std.specs.List.{position}
 use Rattle.std.specs.Char.{is_ascii_alphabetic, is_ascii_digit}
 use Rattle.iref_grammar.specs.Characters.{CharTests}
@@ -63,6 +63,16 @@ pub record IsFaultPlace (A : Rule) (text : Text) (place : ℕ) : Type 0 where
   pub outside : A text → ⊥
   pub begins : Begins A (take place text)
   pub ends : (place ≡ length text) ⊎ (Begins A (take (suc place) text) → ⊥)
+
+-- a host that begins with `[`
+abbrev pub is_bracketed : PartRule → Text → Bool
+is_bracketed Host text = begins_with (left_bracket ∷ []) text
+is_bracketed rule text = false
+
+-- of a text outside its rule: such a host is wrong at its `[`, and all else at the fault's place
+pub record IsPlaceIn (set : CharTests) (rule : PartRule) (text : Text) (place : ℕ) : Type 0 where
+  pub outside : rule_of set rule text → ⊥
+  pub stands : ((is_bracketed rule text ≡ true) × (place ≡ 0)) ⊎ ((is_bracketed rule text ≡ false) × IsFaultPlace (rule_of set rule) text place)
 
 -- ---- the place, computed
 
