@@ -96,24 +96,27 @@ before_chars mark text m u =
 -- ---- the shape of a path that stands without a scheme
 
 -- of bytes: it begins with `:`, or its first segment holds none
-abbrev HasByteShape : Text → Type 0
+abbrev pub HasByteShape : Text → Type 0
 HasByteShape text = (begins_with (colon ∷ []) text ≡ true) ⊎ (has_plain_start text ≡ true)
 
-colon_first : (text : Text) → begins_with (colon ∷ []) text ≡ true → (rest : Text) × (text ≡ colon ∷ rest)
+pub colon_first : (text : Text) → begins_with (colon ∷ []) text ≡ true → (rest : Text) × (text ≡ colon ∷ rest)
 colon_first [] h = absurd (true≢false (sym h))
 colon_first (c ∷ cs) h = elim (eqb_tells colon c) [
   | inl e ↦ (cs, ap (λ d. d ∷ cs) (sym e.1))
   | inr e ↦ absurd (true≢false (sym h ∙ (λ i. e.0 i && true)))
 ]
 
-as_characters : (text : Text) → IsUtf8 text → HasByteShape text → HasBareShape (chars text)
-as_characters text u (inl h) =
-    let z = colon_first text h in
-    inl (ap (begins_with (colon ∷ [])) (ap chars z.1 ∙ chars_mark colon z.0 (lit< tt) (subst IsUtf8 z.1 u)))
-as_characters text u (inr h) =
+pub plain_chars : (text : Text) → IsUtf8 text → has_plain_start text ≡ true → has_plain_start (chars text) ≡ true
+plain_chars text u h =
     let parts = utf8_before slash (before (slash ∷ []) text) (after slash text) text (lit< tt) (cut slash text) u in
-    by (begins_with (colon ∷ []) (chars text)) refl
-    (ap (lacks colon) (before_chars slash text (lit< tt) u) ∙ lacks_chars colon (before (slash ∷ []) text) (lit< tt) parts.0 h)
+    ap (lacks colon) (before_chars slash text (lit< tt) u) ∙ lacks_chars colon (before (slash ∷ []) text) (lit< tt) parts.0 h
+
+pub colon_chars : (text : Text) → IsUtf8 text → begins_with (colon ∷ []) text ≡ true → begins_with (colon ∷ []) (chars text) ≡ true
+colon_chars text u h = let z = colon_first text h in ap (begins_with (colon ∷ [])) (ap chars z.1 ∙ chars_mark colon z.0 (lit< tt) (subst IsUtf8 z.1 u))
+
+as_characters : (text : Text) → IsUtf8 text → HasByteShape text → HasBareShape (chars text)
+as_characters text u (inl h) = inl (colon_chars text u h)
+as_characters text u (inr h) = by (begins_with (colon ∷ []) (chars text)) refl (plain_chars text u h)
   where
     by : (b : Bool) → begins_with (colon ∷ []) (chars text) ≡ b → has_plain_start (chars text) ≡ true → HasBareShape (chars text)
     by true e k = absurd (true≢false (sym k ∙ (colon_starts (chars text) e).0))
@@ -131,7 +134,7 @@ plain_whole (c ∷ cs) rest l h = elim (eqb_tells c slash) [
 ]
 
 -- what has no scheme
-bare_scheme : (text : Text) → (cut_scheme text).0 ≡ None → ((cut_scheme text).1 ≡ text) × HasByteShape text
+pub bare_scheme : (text : Text) → (cut_scheme text).0 ≡ None → ((cut_scheme text).1 ≡ text) × HasByteShape text
 bare_scheme text = by (begins_with (colon ∷ []) text) refl
   where
     of_slash : (rest : Text) (d : Bool) → char_set_contains (before (colon ∷ []) text) slash ≡ d → before (colon ∷ []) text ++ colon ∷ rest ≡ text
@@ -150,7 +153,7 @@ bare_scheme text = by (begins_with (colon ∷ []) text) refl
     by false k e = of_rest (after colon text) (cut colon text) e
 
 -- and what has neither a scheme nor an authority
-bare_authority : (text : Text) → (split_authority text).0 ≡ None → (split_authority text).1 ≡ text
+pub bare_authority : (text : Text) → (split_authority text).0 ≡ None → (split_authority text).1 ≡ text
 bare_authority text e = by (begins_with (codes "//") text) e
   where
     by : (b : Bool) → let s : Option Text × Text = if b then (Some (before (slash ∷ []) (drop 2 text)), from_first (slash ∷ []) (drop 2 text)) else (None, text) in s.0 ≡ None → s.1 ≡ text
@@ -190,15 +193,14 @@ authority_slices text start whole s = by (begins_with (codes "//") whole) refl
         let two = slice_after text (start + 1) slash rest (lit< tt) one in
         let parts = utf8_seam front back rest (before-from_first (slash ∷ []) rest) two.utf8 (mark_boundary slash front (after slash rest) rest (lit< tt) (cut slash rest)) in
         let far : start + 1 + 1 ≡ start + 2 = omega arith in
-        let further : start + 1 + 1 + length front ≡ start + length (codes "//" ++ front) = omega arith in
-        (
+        let further : start + 1 + 1 + length front ≡ start + length (codes "//" ++ front) = omega arith in (
           subst (λ k. IsSlice text k front) far (first_slice text (start + 1 + 1) rest front back two (before-from_first (slash ∷ []) rest) parts.0 parts.1),
           subst (λ k. IsSlice text k back) further (second_slice text (start + 1 + 1) rest front back two (before-from_first (slash ∷ []) rest) parts.1),
         )
 
 -- ---- and sound
 
-all_append : {A : Type 0} (P : A → Type 0) (xs ys : List A) → AllByRecursion P xs → AllByRecursion P ys → AllByRecursion P (xs ++ ys)
+pub all_append : {A : Type 0} (P : A → Type 0) (xs ys : List A) → AllByRecursion P xs → AllByRecursion P ys → AllByRecursion P (xs ++ ys)
 all_append P [] ys h k = k
 all_append P (x ∷ xs) ys h k = (h.0, all_append P xs ys h.1 k)
 

@@ -3,4 +3,6 @@ pub mod PartPlaceLemmas
 pub mod CutSliceLemmas
 pub mod PieceLemmas
 pub mod CutPieceLemmas
+pub mod AuthorityFaultLemmas
+pub mod ReferenceFaultLemmas
 mod FaultRows
