@@ -1,5 +1,5 @@
 -- Characters and escapes: the place where a text is outside the rule is where the scan of it stops.
-use Rattle.std.proofs.Common.{arith, ◌≡◌, ℕ, zero, suc, Bool, true, false, List, [], ◌∷◌, ◌++◌, ◌⊎◌, inl, inr, refl, sym, ◌∙◌, ap, subst, length, take}
+use Rattle.std.proofs.Common.{arith, ◌≡◌, ℕ, zero, suc, Bool, true, false, [], ◌∷◌, ◌++◌, ◌⊎◌, inl, inr, refl, sym, ◌∙◌, ap, subst, length, take}
 use Rattle.std.specs.Prelude.{◌==◌, Option, Some, None, option_map, replicate, ◌&&◌, if◌then◌else◌}
 use Rattle.std.specs.Bool.{Decides}
 use mathlib.Core.Bool.{true≢false}
@@ -7,12 +7,12 @@ use Rattle.iref_grammar.specs.Rules.{Text, Rule}
 use Rattle.iref_grammar.specs.Grammar.{colon}
 use Rattle.iref_grammar.proofs.TextLemmas.{lacks}
 use Rattle.iref_grammar.proofs.LackLemmas.{lacks_more}
-use Rattle.iref_grammar.specs.Tests.{owed_after, is_encoded_after, is_encoded}
-use Rattle.iref_grammar.proofs.EncodedLemmas.{Decides-is_encoded, by_digit}
+use Rattle.iref_grammar.specs.Tests.{owed_after, is_encoded_after}
+use Rattle.iref_grammar.proofs.EncodedLemmas.{by_digit}
 use Rattle.std.specs.List.{list_all}
 use Rattle.std.proofs.lemmas.Bool.{and_from}
 use Rattle.std.proofs.lemmas.Bool.Decides.{nat_tests}
-use Rattle.iref_fault.specs.Places.{Begins, IsFaultPlace, encoded_place_after, encoded_place, ones_place}
+use Rattle.iref_fault.specs.Places.{IsFaultPlace, encoded_place_after, ones_place}
 
 -- A test refuses the text, and the place is where it does so: for some rest the test takes what stands before, and for none what
 -- stands up to and with the character there. The rest holds no `:`.

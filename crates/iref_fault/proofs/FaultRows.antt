@@ -49,7 +49,7 @@ references =
     ∷ ("", None)
     ∷ []
 
-pub references_hold : map (λ row. parts_of_fault (fault_of_reference uri_chars (utf8 row.0))) references ≡ map (λ row. row.1) references
+references_hold : map (λ row. parts_of_fault (fault_of_reference uri_chars (utf8 row.0))) references ≡ map (λ row. row.1) references
 unfolding fault_of_reference fault_of_piece pieces_of authority_pieces place_in is_utf8 chars encode_utf8 owed_after is_reg_name_char is_user_info_char is_path_char is_fragment_char is_query_char is_ip_literal is_ipvfuture ipv6_value ipv4_value
 references_hold = refl
 
@@ -63,7 +63,7 @@ uris =
     ∷ ("http://h", None)
     ∷ []
 
-pub uris_hold : map (λ row. parts_of_fault (fault_of_uri uri_chars (utf8 row.0))) uris ≡ map (λ row. row.1) uris
+uris_hold : map (λ row. parts_of_fault (fault_of_uri uri_chars (utf8 row.0))) uris ≡ map (λ row. row.1) uris
 unfolding fault_of_uri fault_of_piece pieces_of authority_pieces place_in is_utf8 chars encode_utf8 owed_after is_reg_name_char is_user_info_char is_path_char is_fragment_char is_query_char is_ip_literal is_ipvfuture ipv6_value ipv4_value
 uris_hold = refl
 
@@ -76,10 +76,6 @@ bytes =
     ∷ (0xC3 ∷ 0xA9 ∷ 0x3F ∷ 0xC3 ∷ 0xA9 ∷ 0x20 ∷ [], Some (Invalid Query, 5, Some 0x20))
     ∷ []
 
-pub bytes_hold : map (λ row. parts_of_fault (fault_of_reference iri_chars row.0)) bytes ≡ map (λ row. row.1) bytes
+bytes_hold : map (λ row. parts_of_fault (fault_of_reference iri_chars row.0)) bytes ≡ map (λ row. row.1) bytes
 unfolding fault_of_reference fault_of_piece pieces_of authority_pieces place_in is_utf8 utf8_valid_len chars encode_utf8 owed_after is_reg_name_char is_user_info_char is_path_char is_fragment_char is_query_char is_ip_literal is_ipvfuture ipv6_value ipv4_value
 bytes_hold = refl
-
-pub empty_holds : fault_of_reference uri_chars [] ≡ None
-unfolding fault_of_reference fault_of_piece pieces_of authority_pieces place_in is_utf8 chars encode_utf8 owed_after is_reg_name_char is_user_info_char is_path_char is_fragment_char is_query_char is_ip_literal is_ipvfuture ipv6_value ipv4_value
-empty_holds = refl

@@ -5,4 +5,5 @@ pub mod PieceLemmas
 pub mod CutPieceLemmas
 pub mod AuthorityFaultLemmas
 pub mod ReferenceFaultLemmas
+pub mod FaultLemmas
 mod FaultRows

@@ -1,16 +1,15 @@
 -- The place that is computed, rule by rule, is where the text is outside its rule.
-use Rattle.std.proofs.Common.{arith, ◌≡◌, ℕ, zero, suc, Bool, true, false, [], ◌∷◌, ◌++◌, ◌⊎◌, inl, inr, refl, sym, ◌∙◌, ap, subst, length, take, lit<}
+use Rattle.std.proofs.Common.{arith, ◌≡◌, ℕ, zero, suc, Bool, true, false, [], ◌∷◌, ◌++◌, ◌⊎◌, inl, inr, refl, sym, ◌∙◌, ap, subst, take, lit<}
 use Rattle.std.specs.Prelude.{◌==◌, ◌&&◌, ◌||◌, Option, Some, None, option_map, if◌then◌else◌}
 use Rattle.std.specs.Bool.{Decides}
 use Rattle.std.specs.List.{list_all}
 use Rattle.std.specs.Char.{is_ascii_alphabetic, is_ascii_digit, char_set_contains}
 use Rattle.std.proofs.lemmas.Bool.{and_from}
 use Rattle.std.proofs.lemmas.Bool.Decides.{eqb_tells, Decides-like, Decides-and, Decides-or}
-use Rattle.std.proofs.lemmas.Grind.{common_steps}
 use Rattle.std.proofs.Math.Bool.{or-true}
 use mathlib.Core.Bool.{true≢false}
 use Rattle.iref_grammar.specs.Characters.{CharTests, AreAboveAscii}
-use Rattle.iref_grammar.specs.Rules.{Text, Rule}
+use Rattle.iref_grammar.specs.Rules.{Text}
 use Rattle.iref_grammar.specs.Grammar.{percent_sign, colon, slash, left_bracket, is_scheme_char, is_user_info_char, is_reg_name_char, is_path_char, is_fragment_char, is_query_char, IsHost, IsIpLiteral, IsRegName, IsPath}
 use Rattle.iref_grammar.specs.Tests.{is_encoded, is_encoded_after, is_scheme, is_port, is_ip_literal}
 use Rattle.iref_grammar.specs.Texts.{before, begins_with, lacks}
@@ -21,7 +20,7 @@ use Rattle.iref_grammar.proofs.PathTextLemmas.{PathPiece}
 use Rattle.iref_grammar.proofs.HostRuleLemmas.{Decides-is_ip_literal, ipv4_reg_name}
 use Rattle.iref_grammar.proofs.ComponentLackLemmas.{reg_name_refuses}
 use Rattle.iref_grammar.proofs.CutLemmas.{before-no, before-yes, first_lacks, rest_lacks}
-use Rattle.iref_fault.specs.Places.{PartRule, Scheme, UserInfo, Host, Port, Path, BarePath, Segment, Query, Fragment, rule_of, is_bracketed, Begins, IsFaultPlace, IsPlaceIn, place_in, scheme_place, host_place, path_place, bare_path_place, ones_place, encoded_place}
+use Rattle.iref_fault.specs.Places.{PartRule, Scheme, UserInfo, Host, Port, Path, BarePath, Segment, Query, Fragment, rule_of, is_bracketed, IsPlaceIn, place_in, scheme_place, host_place, path_place, bare_path_place, ones_place, encoded_place}
 use Rattle.iref_fault.proofs.EncodedPlaceLemmas.{IsTestPlace, PlaceTells, place_of_rule, encoded_tells, ones_tell}
 
 -- ---- the tests of characters

@@ -1,13 +1,12 @@
 -- The computed fault of pieces is that of the first that is outside its rule, and there is one.
-use Rattle.std.proofs.Common.{arith, ◌≡◌, ℕ, zero, suc, ◌+◌, ◌<◌, ◌≤◌, true, false, List, [], ◌∷◌, ◌++◌, ◌⊎◌, inl, inr, refl, sym, ◌∙◌, ap, subst, length, take, drop, append_assoc}
+use Rattle.std.proofs.Common.{arith, ◌≡◌, ℕ, suc, ◌+◌, ◌<◌, ◌≤◌, true, false, List, [], ◌∷◌, ◌++◌, ◌⊎◌, inl, inr, refl, sym, ◌∙◌, ap, subst, length, take, drop, append_assoc}
 use Rattle.std.proofs.Math.Logic.{◌↔◌}
-use Rattle.std.specs.Prelude.{chars, encode_utf8_all, Option, Some, None, option_map}
+use Rattle.std.specs.Prelude.{chars, Option, Some, None, option_map}
 use Rattle.std.specs.Option.{option_or}
-use Rattle.std.specs.Str.{IsUtf8, is_utf8}
+use Rattle.std.specs.Str.{IsUtf8}
 use Rattle.std.specs.List.{AllByRecursion}
 use Rattle.std.proofs.lemmas.Bool.{cases_lt}
 use Rattle.std.proofs.lemmas.List.{take_all, take-take, take-append-drop}
-use Rattle.std.proofs.lemmas.Option.{same_Some}
 use Rattle.std.proofs.lemmas.Str.{chars-encodes, encodes-chars, scalars-chars}
 use mathlib.Core.Bool.{true≢false}
 use Rattle.iref_grammar.specs.Characters.{CharTests, AreAboveAscii}

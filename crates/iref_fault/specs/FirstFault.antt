@@ -3,7 +3,7 @@ use Rattle.std.specs.Prelude.{◌≡◌, ℕ, ◌+◌, List, ◌∷◌, ◌++◌
 use Rattle.std.specs.List.{AllByRecursion}
 use Rattle.iref_grammar.specs.Characters.{CharTests}
 use Rattle.iref_grammar.specs.Rules.{Text, InUtf8}
-use Rattle.iref_fault.specs.Places.{rule_of, IsPlaceIn, bytes_before}
+use Rattle.iref_fault.specs.Places.{PartRule, rule_of, IsPlaceIn, bytes_before}
 use Rattle.iref_fault.specs.Cut.{Piece}
 use Rattle.iref_fault.specs.Faults.{FaultValue, fault_at}
 
@@ -24,3 +24,9 @@ pub record IsFirstFault (set : CharTests) (text : Text) (ps : List Piece) (f : F
   pub in_rules : AreInRules set front
   pub stands : IsPlaceIn set piece.rule (chars piece.text) place
   pub named : fault_at text piece.rule (piece.start + bytes_before place (chars piece.text)) ≡ f
+
+-- The single text is wrong at the place: the fault names its component, and the place in bytes.
+pub record IsPartFault (set : CharTests) (rule : PartRule) (text : Text) (f : FaultValue) : Type 0 where
+  pub place : ℕ
+  pub stands : IsPlaceIn set rule (chars text) place
+  pub named : fault_at text rule (bytes_before place (chars text)) ≡ f

@@ -23,6 +23,10 @@ pub data PartRule : Type 0 where
   Query : PartRule
   Fragment : PartRule
 
+abbrev pub is_bare : PartRule → Bool
+is_bare BarePath = true
+is_bare rule = false
+
 -- the component that a fault of the rule names
 abbrev pub component_of : PartRule → Component
 component_of Scheme = component.Scheme
