@@ -66,10 +66,10 @@ plain_start [] None h = refl
 plain_start [] (Some p) h = refl
 plain_start (c ∷ cs) port h = h
 
-abbrev IsCutBack : Text → Option Text → Type 0
+abbrev pub IsCutBack : Text → Option Text → Type 0
 IsCutBack host port = (cut_host (host ++ then_part (colon ∷ []) port) ≡ host) × (cut_port (host ++ then_part (colon ∷ []) port) ≡ port)
 
-host_back : (host : Text) (port : Option Text) → IsPlainHost host ⊎ IsBracketedHost host → IfSome port (λ p. lacks right_bracket p ≡ true) → IsCutBack host port
+pub host_back : (host : Text) (port : Option Text) → IsPlainHost host ⊎ IsBracketedHost host → IfSome port (λ p. lacks right_bracket p ≡ true) → IsCutBack host port
 host_back host port (inl plain) l =
     let text = host ++ then_part (colon ∷ []) port in
     let k = plain_start host port plain.1 in
@@ -84,7 +84,7 @@ host_back host port (inr b) l =
 -- ---- the rules
 
 module _ (set : CharTests) (above : AreAboveAscii set) where
-  port_lacks_bracket : (o : Option Text) → IfSome o (InUtf8 IsPort) → IfSome o (λ p. lacks right_bracket p ≡ true)
+  pub port_lacks_bracket : (o : Option Text) → IfSome o (InUtf8 IsPort) → IfSome o (λ p. lacks right_bracket p ≡ true)
   unfolding is_port
   port_lacks_bracket None h = tt
   port_lacks_bracket (Some p) h = all_lacks is_ascii_digit right_bracket refl p ((Decides-is_port_bytes p).1 h)

@@ -6,4 +6,5 @@ pub mod CutPieceLemmas
 pub mod AuthorityFaultLemmas
 pub mod ReferenceFaultLemmas
 pub mod FaultLemmas
+pub mod CutReadLemmas
 mod FaultRows

@@ -42,28 +42,28 @@ pub record Starts : Type 0 where
   pub query : ℕ
   pub fragment : ℕ
 
-abbrev path_rule : ComponentTexts → PartRule
+abbrev pub path_rule : ComponentTexts → PartRule
 path_rule s = if is_some s.scheme || is_some s.authority then Path else BarePath
 
-abbrev listed : Starts → ComponentTexts → List Piece
+abbrev pub listed : Starts → ComponentTexts → List Piece
 listed at s =
     piece_if Scheme 0 s.scheme ++ authority_pieces_if at.authority s.authority ++ piece (path_rule s) at.path s.path
     ++ piece_if Query at.query s.query ++ piece_if Fragment at.fragment s.fragment
 
 -- the cut's components, and those that are read
-abbrev parts_from : Option Text × Text → Text → ComponentTexts
+abbrev pub parts_from : Option Text × Text → Text → ComponentTexts
 parts_from front text =
     let middle = split_authority front.1 in
     record { scheme = front.0; authority = middle.0; path = middle.1; query = after question_mark (before (hash_sign ∷ []) text); fragment = after hash_sign text }
 
-starts_of : Text → Starts
+pub starts_of : Text → Starts
 starts_of text =
     let front = cut_scheme (hierarchy text) in
     let middle = split_authority front.1 in
     let scheme_len = length (part_then (colon ∷ []) front.0) in
     record { authority = scheme_len + 2; path = scheme_len + length (then_part (codes "//") middle.0); query = length (hierarchy text) + 1; fragment = length (before (hash_sign ∷ []) text) + 1 }
 
-pieces_listed : (text : Text) → pieces_of text ≡ listed (starts_of text) (parts_from (cut_scheme (hierarchy text)) text)
+pub pieces_listed : (text : Text) → pieces_of text ≡ listed (starts_of text) (parts_from (cut_scheme (hierarchy text)) text)
 unfolding pieces_of starts_of
 pieces_listed text = refl
 
@@ -156,7 +156,7 @@ module _ (set : CharTests) (above : AreAboveAscii set) where
 
   -- ---- the whole
 
-  decides_parts : (text : Text) → Decides (is_reference set text) (AreComponents set (parts_from (split_scheme (hierarchy text)) text))
+  pub decides_parts : (text : Text) → Decides (is_reference set text) (AreComponents set (parts_from (split_scheme (hierarchy text)) text))
   unfolding read_reference
   decides_parts text = Decides-AreComponents set above text (parts_from (split_scheme (hierarchy text)) text) refl
 
@@ -181,7 +181,7 @@ module _ (set : CharTests) (above : AreAboveAscii set) where
           let plain : has_plain_start (chars t) ≡ true = ap has_plain_start (sym (ap chars z.2) ∙ chars-encodes z.0 z.1) ∙ z.3.1 in
           true≢false (sym plain ∙ (colon_starts (chars t) (colon_chars t u k)).0)
 
-  colon_not_tested : (text : Text) → begins_with (colon ∷ []) (hierarchy text) ≡ true → AreComponents set (parts_from (split_scheme (hierarchy text)) text) → ⊥
+  pub colon_not_tested : (text : Text) → begins_with (colon ∷ []) (hierarchy text) ≡ true → AreComponents set (parts_from (split_scheme (hierarchy text)) text) → ⊥
   unfolding is_scheme
   colon_not_tested text k h =
       let z = colon_first (hierarchy text) k in
@@ -189,7 +189,7 @@ module _ (set : CharTests) (above : AreAboveAscii set) where
       true≢false (sym h.scheme ∙ ap (λ (s : Option Text × Text). none_or is_scheme s.0) empty)
 
   -- else the two cuts are one
-  one_cut : (whole : Text) → begins_with (colon ∷ []) whole ≡ false → cut_scheme whole ≡ split_scheme whole
+  pub one_cut : (whole : Text) → begins_with (colon ∷ []) whole ≡ false → cut_scheme whole ≡ split_scheme whole
   one_cut whole k = λ i. if k i then (None, whole) else split_scheme whole
 
   plain_path : (text : Text) → IsUtf8 (hierarchy text) → begins_with (colon ∷ []) (hierarchy text) ≡ false → HasPlainPath (parts_from (cut_scheme (hierarchy text)) text)

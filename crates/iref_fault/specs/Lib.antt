@@ -2,3 +2,4 @@ pub mod Places
 pub mod Cut
 pub mod Faults
 pub mod FirstFault
+pub mod Components

@@ -2,16 +2,19 @@
 #![tactic(auto)]
 
 ghost use Rattle.std.specs.Prelude.{◌≡◌, ◌↔◌, ℕ, ◌≤◌, length, take, drop, true, false, Some};
-ghost use Rattle.std.specs.{Prelude.{None, chars}, Str.{is_utf8}, List.{AllByRecursion}};
+ghost use Rattle.std.specs.{Prelude.{None, map}, Str.{is_utf8}, List.{AllByRecursion}};
 ghost use Rattle.iref_grammar.specs.{Text, InUtf8, IsUri, IsUriReference, IsAuthority};
 ghost use Rattle.iref_grammar.specs.{IsScheme, IsUserInfo, IsHost, IsPort, IsPath, IsSegment};
-ghost use Rattle.iref_grammar.specs.{IsQuery, IsFragment};
+ghost use Rattle.iref_grammar.specs.{IsQuery, IsFragment, is_authority, is_reference};
+ghost use Rattle.iref_grammar.specs.{read_authority, read_reference};
 ghost use Rattle.iref_fault.specs.Places.{PartRule, Scheme, UserInfo, Host, Port, Path, Segment};
 ghost use Rattle.iref_fault.specs.Places.{Query, Fragment, is_bare, IsPlaceIn};
 ghost use Rattle.iref_fault.specs.Cut.{Piece, authority_pieces, pieces_of, has_cut_scheme};
 ghost use Rattle.iref_fault.specs.Faults.{FaultValue, fault_of_part, fault_of_authority};
 ghost use Rattle.iref_fault.specs.Faults.{fault_of_reference, fault_of_uri, not_utf8, no_scheme};
 ghost use Rattle.iref_fault.specs.FirstFault.{IsFirstFault, IsPartFault, AreInRules};
+ghost use Rattle.iref_fault.specs.Components.{component_text, authority_components};
+ghost use Rattle.iref_fault.specs.Components.{components_of};
 
 use iref_grammar::chars::CharSet;
 
@@ -107,4 +110,13 @@ pub fn pieces_stand_in_the_text()
     ensures reference { (text : Text) → is_utf8 text ≡ true
         → AllByRecursion (λ p. take (length p.text) (drop p.start text) ≡ p.text)
         (pieces_of text) }
+{}
+
+/// On a text of the grammar the cut gives the components that are read from it.
+pub fn cut_of_the_grammar<S: CharSet>()
+    ensures authority { (start : ℕ) (text : Text) → is_authority S.tests text ≡ true
+        → map component_text (authority_pieces start text)
+        ≡ authority_components (read_authority text) }
+    ensures reference { (text : Text) → is_reference S.tests text ≡ true
+        → map component_text (pieces_of text) ≡ components_of (read_reference text) }
 {}
