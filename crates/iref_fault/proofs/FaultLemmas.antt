@@ -1,20 +1,21 @@
 -- The computed fault of a whole text: there is none exactly in the grammar, and it is that of the first piece outside its rule.
-use Rattle.std.proofs.Common.{arith, ◌≡◌, ℕ, zero, suc, ◌+◌, ◌≤◌, Bool, true, false, List, [], ◌∷◌, ◌++◌, refl, sym, ◌∙◌, ap, subst, length, take, drop}
+use Rattle.std.proofs.Common.{arith, ◌≡◌, ℕ, zero, suc, ◌+◌, ◌≤◌, Bool, true, false, List, [], ◌∷◌, ◌++◌, refl, sym, ◌∙◌, ap, subst, length, take, drop, ◌-◌, length-append, length-drop}
 use Rattle.std.proofs.Math.Logic.{◌↔◌}
-use Rattle.std.specs.Prelude.{chars, Some, None, if◌then◌else◌}
+use Rattle.std.specs.Prelude.{chars, Some, None, if◌then◌else◌, encode_utf8_all}
 use Rattle.std.specs.Str.{IsUtf8, is_utf8}
 use Rattle.std.specs.Str.Lossy.{utf8_valid_len, valid_len_up_to}
 use Rattle.std.specs.List.{AllByRecursion}
 use Rattle.std.proofs.Math.Seq.{take-append_seam, drop-append_seam}
 use Rattle.std.proofs.lemmas.Option.{same_Some}
-use Rattle.std.proofs.lemmas.Str.{IsUtf8-nil, IsUtf8-from_is_utf8, is_utf8-from_IsUtf8, IsUtf8-take, utf8_valid_len_le}
+use Rattle.std.proofs.lemmas.Str.{IsUtf8-nil, IsUtf8-from_is_utf8, is_utf8-from_IsUtf8, IsUtf8-take, IsUtf8-drop, utf8_valid_len_le, encodes-chars, length-encode, len_utf8_bounds}
+use Rattle.std.specs.Char.{encode_utf8}
 use mathlib.Core.Bool.{true≢false}
 use Rattle.iref_grammar.specs.Characters.{CharTests, AreAboveAscii, uri_chars, uri_above_ascii}
 use Rattle.iref_grammar.specs.Rules.{Text, Rule, InUtf8}
 use Rattle.iref_grammar.specs.Grammar.{IsAuthority, IsUri, IsUriReference}
 use Rattle.iref_fault.specs.Places.{PartRule, Scheme, UserInfo, Host, Port, Path, BarePath, Segment, Query, Fragment, rule_of, is_bare, IsPlaceIn, bytes_before}
 use Rattle.iref_fault.specs.Cut.{Piece, piece, authority_pieces, has_cut_scheme, pieces_of}
-use Rattle.iref_fault.specs.Faults.{FaultValue, fault_at, first_fault, fault_of_pieces, fault_of_part, fault_of_authority, fault_of_reference, fault_of_uri, not_utf8, no_scheme}
+use Rattle.iref_fault.specs.Faults.{FaultValue, fault_at, first_char, first_fault, fault_of_pieces, fault_of_part, fault_of_authority, fault_of_reference, fault_of_uri, not_utf8, no_scheme}
 use Rattle.iref_fault.specs.FirstFault.{AreInRules, IsFirstFault, IsPartFault}
 use Rattle.iref_fault.proofs.PartPlaceLemmas.{HasShape}
 use Rattle.iref_fault.proofs.CutSliceLemmas.{IsSlice, whole_slice, slice_boundary}
@@ -73,6 +74,30 @@ module _ (set : CharTests) (above : AreAboveAscii set) where
       let at : z.piece.start + bytes_before z.place (chars z.piece.text) ≡ f.at = ap (λ (g : FaultValue). g.at) z.named in
       subst (λ n. (n ≤ length text) × (is_utf8 (take n text) ≡ true)) at
       (b.0, is_utf8-from_IsUtf8 (take (z.piece.start + bytes_before z.place (chars z.piece.text)) text) (IsUtf8-take text (z.piece.start + bytes_before z.place (chars z.piece.text)) u b))
+
+  -- no character stands there exactly if the text ends there
+  no_first : (t : Text) → IsUtf8 t → (first_char (chars t) ≡ None) ↔ (length t ≡ 0)
+  no_first t u = by (chars t) (encodes-chars t u)
+    where
+      by : (cs : Text) → encode_utf8_all cs ≡ t → (first_char cs ≡ None) ↔ (length t ≡ 0)
+      by [] e = (λ h. ap length (sym e), λ h. refl)
+      by (c ∷ cs) e = (λ h. absurd (not_none c h), λ h. absurd (omega (arith, ap length e, length-append (encode_utf8 c) (encode_utf8_all cs), length-encode c, (len_utf8_bounds c).0)))
+
+  abbrev EndsThere : Text → FaultValue → Type 0
+  EndsThere text f = (f.found ≡ None) ↔ (f.at ≡ length text)
+
+  first_found : (text : Text) (ps : List Piece) (f : FaultValue) → IsUtf8 text → AreSound set above text ps → IsFirstFault set text ps f → EndsThere text f
+  first_found text ps f u s z =
+      let p = sound_at text z.front z.piece z.back (subst (AreSound set above text) (sym z.divided) s) in
+      let at = z.piece.start + bytes_before z.place (chars z.piece.text) in
+      let b = slice_boundary text z.piece.start z.piece.text z.place p.slice in
+      let n = no_first (drop at text) (IsUtf8-drop text at u b) in
+      let within : at ≤ length text = b.0 in
+      let long : length (drop at text) ≡ length text - at = length-drop at text in
+      subst (EndsThere text) z.named (λ h. let none : length (drop at text) ≡ 0 = n.0 h in omega arith, λ h. n.1 (omega arith))
+
+  found : (text : Text) (ps : List Piece) (f : FaultValue) → is_utf8 text ≡ true → (IsUtf8 text → AreSound set above text ps) → fault_of_pieces set text ps ≡ Some f → EndsThere text f
+  found text ps f u s e = let utf8 = IsUtf8-from_is_utf8 text u in first_found text ps f utf8 (s utf8) ((fault_of text ps f u s).0 e)
 
   valid_front : (text : Text) (n : ℕ) → is_utf8 (take (valid_len_up_to text n) text) ≡ true
   valid_front text zero = is_utf8-from_IsUtf8 [] IsUtf8-nil
@@ -156,6 +181,10 @@ module _ (set : CharTests) (above : AreAboveAscii set) where
   unfolding fault_of_part
   part_within rule text f h e = within text (piece rule 0 text) f (part_sound rule text h) e
 
+  pub part_found : (rule : PartRule) (text : Text) (f : FaultValue) → is_bare rule ≡ false → is_utf8 text ≡ true → fault_of_part set rule text ≡ Some f → EndsThere text f
+  unfolding fault_of_part
+  part_found rule text f h u e = found text (piece rule 0 text) f u (part_sound rule text h) e
+
   pub part_invalid : (rule : PartRule) (text : Text) → is_utf8 text ≡ false → fault_of_part set rule text ≡ Some (not_utf8 text)
   unfolding fault_of_part
   part_invalid rule text u = invalid_text text (piece rule 0 text) u
@@ -177,6 +206,10 @@ module _ (set : CharTests) (above : AreAboveAscii set) where
   unfolding fault_of_authority
   authority_within text f e = within text (authority_pieces 0 text) f (authority_pieces_sound text) e
 
+  pub authority_found : (text : Text) (f : FaultValue) → is_utf8 text ≡ true → fault_of_authority set text ≡ Some f → EndsThere text f
+  unfolding fault_of_authority
+  authority_found text f u e = found text (authority_pieces 0 text) f u (authority_pieces_sound text) e
+
   pub authority_invalid : (text : Text) → is_utf8 text ≡ false → fault_of_authority set text ≡ Some (not_utf8 text)
   unfolding fault_of_authority
   authority_invalid text u = invalid_text text (authority_pieces 0 text) u
@@ -194,6 +227,10 @@ module _ (set : CharTests) (above : AreAboveAscii set) where
   pub reference_within : (text : Text) (f : FaultValue) → fault_of_reference set text ≡ Some f → IsWithin text f
   unfolding fault_of_reference
   reference_within text f e = within text (pieces_of text) f (pieces_sound set above text) e
+
+  pub reference_found : (text : Text) (f : FaultValue) → is_utf8 text ≡ true → fault_of_reference set text ≡ Some f → EndsThere text f
+  unfolding fault_of_reference
+  reference_found text f u e = found text (pieces_of text) f u (pieces_sound set above text) e
 
   pub reference_invalid : (text : Text) → is_utf8 text ≡ false → fault_of_reference set text ≡ Some (not_utf8 text)
   unfolding fault_of_reference
@@ -217,6 +254,9 @@ module _ (set : CharTests) (above : AreAboveAscii set) where
   uri_fault_is text f u h =
       let n = fault_of text (pieces_of text) f u (pieces_sound set above text) in
       (λ e. n.0 (sym (with_scheme text h) ∙ e), λ z. with_scheme text h ∙ n.1 z)
+
+  pub uri_found : (text : Text) (f : FaultValue) → is_utf8 text ≡ true → has_cut_scheme text ≡ true → fault_of_uri set text ≡ Some f → EndsThere text f
+  uri_found text f u h e = found text (pieces_of text) f u (pieces_sound set above text) (sym (with_scheme text h) ∙ e)
 
   -- a text without a scheme is no URI
   no_uri : (text : Text) → has_cut_scheme text ≡ false → InUtf8 (IsUri set) text → ⊥

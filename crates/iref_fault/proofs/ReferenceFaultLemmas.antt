@@ -1,5 +1,5 @@
 -- A text is a reference exactly if the pieces of it are in their rules.
-use Rattle.std.proofs.Common.{◌≡◌, ℕ, ◌+◌, Bool, true, false, List, [], ◌∷◌, ◌++◌, inl, inr, refl, sym, ◌∙◌, ap, subst, length}
+use Rattle.std.proofs.Common.{◌≡◌, ℕ, ◌+◌, Bool, true, false, List, [], ◌∷◌, ◌++◌, inl, inr, refl, sym, ◌∙◌, ap, subst, length, lit<}
 use Rattle.std.proofs.Math.Logic.{◌↔◌}
 use Rattle.std.specs.Prelude.{◌||◌, codes, Option, Some, None, IfSome, is_some, chars, if◌then◌else◌}
 use Rattle.std.specs.Bool.{Decides}
@@ -28,7 +28,6 @@ use Rattle.iref_fault.specs.FirstFault.{IsInRule, AreInRules}
 use Rattle.iref_fault.proofs.PartPlaceLemmas.{has_plain_start, colon_starts}
 use Rattle.iref_grammar.proofs.TextLemmas.{first_of_both, second_of_both}
 use Rattle.iref_grammar.proofs.CutLemmas.{cut}
-use Rattle.std.proofs.Common.{lit<}
 use Rattle.iref_fault.proofs.CutSliceLemmas.{utf8_before}
 use Rattle.iref_fault.proofs.CutPieceLemmas.{all_append, colon_first, colon_chars, plain_chars, bare_scheme, bare_authority, HasByteShape}
 use Rattle.iref_fault.proofs.AuthorityFaultLemmas.{all_first, all_second, if_pieces, pieces_if, authority_pieces_are}

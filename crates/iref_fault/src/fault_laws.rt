@@ -102,6 +102,22 @@ pub fn fault_within_text<S: CharSet>()
         → (f.at ≤ length text) × (is_utf8 (take f.at text) ≡ true) }
 {}
 
+/// Of a text that is UTF-8, no character is found at the fault exactly if the text ends there.
+pub fn found_unless_the_text_ends<S: CharSet>()
+    ensures part { (rule : PartRule) (text : Text) (f : FaultValue) → is_bare rule ≡ false
+        → is_utf8 text ≡ true → fault_of_part S.tests rule text ≡ Some f
+        → (f.found ≡ None) ↔ (f.at ≡ length text) }
+    ensures authority { (text : Text) (f : FaultValue) → is_utf8 text ≡ true
+        → fault_of_authority S.tests text ≡ Some f
+        → (f.found ≡ None) ↔ (f.at ≡ length text) }
+    ensures reference { (text : Text) (f : FaultValue) → is_utf8 text ≡ true
+        → fault_of_reference S.tests text ≡ Some f
+        → (f.found ≡ None) ↔ (f.at ≡ length text) }
+    ensures uri { (text : Text) (f : FaultValue) → is_utf8 text ≡ true
+        → has_cut_scheme text ≡ true → fault_of_uri S.tests text ≡ Some f
+        → (f.found ≡ None) ↔ (f.at ≡ length text) }
+{}
+
 /// Each piece of a text stands where it says.
 pub fn pieces_stand_in_the_text()
     ensures authority { (text : Text) → is_utf8 text ≡ true
