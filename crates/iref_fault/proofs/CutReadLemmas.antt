@@ -10,7 +10,6 @@ use Rattle.iref_grammar.specs.Tests.{none_or}
 use Rattle.iref_grammar.specs.Authority.{AuthorityValue, read_host, after_bracketed, read_host_and_port, read_authority, has_authority_parts, is_authority}
 use Rattle.iref_grammar.specs.Reference.{split_scheme, hierarchy, read_reference, is_reference}
 use Rattle.iref_grammar.specs.ComponentTexts.{ComponentTexts, AreComponents, read_components}
-use Rattle.iref_grammar.proofs.CutLemmas.{cut}
 use Rattle.iref_grammar.proofs.PathLemmas.{read_path-reads}
 use Rattle.iref_grammar.proofs.AuthorityLemmas.{read_host-joins, delimited_authority}
 use Rattle.iref_grammar.proofs.AuthorityRuleLemmas.{Decides-has_authority_parts}
