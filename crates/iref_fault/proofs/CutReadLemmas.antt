@@ -15,7 +15,7 @@ use Rattle.iref_grammar.proofs.AuthorityLemmas.{read_host-joins, delimited_autho
 use Rattle.iref_grammar.proofs.AuthorityRuleLemmas.{Decides-has_authority_parts}
 use Rattle.iref_fault.specs.declared.component.Component.{Component}
 use Rattle.iref_fault.specs.declared.component.Component.TheVariants as component
-use Rattle.iref_fault.specs.Places.{PartRule, Scheme, UserInfo, Host, Port, Path, BarePath, Query, Fragment, component_of}
+use Rattle.iref_fault.specs.Places.{PartRule, Scheme, UserInfo, Port, Path, BarePath, Query, Fragment, component_of}
 use Rattle.iref_fault.specs.Cut.{Piece, piece, piece_if, cut_host, cut_port, host_pieces, authority_pieces, authority_pieces_if, pieces_of}
 use Rattle.iref_fault.specs.Components.{component_text, component_if, authority_components, authority_components_if, components_of}
 use Rattle.iref_fault.proofs.AuthorityFaultLemmas.{host_back, port_lacks_bracket}
