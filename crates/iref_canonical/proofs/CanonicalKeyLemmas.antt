@@ -32,9 +32,9 @@ use Rattle.iref_mapping.proofs.MappedCharLemmas.{utf8_bytes}
 use Rattle.iref_mapping.proofs.MappedMarkLemmas.{is_some-map}
 use Rattle.iref_mapping.proofs.MappedRuleLemmas.{IfSome_mapped}
 use Rattle.iref_canonical.specs.Canonical.{encoded, canonical_authority, canonical_parts, canonical}
-use Rattle.iref_canonical.proofs.EncodedTextLemmas.{encoded-in_rule}
+use Rattle.iref_canonical.proofs.EncodedTextLemmas.{encoded-in}
 use Rattle.iref_canonical.proofs.PlainCharacterLemmas.{plain_query, plain_fragment}
-use Rattle.iref_canonical.proofs.CanonicalPathLemmas.{AreBytes, canonical_items-in_rule, path_key-canonical}
+use Rattle.iref_canonical.proofs.CanonicalPathLemmas.{AreBytes, canonical_items-in, path_key-canonical}
 use Rattle.iref_canonical.proofs.CanonicalPartLemmas.{lower_scheme, lower_case_again, option-decoded, none_or-map, IsAuthorityKey, authority_key-canonical, has_parts-canonical}
 
 -- what the key of a readable reference is
@@ -51,15 +51,15 @@ pub record IsKey (k : ReferenceValue) : Type 0 where
 -- ---- from a key
 
 is_query-encoded : (bytes : Text) → is_query uri_chars (encoded (is_query_char uri_chars) bytes) ≡ true
-is_query-encoded bytes = (Decides-is_query uri_chars uri_above_ascii (encoded (is_query_char uri_chars) bytes)).1 (encoded-in_rule (is_query_char uri_chars) plain_query bytes)
+is_query-encoded bytes = (Decides-is_query uri_chars uri_above_ascii (encoded (is_query_char uri_chars) bytes)).1 (encoded-in (is_query_char uri_chars) plain_query bytes)
 
 is_fragment-encoded : (bytes : Text) → is_fragment uri_chars (encoded (is_fragment_char uri_chars) bytes) ≡ true
 is_fragment-encoded bytes =
-    (Decides-is_fragment uri_chars uri_above_ascii (encoded (is_fragment_char uri_chars) bytes)).1 (encoded-in_rule (is_fragment_char uri_chars) plain_fragment bytes)
+    (Decides-is_fragment uri_chars uri_above_ascii (encoded (is_fragment_char uri_chars) bytes)).1 (encoded-in (is_fragment_char uri_chars) plain_fragment bytes)
 
-authority-in_rule : (o : Option AuthorityValue) → IfSome o IsAuthorityKey → none_or (has_authority_parts uri_chars) (option_map canonical_authority o) ≡ true
-authority-in_rule None h = refl
-authority-in_rule (Some a) h = has_parts-canonical a h
+authority-in : (o : Option AuthorityValue) → IfSome o IsAuthorityKey → none_or (has_authority_parts uri_chars) (option_map canonical_authority o) ≡ true
+authority-in None h = refl
+authority-in (Some a) h = has_parts-canonical a h
 
 authority-back : (o : Option AuthorityValue) → IfSome o IsAuthorityKey → option_map authority_key (option_map canonical_authority o) ≡ o
 authority-back None h = refl
@@ -70,8 +70,8 @@ pub readable-canonical : (k : ReferenceValue) → IsKey k → is_readable uri_ch
 unfolding canonical
 readable-canonical k h = guarded_reference-readable uri_chars (canonical_parts k) (record {
   scheme = h.scheme;
-  authority = authority-in_rule k.authority h.authority;
-  segments = canonical_items-in_rule k.path;
+  authority = authority-in k.authority h.authority;
+  segments = canonical_items-in k.path;
   query = none_or-map (is_query uri_chars) (encoded (is_query_char uri_chars)) is_query-encoded k.query;
   fragment = none_or-map (is_fragment uri_chars) (encoded (is_fragment_char uri_chars)) is_fragment-encoded k.fragment;
 })

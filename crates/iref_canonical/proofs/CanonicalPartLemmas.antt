@@ -22,7 +22,7 @@ use Rattle.iref_grammar.proofs.ComponentLackLemmas.{literal_parts}
 use Rattle.iref_grammar.proofs.LeafLemmas.{Decides-is_user_info, Decides-is_reg_name}
 use Rattle.iref_model.specs.AuthorityKey.{authority_key}
 use Rattle.iref_canonical.specs.Canonical.{encoded, canonical_host, canonical_authority}
-use Rattle.iref_canonical.proofs.EncodedTextLemmas.{IsPlain, decoded-encoded, encoded-in_rule}
+use Rattle.iref_canonical.proofs.EncodedTextLemmas.{IsPlain, decoded-encoded, encoded-in}
 use Rattle.iref_canonical.proofs.PlainCharacterLemmas.{plain_name, plain_user_info}
 
 -- ---- schemes
@@ -77,7 +77,7 @@ is_host-canonical host = by (is_ip_literal host) refl
     by true e = λ i. e i || is_reg_name uri_chars host
     by false e =
         let text = encoded (is_reg_name_char uri_chars) host in
-        or_right (is_ip_literal text) (is_reg_name uri_chars text) ((Decides-is_reg_name uri_chars uri_above_ascii text).1 (encoded-in_rule (is_reg_name_char uri_chars) plain_name host))
+        or_right (is_ip_literal text) (is_reg_name uri_chars text) ((Decides-is_reg_name uri_chars uri_above_ascii text).1 (encoded-in (is_reg_name_char uri_chars) plain_name host))
 
 -- ---- parts that may be absent
 
@@ -106,7 +106,7 @@ authority_key-canonical a h = λ i. record {
 
 is_user_info-encoded : (bytes : Text) → is_user_info uri_chars (encoded (is_user_info_char uri_chars) bytes) ≡ true
 is_user_info-encoded bytes =
-    (Decides-is_user_info uri_chars uri_above_ascii (encoded (is_user_info_char uri_chars) bytes)).1 (encoded-in_rule (is_user_info_char uri_chars) plain_user_info bytes)
+    (Decides-is_user_info uri_chars uri_above_ascii (encoded (is_user_info_char uri_chars) bytes)).1 (encoded-in (is_user_info_char uri_chars) plain_user_info bytes)
 
 pub has_parts-canonical : (a : AuthorityValue) → IsAuthorityKey a → has_authority_parts uri_chars (canonical_authority a) ≡ true
 unfolding has_authority_parts

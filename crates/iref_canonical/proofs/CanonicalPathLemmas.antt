@@ -26,7 +26,7 @@ use Rattle.iref_model.proofs.NormalPathLemmas.{normal-guarded}
 use Rattle.iref_model.proofs.PathGrammarLemmas.{is_segment-dot_dot}
 use Rattle.iref_model.proofs.SettledLemmas.{lead, normal-is, ends-names}
 use Rattle.iref_canonical.specs.Canonical.{encoded, canonical_name, canonical_relative, canonical_items, canonical_path}
-use Rattle.iref_canonical.proofs.EncodedTextLemmas.{decoded-encoded, encoded-in_rule}
+use Rattle.iref_canonical.proofs.EncodedTextLemmas.{decoded-encoded, encoded-in}
 use Rattle.iref_canonical.proofs.PlainCharacterLemmas.{plain_path}
 
 -- items as bytes
@@ -35,79 +35,79 @@ AreBytes = AllByRecursion (All IsByte)
 
 -- ---- one item
 
-written : (item : Text) → All IsByte item → percent_decode (encoded (is_path_char uri_chars) item) ≡ item
-written = decoded-encoded (is_path_char uri_chars) plain_path
+decoded-item : (item : Text) → All IsByte item → percent_decode (encoded (is_path_char uri_chars) item) ≡ item
+decoded-item = decoded-encoded (is_path_char uri_chars) plain_path
 
 -- what decodes to another text is not that text
-written_other : (item mark : Text) → All IsByte item → percent_decode mark ≡ mark → bytes_eq item mark ≡ false → bytes_eq (encoded (is_path_char uri_chars) item) mark ≡ false
-written_other item mark small same other = by (bytes_eq (encoded (is_path_char uri_chars) item) mark) refl
+encoded_other : (item mark : Text) → All IsByte item → percent_decode mark ≡ mark → bytes_eq item mark ≡ false → bytes_eq (encoded (is_path_char uri_chars) item) mark ≡ false
+encoded_other item mark small same other = by (bytes_eq (encoded (is_path_char uri_chars) item) mark) refl
   where
     by : (b : Bool) → bytes_eq (encoded (is_path_char uri_chars) item) mark ≡ b → b ≡ false
     by false e = refl
     by true e =
-        let item_is : item ≡ mark = sym (written item small) ∙ ap percent_decode ((bytes_decides (encoded (is_path_char uri_chars) item) mark).0 e) ∙ same in
+        let item_is : item ≡ mark = sym (decoded-item item small) ∙ ap percent_decode ((bytes_decides (encoded (is_path_char uri_chars) item) mark).0 e) ∙ same in
         absurd (true≢false (sym ((bytes_decides item mark).1 item_is) ∙ other))
 
-dot_same : percent_decode (codes ".") ≡ codes "."
+decoded-dot : percent_decode (codes ".") ≡ codes "."
 unfolding percent_decode
-dot_same = refl
+decoded-dot = refl
 
-dots_same : percent_decode (codes "..") ≡ codes ".."
+decoded-dots : percent_decode (codes "..") ≡ codes ".."
 unfolding percent_decode
-dots_same = refl
+decoded-dots = refl
 
 -- a canonical name is no dot segment
-canonical_name-name : (item : Text) → All IsByte item → is_name (canonical_name item) ≡ true
-canonical_name-name item small = by (is_dot item) (is_dot_dot item) refl refl
+is_name-canonical_name : (item : Text) → All IsByte item → is_name (canonical_name item) ≡ true
+is_name-canonical_name item small = by (is_dot item) (is_dot_dot item) refl refl
   where
     by : (dot parent : Bool) → is_dot item ≡ dot → is_dot_dot item ≡ parent → is_name (cond dot (codes "%2E") (cond parent (codes "%2E%2E") (encoded (is_path_char uri_chars) item))) ≡ true
     by true parent e f = refl
     by false true e f = refl
-    by false false e f = λ i. not (written_other item (codes ".") small dot_same e i) && not (written_other item (codes "..") small dots_same f i)
+    by false false e f = λ i. not (encoded_other item (codes ".") small decoded-dot e i) && not (encoded_other item (codes "..") small decoded-dots f i)
 
 -- and decodes to the item
-canonical_name-decoded : (item : Text) → All IsByte item → percent_decode (canonical_name item) ≡ item
+decoded-canonical_name : (item : Text) → All IsByte item → percent_decode (canonical_name item) ≡ item
 unfolding percent_decode
-canonical_name-decoded item small = by (is_dot item) (is_dot_dot item) refl refl
+decoded-canonical_name item small = by (is_dot item) (is_dot_dot item) refl refl
   where
     by : (dot parent : Bool) → is_dot item ≡ dot → is_dot_dot item ≡ parent → percent_decode (cond dot (codes "%2E") (cond parent (codes "%2E%2E") (encoded (is_path_char uri_chars) item))) ≡ item
     by true parent e f = sym ((bytes_decides item (codes ".")).0 e)
     by false true e f = sym ((bytes_decides item (codes "..")).0 f)
-    by false false e f = written item small
+    by false false e f = decoded-item item small
 
-escaped_dot-in_rule : is_segment uri_chars (codes "%2E") ≡ true
+is_segment-escaped_dot : is_segment uri_chars (codes "%2E") ≡ true
 unfolding is_segment is_utf8 chars encode_utf8 owed_after is_path_char is_user_info_char is_reg_name_char
-escaped_dot-in_rule = refl
+is_segment-escaped_dot = refl
 
-escaped_dots-in_rule : is_segment uri_chars (codes "%2E%2E") ≡ true
+is_segment-escaped_dots : is_segment uri_chars (codes "%2E%2E") ≡ true
 unfolding is_segment is_utf8 chars encode_utf8 owed_after is_path_char is_user_info_char is_reg_name_char
-escaped_dots-in_rule = refl
+is_segment-escaped_dots = refl
 
-canonical_name-in_rule : (item : Text) → is_segment uri_chars (canonical_name item) ≡ true
-canonical_name-in_rule item = by (is_dot item) (is_dot_dot item)
+is_segment-canonical_name : (item : Text) → is_segment uri_chars (canonical_name item) ≡ true
+is_segment-canonical_name item = by (is_dot item) (is_dot_dot item)
   where
     by : (dot parent : Bool) → is_segment uri_chars (cond dot (codes "%2E") (cond parent (codes "%2E%2E") (encoded (is_path_char uri_chars) item))) ≡ true
-    by true parent = escaped_dot-in_rule
-    by false true = escaped_dots-in_rule
-    by false false = (Decides-is_segment uri_chars uri_above_ascii (encoded (is_path_char uri_chars) item)).1 (encoded-in_rule (is_path_char uri_chars) plain_path item)
+    by true parent = is_segment-escaped_dot
+    by false true = is_segment-escaped_dots
+    by false false = (Decides-is_segment uri_chars uri_above_ascii (encoded (is_path_char uri_chars) item)).1 (encoded-in (is_path_char uri_chars) plain_path item)
 
 -- ---- lists of names
 
-empty-map : (items : List Text) → is_empty (map canonical_name items) ≡ is_empty items
-empty-map [] = refl
-empty-map (item ∷ rest) = refl
+is_empty-canonical_names : (items : List Text) → is_empty (map canonical_name items) ≡ is_empty items
+is_empty-canonical_names [] = refl
+is_empty-canonical_names (item ∷ rest) = refl
 
-names-are_names : (items : List Text) → AreBytes items → are_names (map canonical_name items) ≡ true
-names-are_names [] small = refl
-names-are_names (item ∷ rest) small = and_from _ _ (canonical_name-name item small.0) (names-are_names rest small.1)
+are_names-canonical_names : (items : List Text) → AreBytes items → are_names (map canonical_name items) ≡ true
+are_names-canonical_names [] small = refl
+are_names-canonical_names (item ∷ rest) small = and_from _ _ (is_name-canonical_name item small.0) (are_names-canonical_names rest small.1)
 
-names-decoded : (items : List Text) → AreBytes items → map percent_decode (map canonical_name items) ≡ items
-names-decoded [] small = refl
-names-decoded (item ∷ rest) small = λ i. canonical_name-decoded item small.0 i ∷ names-decoded rest small.1 i
+decoded-canonical_names : (items : List Text) → AreBytes items → map percent_decode (map canonical_name items) ≡ items
+decoded-canonical_names [] small = refl
+decoded-canonical_names (item ∷ rest) small = λ i. decoded-canonical_name item small.0 i ∷ decoded-canonical_names rest small.1 i
 
-names-in_rule : (items : List Text) → list_all (is_segment uri_chars) (map canonical_name items) ≡ true
-names-in_rule [] = refl
-names-in_rule (item ∷ rest) = and_from _ _ (canonical_name-in_rule item) (names-in_rule rest)
+canonical_names-in : (items : List Text) → list_all (is_segment uri_chars) (map canonical_name items) ≡ true
+canonical_names-in [] = refl
+canonical_names-in (item ∷ rest) = and_from _ _ (is_segment-canonical_name item) (canonical_names-in rest)
 
 -- ---- lists that are their own normal lists, unless they are one empty segment
 
@@ -139,74 +139,74 @@ parent_normal list some n =
 
 -- ---- relative lists
 
-empty-relative : (items : List Text) → is_empty (canonical_relative items) ≡ is_empty items
+is_empty-canonical_relative : (items : List Text) → is_empty (canonical_relative items) ≡ is_empty items
 unfolding canonical_relative
-empty-relative [] = refl
-empty-relative (item ∷ rest) = by (is_dot_dot item && not (is_empty rest))
+is_empty-canonical_relative [] = refl
+is_empty-canonical_relative (item ∷ rest) = by (is_dot_dot item && not (is_empty rest))
   where
     by : (b : Bool) → is_empty (cond b (item ∷ canonical_relative rest) (map canonical_name (item ∷ rest))) ≡ false
     by true = refl
     by false = refl
 
 -- a `..` that stands is not the last item
-stands : (item : Text) (rest : List Text) → (is_dot_dot item && not (is_empty rest)) ≡ true → (item ≡ codes "..") × (is_empty (canonical_relative rest) ≡ false)
-stands item rest e =
+parent_stands : (item : Text) (rest : List Text) → (is_dot_dot item && not (is_empty rest)) ≡ true → (item ≡ codes "..") × (is_empty (canonical_relative rest) ≡ false)
+parent_stands item rest e =
     let both = and_parts (is_dot_dot item) (not (is_empty rest)) e in
-    ((bytes_decides item (codes "..")).0 both.0, empty-relative rest ∙ not-true (is_empty rest) both.1)
+    ((bytes_decides item (codes "..")).0 both.0, is_empty-canonical_relative rest ∙ not-true (is_empty rest) both.1)
 
-relative_normal : (items : List Text) → AreBytes items → IsNormal false (canonical_relative items)
+canonical_relative_normal : (items : List Text) → AreBytes items → IsNormal false (canonical_relative items)
 unfolding canonical_relative
-relative_normal [] small = names_normal false [] refl
-relative_normal (item ∷ rest) small = by (is_dot_dot item && not (is_empty rest)) refl (relative_normal rest small.1)
+canonical_relative_normal [] small = names_normal false [] refl
+canonical_relative_normal (item ∷ rest) small = by (is_dot_dot item && not (is_empty rest)) refl (canonical_relative_normal rest small.1)
   where
     by : (b : Bool) → (is_dot_dot item && not (is_empty rest)) ≡ b → IsNormal false (canonical_relative rest) → IsNormal false (cond b (item ∷ canonical_relative rest) (map canonical_name (item ∷ rest)))
     by true e n =
-        let s = stands item rest e in
+        let s = parent_stands item rest e in
         subst (λ t. IsNormal false (t ∷ canonical_relative rest)) (sym s.0) (parent_normal (canonical_relative rest) s.1 n)
-    by false e n = names_normal false (map canonical_name (item ∷ rest)) (names-are_names (item ∷ rest) small)
+    by false e n = names_normal false (map canonical_name (item ∷ rest)) (are_names-canonical_names (item ∷ rest) small)
 
-relative-decoded : (items : List Text) → AreBytes items → map percent_decode (canonical_relative items) ≡ items
+decoded-canonical_relative : (items : List Text) → AreBytes items → map percent_decode (canonical_relative items) ≡ items
 unfolding canonical_relative
-relative-decoded [] small = refl
-relative-decoded (item ∷ rest) small = by (is_dot_dot item && not (is_empty rest)) refl (relative-decoded rest small.1)
+decoded-canonical_relative [] small = refl
+decoded-canonical_relative (item ∷ rest) small = by (is_dot_dot item && not (is_empty rest)) refl (decoded-canonical_relative rest small.1)
   where
     by : (b : Bool) → (is_dot_dot item && not (is_empty rest)) ≡ b → map percent_decode (canonical_relative rest) ≡ rest → map percent_decode (cond b (item ∷ canonical_relative rest) (map canonical_name (item ∷ rest))) ≡ item ∷ rest
     by true e back =
-        let item_is = (stands item rest e).0 in
-        λ i. (ap percent_decode item_is ∙ dots_same ∙ sym item_is) i ∷ back i
-    by false e back = names-decoded (item ∷ rest) small
+        let item_is = (parent_stands item rest e).0 in
+        λ i. (ap percent_decode item_is ∙ decoded-dots ∙ sym item_is) i ∷ back i
+    by false e back = decoded-canonical_names (item ∷ rest) small
 
-relative-in_rule : (items : List Text) → list_all (is_segment uri_chars) (canonical_relative items) ≡ true
+canonical_relative-in : (items : List Text) → list_all (is_segment uri_chars) (canonical_relative items) ≡ true
 unfolding canonical_relative
-relative-in_rule [] = refl
-relative-in_rule (item ∷ rest) = by (is_dot_dot item && not (is_empty rest)) refl (relative-in_rule rest)
+canonical_relative-in [] = refl
+canonical_relative-in (item ∷ rest) = by (is_dot_dot item && not (is_empty rest)) refl (canonical_relative-in rest)
   where
     by : (b : Bool) → (is_dot_dot item && not (is_empty rest)) ≡ b → list_all (is_segment uri_chars) (canonical_relative rest) ≡ true
         → list_all (is_segment uri_chars) (cond b (item ∷ canonical_relative rest) (map canonical_name (item ∷ rest))) ≡ true
-    by true e all = and_from _ _ (ap (is_segment uri_chars) (stands item rest e).0 ∙ is_segment-dot_dot uri_chars) all
-    by false e all = names-in_rule (item ∷ rest)
+    by true e all = and_from _ _ (ap (is_segment uri_chars) (parent_stands item rest e).0 ∙ is_segment-dot_dot uri_chars) all
+    by false e all = canonical_names-in (item ∷ rest)
 
 -- ---- the items of a key
 
 module _ (items : List Text) where
   items_normal : (absolute : Bool) → AreBytes items → IsNormal absolute (canonical_items (record { absolute = absolute; segments = items }))
-  items_normal true small = names_normal true (map canonical_name items) (names-are_names items small)
-  items_normal false small = relative_normal items small
+  items_normal true small = names_normal true (map canonical_name items) (are_names-canonical_names items small)
+  items_normal false small = canonical_relative_normal items small
 
-  items-decoded : (absolute : Bool) → AreBytes items → map percent_decode (canonical_items (record { absolute = absolute; segments = items })) ≡ items
-  items-decoded true small = names-decoded items small
-  items-decoded false small = relative-decoded items small
+  decoded-items : (absolute : Bool) → AreBytes items → map percent_decode (canonical_items (record { absolute = absolute; segments = items })) ≡ items
+  decoded-items true small = decoded-canonical_names items small
+  decoded-items false small = decoded-canonical_relative items small
 
-  items-in_rule : (absolute : Bool) → list_all (is_segment uri_chars) (canonical_items (record { absolute = absolute; segments = items })) ≡ true
-  items-in_rule true = names-in_rule items
-  items-in_rule false = relative-in_rule items
+  items-in : (absolute : Bool) → list_all (is_segment uri_chars) (canonical_items (record { absolute = absolute; segments = items })) ≡ true
+  items-in true = canonical_names-in items
+  items-in false = canonical_relative-in items
 
-  empty-items : (absolute : Bool) → is_empty (canonical_items (record { absolute = absolute; segments = items })) ≡ is_empty items
-  empty-items true = empty-map items
-  empty-items false = empty-relative items
+  is_empty-items : (absolute : Bool) → is_empty (canonical_items (record { absolute = absolute; segments = items })) ≡ is_empty items
+  is_empty-items true = is_empty-canonical_names items
+  is_empty-items false = is_empty-canonical_relative items
 
-pub canonical_items-in_rule : (k : PathValue) → list_all (is_segment uri_chars) (canonical_items k) ≡ true
-canonical_items-in_rule k = items-in_rule k.segments k.absolute
+pub canonical_items-in : (k : PathValue) → list_all (is_segment uri_chars) (canonical_items k) ≡ true
+canonical_items-in k = items-in k.segments k.absolute
 
 lone_decoded : (list : List Text) → is_one_empty list ≡ true → is_one_empty (map percent_decode list) ≡ true
 unfolding percent_decode
@@ -227,8 +227,8 @@ not_lone list items e some = by (is_one_empty list) refl
 pub path_key-canonical : (context : PathContext) (k : PathValue) → AreBytes k.segments → is_one_empty k.segments ≡ false → follows_authority context k ≡ true → path_key (guarded context (canonical_path k)) ≡ k
 unfolding path_key
 path_key-canonical context k small some follows =
-    let back = items-decoded k.segments k.absolute small in
-    let follows_too = (λ i. not context.has_authority || k.absolute || empty-items k.segments k.absolute i) ∙ follows in
+    let back = decoded-items k.segments k.absolute small in
+    let follows_too = (λ i. not context.has_authority || k.absolute || is_empty-items k.segments k.absolute i) ∙ follows in
     let bare = normal-guarded context (canonical_path k) follows_too in
     let same = normal-same k.absolute (canonical_items k) (items_normal k.segments k.absolute small) (not_lone (canonical_items k) k.segments back some) in
     (λ i. record { absolute = (bare i).absolute; segments = map percent_decode (bare i).segments })

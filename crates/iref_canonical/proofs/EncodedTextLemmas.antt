@@ -78,7 +78,7 @@ module _ (test : ℕ → Bool) (plain : IsPlain test) where
       by true e rest = ap (is_encoded test) (encoded-kept test b bs e) ∙ take_char test plain.percent b (encoded test bs) e rest
       by false e rest = ap (is_encoded test) (encoded-escaped test b bs e) ∙ is_encoded-escape test b (encoded test bs) ∙ rest
 
-  pub encoded-in_rule : (bytes : Text) → InUtf8 (IsEncoded test) (encoded test bytes)
-  encoded-in_rule bytes =
+  pub encoded-in : (bytes : Text) → InUtf8 (IsEncoded test) (encoded test bytes)
+  encoded-in bytes =
       ascii_in_utf8 (IsEncoded test) (encoded test bytes) (ascii-encoded bytes)
       ((Decides-is_encoded test plain.percent (encoded test bytes)).0 (is_encoded-encoded bytes))
