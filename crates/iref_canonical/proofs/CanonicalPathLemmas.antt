@@ -38,7 +38,7 @@ AreBytes = AllByRecursion (All IsByte)
 decoded-item : (item : Text) → All IsByte item → percent_decode (encoded (is_path_char uri_chars) item) ≡ item
 decoded-item = decoded-encoded (is_path_char uri_chars) plain_path
 
--- what decodes to another text is not that text
+-- an item that is another text than one that decoding leaves is not encoded as it
 encoded_other : (item mark : Text) → All IsByte item → percent_decode mark ≡ mark → bytes_eq item mark ≡ false → bytes_eq (encoded (is_path_char uri_chars) item) mark ≡ false
 encoded_other item mark small same other = by (bytes_eq (encoded (is_path_char uri_chars) item) mark) refl
   where
