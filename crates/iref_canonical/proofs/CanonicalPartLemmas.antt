@@ -16,9 +16,7 @@ use Rattle.iref_grammar.specs.Texts.{lacks}
 use Rattle.iref_grammar.specs.Tests.{none_or, is_scheme, is_user_info, is_reg_name, is_ip_literal, is_host, is_port}
 use Rattle.iref_grammar.specs.Authority.{AuthorityValue, has_authority_parts}
 use Rattle.iref_grammar.proofs.TextLemmas.{first_of_both, second_of_both}
-use Rattle.iref_grammar.proofs.LackLemmas.{lacks-append}
-use Rattle.iref_grammar.proofs.HostLemmas.{address_lacks}
-use Rattle.iref_grammar.proofs.ComponentLackLemmas.{literal_parts}
+use Rattle.iref_grammar.proofs.PctLemmas.{literal_lacks}
 use Rattle.iref_grammar.proofs.LeafLemmas.{Decides-is_user_info, Decides-is_reg_name}
 use Rattle.iref_model.specs.AuthorityKey.{authority_key}
 use Rattle.iref_canonical.specs.Canonical.{encoded, canonical_host, canonical_authority}
@@ -60,7 +58,7 @@ decoded-lacks (c ∷ cs) h = grind (arith, common_steps, percent_decode_not_perc
 
 -- an IP literal has no escape
 decoded-literal : (text : Text) → is_ip_literal text ≡ true → percent_decode text ≡ text
-decoded-literal text h = grind (arith, decoded-lacks, literal_parts, lacks-append, address_lacks)
+decoded-literal text h = decoded-lacks text (literal_lacks text h)
 
 decoded-host : (host : Text) → All IsByte host → percent_decode (canonical_host host) ≡ host
 decoded-host host small = by (is_ip_literal host) refl

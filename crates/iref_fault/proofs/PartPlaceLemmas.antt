@@ -10,13 +10,13 @@ use Rattle.std.proofs.Math.Bool.{or-true}
 use mathlib.Core.Bool.{true≢false}
 use Rattle.iref_grammar.specs.Characters.{CharTests, AreAboveAscii}
 use Rattle.iref_grammar.specs.Rules.{Text}
-use Rattle.iref_grammar.specs.Grammar.{percent_sign, colon, slash, left_bracket, is_scheme_char, is_user_info_char, is_reg_name_char, is_path_char, is_fragment_char, is_query_char, IsHost, IsIpLiteral, IsRegName, IsPath}
+use Rattle.iref_grammar.specs.Grammar.{colon, slash, left_bracket, is_scheme_char, is_user_info_char, is_reg_name_char, is_path_char, is_fragment_char, is_query_char, IsHost, IsIpLiteral, IsRegName, IsPath}
 use Rattle.iref_grammar.specs.Tests.{is_encoded, is_encoded_after, is_scheme, is_port, is_ip_literal}
 use Rattle.iref_grammar.specs.Texts.{before, begins_with, lacks}
 use Rattle.iref_grammar.proofs.RuleLemmas.{more_like}
 use Rattle.iref_grammar.proofs.EncodedLemmas.{Piece, Decides-is_encoded, by_char}
-use Rattle.iref_grammar.proofs.LeafLemmas.{percent_refused, path_refuses, Decides-is_scheme, Decides-is_port}
-use Rattle.iref_grammar.proofs.PathTextLemmas.{PathPiece}
+use Rattle.iref_grammar.proofs.LeafLemmas.{percent_refused, user_info_refuses, path_refuses, fragment_refuses, query_refuses, Decides-is_scheme, Decides-is_port}
+use Rattle.iref_grammar.proofs.PathTextLemmas.{PathPiece, to_path_piece, from_path_piece}
 use Rattle.iref_grammar.proofs.HostRuleLemmas.{Decides-is_ip_literal, ipv4_reg_name}
 use Rattle.iref_grammar.proofs.ComponentLackLemmas.{reg_name_refuses}
 use Rattle.iref_grammar.proofs.CutLemmas.{before-no, before-yes, first_lacks, rest_lacks}
@@ -44,15 +44,6 @@ test_of set BarePath text = is_path_text set text && has_plain_start text
 test_of set Segment text = is_encoded (is_path_char set) text
 test_of set Query text = is_encoded (is_query_char set) text
 test_of set Fragment text = is_encoded (is_fragment_char set) text
-
-to_path_piece : (set : CharTests) (p : Text) → Piece (λ c. is_path_char set c || c == slash) p → PathPiece set p
-to_path_piece set p (inr esc) = inl (inr esc)
-to_path_piece set p (inl one) = grind arith
-
-from_path_piece : (set : CharTests) (p : Text) → PathPiece set p → Piece (λ c. is_path_char set c || c == slash) p
-from_path_piece set p (inl (inl one)) = inl (one.0, (λ i. one.1 i || one.0 == slash), one.2)
-from_path_piece set p (inl (inr esc)) = inr esc
-from_path_piece set p (inr mark) = inl (slash, or-true (is_path_char set slash), mark)
 
 -- ---- schemes
 
@@ -232,18 +223,6 @@ HasShape BarePath text = HasBareShape text
 HasShape rule text = Unit {0}
 
 module _ (set : CharTests) (above : AreAboveAscii set) where
-  user_info_refuses : is_user_info_char set percent_sign ≡ false
-  unfolding is_user_info_char
-  user_info_refuses = λ i. percent_refused set above i || false
-
-  fragment_refuses : is_fragment_char set percent_sign ≡ false
-  unfolding is_fragment_char
-  fragment_refuses = λ i. (path_refuses set above i || false) || false
-
-  query_refuses : is_query_char set percent_sign ≡ false
-  unfolding is_query_char
-  query_refuses = λ i. fragment_refuses i || above.private percent_sign (lit< tt) i
-
   Decides-is_path_text : (text : Text) → Decides (is_path_text set text) (IsPath set text)
   Decides-is_path_text text =
       let test = λ (c : ℕ). is_path_char set c || c == slash in
@@ -257,14 +236,14 @@ module _ (set : CharTests) (above : AreAboveAscii set) where
   pub Decides-part : (rule : PartRule) (text : Text) → Decides (test_of set rule text) (rule_of set rule text)
   unfolding is_port
   Decides-part Scheme text = Decides-is_scheme text
-  Decides-part UserInfo text = Decides-is_encoded (is_user_info_char set) user_info_refuses text
+  Decides-part UserInfo text = Decides-is_encoded (is_user_info_char set) (user_info_refuses set above) text
   Decides-part Host text = Decides-is_host_text set above text
   Decides-part Port text = Decides-is_port text
   Decides-part Path text = Decides-is_path_text text
   Decides-part BarePath text = Decides-and (is_path_text set text) (has_plain_start text) (Decides-is_path_text text) (Decides-itself (has_plain_start text))
   Decides-part Segment text = Decides-is_encoded (is_path_char set) (path_refuses set above) text
-  Decides-part Query text = Decides-is_encoded (is_query_char set) query_refuses text
-  Decides-part Fragment text = Decides-is_encoded (is_fragment_char set) fragment_refuses text
+  Decides-part Query text = Decides-is_encoded (is_query_char set) (query_refuses set above) text
+  Decides-part Fragment text = Decides-is_encoded (is_fragment_char set) (fragment_refuses set above) text
 
   -- what the computed place tells of the rule
   abbrev pub RuleTells : PartRule → Text → Option ℕ → Type 0

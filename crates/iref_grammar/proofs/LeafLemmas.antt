@@ -40,7 +40,7 @@ pub percent_refused : (set : CharTests) → AreAboveAscii set → is_reg_name_ch
 unfolding is_reg_name_char
 percent_refused set above = λ i. above.extra percent_sign (lit< tt) i || false
 
-user_info_refuses : (set : CharTests) → AreAboveAscii set → is_user_info_char set percent_sign ≡ false
+pub user_info_refuses : (set : CharTests) → AreAboveAscii set → is_user_info_char set percent_sign ≡ false
 unfolding is_user_info_char
 user_info_refuses set above = λ i. percent_refused set above i || false
 
@@ -48,11 +48,11 @@ pub path_refuses : (set : CharTests) → AreAboveAscii set → is_path_char set 
 unfolding is_path_char
 path_refuses set above = λ i. user_info_refuses set above i || false
 
-fragment_refuses : (set : CharTests) → AreAboveAscii set → is_fragment_char set percent_sign ≡ false
+pub fragment_refuses : (set : CharTests) → AreAboveAscii set → is_fragment_char set percent_sign ≡ false
 unfolding is_fragment_char
 fragment_refuses set above = λ i. (path_refuses set above i || false) || false
 
-query_refuses : (set : CharTests) → AreAboveAscii set → is_query_char set percent_sign ≡ false
+pub query_refuses : (set : CharTests) → AreAboveAscii set → is_query_char set percent_sign ≡ false
 unfolding is_query_char
 query_refuses set above = λ i. fragment_refuses set above i || above.private percent_sign (lit< tt) i
 

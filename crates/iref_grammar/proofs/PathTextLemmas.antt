@@ -12,17 +12,17 @@ use Rattle.iref_grammar.proofs.RuleLemmas.{more_like}
 use Rattle.iref_grammar.proofs.EncodedLemmas.{Piece, Decides-is_encoded}
 use Rattle.iref_grammar.proofs.LeafLemmas.{path_refuses, Decides-in_utf8}
 
-abbrev path_or_slash : CharTests → ℕ → Bool
+abbrev pub path_or_slash : CharTests → ℕ → Bool
 path_or_slash set c = is_path_char set c || c == slash
 
 abbrev pub PathPiece : CharTests → Rule
 PathPiece set = IsPathChar set or Mark slash
 
-to_path_piece : (set : CharTests) (p : Text) → Piece (path_or_slash set) p → PathPiece set p
+pub to_path_piece : (set : CharTests) (p : Text) → Piece (path_or_slash set) p → PathPiece set p
 to_path_piece set p (inr esc) = inl (inr esc)
 to_path_piece set p (inl one) = grind arith
 
-from_path_piece : (set : CharTests) (p : Text) → PathPiece set p → Piece (path_or_slash set) p
+pub from_path_piece : (set : CharTests) (p : Text) → PathPiece set p → Piece (path_or_slash set) p
 from_path_piece set p (inl (inl one)) = inl (one.0, (λ i. one.1 i || one.0 == slash), one.2)
 from_path_piece set p (inl (inr esc)) = inr esc
 from_path_piece set p (inr mark) = inl (slash, or-true (is_path_char set slash), mark)

@@ -60,7 +60,7 @@ fragment_is_pct_str set = is_pct_str_if_encoded (is_fragment_char set)
 
 -- ---- hosts
 
-literal_lacks : (text : Text) → is_ip_literal text ≡ true → lacks percent_sign text ≡ true
+pub literal_lacks : (text : Text) → is_ip_literal text ≡ true → lacks percent_sign text ≡ true
 literal_lacks text h = grind (arith, literal_parts, lacks-append, address_lacks)
 
 none_percent : (text : Text) → lacks percent_sign text ≡ true → list_all is_not_percent text ≡ true
