@@ -5,3 +5,4 @@ pub mod CanonicalPathLemmas
 pub mod CanonicalPartLemmas
 pub mod CanonicalKeyLemmas
 pub mod CanonicalTextLemmas
+pub mod BackwardLemmas

@@ -1,2 +1,3 @@
+pub mod Backward
 pub mod Canonical
 pub mod SortKey
