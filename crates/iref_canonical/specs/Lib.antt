@@ -1,3 +1,4 @@
 pub mod Backward
+pub mod BackwardLaws
 pub mod Canonical
 pub mod SortKey

@@ -53,7 +53,11 @@ both text front back = by (before_end back text) refl
     some r e (Some q) all f g =
         sym (before_end-is q (front ++ back)) ∙ ap (before_end (front ++ back)) (sym (e ∙ ap (λ t. t ++ back) (before_end-splits front r q f) ∙ append_assoc q front back)) ∙ g
     some r e None None f g = refl
-    some r e None (Some q) f g = ?
+    some r e None (Some q) f g =
+        let whole = before_end-splits (front ++ back) text q g ∙ sym (append_assoc q front back) in
+        let one : Some r ≡ Some (q ++ front) = sym (before_end-is r back) ∙ ap (before_end back) (sym e ∙ whole) ∙ before_end-is (q ++ front) back in
+        let same : r ≡ q ++ front = cc in
+        sym f ∙ ap (before_end front) same ∙ before_end-is q front
     by : (one : Option Text) → before_end back text ≡ one → compared_after one front ≡ before_end (front ++ back) text
     by None e = none e (before_end (front ++ back) text) refl
     by (Some r) e = some r (before_end-splits back text r e) (before_end front r) (before_end (front ++ back) text) refl refl
