@@ -6,3 +6,5 @@ pub mod CanonicalPartLemmas
 pub mod CanonicalKeyLemmas
 pub mod CanonicalTextLemmas
 pub mod BackwardLemmas
+pub mod DecodedLemmas
+pub mod EncodedLemmas

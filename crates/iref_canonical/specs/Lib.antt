@@ -1,4 +1,5 @@
 pub mod Backward
 pub mod BackwardLaws
 pub mod Canonical
+pub mod Decoded
 pub mod SortKey
