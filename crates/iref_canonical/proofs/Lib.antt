@@ -5,6 +5,6 @@ pub mod CanonicalPathLemmas
 pub mod CanonicalPartLemmas
 pub mod CanonicalKeyLemmas
 pub mod CanonicalTextLemmas
-pub mod BackwardLemmas
 pub mod DecodedLemmas
 pub mod EncodedLemmas
+pub mod SetLemmas

@@ -3,3 +3,4 @@ pub mod BackwardLaws
 pub mod Canonical
 pub mod Decoded
 pub mod SortKey
+pub mod SpelledItems
