@@ -8,3 +8,5 @@ pub mod CanonicalTextLemmas
 pub mod DecodedLemmas
 pub mod EncodedLemmas
 pub mod SetLemmas
+pub mod SpelledItemLemmas
+pub mod ColonLemmas

@@ -11,13 +11,12 @@ ghost use Rattle.iref_canonical.specs.SpelledItems.{IsCounted, canonical_path_te
 ghost use Rattle.iref_canonical.specs.SpelledItems.{spelled_item, spelled_items, standing_of};
 
 use crate::backward::Backward;
-use crate::encoded::{SEGMENT, put_encoded};
+use crate::encoded::{SEGMENT, put_encoded, split_last_decoded};
 use iref_grammar::context::PathContext;
 use iref_parse::decoded::decoded_eq;
 use iref_path::both_ends::merged::Merged;
 use iref_path::segments::split_root;
 use iref_path::spell::guard_in;
-use percent_encoding::percent_decode_str;
 
 /// The canonical path of a reference, not written yet.
 #[derive(Clone, Copy)]
@@ -50,7 +49,14 @@ fn decodes_to_dots(text: &str) -> bool
 fn decodes_to_colon(text: &str) -> bool
     ensures { result ≡ char_set_contains (percent_decode text.now) colon }
 {
-    percent_decode_str(text).any(|byte| byte == b':')
+    let mut rest = text.as_bytes();
+    while let Some((front, byte)) = split_last_decoded(rest) {
+        if byte == b':' {
+            return true;
+        }
+        rest = front;
+    }
+    false
 }
 
 // How many items of a relative list are `..` that stand first, not the last item among them.
