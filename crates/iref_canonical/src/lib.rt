@@ -7,5 +7,6 @@ pub mod canonical_laws;
 pub mod encoded;
 mod literal;
 mod path;
+pub mod plain;
 pub mod reference;
 pub mod sort_key_laws;
