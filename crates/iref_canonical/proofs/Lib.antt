@@ -10,3 +10,5 @@ pub mod EncodedLemmas
 pub mod SetLemmas
 pub mod SpelledItemLemmas
 pub mod ColonLemmas
+pub mod PlainTextLemmas
+pub mod PlainReferenceLemmas

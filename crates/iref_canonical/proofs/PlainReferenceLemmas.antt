@@ -1,36 +1,34 @@
 -- A reference whose text has no escape, no dot segment and no upper-case letter in the scheme is canonical.
-use Rattle.std.proofs.Common.{◌≡◌, ℕ, Bool, true, false, not, cond, ◌&&◌, ◌||◌, List, [], ◌∷◌, ◌++◌, map, refl, sym, ◌∙◌, ap, subst, arith}
-use Rattle.std.proofs.lemmas.Grind.{common_steps}
-use Rattle.std.specs.Prelude.{Option, Some, None, option_map, codes, bytes_eq}
+use Rattle.std.proofs.Common.{◌≡◌, ℕ, Bool, true, false, not, cond, ◌||◌, List, [], ◌∷◌, ◌++◌, map, refl, sym, ◌∙◌, ap, arith}
+use Rattle.std.specs.Prelude.{Option, Some, None, option_map, codes}
 use Rattle.std.specs.List.{list_all, join_with_byte}
 use Rattle.std.specs.Str.{str_to_ascii_lowercase}
 use Rattle.std.specs.Char.{to_ascii_lowercase}
-use Rattle.std.proofs.lemmas.Bool.{and_from, and_parts, cond-false, cond-true, not-true}
+use Rattle.std.proofs.lemmas.Bool.{and_from, and_parts, cond-false, not-true}
 use Rattle.std.proofs.lemmas.Bool.Decides.{nat_tests}
-use mathlib.Core.Bool.{true≢false}
 use Rattle.percent_encoding.specs.Percent.{percent_decode}
-use Rattle.iref_grammar.specs.declared.context.PathContext.{PathContext}
-use Rattle.iref_grammar.specs.Characters.{CharTests, AreAboveAscii, uri_chars, uri_above_ascii}
+use Rattle.iref_grammar.specs.Characters.{CharTests, AreAboveAscii, uri_chars}
 use Rattle.iref_grammar.specs.Rules.{Text}
 use Rattle.iref_grammar.specs.Grammar.{slash, colon, question_mark, hash_sign, at_sign, is_path_char, is_query_char, is_fragment_char, is_user_info_char, is_reg_name_char}
-use Rattle.iref_grammar.specs.Texts.{is_empty, part_then, then_part}
+use Rattle.iref_grammar.specs.Texts.{part_then, then_part}
 use Rattle.iref_grammar.specs.Tests.{none_or, is_segment, is_query, is_fragment, is_user_info, is_reg_name, is_host, is_ip_literal, is_port}
 use Rattle.iref_grammar.specs.Authority.{AuthorityValue, spell_authority, has_authority_parts}
-use Rattle.iref_grammar.specs.PathValue.{PathValue, is_one_empty, begins_empty, shows_its_list, spell_path, read_path}
-use Rattle.iref_grammar.specs.Contexts.{follows_authority, reads_as_path, fits}
-use Rattle.iref_grammar.specs.Reference.{ReferenceValue, IsReadable, context_of, is_readable, is_reference, read_reference, spell}
+use Rattle.iref_grammar.specs.PathValue.{PathValue, is_one_empty, shows_its_list, spell_path, read_path}
+use Rattle.iref_grammar.specs.Reference.{ReferenceValue, context_of, is_readable, is_reference, read_reference, spell}
 use Rattle.iref_grammar.proofs.ReadablePartsLemmas.{readable_parts}
+use Rattle.iref_grammar.proofs.ReferenceCutLemmas.{read_reference-spelled}
 use Rattle.iref_model.specs.AuthorityKey.{authority_key}
-use Rattle.iref_model.specs.Guard.{guarded}
+use Rattle.iref_model.specs.ComponentSteps.{guarded_reference}
 use Rattle.iref_model.specs.NormalList.{is_dot, is_dot_dot, is_name, normal_segments}
 use Rattle.iref_model.specs.PathKey.{path_key}
 use Rattle.iref_model.specs.Key.{key}
 use Rattle.iref_parse.specs.Dots.{begins_with_dot, is_some_dotted, has_dot_segment}
+use Rattle.iref_mapping.proofs.AsciiReferenceLemmas.{is_reference-ascii}
 use Rattle.iref_path.proofs.DotlessLemmas.{dotless_name, normal_segments-dotless}
 use Rattle.iref_path.proofs.GuardTextLemmas.{guarded-same}
 use Rattle.iref_canonical.specs.Canonical.{encoded, canonical_name, canonical_relative, canonical_items, canonical_path, canonical_host, canonical_authority, canonical_parts, canonical, canonical_text}
 use Rattle.iref_canonical.specs.Lower.{is_lower, is_lower_byte}
-use Rattle.iref_canonical.proofs.PlainTextLemmas.{are_unescaped, unescaped-decoded, unescaped-encoded, unescaped-parts, unescaped-joined}
+use Rattle.iref_canonical.proofs.PlainTextLemmas.{are_unescaped, unescaped-ascii, unescaped-decoded, unescaped-encoded, unescaped-parts, unescaped-joined}
 
 -- ---- schemes
 
@@ -98,13 +96,13 @@ unescaped_before mark (Some t) h = (unescaped-parts t mark h).0
 same_authority : (a : AuthorityValue) → are_unescaped (spell_authority a) ≡ true → has_authority_parts uri_chars a ≡ true → canonical_authority (authority_key a) ≡ a
 unfolding spell_authority has_authority_parts
 same_authority a h k =
-    let user = unescaped-parts (part_then (at_sign ∷ []) a.user_info) (a.host ++ then_part (colon ∷ []) a.port) h in
-    let host = unescaped-parts a.host (then_part (colon ∷ []) a.port) user.1 in
+    let before_port = unescaped-parts (part_then (at_sign ∷ []) a.user_info ++ a.host) (then_part (colon ∷ []) a.port) h in
+    let before_host = unescaped-parts (part_then (at_sign ∷ []) a.user_info) a.host before_port.0 in
     let parts = and_parts _ (none_or is_port a.port) k in
     let front = and_parts (none_or (is_user_info uri_chars) a.user_info) (is_host uri_chars a.host) parts.0 in
     λ i. record {
-      user_info = option_same (encoded (is_user_info_char uri_chars)) percent_decode (is_user_info uri_chars) same_user_info a.user_info (unescaped_before (at_sign ∷ []) a.user_info user.0) front.0 i;
-      host = same_host a.host host.0 front.1 i;
+      user_info = option_same (encoded (is_user_info_char uri_chars)) percent_decode (is_user_info uri_chars) same_user_info a.user_info (unescaped_before (at_sign ∷ []) a.user_info before_host.0) front.0 i;
+      host = same_host a.host before_host.1 front.1 i;
       port = a.port;
     }
 
@@ -164,3 +162,74 @@ pub read_dotless : (text : Text) → has_dot_segment text ≡ false → is_some_
 unfolding read_path
 read_dotless [] h = refl
 read_dotless (c ∷ cs) h = grind arith
+
+unescaped_path : (p : PathValue) → are_unescaped (spell_path p) ≡ true → list_all are_unescaped p.segments ≡ true
+unfolding spell_path
+unescaped_path p h = unescaped-joined slash p.segments ((unescaped-parts (cond p.absolute (slash ∷ []) []) (join_with_byte slash p.segments) h).1)
+
+-- ---- references
+
+-- the scheme is in lower case, no escape stands in the text, and no segment begins with a dot
+pub record IsPlainReference (r : ReferenceValue) : Type 0 where
+  pub lower : none_or is_lower r.scheme ≡ true
+  pub unescaped : are_unescaped (spell r) ≡ true
+  pub dotless : is_some_dotted r.path.segments ≡ false
+
+-- the components of the text
+record HasUnescapedParts (r : ReferenceValue) : Type 0 where
+  authority : none_or are_unescaped (option_map spell_authority r.authority) ≡ true
+  path : list_all are_unescaped r.path.segments ≡ true
+  query : none_or are_unescaped r.query ≡ true
+  fragment : none_or are_unescaped r.fragment ≡ true
+
+unescaped_components : (r : ReferenceValue) → are_unescaped (spell r) ≡ true → HasUnescapedParts r
+unfolding spell
+unescaped_components r h =
+    let scheme = part_then (colon ∷ []) r.scheme in
+    let authority = scheme ++ then_part (codes "//") (option_map spell_authority r.authority) in
+    let path = authority ++ spell_path r.path in
+    let query = path ++ then_part (question_mark ∷ []) r.query in
+    let a = unescaped-parts query (then_part (hash_sign ∷ []) r.fragment) h in
+    let b = unescaped-parts path (then_part (question_mark ∷ []) r.query) a.0 in
+    let c = unescaped-parts authority (spell_path r.path) b.0 in
+    let d = unescaped-parts scheme (then_part (codes "//") (option_map spell_authority r.authority)) c.0 in
+    record {
+      authority = unescaped_then (codes "//") (option_map spell_authority r.authority) d.1;
+      path = unescaped_path r.path c.1;
+      query = unescaped_then (question_mark ∷ []) r.query b.1;
+      fragment = unescaped_then (hash_sign ∷ []) r.fragment a.1;
+    }
+
+same_parts : (r : ReferenceValue) → is_readable uri_chars r ≡ true → IsPlainReference r → canonical_parts (key r) ≡ r
+unfolding key
+same_parts r v plain =
+    let parts = readable_parts uri_chars r v in
+    let texts = unescaped_components r plain.unescaped in
+    let shown = (and_parts _ _ ((and_parts _ _ parts.reads).0)).0 in
+    λ i. record {
+      scheme = lower_scheme r.scheme plain.lower i;
+      authority = same_authorities r.authority texts.authority parts.authority i;
+      path = same_path r.path plain.dotless shown texts.path parts.segments i;
+      query = option_same (encoded (is_query_char uri_chars)) percent_decode (is_query uri_chars) same_query r.query texts.query parts.query i;
+      fragment = option_same (encoded (is_fragment_char uri_chars)) percent_decode (is_fragment uri_chars) same_fragment r.fragment texts.fragment parts.fragment i;
+    }
+
+unguarded : (r : ReferenceValue) → is_readable uri_chars r ≡ true → guarded_reference r ≡ r
+unguarded r v =
+    let parts = readable_parts uri_chars r v in
+    let path = guarded-same (context_of r) r.path (and_from _ _ parts.follows parts.reads) in
+    λ i. record r { path = path i }
+
+pub plain_canonical : (r : ReferenceValue) → is_readable uri_chars r ≡ true → IsPlainReference r → canonical (key r) ≡ r
+unfolding canonical
+plain_canonical r v plain = ap guarded_reference (same_parts r v plain) ∙ unguarded r v
+
+-- and so the text is canonical
+pub plain_text : (set : CharTests) → AreAboveAscii set → (text : Text) → is_reference set text ≡ true
+    → none_or is_lower (read_reference text).scheme ≡ true → are_unescaped text ≡ true → is_some_dotted (read_reference text).path.segments ≡ false → canonical_text (key (read_reference text)) ≡ text
+unfolding is_reference
+plain_text set above text h lower unescaped dotless =
+    let spelled = read_reference-spelled text in
+    let readable = is_reference-ascii set above text h ∙ unescaped-ascii text unescaped in
+    let plain : IsPlainReference (read_reference text) = record { lower = lower; unescaped = ap are_unescaped spelled ∙ unescaped; dotless = dotless } in
+    ap spell (plain_canonical (read_reference text) readable plain) ∙ spelled

@@ -9,8 +9,8 @@ ghost use Rattle.iref_canonical.specs.{Canonical.{canonical_text}, Lower.{is_low
 
 use iref_grammar::chars::CharSet;
 use iref_parse::dots::has_dots;
-use iref_parse::unescaped::is_unescaped;
 use iref_parse::split::ReferenceSlices;
+use iref_parse::unescaped::is_unescaped;
 
 // Whether the text has no upper-case letter.
 #[inline(always)]
@@ -30,7 +30,7 @@ fn is_lower(text: &str) -> bool
 // Whether the scheme, if there is one, has no upper-case letter.
 #[inline(always)]
 fn is_lower_scheme(scheme: Option<&str>) -> bool
-    ensures { result ≡ none_or is_lower (option_copied scheme) }
+    ensures { result ≡ none_or is_lower (option_copied scheme.entry) }
 {
     match scheme {
         Some(scheme) => is_lower(scheme),

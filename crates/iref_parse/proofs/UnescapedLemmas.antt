@@ -1,7 +1,7 @@
 -- Marks of the bytes that are not ASCII, or are `%`.
-use Rattle.std.proofs.Common.{◌≡◌, ℕ, ◌+◌, ◌-◌, ◌<◌, ◌≤◌, List, Bool, true, false, cond, eqb, length, get_or, bit_and, bit_or, replicate, refl, sym, ap, ◌∙◌, arith, Fits, w8}
+use Rattle.std.proofs.Common.{◌≡◌, ℕ, ◌+◌, ◌<◌, List, Bool, true, false, eqb, length, get_or, refl, sym, ◌∙◌, arith, Fits, w8}
 use Rattle.std.specs.List.{list_all}
-use Rattle.std.proofs.lemmas.Bool.{agree_below_at, eqb-true, eq-eqb, true≢false}
+use Rattle.std.proofs.lemmas.Bool.{agree_below_at, eqb-true, eq-eqb}
 use Rattle.std.proofs.lemmas.List.Sums.{AllPass-from_list_all, list_all-from_AllPass}
 use Rattle.std.proofs.lemmas.List.Elements.{All-from_get_or}
 use Rattle.iref_parse.specs.Plain.{is_unescaped_byte, unescaped_mark}
@@ -19,7 +19,7 @@ module _ (bytes v : List ℕ) (fit : (k : ℕ) → Fits w8 (get_or bytes k 0)) (
   all_from_clear : list_all (λ x. eqb x 0) v ≡ true → list_all is_unescaped_byte bytes ≡ true
   all_from_clear clear =
       list_all-from_AllPass is_unescaped_byte bytes (All-from_get_or (λ b. is_unescaped_byte b ≡ true) bytes 0 (λ k l.
-          sym (tells (get_or bytes k 0) (fit k).fits) ∙ eq-eqb _ 0 (unmarked_from_clear (unescaped_at bytes) (length bytes) at v near seen clear k (omega arith) l)))
+      sym (tells (get_or bytes k 0) (fit k).fits) ∙ eq-eqb _ 0 (unmarked_from_clear (unescaped_at bytes) (length bytes) at v near seen clear k (omega arith) l)))
 
   clear_from_all : list_all is_unescaped_byte bytes ≡ true → list_all (λ x. eqb x 0) v ≡ true
   clear_from_all all = clear_from_unmarked (unescaped_at bytes) (length bytes) at v near seen (λ k low high.

@@ -1,4 +1,4 @@
-use Rattle.std.proofs.Common.{◌-◌, length, ◌∙◌, arith}
+use Rattle.std.proofs.Common.{length, ◌∙◌, arith}
 use Rattle.iref_parse.proofs.UnescapedLemmas.{unescaped_at, unescaped_found}
 use Rattle.iref_parse.proofs.SeenLemmas.{Seen-none, Seen-more}
 use Rattle.iref_parse.proofs.unescaped.is_unescaped.Goals as goal
