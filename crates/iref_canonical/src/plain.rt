@@ -27,14 +27,14 @@ fn is_lower(text: &str) -> bool
     true
 }
 
-// Whether the scheme, if there is one, has no upper-case letter.
+// Whether the scheme, if there is one, has no upper-case letter. Most schemes are `http` and `https`.
 #[inline(always)]
 fn is_lower_scheme(scheme: Option<&str>) -> bool
     ensures { result ≡ none_or is_lower (option_copied scheme.entry) }
 {
     match scheme {
+        None | Some("http" | "https") => true,
         Some(scheme) => is_lower(scheme),
-        None => true,
     }
 }
 
