@@ -52,7 +52,7 @@ lower_case_again (c ∷ cs) = λ i. lower_again c i ∷ lower_case_again cs i
 
 -- ---- hosts
 
-decoded-lacks : (text : Text) → lacks percent_sign text ≡ true → percent_decode text ≡ text
+pub decoded-lacks : (text : Text) → lacks percent_sign text ≡ true → percent_decode text ≡ text
 decoded-lacks [] h = percent_decode-nil
 decoded-lacks (c ∷ cs) h = grind (arith, common_steps, percent_decode_not_percent, decoded-lacks cs)
 

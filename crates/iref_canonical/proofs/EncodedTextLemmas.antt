@@ -22,7 +22,7 @@ pub encoded-nil : (test : ℕ → Bool) → encoded test [] ≡ []
 unfolding encoded
 encoded-nil test = refl
 
-encoded-kept : (test : ℕ → Bool) (b : ℕ) (bs : Text) → test b ≡ true → encoded test (b ∷ bs) ≡ b ∷ encoded test bs
+pub encoded-kept : (test : ℕ → Bool) (b : ℕ) (bs : Text) → test b ≡ true → encoded test (b ∷ bs) ≡ b ∷ encoded test bs
 unfolding encoded
 encoded-kept test b bs h = ap (λ x. x ++ encoded test bs) (cond-true (test b) (b ∷ []) (percent_encode_byte b) h)
 

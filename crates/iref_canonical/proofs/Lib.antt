@@ -5,3 +5,10 @@ pub mod CanonicalPathLemmas
 pub mod CanonicalPartLemmas
 pub mod CanonicalKeyLemmas
 pub mod CanonicalTextLemmas
+pub mod DecodedLemmas
+pub mod EncodedLemmas
+pub mod SetLemmas
+pub mod SpelledItemLemmas
+pub mod ColonLemmas
+pub mod PlainTextLemmas
+pub mod PlainReferenceLemmas

@@ -1,5 +1,12 @@
 //! Canonical texts and sort keys of references (RFC 3986 section 6.2.2), with the laws about them.
 #![tactic(auto)]
 
+mod authority;
+pub mod backward;
 pub mod canonical_laws;
+pub mod encoded;
+mod literal;
+mod path;
+pub mod plain;
+pub mod reference;
 pub mod sort_key_laws;

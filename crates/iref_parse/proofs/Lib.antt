@@ -26,3 +26,4 @@ pub mod DotSegmentLemmas
 pub mod EncodedTextLemmas
 pub mod WideLemmas
 pub mod CommonLemmas
+pub mod UnescapedLemmas

@@ -1,7 +1,8 @@
 -- The plain bytes: those that stand for themselves in a path, a query or a fragment, or begin one of the two, and those of common characters.
-use Rattle.std.specs.Prelude.{ℕ, Bool, ◌==◌, ◌&&◌, ◌||◌, ◌/◌, ◌%◌, codes, slice_index, bit_and}
+use Rattle.std.specs.Prelude.{ℕ, Bool, ◌==◌, ◌&&◌, ◌||◌, ◌/◌, ◌%◌, codes, slice_index, bit_and, bit_or, if◌then◌else◌}
 use Rattle.std.specs.Char.{is_ascii, is_ascii_alphanumeric, char_set_contains}
 use Rattle.std.specs.Int.{is_in_range}
+use Rattle.iref_grammar.specs.Grammar.{is_not_percent, percent_sign}
 use Rattle.iref_parse.specs.declared.plain.Groups.{Groups}
 
 -- a character of a URI's path, `?` or `#` (RFC 3986 section 3.3)
@@ -19,6 +20,14 @@ is_of_common b = is_in_range 0x80 0xBF b || begins_common b
 -- a plain byte, or one of such a character
 abbrev pub is_common_byte : ℕ → Bool
 is_common_byte b = is_plain_byte b || is_of_common b
+
+-- an ASCII byte other than `%`
+abbrev pub is_unescaped_byte : ℕ → Bool
+is_unescaped_byte b = is_ascii b && is_not_percent b
+
+-- 0 exactly if it is one
+abbrev pub unescaped_mark : ℕ → ℕ
+unescaped_mark b = bit_or (bit_and b 128) (if b == percent_sign then 255 else 0)
 
 -- the groups that both halves of b are in
 abbrev pub other_groups : Groups → ℕ → ℕ

@@ -18,3 +18,4 @@ mod plain;
 mod position;
 pub mod scan;
 pub mod split;
+pub mod unescaped;

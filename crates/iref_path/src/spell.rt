@@ -129,7 +129,7 @@ pub(crate) fn guard(rooted: bool, dotted: bool) -> &'static str
 
 /// What guards a list in its context. The list takes `size` bytes with a `/` after each item, and
 /// begins with the segment `first`. After an authority, a list that has items is absolute.
-pub(crate) fn guard_in(
+pub fn guard_in(
     context: PathContext,
     absolute: bool,
     size: usize,

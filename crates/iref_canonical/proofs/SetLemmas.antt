@@ -1,0 +1,68 @@
+-- The sets of what is escaped in each component, checked character by character.
+use Rattle.std.proofs.Common.{◌≡◌, ℕ, zero, suc, ◌<◌, Bool, true, false, not, cond, ◌&&◌, ◌||◌, [], ◌∷◌, ◌++◌, refl, sym, ◌∙◌, ap, arith}
+use Rattle.std.specs.Char.{is_ascii}
+use Rattle.std.specs.Cmp.{booleans_Decides}
+use mathlib.Core.Bool.{beq, true≢false}
+use Rattle.std.proofs.lemmas.Bool.{ltb-true}
+use Rattle.std.proofs.lemmas.Bool.Decides.{Decides-below_and, nat_tests}
+use Rattle.percent_encoding.specs.declared.ascii_set.AsciiSet.{AsciiSet}
+use Rattle.percent_encoding.specs.AsciiSet.{contains, should_percent_encode}
+use Rattle.percent_encoding.specs.Percent.{encode_byte, percent_encode, percent_encode_byte}
+use Rattle.iref_grammar.specs.Characters.{uri_chars}
+use Rattle.iref_grammar.specs.Grammar.{is_reg_name_char, is_user_info_char, is_path_char, is_fragment_char, is_query_char}
+use Rattle.iref_grammar.specs.Rules.{Text}
+use Rattle.iref_canonical.specs.Canonical.{encoded, encoded_byte}
+use Rattle.iref_canonical.specs.declared.encoded.TheConstants.{REG_NAME, USER_INFO, SEGMENT, QUERY}
+use Rattle.iref_canonical.proofs.EncodedTextLemmas.{IsPlain}
+use Rattle.iref_canonical.proofs.PlainCharacterLemmas.{plain_name, plain_user_info, plain_path, plain_fragment, plain_query}
+
+-- the set has what the test refuses, of the characters below a number
+abbrev are_apart : AsciiSet → (ℕ → Bool) → ℕ → Bool
+are_apart set test zero = true
+are_apart set test (suc b) = beq (contains set b) (not (test b)) && are_apart set test b
+
+entry : (set : AsciiSet) (test : ℕ → Bool) → are_apart set test 128 ≡ true → (b : ℕ) → b < 128 → contains set b ≡ not (test b)
+entry set test h =
+    (Decides-below_and (λ b. beq (contains set b) (not (test b))) (λ b. contains set b ≡ not (test b)) (are_apart set test) (λ b. booleans_Decides _ _) refl (λ _. refl) 128).0 h
+
+module _ (set : AsciiSet) (test : ℕ → Bool) (plain : IsPlain test) (apart : are_apart set test 128 ≡ true) where
+  flipped : (b : ℕ) → should_percent_encode set b ≡ not (test b)
+  unfolding should_percent_encode
+  flipped b = by (is_ascii b) refl (test b) refl
+    where
+      by : (ascii : Bool) → is_ascii b ≡ ascii → (kept : Bool) → test b ≡ kept → (not ascii || contains set b) ≡ not (test b)
+      by true e kept f = entry set test apart b (ltb-true b 128 e)
+      by false e true f = absurd (true≢false (sym (plain.ascii b f) ∙ e))
+      by false e false f = sym (ap not f)
+
+  one_byte : (b : ℕ) → encode_byte set b ≡ encoded_byte test b
+  one_byte b = ap (λ c. cond c (percent_encode_byte b) (b ∷ [])) (flipped b) ∙ by (test b)
+    where
+      by : (kept : Bool) → cond (not kept) (percent_encode_byte b) (b ∷ []) ≡ cond kept (b ∷ []) (percent_encode_byte b)
+      by true = refl
+      by false = refl
+
+  all_bytes : (bytes : Text) → percent_encode set bytes ≡ encoded test bytes
+  unfolding percent_encode encoded
+  all_bytes [] = refl
+  all_bytes (b ∷ bytes) = λ i. one_byte b i ++ all_bytes bytes i
+
+pub encoded-name : (bytes : Text) → percent_encode REG_NAME bytes ≡ encoded (is_reg_name_char uri_chars) bytes
+unfolding is_reg_name_char
+encoded-name = all_bytes REG_NAME (is_reg_name_char uri_chars) plain_name refl
+
+pub encoded-user_info : (bytes : Text) → percent_encode USER_INFO bytes ≡ encoded (is_user_info_char uri_chars) bytes
+unfolding is_user_info_char is_reg_name_char
+encoded-user_info = all_bytes USER_INFO (is_user_info_char uri_chars) plain_user_info refl
+
+pub encoded-segment : (bytes : Text) → percent_encode SEGMENT bytes ≡ encoded (is_path_char uri_chars) bytes
+unfolding is_path_char is_user_info_char is_reg_name_char
+encoded-segment = all_bytes SEGMENT (is_path_char uri_chars) plain_path refl
+
+pub encoded-fragment : (bytes : Text) → percent_encode QUERY bytes ≡ encoded (is_fragment_char uri_chars) bytes
+unfolding is_fragment_char is_path_char is_user_info_char is_reg_name_char
+encoded-fragment = all_bytes QUERY (is_fragment_char uri_chars) plain_fragment refl
+
+pub encoded-query : (bytes : Text) → percent_encode QUERY bytes ≡ encoded (is_query_char uri_chars) bytes
+unfolding is_query_char is_fragment_char is_path_char is_user_info_char is_reg_name_char
+encoded-query = all_bytes QUERY (is_query_char uri_chars) plain_query refl

@@ -1,0 +1,71 @@
+-- What takes a text from its end: nothing changes it, and one piece before another is one piece.
+use Rattle.std.proofs.Common.{◌≡◌, ℕ, ◌+◌, ◌-◌, ◌≤◌, Bool, true, false, [], ◌∷◌, ◌++◌, length, take, drop, refl, sym, ◌∙◌, ap, arith, append_assoc, length-append, take-append-drop}
+use Rattle.std.proofs.lemmas.Grind.{common_steps}
+use Rattle.std.specs.Prelude.{Option, Some, None, bytes_eq, min, max}
+use Rattle.std.proofs.lemmas.List.{append-nil, drop_at, take_at}
+use Rattle.std.proofs.lemmas.Slice.Eq.{bytes_eq-Decides}
+use Rattle.iref_grammar.specs.Rules.{Text}
+use Rattle.iref_canonical.specs.Backward.{before_end, compared_after, counted_after, written_after}
+
+-- ---- counted
+
+pub counted-nothing : (n : ℕ) → counted_after n [] ≡ n
+counted-nothing n = grind arith
+
+pub counted-both : (n : ℕ) (front back : Text) → counted_after (counted_after n back) front ≡ counted_after n (front ++ back)
+counted-both n front back = grind (arith, length-append)
+
+-- ---- written
+
+pub written-nothing : (w : ℕ × Text) → written_after w [] ≡ w
+written-nothing w = grind arith
+
+pub written-both : (w : ℕ × Text) (front back : Text) → written_after (written_after w back) front ≡ written_after w (front ++ back)
+written-both w front back = grind (arith, length-append, append_assoc)
+
+pub written-fits : (w : ℕ × Text) (front back : Text) → length (front ++ back) ≤ w.0 → (length back ≤ w.0) × (length front ≤ (written_after w back).0)
+written-fits w front back h = (omega (arith, simp length-append at h), omega (arith, simp length-append at h))
+
+-- ---- compared
+
+pub before_end-is : (rest piece : Text) → before_end piece (rest ++ piece) ≡ Some rest
+before_end-is rest piece = grind (arith, common_steps, length-append, bytes_eq-Decides)
+
+pub before_end-splits : (piece text rest : Text) → before_end piece text ≡ Some rest → text ≡ rest ++ piece
+before_end-splits piece text rest e = grind (arith, bytes_eq-Decides, take-append-drop)
+
+compared-nothing-text : (text : Text) → before_end [] text ≡ Some text
+compared-nothing-text text = ap (before_end []) (sym (append-nil text)) ∙ before_end-is text []
+
+pub compared-nothing : (rest : Option Text) → compared_after rest [] ≡ rest
+compared-nothing None = refl
+compared-nothing (Some text) = compared-nothing-text text
+
+both : (text front back : Text) → compared_after (before_end back text) front ≡ before_end (front ++ back) text
+both text front back = by (before_end back text) refl
+  where
+    none : before_end back text ≡ None → (all : Option Text) → before_end (front ++ back) text ≡ all → None ≡ all
+    none e None f = refl
+    none e (Some q) f =
+        let whole = before_end-splits (front ++ back) text q f ∙ sym (append_assoc q front back) in
+        absurd (let n : None ≡ Some (q ++ front) = sym e ∙ ap (before_end back) whole ∙ before_end-is (q ++ front) back in cc)
+    some : (r : Text) → text ≡ r ++ back → (one all : Option Text) → before_end front r ≡ one → before_end (front ++ back) text ≡ all → one ≡ all
+    some r e (Some q) all f g =
+        sym (before_end-is q (front ++ back)) ∙ ap (before_end (front ++ back)) (sym (e ∙ ap (λ t. t ++ back) (before_end-splits front r q f) ∙ append_assoc q front back)) ∙ g
+    some r e None None f g = refl
+    some r e None (Some q) f g =
+        let whole = before_end-splits (front ++ back) text q g ∙ sym (append_assoc q front back) in
+        let one : Some r ≡ Some (q ++ front) = sym (before_end-is r back) ∙ ap (before_end back) (sym e ∙ whole) ∙ before_end-is (q ++ front) back in
+        let same : r ≡ q ++ front = cc in
+        sym f ∙ ap (before_end front) same ∙ before_end-is q front
+    by : (one : Option Text) → before_end back text ≡ one → compared_after one front ≡ before_end (front ++ back) text
+    by None e = none e (before_end (front ++ back) text) refl
+    by (Some r) e = some r (before_end-splits back text r e) (before_end front r) (before_end (front ++ back) text) refl refl
+
+pub compared-both : (rest : Option Text) (front back : Text) → compared_after (compared_after rest back) front ≡ compared_after rest (front ++ back)
+compared-both None front back = refl
+compared-both (Some text) front back = both text front back
+
+-- what is compared whole is the text
+pub all-compared : (text piece : Text) → compared_after (Some text) piece ≡ Some [] → text ≡ piece
+all-compared text piece e = before_end-splits piece text [] e

@@ -1,0 +1,46 @@
+-- The items of a canonical path as they are written, and how many of them are `..` that stand.
+use Rattle.std.specs.Prelude.{◌≡◌, ℕ, zero, suc, ◌-◌, ◌≤◌, ◌<◌, ◌^◌, Bool, not, ◌&&◌, List, [], ◌∷◌, ◌++◌, map, codes, length, if◌then◌else◌}
+use Rattle.std.specs.List.{join_with_byte}
+use Rattle.percent_encoding.specs.Percent.{percent_decode}
+use Rattle.iref_grammar.specs.Grammar.{slash}
+use Rattle.iref_grammar.specs.Rules.{Text}
+use Rattle.iref_grammar.specs.Texts.{is_empty}
+use Rattle.iref_model.specs.NormalList.{is_dot_dot}
+use Rattle.iref_path.specs.Merged.{IsMergeSound, merged_left}
+use Rattle.iref_path.specs.declared.both_ends.merged.Merged.{Merged}
+use Rattle.iref_canonical.specs.Canonical.{canonical_name}
+use Rattle.iref_canonical.specs.declared.path.CanonicalPath.{CanonicalPath}
+
+-- how many `..` stand first in a relative list, the last item not among them
+unfoldable pub standing_of : List Text → ℕ
+standing_of [] = 0
+standing_of (item ∷ rest) = if is_dot_dot item && not (is_empty rest) then suc (standing_of rest) else 0
+
+-- how many stand in these items before others of which this number stand
+abbrev pub standing_before : List Text → ℕ → ℕ
+standing_before [] n = n
+standing_before (item ∷ rest) n = if is_dot_dot item then suc (standing_before rest n) else 0
+
+-- an item that stands, or a name
+abbrev pub spelled_item : Bool → Text → Text
+spelled_item stands item = if stands then codes ".." else canonical_name item
+
+-- the items, of which this number of `..` stand first
+unfoldable pub spelled_items : ℕ → List Text → List Text
+spelled_items zero items = map canonical_name items
+spelled_items (suc n) [] = []
+spelled_items (suc n) (item ∷ rest) = codes ".." ∷ spelled_items n rest
+
+-- what is left of a list that is read from the back, decoded
+abbrev pub decoded_left : Merged → List Text
+decoded_left left = map percent_decode (merged_left left)
+
+-- the guard, and the items
+unfoldable pub canonical_path_text : CanonicalPath → Text
+canonical_path_text p = p.guard.now ++ join_with_byte slash (spelled_items p.standing (decoded_left p.items))
+
+-- the items can be read and are counted, and the last one does not stand
+pub record IsCounted (p : CanonicalPath) : Type 0 where
+  pub sound : IsMergeSound p.items
+  pub count : p.count ≡ length (merged_left p.items)
+  pub standing : p.standing ≤ p.count - 1

@@ -1,0 +1,186 @@
+//! What takes a text from its end, piece by piece: it is counted, written or compared.
+ghost use Rattle.std.specs.Prelude.{◌≡◌, ℕ, ◌≤◌, ◌++◌, Option, Some, [], drop, length, IfOk, ⊤};
+ghost use Rattle.std.specs.Option.{option_copied};
+ghost use Rattle.iref_grammar.specs.Rules.{Text};
+ghost use Rattle.iref_canonical.specs.Backward.{compared_after, counted_after, is_all, written_after};
+ghost use Rattle.iref_canonical.specs.BackwardLaws.{compared-both, compared-nothing};
+ghost use Rattle.iref_canonical.specs.BackwardLaws.{counted-both, counted-nothing};
+ghost use Rattle.iref_canonical.specs.BackwardLaws.{written-both, written-fits, written-nothing};
+
+use iref_error::Memory;
+use std::alloc::Global;
+use std::marker::Model;
+
+/// What takes a text from its end.
+pub trait Backward {
+    /// What it is after one more piece, which stands before those that it took.
+    ghost after: { Self → Text → Self };
+
+    /// It can take the piece.
+    ghost fits: { Self → Text → Type 0 };
+
+    /// Takes a piece, which stands before those that it took.
+    fn put(&mut self, piece: &[u8])
+        requires { fits self.old piece.now }
+        ensures { self.new ≡ after self.old piece.now };
+
+    /// Nothing changes it.
+    ghost after_nothing: { (out : Self) → after out [] ≡ out };
+
+    /// One piece, and then another before it.
+    ghost after_both: { (out : Self) → (front back : Text)
+        → after (after out back) front ≡ after out (front ++ back) };
+
+    /// What can take both can take the last, and then the first.
+    ghost fits_both: { (out : Self) → (front back : Text) → fits out (front ++ back)
+        → fits out back × fits (after out back) front };
+}
+
+/// How many bytes a text has, or the greatest number where they are more.
+#[derive(Drop)]
+pub struct Count {
+    len: usize,
+}
+
+impl Model for Count {
+    ghost Value = { ℕ };
+
+    ghost view = { λ c. c.len };
+
+    ghost invariant = { λ c. ⊤ };
+}
+
+impl Count {
+    /// Of no text.
+    pub fn new() -> Self
+        ensures { result ≡ 0 }
+    {
+        Count { len: 0 }
+    }
+
+    /// How many bytes were taken.
+    pub fn len(&self) -> usize
+        ensures { result ≡ self.now }
+    {
+        self.len
+    }
+}
+
+impl Backward for Count {
+    ghost after = { counted_after };
+
+    ghost fits = { λ _ _. ⊤ };
+
+    fn put(&mut self, piece: &[u8]) {
+        self.len = self.len.saturating_add(piece.len());
+    }
+
+    ghost after_nothing = { counted-nothing };
+
+    ghost after_both = { counted-both };
+
+    ghost fits_both = { λ _ _ _ _. (tt, tt) };
+}
+
+/// Bytes that are written from their end.
+#[derive(Drop)]
+pub struct Written {
+    bytes: Vec<u8>,
+    start: usize,
+}
+
+impl Model for Written {
+    ghost Value = { ℕ × Text };
+
+    ghost view = { λ w. (w.start, drop w.start w.bytes.items) };
+
+    ghost invariant = { λ w. w.start ≤ length w.bytes.items };
+}
+
+impl Written {
+    /// Room for this many bytes.
+    pub fn new(alloc: Global, len: usize) -> Result<Self, Memory>
+        ensures { IfOk result (λ w. w ≡ (len, [])) }
+    {
+        let bytes = vec![in alloc; 0u8; len]?;
+        Ok(Written { bytes, start: len })
+    }
+
+    /// The bytes, once all are written.
+    pub fn into_bytes(self) -> Vec<u8>
+        requires { self.0 ≡ 0 }
+        ensures { result.items ≡ self.1 }
+    {
+        self.bytes
+    }
+}
+
+impl Backward for Written {
+    ghost after = { written_after };
+
+    ghost fits = { λ w piece. length piece ≤ w.0 };
+
+    fn put(&mut self, piece: &[u8]) {
+        let start = self.start - piece.len();
+        self.bytes[start..self.start].copy_from_slice(piece);
+        self.start = start;
+    }
+
+    ghost after_nothing = { written-nothing };
+
+    ghost after_both = { written-both };
+
+    ghost fits_both = { written-fits };
+}
+
+/// What is left of a text that is compared from its end, or nothing once it differs.
+#[derive(Drop)]
+pub struct Compared<'a> {
+    rest: Option<&'a [u8]>,
+}
+
+impl<'a> Model for Compared<'a> {
+    ghost Value = { Option Text };
+
+    ghost view = { λ c. option_copied c.rest };
+
+    ghost invariant = { λ c. ⊤ };
+}
+
+impl<'a> Compared<'a> {
+    /// All of the text is left.
+    pub fn new(text: &'a [u8]) -> Self
+        ensures { result ≡ Some text.now }
+    {
+        Compared { rest: Some(text) }
+    }
+
+    /// Whether all of the text was taken, and nothing else.
+    pub fn is_whole(&self) -> bool
+        ensures { result ≡ is_all self.now }
+    {
+        match self.rest {
+            Some(rest) => rest.is_empty(),
+            None => false,
+        }
+    }
+}
+
+impl Backward for Compared<'_> {
+    ghost after = { compared_after };
+
+    ghost fits = { λ _ _. ⊤ };
+
+    fn put(&mut self, piece: &[u8]) {
+        self.rest = match self.rest {
+            Some(rest) => rest.strip_suffix(piece),
+            None => None,
+        };
+    }
+
+    ghost after_nothing = { compared-nothing };
+
+    ghost after_both = { compared-both };
+
+    ghost fits_both = { λ _ _ _ _. (tt, tt) };
+}

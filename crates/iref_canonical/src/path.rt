@@ -1,0 +1,188 @@
+//! The path of the canonical text of a reference (RFC 3986 section 6.2.2).
+ghost use Rattle.std.specs.Prelude.{◌≡◌, ◌+◌, ◌-◌, ◌<◌, ◌≤◌, ◌^◌, ◌++◌, ◌∷◌, [], length};
+ghost use Rattle.std.specs.{Char.{char_set_contains}, List.{join_with_byte}};
+ghost use Rattle.percent_encoding.specs.Percent.{percent_decode};
+ghost use Rattle.iref_grammar.specs.{Grammar.{colon, slash}, PathValue.{read_path, spell_path}};
+ghost use Rattle.iref_grammar.specs.Texts.{is_empty};
+ghost use Rattle.iref_model.specs.{Guard.{guarded}, NormalList.{is_dot, is_dot_dot}, PathKey.{path_key}};
+ghost use Rattle.iref_path.specs.{Merged.{IsMergeSound, merged_left}, Spelling.{each_closed}};
+ghost use Rattle.iref_canonical.specs.Canonical.{canonical_name, canonical_path};
+ghost use Rattle.iref_canonical.specs.SpelledItems.{IsCounted, canonical_path_text, decoded_left};
+ghost use Rattle.iref_canonical.specs.SpelledItems.{spelled_item, spelled_items, standing_of};
+
+use crate::backward::Backward;
+use crate::encoded::{SEGMENT, put_encoded, split_last_decoded};
+use iref_grammar::context::PathContext;
+use iref_parse::decoded::decoded_eq;
+use iref_path::both_ends::merged::Merged;
+use iref_path::segments::split_root;
+use iref_path::spell::guard_in;
+
+/// The canonical path of a reference, not written yet.
+#[derive(Clone, Copy)]
+pub struct CanonicalPath<'a> {
+    // What stands before the items.
+    guard: &'static str,
+    items: Merged<'a>,
+    count: usize,
+    // How many `..` stand first.
+    standing: usize,
+}
+
+// Whether the text decodes to `.`.
+#[tactic(auto, unfolding(percent_encoding::specs::Percent::percent_decode))]
+fn decodes_to_dot(text: &str) -> bool
+    ensures { result ≡ is_dot (percent_decode text.now) }
+{
+    decoded_eq(text, ".")
+}
+
+// Whether the text decodes to `..`.
+#[tactic(auto, unfolding(percent_encoding::specs::Percent::percent_decode))]
+fn decodes_to_dots(text: &str) -> bool
+    ensures { result ≡ is_dot_dot (percent_decode text.now) }
+{
+    decoded_eq(text, "..")
+}
+
+// Whether the text decodes to bytes among which is a `:`.
+fn decodes_to_colon(text: &str) -> bool
+    ensures { result ≡ char_set_contains (percent_decode text.now) colon }
+{
+    let mut rest = text.as_bytes();
+    while let Some((front, byte)) = split_last_decoded(rest) {
+        if byte == b':' {
+            return true;
+        }
+        rest = front;
+    }
+    false
+}
+
+// How many items of a relative list are `..` that stand first, not the last item among them.
+fn count_standing(mut left: Merged<'_>) -> usize
+    requires sound { IsMergeSound left }
+    requires countable { length (merged_left left) < 2 ^ 64 }
+    ensures { result ≡ standing_of (decoded_left left.entry) }
+{
+    if left.next_back().is_none() {
+        return 0;
+    }
+    let mut standing = 0;
+    while let Some(item) = left.next_back() {
+        standing = if decodes_to_dots(item) { standing + 1 } else { 0 };
+    }
+    standing
+}
+
+// A text that is empty, or has a `:`, exactly if what the item decodes to is or has.
+fn sample(item: &str) -> &'static str
+    ensures empty { is_empty result.now ≡ is_empty (percent_decode item.now) }
+    ensures colon { char_set_contains result.now colon
+        ≡ char_set_contains (percent_decode item.now) colon }
+{
+    if item.is_empty() {
+        ""
+    } else if decodes_to_colon(item) {
+        ":"
+    } else {
+        "."
+    }
+}
+
+// Puts an item that does not stand.
+fn put_name<O: Backward>(out: &mut O, item: &str)
+    requires { O.fits out.old (canonical_name (percent_decode item.now)) }
+    ensures { out.new ≡ O.after out.old (canonical_name (percent_decode item.now)) }
+{
+    if decodes_to_dot(item) {
+        out.put(b"%2E");
+    } else if decodes_to_dots(item) {
+        out.put(b"%2E%2E");
+    } else {
+        put_encoded(out, item, SEGMENT);
+    }
+}
+
+// Puts an item, which may be a `..` that stands.
+fn put_item<O: Backward>(out: &mut O, item: &str, stands: bool)
+    requires { O.fits out.old (spelled_item stands (percent_decode item.now)) }
+    ensures { out.new ≡ O.after out.old (spelled_item stands (percent_decode item.now)) }
+{
+    if stands {
+        out.put(b"..");
+    } else {
+        put_name(out, item);
+    }
+}
+
+// Puts an item and a `/` after it.
+fn put_closed_item<O: Backward>(out: &mut O, item: &str, stands: bool)
+    requires { O.fits out.old (spelled_item stands (percent_decode item.now) ++ slash ∷ []) }
+    ensures { out.new ≡ O.after out.old
+        (spelled_item stands (percent_decode item.now) ++ slash ∷ []) }
+{
+    out.put(b"/");
+    put_item(out, item, stands);
+}
+
+// Puts the items, each with a `/` after it.
+fn put_closed<O: Backward>(out: &mut O, mut left: Merged<'_>, count: usize, standing: usize)
+    requires sound { IsMergeSound left }
+    requires count { count ≡ length (merged_left left) }
+    requires fits { O.fits out.old (each_closed (spelled_items standing (decoded_left left))) }
+    ensures { out.new ≡ O.after out.old
+        (each_closed (spelled_items standing (decoded_left left.entry))) }
+{
+    let mut at = count;
+    while let Some(item) = left.next_back() {
+        at -= 1;
+        put_closed_item(out, item, at < standing);
+    }
+}
+
+// Puts the items with `/` between. The last one does not stand.
+fn put_items<O: Backward>(out: &mut O, mut left: Merged<'_>, count: usize, standing: usize)
+    requires sound { IsMergeSound left }
+    requires count { count ≡ length (merged_left left) }
+    requires standing { standing ≤ count - 1 }
+    requires fits { O.fits out.old
+        (join_with_byte slash (spelled_items standing (decoded_left left))) }
+    ensures { out.new ≡ O.after out.old
+        (join_with_byte slash (spelled_items standing (decoded_left left.entry))) }
+{
+    if let Some(last) = left.next_back() {
+        put_name(out, last);
+        put_closed(out, left, count - 1, standing);
+    }
+}
+
+impl<'a> CanonicalPath<'a> {
+    /// The canonical path in its context.
+    pub fn new(context: PathContext, path: &'a str) -> Self
+        ensures text { canonical_path_text result
+            ≡ spell_path (guarded context (canonical_path (path_key (read_path path.now)))) }
+        ensures counted { IsCounted result }
+    {
+        let (absolute, segments) = split_root(path);
+        let all = Merged::new(absolute, None, segments);
+        let guard = guard_in(context, absolute, all.count, sample(all.first));
+        let standing = if absolute { 0 } else { count_standing(all.items) };
+        CanonicalPath {
+            guard,
+            items: all.items,
+            count: all.count,
+            standing,
+        }
+    }
+
+    /// Puts the path.
+    pub(crate) fn put<O: Backward>(&self, out: &mut O)
+        requires counted { IsCounted self.now }
+        requires fits { O.fits out.old (canonical_path_text self.now) }
+        ensures { out.new ≡ O.after out.old (canonical_path_text self.now) }
+    {
+        put_items(out, self.items, self.count, self.standing);
+        out.put(self.guard.as_bytes());
+    }
+}

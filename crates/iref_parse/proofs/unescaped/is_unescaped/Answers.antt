@@ -1,0 +1,18 @@
+use Rattle.std.proofs.Common.{length, ◌∙◌, arith}
+use Rattle.iref_parse.proofs.UnescapedLemmas.{unescaped_at, unescaped_found}
+use Rattle.iref_parse.proofs.SeenLemmas.{Seen-none, Seen-more}
+use Rattle.iref_parse.proofs.unescaped.is_unescaped.Goals as goal
+
+pub loop-at-init : goal.loop-at-init
+loop-at-init c =
+    let bytes = c.args.bytes.now in
+    (omega arith, Seen-none (unescaped_at bytes) (length bytes) c.marks-seen.result (omega arith) c.marks-seen.ensures)
+
+pub loop-at-preserved : goal.loop-at-preserved
+loop-at-preserved c =
+    let bytes = c.args.bytes.now in
+    let old = c.loop-at in
+    (omega arith, Seen-more (unescaped_at bytes) (length bytes) old.at old.seen c.marks.result c.either-seen.result (omega arith) old.invariant.1 c.marks.ensures c.either-seen.ensures)
+
+pub returns : goal.returns
+returns c = c.is_clear.ensures ∙ unescaped_found c.args.bytes.now c.loop-at.seen c.type_inv.bytes c.loop-at.at (omega arith) c.loop-at.invariant.1
