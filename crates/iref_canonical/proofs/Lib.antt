@@ -8,3 +8,6 @@ pub mod CanonicalTextLemmas
 pub mod DecodedLemmas
 pub mod EncodedLemmas
 pub mod SetLemmas
+pub mod PutAuthorityLemmas
+pub mod FutureLiteralLemmas
+pub mod LiteralLengthLemmas
