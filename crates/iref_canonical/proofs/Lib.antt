@@ -10,3 +10,4 @@ pub mod EncodedLemmas
 pub mod SetLemmas
 pub mod SpelledItemLemmas
 pub mod ColonLemmas
+pub mod ShapeLemmas

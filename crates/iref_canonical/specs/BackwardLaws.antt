@@ -49,6 +49,7 @@ both text front back = by (before_end back text) refl
     none e (Some q) f =
         let whole = before_end-splits (front ++ back) text q f ∙ sym (append_assoc q front back) in
         absurd (let n : None ≡ Some (q ++ front) = sym e ∙ ap (before_end back) whole ∙ before_end-is (q ++ front) back in cc)
+
     some : (r : Text) → text ≡ r ++ back → (one all : Option Text) → before_end front r ≡ one → before_end (front ++ back) text ≡ all → one ≡ all
     some r e (Some q) all f g =
         sym (before_end-is q (front ++ back)) ∙ ap (before_end (front ++ back)) (sym (e ∙ ap (λ t. t ++ back) (before_end-splits front r q f) ∙ append_assoc q front back)) ∙ g
@@ -58,6 +59,7 @@ both text front back = by (before_end back text) refl
         let one : Some r ≡ Some (q ++ front) = sym (before_end-is r back) ∙ ap (before_end back) (sym e ∙ whole) ∙ before_end-is (q ++ front) back in
         let same : r ≡ q ++ front = cc in
         sym f ∙ ap (before_end front) same ∙ before_end-is q front
+
     by : (one : Option Text) → before_end back text ≡ one → compared_after one front ≡ before_end (front ++ back) text
     by None e = none e (before_end (front ++ back) text) refl
     by (Some r) e = some r (before_end-splits back text r e) (before_end front r) (before_end (front ++ back) text) refl refl

@@ -11,7 +11,11 @@ const NOTHING: AsciiSet = AsciiSet::EMPTY;
 
 // Puts the host. An IP literal stands.
 fn put_host<O: Backward>(out: &mut O, host: &str) {
-    let set = if decodes_to_ip_literal(host) { NOTHING } else { REG_NAME };
+    let set = if decodes_to_ip_literal(host) {
+        NOTHING
+    } else {
+        REG_NAME
+    };
     put_encoded(out, host, set);
 }
 
