@@ -11,3 +11,4 @@ pub mod SetLemmas
 pub mod SpelledItemLemmas
 pub mod ColonLemmas
 pub mod ShapeLemmas
+pub mod CanonicalSpellingLemmas
