@@ -11,3 +11,7 @@ pub mod SetLemmas
 pub mod PutAuthorityLemmas
 pub mod FutureLiteralLemmas
 pub mod LiteralLengthLemmas
+pub mod SpelledItemLemmas
+pub mod ColonLemmas
+pub mod ShapeLemmas
+pub mod CanonicalSpellingLemmas

@@ -1,6 +1,8 @@
 pub mod Backward
 pub mod BackwardLaws
 pub mod Canonical
+pub mod CanonicalParts
+pub mod CanonicalReferences
 pub mod Decoded
 pub mod FutureLiteral
 pub mod SortKey

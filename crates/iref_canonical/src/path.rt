@@ -1,5 +1,6 @@
 //! The path of the canonical text of a reference (RFC 3986 section 6.2.2).
-ghost use Rattle.std.specs.Prelude.{◌≡◌, ◌+◌, ◌-◌, ◌<◌, ◌≤◌, ◌^◌, ◌++◌, ◌∷◌, [], length};
+ghost use Rattle.std.specs.Prelude.{◌≡◌, ◌-◌, ◌<◌, ◌≤◌, ◌^◌, ◌++◌, ◌∷◌, [], length};
+ghost use Rattle.std.specs.Prelude.{if◌then◌else◌};
 ghost use Rattle.std.specs.{Char.{char_set_contains}, List.{join_with_byte}};
 ghost use Rattle.percent_encoding.specs.Percent.{percent_decode};
 ghost use Rattle.iref_grammar.specs.{Grammar.{colon, slash}, PathValue.{read_path, spell_path}};
@@ -11,13 +12,12 @@ ghost use Rattle.iref_canonical.specs.SpelledItems.{IsCounted, canonical_path_te
 ghost use Rattle.iref_canonical.specs.SpelledItems.{spelled_item, spelled_items, standing_of};
 
 use crate::backward::Backward;
-use crate::encoded::{SEGMENT, put_encoded};
+use crate::encoded::{SEGMENT, put_encoded, split_last_decoded};
 use iref_grammar::context::PathContext;
 use iref_parse::decoded::decoded_eq;
 use iref_path::both_ends::merged::Merged;
 use iref_path::segments::split_root;
 use iref_path::spell::guard_in;
-use percent_encoding::percent_decode_str;
 
 /// The canonical path of a reference, not written yet.
 #[derive(Clone, Copy)]
@@ -50,7 +50,14 @@ fn decodes_to_dots(text: &str) -> bool
 fn decodes_to_colon(text: &str) -> bool
     ensures { result ≡ char_set_contains (percent_decode text.now) colon }
 {
-    percent_decode_str(text).any(|byte| byte == b':')
+    let mut rest = text.as_bytes();
+    while let Some((front, byte)) = split_last_decoded(rest) {
+        if byte == b':' {
+            return true;
+        }
+        rest = front;
+    }
+    false
 }
 
 // How many items of a relative list are `..` that stand first, not the last item among them.
@@ -64,9 +71,22 @@ fn count_standing(mut left: Merged<'_>) -> usize
     }
     let mut standing = 0;
     while let Some(item) = left.next_back() {
-        standing = if decodes_to_dots(item) { standing + 1 } else { 0 };
+        standing = if decodes_to_dots(item) {
+            standing + 1
+        } else {
+            0
+        };
     }
     standing
+}
+
+// How many items of a list stand.
+fn count_standing_in(absolute: bool, left: Merged<'_>) -> usize
+    requires sound { IsMergeSound left }
+    requires countable { length (merged_left left) < 2 ^ 64 }
+    ensures { result ≡ (if absolute then 0 else standing_of (decoded_left left.entry)) }
+{
+    if absolute { 0 } else { count_standing(left) }
 }
 
 // A text that is empty, or has a `:`, exactly if what the item decodes to is or has.
@@ -161,7 +181,7 @@ impl<'a> CanonicalPath<'a> {
         let (absolute, segments) = split_root(path);
         let all = Merged::new(absolute, None, segments);
         let guard = guard_in(context, absolute, all.count, sample(all.first));
-        let standing = if absolute { 0 } else { count_standing(all.items) };
+        let standing = count_standing_in(absolute, all.items);
         CanonicalPath {
             guard,
             items: all.items,
@@ -171,6 +191,7 @@ impl<'a> CanonicalPath<'a> {
     }
 
     /// Puts the path.
+    #[tactic(auto, unfolding(crate::specs::SpelledItems::canonical_path_text))]
     pub(crate) fn put<O: Backward>(&self, out: &mut O)
         requires counted { IsCounted self.now }
         requires fits { O.fits out.old (canonical_path_text self.now) }

@@ -1,0 +1,145 @@
+-- The items of a canonical path as they are written from the back.
+use Rattle.std.proofs.Common.{◌≡◌, ℕ, zero, suc, ◌+◌, ◌-◌, ◌<◌, ◌≤◌, Bool, true, false, not, cond, ◌&&◌, ◌||◌, List, [], ◌∷◌, ◌++◌, map, length, refl, sym, ◌∙◌, ap, subst, append_assoc, arith}
+use Rattle.std.proofs.lemmas.Grind.{common_steps}
+use Rattle.std.proofs.lemmas.List.{length-map}
+use Rattle.std.specs.Prelude.{codes, nat_lt, nat_eq, ◌==◌}
+use Rattle.std.specs.Char.{char_set_contains}
+use Rattle.std.specs.List.{join_with_byte}
+use Rattle.std.specs.Cmp.Lexicographic.{bytes_decides}
+use Rattle.std.proofs.lemmas.Bool.{and_parts}
+use Rattle.std.proofs.lemmas.Bool.Decides.{nat_tests}
+use Rattle.percent_encoding.specs.Percent.{percent_decode}
+use Rattle.iref_grammar.specs.Grammar.{slash}
+use Rattle.iref_grammar.specs.Rules.{Text}
+use Rattle.iref_grammar.specs.Texts.{is_empty}
+use Rattle.iref_grammar.specs.PathValue.{PathValue}
+use Rattle.iref_model.specs.NormalList.{is_dot_dot}
+use Rattle.iref_path.specs.Spelling.{each_closed}
+use Rattle.iref_path.proofs.SpellLemmas.{each_closed-append, joined_before}
+use Rattle.iref_canonical.specs.Canonical.{canonical_items, canonical_name, canonical_relative}
+use Rattle.iref_canonical.specs.SpelledItems.{spelled_item, spelled_items, standing_before, standing_of}
+
+-- ---- how many stand
+
+some_last : (front : List Text) (last : Text) → is_empty (front ++ last ∷ []) ≡ false
+some_last [] last = refl
+some_last (x ∷ front) last = refl
+
+pub standing-last : (front : List Text) (last : Text) → standing_of (front ++ last ∷ []) ≡ standing_before front 0
+unfolding standing_of
+standing-last [] last = grind arith
+standing-last (x ∷ front) last = by (is_dot_dot x) (standing-last front last)
+  where
+    by : (b : Bool) → standing_of (front ++ last ∷ []) ≡ standing_before front 0
+        → cond (b && not (is_empty (front ++ last ∷ []))) (suc (standing_of (front ++ last ∷ []))) 0 ≡ cond b (suc (standing_before front 0)) 0
+    by true rest = (λ i. cond (not (some_last front last i)) (suc (standing_of (front ++ last ∷ []))) 0) ∙ ap suc rest
+    by false rest = refl
+
+pub standing-nothing : standing_of [] ≡ 0
+unfolding standing_of
+standing-nothing = refl
+
+pub standing-next : (front : List Text) (item : Text) (n : ℕ) → standing_before (front ++ item ∷ []) n ≡ standing_before front (cond (is_dot_dot item) (n + 1) 0)
+standing-next [] item n = grind arith
+standing-next (x ∷ front) item n = ap (λ m. cond (is_dot_dot x) (suc m) 0) (standing-next front item n)
+
+pub standing-few : (items : List Text) → standing_of items ≤ length items - 1
+unfolding standing_of
+standing-few [] = omega arith
+standing-few (x ∷ []) = grind arith
+standing-few (x ∷ y ∷ rest) = grind (arith, standing-few (y ∷ rest))
+
+-- ---- the items with those that stand
+
+pub spelled-none : (items : List Text) → spelled_items 0 items ≡ map canonical_name items
+unfolding spelled_items
+spelled-none items = refl
+
+pub spelled-nothing : (n : ℕ) → spelled_items n [] ≡ []
+unfolding spelled_items
+spelled-nothing zero = refl
+spelled-nothing (suc n) = refl
+
+pub spelled-relative : (items : List Text) → spelled_items (standing_of items) items ≡ canonical_relative items
+unfolding spelled_items standing_of canonical_relative
+spelled-relative [] = refl
+spelled-relative (item ∷ rest) = by (is_dot_dot item && not (is_empty rest)) refl (spelled-relative rest)
+  where
+    by : (b : Bool) → (is_dot_dot item && not (is_empty rest)) ≡ b → spelled_items (standing_of rest) rest ≡ canonical_relative rest
+        → spelled_items (cond b (suc (standing_of rest)) 0) (item ∷ rest) ≡ cond b (item ∷ canonical_relative rest) (map canonical_name (item ∷ rest))
+    by true e same = λ i. sym ((bytes_decides item (codes "..")).0 (and_parts (is_dot_dot item) (not (is_empty rest)) e).0) i ∷ same i
+    by false e same = refl
+
+pub spelled-last : (n : ℕ) (front : List Text) (item : Text) → spelled_items n (front ++ item ∷ []) ≡ spelled_items n front ++ spelled_item (nat_lt (length front) n) item ∷ []
+unfolding spelled_items
+spelled-last zero [] item = grind arith
+spelled-last zero (x ∷ front) item = grind (arith, nat_tests, spelled-last zero front item)
+spelled-last (suc n) [] item = by n
+  where
+    by : (n : ℕ) → codes ".." ∷ spelled_items n [] ≡ spelled_item (nat_lt 0 (suc n)) item ∷ []
+    by zero = grind (arith, nat_tests)
+    by (suc n) = grind (arith, nat_tests)
+spelled-last (suc n) (x ∷ front) item = grind (arith, nat_tests, spelled-last n front item)
+
+-- ---- their text
+
+-- an item with a `/` after it comes last
+pub closed-last : (n : ℕ) (front : List Text) (item : Text)
+    → each_closed (spelled_items n (front ++ item ∷ [])) ≡ each_closed (spelled_items n front) ++ (spelled_item (nat_lt (length front) n) item ++ slash ∷ [])
+closed-last n front item =
+    let stands = nat_lt (length front) n in
+    ap each_closed (spelled-last n front item) ∙ each_closed-append (spelled_items n front) (spelled_item stands item ∷ []) ∙ grind (arith, common_steps)
+
+pub closed-nothing : (n : ℕ) → each_closed (spelled_items n []) ≡ []
+closed-nothing n = ap each_closed (spelled-nothing n)
+
+-- and the last one without it, which does not stand
+pub joined-last : (n : ℕ) (front : List Text) (item : Text) → n ≤ length front
+    → join_with_byte slash (spelled_items n (front ++ item ∷ [])) ≡ each_closed (spelled_items n front) ++ canonical_name item
+joined-last n front item h =
+    ap (join_with_byte slash) (spelled-last n front item) ∙ sym (joined_before (spelled_items n front) (spelled_item (nat_lt (length front) n) item))
+    ∙ grind (arith, nat_tests)
+
+pub joined-nothing : (n : ℕ) → join_with_byte slash (spelled_items n []) ≡ []
+joined-nothing n = ap (join_with_byte slash) (spelled-nothing n)
+
+-- ---- decoded
+
+pub decoded-last : (all front : List Text) (item : Text) → all ≡ front ++ item ∷ [] → map percent_decode all ≡ map percent_decode front ++ percent_decode item ∷ []
+decoded-last all front item e = grind (arith, common_steps)
+
+-- a list that is read from the back, where at of its items are left
+pub one_less : (all front : List Text) (item : Text) (at : ℕ) → all ≡ front ++ item ∷ [] → at ≡ length all → length front ≡ at - 1
+one_less all front item at e f = grind (arith, common_steps)
+
+pub closed-step : (n : ℕ) (all front : List Text) (item : Text) (at : ℕ) → all ≡ front ++ item ∷ [] → at ≡ length all
+    → each_closed (spelled_items n (map percent_decode all))
+    ≡ each_closed (spelled_items n (map percent_decode front)) ++ (spelled_item (nat_lt (at - 1) n) (percent_decode item) ++ slash ∷ [])
+closed-step n all front item at e f =
+    let len : length (map percent_decode front) ≡ at - 1 = length-map front percent_decode ∙ one_less all front item at e f in
+    ap (λ list. each_closed (spelled_items n list)) (decoded-last all front item e)
+    ∙ closed-last n (map percent_decode front) (percent_decode item)
+    ∙ ap (λ k. each_closed (spelled_items n (map percent_decode front)) ++ (spelled_item (nat_lt k n) (percent_decode item) ++ slash ∷ [])) len
+
+pub closed-end : (n : ℕ) (all : List Text) → all ≡ [] → each_closed (spelled_items n (map percent_decode all)) ≡ []
+closed-end n all e = ap (λ list. each_closed (spelled_items n (map percent_decode list))) e ∙ closed-nothing n
+
+pub joined-step : (n : ℕ) (all front : List Text) (item : Text) (at : ℕ) → all ≡ front ++ item ∷ [] → at ≡ length all → n ≤ at - 1
+    → join_with_byte slash (spelled_items n (map percent_decode all)) ≡ each_closed (spelled_items n (map percent_decode front)) ++ canonical_name (percent_decode item)
+joined-step n all front item at e f h =
+    let len : length (map percent_decode front) ≡ at - 1 = length-map front percent_decode ∙ one_less all front item at e f in
+    ap (λ list. join_with_byte slash (spelled_items n list)) (decoded-last all front item e)
+    ∙ joined-last n (map percent_decode front) (percent_decode item) (subst (λ k. n ≤ k) (sym len) h)
+
+pub joined-end : (n : ℕ) (all : List Text) → all ≡ [] → join_with_byte slash (spelled_items n (map percent_decode all)) ≡ []
+joined-end n all e = ap (λ list. join_with_byte slash (spelled_items n (map percent_decode list))) e ∙ joined-nothing n
+
+pub standing-first : (all front : List Text) (last : Text) → all ≡ front ++ last ∷ [] → standing_before (map percent_decode front) 0 ≡ standing_of (map percent_decode all)
+standing-first all front last e = sym (ap standing_of (decoded-last all front last e) ∙ standing-last (map percent_decode front) (percent_decode last))
+
+pub standing-step : (all front : List Text) (item : Text) (n : ℕ) → all ≡ front ++ item ∷ []
+    → standing_before (map percent_decode front) (cond (is_dot_dot (percent_decode item)) (n + 1) 0) ≡ standing_before (map percent_decode all) n
+standing-step all front item n e = sym (ap (λ list. standing_before list n) (decoded-last all front item e) ∙ standing-next (map percent_decode front) (percent_decode item) n)
+
+pub standing-end : (all : List Text) → all ≡ [] → standing_of (map percent_decode all) ≡ 0
+standing-end all e = ap (λ list. standing_of (map percent_decode list)) e ∙ standing-nothing
