@@ -1,14 +1,17 @@
 -- An IPv6 address in brackets has at most 47 bytes, and any IP literal that has more is of a future version.
 use Rattle.std.proofs.Common.{◌≡◌, ℕ, ◌+◌, ◌*◌, ◌/◌, ◌%◌, ◌<◌, ◌≤◌, Bool, true, false, ◌&&◌, ◌||◌, List, [], ◌∷◌, ◌++◌, length, refl, sym, ◌∙◌, ap, arith, ◌⊎◌, inl, inr, lit<, length-append}
-use Rattle.std.specs.Prelude.{Option, Some, None, codes, decimal, is_some, nat_le}
+use Rattle.std.specs.Prelude.{◌==◌, slice_index, Option, Some, None, codes, decimal, is_some, nat_le}
+use Rattle.std.proofs.lemmas.Grind.{common_steps}
 use Rattle.std.specs.List.{AllZip, join_with_byte}
 use Rattle.std.specs.Str.{IsUtf8}
 use Rattle.std.proofs.lemmas.Fmt.{length-decimal-le}
 use Rattle.std.proofs.lemmas.Bool.Decides.{nat_tests}
 use native.Mathlib.Nat.{lt_trans}
 use mathlib.Core.Bool.{true≢false}
+use Rattle.percent_encoding.specs.Percent.{percent_decode}
+use Rattle.percent_encoding.proofs.PercentLemmas.{percent_decode-nil, percent_decode_not_percent}
 use Rattle.iref_grammar.specs.Rules.{Text}
-use Rattle.iref_grammar.specs.Grammar.{right_bracket}
+use Rattle.iref_grammar.specs.Grammar.{left_bracket, percent_sign, right_bracket}
 use Rattle.iref_grammar.specs.IpAddresses.{IsIpv4, IsGroup, AreGroups, AreLastGroups, IsFullIpv6, IsShortIpv6, ipv6_value}
 use Rattle.iref_grammar.specs.Tests.{in_brackets, is_ip_address, is_ip_literal, is_ipv6, is_ipvfuture, some_and}
 use Rattle.iref_grammar.proofs.ComponentLackLemmas.{bracket_parts}
@@ -113,6 +116,12 @@ literal_found text = by (in_brackets text) refl
 
 pub literal_left : (text : Text) → (nat_le (length text) 47 && is_ip_literal text) ≡ false → some_and is_ipvfuture (in_brackets text) ≡ is_ip_literal text
 literal_left text h = ap (λ few. few || some_and is_ipvfuture (in_brackets text)) (sym h) ∙ literal_found text
+
+-- what begins with neither `[` nor an escape decodes to none
+pub no_literal : (text : Text) → (slice_index text 0 == left_bracket || slice_index text 0 == percent_sign) ≡ false → is_ip_literal (percent_decode text) ≡ false
+unfolding is_ip_literal
+no_literal [] h = ap (λ t. some_and is_ip_address (in_brackets t)) percent_decode-nil
+no_literal (c ∷ cs) h = grind (arith, nat_tests, common_steps, percent_decode_not_percent c cs)
 
 -- what is no UTF-8 is no IP literal
 pub not_literal : (bytes : Text) → (IsUtf8 bytes → ⊥) → is_ip_literal bytes ≡ false

@@ -1,10 +1,10 @@
 -- The sets of what is escaped in each component, checked character by character.
-use Rattle.std.proofs.Common.{◌≡◌, ℕ, zero, suc, ◌<◌, Bool, true, false, not, cond, ◌&&◌, ◌||◌, [], ◌∷◌, ◌++◌, refl, sym, ◌∙◌, ap, arith}
+use Rattle.std.proofs.Common.{◌≡◌, ℕ, zero, suc, ◌<◌, Bool, true, false, not, cond, ◌&&◌, ◌||◌, [], ◌∷◌, ◌++◌, refl, sym, ◌∙◌, ap}
 use Rattle.std.specs.Char.{is_ascii}
 use Rattle.std.specs.Cmp.{booleans_Decides}
 use mathlib.Core.Bool.{beq, true≢false}
 use Rattle.std.proofs.lemmas.Bool.{ltb-true}
-use Rattle.std.proofs.lemmas.Bool.Decides.{Decides-below_and, nat_tests}
+use Rattle.std.proofs.lemmas.Bool.Decides.{Decides-below_and}
 use Rattle.percent_encoding.specs.declared.ascii_set.AsciiSet.{AsciiSet}
 use Rattle.percent_encoding.specs.AsciiSet.{contains, should_percent_encode}
 use Rattle.percent_encoding.specs.Percent.{encode_byte, percent_encode, percent_encode_byte}
