@@ -8,7 +8,12 @@ pub mod CanonicalTextLemmas
 pub mod DecodedLemmas
 pub mod EncodedLemmas
 pub mod SetLemmas
+pub mod PutAuthorityLemmas
+pub mod FutureLiteralLemmas
+pub mod LiteralLengthLemmas
 pub mod SpelledItemLemmas
 pub mod ColonLemmas
 pub mod PlainTextLemmas
 pub mod PlainReferenceLemmas
+pub mod ShapeLemmas
+pub mod CanonicalSpellingLemmas

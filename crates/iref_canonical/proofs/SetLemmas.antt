@@ -1,10 +1,10 @@
 -- The sets of what is escaped in each component, checked character by character.
-use Rattle.std.proofs.Common.{◌≡◌, ℕ, zero, suc, ◌<◌, Bool, true, false, not, cond, ◌&&◌, ◌||◌, [], ◌∷◌, ◌++◌, refl, sym, ◌∙◌, ap, arith}
+use Rattle.std.proofs.Common.{◌≡◌, ℕ, zero, suc, ◌<◌, Bool, true, false, not, cond, ◌&&◌, ◌||◌, [], ◌∷◌, ◌++◌, refl, sym, ◌∙◌, ap}
 use Rattle.std.specs.Char.{is_ascii}
 use Rattle.std.specs.Cmp.{booleans_Decides}
 use mathlib.Core.Bool.{beq, true≢false}
 use Rattle.std.proofs.lemmas.Bool.{ltb-true}
-use Rattle.std.proofs.lemmas.Bool.Decides.{Decides-below_and, nat_tests}
+use Rattle.std.proofs.lemmas.Bool.Decides.{Decides-below_and}
 use Rattle.percent_encoding.specs.declared.ascii_set.AsciiSet.{AsciiSet}
 use Rattle.percent_encoding.specs.AsciiSet.{contains, should_percent_encode}
 use Rattle.percent_encoding.specs.Percent.{encode_byte, percent_encode, percent_encode_byte}
@@ -25,13 +25,17 @@ entry : (set : AsciiSet) (test : ℕ → Bool) → are_apart set test 128 ≡ tr
 entry set test h =
     (Decides-below_and (λ b. beq (contains set b) (not (test b))) (λ b. contains set b ≡ not (test b)) (are_apart set test) (λ b. booleans_Decides _ _) refl (λ _. refl) 128).0 h
 
+-- the set has what the test refuses, of ASCII
+pub in_set : (set : AsciiSet) (test : ℕ → Bool) → are_apart set test 128 ≡ true → (b : ℕ) → is_ascii b ≡ true → contains set b ≡ not (test b)
+in_set set test h b ascii = entry set test h b (ltb-true b 128 ascii)
+
 module _ (set : AsciiSet) (test : ℕ → Bool) (plain : IsPlain test) (apart : are_apart set test 128 ≡ true) where
   flipped : (b : ℕ) → should_percent_encode set b ≡ not (test b)
   unfolding should_percent_encode
   flipped b = by (is_ascii b) refl (test b) refl
     where
       by : (ascii : Bool) → is_ascii b ≡ ascii → (kept : Bool) → test b ≡ kept → (not ascii || contains set b) ≡ not (test b)
-      by true e kept f = entry set test apart b (ltb-true b 128 e)
+      by true e kept f = in_set set test apart b e
       by false e true f = absurd (true≢false (sym (plain.ascii b f) ∙ e))
       by false e false f = sym (ap not f)
 

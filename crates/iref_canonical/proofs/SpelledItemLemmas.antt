@@ -1,6 +1,7 @@
 -- The items of a canonical path as they are written from the back.
 use Rattle.std.proofs.Common.{◌≡◌, ℕ, zero, suc, ◌+◌, ◌-◌, ◌<◌, ◌≤◌, Bool, true, false, not, cond, ◌&&◌, ◌||◌, List, [], ◌∷◌, ◌++◌, map, length, refl, sym, ◌∙◌, ap, subst, append_assoc, arith}
 use Rattle.std.proofs.lemmas.Grind.{common_steps}
+use Rattle.std.proofs.lemmas.List.{length-map}
 use Rattle.std.specs.Prelude.{codes, nat_lt, nat_eq, ◌==◌}
 use Rattle.std.specs.Char.{char_set_contains}
 use Rattle.std.specs.List.{join_with_byte}
@@ -107,10 +108,6 @@ joined-nothing n = ap (join_with_byte slash) (spelled-nothing n)
 pub decoded-last : (all front : List Text) (item : Text) → all ≡ front ++ item ∷ [] → map percent_decode all ≡ map percent_decode front ++ percent_decode item ∷ []
 decoded-last all front item e = grind (arith, common_steps)
 
-mapped_length : (list : List Text) → length (map percent_decode list) ≡ length list
-mapped_length [] = refl
-mapped_length (s ∷ list) = ap suc (mapped_length list)
-
 -- a list that is read from the back, where at of its items are left
 pub one_less : (all front : List Text) (item : Text) (at : ℕ) → all ≡ front ++ item ∷ [] → at ≡ length all → length front ≡ at - 1
 one_less all front item at e f = grind (arith, common_steps)
@@ -119,7 +116,7 @@ pub closed-step : (n : ℕ) (all front : List Text) (item : Text) (at : ℕ) →
     → each_closed (spelled_items n (map percent_decode all))
     ≡ each_closed (spelled_items n (map percent_decode front)) ++ (spelled_item (nat_lt (at - 1) n) (percent_decode item) ++ slash ∷ [])
 closed-step n all front item at e f =
-    let len : length (map percent_decode front) ≡ at - 1 = mapped_length front ∙ one_less all front item at e f in
+    let len : length (map percent_decode front) ≡ at - 1 = length-map front percent_decode ∙ one_less all front item at e f in
     ap (λ list. each_closed (spelled_items n list)) (decoded-last all front item e)
     ∙ closed-last n (map percent_decode front) (percent_decode item)
     ∙ ap (λ k. each_closed (spelled_items n (map percent_decode front)) ++ (spelled_item (nat_lt k n) (percent_decode item) ++ slash ∷ [])) len
@@ -130,7 +127,7 @@ closed-end n all e = ap (λ list. each_closed (spelled_items n (map percent_deco
 pub joined-step : (n : ℕ) (all front : List Text) (item : Text) (at : ℕ) → all ≡ front ++ item ∷ [] → at ≡ length all → n ≤ at - 1
     → join_with_byte slash (spelled_items n (map percent_decode all)) ≡ each_closed (spelled_items n (map percent_decode front)) ++ canonical_name (percent_decode item)
 joined-step n all front item at e f h =
-    let len : length (map percent_decode front) ≡ at - 1 = mapped_length front ∙ one_less all front item at e f in
+    let len : length (map percent_decode front) ≡ at - 1 = length-map front percent_decode ∙ one_less all front item at e f in
     ap (λ list. join_with_byte slash (spelled_items n list)) (decoded-last all front item e)
     ∙ joined-last n (map percent_decode front) (percent_decode item) (subst (λ k. n ≤ k) (sym len) h)
 

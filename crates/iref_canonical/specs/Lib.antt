@@ -1,7 +1,10 @@
 pub mod Backward
 pub mod BackwardLaws
 pub mod Canonical
+pub mod CanonicalParts
+pub mod CanonicalReferences
 pub mod Decoded
 pub mod Lower
+pub mod FutureLiteral
 pub mod SortKey
 pub mod SpelledItems

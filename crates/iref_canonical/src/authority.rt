@@ -1,4 +1,12 @@
 //! The authority of the canonical text of a reference (RFC 3986 sections 3.2 and 6.2.2).
+ghost use Rattle.std.specs.{Prelude.{◌≡◌, [], ◌∷◌}, Option.{option_copied}};
+ghost use Rattle.std.specs.Prelude.{option_map};
+ghost use Rattle.percent_encoding.specs.Percent.{percent_decode};
+ghost use Rattle.iref_grammar.specs.Authority.{read_authority, spell_authority};
+ghost use Rattle.iref_grammar.specs.{Characters.{uri_chars}, Texts.{part_then, then_part}};
+ghost use Rattle.iref_grammar.specs.Grammar.{at_sign, colon, is_user_info_char};
+ghost use Rattle.iref_model.specs.AuthorityKey.{authority_key};
+ghost use Rattle.iref_canonical.specs.Canonical.{canonical_authority, canonical_host, encoded};
 
 use crate::backward::Backward;
 use crate::encoded::{REG_NAME, USER_INFO, put_encoded};
@@ -9,22 +17,54 @@ use percent_encoding::AsciiSet;
 /// What is escaped in an IP literal: nothing that it holds.
 const NOTHING: AsciiSet = AsciiSet::EMPTY;
 
-// Puts the host. An IP literal stands.
-fn put_host<O: Backward>(out: &mut O, host: &str) {
-    let set = if decodes_to_ip_literal(host) { NOTHING } else { REG_NAME };
-    put_encoded(out, host, set);
-}
-
-/// Puts the authority.
-pub(crate) fn put_authority<O: Backward>(out: &mut O, text: &str) {
-    let parts = split_parts(text);
-    if let Some(port) = parts.port {
+// Puts a port after its `:`, if there is one.
+fn put_port<O: Backward>(out: &mut O, port: Option<&str>)
+    requires { O.fits out.old (then_part (colon ∷ []) (option_copied port)) }
+    ensures { out.new ≡ O.after out.old (then_part (colon ∷ []) (option_copied port.entry)) }
+{
+    if let Some(port) = port {
         out.put(port.as_bytes());
         out.put(b":");
     }
-    put_host(out, parts.host);
-    if let Some(user_info) = parts.user_info {
+}
+
+// Puts the host. An IP literal stands.
+fn put_host<O: Backward>(out: &mut O, host: &str)
+    requires { O.fits out.old (canonical_host (percent_decode host.now)) }
+    ensures { out.new ≡ O.after out.old (canonical_host (percent_decode host.now)) }
+{
+    let set = if decodes_to_ip_literal(host) {
+        NOTHING
+    } else {
+        REG_NAME
+    };
+    put_encoded(out, host, set);
+}
+
+// Puts a user info before its `@`, if there is one.
+fn put_user_info<O: Backward>(out: &mut O, user_info: Option<&str>)
+    requires { O.fits out.old (part_then (at_sign ∷ [])
+        (option_map (encoded (is_user_info_char uri_chars))
+        (option_map percent_decode (option_copied user_info)))) }
+    ensures { out.new ≡ O.after out.old (part_then (at_sign ∷ [])
+        (option_map (encoded (is_user_info_char uri_chars))
+        (option_map percent_decode (option_copied user_info.entry)))) }
+{
+    if let Some(user_info) = user_info {
         out.put(b"@");
         put_encoded(out, user_info, USER_INFO);
     }
+}
+
+/// Puts the authority.
+pub(crate) fn put_authority<O: Backward>(out: &mut O, text: &str)
+    requires { O.fits out.old
+        (spell_authority (canonical_authority (authority_key (read_authority text.now)))) }
+    ensures { out.new ≡ O.after out.old
+        (spell_authority (canonical_authority (authority_key (read_authority text.now)))) }
+{
+    let parts = split_parts(text);
+    put_port(out, parts.port);
+    put_host(out, parts.host);
+    put_user_info(out, parts.user_info);
 }

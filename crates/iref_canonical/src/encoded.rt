@@ -8,10 +8,24 @@ use crate::backward::Backward;
 use percent_encoding::{AsciiSet, NON_ALPHANUMERIC, ascii_set, percent_encode_byte};
 
 /// What is escaped in a registered name (RFC 3986 section 3.2.2).
-pub const REG_NAME: AsciiSet = ascii_set!(NON_ALPHANUMERIC
-    .remove(b'-').remove(b'.').remove(b'_').remove(b'~')
-    .remove(b'!').remove(b'$').remove(b'&').remove(b'\'').remove(b'(').remove(b')')
-    .remove(b'*').remove(b'+').remove(b',').remove(b';').remove(b'='));
+pub const REG_NAME: AsciiSet = ascii_set!(
+    NON_ALPHANUMERIC
+        .remove(b'-')
+        .remove(b'.')
+        .remove(b'_')
+        .remove(b'~')
+        .remove(b'!')
+        .remove(b'$')
+        .remove(b'&')
+        .remove(b'\'')
+        .remove(b'(')
+        .remove(b')')
+        .remove(b'*')
+        .remove(b'+')
+        .remove(b',')
+        .remove(b';')
+        .remove(b'=')
+);
 
 /// What is escaped in a user info (RFC 3986 section 3.2.1).
 pub const USER_INFO: AsciiSet = ascii_set!(REG_NAME.remove(b':'));

@@ -1,6 +1,12 @@
 //! Whether a host decodes to an IP literal (RFC 3986 section 3.2.2).
+ghost use Rattle.std.specs.Prelude.{◌≡◌, ◌&&◌, ◌||◌, ◌==◌, length, nat_le, slice_index};
+ghost use Rattle.percent_encoding.specs.Percent.{percent_decode};
+ghost use Rattle.iref_grammar.specs.Grammar.{left_bracket, percent_sign};
+ghost use Rattle.iref_grammar.specs.Tests as test;
+ghost use Rattle.iref_canonical.specs.FutureLiteral as future;
 
 use iref_parse::host::is_ip_literal;
+use iref_parse::scan::is_future_char;
 use percent_encoding::percent_decode_str;
 use std::str;
 
@@ -8,7 +14,7 @@ use std::str;
 const LONGEST: usize = 47;
 
 // How far the bytes of an address of a future version were read.
-#[derive(Clone, Copy, PartialEq, Eq)]
+#[derive(Clone, Copy)]
 enum Progress {
     Nothing,
     Bracket,
@@ -16,44 +22,61 @@ enum Progress {
     Version,
     Stop,
     Address,
-    All,
+    Whole,
     Other,
 }
 
-fn is_future_char(byte: u8) -> bool {
-    byte.is_ascii_alphanumeric()
-        || matches!(
-            byte,
-            b'-' | b'.' | b'_' | b'~' | b'!' | b'$' | b'&' | b'\'' | b'(' | b')' | b'*' | b'+' | b','
-                | b';' | b'=' | b':'
-        )
-}
-
-fn after_byte(state: Progress, byte: u8) -> Progress {
-    match state {
+// How far they are read after one more byte.
+fn after_byte(progress: Progress, byte: u8) -> Progress
+    ensures { result ≡ future.after_byte progress byte }
+{
+    match progress {
         Progress::Nothing if byte == b'[' => Progress::Bracket,
         Progress::Bracket if byte == b'v' || byte == b'V' => Progress::V,
         Progress::V if byte.is_ascii_hexdigit() => Progress::Version,
         Progress::Version if byte.is_ascii_hexdigit() => Progress::Version,
         Progress::Version if byte == b'.' => Progress::Stop,
-        Progress::Stop if is_future_char(byte) => Progress::Address,
-        Progress::Address if is_future_char(byte) => Progress::Address,
-        Progress::Address if byte == b']' => Progress::All,
+        Progress::Stop if is_future_char(char::from(byte)) => Progress::Address,
+        Progress::Address if is_future_char(char::from(byte)) => Progress::Address,
+        Progress::Address if byte == b']' => Progress::Whole,
         _ => Progress::Other,
     }
 }
 
+// Whether all of it was read.
+fn is_whole(progress: Progress) -> bool
+    ensures { result ≡ future.is_whole progress }
+{
+    matches!(progress, Progress::Whole)
+}
+
 // Whether the text decodes to an address of a future version in brackets.
-fn decodes_to_future(text: &str) -> bool {
-    let mut state = Progress::Nothing;
+fn decodes_to_future(text: &str) -> bool
+    ensures { result ≡ test.some_and test.is_ipvfuture
+        (test.in_brackets (percent_decode text.now)) }
+{
+    let mut progress = Progress::Nothing;
     for byte in percent_decode_str(text) {
-        state = after_byte(state, byte);
+        progress = after_byte(progress, byte);
     }
-    state == Progress::All
+    is_whole(progress)
+}
+
+// Whether the bytes are an IP literal.
+fn are_ip_literal(bytes: &[u8]) -> bool
+    ensures { result ≡ test.is_ip_literal bytes.now }
+{
+    match str::from_utf8(bytes) {
+        Ok(text) => is_ip_literal(text),
+        Err(_) => false,
+    }
 }
 
 // Whether the text decodes to few bytes that are an IP literal.
-fn few_decode(text: &str) -> bool {
+fn few_decode(text: &str) -> bool
+    ensures { result ≡ (nat_le (length (percent_decode text.now)) 47
+        && test.is_ip_literal (percent_decode text.now)) }
+{
     let mut bytes = [0; LONGEST];
     let mut len = 0;
     for byte in percent_decode_str(text) {
@@ -63,13 +86,28 @@ fn few_decode(text: &str) -> bool {
         bytes[len] = byte;
         len += 1;
     }
-    match str::from_utf8(&bytes[..len]) {
-        Ok(text) => is_ip_literal(text),
-        Err(_) => false,
-    }
+    are_ip_literal(&bytes[..len])
 }
 
-/// Whether the text decodes to an IP literal.
-pub(crate) fn decodes_to_ip_literal(text: &str) -> bool {
+// Whether all of the text decodes to an IP literal. Each of its bytes is decoded.
+fn is_literal_decoded(text: &str) -> bool
+    ensures { result ≡ test.is_ip_literal (percent_decode text.now) }
+{
     few_decode(text) || decodes_to_future(text)
+}
+
+// Whether the first byte may be that of an IP literal, or of its escape.
+fn begins_as_literal(text: &str) -> bool
+    ensures { result ≡ (slice_index text.now 0 == left_bracket
+        || slice_index text.now 0 == percent_sign) }
+{
+    text.starts_with('[') || text.starts_with('%')
+}
+
+/// Whether the text decodes to an IP literal. Of most hosts the first byte tells that they do not.
+#[tactic(auto, using(crate::proofs::LiteralLengthLemmas::no_literal))]
+pub(crate) fn decodes_to_ip_literal(text: &str) -> bool
+    ensures { result ≡ test.is_ip_literal (percent_decode text.now) }
+{
+    begins_as_literal(text) && is_literal_decoded(text)
 }

@@ -1,5 +1,6 @@
 //! The path of the canonical text of a reference (RFC 3986 section 6.2.2).
-ghost use Rattle.std.specs.Prelude.{◌≡◌, ◌+◌, ◌-◌, ◌<◌, ◌≤◌, ◌^◌, ◌++◌, ◌∷◌, [], length};
+ghost use Rattle.std.specs.Prelude.{◌≡◌, ◌-◌, ◌<◌, ◌≤◌, ◌^◌, ◌++◌, ◌∷◌, [], length};
+ghost use Rattle.std.specs.Prelude.{if◌then◌else◌};
 ghost use Rattle.std.specs.{Char.{char_set_contains}, List.{join_with_byte}};
 ghost use Rattle.percent_encoding.specs.Percent.{percent_decode};
 ghost use Rattle.iref_grammar.specs.{Grammar.{colon, slash}, PathValue.{read_path, spell_path}};
@@ -70,9 +71,22 @@ fn count_standing(mut left: Merged<'_>) -> usize
     }
     let mut standing = 0;
     while let Some(item) = left.next_back() {
-        standing = if decodes_to_dots(item) { standing + 1 } else { 0 };
+        standing = if decodes_to_dots(item) {
+            standing + 1
+        } else {
+            0
+        };
     }
     standing
+}
+
+// How many items of a list stand.
+fn count_standing_in(absolute: bool, left: Merged<'_>) -> usize
+    requires sound { IsMergeSound left }
+    requires countable { length (merged_left left) < 2 ^ 64 }
+    ensures { result ≡ (if absolute then 0 else standing_of (decoded_left left.entry)) }
+{
+    if absolute { 0 } else { count_standing(left) }
 }
 
 // A text that is empty, or has a `:`, exactly if what the item decodes to is or has.
@@ -167,7 +181,7 @@ impl<'a> CanonicalPath<'a> {
         let (absolute, segments) = split_root(path);
         let all = Merged::new(absolute, None, segments);
         let guard = guard_in(context, absolute, all.count, sample(all.first));
-        let standing = if absolute { 0 } else { count_standing(all.items) };
+        let standing = count_standing_in(absolute, all.items);
         CanonicalPath {
             guard,
             items: all.items,
@@ -177,6 +191,7 @@ impl<'a> CanonicalPath<'a> {
     }
 
     /// Puts the path.
+    #[tactic(auto, unfolding(crate::specs::SpelledItems::canonical_path_text))]
     pub(crate) fn put<O: Backward>(&self, out: &mut O)
         requires counted { IsCounted self.now }
         requires fits { O.fits out.old (canonical_path_text self.now) }

@@ -1,4 +1,12 @@
 //! The canonical text of a reference, from the components of its text (RFC 3986 section 6.2.2).
+ghost use Rattle.std.specs.Prelude.{◌≡◌, ◌++◌, ◌∷◌, [], codes, bytes_eq, length, option_map, IfOk};
+ghost use Rattle.std.specs.{Option.{option_copied}, Str.{str_to_ascii_lowercase}};
+ghost use Rattle.iref_grammar.specs.{Grammar.{colon}, Rules.{Text}, Texts.{part_then, then_part}};
+ghost use Rattle.iref_model.specs.Key.{key};
+ghost use Rattle.iref_parse.specs.ReferenceSlices.{value_of};
+ghost use Rattle.iref_canonical.specs.Canonical.{canonical_text};
+ghost use Rattle.iref_canonical.specs.CanonicalParts.{encoded_authority, encoded_query};
+ghost use Rattle.iref_canonical.specs.CanonicalReferences.{IsMeasured, measured_canonical};
 
 use crate::authority::put_authority;
 use crate::backward::{Backward, Compared, Count, Written};
@@ -16,8 +24,12 @@ pub struct CanonicalReference<'a> {
     path: CanonicalPath<'a>,
 }
 
-// Puts a mark and a query or fragment after it, if there is one.
-fn put_marked<O: Backward>(out: &mut O, mark: &[u8], part: Option<&str>) {
+// Puts a query or a fragment after its delimiter, if there is one.
+fn put_marked<O: Backward>(out: &mut O, mark: &[u8], part: Option<&str>)
+    requires { O.fits out.old (then_part mark.now (encoded_query (option_copied part))) }
+    ensures { out.new ≡ O.after out.old
+        (then_part mark.entry.now (encoded_query (option_copied part.entry))) }
+{
     if let Some(part) = part {
         put_encoded(out, part, QUERY);
         out.put(mark);
@@ -25,7 +37,12 @@ fn put_marked<O: Backward>(out: &mut O, mark: &[u8], part: Option<&str>) {
 }
 
 // Puts a scheme in lower case and its `:`, if there is one.
-fn put_scheme<O: Backward>(out: &mut O, scheme: Option<&str>) {
+fn put_scheme<O: Backward>(out: &mut O, scheme: Option<&str>)
+    requires { O.fits out.old (part_then (colon ∷ [])
+        (option_map str_to_ascii_lowercase (option_copied scheme))) }
+    ensures { out.new ≡ O.after out.old (part_then (colon ∷ [])
+        (option_map str_to_ascii_lowercase (option_copied scheme.entry))) }
+{
     if let Some(scheme) = scheme {
         out.put(b":");
         put_lower(out, scheme);
@@ -33,7 +50,12 @@ fn put_scheme<O: Backward>(out: &mut O, scheme: Option<&str>) {
 }
 
 // Puts an authority after `//`, if there is one.
-fn put_marked_authority<O: Backward>(out: &mut O, authority: Option<&str>) {
+fn put_marked_authority<O: Backward>(out: &mut O, authority: Option<&str>)
+    requires { O.fits out.old
+        (then_part (codes "//") (encoded_authority (option_copied authority))) }
+    ensures { out.new ≡ O.after out.old
+        (then_part (codes "//") (encoded_authority (option_copied authority.entry))) }
+{
     if let Some(authority) = authority {
         put_authority(out, authority);
         out.put(b"//");
@@ -42,7 +64,10 @@ fn put_marked_authority<O: Backward>(out: &mut O, authority: Option<&str>) {
 
 impl<'a> CanonicalReference<'a> {
     /// The canonical text of the reference of these components.
-    pub fn new(slices: ReferenceSlices<'a>) -> Self {
+    pub fn new(slices: ReferenceSlices<'a>) -> Self
+        ensures text { measured_canonical result ≡ canonical_text (key (value_of slices.entry)) }
+        ensures measured { IsMeasured result }
+    {
         let context = PathContext {
             has_scheme: slices.scheme.is_some(),
             has_authority: slices.authority.is_some(),
@@ -54,7 +79,11 @@ impl<'a> CanonicalReference<'a> {
     }
 
     // Puts the text.
-    fn put<O: Backward>(&self, out: &mut O) {
+    fn put<O: Backward>(&self, out: &mut O)
+        requires measured { IsMeasured self.now }
+        requires fits { O.fits out.old (measured_canonical self.now) }
+        ensures { out.new ≡ O.after out.old (measured_canonical self.now) }
+    {
         put_marked(out, b"#", self.slices.fragment);
         put_marked(out, b"?", self.slices.query);
         self.path.put(out);
@@ -63,25 +92,35 @@ impl<'a> CanonicalReference<'a> {
     }
 
     /// How many bytes the text has, if they can be counted.
-    pub fn len(&self) -> Result<usize, AllocError> {
+    pub fn len(&self) -> Result<usize, AllocError>
+        requires { IsMeasured self.now }
+        ensures { IfOk result (λ len. len ≡ length (measured_canonical self.now)) }
+    {
         let mut count = Count::new();
         self.put(&mut count);
-        if count.len() == usize::MAX {
+        let len = count.len();
+        if len == usize::MAX {
             Err(AllocError)
         } else {
-            Ok(count.len())
+            Ok(len)
         }
     }
 
     /// The bytes of the text. The room is taken once.
-    pub fn bytes(&self, alloc: Global) -> Result<Vec<u8>, Memory> {
+    pub fn bytes(&self, alloc: Global) -> Result<Vec<u8>, Memory>
+        requires { IsMeasured self.now }
+        ensures { IfOk result (λ bytes. bytes.items ≡ measured_canonical self.now) }
+    {
         let mut written = Written::new(alloc, self.len()?)?;
         self.put(&mut written);
         Ok(written.into_bytes())
     }
 
     /// Whether these are the bytes of the text.
-    pub fn is(&self, bytes: &[u8]) -> bool {
+    pub fn is(&self, bytes: &[u8]) -> bool
+        requires { IsMeasured self.now }
+        ensures { result ≡ bytes_eq bytes.now (measured_canonical self.now) }
+    {
         let mut compared = Compared::new(bytes);
         self.put(&mut compared);
         compared.is_whole()

@@ -73,7 +73,7 @@ fn is_scheme_char(c: char) -> bool
 }
 
 /// Whether an IPvFuture address may hold the character after its version (RFC 3986 section 3.2.2).
-pub(crate) fn is_future_char(c: char) -> bool
+pub fn is_future_char(c: char) -> bool
     ensures { result ≡ grammar.is_future_char c }
 {
     c.is_ascii_alphanumeric() || matches!(c, '-' | '.' | '_' | '~') || is_sub_delim(c) || c == ':'

@@ -90,7 +90,7 @@ normal_size-text absolute text = omega (arith, normal_size (flagged_path absolut
 -- ---- the spelling
 
 -- the root and the guard of a list, in its text
-list-spelled : (context : PathContext) (absolute : Bool) (list : List Text) → is_one_empty list ≡ false
+pub list-spelled : (context : PathContext) (absolute : Bool) (list : List Text) → is_one_empty list ≡ false
     → spell_path (guarded context (record { absolute = absolute; segments = list })) ≡ guard_in context absolute (length (each_closed list)) (first_or [] list) ++ join_with_byte slash list
 unfolding spell_path guarded
 list-spelled context absolute [] h = grind (arith, append-nil)

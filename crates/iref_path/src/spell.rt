@@ -129,12 +129,7 @@ pub(crate) fn guard(rooted: bool, dotted: bool) -> &'static str
 
 /// What guards a list in its context. The list takes `size` bytes with a `/` after each item, and
 /// begins with the segment `first`. After an authority, a list that has items is absolute.
-pub fn guard_in(
-    context: PathContext,
-    absolute: bool,
-    size: usize,
-    first: &str,
-) -> &'static str
+pub fn guard_in(context: PathContext, absolute: bool, size: usize, first: &str) -> &'static str
     ensures text { result.now ≡ spelling.guard_in context absolute size first.now }
     ensures short { length result.now ≤ 3 }
 {

@@ -6,3 +6,4 @@ pub mod SuffixLemmas
 pub mod RelativeLemmas
 pub mod MappingLemmas
 pub mod PartLemmas
+pub mod CanonicalLemmas

@@ -1,5 +1,6 @@
 //! The rules of references and of URIs, and what both are compared by (RFC 3986 sections 3, 4.1
 //! and 6.2.2).
+ghost use Rattle.std.proofs.Common.{sym, ◌∙◌};
 ghost use Rattle.std.specs.Prelude.{◌≡◌, true, refl, is_some};
 ghost use Rattle.iref_component.specs.{IsUri, IsUriReference, read_reference, is_reference};
 ghost use Rattle.iref_component.specs.{is_uri, Text, CharTests};
@@ -74,6 +75,8 @@ impl HeldRule for ReferenceRule {
 
     ghost references = { λ _ _ in_rule. in_rule };
 
+    ghost by_presence = { λ _ _ _ _. refl };
+
     ghost keeps_bases = { base_of_in_rule };
 
     fn parse<C: CharSet>(text: &str) -> Option<ReferenceSlices<'_>> {
@@ -124,6 +127,8 @@ impl HeldRule for UriRule {
     ghost by_scheme = { uri_if_scheme };
 
     ghost references = { reference_if_uri };
+
+    ghost by_presence = { λ _ _ same some. sym same ∙ some };
 
     ghost keeps_bases = { base_of_in_uri_rule };
 

@@ -52,6 +52,10 @@ pub trait HeldRule: Rule {
     ghost by_scheme: { (tests : CharTests) (text : Text) → is_reference tests text ≡ true
         → Self.allows_scheme (read_reference text).scheme ≡ true → Self.test tests text ≡ true };
 
+    /// Whether the rule allows a scheme depends only on whether there is one.
+    ghost by_presence: { (one other : Option Text) → is_some one ≡ is_some other
+        → Self.allows_scheme one ≡ true → Self.allows_scheme other ≡ true };
+
     /// The base of what is in the rule is in it too.
     ghost keeps_bases: { (tests : CharTests) → AreAboveAscii tests
         → (text : Text) → Self.test tests text ≡ true

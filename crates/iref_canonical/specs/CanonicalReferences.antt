@@ -1,0 +1,22 @@
+-- The canonical text of a reference that is measured before it is written.
+use Rattle.std.specs.Prelude.{◌≡◌, ◌∷◌, ◌++◌, [], codes, option_map}
+use Rattle.std.specs.Option.{option_copied}
+use Rattle.std.specs.Str.{str_to_ascii_lowercase}
+use Rattle.iref_grammar.specs.Grammar.{colon, hash_sign, question_mark}
+use Rattle.iref_grammar.specs.Rules.{Text}
+use Rattle.iref_grammar.specs.Texts.{part_then, then_part}
+use Rattle.iref_canonical.specs.CanonicalParts.{encoded_authority, encoded_query}
+use Rattle.iref_canonical.specs.SpelledItems.{IsCounted, canonical_path_text}
+use Rattle.iref_canonical.specs.declared.reference.CanonicalReference.{CanonicalReference}
+
+-- its components, one after the other
+unfoldable pub measured_canonical : CanonicalReference → Text
+measured_canonical r =
+    part_then (colon ∷ []) (option_map str_to_ascii_lowercase (option_copied r.slices.scheme))
+    ++ then_part (codes "//") (encoded_authority (option_copied r.slices.authority)) ++ canonical_path_text r.path
+    ++ then_part (question_mark ∷ []) (encoded_query (option_copied r.slices.query))
+    ++ then_part (hash_sign ∷ []) (encoded_query (option_copied r.slices.fragment))
+
+-- its path is counted
+abbrev pub IsMeasured : CanonicalReference → Type 0
+IsMeasured r = IsCounted r.path
