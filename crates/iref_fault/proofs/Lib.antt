@@ -8,3 +8,6 @@ pub mod ReferenceFaultLemmas
 pub mod FaultLemmas
 pub mod CutReadLemmas
 mod FaultRows
+pub mod BytePlaceLemmas
+pub mod OnesPlaceLemmas
+pub mod FirstCharLemmas
