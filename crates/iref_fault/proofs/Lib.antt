@@ -11,3 +11,8 @@ mod FaultRows
 pub mod BytePlaceLemmas
 pub mod OnesPlaceLemmas
 pub mod FirstCharLemmas
+pub mod FirstPlaceLemmas
+pub mod BracketLemmas
+pub mod HostLemmas
+pub mod HierarchyPlaceLemmas
+pub mod FaultValueLemmas

@@ -1,25 +1,29 @@
 //! Where a text is wrong, and why.
-ghost use Rattle.std.specs.Prelude.{◌≡◌, ◌≤◌, length, option_map, true, false, MatchResult};
+ghost use Rattle.std.specs.Prelude.{◌≡◌, option_map, true, false, chars, IfSome, MatchResult};
 ghost use Rattle.std.specs.Str.{IsCharBoundary, is_utf8};
 ghost use Rattle.iref_grammar.specs.Characters.{CharTests};
 ghost use Rattle.iref_fault.specs.BytePlaces.{fault_value, invalid_component, value_at};
 ghost use Rattle.iref_fault.specs.Faults as spec;
-ghost use Rattle.iref_fault.specs.Faults.{fault_of_part, not_utf8};
+ghost use Rattle.iref_fault.specs.Faults.{fault_of_part, first_char, not_utf8};
 ghost use Rattle.iref_fault.specs.Places as rule;
 
 use crate::component::{Cause, Component};
-use crate::pieces::{Place, has_scheme, place_in_authority, place_in_reference, placed};
-use crate::scan;
+use crate::pieces::{
+    Place, has_scheme, place_in_authority, place_in_fragment, place_in_host, place_in_path,
+    place_in_port, place_in_query, place_in_reference, place_in_scheme, place_in_segment,
+    place_in_user_info,
+};
 use iref_grammar::chars::CharSet;
+use iref_parse::scan::split_first_char;
 use std::{fmt, str};
 
 /// Where a text is wrong, and why: of the URI `http://h:8x/`, that its port is invalid at byte 10,
 /// where `x` stands. It is printed as `invalid port at byte 10: 'x'`.
 #[derive(Clone, Copy, Debug, PartialEq, Eq)]
 pub struct Fault {
-    pub(crate) cause: Cause,
-    pub(crate) at: usize,
-    pub(crate) found: Option<char>,
+    cause: Cause,
+    at: usize,
+    found: Option<char>,
 }
 
 impl Fault {
@@ -86,23 +90,26 @@ impl fmt::Display for Fault {
     }
 }
 
-// The fault at this place of the text.
-fn fault_at(text: &str, place: Place) -> Fault
-    requires { IsCharBoundary text.now place.at }
-    ensures { fault_value result ≡ value_at text.now place }
+// The first character.
+fn first_char(text: &str) -> Option<char>
+    ensures { result ≡ first_char (chars text.now) }
 {
-    let (_, rest) = text.split_at(place.at);
-    Fault {
-        cause: Cause::Invalid(place.component),
-        at: place.at,
-        found: rest.chars().next(),
-    }
+    let (first, _) = split_first_char(text)?;
+    Some(first)
 }
 
-// Of a single text, from where it is wrong.
-fn fault_of_part(text: &str, component: Component, at: Option<usize>) -> Option<Fault> {
-    let at = at?;
-    Some(fault_at(text, Place { component, at }))
+// The fault at this place of the text, if there is one.
+fn fault_at(text: &str, place: Option<Place>) -> Option<Fault>
+    requires { IfSome place (λ p. IsCharBoundary text.now p.at) }
+    ensures { option_map fault_value result ≡ option_map (value_at text.now) place }
+{
+    let Place { component, at } = place?;
+    let (_, rest) = text.split_at(at);
+    Some(Fault {
+        cause: Cause::Invalid(component),
+        at,
+        found: first_char(rest),
+    })
 }
 
 /// The fault of a scheme (RFC 3986 section 3.1), if it is wrong: of `a b`, at 1.
@@ -110,21 +117,21 @@ pub fn fault_of_scheme(text: &str) -> Option<Fault>
     ensures { (set : CharTests) → option_map fault_value result
         ≡ fault_of_part set rule.Scheme text.now }
 {
-    fault_of_part(text, Component::Scheme, scan::scheme_place(text))
+    fault_at(text, place_in_scheme(Some(text)))
 }
 
 /// The fault of a user info (RFC 3986 section 3.2.1), if it is wrong: of `a@b`, at 1.
 pub fn fault_of_user_info<C: CharSet>(text: &str) -> Option<Fault>
     ensures { option_map fault_value result ≡ fault_of_part C.tests rule.UserInfo text.now }
 {
-    fault_of_part(text, Component::UserInfo, scan::user_info_place::<C>(text))
+    fault_at(text, place_in_user_info::<C>(0, text))
 }
 
 /// The fault of a host (RFC 3986 section 3.2.2), if it is wrong: of `a b`, at 1, and of `[::1`, at 0.
 pub fn fault_of_host<C: CharSet>(text: &str) -> Option<Fault>
     ensures { option_map fault_value result ≡ fault_of_part C.tests rule.Host text.now }
 {
-    fault_of_part(text, Component::Host, scan::host_place::<C>(text))
+    fault_at(text, place_in_host::<C>(0, text))
 }
 
 /// The fault of a port (RFC 3986 section 3.2.3), if it is wrong: of `8x0`, at 1.
@@ -132,14 +139,14 @@ pub fn fault_of_port(text: &str) -> Option<Fault>
     ensures { (set : CharTests) → option_map fault_value result
         ≡ fault_of_part set rule.Port text.now }
 {
-    fault_of_part(text, Component::Port, scan::port_place(text))
+    fault_at(text, place_in_port(0, Some(text)))
 }
 
 /// The fault of a path (RFC 3986 section 3.3), if it is wrong: of `a%4`, at 3, where it ends.
 pub fn fault_of_path<C: CharSet>(text: &str) -> Option<Fault>
     ensures { option_map fault_value result ≡ fault_of_part C.tests rule.Path text.now }
 {
-    fault_of_part(text, Component::Path, scan::path_place::<C>(text))
+    fault_at(text, place_in_path::<C>(0, text, true))
 }
 
 /// The fault of a segment (RFC 3986 section 3.3), if it is wrong: of `a/b`, at 1. The component is
@@ -147,35 +154,35 @@ pub fn fault_of_path<C: CharSet>(text: &str) -> Option<Fault>
 pub fn fault_of_segment<C: CharSet>(text: &str) -> Option<Fault>
     ensures { option_map fault_value result ≡ fault_of_part C.tests rule.Segment text.now }
 {
-    fault_of_part(text, Component::Path, scan::segment_place::<C>(text))
+    fault_at(text, place_in_segment::<C>(text))
 }
 
 /// The fault of a query (RFC 3986 section 3.4), if it is wrong: of `a#b`, at 1.
 pub fn fault_of_query<C: CharSet>(text: &str) -> Option<Fault>
     ensures { option_map fault_value result ≡ fault_of_part C.tests rule.Query text.now }
 {
-    fault_of_part(text, Component::Query, scan::query_place::<C>(text))
+    fault_at(text, place_in_query::<C>(0, Some(text)))
 }
 
 /// The fault of a fragment (RFC 3986 section 3.5), if it is wrong: of `a#b`, at 1.
 pub fn fault_of_fragment<C: CharSet>(text: &str) -> Option<Fault>
     ensures { option_map fault_value result ≡ fault_of_part C.tests rule.Fragment text.now }
 {
-    fault_of_part(text, Component::Fragment, scan::fragment_place::<C>(text))
+    fault_at(text, place_in_fragment::<C>(0, Some(text)))
 }
 
 /// The fault of an authority (RFC 3986 section 3.2), if it is wrong: of `u@h:8x`, in the port, at 5.
 pub fn fault_of_authority<C: CharSet>(text: &str) -> Option<Fault>
     ensures { option_map fault_value result ≡ spec.fault_of_authority C.tests text.now }
 {
-    Some(fault_at(text, place_in_authority::<C>(0, text)?))
+    fault_at(text, place_in_authority::<C>(0, text))
 }
 
 /// The fault of a reference (RFC 3986 section 4.1), if it is wrong: of `a/b c`, in the path, at 3.
 pub fn fault_of_reference<C: CharSet>(text: &str) -> Option<Fault>
     ensures { option_map fault_value result ≡ spec.fault_of_reference C.tests text.now }
 {
-    Some(fault_at(text, place_in_reference::<C>(text)?))
+    fault_at(text, place_in_reference::<C>(text))
 }
 
 /// The fault of a URI (RFC 3986 section 3), if it is wrong: of `a/b`, that it has no scheme.

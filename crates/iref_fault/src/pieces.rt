@@ -1,17 +1,18 @@
 //! The cut of any text into components and parts (RFC 3986 appendix B), and the first of them that
 //! is outside its rule.
-ghost use Rattle.std.specs.Prelude.{◌≡◌, ◌+◌, ◌<◌, ◌^◌, [], ◌∷◌, length, IfSome, is_some, true};
+ghost use Rattle.std.specs.Prelude.{◌≡◌, ◌+◌, ◌<◌, ◌^◌, [], ◌∷◌, length, IfSome, is_some, ◌||◌};
 ghost use Rattle.std.specs.Option.{option_copied};
 ghost use Rattle.iref_grammar.specs.Characters.{CharTests};
-ghost use Rattle.iref_grammar.specs.Grammar.{left_bracket};
+ghost use Rattle.iref_grammar.specs.Grammar.{right_bracket};
 ghost use Rattle.iref_grammar.specs.Reference.{hierarchy};
-ghost use Rattle.iref_grammar.specs.Texts.{begins_with};
+ghost use Rattle.iref_grammar.specs.Texts.{after};
 ghost use Rattle.iref_fault.specs.Cut as spec;
 ghost use Rattle.iref_fault.specs.Cut.{piece, piece_if, authority_pieces, authority_pieces_if};
 ghost use Rattle.iref_fault.specs.Cut.{host_pieces, pieces_of, has_cut_scheme};
 ghost use Rattle.iref_fault.specs.CutSteps.{after_last, hierarchy_pieces, path_rule};
+ghost use Rattle.iref_fault.specs.CutSteps.{pieces_after_scheme};
 ghost use Rattle.iref_fault.specs.Places as rule;
-ghost use Rattle.iref_fault.specs.BytePlaces.{first_place, placed};
+ghost use Rattle.iref_fault.specs.BytePlaces.{byte_place, first_place, placed};
 
 use crate::component::Component;
 use crate::scan;
@@ -28,8 +29,8 @@ pub struct Place {
     pub at: usize,
 }
 
-/// The place in a component that begins at `start`.
-pub(crate) fn placed(component: Component, start: usize, at: Option<usize>) -> Option<Place>
+// The place in a component that begins at `start`.
+fn placed(component: Component, start: usize, at: Option<usize>) -> Option<Place>
     requires { IfSome at (λ n. start + n < 2 ^ 64) }
     ensures { result ≡ placed component start at }
 {
@@ -38,7 +39,7 @@ pub(crate) fn placed(component: Component, start: usize, at: Option<usize>) -> O
 }
 
 // Of a scheme.
-fn place_in_scheme(part: Option<&str>) -> Option<Place>
+pub(crate) fn place_in_scheme(part: Option<&str>) -> Option<Place>
     ensures { (set : CharTests) → result
         ≡ first_place set (piece_if rule.Scheme 0 (option_copied part.entry)) }
 {
@@ -46,7 +47,7 @@ fn place_in_scheme(part: Option<&str>) -> Option<Place>
 }
 
 // Of a port.
-fn place_in_port(start: usize, part: Option<&str>) -> Option<Place>
+pub(crate) fn place_in_port(start: usize, part: Option<&str>) -> Option<Place>
     requires { IfSome (option_copied part) (λ t. start + length t < 2 ^ 64) }
     ensures { (set : CharTests) → result
         ≡ first_place set (piece_if rule.Port start (option_copied part.entry)) }
@@ -54,21 +55,35 @@ fn place_in_port(start: usize, part: Option<&str>) -> Option<Place>
     placed(Component::Port, start, scan::port_place(part?))
 }
 
-// Of a path. Where nothing stands before it, it does not begin with `:`.
-fn place_in_path<C: CharSet>(start: usize, path: &str, follows: bool) -> Option<Place>
-    requires { start + length path.now < 2 ^ 64 }
-    ensures { result ≡ first_place C.tests (piece (path_rule follows) start path.now) }
+// Where a path is wrong: where nothing stands before it, it does not begin with `:`.
+#[tactic(auto, unfolding(crate::specs::Places::place_in))]
+fn path_place<C: CharSet>(path: &str, follows: bool) -> Option<usize>
+    ensures { result ≡ byte_place (rule.place_in C.tests (path_rule follows)) path.now }
 {
-    let at = if follows {
+    if follows {
         scan::path_place::<C>(path)
     } else {
         scan::bare_path_place::<C>(path)
-    };
-    placed(Component::Path, start, at)
+    }
+}
+
+// Of a path.
+pub(crate) fn place_in_path<C: CharSet>(start: usize, path: &str, follows: bool) -> Option<Place>
+    requires { start + length path.now < 2 ^ 64 }
+    ensures { result ≡ first_place C.tests (piece (path_rule follows) start path.now) }
+{
+    placed(Component::Path, start, path_place::<C>(path, follows))
+}
+
+// Of a segment alone.
+pub(crate) fn place_in_segment<C: CharSet>(text: &str) -> Option<Place>
+    ensures { result ≡ first_place C.tests (piece rule.Segment 0 text.now) }
+{
+    placed(Component::Path, 0, scan::segment_place::<C>(text))
 }
 
 // Of a query.
-fn place_in_query<C: CharSet>(start: usize, part: Option<&str>) -> Option<Place>
+pub(crate) fn place_in_query<C: CharSet>(start: usize, part: Option<&str>) -> Option<Place>
     requires { IfSome (option_copied part) (λ t. start + length t < 2 ^ 64) }
     ensures { result ≡ first_place C.tests (piece_if rule.Query start (option_copied part.entry)) }
 {
@@ -76,7 +91,7 @@ fn place_in_query<C: CharSet>(start: usize, part: Option<&str>) -> Option<Place>
 }
 
 // Of a fragment.
-fn place_in_fragment<C: CharSet>(start: usize, part: Option<&str>) -> Option<Place>
+pub(crate) fn place_in_fragment<C: CharSet>(start: usize, part: Option<&str>) -> Option<Place>
     requires { IfSome (option_copied part) (λ t. start + length t < 2 ^ 64) }
     ensures { result
         ≡ first_place C.tests (piece_if rule.Fragment start (option_copied part.entry)) }
@@ -84,69 +99,111 @@ fn place_in_fragment<C: CharSet>(start: usize, part: Option<&str>) -> Option<Pla
     placed(Component::Fragment, start, scan::fragment_place::<C>(part?))
 }
 
+// What follows the first `]`.
+fn after_bracket(text: &str) -> Option<&str>
+    ensures after { option_copied result ≡ after right_bracket text.now }
+    ensures shorter { IfSome result (λ rest. length rest.now < length text.now) }
+{
+    cut(text, ']').1
+}
+
 // What follows the last `]`, or all of the text.
 fn after_last(text: &str) -> &str
     ensures { result.now ≡ after_last text.now }
 {
     let mut rest = text;
-    while let (_, Some(after)) = cut(rest, ']') {
+    while let Some(after) = after_bracket(rest) {
         rest = after;
     }
     rest
 }
 
-// The host and the port of a text that begins with `[`.
-fn cut_brackets(text: &str) -> (&str, Option<&str>)
-    ensures host { result.0.now ≡ spec.bracket_host text.now }
-    ensures port { option_copied result.1 ≡ spec.bracket_port text.now }
+// The port of a text that begins with `[`: it follows the first `:` behind the last `]`.
+fn port_behind_brackets(text: &str) -> Option<&str>
+    ensures { option_copied result ≡ spec.bracket_port text.now }
 {
     let rest = after_last(text);
     if rest.len() == text.len() {
-        return (text, None);
+        None
+    } else {
+        cut(rest, ':').1
     }
-    let (name, port) = cut(rest, ':');
-    let (host, _) = text.split_at(text.len() - rest.len() + name.len());
-    (host, port)
 }
 
-// The host and the port, where no user info stands before them.
-fn cut_host(text: &str) -> (&str, Option<&str>)
-    ensures host { result.0.now ≡ spec.cut_host text.now }
-    ensures port { option_copied result.1 ≡ spec.cut_port text.now }
+// The port, where no user info stands before the host.
+fn port_of(text: &str) -> Option<&str>
+    ensures { option_copied result ≡ spec.cut_port text.now }
 {
     if scan::begins_with(text, b'[') {
-        cut_brackets(text)
+        port_behind_brackets(text)
     } else {
-        cut(text, ':')
+        cut(text, ':').1
     }
+}
+
+// The host, where no user info stands before it, and this port follows it.
+fn host_before<'a>(text: &'a str, port: Option<&str>) -> &'a str
+    requires { option_copied port ≡ spec.cut_port text.now }
+    ensures { result.now ≡ spec.cut_host text.now }
+{
+    match port {
+        Some(port) => &text[..text.len() - port.len() - 1],
+        None => text,
+    }
+}
+
+// Of a user info.
+pub(crate) fn place_in_user_info<C: CharSet>(start: usize, part: &str) -> Option<Place>
+    requires { start + length part.now < 2 ^ 64 }
+    ensures { result ≡ first_place C.tests (piece rule.UserInfo start part.now) }
+{
+    placed(Component::UserInfo, start, scan::user_info_place::<C>(part))
+}
+
+// Of a host.
+pub(crate) fn place_in_host<C: CharSet>(start: usize, part: &str) -> Option<Place>
+    requires { start + length part.now < 2 ^ 64 }
+    ensures { result ≡ first_place C.tests (piece rule.Host start part.now) }
+{
+    placed(Component::Host, start, scan::host_place::<C>(part))
 }
 
 // Of a host and a port.
-fn place_in_host<C: CharSet>(start: usize, text: &str) -> Option<Place>
+fn place_in_host_and_port<C: CharSet>(start: usize, text: &str) -> Option<Place>
     requires { start + length text.now < 2 ^ 64 }
     ensures { result ≡ first_place C.tests (host_pieces start text.now) }
 {
-    let (host, port) = cut_host(text);
-    let host_place = placed(Component::Host, start, scan::host_place::<C>(host));
+    let port = port_of(text);
+    let host = host_before(text, port);
+    let place = place_in_host::<C>(start, host);
     match port {
-        Some(_) => host_place.or(place_in_port(start + host.len() + 1, port)),
-        None => host_place,
+        Some(_) => place.or(place_in_port(start + host.len() + 1, port)),
+        None => place,
     }
 }
 
 /// Of an authority.
+#[tactic(auto, unfolding(crate::specs::Cut::authority_pieces))]
 pub(crate) fn place_in_authority<C: CharSet>(start: usize, text: &str) -> Option<Place>
     requires { start + length text.now < 2 ^ 64 }
     ensures { result ≡ first_place C.tests (authority_pieces start text.now) }
 {
-    match cut(text, '@') {
-        (user_info, Some(rest)) => {
-            let at = scan::user_info_place::<C>(user_info);
-            let rest = place_in_host::<C>(start + user_info.len() + 1, rest);
-            placed(Component::UserInfo, start, at).or(rest)
+    let (front, rest) = cut(text, '@');
+    match rest {
+        Some(rest) => {
+            let place = place_in_host_and_port::<C>(start + front.len() + 1, rest);
+            place_in_user_info::<C>(start, front).or(place)
         }
-        (_, None) => place_in_host::<C>(start, text),
+        None => place_in_host_and_port::<C>(start, text),
     }
+}
+
+// Of an authority, if there is one.
+fn place_in_authority_part<C: CharSet>(start: usize, part: Option<&str>) -> Option<Place>
+    requires { IfSome (option_copied part) (λ t. start + length t < 2 ^ 64) }
+    ensures { result ≡ first_place C.tests (authority_pieces_if start (option_copied part.entry)) }
+{
+    place_in_authority::<C>(start, part?)
 }
 
 // The scheme, which is not empty, and what follows it.
@@ -161,18 +218,40 @@ fn cut_scheme(text: &str) -> (Option<&str>, &str)
     }
 }
 
+// Whether a scheme or an authority stands before a path.
+fn is_either(scheme: Option<&str>, authority: Option<&str>) -> bool
+    ensures { result
+        ≡ (is_some (option_copied scheme.entry) || is_some (option_copied authority.entry)) }
+{
+    scheme.is_some() || authority.is_some()
+}
+
+// Of an authority and a path, which stand behind a scheme, if there is one.
+fn place_after_scheme<C: CharSet>(
+    start: usize,
+    scheme: Option<&str>,
+    text: &str,
+) -> Option<Place>
+    requires { start + length text.now < 2 ^ 64 }
+    ensures { result ≡ first_place C.tests
+        (pieces_after_scheme start (option_copied scheme.entry) text.now) }
+{
+    let (authority, path) = split_authority(text);
+    let before = match authority {
+        Some(_) => place_in_authority_part::<C>(start + 2, authority),
+        None => None,
+    };
+    let path_start = start + (text.len() - path.len());
+    before.or(place_in_path::<C>(path_start, path, is_either(scheme, authority)))
+}
+
 // Of what stands before the query and the fragment.
 fn place_in_hierarchy<C: CharSet>(text: &str) -> Option<Place>
     ensures { result ≡ first_place C.tests (hierarchy_pieces text.now) }
 {
     let (scheme, rest) = cut_scheme(text);
-    let (authority, path) = split_authority(rest);
-    let follows = scheme.is_some() || authority.is_some();
-    let before = place_in_scheme(scheme).or(match authority {
-        Some(authority) => place_in_authority::<C>(text.len() - rest.len() + 2, authority),
-        None => None,
-    });
-    before.or(place_in_path::<C>(text.len() - path.len(), path, follows))
+    let start = text.len() - rest.len();
+    place_in_scheme(scheme).or(place_after_scheme::<C>(start, scheme, rest))
 }
 
 /// Of a reference (RFC 3986 section 4.1).
@@ -181,8 +260,9 @@ pub(crate) fn place_in_reference<C: CharSet>(text: &str) -> Option<Place>
 {
     let (front, fragment) = cut(text, '#');
     let (hierarchy, query) = cut(front, '?');
+    let query_place = place_in_query::<C>(hierarchy.len() + 1, query);
     place_in_hierarchy::<C>(hierarchy)
-        .or(place_in_query::<C>(hierarchy.len() + 1, query))
+        .or(query_place)
         .or(place_in_fragment::<C>(front.len() + 1, fragment))
 }
 
@@ -192,5 +272,6 @@ pub(crate) fn has_scheme(text: &str) -> bool
 {
     let (front, _) = cut(text, '#');
     let (hierarchy, _) = cut(front, '?');
-    cut_scheme(hierarchy).0.is_some()
+    let (scheme, _) = cut_scheme(hierarchy);
+    scheme.is_some()
 }
