@@ -227,11 +227,7 @@ fn is_either(scheme: Option<&str>, authority: Option<&str>) -> bool
 }
 
 // Of an authority and a path, which stand behind a scheme, if there is one.
-fn place_after_scheme<C: CharSet>(
-    start: usize,
-    scheme: Option<&str>,
-    text: &str,
-) -> Option<Place>
+fn place_after_scheme<C: CharSet>(start: usize, scheme: Option<&str>, text: &str) -> Option<Place>
     requires { start + length text.now < 2 ^ 64 }
     ensures { result ≡ first_place C.tests
         (pieces_after_scheme start (option_copied scheme.entry) text.now) }
