@@ -9,3 +9,4 @@ pub mod SchemeLookLemmas
 pub mod TextLemmas
 pub mod WholeLemmas
 pub mod KeyLemmas
+pub mod FaultLemmas

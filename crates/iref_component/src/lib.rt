@@ -9,6 +9,7 @@ pub mod authority_parts;
 pub mod borrowed;
 pub mod component_rules;
 mod constants;
+pub mod faults;
 pub mod host;
 mod host_numbers;
 pub mod key;

@@ -8,3 +8,11 @@ pub mod ReferenceFaultLemmas
 pub mod FaultLemmas
 pub mod CutReadLemmas
 mod FaultRows
+pub mod BytePlaceLemmas
+pub mod OnesPlaceLemmas
+pub mod FirstCharLemmas
+pub mod FirstPlaceLemmas
+pub mod BracketLemmas
+pub mod HostLemmas
+pub mod HierarchyPlaceLemmas
+pub mod FaultValueLemmas

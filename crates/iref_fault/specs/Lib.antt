@@ -3,3 +3,5 @@ pub mod Cut
 pub mod Faults
 pub mod FirstFault
 pub mod Components
+pub mod BytePlaces
+pub mod CutSteps

@@ -2,4 +2,7 @@
 #![tactic(auto)]
 
 pub mod component;
+pub mod fault;
 pub mod fault_laws;
+mod pieces;
+mod scan;

@@ -14,7 +14,7 @@ use iref_grammar::chars::CharSet;
 use std::marker::PhantomData;
 
 /// The characters that stand for themselves in a rule of characters and escapes.
-pub(crate) trait CharRule {
+pub trait CharRule {
     /// What proofs see of them.
     ghost allowed: { ℕ → Bool };
 
@@ -28,25 +28,25 @@ pub(crate) trait CharRule {
 }
 
 /// The characters of registered names (RFC 3986 section 3.2.2).
-pub(crate) struct RegNameChars<C: CharSet>(PhantomData<C>);
+pub struct RegNameChars<C: CharSet>(PhantomData<C>);
 
 /// The characters of user infos (RFC 3986 section 3.2.1).
-pub(crate) struct UserInfoChars<C: CharSet>(PhantomData<C>);
+pub struct UserInfoChars<C: CharSet>(PhantomData<C>);
 
 /// The characters of segments (RFC 3986 section 3.3).
-pub(crate) struct SegmentChars<C: CharSet>(PhantomData<C>);
+pub struct SegmentChars<C: CharSet>(PhantomData<C>);
 
 /// The characters of paths (RFC 3986 section 3.3).
-pub(crate) struct PathChars<C: CharSet>(PhantomData<C>);
+pub struct PathChars<C: CharSet>(PhantomData<C>);
 
 /// The characters of queries (RFC 3986 section 3.4).
-pub(crate) struct QueryChars<C: CharSet>(PhantomData<C>);
+pub struct QueryChars<C: CharSet>(PhantomData<C>);
 
 /// The characters of fragments (RFC 3986 section 3.5).
-pub(crate) struct FragmentChars<C: CharSet>(PhantomData<C>);
+pub struct FragmentChars<C: CharSet>(PhantomData<C>);
 
 /// The characters of percent-encoded texts: all but `%`.
-pub(crate) struct PctStrChars;
+pub struct PctStrChars;
 
 // Whether the character is `unreserved` (RFC 3986 section 2.3).
 fn is_unreserved<C: CharSet>(c: char) -> bool
@@ -65,8 +65,8 @@ fn is_sub_delim(c: char) -> bool
     )
 }
 
-// Whether a scheme may hold the character after its first letter (RFC 3986 section 3.1).
-fn is_scheme_char(c: char) -> bool
+/// Whether a scheme may hold the character after its first letter (RFC 3986 section 3.1).
+pub fn is_scheme_char(c: char) -> bool
     ensures { result ≡ grammar.is_scheme_char c }
 {
     c.is_ascii_alphanumeric() || matches!(c, '+' | '-' | '.')
@@ -175,8 +175,8 @@ impl CharRule for PctStrChars {
     }
 }
 
-// The first character, and what follows it.
-fn split_first_char(text: &str) -> Option<(char, &str)>
+/// The first character, and what follows it: of `é/` they are `é` and `/`.
+pub fn split_first_char(text: &str) -> Option<(char, &str)>
     ensures { MatchOption result (length text.now ≡ 0)
         (λ x. (chars text.now ≡ x.0 ∷ chars x.1.now) × (length x.1.now < length text.now)) }
 {

@@ -48,9 +48,9 @@ fn split_before_either(text: &str, first: u8, second: u8) -> (&str, &str)
     text.split_at(position_of_either(text.as_bytes(), first, second))
 }
 
-// The scheme, if a `:` stands before each `/`, and what follows it.
+/// The scheme, if a `:` stands before each `/`, and what follows it: of `a:b` they are `a` and `b`.
 #[inline(always)]
-fn split_scheme(text: &str) -> (Option<&str>, &str)
+pub fn split_scheme(text: &str) -> (Option<&str>, &str)
     ensures scheme { option_copied result.0 ≡ (spec.split_scheme text.now).0 }
     ensures rest { result.1.now ≡ (spec.split_scheme text.now).1 }
 {
@@ -70,9 +70,9 @@ fn begins_with_slashes(text: &str) -> bool
     bytes.len() >= 2 && bytes[0] == b'/' && bytes[1] == b'/'
 }
 
-// The authority between `//` and the next `/`, and the path.
+/// The authority between `//` and the next `/`, and the path: of `//h/a` they are `h` and `/a`.
 #[inline(always)]
-fn split_authority(text: &str) -> (Option<&str>, &str)
+pub fn split_authority(text: &str) -> (Option<&str>, &str)
     ensures authority { option_copied result.0 ≡ (spec.split_authority text.now).0 }
     ensures path { result.1.now ≡ (spec.split_authority text.now).1 }
 {

@@ -1,0 +1,46 @@
+-- Places of pieces in bytes: of one piece, of two lists of pieces, and how far a place is.
+use Rattle.std.proofs.Common.{◌≡◌, ℕ, ◌+◌, ◌<◌, ◌≤◌, Bool, true, false, List, [], ◌∷◌, ◌++◌, length, refl, sym, ap, ◌∙◌, subst, arith, chars, IsUtf8}
+use Rattle.std.specs.Prelude.{Option, Some, None, option_map, IfSome}
+use Rattle.std.specs.Option.{option_or}
+use Rattle.std.specs.Str.{IsCharBoundary}
+use Rattle.std.specs.List.{AllByRecursion}
+use Rattle.iref_grammar.specs.Characters.{CharTests}
+use Rattle.iref_grammar.specs.Rules.{Text}
+use Rattle.iref_fault.specs.declared.pieces.Place.{Place}
+use Rattle.iref_fault.specs.Places.{PartRule, component_of, place_in, bytes_before}
+use Rattle.iref_fault.specs.declared.component.Component.TheVariants.{Path}
+use Rattle.iref_fault.specs.Cut.{Piece, piece}
+use Rattle.iref_fault.specs.CutSteps.{path_rule}
+use Rattle.iref_fault.specs.BytePlaces.{located, byte_place, placed, place_of_piece, first_place}
+use Rattle.iref_fault.proofs.CutSliceLemmas.{IsSlice, whole_slice, slice_boundary}
+
+or-none : {A : Type 0} (o : Option A) → o ≡ option_or o None
+or-none None = refl
+or-none (Some x) = refl
+
+or-assoc : {A : Type 0} (x y z : Option A) → option_or x (option_or y z) ≡ option_or (option_or x y) z
+or-assoc None y z = refl
+or-assoc (Some a) y z = refl
+
+-- of one piece, where this is the place of its rule
+pub one_piece : (set : CharTests) (rule : PartRule) (start : ℕ) (t : Text) (place : Text → Option ℕ) → place (chars t) ≡ place_in set rule (chars t)
+    → placed (component_of rule) start (byte_place place t) ≡ first_place set (piece rule start t)
+one_piece set rule start t place h =
+    ap (λ p. placed (component_of rule) start (located 0 (chars t) p)) h ∙ or-none (place_of_piece set (record { rule = rule; start = start; text = t }))
+
+pub first_place-append : (set : CharTests) (ps qs : List Piece) → first_place set (ps ++ qs) ≡ option_or (first_place set ps) (first_place set qs)
+first_place-append set [] qs = refl
+first_place-append set (p ∷ ps) qs =
+    ap (option_or (place_of_piece set p)) (first_place-append set ps qs) ∙ or-assoc (place_of_piece set p) (first_place set ps) (first_place set qs)
+
+-- a place is no farther than the text is long
+pub place_within : (place : Text → Option ℕ) (t : Text) (start bound : ℕ) → IsUtf8 t → start + length t < bound → IfSome (byte_place place t) (λ n. start + n < bound)
+place_within place t start bound u h = by (place (chars t))
+  where
+    by : (p : Option ℕ) → IfSome (located 0 (chars t) p) (λ n. start + n < bound)
+    by None = tt
+    by (Some n) = let b = (slice_boundary t 0 t n (whole_slice t u)).0 in omega (arith, b)
+
+pub path_component : (follows : Bool) → Path ≡ component_of (path_rule follows)
+path_component true = refl
+path_component false = refl
