@@ -12,7 +12,7 @@ use iref_examples::mirror::relinked;
 use iref_examples::validator::checked;
 use std::alloc::Global;
 use std::collections::HashMap;
-use std::io;
+use std::io::{self, BufRead, BufReader};
 
 // What lasts from line to line.
 #[derive(Drop)]
@@ -105,7 +105,9 @@ fn main(rt: HostRuntime) -> io::Result<()> {
         cache: HashMap::new(rt.alloc()),
         context: Prefixes::new(rt.alloc()),
     };
-    for line in rt.lines(rt.alloc()) {
+    // By blocks: `rt.lines` reads what cannot seek, as a pipe, a byte at a time.
+    let reader = BufReader::new(rt.alloc(), rt.stdin())?;
+    for line in reader.lines(rt.alloc()) {
         match answer(rt.alloc(), &mut tables, line?.as_str()) {
             Ok(answer) => println!(rt; "{answer}")?,
             Err(Memory) => println!(rt; "error memory")?,

@@ -1,3 +1,4 @@
+pub mod ShownLemmas
 pub mod SlashLemmas
 pub mod CountedPathLemmas
 pub mod PathTextLemmas

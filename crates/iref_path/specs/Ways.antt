@@ -1,5 +1,5 @@
 -- A way up and down: a number of `..`, and the last items of a normal list.
-use Rattle.std.specs.Prelude.{◌-◌, false, List, [], ◌∷◌, ◌++◌, codes, drop, length, replicate, if◌then◌else◌}
+use Rattle.std.specs.Prelude.{ℕ, ◌-◌, false, List, [], ◌∷◌, ◌++◌, codes, drop, length, replicate, if◌then◌else◌}
 use Rattle.iref_grammar.specs.Rules.{Text}
 use Rattle.iref_grammar.specs.Grammar.{slash}
 use Rattle.iref_grammar.specs.Texts.{all_but_last, pieces_at}
@@ -21,6 +21,10 @@ way_left w = replicate w.up (codes "..") ++ items_down w
 
 abbrev pub IsWaySound : Way → Type 0
 IsWaySound w = IsMergeSound w.items
+
+-- the last items of a list, this many
+abbrev pub last_ones : ℕ → List Text → List Text
+last_ones count list = drop (length list - count) list
 
 -- the list, and one empty item where it has none
 abbrev pub with_last : List Text → List Text

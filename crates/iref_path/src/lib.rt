@@ -16,6 +16,7 @@ pub mod path_part;
 pub mod relative_steps;
 pub mod rewriting;
 pub mod segments;
+mod shown;
 pub mod spell;
 pub mod staying_names;
 pub mod steps;

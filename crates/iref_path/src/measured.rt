@@ -12,7 +12,7 @@ ghost use Rattle.iref_path.specs.Ways.{IsWaySound, path_between};
 ghost use Rattle.iref_path.specs.{Ways.{way_left}, Written.{WritesBefore}};
 ghost use Rattle.std.specs.Prelude.{◌||◌, ◌&&◌, ◌≡◌, ◌+◌, ◌*◌, ◌<◌, ◌≤◌, ◌^◌, ◌++◌, IfOk};
 ghost use Rattle.std.specs.Prelude.{Bool, Some, [], codes, false, length, replicate, true, ℕ};
-ghost use Rattle.std.specs.String.{string_bytes};
+ghost use Rattle.std.specs.{Fmt.{WritesOnOk}, String.{string_bytes}};
 ghost use Rattle.iref_path.specs.BothEnds.{first_or};
 ghost use Rattle.iref_path.specs.Spelling as spelling;
 
@@ -27,6 +27,7 @@ use iref_grammar::chars::CharSet;
 use iref_grammar::context::PathContext;
 use iref_parse::dots::has_dots;
 use std::alloc::Global;
+use std::fmt;
 
 // Nothing stands before the path.
 const ALONE: PathContext = PathContext {
@@ -255,5 +256,15 @@ impl<'a> MeasuredPath<'a> {
     {
         let start = self.body.write_before(buffer, end);
         write_guard(buffer, start, self.guard)
+    }
+    /// Writes the text to a formatter, from the front. Items that are read from the back are read once
+    /// for each halving of their number.
+    #[tactic(auto, unfolding(crate::specs::MeasuredPaths::measured_text))]
+    pub fn show<W: fmt::Write>(self, f: &mut fmt::Formatter<W>) -> fmt::Result
+        requires { IsMeasured self }
+        ensures { WritesOnOk W.write_str_gives f.old result (measured_text self.entry) f.new }
+    {
+        f.write_str(self.guard)?;
+        self.body.show(f)
     }
 }

@@ -1,11 +1,13 @@
 //! What follows the root and the guard in the text of a path.
 
-ghost use Rattle.iref_path.specs.Bodies.{IsBody, after_front, body_text};
+ghost use Rattle.iref_path.specs.Bodies.{IsBody, after_front, body_text, parents_then};
 ghost use Rattle.iref_path.specs.{Written.{WritesBefore}};
-ghost use Rattle.std.specs.Prelude.{◌≡◌, ◌<◌, ◌≤◌, ◌^◌, length};
+ghost use Rattle.std.specs.{Fmt.{WritesOnOk}, Prelude.{◌≡◌, ◌<◌, ◌≤◌, ◌^◌, length}};
 
 use crate::both_ends::way::Way;
+use crate::shown::{show_items, show_parents};
 use crate::spell::{write_before, write_items, write_parents};
+use std::fmt;
 
 /// What follows the root and the guard.
 #[derive(Clone, Copy)]
@@ -46,6 +48,32 @@ fn write_joined(front: Option<&str>, back: &str, buffer: &mut [u8], end: usize) 
     }
 }
 
+// Writes a text to a formatter, and before it another one with a `/` after it.
+fn show_joined<W: fmt::Write>(
+    front: Option<&str>,
+    back: &str,
+    f: &mut fmt::Formatter<W>,
+) -> fmt::Result
+    ensures { WritesOnOk W.write_str_gives f.old result (after_front front.entry back.now) f.new }
+{
+    match front {
+        Some(front) => {
+            f.write_str(front)?;
+            f.write_str("/")?;
+            f.write_str(back)
+        }
+        None => f.write_str(back),
+    }
+}
+
+// Writes a number of `..` to a formatter, each with a `/` after it, and a text.
+fn show_up<W: fmt::Write>(up: usize, text: &str, f: &mut fmt::Formatter<W>) -> fmt::Result
+    ensures { WritesOnOk W.write_str_gives f.old result (parents_then up text.now) f.new }
+{
+    show_parents(up, f)?;
+    f.write_str(text)
+}
+
 impl<'a> Body<'a> {
     /// How many bytes the text has.
     pub fn len(&self) -> usize
@@ -73,6 +101,17 @@ impl<'a> Body<'a> {
                 write_parents(buffer, up, start)
             }
             Body::Items(items, _) => write_items(items, buffer, end),
+        }
+    }
+    /// Writes the text to a formatter.
+    pub fn show<W: fmt::Write>(self, f: &mut fmt::Formatter<W>) -> fmt::Result
+        requires { IsBody self }
+        ensures { WritesOnOk W.write_str_gives f.old result (body_text self.entry) f.new }
+    {
+        match self {
+            Body::Kept(front, back) => show_joined(front, back, f),
+            Body::Up(up, text) => show_up(up, text, f),
+            Body::Items(items, _) => show_items(items, f),
         }
     }
 }

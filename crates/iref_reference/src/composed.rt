@@ -6,7 +6,7 @@ ghost use Rattle.iref_reference_text.specs.{Steps.{Spells}, is_readable, value_o
 ghost use Rattle.iref_grammar.specs.{Rules.{Text}, Texts.{is_empty}};
 ghost use Rattle.iref_model.specs.{Relative.{relative_to}, Resolution.{resolved}};
 ghost use Rattle.iref_reference.specs.References.{reference_buf_text};
-ghost use Rattle.std.specs.Prelude.{◌≡◌, ◌≤◌, ◌++◌, drop, IfOk, length, OnErr, OnOk, true};
+ghost use Rattle.std.specs.Prelude.{◌≡◌, ◌≤◌, ◌++◌, drop, IfOk, length, OnErr, OnOk, Some, true};
 
 use crate::owned::ReferenceBuf;
 use crate::rule::{ReferenceRule, UriRule};
@@ -16,6 +16,7 @@ use iref_parse::split::ReferenceSlices;
 use iref_reference_text::measured::{MeasuredReference, count_paths};
 use iref_reference_text::reference_text::{HeldRule, ReferenceText};
 use std::alloc::{AllocError, Global};
+use std::fmt;
 use std::marker::{Model, PhantomData};
 
 /// A reference of a rule, composed of borrowed components and not written yet: what `../g` resolves
@@ -133,5 +134,15 @@ impl<'a, R: HeldRule, C: CharSet> Composed<'a, R, C> {
     {
         let inner = ReferenceText::of_components(alloc, &self.components, self.len)?;
         Ok(ReferenceBuf::from_inner(inner))
+    }
+}
+
+/// The text: `{}` writes `http://a/g` so, from the front, and takes no memory. Where dots are removed,
+/// the path is read again for each halving of the number of its segments.
+impl<R: HeldRule, C: CharSet> fmt::Display for Composed<'_, R, C> {
+    ghost output = { λ composed. Some composed };
+
+    fn fmt<W: fmt::Write>(&self, f: &mut fmt::Formatter<W>) -> fmt::Result {
+        self.components.show(f)
     }
 }

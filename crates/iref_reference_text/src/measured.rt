@@ -7,6 +7,7 @@ ghost use Rattle.iref_grammar.specs.{Grammar.{colon}, Texts.{part_then, then_par
 ghost use Rattle.iref_model.specs.{fits, normal, resolved, ComponentSteps.{guarded_reference}};
 ghost use Rattle.iref_parse.specs.ReferenceSlices.{value_of};
 ghost use Rattle.iref_path.specs.Written.{WritesBefore};
+ghost use Rattle.std.specs.Fmt.{WritesOnOk};
 ghost use Rattle.std.specs.{Option.{option_copied}, Prelude.{◌≡◌, ◌+◌, ◌*◌, ◌<◌, ◌≤◌, ◌^◌}};
 ghost use Rattle.std.specs.Prelude.{[], ◌∷◌, IfOk, is_some, length, true};
 
@@ -17,6 +18,7 @@ use iref_parse::split::ReferenceSlices;
 use iref_path::measured::MeasuredPath;
 use iref_path::spell::write_before;
 use std::alloc::{AllocError, Global};
+use std::fmt;
 
 /// The components of a reference that is not written yet, as of what `../g` resolves to against
 /// `http://a/b/c`, which takes 10 bytes (RFC 3986 section 5.3).
@@ -98,6 +100,38 @@ fn write_scheme(buffer: &mut [u8], end: usize, scheme: Option<&str>) -> usize
             write_before(buffer, start, scheme)
         }
         None => end,
+    }
+}
+
+// Writes a delimiter and a part to a formatter, or nothing.
+fn show_marked<W: fmt::Write>(
+    mark: &str,
+    part: Option<&str>,
+    f: &mut fmt::Formatter<W>,
+) -> fmt::Result
+    ensures { WritesOnOk W.write_str_gives f.old result
+        (then_part mark.entry.now (option_copied part.entry)) f.new }
+{
+    match part {
+        Some(part) => {
+            f.write_str(mark)?;
+            f.write_str(part)
+        }
+        None => Ok(()),
+    }
+}
+
+// Writes a scheme and its delimiter to a formatter, or nothing.
+fn show_scheme<W: fmt::Write>(scheme: Option<&str>, f: &mut fmt::Formatter<W>) -> fmt::Result
+    ensures { WritesOnOk W.write_str_gives f.old result
+        (part_then (colon ∷ []) (option_copied scheme.entry)) f.new }
+{
+    match scheme {
+        Some(scheme) => {
+            f.write_str(scheme)?;
+            f.write_str(":")
+        }
+        None => Ok(()),
     }
 }
 
@@ -206,5 +240,18 @@ impl<'a> MeasuredReference<'a> {
         let end = self.path.write_before(buffer, end);
         let end = write_marked(buffer, end, "//", self.authority);
         write_scheme(buffer, end, self.scheme);
+    }
+    /// Writes the text to a formatter, from the front.
+    #[tactic(auto, unfolding(crate::specs::MeasuredReferences::spell_texts))]
+    pub fn show<W: fmt::Write>(&self, f: &mut fmt::Formatter<W>) -> fmt::Result
+        requires { IsReady self.now }
+        ensures { WritesOnOk W.write_str_gives f.old result
+            (spell_texts (measured_components self.now)) f.new }
+    {
+        show_scheme(self.scheme, f)?;
+        show_marked("//", self.authority, f)?;
+        self.path.show(f)?;
+        show_marked("?", self.query, f)?;
+        show_marked("#", self.fragment, f)
     }
 }
