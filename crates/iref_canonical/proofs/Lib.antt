@@ -1,1 +1,2 @@
+mod SortKeyRows
 pub mod SortKeyLemmas
