@@ -1,2 +1,3 @@
 mod SortKeyRows
 pub mod SortKeyLemmas
+pub mod SortByteLemmas
