@@ -1,3 +1,4 @@
 mod SortKeyRows
 pub mod SortKeyLemmas
 pub mod SortByteLemmas
+pub mod SortItemLemmas

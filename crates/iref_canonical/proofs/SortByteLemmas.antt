@@ -2,14 +2,16 @@
 use Rattle.std.proofs.Common.{arith, ◌≡◌, ℕ, ◌+◌, ◌*◌, ◌<◌, ◌≤◌, ◌++◌, ◌∷◌, [], length, take, drop, get_or, set, refl, sym, ◌∙◌, ap, true, append_assoc, length-append, length-set, take_all}
 use Rattle.std.proofs.lemmas.Grind.{common_steps}
 use Rattle.std.proofs.lemmas.Bool.Decides.{nat_tests}
-use Rattle.std.proofs.lemmas.List.{append-nil, drop_more, take_more_set, map-append}
+use Rattle.std.proofs.lemmas.List.{append-nil, drop_more, take_more_set, map-append, take_at, drop_at, length-take, length-map, length-drop}
 use Rattle.std.specs.List.{flat_map, list_all}
 use Rattle.std.specs.Char.{to_ascii_lowercase}
-use Rattle.std.specs.Prelude.{map}
+use Rattle.std.specs.Prelude.{map, option_map, Option, Some, None, ◌-◌}
+use Rattle.iref_path.specs.Written.{WritesBefore}
 use Rattle.percent_encoding.specs.Percent.{percent_decode}
 use Rattle.percent_encoding.proofs.PercentLemmas.{length-percent_decode, percent_decode_not_percent, percent_decode-nil}
+use Rattle.iref_grammar.specs.Authority.{AuthorityValue}
 use Rattle.iref_grammar.specs.Rules.{Text}
-use Rattle.iref_canonical.specs.SortKey.{sort_byte, sort_text}
+use Rattle.iref_canonical.specs.SortKey.{sort_byte, sort_option, sort_text, sort_authority}
 use Rattle.iref_canonical.specs.SortBytes.{is_kept_byte, is_kept, IsBegun}
 
 -- ---- lengths
@@ -97,3 +99,32 @@ sort_text-lower text = ap (λ t. t ++ 0 ∷ []) (lower text) ∙ sym (map-append
     lower : (text : Text) → flat_map sort_byte (map to_ascii_lowercase text) ≡ map to_ascii_lowercase (flat_map sort_byte text)
     lower [] = refl
     lower (b ∷ text) = (λ i. lower_byte b i ++ lower text i) ∙ sym (map-append to_ascii_lowercase (sort_byte b) (flat_map sort_byte text))
+
+pub length-sort_authority : (a : AuthorityValue)
+    → length (sort_authority a) ≡ length (sort_option sort_text a.user_info) + length (sort_text a.host) + length (sort_option sort_text a.port)
+unfolding sort_authority
+length-sort_authority a = grind (arith, length-append)
+
+-- a scheme that may not be there
+pub option-lower : (scheme : Option Text) → sort_option sort_text (option_map (map to_ascii_lowercase) scheme) ≡ map to_ascii_lowercase (sort_option sort_text scheme)
+option-lower None = refl
+option-lower (Some text) = ap (λ t. 1 ∷ t) (sort_text-lower text)
+
+-- ---- bytes written before others, in lower case
+
+pub lower_written : (end start : ℕ) (text lowered old mid new : Text) → WritesBefore end text old mid start → end ≤ length old → lowered ≡ map to_ascii_lowercase text
+    → new ≡ take start mid ++ (map to_ascii_lowercase (take (end - start) (drop start mid)) ++ drop (end - start) (drop start mid))
+    → WritesBefore end lowered old new start
+lower_written end start text lowered old mid new h within same e =
+    let range = h.range in
+    let len = h.len in
+    let front : take (end - start) (drop start mid) ≡ text = ap (take (end - start)) h.written ∙ take_at text (drop end old) (end - start) (omega arith) in
+    let back : drop (end - start) (drop start mid) ≡ drop end old = ap (drop (end - start)) h.written ∙ drop_at text (drop end old) (end - start) (omega arith) in
+    let all = lowered ++ drop end old in
+    let whole : new ≡ take start mid ++ all = e ∙ (λ i. take start mid ++ ((ap (map to_ascii_lowercase) front ∙ sym same) i ++ back i)) in
+    let size = length-take start mid in
+    record {
+      range = ap (λ n. start + n) (ap length same ∙ length-map text to_ascii_lowercase) ∙ range;
+      written = ap (drop start) whole ∙ drop_at (take start mid) all start (omega arith);
+      len = let l = ap length same ∙ length-map text to_ascii_lowercase in ap length whole ∙ grind (arith, length-append, length-take, length-drop);
+    }

@@ -1,3 +1,4 @@
 pub mod Canonical
 pub mod SortBytes
+pub mod SortItems
 pub mod SortKey

@@ -4,4 +4,6 @@
 pub mod canonical_laws;
 pub mod sort_bytes;
 pub mod sort_key_laws;
+pub mod sort_parts;
+pub mod sort_path;
 pub mod sort_text;
