@@ -1,14 +1,22 @@
 -- The items of a path in sort keys, the last first.
-use Rattle.std.proofs.Common.{arith, ◌≡◌, ℕ, ◌+◌, ◌<◌, ◌≤◌, ◌++◌, ◌∷◌, [], List, length, drop, refl, sym, ◌∙◌, ap, true, append_assoc, length-append}
+use Rattle.std.proofs.Common.{arith, ◌≡◌, ℕ, ◌+◌, ◌<◌, ◌≤◌, ◌++◌, ◌∷◌, [], List, length, drop, refl, sym, ◌∙◌, ap, subst, true, None, append_assoc, length-append, length-drop}
 use Rattle.std.proofs.lemmas.List.{append-nil, map-append}
 use Rattle.std.proofs.lemmas.Grind.{common_steps, flat_map-append}
+use Rattle.std.proofs.lemmas.Bool.{and_parts}
+use Rattle.std.proofs.lemmas.List.Folds.{list_all-append}
 use Rattle.std.specs.List.{flat_map, list_all}
 use Rattle.std.specs.Prelude.{map}
 use Rattle.percent_encoding.specs.Percent.{percent_decode}
+use Rattle.iref_grammar.specs.Grammar.{slash}
 use Rattle.iref_grammar.specs.Rules.{Text}
+use Rattle.iref_grammar.specs.Texts.{pieces_at}
+use Rattle.iref_path.specs.Spelling.{each_closed}
+use Rattle.iref_path.proofs.DotlessLemmas.{both_size}
 use Rattle.iref_path.specs.Written.{WritesBefore}
 use Rattle.iref_canonical.specs.SortKey.{sort_item, sort_list, sort_text}
-use Rattle.iref_canonical.specs.SortItems.{IsWriting, IsMeasuring}
+use Rattle.iref_canonical.specs.SortBytes.{is_kept}
+use Rattle.iref_canonical.specs.SortItems.{AreKept, IsWriting, IsMeasuring}
+use Rattle.iref_canonical.proofs.SortByteLemmas.{kept_sorted}
 
 sorted_last : (rest : List Text) (x : Text) → flat_map sort_item (rest ++ x ∷ []) ≡ flat_map sort_item rest ++ (1 ∷ sort_text x)
 sorted_last rest x = flat_map-append sort_item rest (x ∷ []) ∙ ap (λ t. flat_map sort_item rest ++ t) (append-nil (1 ∷ sort_text x))
@@ -39,7 +47,11 @@ room_left items left rest x end start old new h e room = let r = h.range in grin
 
 pub within_left : (items left : List Text) (end start : ℕ) (old new : Text) → IsWriting items left end start old new → end ≤ length old
     → length (sort_list sort_item items) ≤ end → start ≤ length new
-within_left items left end start old new h within room = ?
+within_left items left end start old new h within room =
+    let r = h.range in
+    let l = h.len in
+    let w = sym (length-append (flat_map sort_item left) (drop start new)) ∙ ap length h.written ∙ length-append (sort_list sort_item items) (drop end old) in
+    omega (arith, length-drop start new, length-drop end old)
 
 pub more_written : (items left rest : List Text) (x : Text) (end start mid first : ℕ) (old new after last : Text) → IsWriting items left end start old new → left ≡ rest ++ x ∷ []
     → WritesBefore start (sort_text x) new after mid → WritesBefore mid (1 ∷ []) after last first → IsWriting items rest end first old last
@@ -61,3 +73,41 @@ more_written items left rest x end start mid first old new after last h e k l =
 
 pub all_written : (items left : List Text) (end start : ℕ) (old new : Text) → IsWriting items left end start old new → left ≡ [] → WritesBefore end (sort_list sort_item items) old new start
 all_written items left end start old new h e = let r = h.range in let w = h.written in record { range = grind arith; written = grind arith; len = h.len }
+
+-- ---- segments whose bytes are written as they are
+
+last_kept : (left rest : List Text) (x : Text) → AreKept left → left ≡ rest ++ x ∷ [] → (AreKept rest) × (is_kept x ≡ true)
+last_kept left rest x h e =
+    let both = and_parts (list_all is_kept rest) (list_all is_kept (x ∷ [])) (sym (list_all-append is_kept rest (x ∷ [])) ∙ ap (list_all is_kept) (sym e) ∙ h) in
+    (both.0, (and_parts (is_kept x) true both.1).0)
+
+pub kept_room : (items left rest : List Text) (x : Text) (end start : ℕ) (old new : Text) → IsWriting items left end start old new → AreKept left → left ≡ rest ++ x ∷ []
+    → length (sort_list sort_item items) ≤ end → length (x ++ 0 ∷ []) + 1 ≤ start
+kept_room items left rest x end start old new h k e room =
+    let r = room_left items left rest x end start old new h e room in
+    let l = ap length (kept_sorted x (last_kept left rest x k e).1) in
+    omega arith
+
+pub kept_written : (items left rest : List Text) (x : Text) (end start mid first : ℕ) (old new after last : Text) → IsWriting items left end start old new → AreKept left → left ≡ rest ++ x ∷ []
+    → WritesBefore start (x ++ 0 ∷ []) new after mid → WritesBefore mid (1 ∷ []) after last first → (IsWriting items rest end first old last) × AreKept rest
+kept_written items left rest x end start mid first old new after last h k e w v =
+    let kept = last_kept left rest x k e in (
+      more_written items left rest x end start mid first old new after last h e (subst (λ t. WritesBefore start t new after mid) (sym (kept_sorted x kept.1)) w) v,
+      kept.0,
+    )
+
+closed_size : (list : List Text) → AreKept list → length (flat_map sort_item list) ≡ length (each_closed list) + length list
+closed_size [] h = refl
+closed_size (s ∷ list) h =
+    let both = and_parts (is_kept s) (list_all is_kept list) h in
+    let one = ap length (kept_sorted s both.0) ∙ length-append s (0 ∷ []) in
+    let rest = closed_size list both.1 in
+    grind (arith, length-append)
+
+pub kept_size : (text : Text) → AreKept (pieces_at slash text) → length (sort_list sort_item (pieces_at slash text)) ≡ length text + length (pieces_at slash text) + 2
+kept_size text h =
+    let list = pieces_at slash text in
+    let size = closed_size list h in
+    let all = both_size None text in
+    let end = length-append (flat_map sort_item list) (0 ∷ []) in
+    omega arith
