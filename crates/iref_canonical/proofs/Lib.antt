@@ -2,3 +2,4 @@ mod SortKeyRows
 pub mod SortKeyLemmas
 pub mod SortByteLemmas
 pub mod SortItemLemmas
+pub mod SortableLemmas

@@ -2,3 +2,4 @@ pub mod Canonical
 pub mod SortBytes
 pub mod SortItems
 pub mod SortKey
+pub mod Sortable

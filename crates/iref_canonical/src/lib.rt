@@ -3,6 +3,7 @@
 
 pub mod canonical_laws;
 pub mod sort_bytes;
+pub mod sort_key;
 pub mod sort_key_laws;
 pub mod sort_parts;
 pub mod sort_path;
