@@ -1,8 +1,8 @@
 //! The sort key of a reference, from its text and the slices of its components (RFC 3986 section
 //! 6.2.2).
 
-ghost use Rattle.std.specs.Prelude.{◌≡◌, ◌≤◌, ◌++◌, ◌∷◌, IfSome, OnErr, OnOk, length, option_map};
-ghost use Rattle.std.specs.Prelude.{if◌then◌else◌, true};
+ghost use Rattle.std.specs.Prelude.{◌≡◌, ◌+◌, ◌≤◌, ◌++◌, IfSome, OnErr, OnOk, length, option_map};
+ghost use Rattle.std.specs.Prelude.{true};
 ghost use Rattle.std.specs.Option.{option_copied};
 ghost use Rattle.iref_grammar.specs.Authority.{read_authority};
 ghost use Rattle.iref_grammar.specs.{ComponentTexts.{spell_components}, Reference.{read_reference}};
@@ -12,7 +12,7 @@ ghost use Rattle.iref_parse.specs.ReferenceSlices.{texts_of, value_of};
 ghost use Rattle.iref_path.specs.Written.{WritesBefore};
 ghost use Rattle.iref_canonical.specs.SortItems.{AreItems, items_of};
 ghost use Rattle.iref_canonical.specs.SortKey.{sort_authority, sort_item, sort_key, sort_list};
-ghost use Rattle.iref_canonical.specs.SortKey.{sort_option};
+ghost use Rattle.iref_canonical.specs.SortKey.{sort_option, sort_path};
 ghost use Rattle.iref_canonical.specs.Sortable.{IsSortable, are_kept_slices, key_of_slices};
 ghost use Rattle.iref_canonical.specs.Sortable.{sortable_key};
 
@@ -74,6 +74,21 @@ fn write_authority_option(
     }
 }
 
+// Writes what a sort key has for a path of these items so that it ends at `end`, and returns where it
+// begins.
+#[tactic(auto, unfolding(crate::specs::SortKey::sort_path))]
+fn write_path(buffer: &mut [u8], end: usize, absolute: bool, items: Items<'_>) -> usize
+    requires items { AreItems items }
+    requires room { 1 + length (sort_list sort_item (items_of items)) ≤ end }
+    requires within { end ≤ length buffer.old }
+    ensures { WritesBefore end
+        (sort_path (record { absolute = absolute; segments = items_of items.entry }))
+        buffer.old buffer.new result }
+{
+    let start = items.write(buffer, end);
+    write_byte(buffer, start, u8::from(absolute))
+}
+
 // The parts of the authority, if there is one.
 fn parts_of(authority: Option<&str>) -> Option<AuthoritySlices<'_>>
     ensures { option_map authority_of result
@@ -130,8 +145,7 @@ impl<'a> Sortable<'a> {
     {
         let start = write_text_option(buffer, end, self.fragment, self.kept);
         let start = write_text_option(buffer, start, self.query, self.kept);
-        let start = self.items.write(buffer, start);
-        let start = write_byte(buffer, start, u8::from(self.absolute));
+        let start = write_path(buffer, start, self.absolute, self.items);
         let start = write_authority_option(buffer, start, self.authority, self.kept);
         write_scheme(buffer, start, self.scheme, self.kept)
     }
