@@ -100,5 +100,5 @@ length-sortable s =
     let scheme = ap length (option-lower (option_copied s.scheme)) ∙ length-map (sort_option sort_text (option_copied s.scheme)) to_ascii_lowercase in
     length-sort_key (sortable_key s)
     ∙ ap (λ n. n + length (sort_option sort_authority (option_map key_of_slices s.authority)) + (1 + length (sort_list sort_item (items_of s.items)))
-        + length (sort_option sort_text (option_map percent_decode (option_copied s.query)))
-        + length (sort_option sort_text (option_map percent_decode (option_copied s.fragment)))) scheme
+    + length (sort_option sort_text (option_map percent_decode (option_copied s.query)))
+    + length (sort_option sort_text (option_map percent_decode (option_copied s.fragment)))) scheme

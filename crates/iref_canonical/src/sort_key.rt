@@ -17,8 +17,10 @@ ghost use Rattle.iref_canonical.specs.Sortable.{IsSortable, are_kept_slices, key
 ghost use Rattle.iref_canonical.specs.Sortable.{sortable_key};
 
 use crate::sort_bytes::is_kept;
-use crate::sort_parts::{authority_len, raw_option_len, text_option_len};
-use crate::sort_parts::{write_authority, write_scheme, write_text_option};
+use crate::sort_parts::{
+    authority_len, raw_option_len, text_option_len, write_authority, write_scheme,
+    write_text_option,
+};
 use crate::sort_path::Items;
 use crate::sort_text::write_byte;
 use iref_error::Memory;

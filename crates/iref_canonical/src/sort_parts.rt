@@ -83,12 +83,7 @@ pub(crate) fn write_text_option(
 
 /// Writes what a sort key has for a scheme in lower case, which may not be there, so that it ends at
 /// `end`, and returns where it begins.
-pub(crate) fn write_scheme(
-    buffer: &mut [u8],
-    end: usize,
-    scheme: Option<&str>,
-    kept: bool,
-) -> usize
+pub(crate) fn write_scheme(buffer: &mut [u8], end: usize, scheme: Option<&str>, kept: bool) -> usize
     requires kept { kept ≡ true → none_or is_kept (option_copied scheme) ≡ true }
     requires room { length (sort_option sort_text (option_copied scheme)) ≤ end }
     requires within { end ≤ length buffer.old }

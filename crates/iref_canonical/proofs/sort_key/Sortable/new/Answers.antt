@@ -44,7 +44,7 @@ pub returns-clause-sortable : goal.returns-clause-sortable
 returns-clause-sortable c =
     let texts = c.requires.texts in
     let kept : c.is_kept-kept.result ≡ true → HasKeptParts (read_reference c.args.text.now) =
-        λ h. text_kept c.args.text.now (sym (c.is_kept-kept.ensures ∙ ap is_kept c.as_bytes.ensures.value) ∙ h) in
+    λ h. text_kept c.args.text.now (sym (c.is_kept-kept.ensures ∙ ap is_kept c.as_bytes.ensures.value) ∙ h) in
     record {
       items = c.of_path-absolute.ensures.sound;
       scheme = λ h. ap (λ (t : ComponentTexts). none_or is_kept t.scheme) texts ∙ (kept h).scheme;
