@@ -2,6 +2,7 @@
 #![tactic(auto)]
 
 pub mod canonical_laws;
+pub mod owned;
 pub mod sort_bytes;
 pub mod sort_key;
 pub mod sort_key_laws;
