@@ -17,3 +17,8 @@ pub mod PlainTextLemmas
 pub mod PlainReferenceLemmas
 pub mod ShapeLemmas
 pub mod CanonicalSpellingLemmas
+mod SortKeyRows
+pub mod SortKeyLemmas
+pub mod SortByteLemmas
+pub mod SortItemLemmas
+pub mod SortableLemmas

@@ -8,3 +8,6 @@ pub mod Lower
 pub mod FutureLiteral
 pub mod SortKey
 pub mod SpelledItems
+pub mod SortBytes
+pub mod SortItems
+pub mod Sortable
