@@ -74,9 +74,3 @@ module _ (step : Edited) where
     -- it stops there
     pub stops_at : (error : EditFault) → AppliesEdit step (f x) before after (Err error) → StopsAt step (map f xs) old (read_reference after) i error
     stops_at error e = grind (arith, stops_next, here)
-
--- a list of one element
-pub one_of : {X : Type 0} (xs : List X) (x : X) → length xs ≡ 1 → x ≡ get_or xs 0 x → x ∷ [] ≡ xs
-one_of [] x one is = absurd (omega arith)
-one_of (y ∷ []) x one is = ap (λ e. e ∷ []) is
-one_of (y ∷ z ∷ zs) x one is = absurd (omega arith)

@@ -195,19 +195,6 @@ fn apply_on_copy<R: SetsScheme, C: CharSet>(
     run.done
 }
 
-// Does a list of one edit.
-fn apply_one<R: SetsScheme, C: CharSet>(
-    reference: &mut ReferenceBuf<R, C>,
-    edit: Edit<'_, C>,
-) -> Applied
-    ensures { AppliesList R.allows_scheme (edit.entry ∷ []) reference.old reference.new result }
-{
-    match apply(reference, edit) {
-        Ok(()) => Ok(()),
-        Err(fault) => Err((0, fault)),
-    }
-}
-
 // Does the edits, in place and on copies by turns. No copy is taken any more once edits of one were
 // not done.
 fn apply_list<R: SetsScheme, C: CharSet>(
@@ -216,9 +203,6 @@ fn apply_list<R: SetsScheme, C: CharSet>(
 ) -> Applied
     ensures { AppliesList R.allows_scheme edits.now reference.old reference.new result }
 {
-    if edits.len() == 1 {
-        return apply_one(reference, edits[0]);
-    }
     let mut done = 0;
     let mut may_copy = true;
     while done < edits.len() {
@@ -227,7 +211,7 @@ fn apply_list<R: SetsScheme, C: CharSet>(
         if let Some(fault) = run.fault {
             return Err((done, fault));
         }
-        if may_copy {
+        if may_copy && done < edits.len() {
             let len = copied_len(reference, &edits[done..]);
             let copied = apply_on_copy(reference, &edits[done..done + len]);
             may_copy = copied == len;

@@ -1,15 +1,10 @@
-use Rattle.std.proofs.Common.{◌+◌, ◌-◌, drop, length, length-drop, length-take-le, map, subst, arith}
+use Rattle.std.proofs.Common.{◌+◌, ◌-◌, drop, length, length-drop, length-take-le, map, arith}
 use Rattle.iref_reference.specs.References.{reference_buf_value}
 use Rattle.iref.specs.EditAnswers.{edited_in}
-use Rattle.iref.specs.EditSteps.{edit_step, AppliesList}
-use Rattle.iref.proofs.EditListLemmas.{none_done, all_done, one_of}
+use Rattle.iref.specs.EditSteps.{edit_step}
+use Rattle.iref.proofs.EditListLemmas.{none_done, all_done}
 use Rattle.iref.proofs.EditRunLemmas.{done_behind, stops_behind}
 use Rattle.iref.proofs.edits.lists.apply_list.Goals as goal
-
-pub returns-then-edits-eq1 : goal.returns-then-edits-eq1
-returns-then-edits-eq1 g c =
-    subst (λ edits. AppliesList g.R.HeldRule.allows_scheme edits c.args.reference.now c.apply_one.new.reference c.apply_one.result)
-    (one_of c.args.edits.now c.index-edits-0.result c.if-edits-eq1.true c.index-edits-0.is) c.apply_one.ensures
 
 pub loop-done-init : goal.loop-done-init
 loop-done-init g c = record { within = omega arith; done = none_done (edited_in g.R.HeldRule.allows_scheme) (map edit_step c.args.edits.now) (reference_buf_value c.args.reference.now) }
@@ -19,8 +14,8 @@ returns-in-Some g c =
     stops_behind (edited_in g.R.HeldRule.allows_scheme) edit_step c.args.edits.now c.loop-done.done (reference_buf_value c.args.reference.now) (reference_buf_value c.loop-done.reference) (reference_buf_value c.apply_each-run.new.reference)
     c.loop-done.invariant.done c.loop-done.invariant.within c.apply_each-run.result.done c.in-Some.fault (rw c.in-Some.is at c.apply_each-run.ensures.fault)
 
-pub loop-done-preserved-then-may_copy : goal.loop-done-preserved-then-may_copy
-loop-done-preserved-then-may_copy g c =
+pub loop-done-preserved-then-done-edits : goal.loop-done-preserved-then-may_copy
+loop-done-preserved-then-done-edits g c =
     let step = edited_in g.R.HeldRule.allows_scheme in
     let edits = c.args.edits.now in
     let old = reference_buf_value c.args.reference.now in
