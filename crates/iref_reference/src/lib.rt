@@ -2,7 +2,6 @@
 #![tactic(auto)]
 
 pub mod borrowed;
-pub mod canonical;
 pub mod comparison;
 pub mod composed;
 pub mod editors;
