@@ -1,2 +1,5 @@
 pub mod Canonical
+pub mod SortBytes
+pub mod SortItems
 pub mod SortKey
+pub mod Sortable

@@ -2,4 +2,10 @@
 #![tactic(auto)]
 
 pub mod canonical_laws;
+pub mod owned;
+pub mod sort_bytes;
+pub mod sort_key;
 pub mod sort_key_laws;
+pub mod sort_parts;
+pub mod sort_path;
+pub mod sort_text;

@@ -1,0 +1,170 @@
+-- The items of a path in sort keys, the last first.
+use Rattle.std.proofs.Common.{arith, ◌≡◌, ℕ, ◌+◌, ◌<◌, ◌≤◌, ◌++◌, ◌∷◌, [], List, length, drop, refl, sym, ◌∙◌, ap, subst, true, None, append_assoc, length-append, length-drop}
+use Rattle.std.proofs.lemmas.List.{append-nil, map-append}
+use Rattle.std.proofs.lemmas.Grind.{common_steps, flat_map-append}
+use Rattle.std.proofs.lemmas.Bool.{and_from, and_parts}
+use Rattle.std.proofs.lemmas.List.Folds.{list_all-append}
+use Rattle.std.specs.List.{flat_map, list_all, onto_first}
+use Rattle.std.specs.Prelude.{map, Bool, false, cond, ◌==◌}
+use Rattle.percent_encoding.specs.Percent.{percent_decode}
+use Rattle.iref_grammar.specs.Grammar.{slash}
+use Rattle.iref_grammar.specs.Rules.{Text}
+use Rattle.iref_grammar.specs.Texts.{pieces_at}
+use Rattle.iref_grammar.specs.PathValue.{PathValue, is_one_empty, read_path, segments_of}
+use Rattle.iref_model.specs.PathKey.{path_key}
+use Rattle.iref_parse.specs.Dots.{is_some_dotted, has_dot_segment}
+use Rattle.iref_path.specs.Spelling.{each_closed}
+use Rattle.iref_path.proofs.DotlessLemmas.{both_size, normal_segments-dotless, whole_text}
+use Rattle.iref_path.specs.Written.{WritesBefore}
+use Rattle.iref_canonical.specs.SortKey.{sort_item, sort_list, sort_text}
+use Rattle.iref_canonical.specs.SortBytes.{is_kept_byte, is_kept}
+use Rattle.iref_canonical.specs.SortItems.{AreKept, IsWriting, IsMeasuring}
+use Rattle.iref_canonical.proofs.SortByteLemmas.{kept_sorted, kept_decodes}
+
+sorted_last : (rest : List Text) (x : Text) → flat_map sort_item (rest ++ x ∷ []) ≡ flat_map sort_item rest ++ (1 ∷ sort_text x)
+sorted_last rest x = flat_map-append sort_item rest (x ∷ []) ∙ ap (λ t. flat_map sort_item rest ++ t) (append-nil (1 ∷ sort_text x))
+
+-- ---- lengths
+
+pub none_measured : (items : List Text) → IsMeasuring items items 1
+none_measured items = record { counted = grind (arith, length-append) }
+
+pub more_measured : (items left rest : List Text) (x : Text) (len size : ℕ) → IsMeasuring items left len → left ≡ rest ++ x ∷ [] → size ≡ length (sort_text x) → IsMeasuring items rest (len + size + 1)
+more_measured items left rest x len size h e k = let c = h.counted in record { counted = grind (arith, length-append, sorted_last rest x) }
+
+pub all_measured : (items left : List Text) (len : ℕ) → IsMeasuring items left len → left ≡ [] → len ≡ length (sort_list sort_item items)
+all_measured items left len h e = let c = h.counted in grind arith
+
+-- ---- writes
+
+pub none_written : (items : List Text) (end start : ℕ) (old new : Text) → WritesBefore end (0 ∷ []) old new start → IsWriting items items end start old new
+none_written items end start old new h =
+    let r = h.range in
+    let w = h.written in
+    record { written = grind (arith, append_assoc); range = grind (arith, length-append); len = h.len }
+
+-- there is room for one more
+pub room_left : (items left rest : List Text) (x : Text) (end start : ℕ) (old new : Text) → IsWriting items left end start old new → left ≡ rest ++ x ∷ []
+    → length (sort_list sort_item items) ≤ end → length (sort_text x) + 1 ≤ start
+room_left items left rest x end start old new h e room = let r = h.range in grind (arith, length-append, sorted_last rest x)
+
+pub within_left : (items left : List Text) (end start : ℕ) (old new : Text) → IsWriting items left end start old new → end ≤ length old
+    → length (sort_list sort_item items) ≤ end → start ≤ length new
+within_left items left end start old new h within room =
+    let r = h.range in
+    let l = h.len in
+    let w = sym (length-append (flat_map sort_item left) (drop start new)) ∙ ap length h.written ∙ length-append (sort_list sort_item items) (drop end old) in
+    omega (arith, length-drop start new, length-drop end old)
+
+pub more_written : (items left rest : List Text) (x : Text) (end start mid first : ℕ) (old new after last : Text) → IsWriting items left end start old new → left ≡ rest ++ x ∷ []
+    → WritesBefore start (sort_text x) new after mid → WritesBefore mid (1 ∷ []) after last first → IsWriting items rest end first old last
+more_written items left rest x end start mid first old new after last h e k l =
+    let hr = h.range in
+    let hw = h.written in
+    let hl = h.len in
+    let kr = k.range in
+    let kw = k.written in
+    let kl = k.len in
+    let lr = l.range in
+    let lw = l.written in
+    let ll = l.len in
+    record {
+      written = grind (arith, append_assoc, sorted_last rest x);
+      range = grind (arith, length-append, sorted_last rest x);
+      len = ll ∙ kl ∙ hl;
+    }
+
+pub all_written : (items left : List Text) (end start : ℕ) (old new : Text) → IsWriting items left end start old new → left ≡ [] → WritesBefore end (sort_list sort_item items) old new start
+all_written items left end start old new h e = let r = h.range in let w = h.written in record { range = grind arith; written = grind arith; len = h.len }
+
+-- ---- segments whose bytes are written as they are
+
+last_kept : (left rest : List Text) (x : Text) → AreKept left → left ≡ rest ++ x ∷ [] → (AreKept rest) × (is_kept x ≡ true)
+last_kept left rest x h e =
+    let both = and_parts (list_all is_kept rest) (list_all is_kept (x ∷ [])) (sym (list_all-append is_kept rest (x ∷ [])) ∙ ap (list_all is_kept) (sym e) ∙ h) in
+    (both.0, (and_parts (is_kept x) true both.1).0)
+
+pub kept_room : (items left rest : List Text) (x : Text) (end start : ℕ) (old new : Text) → IsWriting items left end start old new → AreKept left → left ≡ rest ++ x ∷ []
+    → length (sort_list sort_item items) ≤ end → length (x ++ 0 ∷ []) + 1 ≤ start
+kept_room items left rest x end start old new h k e room =
+    let r = room_left items left rest x end start old new h e room in
+    let l = ap length (kept_sorted x (last_kept left rest x k e).1) in
+    omega arith
+
+pub kept_written : (items left rest : List Text) (x : Text) (end start mid first : ℕ) (old new after last : Text) → IsWriting items left end start old new → AreKept left → left ≡ rest ++ x ∷ []
+    → WritesBefore start (x ++ 0 ∷ []) new after mid → WritesBefore mid (1 ∷ []) after last first → (IsWriting items rest end first old last) × AreKept rest
+kept_written items left rest x end start mid first old new after last h k e w v =
+    let kept = last_kept left rest x k e in (
+      more_written items left rest x end start mid first old new after last h e (subst (λ t. WritesBefore start t new after mid) (sym (kept_sorted x kept.1)) w) v,
+      kept.0,
+    )
+
+closed_size : (list : List Text) → AreKept list → length (flat_map sort_item list) ≡ length (each_closed list) + length list
+closed_size [] h = refl
+closed_size (s ∷ list) h =
+    let both = and_parts (is_kept s) (list_all is_kept list) h in
+    let one = ap length (kept_sorted s both.0) ∙ length-append s (0 ∷ []) in
+    let rest = closed_size list both.1 in
+    grind (arith, length-append)
+
+pub kept_size : (text : Text) → AreKept (pieces_at slash text) → length (sort_list sort_item (pieces_at slash text)) ≡ length text + length (pieces_at slash text) + 2
+kept_size text h =
+    let list = pieces_at slash text in
+    let size = closed_size list h in
+    let all = both_size None text in
+    let end = length-append (flat_map sort_item list) (0 ∷ []) in
+    omega arith
+
+-- ---- a path without escapes and dot segments
+
+record IsPlainList (items : List Text) : Type 0 where
+  kept : AreKept items
+  dotless : is_some_dotted items ≡ false
+  many : is_one_empty items ≡ false
+
+onto_kept : (c : ℕ) (list : List Text) → is_kept_byte c ≡ true → AreKept list → AreKept (onto_first c list)
+onto_kept c [] h k = and_from (is_kept (c ∷ [])) true (and_from (is_kept_byte c) true h refl) refl
+onto_kept c (p ∷ ps) h k =
+    let both = and_parts (is_kept p) (list_all is_kept ps) k in
+    and_from (is_kept (c ∷ p)) (list_all is_kept ps) (and_from (is_kept_byte c) (is_kept p) h both.0) both.1
+
+kept_pieces : (text : Text) → is_kept text ≡ true → AreKept (pieces_at slash text)
+kept_pieces [] h = refl
+kept_pieces (c ∷ cs) h =
+    let both = and_parts (is_kept_byte c) (is_kept cs) h in
+    let rest = kept_pieces cs both.1 in
+    by (c == slash) rest (onto_kept c (pieces_at slash cs) both.0 rest)
+  where
+    by : (b : Bool) → AreKept (pieces_at slash cs) → AreKept (onto_first c (pieces_at slash cs)) → AreKept (cond b ([] ∷ pieces_at slash cs) (onto_first c (pieces_at slash cs)))
+    by true k l = k
+    by false k l = l
+
+plain_segments : (text : Text) → is_kept text ≡ true → has_dot_segment text ≡ false → IsPlainList (segments_of text)
+plain_segments [] h k = record { kept = refl; dotless = refl; many = refl }
+plain_segments (c ∷ cs) h k = record { kept = kept_pieces (c ∷ cs) h; dotless = k; many = whole_text c cs }
+
+plain_path : (path : Text) → is_kept path ≡ true → has_dot_segment path ≡ false → IsPlainList (read_path path).segments
+unfolding read_path
+plain_path [] h k = record { kept = refl; dotless = refl; many = refl }
+plain_path (c ∷ cs) h k = by (c == slash) k
+  where
+    by : (b : Bool) → is_some_dotted (cond b ([] ∷ pieces_at slash cs) (onto_first c (pieces_at slash cs))) ≡ false
+        → IsPlainList (cond {A = PathValue} b (record { absolute = true; segments = segments_of cs }) (record { absolute = false; segments = pieces_at slash (c ∷ cs) })).segments
+    by true d = plain_segments cs (and_parts (is_kept_byte c) (is_kept cs) h).1 d
+    by false d = plain_segments (c ∷ cs) h k
+
+decoded_items : (list : List Text) → AreKept list → map percent_decode list ≡ list
+decoded_items [] h = refl
+decoded_items (s ∷ list) h =
+    let both = and_parts (is_kept s) (list_all is_kept list) h in
+    λ i. kept_decodes s both.0 i ∷ decoded_items list both.1 i
+
+pub kept_path : (path : Text) → is_kept path ≡ true → has_dot_segment path ≡ false → AreKept (read_path path).segments
+kept_path path h k = (plain_path path h k).kept
+
+pub kept_key : (path : Text) → is_kept path ≡ true → has_dot_segment path ≡ false → (path_key (read_path path)).segments ≡ (read_path path).segments
+unfolding path_key
+kept_key path h k =
+    let p = read_path path in
+    let plain = plain_path path h k in
+    ap (map percent_decode) (normal_segments-dotless p plain.dotless ∙ ap (λ b. cond b [] p.segments) plain.many) ∙ decoded_items p.segments plain.kept
