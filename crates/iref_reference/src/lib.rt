@@ -13,6 +13,7 @@ pub mod relative;
 pub mod resolution;
 pub mod rule;
 pub mod setters;
+pub mod sort_key;
 pub mod suffix;
 pub mod uri_or_iri;
 pub mod uri_or_reference;

@@ -1,0 +1,61 @@
+//! Sort keys of references: bytes that stand in the order of the references (RFC 3986 section
+//! 6.2.2).
+ghost use Rattle.std.specs.Prelude.{◌≡◌, ◌++◌, IfOk, OnErr, OnOk};
+ghost use Rattle.iref_canonical.specs.SortKey.{sort_key};
+ghost use Rattle.iref_reference.specs.References.{key_of_reference, key_of_reference_buf};
+
+use crate::borrowed::Reference;
+use crate::owned::ReferenceBuf;
+use iref_canonical::owned::SortKey;
+use iref_canonical::sort_key::append_sort_key;
+use iref_error::Memory;
+use iref_grammar::chars::CharSet;
+use iref_parse::split::split_reference;
+use iref_reference_text::reference_text::HeldRule;
+use std::alloc::Global;
+
+impl<R: HeldRule, C: CharSet> Reference<'_, R, C> {
+    /// The sort key: sort keys stand, byte by byte and the shorter first, in the order of the
+    /// references, and are the same exactly where these are equal (RFC 3986 section 6.2.2). `a/./b`
+    /// and `%61/b` have one. Out of memory, it returns `Memory`.
+    pub fn sort_key(&self, alloc: Global) -> Result<SortKey, Memory>
+        ensures { IfOk result (λ bytes. bytes ≡ sort_key (key_of_reference self.now)) }
+    {
+        let mut bytes = Vec::new(alloc);
+        self.append_sort_key_to(&mut bytes)?;
+        Ok(SortKey::of_bytes(bytes))
+    }
+
+    /// Appends the sort key to a vector: of `?` the bytes 0, 0, 0, 0, 1, 0 and 0. The room is taken
+    /// once; out of memory, it returns `Memory` and the vector is as it was.
+    pub fn append_sort_key_to(&self, bytes: &mut Vec<u8>) -> Result<(), Memory>
+        ensures ok { OnOk result (bytes.new.items
+            ≡ bytes.old.items ++ sort_key (key_of_reference self.now)) }
+        ensures err { OnErr result (bytes.new.items ≡ bytes.old.items) }
+    {
+        let text = self.as_str();
+        append_sort_key(text, split_reference(text), bytes)
+    }
+}
+
+impl<R: HeldRule, C: CharSet> ReferenceBuf<R, C> {
+    /// The sort key, as of the borrowed value: `a/./b` and `%61/b` have one (RFC 3986 section
+    /// 6.2.2). Out of memory, it returns `Memory`.
+    pub fn sort_key(&self, alloc: Global) -> Result<SortKey, Memory>
+        ensures { IfOk result (λ bytes. bytes ≡ sort_key (key_of_reference_buf self.now)) }
+    {
+        let mut bytes = Vec::new(alloc);
+        self.append_sort_key_to(&mut bytes)?;
+        Ok(SortKey::of_bytes(bytes))
+    }
+
+    /// Appends the sort key to a vector: of `?` the bytes 0, 0, 0, 0, 1, 0 and 0. The room is taken
+    /// once; out of memory, it returns `Memory` and the vector is as it was.
+    pub fn append_sort_key_to(&self, bytes: &mut Vec<u8>) -> Result<(), Memory>
+        ensures ok { OnOk result (bytes.new.items
+            ≡ bytes.old.items ++ sort_key (key_of_reference_buf self.now)) }
+        ensures err { OnErr result (bytes.new.items ≡ bytes.old.items) }
+    {
+        append_sort_key(self.as_str(), self.inner.slices(), bytes)
+    }
+}
