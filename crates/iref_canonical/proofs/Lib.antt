@@ -1,0 +1,7 @@
+mod CanonicalRows
+pub mod EncodedTextLemmas
+pub mod PlainCharacterLemmas
+pub mod CanonicalPathLemmas
+pub mod CanonicalPartLemmas
+pub mod CanonicalKeyLemmas
+pub mod CanonicalTextLemmas

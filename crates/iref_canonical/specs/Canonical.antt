@@ -50,15 +50,19 @@ canonical_items p = if p.absolute then map canonical_name p.segments else canoni
 abbrev pub canonical_path : PathValue → PathValue
 canonical_path p = record p { segments = canonical_items p }
 
--- the canonical reference of a key: each component encoded, and the path guarded where it stands
-unfoldable pub canonical : ReferenceValue → ReferenceValue
-canonical k = guarded_reference (record {
+-- each component of a key encoded
+abbrev pub canonical_parts : ReferenceValue → ReferenceValue
+canonical_parts k = record {
   scheme = k.scheme;
   authority = option_map canonical_authority k.authority;
   path = canonical_path k.path;
   query = option_map (encoded (is_query_char uri_chars)) k.query;
   fragment = option_map (encoded (is_fragment_char uri_chars)) k.fragment;
-})
+}
+
+-- the canonical reference of a key, the path guarded where it stands
+unfoldable pub canonical : ReferenceValue → ReferenceValue
+canonical k = guarded_reference (canonical_parts k)
 
 -- the canonical text of a key
 abbrev pub canonical_text : ReferenceValue → Text
