@@ -1,0 +1,5 @@
+pub mod Places
+pub mod Cut
+pub mod Faults
+pub mod FirstFault
+pub mod Components

@@ -1,1 +1,138 @@
 //! Laws of faults: each is the contract of a function that does nothing.
+#![tactic(auto)]
+
+ghost use Rattle.std.specs.Prelude.{◌≡◌, ◌↔◌, ℕ, ◌≤◌, length, take, drop, true, false, Some};
+ghost use Rattle.std.specs.{Prelude.{None, map}, Str.{is_utf8}, List.{AllByRecursion}};
+ghost use Rattle.iref_grammar.specs.{Text, InUtf8, IsUri, IsUriReference, IsAuthority};
+ghost use Rattle.iref_grammar.specs.{IsScheme, IsUserInfo, IsHost, IsPort, IsPath, IsSegment};
+ghost use Rattle.iref_grammar.specs.{IsQuery, IsFragment, is_authority, is_reference};
+ghost use Rattle.iref_grammar.specs.{read_authority, read_reference};
+ghost use Rattle.iref_fault.specs.Places.{PartRule, Scheme, UserInfo, Host, Port, Path, Segment};
+ghost use Rattle.iref_fault.specs.Places.{Query, Fragment, is_bare, IsPlaceIn};
+ghost use Rattle.iref_fault.specs.Cut.{Piece, authority_pieces, pieces_of, has_cut_scheme};
+ghost use Rattle.iref_fault.specs.Faults.{FaultValue, fault_of_part, fault_of_authority};
+ghost use Rattle.iref_fault.specs.Faults.{fault_of_reference, fault_of_uri, not_utf8, no_scheme};
+ghost use Rattle.iref_fault.specs.FirstFault.{IsFirstFault, IsPartFault, AreInRules};
+ghost use Rattle.iref_fault.specs.Components.{component_text, authority_components};
+ghost use Rattle.iref_fault.specs.Components.{components_of};
+
+use iref_grammar::chars::CharSet;
+
+/// A single text has no fault exactly if it is in its rule.
+pub fn part_without_fault<S: CharSet>()
+    ensures scheme { (text : Text)
+        → (fault_of_part S.tests Scheme text ≡ None) ↔ InUtf8 IsScheme text }
+    ensures user_info { (text : Text)
+        → (fault_of_part S.tests UserInfo text ≡ None) ↔ InUtf8 (IsUserInfo S.tests) text }
+    ensures host { (text : Text)
+        → (fault_of_part S.tests Host text ≡ None) ↔ InUtf8 (IsHost S.tests) text }
+    ensures port { (text : Text)
+        → (fault_of_part S.tests Port text ≡ None) ↔ InUtf8 IsPort text }
+    ensures path { (text : Text)
+        → (fault_of_part S.tests Path text ≡ None) ↔ InUtf8 (IsPath S.tests) text }
+    ensures segment { (text : Text)
+        → (fault_of_part S.tests Segment text ≡ None) ↔ InUtf8 (IsSegment S.tests) text }
+    ensures query { (text : Text)
+        → (fault_of_part S.tests Query text ≡ None) ↔ InUtf8 (IsQuery S.tests) text }
+    ensures fragment { (text : Text)
+        → (fault_of_part S.tests Fragment text ≡ None) ↔ InUtf8 (IsFragment S.tests) text }
+{}
+
+/// A text has no fault exactly if it is in the grammar.
+pub fn text_without_fault<S: CharSet>()
+    ensures authority { (text : Text)
+        → (fault_of_authority S.tests text ≡ None) ↔ InUtf8 (IsAuthority S.tests) text }
+    ensures reference { (text : Text)
+        → (fault_of_reference S.tests text ≡ None) ↔ InUtf8 (IsUriReference S.tests) text }
+    ensures uri { (text : Text)
+        → (fault_of_uri S.tests text ≡ None) ↔ InUtf8 (IsUri S.tests) text }
+{}
+
+/// The fault of a single text has the one place where the text is outside its rule.
+pub fn part_fault<S: CharSet>()
+    ensures fault { (rule : PartRule) (text : Text) (f : FaultValue) → is_bare rule ≡ false
+        → is_utf8 text ≡ true
+        → (fault_of_part S.tests rule text ≡ Some f) ↔ IsPartFault S.tests rule text f }
+    ensures one_place { (rule : PartRule) (text : Text) (m n : ℕ)
+        → IsPlaceIn S.tests rule text m → IsPlaceIn S.tests rule text n → m ≡ n }
+{}
+
+/// The fault of a text is that of its first piece, in the order in which they stand, that is
+/// outside its rule.
+pub fn first_fault<S: CharSet>()
+    ensures authority { (text : Text) (f : FaultValue) → is_utf8 text ≡ true
+        → (fault_of_authority S.tests text ≡ Some f)
+        ↔ IsFirstFault S.tests text (authority_pieces 0 text) f }
+    ensures reference { (text : Text) (f : FaultValue) → is_utf8 text ≡ true
+        → (fault_of_reference S.tests text ≡ Some f)
+        ↔ IsFirstFault S.tests text (pieces_of text) f }
+    ensures uri { (text : Text) (f : FaultValue) → is_utf8 text ≡ true
+        → has_cut_scheme text ≡ true
+        → (fault_of_uri S.tests text ≡ Some f)
+        ↔ IsFirstFault S.tests text (pieces_of text) f }
+    ensures no_scheme { (text : Text) → is_utf8 text ≡ true → has_cut_scheme text ≡ false
+        → fault_of_uri S.tests text ≡ Some no_scheme }
+{}
+
+/// Bytes that are not UTF-8 have this fault, whatever else is wrong with them.
+pub fn fault_of_bytes<S: CharSet>()
+    ensures part { (rule : PartRule) (text : Text) → is_utf8 text ≡ false
+        → fault_of_part S.tests rule text ≡ Some (not_utf8 text) }
+    ensures authority { (text : Text) → is_utf8 text ≡ false
+        → fault_of_authority S.tests text ≡ Some (not_utf8 text) }
+    ensures reference { (text : Text) → is_utf8 text ≡ false
+        → fault_of_reference S.tests text ≡ Some (not_utf8 text) }
+    ensures uri { (text : Text) → is_utf8 text ≡ false
+        → fault_of_uri S.tests text ≡ Some (not_utf8 text) }
+{}
+
+/// A fault is at a place within the text, and what stands before it is UTF-8.
+pub fn fault_within_text<S: CharSet>()
+    ensures part { (rule : PartRule) (text : Text) (f : FaultValue) → is_bare rule ≡ false
+        → fault_of_part S.tests rule text ≡ Some f
+        → (f.at ≤ length text) × (is_utf8 (take f.at text) ≡ true) }
+    ensures authority { (text : Text) (f : FaultValue)
+        → fault_of_authority S.tests text ≡ Some f
+        → (f.at ≤ length text) × (is_utf8 (take f.at text) ≡ true) }
+    ensures reference { (text : Text) (f : FaultValue)
+        → fault_of_reference S.tests text ≡ Some f
+        → (f.at ≤ length text) × (is_utf8 (take f.at text) ≡ true) }
+    ensures uri { (text : Text) (f : FaultValue)
+        → fault_of_uri S.tests text ≡ Some f
+        → (f.at ≤ length text) × (is_utf8 (take f.at text) ≡ true) }
+{}
+
+/// Of a text that is UTF-8, no character is found at the fault exactly if the text ends there.
+pub fn found_unless_the_text_ends<S: CharSet>()
+    ensures part { (rule : PartRule) (text : Text) (f : FaultValue) → is_bare rule ≡ false
+        → is_utf8 text ≡ true → fault_of_part S.tests rule text ≡ Some f
+        → (f.found ≡ None) ↔ (f.at ≡ length text) }
+    ensures authority { (text : Text) (f : FaultValue) → is_utf8 text ≡ true
+        → fault_of_authority S.tests text ≡ Some f
+        → (f.found ≡ None) ↔ (f.at ≡ length text) }
+    ensures reference { (text : Text) (f : FaultValue) → is_utf8 text ≡ true
+        → fault_of_reference S.tests text ≡ Some f
+        → (f.found ≡ None) ↔ (f.at ≡ length text) }
+    ensures uri { (text : Text) (f : FaultValue) → is_utf8 text ≡ true
+        → has_cut_scheme text ≡ true → fault_of_uri S.tests text ≡ Some f
+        → (f.found ≡ None) ↔ (f.at ≡ length text) }
+{}
+
+/// Each piece of a text stands where it says.
+pub fn pieces_stand_in_the_text()
+    ensures authority { (text : Text) → is_utf8 text ≡ true
+        → AllByRecursion (λ p. take (length p.text) (drop p.start text) ≡ p.text)
+        (authority_pieces 0 text) }
+    ensures reference { (text : Text) → is_utf8 text ≡ true
+        → AllByRecursion (λ p. take (length p.text) (drop p.start text) ≡ p.text)
+        (pieces_of text) }
+{}
+
+/// On a text of the grammar the cut gives the components that are read from it.
+pub fn cut_of_the_grammar<S: CharSet>()
+    ensures authority { (start : ℕ) (text : Text) → is_authority S.tests text ≡ true
+        → map component_text (authority_pieces start text)
+        ≡ authority_components (read_authority text) }
+    ensures reference { (text : Text) → is_reference S.tests text ≡ true
+        → map component_text (pieces_of text) ≡ components_of (read_reference text) }
+{}
