@@ -5,3 +5,6 @@ pub mod CanonicalPathLemmas
 pub mod CanonicalPartLemmas
 pub mod CanonicalKeyLemmas
 pub mod CanonicalTextLemmas
+mod SortKeyRows
+pub mod SortKeyLemmas
+pub mod SortByteLemmas

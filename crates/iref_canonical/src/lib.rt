@@ -2,4 +2,6 @@
 #![tactic(auto)]
 
 pub mod canonical_laws;
+pub mod sort_bytes;
 pub mod sort_key_laws;
+pub mod sort_text;
