@@ -22,8 +22,8 @@ fn put_url(text: &mut String, number: u64) -> Result<(), AllocError> {
     text.push_str(after)
 }
 
-// A list of this many URLs, in no order.
-fn texts(alloc: Global, count: u64, numbers: &mut Numbers) -> Result<Vec<String>> {
+/// A list of this many URLs, in no order.
+pub fn texts(alloc: Global, count: u64, numbers: &mut Numbers) -> Result<Vec<String>> {
     let mut texts = Vec::new(alloc);
     for _url in 0..count {
         let mut text = String::new(alloc);
@@ -33,8 +33,8 @@ fn texts(alloc: Global, count: u64, numbers: &mut Numbers) -> Result<Vec<String>
     Ok(texts)
 }
 
-// The owned URLs of the texts.
-fn owned(alloc: Global, texts: Vec<String>) -> Result<Vec<UriBuf>> {
+/// The owned URLs of the texts.
+pub fn owned(alloc: Global, texts: Vec<String>) -> Result<Vec<UriBuf>> {
     let mut uris = Vec::new(alloc);
     for text in texts {
         let uri = UriBuf::new(text).ok().context("no URI")?;

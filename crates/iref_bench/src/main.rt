@@ -5,6 +5,7 @@
 mod awkward;
 mod digest;
 mod digits;
+mod keys;
 mod list;
 mod made;
 mod mapping;
@@ -33,6 +34,7 @@ fn digest_of(alloc: Global, job: &str, count: u32, seed: u32) -> Result<u64> {
         "write" => writer::run(alloc, count, &mut numbers, &mut digest)?,
         "mirror" => mirror::run(alloc, count, &mut numbers, &mut digest)?,
         "list" => list::run(alloc, count, &mut numbers, &mut digest)?,
+        "keys" => keys::run(alloc, count, &mut numbers, &mut digest)?,
         "map" => mapping::run(alloc, count, &mut numbers, &mut digest)?,
         "awkward" => awkward::run(alloc, count, &mut numbers, &mut digest)?,
         "tables" => {

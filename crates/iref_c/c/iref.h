@@ -11,9 +11,9 @@
  * What the caller owes. No pointer is NULL, not even one of length 0. What is passed as a text holds that many bytes that
  * can be read, and does not change during the call. What is passed as a buffer holds that many bytes that can be read and
  * written, and the memory for each result is aligned as its type is. No buffer and no such memory overlaps anything else
- * that is passed. malloc, realloc and free are of one allocator, and iref_normalize_path and iref_to_uri, which alone take
- * memory, are not called from a signal handler, nor in the forked child of a process with threads. Nothing checks any of
- * this.
+ * that is passed. malloc, realloc and free are of one allocator, and iref_normalize_path, iref_to_uri, iref_canonical and
+ * iref_sort_key, which alone take memory, are not called from a signal handler, nor in the forked child of a process with
+ * threads. Nothing checks any of this.
  *
  * Results. A call answers a status, one of those below. Where it is not IREF_OK, nothing is written, but that *needed is
  * written at IREF_SHORT too.
@@ -77,6 +77,29 @@ uint32_t iref_parse_iri(const char *text, size_t length, struct iref_ranges *ran
 /* A reference of IRIs (RFC 3987 section 2.2). */
 uint32_t iref_parse_iri_reference(const char *text, size_t length, struct iref_ranges *ranges);
 
+/* What is wrong in a text. */
+#define IREF_NOTHING 0
+#define IREF_SCHEME 1
+#define IREF_USER_INFO 2
+#define IREF_HOST 3
+#define IREF_PORT 4
+#define IREF_PATH 5
+#define IREF_QUERY 6
+#define IREF_FRAGMENT 7
+#define IREF_NOT_UTF8 8
+
+/* What is wrong in a text, and where. */
+struct iref_place {
+    size_t what; /* IREF_NOTHING, or the first component that is outside its rule, or IREF_NOT_UTF8 */
+    size_t at;   /* how many bytes stand before the place; 0 where nothing is wrong */
+};
+
+/* Why a text is no reference of IRIs, and where: it is cut into components by the expression of RFC 3986 appendix B. What
+ * stands of the component before the place can still become one of its rule, and then not. A host that begins with `[`
+ * is wrong there. Of `http://h:8x0/` *place becomes IREF_PORT and 10, of a reference IREF_NOTHING and 0. It answers
+ * IREF_OK, whatever the bytes are. */
+uint32_t iref_fault(const char *text, size_t length, struct iref_place *place);
+
 /* Comparison of references of IRIs (RFC 3986 section 6.2.2): schemes without regard to case, paths with their dots
  * removed, and escapes as the bytes that they stand for; no rule of a scheme is used. The three agree: two references are
  * equal exactly where their order is 0, and equal ones have one hash. Each answers IREF_OK, IREF_INVALID or
@@ -119,6 +142,15 @@ uint32_t iref_relative(const char *target, size_t target_length, const char *bas
 /* The reference of URIs that a reference of IRIs maps to (RFC 3987 section 3.1): each byte beyond ASCII becomes its escape.
  * `http://a/\u00E9` gives `http://a/%C3%A9`. It equals the one that it maps. */
 uint32_t iref_to_uri(const char *reference, size_t reference_length, char *out, size_t out_length, size_t *needed);
+
+/* The canonical text of a reference of IRIs, which is a reference of URIs: the same for two references exactly where they
+ * are equal. `HTTP://a/%7Eb/./c` gives `http://a/~b/c`. It is to be compared and stored, not to be fetched: it is `?+` of
+ * both `?%2B` and `?+`, which servers may tell apart. */
+uint32_t iref_canonical(const char *reference, size_t reference_length, char *out, size_t out_length, size_t *needed);
+
+/* The sort key of a reference of IRIs: bytes, of which any may be 0, that memcmp puts in the order of iref_compare, the
+ * shorter of two first where it begins the longer. Two are the same exactly where the references are equal. */
+uint32_t iref_sort_key(const char *reference, size_t reference_length, char *out, size_t out_length, size_t *needed);
 
 #ifdef __cplusplus
 }

@@ -2,7 +2,7 @@
  * Answers lines by the calls of iref.h, as the program iref_cli does: fields between TABs, of the verbs parts, normal,
  * equal, resolve, relative and to-uri. With the argument `check` it looks at the calls themselves instead of answering,
  * over the same lines, and says what is wrong: buffers too short by one, bytes that are not UTF-8, lengths of zero, and
- * whether equality, order and hash agree.
+ * whether equality, order, hash, canonical texts and sort keys agree, and faults with the rules.
  */
 #define _POSIX_C_SOURCE 200809L
 #include "iref.h"
@@ -40,6 +40,14 @@ static uint32_t to_uri(const struct text *texts, char *out, size_t out_length, s
     return iref_to_uri(texts[0].at, texts[0].length, out, out_length, needed);
 }
 
+static uint32_t canonical(const struct text *texts, char *out, size_t out_length, size_t *needed) {
+    return iref_canonical(texts[0].at, texts[0].length, out, out_length, needed);
+}
+
+static uint32_t sort_key(const struct text *texts, char *out, size_t out_length, size_t *needed) {
+    return iref_sort_key(texts[0].at, texts[0].length, out, out_length, needed);
+}
+
 /* A verb that writes a text, and how many texts it takes. */
 struct verb {
     const char *name;
@@ -48,7 +56,8 @@ struct verb {
 };
 
 static const struct verb VERBS[] = {
-    {"normal", 1, normal}, {"resolve", 2, resolve}, {"relative", 2, relative}, {"to-uri", 1, to_uri}};
+    {"normal", 1, normal}, {"resolve", 2, resolve},     {"relative", 2, relative},
+    {"to-uri", 1, to_uri}, {"canonical", 1, canonical}, {"key", 1, sort_key}};
 
 #define VERB_COUNT (sizeof VERBS / sizeof *VERBS)
 
@@ -177,6 +186,16 @@ static void check_written(const struct verb *verb, const struct text *texts) {
     expect(check_length(verb, texts, 0, &again) == (needed ? IREF_SHORT : IREF_OK), "an empty buffer", texts[0]);
 }
 
+/* Nothing is wrong in a reference, and what is wrong in another text is within it. */
+static void check_place(struct text text, int is_reference) {
+    struct iref_place place;
+    memset(&place, GUARD, sizeof place);
+    expect(iref_fault(text.at, text.length, &place) == IREF_OK, "a fault is not answered", text);
+    expect((place.what == IREF_NOTHING) == is_reference, "a fault is where none is, or none where one is", text);
+    expect(place.what <= IREF_NOT_UTF8 && place.at <= text.length, "a fault is outside its text", text);
+    expect(place.what != IREF_NOTHING || place.at == 0, "a place where nothing is wrong", text);
+}
+
 /* Ranges are within the text, and parts within the authority. */
 static void check_ranges(struct text text) {
     struct iref_ranges ranges;
@@ -188,6 +207,7 @@ static void check_ranges(struct text text) {
     uint32_t wide = iref_parse_iri_reference(text.at, text.length, &ranges);
     expect(narrow != IREF_OK || (uri_reference == IREF_OK && iri == IREF_OK), "a URI is in no wider rule", text);
     expect((uri_reference != IREF_OK && iri != IREF_OK) || wide == IREF_OK, "a reference is in no wider rule", text);
+    check_place(text, wide == IREF_OK);
     if (wide != IREF_OK) {
         expect(wide == IREF_INVALID, "a status of one text", text);
         expect(memcmp(&ranges, &before, sizeof ranges) == 0, "a refusal changes ranges", text);
@@ -221,6 +241,31 @@ static void check_keys(struct text text) {
     expect(keyed_hash_of(text, 2, 1) != hash, "the keys turned round give the same", text);
 }
 
+/* How two texts compare byte by byte, the shorter first. */
+static int order_of(struct text first, struct text second) {
+    size_t common = first.length < second.length ? first.length : second.length;
+    int order = memcmp(first.at, second.at, common);
+    return order ? order : (first.length > second.length) - (first.length < second.length);
+}
+
+/* How what a call writes of two references compares. */
+static int order_of_written(write_call *call, struct text first, struct text second) {
+    struct text of[2] = {first, second};
+    for (int i = 0; i < 2; i++) {
+        size_t needed = 0;
+        char empty;
+        call(&of[i], &empty, 0, &needed);
+        char *out = malloc(needed + 1);
+        if (!out) exit(2);
+        call(&of[i], out, needed + 1, &needed);
+        of[i] = (struct text){out, needed};
+    }
+    int order = order_of(of[0], of[1]);
+    free((char *)of[0].at);
+    free((char *)of[1].at);
+    return order;
+}
+
 /* Equality, order and hash agree, in both directions. */
 static void check_pair(struct text first, struct text second) {
     uint32_t equal = 7;
@@ -237,6 +282,9 @@ static void check_pair(struct text first, struct text second) {
     expect(equal == (hash_of(first) == hash_of(second)), "equality and hash do not agree", first);
     uint64_t hash = keyed_hash_of(first, 1, 2);
     expect(equal == (hash == keyed_hash_of(second, 1, 2)), "equality and hash under keys do not agree", first);
+    int by_keys = order_of_written(sort_key, first, second);
+    expect((by_keys > 0) - (by_keys < 0) == order, "order and sort keys do not agree", first);
+    expect(equal == (order_of_written(canonical, first, second) == 0), "equality and canonical texts do not agree", first);
     check_keys(first);
 }
 
@@ -300,6 +348,23 @@ static void check_long(void) {
     check(&text, 1);
 }
 
+/* A canonical text, a sort key and two places that are known. */
+static void check_known(void) {
+    static const char KEY[] = "\1http\0\1\0a\0\0\1\1~b\0\1c\0\0\0";
+    struct text text = {"HTTP://a/%7Eb/./c", 17}, port = {"http://h:8x0/", 13}, bytes = {"a\xC3", 2};
+    struct iref_place place;
+    char out[64];
+    size_t needed = 0;
+    canonical(&text, out, sizeof out, &needed);
+    expect(is_text((struct text){out, needed}, "http://a/~b/c"), "a canonical text is wrong", text);
+    sort_key(&text, out, sizeof out, &needed);
+    expect(needed == sizeof KEY && memcmp(out, KEY, needed) == 0, "a sort key is wrong", text);
+    iref_fault(port.at, port.length, &place);
+    expect(place.what == IREF_PORT && place.at == 10, "a place is wrong", port);
+    iref_fault(bytes.at, bytes.length, &place);
+    expect(place.what == IREF_NOT_UTF8 && place.at == 1, "a place of bytes is wrong", bytes);
+}
+
 /* Bytes that are not UTF-8 are refused by every call, and the empty text is a reference. */
 static void check_bytes(void) {
     static const char *const NOT_UTF8[] = {"\xFF", "a\xC3", "\xC0\xAF", "http://a/\xED\xA0\x80", "\x80"};
@@ -318,6 +383,7 @@ static void check_bytes(void) {
         status = iref_hash_keyed(texts[0].at, texts[0].length, 1, 2, &hash);
         expect(status == IREF_INVALID && hash == 7, "bytes that are not UTF-8 are hashed under keys", texts[0]);
     }
+    check_known();
     check(&empty, 1);
     expect(iref_hash(empty.at, empty.length, &hash) == IREF_OK, "the empty text is no reference", empty);
 }

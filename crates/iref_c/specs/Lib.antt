@@ -1,3 +1,4 @@
 pub mod Answers
 pub mod Comparison
+pub mod Faults
 pub mod PartRanges

@@ -3,6 +3,7 @@
 #![tactic(auto)]
 
 pub mod comparison;
+pub mod fault;
 pub mod parse;
 pub mod ranges;
 pub mod status;

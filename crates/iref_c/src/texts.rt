@@ -1,5 +1,7 @@
-//! Texts that are written into the caller's buffer: normal paths, resolution, relative references
-//! and the mapping to URIs (RFC 3986 section 5.2, RFC 3987 section 3.1).
+//! Texts that are written into the caller's buffer: normal paths, resolution, relative references,
+//! the mapping to URIs, canonical texts and sort keys (RFC 3986 sections 5.2 and 6.2.2, RFC 3987
+//! section 3.1).
+ghost use Rattle.iref.specs.{Canonical.{canonical_text}, Key.{key}, SortKey.{sort_key}};
 ghost use Rattle.iref.specs.{Mapping.{mapped}, Relative.{relative_to}, Resolution.{resolved}};
 ghost use Rattle.iref.specs.{Characters.{iri_chars}, Contexts.{alone}, Grammar.{IsPath, IsUri}};
 ghost use Rattle.iref.specs.PathValue.{read_path, spell_path};
@@ -98,6 +100,47 @@ pub extern "C" fn iref_to_uri(
     };
     match reference.to_uri_ref(alloc) {
         Ok(uri) => write_text(uri.as_bytes(), out, needed),
+        Err(_) => MEMORY,
+    }
+}
+
+/// Writes the canonical text of a reference.
+#[unsafe(no_mangle)]
+pub extern "C" fn iref_canonical(
+    alloc: Global,
+    reference: &[u8],
+    out: &mut [u8],
+    needed: &mut usize,
+) -> u32
+    ensures { Writes (IsReference reference.now) ⊤
+        (canonical_text (key (read_reference reference.now)))
+        out.old out.new needed.old needed.new result }
+{
+    let Ok(reference) = IriRef::from_bytes(reference) else {
+        return INVALID;
+    };
+    match reference.canonical(alloc) {
+        Ok(canonical) => write_text(canonical.as_bytes(), out, needed),
+        Err(_) => MEMORY,
+    }
+}
+
+/// Writes the sort key of a reference.
+#[unsafe(no_mangle)]
+pub extern "C" fn iref_sort_key(
+    alloc: Global,
+    reference: &[u8],
+    out: &mut [u8],
+    needed: &mut usize,
+) -> u32
+    ensures { Writes (IsReference reference.now) ⊤ (sort_key (key (read_reference reference.now)))
+        out.old out.new needed.old needed.new result }
+{
+    let Ok(reference) = IriRef::from_bytes(reference) else {
+        return INVALID;
+    };
+    match reference.sort_key(alloc) {
+        Ok(key) => write_text(key.as_bytes(), out, needed),
         Err(_) => MEMORY,
     }
 }

@@ -1,11 +1,13 @@
 //! Answers lines by the examples: `put<TAB>URI<TAB>value` and `get<TAB>URI` by the cache,
 //! `relink<TAB>page<TAB>link` by the mirror, `prefix<TAB>label<TAB>IRI`, `shorten<TAB>IRI` and
-//! `expand<TAB>label:rest` by the context, `check<TAB>text` by the validator.
+//! `expand<TAB>label:rest` by the context, `check<TAB>text` by the validator. By `iref` alone:
+//! `canonical<TAB>reference` by the canonical text, `key<TAB>reference` by the digits of the sort
+//! key, `fault<TAB>reference` by where a text is wrong.
 #![tactic(auto)]
 
 use iref::Memory;
 use iref::compact::Prefixes;
-use iref::iri::Iri;
+use iref::iri::{Iri, IriRef};
 use iref_examples::cache::{self, Cache, uri_of};
 use iref_examples::context::shortened;
 use iref_examples::mirror::relinked;
@@ -84,6 +86,30 @@ fn check(alloc: Global, reference: &str) -> Result<String, Memory> {
     }
 }
 
+fn canonical(alloc: Global, reference: &str) -> Result<String, Memory> {
+    let Ok(reference) = IriRef::new(reference) else {
+        return owned(alloc, "error invalid");
+    };
+    let canonical = reference.canonical(alloc)?;
+    Ok(format!(in alloc; "ok\t{canonical}")?)
+}
+
+fn key(alloc: Global, reference: &str) -> Result<String, Memory> {
+    let Ok(reference) = IriRef::new(reference) else {
+        return owned(alloc, "error invalid");
+    };
+    let key = reference.sort_key(alloc)?;
+    let digits = hex::encode(alloc, key.as_bytes())?;
+    Ok(format!(in alloc; "ok\t{digits}")?)
+}
+
+fn fault(alloc: Global, reference: &str) -> Result<String, Memory> {
+    match IriRef::fault(reference) {
+        Some(fault) => Ok(format!(in alloc; "error\t{fault}")?),
+        None => owned(alloc, "ok"),
+    }
+}
+
 // The answer to a line, whose verb alone is followed by an empty field; `get` alone is no command.
 fn answer(alloc: Global, tables: &mut Tables, line: &str) -> Result<String, Memory> {
     let (verb, rest) = line.split_once('\t').unwrap_or((line, ""));
@@ -96,6 +122,9 @@ fn answer(alloc: Global, tables: &mut Tables, line: &str) -> Result<String, Memo
         ("shorten", None) => shorten(alloc, &tables.context, rest),
         ("expand", None) => expand(alloc, &tables.context, rest),
         ("check", _) => check(alloc, rest),
+        ("canonical", _) => canonical(alloc, rest),
+        ("key", _) => key(alloc, rest),
+        ("fault", _) => fault(alloc, rest),
         _ => owned(alloc, "error: no command"),
     }
 }
