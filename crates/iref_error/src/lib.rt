@@ -2,6 +2,7 @@
 #![tactic(auto)]
 
 pub mod edit;
+pub mod faults;
 pub mod invalid;
 pub mod port;
 
