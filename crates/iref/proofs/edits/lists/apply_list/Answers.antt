@@ -14,7 +14,7 @@ returns-in-Some g c =
     stops_behind (edited_in g.R.HeldRule.allows_scheme) edit_step c.args.edits.now c.loop-done.done (reference_buf_value c.args.reference.now) (reference_buf_value c.loop-done.reference) (reference_buf_value c.apply_each-run.new.reference)
     c.loop-done.invariant.done c.loop-done.invariant.within c.apply_each-run.result.done c.in-Some.fault (rw c.in-Some.is at c.apply_each-run.ensures.fault)
 
-pub loop-done-preserved-then-done-edits : goal.loop-done-preserved-then-may_copy
+pub loop-done-preserved-then-done-edits : goal.loop-done-preserved-then-done-edits
 loop-done-preserved-then-done-edits g c =
     let step = edited_in g.R.HeldRule.allows_scheme in
     let edits = c.args.edits.now in
