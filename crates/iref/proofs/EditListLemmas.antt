@@ -1,5 +1,5 @@
 -- A list of edits is done an edit at a time.
-use Rattle.std.proofs.Common.{◌≡◌, ℕ, ◌+◌, zero, suc, Bool, true, false, List, [], ◌∷◌, ◌<◌, ◌≤◌, map, take, length, get_or, Result, Ok, Err, refl, ap, add-one, arith}
+use Rattle.std.proofs.Common.{◌≡◌, ℕ, ◌+◌, zero, suc, Bool, true, false, List, [], ◌∷◌, ◌<◌, ◌≤◌, map, take, length, get_or, Result, Ok, Err, refl, add-one, arith}
 use Rattle.std.specs.Prelude.{Option, Some, IsOk, is_some, is_none, option_map, slice_get}
 use Rattle.std.proofs.lemmas.List.{take_all, length-map}
 use Rattle.std.proofs.lemmas.Option.{slice_get-map, slice_get_read}

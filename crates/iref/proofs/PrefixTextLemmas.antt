@@ -1,14 +1,13 @@
 -- Beginnings of texts.
-use Rattle.std.proofs.Common.{arith, ◌≡◌, ℕ, true, false, List, length, drop}
-use Rattle.std.specs.Prelude.{Option, Some, None, MatchOption, if◌then◌else◌}
-use Rattle.std.specs.Option.{option_copied}
-use Rattle.std.specs.Str.Pattern.{FindsTextPrefix, StripsPrefix}
-use Rattle.std.proofs.lemmas.Str.Pattern.{starts_text}
-use denote.Ref.{Bor}
+use Rattle.std.proofs.Common.{arith, ◌≡◌, ◌≤◌, true, List, ℕ, length, length-take, ap, subst, take}
+use Rattle.std.specs.Str.{IsCharBoundary, IsUtf8}
+use Rattle.std.specs.Cmp.Lexicographic.{bytes_decides}
+use Rattle.std.proofs.lemmas.Str.{IsCharBoundary-from_take}
 use Rattle.iref_grammar.specs.Texts.{begins_with}
 
--- what `strip_prefix` leaves
-pub after_front : (front text : List ℕ) (r : Option (Bor (List ℕ))) → MatchOption r (FindsTextPrefix front text None) (λ x. StripsPrefix (FindsTextPrefix front) text x.now)
-    → option_copied r ≡ (if begins_with front text then Some (drop (length front) text) else None)
-after_front front text None h = grind (arith, starts_text false front text h)
-after_front front text (Some x) h = grind (arith, starts_text true front text)
+-- a text that begins with another one may be cut where that ends
+pub front_ends : (front text : List ℕ) → begins_with front text ≡ true → IsUtf8 front → IsUtf8 text → IsCharBoundary text (length front)
+front_ends front text h f t =
+    let is : front ≡ take (length front) text = (bytes_decides front (take (length front) text)).0 h in
+    let short : length front ≤ length text = omega (arith, ap length is, length-take (length front) text) in
+    IsCharBoundary-from_take text (length front) t short (subst IsUtf8 is f)

@@ -210,7 +210,7 @@ impl Prefixes {
     {
         let text = iri.as_str();
         let entry = self.longest_fit(text)?;
-        let rest = after_front(text, entry.text())?;
+        let rest = after_front(text, entry.text());
         let label = entry.label();
         Some(Compact { label, rest })
     }

@@ -1,6 +1,6 @@
 //! Texts of prefix tables: labels, and texts that are joined.
-ghost use Rattle.std.specs.Prelude.{◌≡◌, ◌++◌, if◌then◌else◌, length, drop, IfOk, IfErr, Ok, Some};
-ghost use Rattle.std.specs.{Prelude.{None}, Option.{option_copied}, List.{list_all}};
+ghost use Rattle.std.specs.Prelude.{◌≡◌, ◌++◌, length, drop, true, IfOk, IfErr, Ok};
+ghost use Rattle.std.specs.{List.{list_all}};
 ghost use Rattle.std.specs.String.{string_bytes};
 ghost use Rattle.iref_grammar.specs.Texts.{begins_with};
 ghost use Rattle.iref_mapping.specs.PrefixTable.{is_label, is_label_char, if_iri};
@@ -37,14 +37,12 @@ pub(super) fn is_label(text: &str) -> bool
     first.is_ascii_alphabetic() && are_label_bytes(others)
 }
 
-// What follows this beginning of the text, if the text begins so.
-#[tactic(auto, using(crate::proofs::PrefixTextLemmas::after_front))]
-pub(super) fn after_front<'a>(text: &'a str, front: &str) -> Option<&'a str>
-    ensures { option_copied result
-        ≡ (if begins_with front.now text.now then Some (drop (length front.now) text.now)
-        else None) }
+// What follows this beginning of the text.
+pub(super) fn after_front<'a>(text: &'a str, front: &str) -> &'a str
+    requires { begins_with front.now text.now ≡ true }
+    ensures { result.now ≡ drop (length front.now) text.now }
 {
-    text.strip_prefix(front)
+    text.split_at(front.len()).1
 }
 
 // The texts one after the other.

@@ -1,4 +1,4 @@
-use Rattle.std.proofs.Common.{arith, ◌≡◌, ◌<◌, ◌≤◌, inl, inr, true, length, get_or, refl, sym, ap, subst, ◌∙◌}
+use Rattle.std.proofs.Common.{arith, ◌≡◌, inl, inr, true, length, get_or, refl, sym, ap, subst, ◌∙◌}
 use Rattle.std.specs.Prelude.{Some}
 use Rattle.iref.specs.declared.compact.tree.Child.TheVariants.{Inner, Leaf}
 use Rattle.iref.specs.PrefixTree.{keys_of, child}
