@@ -6,6 +6,7 @@ pub mod canonical;
 pub mod comparison;
 pub mod composed;
 pub mod editors;
+pub mod faults;
 pub mod hierarchy;
 pub mod mapping;
 pub mod owned;
