@@ -38,6 +38,11 @@ pub use Rattle.iref_model.specs.ReferenceSuffix
 pub use Rattle.iref_model.specs.Relative
 pub use Rattle.iref_model.specs.RelativeLaws
 pub use Rattle.iref_model.specs.Resolution
+pub use Rattle.iref_fault.specs.Places
+pub use Rattle.iref_fault.specs.Cut
+pub use Rattle.iref_fault.specs.Faults
+pub use Rattle.iref_fault.specs.FirstFault
+pub use Rattle.iref_fault.specs.BytePlaces
 pub use Rattle.iref_mapping.specs.Mapping
 pub use Rattle.iref_mapping.specs.PrefixTable
 pub use Rattle.iref_parse.specs.AuthoritySlices

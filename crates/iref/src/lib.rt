@@ -12,6 +12,8 @@ pub use both_families::{
 };
 pub use iref_component::pct;
 pub use iref_error::InvalidPctStr;
+pub use iref_fault::component::{Cause, Component};
+pub use iref_fault::fault::Fault;
 pub use iref_grammar::chars;
 pub use iref_parse::authority::{AuthoritySlices, split_parts as split_authority};
 pub use iref_parse::offsets::offsets_of;

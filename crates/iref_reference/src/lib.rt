@@ -5,6 +5,7 @@ pub mod borrowed;
 pub mod comparison;
 pub mod composed;
 pub mod editors;
+pub mod faults;
 pub mod hierarchy;
 pub mod mapping;
 pub mod owned;
