@@ -10,6 +10,7 @@ pub use both_families::{
     InvalidPort, InvalidScheme, Memory, Offsets, PathContext, Port, PortBuf, PortError, Scheme,
     SchemeBuf, TryError,
 };
+pub use iref_canonical::owned::SortKey;
 pub use iref_component::pct;
 pub use iref_error::InvalidPctStr;
 pub use iref_fault::component::{Cause, Component};

@@ -1,13 +1,16 @@
 //! Sort keys that own their bytes.
 
-ghost use Rattle.std.proofs.Common.{rules, refl};
+ghost use Rattle.std.proofs.Common.{rules};
 ghost use Rattle.std.specs.Prelude.{◌≡◌};
-ghost use Rattle.std.specs.Cmp.{eq_by_cmp_equiv, partial_equiv_from_equiv, po};
-ghost use Rattle.std.specs.{Cmp.Rules.{comparing}, Ordering.{as_partial_cmp, eq_by_cmp}};
-ghost use Rattle.iref_grammar.specs.{Keys.{text_order}, Rules.{Text}};
-ghost use Rattle.iref_model.proofs.KeyOrderLemmas.{texts_total};
+ghost use Rattle.std.specs.Hash as fed;
+ghost use Rattle.std.specs.{Cmp.{partial_equiv_from_equiv}, Ordering.{as_partial_cmp}};
+ghost use Rattle.std.specs.Cmp.Lexicographic.{nat_list_cmp_total, nat_list_eq_equiv};
+ghost use Rattle.std.specs.Cmp.Lexicographic.{texts_po, texts_ties};
+ghost use Rattle.std.specs.Cmp.Rules.{comparing, hashing};
+ghost use Rattle.iref_grammar.specs.{Keys.{is_same_text, text_order}, Rules.{Text}};
 
 use std::cmp::Ordering;
+use std::hash::{Hash, Hasher};
 use std::marker::Model;
 
 /// The sort key of a reference: bytes in whose order, byte by byte and the shorter first, the
@@ -49,11 +52,11 @@ impl SortKey {
 impl Ord for SortKey {
     ghost cmp = { text_order };
 
-    ghost total = { texts_total };
+    ghost total = { nat_list_cmp_total };
 
     ghost matches_partial_cmp = { Prim.search (comparing, rules) };
 
-    ghost matches_eq = { λ _ _. refl };
+    ghost matches_eq = { texts_ties };
 
     fn cmp(&self, other: &Self) -> Ordering {
         self.as_bytes().cmp(other.as_bytes())
@@ -63,7 +66,7 @@ impl Ord for SortKey {
 impl PartialOrd for SortKey {
     ghost partial_cmp = { as_partial_cmp text_order };
 
-    ghost laws = { po texts_total (λ _ _. refl) };
+    ghost laws = { texts_po };
 
     fn partial_cmp(&self, other: &Self) -> Option<Ordering> {
         Some(self.cmp(other))
@@ -71,15 +74,25 @@ impl PartialOrd for SortKey {
 }
 
 impl PartialEq for SortKey {
-    ghost eq = { eq_by_cmp text_order };
+    ghost eq = { is_same_text };
 
-    ghost laws = { partial_equiv_from_equiv (eq_by_cmp_equiv texts_total) };
+    ghost laws = { partial_equiv_from_equiv nat_list_eq_equiv };
 
     fn eq(&self, other: &Self) -> bool {
-        self.as_bytes().cmp(other.as_bytes()).is_eq()
+        self.as_bytes() == other.as_bytes()
     }
 }
 
 impl Eq for SortKey {
-    ghost laws = { eq_by_cmp_equiv texts_total };
+    ghost laws = { nat_list_eq_equiv };
+}
+
+impl Hash for SortKey {
+    ghost hash_input = { fed.slice fed.u8 };
+
+    ghost respects_eq = { Prim.search (hashing, rules) };
+
+    fn hash<H: Hasher>(&self, state: &mut H) {
+        self.as_bytes().hash(state);
+    }
 }

@@ -7,3 +7,4 @@ pub mod RelativeLemmas
 pub mod MappingLemmas
 pub mod PartLemmas
 pub mod CanonicalLemmas
+pub mod SortOrderLemmas

@@ -29,3 +29,4 @@ pub mod References
 pub mod Relatives
 pub mod Resolutions
 pub mod ReferenceSuffixes
+pub mod SortKeys

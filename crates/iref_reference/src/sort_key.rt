@@ -3,8 +3,9 @@
 ghost use Rattle.std.specs.Prelude.{◌≡◌, ◌++◌, IfOk, OnErr, OnOk};
 ghost use Rattle.iref_canonical.specs.SortKey.{sort_key};
 ghost use Rattle.iref_reference.specs.References.{key_of_reference, key_of_reference_buf};
+ghost use Rattle.iref_reference.specs.SortKeys.{SortsAs};
 
-use crate::borrowed::Reference;
+use crate::borrowed::{Reference, Uri, UriRef};
 use crate::owned::ReferenceBuf;
 use iref_canonical::owned::SortKey;
 use iref_canonical::sort_key::append_sort_key;
@@ -59,3 +60,13 @@ impl<R: HeldRule, C: CharSet> ReferenceBuf<R, C> {
         append_sort_key(self.as_str(), self.inner.slices(), bytes)
     }
 }
+
+/// Sort keys are in order as their references are, and equal exactly where these are, by `cmp` and
+/// `==` of each: of two sort keys it asks for what each call above says of its result.
+pub fn sort_keys_compare_as_their_references<R: HeldRule, C: CharSet>()
+    ensures references { SortsAs key_of_reference
+        ⟦<UriRef<'static, C> as Ord>⟧ ⟦<SortKey as Ord>⟧ }
+    ensures uris { SortsAs key_of_reference ⟦<Uri<'static, C> as Ord>⟧ ⟦<SortKey as Ord>⟧ }
+    ensures owned_values { SortsAs key_of_reference_buf
+        ⟦<ReferenceBuf<R, C> as Ord>⟧ ⟦<SortKey as Ord>⟧ }
+{}

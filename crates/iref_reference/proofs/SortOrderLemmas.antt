@@ -1,0 +1,18 @@
+-- Sort keys are compared as the references are.
+use Rattle.std.proofs.Common.{◌≡◌, refl, sym, ◌∙◌, ap}
+use Rattle.std.specs.Cmp.Lexicographic.{texts_ties}
+use Rattle.std.specs.Ordering.{eq_by_cmp, is_eq}
+use Rattle.iref_grammar.specs.Keys.{is_same_text, text_order}
+use Rattle.iref_grammar.specs.Reference.{ReferenceValue}
+use Rattle.iref_grammar.specs.Rules.{Text}
+use Rattle.iref_model.specs.Key.{key_cmp}
+use Rattle.iref_canonical.specs.SortKey.{sort_key}
+use Rattle.iref_canonical.proofs.SortKeyLemmas.{text_order-sort_key}
+
+-- of two texts that are sort keys, the order is that of the keys
+pub text_order-as : (k l : ReferenceValue) (x y : Text) → x ≡ sort_key k → y ≡ sort_key l → text_order x y ≡ key_cmp k l
+text_order-as k l x y p q = ap (λ x. text_order x y) p ∙ ap (text_order (sort_key k)) q ∙ text_order-sort_key k l
+
+-- and they are the same where the keys tie
+pub is_same_text-as : (k l : ReferenceValue) (x y : Text) → x ≡ sort_key k → y ≡ sort_key l → is_same_text x y ≡ eq_by_cmp key_cmp k l
+is_same_text-as k l x y p q = texts_ties x y ∙ ap is_eq (text_order-as k l x y p q)

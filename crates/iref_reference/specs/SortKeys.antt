@@ -1,0 +1,12 @@
+-- Sort keys of references.
+use Rattle.std.specs.Prelude.{◌≡◌}
+use Rattle.std.specs.BTreeMap.Lent.{OrdMembers}
+use Rattle.iref_grammar.specs.Reference.{ReferenceValue}
+use Rattle.iref_grammar.specs.Rules.{Text}
+use Rattle.iref_canonical.specs.SortKey.{sort_key}
+
+-- of the sort keys of two values, the order is that of the values, and equality is what it is of these
+abbrev pub SortsAs : {V : Type 0} → (V → ReferenceValue) → OrdMembers V → OrdMembers Text → Type 0
+SortsAs {V} key values sort_keys =
+    (a b : V) (x y : Text) → x ≡ sort_key (key a) → y ≡ sort_key (key b)
+    → (sort_keys.cmp x y ≡ values.cmp a b) × (sort_keys.eq x y ≡ values.eq a b)
