@@ -41,6 +41,6 @@ pub canonical-spelled : (t : ComponentTexts) (path : Text)
     ≡ canonical_text (key (read_components t))
 unfolding spell canonical key
 canonical-spelled t path e = λ i.
-  part_then (colon ∷ []) (option_map str_to_ascii_lowercase t.scheme) ++ then_part (codes "//") (same_authority t.authority i)
-  ++ (e ∙ ap (λ context. spell_path (guarded context (canonical_path (path_key (read_path t.path))))) (sym (same_context t))) i
-  ++ then_part (question_mark ∷ []) (encoded_query t.query) ++ then_part (hash_sign ∷ []) (same_fragment t.fragment i)
+    part_then (colon ∷ []) (option_map str_to_ascii_lowercase t.scheme) ++ then_part (codes "//") (same_authority t.authority i)
+    ++ (e ∙ ap (λ context. spell_path (guarded context (canonical_path (path_key (read_path t.path))))) (sym (same_context t))) i
+    ++ then_part (question_mark ∷ []) (encoded_query t.query) ++ then_part (hash_sign ∷ []) (same_fragment t.fragment i)
