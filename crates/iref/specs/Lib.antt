@@ -63,6 +63,9 @@ pub use Rattle.iref_component.specs.NormalPaths
 pub use Rattle.iref_component.specs.Appends
 pub use Rattle.iref_component.specs.PathEdits
 pub use Rattle.iref_component.specs.Suffixes
+pub use Rattle.iref_canonical.specs.Canonical
+pub use Rattle.iref_canonical.specs.SortKey
+pub use Rattle.iref_reference.specs.CanonicalTexts
 pub use Rattle.iref_reference.specs.Conversions
 pub use Rattle.iref_reference.specs.HandedBack
 pub use Rattle.iref_reference.specs.Mappings

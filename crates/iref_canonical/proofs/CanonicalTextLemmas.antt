@@ -3,6 +3,7 @@ use Rattle.std.proofs.Common.{◌≡◌, true, refl, sym, ◌∙◌, ap, subst}
 use Rattle.std.proofs.Math.Logic.{◌↔◌}
 use Rattle.std.specs.Char.{is_ascii}
 use Rattle.std.specs.List.{list_all}
+use Rattle.std.specs.Prelude.{IsUtf8}
 use Rattle.iref_grammar.specs.Characters.{CharTests, AreAboveAscii, uri_chars, uri_above_ascii}
 use Rattle.iref_grammar.specs.Rules.{Text, InUtf8}
 use Rattle.iref_grammar.specs.Grammar.{IsUri, IsUriReference}
@@ -81,3 +82,6 @@ module _ (set : CharTests) (above : AreAboveAscii set) where
       let taken = (Decides-is_uri_reference uri_chars uri_above_ascii text).1
       ((in_utf8-reference uri_chars uri_above_ascii text).1 (canonical (key r), canonical-readable r v, refl)) in
       sym (is_reference-ascii uri_chars uri_above_ascii text taken) ∙ taken
+
+  pub text_utf8 : (text : Text) → is_reference set text ≡ true → IsUtf8 (canonical_text (key (read_reference text)))
+  text_utf8 text h = let z = text_is_reference text ((Decides-is_uri_reference set above text).0 h) in (z.0, (z.1, z.2))

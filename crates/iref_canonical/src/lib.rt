@@ -16,3 +16,4 @@ pub mod sort_key_laws;
 pub mod sort_parts;
 pub mod sort_path;
 pub mod sort_text;
+pub mod text;

@@ -1,32 +1,47 @@
--- The canonical text of a reference is in the rule of the reference, over the characters of URIs.
-use Rattle.std.proofs.Common.{◌≡◌, true, sym, ◌∙◌, ap}
-use Rattle.std.specs.Prelude.{is_some, IsUtf8}
-use Rattle.iref_grammar.specs.Characters.{AreAboveAscii, CharTests, uri_above_ascii, uri_chars}
-use Rattle.iref_grammar.specs.Grammar.{IsUriReference}
-use Rattle.iref_grammar.specs.Rules.{InUtf8, Text}
-use Rattle.iref_grammar.specs.Reference.{is_reference, read_reference}
+-- The canonical text of a reference is in the rule of the reference, over the characters of URIs, and tells it from those
+-- that are not equal.
+use Rattle.std.proofs.Common.{◌≡◌, Bool, true, is_eq, sym, ◌∙◌, ap}
+use Rattle.std.specs.Prelude.{bytes_eq, is_some, Option}
+use Rattle.std.proofs.lemmas.Bool.Decides.{same_from_decides}
+use Rattle.std.proofs.lemmas.Slice.Eq.{bytes_eq-Decides}
+use Rattle.iref_grammar.specs.Characters.{AreAboveAscii, CharTests, uri_chars}
+use Rattle.iref_grammar.specs.Rules.{Text}
+use Rattle.iref_grammar.specs.Reference.{ReferenceValue, is_reference, read_reference}
 use Rattle.iref_grammar.proofs.ReferenceRuleLemmas.{Decides-is_uri_reference}
-use Rattle.iref_model.specs.Key.{key}
+use Rattle.iref_model.specs.Key.{key, key_cmp}
+use Rattle.iref_model.proofs.TieLemmas.{references_tie}
 use Rattle.iref_canonical.specs.Canonical.{canonical_text}
 use Rattle.iref_canonical.proofs.CanonicalKeyLemmas.{scheme-canonical}
 use Rattle.iref_canonical.proofs.CanonicalTextLemmas.{is_reference-canonical, text_keeps_key, text_read}
-use Rattle.iref_reference_text.proofs.ReferenceTextLemmas.{in_rule_utf8}
+use Rattle.iref_reference.specs.CanonicalTexts.{IsCanonicalTextOf}
 
-module _ (set : CharTests) (above : AreAboveAscii set) (text : Text) (h : is_reference set text ≡ true) where
-  abbrev canonical_of : Text
-  canonical_of = canonical_text (key (read_reference text))
+-- the key of a canonical text is the one that it was made of
+pub key-canonical_text : (set : CharTests) → AreAboveAscii set → (text : Text) → is_reference set text ≡ true
+    → key (read_reference (canonical_text (key (read_reference text)))) ≡ key (read_reference text)
+key-canonical_text set above text h = text_keeps_key set above text ((Decides-is_uri_reference set above text).0 h)
 
-  in_utf8 : InUtf8 (IsUriReference set) text
-  in_utf8 = (Decides-is_uri_reference set above text).0 h
+-- a canonical text has a scheme exactly if the text has one
+same_presence : (set : CharTests) → AreAboveAscii set → (text : Text) → is_reference set text ≡ true
+    → is_some (read_reference text).scheme ≡ is_some (read_reference (canonical_text (key (read_reference text)))).scheme
+same_presence set above text h =
+    let read = text_read set above text ((Decides-is_uri_reference set above text).0 h) in
+    sym (ap (λ (r : ReferenceValue). is_some r.scheme) read ∙ scheme-canonical (read_reference text))
 
-  pub in_rule-canonical : is_reference uri_chars canonical_of ≡ true
-  in_rule-canonical = is_reference-canonical set above text h
+-- the canonical text is in the rule that the text is in, over the characters of URIs
+pub in_rule-canonical : (test : CharTests → Text → Bool) (allows : Option Text → Bool)
+    → ((tests : CharTests) (text : Text) → test tests text ≡ true → is_reference tests text ≡ true)
+    → ((tests : CharTests) (text : Text) → test tests text ≡ true → allows (read_reference text).scheme ≡ true)
+    → ((tests : CharTests) (text : Text) → is_reference tests text ≡ true → allows (read_reference text).scheme ≡ true → test tests text ≡ true)
+    → ((one other : Option Text) → is_some one ≡ is_some other → allows one ≡ true → allows other ≡ true)
+    → (set : CharTests) → AreAboveAscii set → (text : Text) → test set text ≡ true → test uri_chars (canonical_text (key (read_reference text))) ≡ true
+in_rule-canonical test allows references allowed by_scheme by_presence set above text h =
+    let reference = references set text h in
+    by_scheme uri_chars _ (is_reference-canonical set above text reference) (by_presence _ _ (same_presence set above text reference) (allowed set text h))
 
-  pub same_presence : is_some (read_reference text).scheme ≡ is_some (read_reference canonical_of).scheme
-  same_presence = sym (ap (λ r. is_some r.scheme) (text_read set above text in_utf8) ∙ scheme-canonical (read_reference text))
-
-  pub utf8-canonical : IsUtf8 canonical_of
-  utf8-canonical = in_rule_utf8 (IsUriReference uri_chars) canonical_of ((Decides-is_uri_reference uri_chars uri_above_ascii canonical_of).0 in_rule-canonical)
-
-  pub key-canonical_text : key (read_reference canonical_of) ≡ key (read_reference text)
-  key-canonical_text = text_keeps_key set above text in_utf8
+-- keys tie exactly where their canonical texts are the same bytes
+pub tied_by_texts : (k l : ReferenceValue) (s t : Text) → IsCanonicalTextOf k s → IsCanonicalTextOf l t → is_eq (key_cmp k l) ≡ bytes_eq s t
+tied_by_texts k l s t one other =
+    let same_bytes = bytes_eq-Decides s t in
+    let same_keys : (s ≡ t) → k ≡ l = λ e. sym one.1 ∙ ap (λ u. key (read_reference u)) e ∙ other.1 in
+    let same_texts : k ≡ l → s ≡ t = λ e. one.0 ∙ ap canonical_text e ∙ sym other.0 in
+    same_from_decides (is_eq (key_cmp k l)) (bytes_eq s t) (references_tie k l) (λ e. same_keys (same_bytes.0 e), λ e. same_bytes.1 (same_texts e))

@@ -20,6 +20,7 @@ pub use Rattle.iref_component.specs.Paths.{path_value}
 pub use Rattle.iref_reference_text.specs.Steps.{IsStep}
 pub use Rattle.iref_reference.specs.Parts.{key_of_parts, part_texts, parts_value, scheme_key, uri_part_texts, uri_parts_key, uri_parts_value, uri_ref_part_texts, uri_ref_parts_key, uri_ref_parts_value}
 pub use Rattle.iref_reference.specs.References.{NarrowsToUri, HasSchemeOrRefused, OwnerNarrowsToUri, ParsesReference, ParsesReferenceBuf, key_of_reference, key_of_reference_buf, reference_buf_text, reference_buf_value, reference_text, reference_value}
+pub mod CanonicalTexts
 pub mod Comparisons
 pub mod Conversions
 pub mod HandedBack

@@ -1,16 +1,19 @@
 //! Canonical texts of references (RFC 3986 section 6.2.2). Two references are equal exactly if their
 //! canonical texts are the same bytes.
+ghost use Rattle.std.specs.Prelude.{◌≡◌, true, bytes_eq, IfOk};
+ghost use Rattle.iref_component.specs.{key, read_reference};
+ghost use Rattle.iref_parse.specs.ReferenceSlices.{value_of};
 ghost use Rattle.iref_canonical.specs.Canonical.{canonical_text};
+ghost use Rattle.iref_reference.specs.CanonicalTexts.{AreEqualByTexts};
 ghost use Rattle.iref_reference.specs.References.{key_of_reference, key_of_reference_buf};
 ghost use Rattle.iref_reference.specs.References.{reference_buf_text, reference_text};
-ghost use Rattle.std.specs.Prelude.{◌≡◌, bytes_eq, IfOk};
 
-use crate::borrowed::Reference;
+use crate::borrowed::{Reference, Uri, UriRef};
 use crate::owned::ReferenceBuf;
-use iref_canonical::reference::CanonicalReference;
+use iref_canonical::text::{canonical_text, is_canonical};
 use iref_error::Memory;
 use iref_grammar::chars::{CharSet, UriChars};
-use iref_parse::split::split_reference;
+use iref_parse::split::{ReferenceSlices, split_reference};
 use iref_reference_text::reference_text::{HeldRule, ReferenceText};
 use std::alloc::Global;
 
@@ -25,10 +28,8 @@ impl<R: HeldRule, C: CharSet> Reference<'_, R, C> {
         ensures key { IfOk result (λ copy.
             key_of_reference_buf copy ≡ key_of_reference self.now) }
     {
-        let bytes = CanonicalReference::new(split_reference(self.as_str())).bytes(alloc)?;
-        // A canonical text is ASCII, so no byte is read again.
-        let text = unsafe { String::from_utf8_unchecked(bytes) };
-        Ok(ReferenceBuf::from_inner(ReferenceText::new_unchecked(text)))
+        let text = self.as_str();
+        canonical_of::<R, C>(alloc, text, split_reference(text))
     }
 
     /// Whether the text is canonical, as `http://a/~b/c` is and `http://a/%7Eb/c` is not (RFC 3986
@@ -38,6 +39,65 @@ impl<R: HeldRule, C: CharSet> Reference<'_, R, C> {
             (canonical_text (key_of_reference self.now)) }
     {
         let text = self.as_str();
-        CanonicalReference::new(split_reference(text)).is(text.as_bytes())
+        is_canonical_in::<R, C>(text, split_reference(text))
     }
 }
+
+impl<R: HeldRule, C: CharSet> ReferenceBuf<R, C> {
+    /// The reference of the canonical text, as of the borrowed value: of `HTTP://a/%7Eb/./c`,
+    /// `http://a/~b/c` (RFC 3986 section 6.2.2). The room is taken once. `Memory` says that it was
+    /// refused, or that the length cannot be counted.
+    pub fn canonical(&self, alloc: Global) -> Result<ReferenceBuf<R, UriChars>, Memory>
+        ensures text { IfOk result (λ copy.
+            reference_buf_text copy ≡ canonical_text (key_of_reference_buf self.now)) }
+        ensures key { IfOk result (λ copy.
+            key_of_reference_buf copy ≡ key_of_reference_buf self.now) }
+    {
+        canonical_of::<R, C>(alloc, self.as_str(), self.inner.slices())
+    }
+
+    /// Whether the text is canonical, as `http://a/~b/c` is and `http://a/%7Eb/c` is not (RFC 3986
+    /// section 6.2.2). It takes no memory.
+    pub fn is_canonical(&self) -> bool
+        ensures { result ≡ bytes_eq (reference_buf_text self.now)
+            (canonical_text (key_of_reference_buf self.now)) }
+    {
+        is_canonical_in::<R, C>(self.as_str(), self.inner.slices())
+    }
+}
+
+// The reference of the canonical text of a text in the rule.
+fn canonical_of<R: HeldRule, C: CharSet>(
+    alloc: Global,
+    text: &str,
+    slices: ReferenceSlices<'_>,
+) -> Result<ReferenceBuf<R, UriChars>, Memory>
+    requires in_rule { R.test C.tests text.now ≡ true }
+    requires slices { value_of slices ≡ read_reference text.now }
+    ensures text { IfOk result (λ copy.
+        reference_buf_text copy ≡ canonical_text (key (read_reference text.now))) }
+    ensures key { IfOk result (λ copy. key_of_reference_buf copy ≡ key (read_reference text.now)) }
+{
+    let copy = canonical_text::<C>(alloc, text, slices)?;
+    Ok(ReferenceBuf::from_inner(ReferenceText::new_unchecked(copy)))
+}
+
+// Whether a text in the rule is canonical.
+fn is_canonical_in<R: HeldRule, C: CharSet>(text: &str, slices: ReferenceSlices<'_>) -> bool
+    requires in_rule { R.test C.tests text.now ≡ true }
+    requires slices { value_of slices ≡ read_reference text.now }
+    ensures { result ≡ bytes_eq text.now (canonical_text (key (read_reference text.now))) }
+{
+    is_canonical::<C>(text, slices)
+}
+
+/// Two references are equal exactly if the texts of their canonical references are the same bytes,
+/// by the `==` of each: of these texts it asks for what the calls above say of them (RFC 3986
+/// section 6.2.2).
+pub fn references_are_equal_as_their_canonical_texts<R: HeldRule, C: CharSet>()
+    ensures references { AreEqualByTexts key_of_reference
+        ⟦<UriRef<'static, C> as PartialEq>⟧.eq }
+    ensures uris { AreEqualByTexts key_of_reference ⟦<Uri<'static, C> as PartialEq>⟧.eq }
+    ensures owners { AreEqualByTexts key_of_reference_buf
+        ⟦<ReferenceBuf<R, C> as PartialEq>⟧.eq }
+{}

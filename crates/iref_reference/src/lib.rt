@@ -2,6 +2,7 @@
 #![tactic(auto)]
 
 pub mod borrowed;
+pub mod canonical;
 pub mod comparison;
 pub mod composed;
 pub mod editors;
