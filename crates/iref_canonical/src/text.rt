@@ -13,26 +13,9 @@ use iref_grammar::chars::CharSet;
 use iref_parse::split::ReferenceSlices;
 use std::alloc::Global;
 
-/// The canonical text of a reference, of which the components are given too: of `HTTP://a/%7Eb`,
-/// `http://a/~b`. The room is taken once.
+/// The canonical text of a reference, written from its components: of `HTTP://a/%7Eb`, `http://a/~b`.
+/// The room is taken once.
 pub fn canonical_text<C: CharSet>(
-    alloc: Global,
-    text: &str,
-    slices: ReferenceSlices<'_>,
-) -> Result<String, Memory>
-    requires reference { is_reference C.tests text.now ≡ true }
-    requires slices { value_of slices ≡ read_reference text.now }
-    ensures { IfOk result (λ copy.
-        string_bytes copy ≡ canonical_text (key (read_reference text.now))) }
-{
-    if is_plain::<C>(text, slices) {
-        return Ok(String::from_str(alloc, text)?);
-    }
-    written_text::<C>(alloc, text, slices)
-}
-
-// The canonical text, written from the components.
-fn written_text<C: CharSet>(
     alloc: Global,
     text: &str,
     slices: ReferenceSlices<'_>,

@@ -1,8 +1,8 @@
 //! Canonical texts of references (RFC 3986 section 6.2.2). Two references are equal exactly if their
 //! canonical texts are the same bytes.
 ghost use Rattle.std.specs.Prelude.{◌≡◌, true, bytes_eq, IfOk};
-ghost use Rattle.iref_component.specs.{key, read_reference};
-ghost use Rattle.iref_parse.specs.ReferenceSlices.{value_of};
+ghost use Rattle.iref_component.specs.{key, read_reference, spell_components};
+ghost use Rattle.iref_parse.specs.ReferenceSlices.{texts_of, value_of};
 ghost use Rattle.iref_canonical.specs.Canonical.{canonical_text};
 ghost use Rattle.iref_reference.specs.CanonicalTexts.{AreEqualByTexts};
 ghost use Rattle.iref_reference.specs.References.{key_of_reference, key_of_reference_buf};
@@ -10,6 +10,7 @@ ghost use Rattle.iref_reference.specs.References.{reference_buf_text, reference_
 
 use crate::borrowed::{Reference, Uri, UriRef};
 use crate::owned::ReferenceBuf;
+use iref_canonical::plain::is_plain;
 use iref_canonical::text::{canonical_text, is_canonical};
 use iref_error::Memory;
 use iref_grammar::chars::{CharSet, UriChars};
@@ -66,8 +67,23 @@ impl<R: HeldRule, C: CharSet> ReferenceBuf<R, C> {
     }
 }
 
-// The reference of the canonical text of a text in the rule.
-fn canonical_of<R: HeldRule, C: CharSet>(
+// A copy of a text in the rule that is canonical, of which the components are given too.
+fn copied<R: HeldRule, C: CharSet>(
+    alloc: Global,
+    text: &str,
+    slices: ReferenceSlices<'_>,
+) -> Result<ReferenceBuf<R, UriChars>, Memory>
+    requires in_rule { R.test C.tests text.now ≡ true }
+    requires texts { texts_of slices ≡ spell_components (read_reference text.now) }
+    requires canonical { canonical_text (key (read_reference text.now)) ≡ text.now }
+    ensures { IfOk result (λ copy. reference_buf_text copy ≡ text.now) }
+{
+    let copy = String::from_str(alloc, text)?;
+    Ok(ReferenceBuf::from_inner(ReferenceText::of_slices(copy, slices)))
+}
+
+// The reference of the canonical text of a text in the rule, written from the components.
+fn written<R: HeldRule, C: CharSet>(
     alloc: Global,
     text: &str,
     slices: ReferenceSlices<'_>,
@@ -80,6 +96,26 @@ fn canonical_of<R: HeldRule, C: CharSet>(
 {
     let copy = canonical_text::<C>(alloc, text, slices)?;
     Ok(ReferenceBuf::from_inner(ReferenceText::new_unchecked(copy)))
+}
+
+// The reference of the canonical text of a text in the rule.
+fn canonical_of<R: HeldRule, C: CharSet>(
+    alloc: Global,
+    text: &str,
+    slices: ReferenceSlices<'_>,
+) -> Result<ReferenceBuf<R, UriChars>, Memory>
+    requires in_rule { R.test C.tests text.now ≡ true }
+    requires slices { value_of slices ≡ read_reference text.now }
+    requires texts { texts_of slices ≡ spell_components (read_reference text.now) }
+    ensures text { IfOk result (λ copy.
+        reference_buf_text copy ≡ canonical_text (key (read_reference text.now))) }
+    ensures key { IfOk result (λ copy. key_of_reference_buf copy ≡ key (read_reference text.now)) }
+{
+    if is_plain::<C>(text, slices) {
+        copied::<R, C>(alloc, text, slices)
+    } else {
+        written::<R, C>(alloc, text, slices)
+    }
 }
 
 // Whether a text in the rule is canonical.

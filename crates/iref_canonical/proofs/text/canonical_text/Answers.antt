@@ -4,7 +4,7 @@ use Rattle.iref_grammar.specs.Reference.{ReferenceValue}
 use Rattle.iref_model.specs.Key.{key}
 use Rattle.iref_canonical.specs.Canonical.{canonical_text}
 use Rattle.iref_canonical.proofs.CanonicalTextLemmas.{text_utf8}
-use Rattle.iref_canonical.proofs.text.written_text.Goals as goal
+use Rattle.iref_canonical.proofs.text.canonical_text.Goals as goal
 
 pub from_utf8_unchecked-requires : goal.from_utf8_unchecked-requires
 from_utf8_unchecked-requires g c =
