@@ -18,12 +18,13 @@ struct Keyed<'a> {
 // Sorts the URLs, and adds each whose key differs from that of the one before it.
 fn sort(mut uris: Vec<Keyed<'_>>, digest: &mut Digest) -> Result<()> {
     uris.sort()?;
-    let mut last: Option<&SortKey> = None;
-    for uri in &uris {
-        if last != Some(&uri.key) {
+    if let Some(first) = uris.first() {
+        digest.text(first.text);
+    }
+    for (before, uri) in uris.iter().zip(uris.iter().skip(1)) {
+        if before.key != uri.key {
             digest.text(uri.text);
         }
-        last = Some(&uri.key);
     }
     Ok(())
 }
