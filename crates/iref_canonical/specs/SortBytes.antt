@@ -1,16 +1,13 @@
 -- Bytes of sort keys that are copied, and those that are written one by one.
-use Rattle.std.specs.Prelude.{◌≡◌, ℕ, ◌+◌, ◌==◌, Bool, not, ◌&&◌, ◌++◌, length, take, nat_lt}
+use Rattle.std.specs.Prelude.{◌≡◌, ℕ, ◌+◌, Bool, ◌&&◌, ◌++◌, length, take}
 use Rattle.std.specs.List.{flat_map, list_all}
 use Rattle.iref_grammar.specs.Authority.{AuthorityValue}
 use Rattle.iref_grammar.specs.Rules.{Text}
 use Rattle.iref_grammar.specs.Tests.{none_or}
 use Rattle.iref_canonical.specs.SortKey.{sort_byte}
-use Rattle.percent_encoding.specs.Percent.{percent_sign}
+pub use Rattle.iref_parse.specs.Plain.{is_kept_byte}
 
--- the byte stands in sort keys as it is, and begins no escape
-abbrev pub is_kept_byte : ℕ → Bool
-is_kept_byte b = nat_lt 1 b && not (b == percent_sign)
-
+-- each byte stands in sort keys as it is, and none begins an escape
 abbrev pub is_kept : Text → Bool
 is_kept bytes = list_all is_kept_byte bytes
 

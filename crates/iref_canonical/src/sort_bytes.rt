@@ -2,21 +2,9 @@
 
 ghost use Rattle.std.specs.Prelude.{◌≡◌, ◌+◌, ◌≤◌, ◌++◌, length, take};
 ghost use Rattle.percent_encoding.specs.Percent as percent;
-ghost use Rattle.iref_canonical.specs.SortBytes.{is_kept};
 ghost use Rattle.iref_canonical.specs.SortKey.{sort_byte, sort_text};
 
 use percent_encoding::percent_decode;
-
-/// Whether each byte stands in sort keys as it is, and none begins an escape.
-pub fn is_kept(bytes: &[u8]) -> bool
-    ensures { result ≡ is_kept bytes.now }
-{
-    let mut kept = true;
-    for byte in bytes {
-        kept &= *byte > 1 && *byte != b'%';
-    }
-    kept
-}
 
 // How many bytes a sort key has for a byte.
 #[inline(always)]

@@ -16,7 +16,6 @@ ghost use Rattle.iref_canonical.specs.SortKey.{sort_option, sort_path};
 ghost use Rattle.iref_canonical.specs.Sortable.{IsSortable, are_kept_slices, key_of_slices};
 ghost use Rattle.iref_canonical.specs.Sortable.{sortable_key};
 
-use crate::sort_bytes::is_kept;
 use crate::sort_parts::{
     authority_len, raw_option_len, text_option_len, write_authority, write_scheme,
     write_text_option,
@@ -26,6 +25,7 @@ use crate::sort_text::write_byte;
 use iref_error::Memory;
 use iref_parse::authority::{AuthoritySlices, split_parts};
 use iref_parse::split::ReferenceSlices;
+use iref_parse::unescaped::is_kept;
 use std::alloc::AllocError;
 
 // The components of a reference as a sort key has them.

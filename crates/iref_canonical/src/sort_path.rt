@@ -9,9 +9,9 @@ ghost use Rattle.iref_canonical.specs.SortBytes as bytes;
 ghost use Rattle.iref_canonical.specs.SortItems.{AreItems, AreKept, items_of};
 ghost use Rattle.iref_canonical.specs.SortKey.{sort_item, sort_list};
 
-use crate::sort_bytes::is_kept;
 use crate::sort_text::{text_len, write_byte, write_kept, write_text};
 use iref_parse::dots::has_dots;
+use iref_parse::unescaped::is_kept;
 use iref_path::both_ends::BothEnds;
 use iref_path::segments::{count_segments, last_segment, split_root};
 

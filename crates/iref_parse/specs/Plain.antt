@@ -1,5 +1,5 @@
 -- The plain bytes: those that stand for themselves in a path, a query or a fragment, or begin one of the two, and those of common characters.
-use Rattle.std.specs.Prelude.{ℕ, Bool, ◌==◌, ◌&&◌, ◌||◌, ◌/◌, ◌%◌, codes, slice_index, bit_and, bit_or, if◌then◌else◌}
+use Rattle.std.specs.Prelude.{ℕ, Bool, ◌==◌, ◌&&◌, ◌||◌, ◌/◌, ◌%◌, codes, slice_index, bit_and, bit_or, nat_lt, if◌then◌else◌}
 use Rattle.std.specs.Char.{is_ascii, is_ascii_alphanumeric, char_set_contains}
 use Rattle.std.specs.Int.{is_in_range}
 use Rattle.iref_grammar.specs.Grammar.{is_not_percent, percent_sign}
@@ -28,6 +28,14 @@ is_unescaped_byte b = is_ascii b && is_not_percent b
 -- 0 exactly if it is one
 abbrev pub unescaped_mark : ℕ → ℕ
 unescaped_mark b = bit_or (bit_and b 128) (if b == percent_sign then 255 else 0)
+
+-- a byte other than 0, 1 and `%`
+abbrev pub is_kept_byte : ℕ → Bool
+is_kept_byte b = nat_lt 1 b && is_not_percent b
+
+-- 0 exactly if it is one
+abbrev pub kept_mark : ℕ → ℕ
+kept_mark b = bit_or (if bit_and b 254 == 0 then 255 else 0) (if b == percent_sign then 255 else 0)
 
 -- the groups that both halves of b are in
 abbrev pub other_groups : Groups → ℕ → ℕ
