@@ -112,6 +112,22 @@ impl<R: HeldRule, C: CharSet> ReferenceText<R, C> {
         }
     }
 
+    /// The text, which is known to be in the rule, with the lengths of these components, which are
+    /// its own.
+    pub fn of_slices(text: String, slices: ReferenceSlices<'_>) -> Self
+        requires in_rule { R.test C.tests (string_bytes text) ≡ true }
+        requires slices { texts_of slices ≡ spell_components (read_reference (string_bytes text)) }
+        ensures { result ≡ string_bytes text }
+    {
+        let lengths = Lengths::of(slices);
+        let rule = PhantomData;
+        ReferenceText {
+            text,
+            lengths,
+            rule,
+        }
+    }
+
     /// The text of these bytes of UTF-8, if it is in the rule, or the bytes.
     pub fn from_bytes(bytes: Vec<u8>) -> Result<Self, Vec<u8>>
         ensures { Parses (InUtf8 (R.rule C.tests)) bytes.items
