@@ -1,7 +1,3 @@
-use Rattle.std.proofs.Common.{◌≡◌, true}
-use Rattle.iref_grammar.specs.Reference.{is_reference}
-use Rattle.iref_grammar.specs.Rules.{Text}
-use Rattle.iref_reference.proofs.canonical.canonical_of.Given.{Over}
 use Rattle.iref_reference.proofs.canonical.canonical_of.Goals as goal
 
 pub is_plain-requires-clause-reference : goal.is_plain-requires-clause-reference
