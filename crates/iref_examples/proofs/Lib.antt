@@ -1,2 +1,3 @@
 pub mod CheckLemmas
+pub mod FirstLemmas
 pub mod LinkLemmas

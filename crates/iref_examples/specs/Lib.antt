@@ -1,3 +1,4 @@
 pub mod Caches
 pub mod Components
+pub mod Firsts
 pub mod Links

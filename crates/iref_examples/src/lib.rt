@@ -16,6 +16,7 @@ pub mod context;
 pub mod editors;
 pub mod mapping;
 pub mod mirror;
+pub mod unique;
 pub mod validator;
 
 use iref::uri::{
