@@ -2,3 +2,4 @@ pub mod Caches
 pub mod Components
 pub mod Firsts
 pub mod Links
+pub mod WrongLines
