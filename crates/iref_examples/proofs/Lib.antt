@@ -1,2 +1,4 @@
 pub mod CheckLemmas
+pub mod FirstLemmas
 pub mod LinkLemmas
+pub mod WrongLineLemmas

@@ -1,3 +1,5 @@
 pub mod Caches
 pub mod Components
+pub mod Firsts
 pub mod Links
+pub mod WrongLines

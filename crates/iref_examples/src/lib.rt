@@ -1,4 +1,4 @@
-//! Functions as a caller writes them, each proved from the public clauses of `iref` alone: here
+//! Functions as a caller writes them, each proved from public clauses and laws of `iref`: here
 //! those of one reference or path, and a module for each longer example.
 #![tactic(auto)]
 
@@ -16,7 +16,9 @@ pub mod context;
 pub mod editors;
 pub mod mapping;
 pub mod mirror;
+pub mod unique;
 pub mod validator;
+pub mod wrong_lines;
 
 use iref::uri::{
     Path, Segment, Steps, Uri, UriRef, UriRefParts, new_steps_have_room, path_eq_counted,

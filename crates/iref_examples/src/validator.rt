@@ -1,11 +1,12 @@
-//! Which component of a text keeps it from being an IRI reference.
-ghost use Rattle.std.specs.Prelude.{MatchResult};
+//! Which component of a text keeps it from being an IRI reference, and where.
+ghost use Rattle.std.specs.Prelude.{◌≡◌, Some, MatchResult};
+ghost use Rattle.iref.specs.{BytePlaces.{fault_value}, Faults.{fault_of_reference}};
 ghost use Rattle.iref.specs.{Characters.{iri_chars}, ComponentTexts.{spell_components}};
 ghost use Rattle.iref.specs.{Grammar.{IsUriReference}, Reference.{read_reference}, Rules.{InUtf8}};
 ghost use Rattle.iref_examples.specs.Components.{IsChecked, IsFirstOutside};
 
 use iref::iri::{Authority, Fragment, Path, Query, Scheme};
-use iref::split_reference;
+use iref::{Fault, IriRef, split_reference};
 use std::convert::TryFrom;
 use std::fmt;
 
@@ -68,4 +69,21 @@ pub fn checked(text: &str) -> Result<(), Component>
     check::<Path>(Component::Path, Some(parts.path))?;
     check::<Query>(Component::Query, parts.query)?;
     check::<Fragment>(Component::Fragment, parts.fragment)
+}
+
+/// Whether the text is an IRI reference; else the error is the component that `checked` names, and
+/// where it is wrong and why: of `http://h:8x/` the authority, and the port at byte 10.
+pub fn explained(text: &str) -> Result<(), (Component, Fault)>
+    ensures { MatchResult result (λ _. InUtf8 (IsUriReference iri_chars) text.now)
+        (λ wrong. (¬ (InUtf8 (IsUriReference iri_chars) text.now))
+        × IsFirstOutside wrong.0 (spell_components (read_reference text.now))
+        × (fault_of_reference iri_chars text.now ≡ Some (fault_value wrong.1))) }
+{
+    let Some(fault) = IriRef::fault(text) else {
+        return Ok(());
+    };
+    match checked(text) {
+        Ok(()) => Ok(()),
+        Err(component) => Err((component, fault)),
+    }
 }
