@@ -1,18 +1,19 @@
 -- A host alone, and a host with a port, is an authority.
-use Rattle.std.proofs.Common.{◌≡◌, true, ◌&&◌, ◌||◌, [], ◌∷◌, ◌++◌, ◌<◌, ◌≤◌, false, append_assoc, length, get_or, drop, sym, ◌∙◌, ap, arith, refl, cond}
+use Rattle.std.proofs.Common.{◌≡◌, true, ◌&&◌, ◌||◌, [], ◌∷◌, ◌++◌, ◌<◌, ◌≤◌, false, append_assoc, length, get_or, drop, sym, ◌∙◌, ap, arith, refl, cond, Bool, ℕ}
 use Rattle.std.specs.Prelude.{Option, Some, None, codes, ◌==◌}
 use mathlib.Core.Bool.{true≢false}
-use Rattle.std.specs.List.{list_all}
-use Rattle.std.specs.Char.{is_ascii_digit}
+use Rattle.std.specs.List.{list_all, position_or_len}
+use Rattle.std.specs.Char.{char_set_contains, is_ascii_digit}
 use Rattle.std.proofs.lemmas.List.{append-nil}
 use Rattle.std.proofs.lemmas.Bool.{eqb-true, and_parts}
+use Rattle.std.proofs.lemmas.Bool.Decides.{nat_tests}
 use Rattle.iref_grammar.specs.Characters.{CharTests, AreAboveAscii}
 use Rattle.iref_grammar.specs.Rules.{Text}
-use Rattle.iref_grammar.specs.Grammar.{colon, slash, left_bracket, right_bracket}
-use Rattle.iref_grammar.specs.Texts.{begins_with, lacks, before, after, then_part}
+use Rattle.iref_grammar.specs.Grammar.{at_sign, colon, slash, left_bracket, right_bracket}
+use Rattle.iref_grammar.specs.Texts.{after_first_char, begins_with, lacks, before, from_first, after, then_part}
 use Rattle.iref_grammar.specs.Tests.{is_host, is_port, is_ip_literal, is_ip_address, is_ipv6, is_ipvfuture, is_reg_name, in_brackets, ends_here, some_and, none_or}
 use Rattle.iref_grammar.specs.Authority.{AuthorityValue, spell_authority, read_authority, has_authority_parts, is_authority}
-use Rattle.iref_grammar.proofs.CutLemmas.{cut, before-part, after-part}
+use Rattle.iref_grammar.proofs.CutLemmas.{cut, before-part, after-part, before-from_first, before-lacking, from_first-lacking, from_first-yes, from_first-no, rest_lacks}
 use Rattle.iref_grammar.proofs.HostLemmas.{before_lacks}
 use Rattle.iref_grammar.proofs.AuthorityLemmas.{read_authority-back, delimited_authority}
 use Rattle.iref_parse.specs.AuthoritySlices.{is_port_part}
@@ -71,3 +72,35 @@ slashes (a ∷ b ∷ rest) h =
 -- the second byte of what begins with `//`
 pub second_slash : (text : Text) → begins_with (codes "//") text ≡ true → (2 ≤ length text) × (get_or text 1 0 < 128)
 second_slash text h = let e = slashes text h in (omega (arith, ap length e), omega (arith, ap (λ t. get_or t 1 0) e))
+
+-- ---- a host alone
+
+lack_both : (first second : ℕ) (text : Text) → position_or_len (char_set_contains (first ∷ second ∷ [])) text ≡ length text
+    → (lacks first text ≡ true) × (lacks second text ≡ true)
+lack_both first second [] h = (refl, refl)
+lack_both first second (c ∷ cs) h = grind (arith, nat_tests, lack_both first second cs)
+
+suffix_lacks : (mark end : ℕ) (text : Text) → lacks mark text ≡ true → lacks mark (from_first (end ∷ []) text) ≡ true
+suffix_lacks mark end [] h = refl
+suffix_lacks mark end (c ∷ cs) h = by (suffix_lacks mark end cs (rest_lacks mark c cs h)) (char_set_contains (end ∷ []) c) refl
+  where
+    by : lacks mark (from_first (end ∷ []) cs) ≡ true → (b : Bool) → char_set_contains (end ∷ []) c ≡ b → lacks mark (from_first (end ∷ []) (c ∷ cs)) ≡ true
+    by k true e = ap (lacks mark) (from_first-yes (end ∷ []) c cs e) ∙ h
+    by k false e = ap (lacks mark) (from_first-no (end ∷ []) c cs e) ∙ k
+
+pub without_marks : (text : Text) → position_or_len (char_set_contains (at_sign ∷ colon ∷ [])) text ≡ length text
+    → read_authority text ≡ record { user_info = None; host = text; port = None }
+unfolding read_authority
+without_marks text h =
+    let both = lack_both at_sign colon text h in
+    let none : after at_sign text ≡ None = ap after_first_char (from_first-lacking at_sign text both.0) in
+    let bracket = begins_with (left_bracket ∷ []) text in
+    rw (none, read_authority) (λ i. record { user_info = None; host = host both.1 bracket i; port = port both.1 bracket i })
+  where
+    host : lacks colon text ≡ true → (b : Bool) → cond b (before (right_bracket ∷ []) text) [] ++ before (colon ∷ []) (cond b (from_first (right_bracket ∷ []) text) text) ≡ text
+    host k true = ap (λ t. before (right_bracket ∷ []) text ++ t) (before-lacking colon (from_first (right_bracket ∷ []) text) (suffix_lacks colon right_bracket text k)) ∙ before-from_first (right_bracket ∷ []) text
+    host k false = before-lacking colon text k
+
+    port : lacks colon text ≡ true → (b : Bool) → after colon (cond b (from_first (right_bracket ∷ []) text) text) ≡ None
+    port k true = ap after_first_char (from_first-lacking colon (from_first (right_bracket ∷ []) text) (suffix_lacks colon right_bracket text k))
+    port k false = ap after_first_char (from_first-lacking colon text k)
