@@ -22,3 +22,5 @@ pub mod SortKeyLemmas
 pub mod SortByteLemmas
 pub mod SortItemLemmas
 pub mod SortableLemmas
+pub mod SortPutLemmas
+pub mod SortShortLemmas

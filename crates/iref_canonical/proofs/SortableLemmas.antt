@@ -78,6 +78,10 @@ pub authority_kept : (text : Option Text) → none_or is_kept text ≡ true → 
 authority_kept None h = refl
 authority_kept (Some text) h = parts_kept (read_authority text) (ap is_kept (read_authority-spelled text) ∙ h)
 
+pub parts_kept_in : (a : Option AuthorityValue) → none_or is_kept (option_map spell_authority a) ≡ true → none_or are_kept_parts a ≡ true
+parts_kept_in None h = refl
+parts_kept_in (Some a) h = parts_kept a h
+
 pub length-sort_path : (absolute : Bool) (items : List Text) → length (sort_path (record { absolute = absolute; segments = items })) ≡ 1 + length (sort_list sort_item items)
 unfolding sort_path
 length-sort_path absolute items = grind (arith, length-append)

@@ -11,3 +11,4 @@ pub mod SpelledItems
 pub mod SortBytes
 pub mod SortItems
 pub mod Sortable
+pub mod SortPuts

@@ -15,5 +15,6 @@ pub mod sort_key;
 pub mod sort_key_laws;
 pub mod sort_parts;
 pub mod sort_path;
+mod sort_short;
 pub mod sort_text;
 pub mod text;

@@ -21,6 +21,7 @@ use crate::sort_parts::{
     write_text_option,
 };
 use crate::sort_path::Items;
+use crate::sort_short::{append_short, is_short};
 use crate::sort_text::write_byte;
 use iref_error::Memory;
 use iref_parse::authority::{AuthoritySlices, split_parts};
@@ -166,6 +167,9 @@ pub fn append_sort_key(
         ≡ out.old.items ++ sort_key (key (read_reference text.now))) }
     ensures err { OnErr result (out.new.items ≡ out.old.items) }
 {
+    if is_short(text, slices.path) {
+        return append_short(text, slices, out);
+    }
     let sortable = Sortable::new(text, slices);
     let len = sortable.len().ok_or(AllocError)?;
     let start = out.len();
