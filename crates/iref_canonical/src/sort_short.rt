@@ -73,13 +73,13 @@ fn put_segment_byte(buffer: &mut [u8], at: usize, byte: u8) -> usize
     ensures { Puts at (segment_byte byte) buffer.old buffer.new result }
 {
     buffer[at] = byte;
-    if byte == b'/' {
-        buffer[at] = 0;
-        buffer[at + 1] = 1;
-        at + 2
-    } else {
-        at + 1
+    let end = at + 1;
+    if byte != b'/' {
+        return end;
     }
+    buffer[at] = 0;
+    buffer[end] = 1;
+    end + 1
 }
 
 // Puts segments, but for where the first begins and the last ends.
