@@ -13,7 +13,6 @@ pub mod host;
 pub mod ip;
 pub mod ipv6;
 mod lanes;
-pub mod offsets;
 mod plain;
 mod position;
 pub mod scan;
