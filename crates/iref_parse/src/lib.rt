@@ -13,6 +13,7 @@ pub mod host;
 pub mod ip;
 pub mod ipv6;
 mod lanes;
+mod marked;
 mod plain;
 mod position;
 pub mod scan;
