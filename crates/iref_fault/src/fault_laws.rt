@@ -4,11 +4,8 @@
 ghost use Rattle.std.specs.Prelude.{◌≡◌, ◌↔◌, ℕ, ◌≤◌, length, take, drop, true, false, Some};
 ghost use Rattle.std.specs.{Prelude.{None, map}, Str.{is_utf8}, List.{AllByRecursion}};
 ghost use Rattle.iref_grammar.specs.{Text, InUtf8, IsUri, IsUriReference, IsAuthority};
-ghost use Rattle.iref_grammar.specs.{IsScheme, IsUserInfo, IsHost, IsPort, IsPath, IsSegment};
-ghost use Rattle.iref_grammar.specs.{IsQuery, IsFragment, is_authority, is_reference};
-ghost use Rattle.iref_grammar.specs.{read_authority, read_reference};
-ghost use Rattle.iref_fault.specs.Places.{PartRule, Scheme, UserInfo, Host, Port, Path, Segment};
-ghost use Rattle.iref_fault.specs.Places.{Query, Fragment, is_bare, IsPlaceIn};
+ghost use Rattle.iref_grammar.specs.{is_authority, is_reference, read_authority, read_reference};
+ghost use Rattle.iref_fault.specs.Places.{PartRule, is_bare, rule_of, IsPlaceIn};
 ghost use Rattle.iref_fault.specs.Cut.{Piece, authority_pieces, pieces_of, has_cut_scheme};
 ghost use Rattle.iref_fault.specs.Faults.{FaultValue, fault_of_part, fault_of_authority};
 ghost use Rattle.iref_fault.specs.Faults.{fault_of_reference, fault_of_uri, not_utf8, no_scheme};
@@ -20,22 +17,8 @@ use iref_grammar::chars::CharSet;
 
 /// A single text has no fault exactly if it is in its rule.
 pub fn part_without_fault<S: CharSet>()
-    ensures scheme { (text : Text)
-        → (fault_of_part S.tests Scheme text ≡ None) ↔ InUtf8 IsScheme text }
-    ensures user_info { (text : Text)
-        → (fault_of_part S.tests UserInfo text ≡ None) ↔ InUtf8 (IsUserInfo S.tests) text }
-    ensures host { (text : Text)
-        → (fault_of_part S.tests Host text ≡ None) ↔ InUtf8 (IsHost S.tests) text }
-    ensures port { (text : Text)
-        → (fault_of_part S.tests Port text ≡ None) ↔ InUtf8 IsPort text }
-    ensures path { (text : Text)
-        → (fault_of_part S.tests Path text ≡ None) ↔ InUtf8 (IsPath S.tests) text }
-    ensures segment { (text : Text)
-        → (fault_of_part S.tests Segment text ≡ None) ↔ InUtf8 (IsSegment S.tests) text }
-    ensures query { (text : Text)
-        → (fault_of_part S.tests Query text ≡ None) ↔ InUtf8 (IsQuery S.tests) text }
-    ensures fragment { (text : Text)
-        → (fault_of_part S.tests Fragment text ≡ None) ↔ InUtf8 (IsFragment S.tests) text }
+    ensures { (rule : PartRule) (text : Text) → is_bare rule ≡ false
+        → (fault_of_part S.tests rule text ≡ None) ↔ InUtf8 (rule_of S.tests rule) text }
 {}
 
 /// A text has no fault exactly if it is in the grammar.

@@ -11,7 +11,6 @@ pub mod DoubleColonLemmas
 pub mod Ipv4ScanLemmas
 pub mod Ipv6ScanLemmas
 pub mod LiteralLemmas
-pub mod SliceRangeLemmas
 pub mod AuthorityLemmas
 pub mod LaneLemmas
 pub mod DifferLemmas

@@ -1,5 +1,5 @@
 -- The tables of plain bytes, checked entry by entry.
-use Rattle.std.proofs.Common.{◌≡◌, ◌≢◌, ℕ, ◌+◌, ◌<◌, ◌≤◌, Bool, List, true, false, length, get_or, refl, sym, ◌∙◌, arith, Fits, w8}
+use Rattle.std.proofs.Common.{◌≡◌, ℕ, ◌+◌, ◌<◌, ◌≤◌, Bool, List, true, false, length, get_or, refl, sym, ◌∙◌, arith, Fits, w8}
 use borrow.Author.Count.{below_more}
 use Rattle.std.specs.List.{prefix_len}
 use Rattle.std.proofs.lemmas.Bool.{agree_below_at, eq-eqb, ne_eqb}
@@ -7,7 +7,7 @@ use Rattle.std.proofs.lemmas.List.Sums.{prefix_len_is, prefix_len_passes, prefix
 use Rattle.iref_parse.specs.declared.plain.Groups.{Groups}
 use Rattle.iref_parse.specs.declared.plain.TheConstants.{ASCII, COMMON}
 use Rattle.iref_parse.specs.Plain.{is_plain_byte, is_common_byte, other_groups, is_in_no_group}
-use Rattle.iref_parse.proofs.PositionLemmas.{IsClearFront}
+use Rattle.iref_parse.specs.Lanes.{IsFirstMarked}
 
 -- a test that agrees with another on each byte of a list passes as many in front
 front_agrees : (p q : ℕ → Bool) (bytes : List ℕ) → ((k : ℕ) → p (get_or bytes k 0) ≡ q (get_or bytes k 0)) → prefix_len p bytes ≡ prefix_len q bytes
@@ -40,6 +40,6 @@ module _ (groups : Groups) (bytes : List ℕ) (at : ℕ) where
   pub plain_front_is : IsPlainFront groups bytes at → (at < length bytes → is_in_no_group groups (get_or bytes at 0) ≡ false) → at ≡ prefix_len (is_in_no_group groups) bytes
   plain_front_is h other = sym (prefix_len_is (is_in_no_group groups) bytes at 0 h.within h.each other)
 
-  -- the front in which no byte has a mark
-  pub plain_front_from_clear : IsClearFront (groups_at groups bytes) (length bytes) at → (at < length bytes → groups_at groups bytes at ≢ 0) → at ≡ prefix_len (is_in_no_group groups) bytes
-  plain_front_from_clear h other = plain_front_is (record { within = h.within; each = λ k l. eq-eqb _ 0 (h.each k l) }) (λ l. ne_eqb _ 0 (other l))
+  -- up to the first byte with a mark
+  pub plain_front_from_marks : IsFirstMarked (groups_at groups bytes) (length bytes) at → at ≡ prefix_len (is_in_no_group groups) bytes
+  plain_front_from_marks h = plain_front_is (record { within = h.within; each = λ k l. eq-eqb _ 0 (h.clear k l) }) (λ l. ne_eqb _ 0 (h.marked l))

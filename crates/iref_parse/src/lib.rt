@@ -13,7 +13,7 @@ pub mod host;
 pub mod ip;
 pub mod ipv6;
 mod lanes;
-pub mod offsets;
+mod marked;
 mod plain;
 mod position;
 pub mod scan;

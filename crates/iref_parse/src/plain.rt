@@ -1,10 +1,10 @@
 //! How many bytes of a text stand before the first that is not plain.
-ghost use Rattle.std.specs.Prelude.{◌≡◌, ◌+◌, ◌≤◌, length, slice_index};
+ghost use Rattle.std.specs.Prelude.{◌≡◌, length, slice_index};
 ghost use Rattle.std.specs.List.{prefix_len};
-ghost use Rattle.iref_parse.specs.Lanes.{HasLanes};
 ghost use Rattle.iref_parse.specs.Plain as plain;
 
-use crate::lanes::{both, by_high_half, by_low_half, common_lanes, is_clear, load};
+use crate::lanes::{both, by_high_half, by_low_half, load};
+use crate::marked::{Marks, first_marked};
 use std::simd::prelude::*;
 
 /// Groups of bytes, by a table for each half of a byte. A byte is plain if no group has both of its
@@ -38,15 +38,26 @@ fn is_plain_byte(groups: &Groups, byte: u8) -> bool
     groups.low[usize::from(byte % 16)] & groups.high[usize::from(byte / 16)] == 0
 }
 
-// A lane is 0 where the byte is plain.
-#[inline(always)]
-fn marks(groups: &Groups, bytes: &[u8], at: usize) -> u8x16
-    requires { at + 16 ≤ length bytes.now }
-    ensures { HasLanes result
-        (λ k. plain.other_groups groups.now (slice_index bytes.now (at + k))) }
-{
-    let v = load(bytes, at);
-    both(by_low_half(&groups.low, v), by_high_half(&groups.high, v))
+// A text in which the bytes that are not plain by the groups are marked.
+#[derive(Drop)]
+struct OtherThan<'a> {
+    groups: &'a Groups,
+    bytes: &'a [u8],
+}
+
+impl Marks for OtherThan<'_> {
+    ghost count = { λ s. length s.bytes.now };
+
+    ghost mark = { λ s k. plain.other_groups s.groups.now (slice_index s.bytes.now k) };
+
+    #[inline(always)]
+    fn lanes(&self, at: usize) -> u8x16 {
+        let v = load(self.bytes, at);
+        both(
+            by_low_half(&self.groups.low, v),
+            by_high_half(&self.groups.high, v),
+        )
+    }
 }
 
 // How many bytes stand first that are plain by the groups. They are read one by one.
@@ -66,20 +77,11 @@ fn few_plain_first(groups: &Groups, bytes: &[u8]) -> usize
 fn first_by(groups: &Groups, bytes: &[u8]) -> usize
     ensures { result ≡ prefix_len (plain.is_in_no_group groups.now) bytes.now }
 {
-    let len = bytes.len();
-    if len < 16 {
-        return few_plain_first(groups, bytes);
+    if bytes.len() < 16 {
+        few_plain_first(groups, bytes)
+    } else {
+        first_marked(&OtherThan { groups, bytes }, bytes.len())
     }
-    let last = len - 16;
-    let mut at = 0;
-    while at < last {
-        let found = marks(groups, bytes, at);
-        if !is_clear(found) {
-            return at + common_lanes(found, u8x16::splat(0));
-        }
-        at += 16;
-    }
-    last + common_lanes(marks(groups, bytes, last), u8x16::splat(0))
 }
 
 /// How many bytes stand first that are of a path, `?` or `#`.

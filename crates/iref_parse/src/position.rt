@@ -4,7 +4,8 @@ ghost use Rattle.std.specs.Prelude.{[], ◌∷◌, ◌++◌, take, drop, length,
 ghost use Rattle.std.specs.{List.{position_or_len}, Char.{char_set_contains}};
 ghost use Rattle.iref_parse.specs.Lanes.{HasLanes};
 
-use crate::lanes::{common_lanes, either, equal_to, is_clear, load};
+use crate::lanes::{common_lanes, either, equal_to, load};
+use crate::marked::{Marks, first_marked};
 use std::simd::prelude::*;
 
 // The position of the first byte that is one of two, or the length. The bytes are read one by one.
@@ -29,6 +30,26 @@ fn marks(bytes: &[u8], at: usize, first: u8, second: u8) -> u8x16
 {
     let v = load(bytes, at);
     either(equal_to(v, first), equal_to(v, second))
+}
+
+// A text in which the bytes that are one of two are marked.
+#[derive(Drop)]
+struct EitherOf<'a> {
+    bytes: &'a [u8],
+    first: u8,
+    second: u8,
+}
+
+impl Marks for EitherOf<'_> {
+    ghost count = { λ s. length s.bytes.now };
+
+    ghost mark = { λ s k. if char_set_contains (s.first ∷ s.second ∷ [])
+        (slice_index s.bytes.now k) then 255 else 0 };
+
+    #[inline(always)]
+    fn lanes(&self, at: usize) -> u8x16 {
+        marks(self.bytes, at, self.first, self.second)
+    }
 }
 
 // The first eight bytes and the last eight, which may be some of the first.
@@ -81,16 +102,14 @@ pub(crate) fn position_of_either(bytes: &[u8], first: u8, second: u8) -> usize
     if len < 16 {
         return position_in_few(bytes, first, second);
     }
-    let last = len - 16;
-    let mut at = 0;
-    while at < last {
-        let found = marks(bytes, at, first, second);
-        if !is_clear(found) {
-            return at + common_lanes(found, u8x16::splat(0));
-        }
-        at += 16;
-    }
-    last + common_lanes(marks(bytes, last, first, second), u8x16::splat(0))
+    first_marked(
+        &EitherOf {
+            bytes,
+            first,
+            second,
+        },
+        len,
+    )
 }
 
 /// The position of the first such byte, or the length of the text.

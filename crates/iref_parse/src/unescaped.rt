@@ -1,5 +1,6 @@
 //! Whether a text is ASCII, and has no escape; and whether it has neither escapes nor bytes below 2.
-ghost use Rattle.std.specs.Prelude.{◌≡◌, ◌+◌, ◌<◌, ◌≤◌, length, slice_index};
+ghost use Rattle.std.proofs.{Common.{refl}, lemmas.Bool.{agree_below_at}};
+ghost use Rattle.std.specs.Prelude.{◌≡◌, ℕ, ◌+◌, ◌<◌, ◌≤◌, ◌==◌, Bool, length, slice_index};
 ghost use Rattle.std.specs.List.{list_all};
 ghost use Rattle.iref_parse.specs.Lanes.{HasLanes};
 ghost use Rattle.iref_parse.specs.Plain.{is_kept_byte, is_unescaped_byte, kept_mark};
@@ -9,13 +10,80 @@ use crate::lanes::{both, either, equal_to, is_clear, load};
 use crate::position::ends_of;
 use std::simd::prelude::*;
 
-// Whether each byte is ASCII other than `%`. The bytes are read one by one.
-fn are_few_unescaped(bytes: &[u8]) -> bool
-    ensures { result ≡ list_all is_unescaped_byte bytes.now }
+/// The bytes that a text may have. 16 of them can be tested at once.
+trait ByteRule {
+    /// What proofs see of them.
+    ghost allowed: { ℕ → Bool };
+
+    /// What a byte is marked with: 0 exactly if it is allowed.
+    ghost mark: { ℕ → ℕ };
+
+    /// Whether the byte is allowed.
+    fn allows(byte: u8) -> bool
+        ensures { result ≡ allowed byte };
+
+    /// The marks of 16 bytes.
+    fn marks(bytes: &[u8], at: usize) -> u8x16
+        requires { at + 16 ≤ length bytes.now }
+        ensures { HasLanes result (λ k. mark (slice_index bytes.now (at + k))) };
+
+    /// The marks tell which bytes are allowed.
+    ghost tells: { (b : ℕ) → b < 256 → (mark b == 0) ≡ allowed b };
+}
+
+// ASCII other than `%`.
+struct UnescapedBytes;
+
+// All bytes but 0, 1 and `%`.
+struct KeptBytes;
+
+impl ByteRule for UnescapedBytes {
+    ghost allowed = { is_unescaped_byte };
+
+    ghost mark = { unescaped_mark };
+
+    ghost tells = { λ b l.
+        agree_below_at (λ x. unescaped_mark x == 0) is_unescaped_byte 256 b refl l };
+
+    #[inline(always)]
+    fn allows(byte: u8) -> bool {
+        byte.is_ascii() && byte != b'%'
+    }
+
+    #[inline(always)]
+    fn marks(bytes: &[u8], at: usize) -> u8x16 {
+        let v = load(bytes, at);
+        either(both(v, u8x16::splat(128)), equal_to(v, b'%'))
+    }
+}
+
+impl ByteRule for KeptBytes {
+    ghost allowed = { is_kept_byte };
+
+    ghost mark = { kept_mark };
+
+    ghost tells = { λ b l. agree_below_at (λ x. kept_mark x == 0) is_kept_byte 256 b refl l };
+
+    #[inline(always)]
+    fn allows(byte: u8) -> bool {
+        byte >= 2 && byte != b'%'
+    }
+
+    #[inline(always)]
+    fn marks(bytes: &[u8], at: usize) -> u8x16 {
+        let v = load(bytes, at);
+        let low = equal_to(both(v, u8x16::splat(254)), 0);
+        either(low, equal_to(v, b'%'))
+    }
+}
+
+// Whether each byte is allowed. The bytes are read one by one.
+fn allows_few<R: ByteRule>(bytes: &[u8]) -> bool
+    ensures { result ≡ list_all R.allowed bytes.now }
 {
     let mut rest = bytes;
     while let Some((first, behind)) = rest.split_first() {
-        if !first.is_ascii() || *first == b'%' {
+        if !R::allows(*first) {
             return false;
         }
         rest = behind;
@@ -23,24 +91,35 @@ fn are_few_unescaped(bytes: &[u8]) -> bool
     true
 }
 
-// A lane is 0 where the byte is ASCII other than `%`.
+// Whether each byte of 8 to 15 is allowed.
 #[inline(always)]
-fn marks(bytes: &[u8], at: usize) -> u8x16
-    requires { at + 16 ≤ length bytes.now }
-    ensures { HasLanes result (λ k. unescaped_mark (slice_index bytes.now (at + k))) }
-{
-    let v = load(bytes, at);
-    either(both(v, u8x16::splat(128)), equal_to(v, b'%'))
-}
-
-// Whether each byte of 8 to 15 is ASCII other than `%`.
-#[inline(always)]
-fn are_ends_unescaped(bytes: &[u8]) -> bool
+fn allows_ends<R: ByteRule>(bytes: &[u8]) -> bool
     requires least { 8 ≤ length bytes.now }
     requires most { length bytes.now < 16 }
-    ensures { result ≡ list_all is_unescaped_byte bytes.now }
+    ensures { result ≡ list_all R.allowed bytes.now }
 {
-    is_clear(marks(&ends_of(bytes), 0))
+    is_clear(R::marks(&ends_of(bytes), 0))
+}
+
+// Whether each byte is allowed.
+#[inline(always)]
+fn allows_all<R: ByteRule>(bytes: &[u8]) -> bool
+    ensures { result ≡ list_all R.allowed bytes.now }
+{
+    let len = bytes.len();
+    if len < 8 {
+        return allows_few::<R>(bytes);
+    }
+    if len < 16 {
+        return allows_ends::<R>(bytes);
+    }
+    let mut seen = R::marks(bytes, len - 16);
+    let mut at = 0;
+    while 16 <= len - at {
+        seen = either(seen, R::marks(bytes, at));
+        at += 16;
+    }
+    is_clear(seen)
 }
 
 /// Whether each byte of the text is ASCII other than `%`.
@@ -48,60 +127,12 @@ fn are_ends_unescaped(bytes: &[u8]) -> bool
 pub fn is_unescaped(bytes: &[u8]) -> bool
     ensures { result ≡ list_all is_unescaped_byte bytes.now }
 {
-    let len = bytes.len();
-    if len < 8 {
-        return are_few_unescaped(bytes);
-    }
-    if len < 16 {
-        return are_ends_unescaped(bytes);
-    }
-    let mut seen = marks(bytes, len - 16);
-    let mut at = 0;
-    while 16 <= len - at {
-        seen = either(seen, marks(bytes, at));
-        at += 16;
-    }
-    is_clear(seen)
-}
-
-// Whether no byte is 0, 1 or `%`. The bytes are read one by one.
-fn are_few_kept(bytes: &[u8]) -> bool
-    ensures { result ≡ list_all is_kept_byte bytes.now }
-{
-    let mut rest = bytes;
-    while let Some((first, behind)) = rest.split_first() {
-        if *first < 2 || *first == b'%' {
-            return false;
-        }
-        rest = behind;
-    }
-    true
-}
-
-// A lane is 0 where the byte is not 0, 1 or `%`.
-#[inline(always)]
-fn kept_marks(bytes: &[u8], at: usize) -> u8x16
-    requires { at + 16 ≤ length bytes.now }
-    ensures { HasLanes result (λ k. kept_mark (slice_index bytes.now (at + k))) }
-{
-    let v = load(bytes, at);
-    let low = equal_to(both(v, u8x16::splat(254)), 0);
-    either(low, equal_to(v, b'%'))
+    allows_all::<UnescapedBytes>(bytes)
 }
 
 /// Whether no byte of the text is 0, 1 or `%`.
 pub fn is_kept(bytes: &[u8]) -> bool
     ensures { result ≡ list_all is_kept_byte bytes.now }
 {
-    let len = bytes.len();
-    if len < 16 {
-        return are_few_kept(bytes);
-    }
-    let mut seen = kept_marks(bytes, len - 16);
-    let mut at = 0;
-    while 16 <= len - at {
-        seen = either(seen, kept_marks(bytes, at));
-        at += 16;
-    }
-    is_clear(seen)
+    allows_all::<KeptBytes>(bytes)
 }

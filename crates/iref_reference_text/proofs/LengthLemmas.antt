@@ -39,10 +39,18 @@ query_after-lengths r = grind (arith, path_after-lengths r)
 pub fragment_after-lengths : (r : ReferenceValue) → fragment_after (lengths_of r) ≡ fragment_mark r
 fragment_after-lengths r = grind (arith, common_steps, query_after-lengths r)
 
--- of the components that are read from a text
-pub total-read : (text : Text) → total_length (lengths_of (read_reference text)) ≡ length text
+-- of the components of a spelled reference
+pub total-spelled : (r : ReferenceValue) → total_length (lengths_of r) ≡ length (spell r)
 unfolding spell
-total-read text = grind (arith, common_steps, first_len, marked_len, ap length (read_reference-spelled text))
+total-spelled r = grind (arith, common_steps, first_len, marked_len)
+
+pub placed-spelled : (r : ReferenceValue) → placed (lengths_of r) ≡ offsets_in r
+unfolding offsets_in
+placed-spelled r = grind (arith, first_len, marked_len)
+
+-- and of those that are read from a text
+pub total-read : (text : Text) → total_length (lengths_of (read_reference text)) ≡ length text
+total-read text = total-spelled (read_reference text) ∙ ap length (read_reference-spelled text)
 
 pub total-slices : (s : ReferenceSlices) (text : Text) → value_of s ≡ read_reference text → total_length (lengths_of_texts (texts_of s)) ≡ length text
 total-slices s text e = ap total_length (lengths-slices s (read_reference text) e) ∙ total-read text
@@ -51,8 +59,8 @@ pub query_after-texts : (t : ComponentTexts) → query_after (lengths_of_texts t
 query_after-texts t = ap query_after (ap lengths_of_texts (spelled_as_read t (read_components t) refl)) ∙ query_after-lengths (read_components t)
 
 pub placed-read : (text : Text) → placed (lengths_of (read_reference text)) ≡ offsets_of text
-unfolding offsets_of offsets_in
-placed-read text = grind (arith, first_len, marked_len)
+unfolding offsets_of
+placed-read text = placed-spelled (read_reference text)
 
 pub context-lengths : (r : ReferenceValue) → context_by (lengths_of r) ≡ context_of r
 context-lengths r = grind arith

@@ -1,5 +1,5 @@
 -- How long the components of a reference are, and where they stand then.
-use Rattle.std.specs.Prelude.{◌≡◌, Bool, true, not, nat_eq, ℕ, zero, suc, ◌+◌, length}
+use Rattle.std.specs.Prelude.{◌≡◌, Bool, true, not, nat_eq, nat_lt, if◌then◌else◌, ℕ, zero, suc, ◌+◌, length}
 use Rattle.std.specs.Prelude.{Option, Some, None, option_map}
 use Rattle.std.specs.declared.ops.Range.{Range}
 use Rattle.iref_grammar.specs.declared.context.PathContext.{PathContext}
@@ -47,8 +47,7 @@ range_before (suc n) = Some (record { start = 0; end = n })
 
 -- a part after a delimiter that stands at start, where the two are this long
 abbrev pub range_after : ℕ → ℕ → ℕ → Option (Range ℕ)
-range_after start mark zero = None
-range_after start mark (suc n) = Some (record { start = start + mark; end = start + suc n })
+range_after start mark len = if nat_lt len mark then None else Some (record { start = start + mark; end = start + len })
 
 abbrev pub path_after : Lengths → ℕ
 path_after l = l.scheme + l.authority

@@ -1,12 +1,13 @@
 //! How long the components of a reference are with their delimiters, from which all its offsets
 //! follow.
-ghost use Rattle.std.specs.Prelude.{◌≡◌, ◌+◌, ◌≤◌, ◌<◌, ◌^◌};
+ghost use Rattle.std.specs.Prelude.{◌≡◌, ◌+◌, ◌≤◌, ◌<◌, ◌^◌, length};
 ghost use Rattle.std.specs.Option.{option_copied};
 ghost use Rattle.iref_reference_text.specs.ComponentLengths.{context_by, fragment_after, lengths_of_texts};
 ghost use Rattle.iref_reference_text.specs.ComponentLengths.{path_after, placed, query_after};
 ghost use Rattle.iref_reference_text.specs.ComponentLengths.{range_after, range_before, total_length};
 ghost use Rattle.iref_reference_text.specs.ComponentLengths.{with_mark};
-ghost use Rattle.iref_parse.specs.{texts_of};
+ghost use Rattle.iref_grammar.specs.{offsets_in, spell};
+ghost use Rattle.iref_parse.specs.{texts_of, value_of};
 
 use iref_grammar::context::PathContext;
 use iref_grammar::offsets::Offsets;
@@ -79,7 +80,7 @@ impl Lengths {
 
     /// Where components of these lengths stand in their text.
     pub fn offsets(self) -> Offsets
-        requires { total_length self < 2 ^ 63 }
+        requires { total_length self < 2 ^ 64 }
         ensures { result ≡ placed self }
     {
         let path = self.path_start();
@@ -106,6 +107,14 @@ pub fn marked_len(mark: usize, part: Option<&str>) -> usize
     }
 }
 
+/// Where the components stand in the text that they spell.
+pub fn offsets_of(slices: ReferenceSlices<'_>) -> Offsets
+    requires { length (spell (value_of slices)) < 2 ^ 64 }
+    ensures { result ≡ offsets_in (value_of slices.entry) }
+{
+    Lengths::of(slices).offsets()
+}
+
 // Where the scheme stands, if it and its delimiter are this long.
 fn range_before(len: usize) -> Option<Range<usize>>
     ensures { result ≡ range_before len }
@@ -118,11 +127,10 @@ fn range_before(len: usize) -> Option<Range<usize>>
 
 // Where a part stands after a delimiter at `start`, if the two are this long.
 fn range_after(start: usize, mark: usize, len: usize) -> Option<Range<usize>>
-    requires len { start + len < 2 ^ 63 }
-    requires mark { mark ≤ 2 }
+    requires { start + len < 2 ^ 64 }
     ensures { result ≡ range_after start mark len }
 {
-    if len == 0 {
+    if len < mark {
         return None;
     }
     Some(start + mark..start + len)

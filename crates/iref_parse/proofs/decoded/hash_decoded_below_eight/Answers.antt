@@ -4,7 +4,7 @@ use Rattle.percent_encoding.specs.Percent.{percent_decode}
 use Rattle.percent_encoding.proofs.PercentLemmas.{percent_decode-nil}
 use Rattle.iref_parse.proofs.BufferLemmas.{more_held, all_held}
 use Rattle.iref_parse.proofs.DecodedLemmas.{next_kept}
-use Rattle.iref_parse.proofs.decoded.hash_few.Goals as goal
+use Rattle.iref_parse.proofs.decoded.hash_decoded_below_eight.Goals as goal
 
 pub returns-then-bytes-at-eq37 : goal.returns-then-bytes-at-eq37
 returns-then-bytes-at-eq37 g c = cc (c.hash_escaped.ensures, c.loop-at.invariant.0)

@@ -1,6 +1,6 @@
 use Rattle.std.proofs.Common.{◌≡◌, ◌-◌, ◌≤◌, ◌++◌, take, drop, length}
 use Rattle.percent_encoding.specs.Percent.{percent_decode}
-use Rattle.iref_parse.proofs.decoded.hash_few.Given as goal
+use Rattle.iref_parse.proofs.decoded.hash_decoded_below_eight.Given as goal
 
 -- nothing is hashed; what the buffer holds and what is left are all
 abbrev pub invariant-loop-at : goal.invariant-loop-at
