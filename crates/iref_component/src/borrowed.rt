@@ -88,7 +88,8 @@ pub fn borrowed_of<R: Rule, C: CharSet>(text: Option<&str>) -> Option<BorrowedTe
 
 /// The slice of a borrowed text, if it is there.
 pub fn text_of<'a, R: Rule, C: CharSet>(view: Option<BorrowedText<'a, R, C>>) -> Option<&'a str>
-    ensures { option_copied result ≡ option_map text_of view.entry }
+    ensures text { option_copied result ≡ option_map text_of view.entry }
+    ensures in_rule { none_or (R.test C.tests) (option_copied result) ≡ true }
 {
     Some(view?.as_str())
 }

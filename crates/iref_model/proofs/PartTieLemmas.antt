@@ -1,8 +1,10 @@
 -- Components are equal, each by its own key, exactly where the keys of their references are the same.
 use Rattle.std.proofs.Common.{arith, ◌≡◌, ◌↔◌, Bool, true, ◌&&◌, sym, ap, ◌∙◌, is_eq}
 use Rattle.std.specs.Prelude.{Option, option_map}
-use Rattle.std.specs.Option.{option_eq}
+use Rattle.std.specs.Cmp.Lexicographic.{options_total}
+use Rattle.std.specs.Option.{option_cmp, option_eq}
 use Rattle.std.specs.Str.{str_to_ascii_lowercase}
+use Rattle.std.proofs.lemmas.Bool.Decides.{same_from_decides}
 use Rattle.percent_encoding.specs.Percent.{percent_decode}
 use Rattle.iref_grammar.specs.Rules.{Text}
 use Rattle.iref_grammar.specs.Authority.{read_authority}
@@ -12,6 +14,7 @@ use Rattle.iref_grammar.specs.Keys.{text_order}
 use Rattle.iref_model.specs.AuthorityKey.{authority_key, authority_key_cmp}
 use Rattle.iref_model.specs.PathKey.{path_key, path_key_cmp}
 use Rattle.iref_model.specs.Key.{key}
+use Rattle.iref_model.proofs.KeyOrderLemmas.{authority_keys_separate, authority_keys_total, options_separate, texts_separate, texts_total, tied_exactly}
 use Rattle.iref_model.proofs.TieLemmas.{texts_tie, authorities_tie, paths_tie, both_tie_by, option_map_twice, options_tie_through}
 
 -- values that have a text and may be absent, by their texts in lower case, and as they are decoded
@@ -32,6 +35,18 @@ module _ {A : Type 0} (text : A → Text) (a b : Option A) where
       let left = ap (option_map authority_key) (option_map_twice text read_authority a) in
       let right = ap (option_map authority_key) (option_map_twice text read_authority b) in
       (λ e. left ∙ tie.0 e ∙ sym right, λ e. tie.1 (sym left ∙ e ∙ right))
+
+-- and as equality tests them
+module _ {A : Type 0} (text : A → Text) (a b : Option A) where
+  pub schemes_tested : option_eq (λ x y. is_eq (text_order (str_to_ascii_lowercase (text x)) (str_to_ascii_lowercase (text y)))) a b
+      ≡ is_eq (option_cmp text_order (option_map str_to_ascii_lowercase (option_map text a)) (option_map str_to_ascii_lowercase (option_map text b)))
+  schemes_tested = same_from_decides _ _ (lower_case_tie text a b) (tied_exactly (options_total texts_total) (options_separate text_order texts_separate) _ _)
+
+  pub authorities_tested : option_eq (λ x y. is_eq (authority_key_cmp (authority_key (read_authority (text x))) (authority_key (read_authority (text y))))) a b
+      ≡ is_eq (option_cmp authority_key_cmp (option_map authority_key (option_map read_authority (option_map text a))) (option_map authority_key (option_map read_authority (option_map text b))))
+  authorities_tested = same_from_decides _ _ (authority_parts_tie text a b) (tied_exactly (options_total authority_keys_total) (options_separate authority_key_cmp authority_keys_separate) _ _)
+
+pub ruleset parts_tested = (schemes_tested, authorities_tested)
 
 -- the components, the scheme by any test that decides its key
 pub parts_tie : {A Q F : Type 0} (authority : A → Text) (query : Q → Text) (fragment : F → Text) (same_scheme : Bool) (s t : Option Text)

@@ -1,5 +1,5 @@
 -- Texts of references that lead from a base to a target, the way back from resolution (RFC 3986 section 5.2).
-use Rattle.std.specs.Prelude.{◌≡◌, Bool, false, true, ◌&&◌, ◌||◌, is_none, is_some}
+use Rattle.std.specs.Prelude.{◌≡◌, false, true, is_some}
 use Rattle.iref_grammar.specs.Rules.{Text}
 use Rattle.iref_grammar.specs.Reference.{ReferenceValue, read_reference}
 use Rattle.iref_model.specs.Key.{AreAlike}
@@ -7,10 +7,6 @@ use Rattle.iref_model.specs.Relative.{relative_to}
 use Rattle.iref_model.specs.RelativeLaws.{ClimbsLeast, DoAgree, IsOnlyPath, Leads}
 use Rattle.iref_model.specs.Resolution.{resolved}
 use Rattle.iref_reference_text.specs.Steps.{Spells}
-
--- it takes its scheme from any base
-abbrev pub takes_scheme : ReferenceValue → Bool
-takes_scheme target = is_none target.scheme && (is_some target.authority || target.path.absolute)
 
 -- the text spells what leads from the base to the target, and is read as that
 abbrev pub IsRelative : Text → Text → Text → Type 0

@@ -1,7 +1,7 @@
 //! Borrowed references (RFC 3986 sections 3 and 4.1).
 ghost use Rattle.std.specs.Prelude.{IfOk, IfSome, is_some, ◌≡◌, true, [], ◌∷◌, Some, None};
 ghost use Rattle.std.specs.Prelude.{option_map};
-ghost use Rattle.iref_reference_text.specs.{is_readable};
+ghost use Rattle.iref_reference_text.specs.{AreComponents, is_readable, texts_of, value_of};
 ghost use Rattle.iref_component.specs.{text_of, spell_components, hierarchy, spell, hash_sign};
 ghost use Rattle.iref_component.specs.{spell_authority, with_query, with_fragment};
 ghost use Rattle.iref_component.specs.{user_info_of, host_of, port_of, base_of, spell_path, before};
@@ -21,6 +21,7 @@ use iref_component::rule::{AllowsEmpty, Refuses};
 use iref_error::{InvalidUri, Memory};
 use iref_grammar::chars::CharSet;
 use iref_parse::cut::cut;
+use iref_parse::split::{ReferenceSlices, split_reference};
 use iref_reference_text::base::base_text;
 use iref_reference_text::reference_text::HeldRule;
 use std::alloc::Global;
@@ -91,6 +92,16 @@ impl<'a, R: HeldRule, C: CharSet> Reference<'a, R, C> {
         ensures { result.now ≡ reference_text self.now }
     {
         self.as_str().as_bytes()
+    }
+
+    // The components, as slices.
+    #[inline(always)]
+    pub(crate) fn slices(&self) -> ReferenceSlices<'a>
+        ensures value { value_of result ≡ reference_value self.now }
+        ensures components { AreComponents C.tests (texts_of result) }
+        ensures readable { is_readable C.tests (reference_value self.now) ≡ true }
+    {
+        split_reference(self.as_str())
     }
 
     // The components, with a scheme if there is one.

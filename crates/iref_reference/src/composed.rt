@@ -1,8 +1,9 @@
 //! References that are composed of the components of others, and not written yet (RFC 3986 sections
 //! 5.2 and 5.3).
 ghost use Rattle.iref_reference_text.specs.MeasuredReferences.{IsComposed, measured_components};
-ghost use Rattle.iref_reference_text.specs.{MeasuredReferences.{spell_texts}, Relatives.{agree}};
-ghost use Rattle.iref_reference_text.specs.{Steps.{Spells}, is_readable, value_of};
+ghost use Rattle.iref_reference_text.specs.MeasuredReferences.{spell_texts};
+ghost use Rattle.iref_reference_text.specs.{AreComponents, Steps.{Spells}, is_readable, texts_of};
+ghost use Rattle.iref_reference_text.specs.{value_of};
 ghost use Rattle.iref_grammar.specs.{Rules.{Text}, Texts.{is_empty}};
 ghost use Rattle.iref_model.specs.{Relative.{relative_to}, Resolution.{resolved}};
 ghost use Rattle.iref_reference.specs.References.{reference_buf_text};
@@ -75,20 +76,20 @@ impl<'a, R: HeldRule, C: CharSet> Composed<'a, R, C> {
         Composed::of_components(MeasuredReference::resolved(base, reference))
     }
 
-    // What leads from a base to a target, given whether their schemes and authorities agree.
+    // What leads from a base to a target.
     pub(crate) fn relative_to(
-        agrees: bool,
         target: ReferenceSlices<'a>,
         base: ReferenceSlices<'a>,
     ) -> Result<Self, Memory>
-        requires agrees { agrees ≡ agree (value_of target) (value_of base) }
-        requires target { is_readable C.tests (value_of target) ≡ true }
+        requires readable { is_readable C.tests (value_of target) ≡ true }
+        requires target { AreComponents C.tests (texts_of target) }
+        requires base { AreComponents C.tests (texts_of base) }
         requires allowed { R.allows_scheme
             (relative_to (value_of target) (value_of base)).scheme ≡ true }
         ensures { IfOk result (Spells (relative_to (value_of target.entry) (value_of base.entry))) }
     {
         count_paths(base.path, target.path)?;
-        Composed::of_components(MeasuredReference::relative_to(agrees, target, base))
+        Composed::of_components(MeasuredReference::relative_to::<C>(target, base))
     }
 
     /// How many bytes the text has: `http://a/g` has 10.

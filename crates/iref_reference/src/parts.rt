@@ -11,7 +11,6 @@ ghost use Rattle.iref_component.specs.{parts_value as authority_parts_value};
 ghost use Rattle.iref_reference.specs.Parts.{part_texts, parts_value, uri_ref_part_texts};
 ghost use Rattle.iref_reference.specs.Parts.{key_of_parts, uri_ref_parts_key, scheme_key};
 ghost use Rattle.iref_reference.specs.Parts.{uri_part_texts, uri_parts_value, uri_ref_parts_value};
-ghost use Rattle.iref_model.specs.Relative.{have_same_authority, have_same_scheme};
 ghost use Rattle.iref_model.proofs.PartTieLemmas.{lower_case_tie, parts_tie};
 ghost use Rattle.iref_model.proofs.TieLemmas.{texts_tie};
 
@@ -166,7 +165,8 @@ impl<'a, S: SchemePart<'a>, C: CharSet> Parts<'a, S, C> {
 
     // The slices of the components.
     pub(crate) fn slices(&self) -> ReferenceSlices<'a>
-        ensures { texts_of result ≡ part_texts S.text self.now }
+        ensures texts { texts_of result ≡ part_texts S.text self.now }
+        ensures components { AreComponents C.tests (texts_of result) }
     {
         ReferenceSlices {
             scheme: text_of(self.scheme.to_option()),
@@ -174,19 +174,6 @@ impl<'a, S: SchemePart<'a>, C: CharSet> Parts<'a, S, C> {
             path: self.path.as_str(),
             query: text_of(self.query),
             fragment: text_of(self.fragment),
-        }
-    }
-
-    // The same components, with a scheme if there is one.
-    pub(crate) fn to_reference_parts(&self) -> UriRefParts<'a, C>
-        ensures { uri_ref_part_texts result ≡ part_texts S.text self.now }
-    {
-        UriRefParts {
-            scheme: self.scheme.to_option(),
-            authority: self.authority,
-            path: self.path,
-            query: self.query,
-            fragment: self.fragment,
         }
     }
 }
@@ -206,22 +193,6 @@ impl<'a, C: CharSet> UriRefParts<'a, C> {
             ≡ eq_by_cmp key_cmp (uri_ref_parts_key self.now) (uri_ref_parts_key other.now) }
     {
         self == other
-    }
-
-    // Whether the schemes are equal, or both absent.
-    pub(crate) fn has_scheme_of(&self, other: &Self) -> bool
-        ensures { result
-            ≡ have_same_scheme (uri_ref_parts_value self.now) (uri_ref_parts_value other.now) }
-    {
-        self.scheme == other.scheme
-    }
-
-    // Whether the authorities are equal, or both absent.
-    pub(crate) fn has_authority_of(&self, other: &Self) -> bool
-        ensures { result
-            ≡ have_same_authority (uri_ref_parts_value self.now) (uri_ref_parts_value other.now) }
-    {
-        self.authority == other.authority
     }
 
     // The components of a URI, if there is a scheme.

@@ -1,12 +1,12 @@
 //! References that lead from a base to a target, the way back from resolution (RFC 3986 section
 //! 5.2).
-ghost use Rattle.iref_reference_text.specs.{Relatives.{agree}, Steps.{Spells}, is_readable};
-ghost use Rattle.iref_model.specs.Relative.{relative_to, schemes_agree};
+ghost use Rattle.iref_reference_text.specs.{Steps.{Spells}, is_readable};
+ghost use Rattle.iref_model.specs.Relative.{relative_to};
 ghost use Rattle.iref_reference.specs.Parts.{parts_value, uri_ref_parts_value};
 ghost use Rattle.iref_reference.specs.References.{reference_buf_text, reference_buf_value};
 ghost use Rattle.iref_reference.specs.References.{reference_text, reference_value};
 ghost use Rattle.iref_reference.specs.Relatives.{ClimbsNoMore, IsRelative, LeadsThere};
-ghost use Rattle.iref_reference.specs.Relatives.{LeadsToTarget, WritesPathAlone, takes_scheme};
+ghost use Rattle.iref_reference.specs.Relatives.{LeadsToTarget, WritesPathAlone};
 ghost use Rattle.std.specs.Prelude.{◌≡◌, IfOk, true};
 
 use crate::borrowed::{Reference, UriRef};
@@ -18,28 +18,6 @@ use iref_grammar::chars::CharSet;
 use iref_reference_text::reference_text::HeldRule;
 use std::alloc::Global;
 
-// Whether the target takes its scheme from any base.
-fn takes_scheme<C: CharSet>(target: &UriRefParts<'_, C>) -> bool
-    ensures { result ≡ takes_scheme (uri_ref_parts_value target.now) }
-{
-    target.scheme.is_none() && (target.authority.is_some() | target.path.is_absolute())
-}
-
-// Whether the schemes are equal, or the target takes the base's.
-fn schemes_agree<C: CharSet>(target: &UriRefParts<'_, C>, base: &UriRefParts<'_, C>) -> bool
-    ensures { result
-        ≡ schemes_agree (uri_ref_parts_value target.now) (uri_ref_parts_value base.now) }
-{
-    target.has_scheme_of(base) || takes_scheme(target)
-}
-
-// Whether a reference to the target may leave out scheme and authority.
-fn agree<C: CharSet>(target: &UriRefParts<'_, C>, base: &UriRefParts<'_, C>) -> bool
-    ensures { result ≡ agree (uri_ref_parts_value target.now) (uri_ref_parts_value base.now) }
-{
-    schemes_agree(target, base) && target.has_authority_of(base)
-}
-
 impl<'a, S: SchemePart<'a>, C: CharSet> Parts<'a, S, C> {
     /// What leads to the reference of these components from that of others, not written yet: from
     /// `http://a/b/c/d` to `http://a/b` it is `../../b`. `Memory` says that its length cannot be
@@ -49,25 +27,11 @@ impl<'a, S: SchemePart<'a>, C: CharSet> Parts<'a, S, C> {
         ensures { IfOk result (Spells
             (relative_to (parts_value S.text self.now) (uri_ref_parts_value base.now))) }
     {
-        let target = self.to_reference_parts();
-        let agrees = agree(&target, base);
-        Composed::relative_to(agrees, target.slices(), base.slices())
+        Composed::relative_to(self.slices(), base.slices())
     }
 }
 
 impl<'a, R: HeldRule, C: CharSet> Reference<'a, R, C> {
-    // As `relative_to`, not written yet.
-    fn composed_relative_to(&self, base: UriRef<'a, C>) -> Result<ComposedUriRef<'a, C>, Memory>
-        ensures text { IfOk result (IsRelative (reference_text self.now)
-            (reference_text base.entry)) }
-        ensures target { is_readable C.tests (reference_value self.now) ≡ true }
-        ensures base { is_readable C.tests (reference_value base.entry) ≡ true }
-    {
-        let target = UriRefParts::of_text(self.as_str());
-        let base = UriRefParts::of_text(base.as_str());
-        target.relative_to(&base)
-    }
-
     /// A reference that leads from a base to this one: from `http://a/b/c/d` to `http://a/b` it is
     /// `../../b`. What differs in scheme or authority is given whole.
     pub fn relative_to(&self, alloc: Global, base: UriRef<'_, C>) -> Result<UriRefBuf<C>, Memory>
@@ -82,7 +46,7 @@ impl<'a, R: HeldRule, C: CharSet> Reference<'a, R, C> {
         ensures least { IfOk result (λ answer. ClimbsNoMore (reference_value self.now)
             (reference_value base.entry) (reference_buf_value answer)) }
     {
-        let reference = self.composed_relative_to(base)?;
+        let reference = ComposedUriRef::<C>::relative_to(self.slices(), base.slices())?;
         reference.to_owned(alloc)
     }
 }

@@ -21,6 +21,7 @@ use std::alloc::Global;
 pub type Suffix<'a, C> = (PathBuf<C>, Option<Query<'a, C>>, Option<Fragment<'a, C>>);
 
 // Whether the schemes are equal, and the authorities.
+#[tactic(auto, using(iref_model::proofs::PartTieLemmas::parts_tested), unfolding(iref_model::specs::Key::key))]
 fn share_scheme_and_authority<C: CharSet>(
     prefix: &UriRefParts<'_, C>,
     parts: &UriRefParts<'_, C>,
@@ -29,7 +30,7 @@ fn share_scheme_and_authority<C: CharSet>(
         ≡ have_same_scheme (uri_ref_parts_value prefix.now) (uri_ref_parts_value parts.now)
         && have_same_authority (uri_ref_parts_value prefix.now) (uri_ref_parts_value parts.now) }
 {
-    prefix.has_scheme_of(parts) && prefix.has_authority_of(parts)
+    prefix.scheme == parts.scheme && prefix.authority == parts.authority
 }
 
 impl<'a, R: HeldRule, C: CharSet> Reference<'a, R, C> {

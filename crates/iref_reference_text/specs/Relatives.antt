@@ -3,7 +3,6 @@ use Rattle.std.specs.Prelude.{Bool, not, ◌&&◌, ◌||◌, None, is_some}
 use Rattle.iref_grammar.specs.Rules.{Text}
 use Rattle.iref_grammar.specs.Texts.{is_empty}
 use Rattle.iref_grammar.specs.ComponentTexts.{ComponentTexts}
-use Rattle.iref_grammar.specs.PathValue.{PathValue}
 use Rattle.iref_grammar.specs.Reference.{ReferenceValue}
 use Rattle.iref_model.specs.NormalList.{normal_segments}
 use Rattle.iref_model.specs.Relative.{have_same_authority, schemes_agree}
@@ -12,11 +11,7 @@ use Rattle.iref_model.specs.Relative.{have_same_authority, schemes_agree}
 abbrev pub agree : ReferenceValue → ReferenceValue → Bool
 agree target base = schemes_agree target base && have_same_authority target base
 
--- the empty path may stand for this one, where neither query nor fragment follows
-abbrev pub stays_empty : PathValue → Bool
-stays_empty p = is_empty (normal_segments p) || not p.absolute
-
--- a query or a fragment follows the path, or it may stay empty with neither
+-- a query or a fragment follows the path, or the empty path may stand for it with neither
 abbrev pub may_end_here : ReferenceValue → Bool
 may_end_here target = is_some target.query || is_some target.fragment || is_empty (normal_segments target.path) || not target.path.absolute
 

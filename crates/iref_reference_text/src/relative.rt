@@ -1,31 +1,48 @@
 //! What leads from a base to a target, the way back from resolution (RFC 3986 section 5.2).
-ghost use Rattle.iref_reference_text.specs.Relatives.{after_path, agree, may_end_here, stays_empty};
+ghost use Rattle.iref_reference_text.specs.Relatives.{after_path, agree, may_end_here};
 ghost use Rattle.iref_reference_text.specs.MeasuredReferences.{IsReady, measured_components};
-ghost use Rattle.iref_parse.specs.{spell_components, texts_of, value_of};
-ghost use Rattle.iref_model.specs.{read_path, relative_to, Relative.{is_same_place}};
+ghost use Rattle.iref_parse.specs.{AreComponents, spell_components, texts_of, value_of};
+ghost use Rattle.iref_model.specs.{relative_to, Relative.{is_same_place}};
 ghost use Rattle.iref_path.specs.MeasuredPaths.{IsMeasured, measured_text};
 ghost use Rattle.std.specs.Prelude.{◌≡◌, ◌+◌, ◌*◌, ◌<◌, ◌^◌, length};
 
 use crate::measured::MeasuredReference;
+use iref_component::authority::Authority;
+use iref_component::borrowed::borrowed_of;
+use iref_component::named_texts::Scheme;
+use iref_grammar::chars::CharSet;
 use iref_parse::split::ReferenceSlices;
-use iref_path::both_ends::BothEnds;
 use iref_path::counted::path_texts_eq;
 use iref_path::measured::MeasuredPath;
 use iref_path::segments::split_root;
 
-// Whether the empty path may stand for this one, with no query and no fragment after it.
-fn stays_empty(path: &str) -> bool
-    ensures { result ≡ stays_empty (read_path path.now) }
+// Whether a reference to the target may leave out scheme and authority: they are equal, or the target
+// takes its scheme from any base.
+#[tactic(auto, using(iref_model::proofs::PartTieLemmas::parts_tested), unfolding(iref_model::specs::Key::key))]
+fn agree<C: CharSet>(target: ReferenceSlices<'_>, base: ReferenceSlices<'_>) -> bool
+    requires target { AreComponents C.tests (texts_of target) }
+    requires base { AreComponents C.tests (texts_of base) }
+    ensures { result ≡ agree (value_of target.entry) (value_of base.entry) }
 {
-    !split_root(path).0 || BothEnds::new(path).1 == 0
+    let scheme: Option<Scheme<'_>> = borrowed_of(target.scheme);
+    let same_scheme = scheme == borrowed_of(base.scheme);
+    let has_root = target.authority.is_some() | split_root(target.path).0;
+    let schemes_agree = same_scheme | (target.scheme.is_none() & has_root);
+    if !schemes_agree {
+        return false;
+    }
+    let authority: Option<Authority<'_, C>> = borrowed_of(target.authority);
+    authority == borrowed_of(base.authority)
 }
 
-// Whether the target has a query or a fragment, or a path that may stay empty with neither.
+// Whether the target has a query or a fragment, or a path for which the empty one may stand with
+// neither: a relative one, or one with no normal segments, as `/` has none.
 fn may_end_here(target: ReferenceSlices<'_>) -> bool
     ensures { result ≡ may_end_here (value_of target.entry) }
 {
     let has_end = target.query.is_some() | target.fragment.is_some();
-    has_end || stays_empty(target.path)
+    let ends_anyway = has_end | !split_root(target.path).0;
+    ends_anyway || path_texts_eq(target.path, "/")
 }
 
 // Whether the empty path leads to the target: it stands for the base's path, and for its query
@@ -33,24 +50,25 @@ fn may_end_here(target: ReferenceSlices<'_>) -> bool
 fn is_same_place(target: ReferenceSlices<'_>, base: ReferenceSlices<'_>) -> bool
     ensures { result ≡ is_same_place (value_of target.entry) (value_of base.entry) }
 {
-    if !path_texts_eq(target.path, base.path) {
+    let keeps_query = target.query.is_some() | base.query.is_none();
+    if !keeps_query {
         return false;
     }
-    let keeps_query = target.query.is_some() | base.query.is_none();
-    keeps_query && may_end_here(target)
+    path_texts_eq(target.path, base.path) && may_end_here(target)
 }
 
 impl<'a> MeasuredReference<'a> {
     /// What leads from the base to the target: the empty path, steps from the base's directory, or
     /// the target whole.
-    pub fn relative_to(agrees: bool, target: ReferenceSlices<'a>, base: ReferenceSlices<'a>) -> Self
-        requires agrees { agrees ≡ agree (value_of target) (value_of base) }
+    pub fn relative_to<C: CharSet>(target: ReferenceSlices<'a>, base: ReferenceSlices<'a>) -> Self
+        requires target { AreComponents C.tests (texts_of target) }
+        requires base { AreComponents C.tests (texts_of base) }
         requires room { 3 * length base.path.now + length target.path.now + 16 < 2 ^ 64 }
         ensures texts { measured_components result ≡ spell_components
             (relative_to (value_of target.entry) (value_of base.entry)) }
         ensures ready { IsReady result }
     {
-        if !agrees {
+        if !agree::<C>(target, base) {
             return MeasuredReference::whole(target);
         }
         if is_same_place(target, base) {

@@ -7,4 +7,4 @@ use Rattle.iref_reference.proofs.parts.Parts.resolved.Goals as goal
 
 pub resolved-requires-clause-allowed : goal.resolved-requires-clause-allowed
 resolved-requires-clause-allowed g c =
-    scheme_of_base (value_of c.slices.result) (value_of c.slices-2.result) (ap (λ (t : ComponentTexts). is_some t.scheme) c.slices.ensures)
+    scheme_of_base (value_of c.slices.result) (value_of c.slices-2.result) (ap (λ (t : ComponentTexts). is_some t.scheme) c.slices.ensures.texts)
