@@ -1,19 +1,25 @@
 -- A path with its guard is spelled by what stands before it and its own text.
 use Rattle.std.proofs.Common.{arith, ◌≡◌, Bool, true, false, cond, List, [], ◌∷◌, ◌++◌}
-use Rattle.std.specs.Prelude.{codes}
+use Rattle.std.specs.Prelude.{codes, if◌then◌else◌}
 use Rattle.iref_grammar.specs.declared.context.PathContext.{PathContext}
 use Rattle.iref_grammar.specs.Rules.{Text}
 use Rattle.iref_grammar.specs.PathValue.{PathValue, spell_path, read_path}
 use Rattle.iref_grammar.specs.Contexts.{fits}
 use Rattle.iref_grammar.proofs.PathLemmas.{read_path-reads}
 use Rattle.iref_model.specs.Guard.{guarded}
-use Rattle.iref_path.specs.GuardTexts.{guard_text}
+use Rattle.iref_path.specs.Spelling.{guard, needs_guard}
 
 abbrev context_with : Bool → Bool → PathContext
 context_with has_scheme has_authority = record { has_scheme = has_scheme; has_authority = has_authority }
 
 abbrev path_with : Bool → List Text → PathValue
 path_with absolute segments = record { absolute = absolute; segments = segments }
+
+-- before a list that begins with this segment
+abbrev pub guard_text : PathContext → Bool → Text → Text
+guard_text context absolute first =
+    let dotted = needs_guard context absolute first in
+    if absolute then (if dotted then codes "/." else []) else guard context.has_authority dotted
 
 -- the text of a path that is read from a text
 pub no_guard : (context : PathContext) (text : Text) (absolute : Bool) → read_path text ≡ path_with absolute [] → text ≡ spell_path (guarded context (read_path text))

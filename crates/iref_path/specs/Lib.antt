@@ -22,7 +22,6 @@ pub mod CountedPath
 pub mod BothEnds
 pub mod PathParts
 pub mod StepTexts
-pub mod GuardTexts
 pub mod Merged
 pub mod Ways
 pub mod Bodies

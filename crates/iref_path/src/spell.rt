@@ -98,9 +98,9 @@ pub(crate) fn write_items(mut left: Way<'_>, buffer: &mut [u8], end: usize) -> u
     write_closed(left, buffer, start)
 }
 
-/// Whether the text holds a `:`.
+// Whether the text holds a `:`.
 #[inline]
-pub fn has_colon(text: &str) -> bool
+fn has_colon(text: &str) -> bool
     ensures { result ≡ list_any (λ c. c == colon) text.now }
 {
     text.bytes().any(|byte| byte == b':')

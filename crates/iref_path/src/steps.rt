@@ -44,7 +44,7 @@ pub fn pushed<'a, C: CharSet>(context: PathContext, path: &str, segment: &'a str
     } else if segment == ".." {
         pop_text(context, path, "/")
     } else {
-        lazy_pushed::<C>(context, path, segment)
+        push_text(context, path, segment, "")
     }
 }
 

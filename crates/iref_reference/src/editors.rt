@@ -106,8 +106,8 @@ impl<R: HeldRule, C: CharSet> ReferenceBuf<R, C> {
             (offsets_of (reference_buf_text self.old)).path.end }
         ensures reference { is_reference C.tests (reference_buf_text self.old) ≡ true }
     {
-        let context = self.inner.context();
-        let range = self.inner.path_range();
-        PathMut::of_target(self, context, range)
+        let lengths = self.inner.lengths();
+        let range = lengths.path_start()..lengths.query_mark();
+        PathMut::of_target(self, lengths.context(), range)
     }
 }

@@ -160,8 +160,8 @@ impl<R: HeldRule, C: CharSet> ReferenceText<R, C> {
         self.lengths().offsets()
     }
 
-    // How long the components are, which are those of a readable reference that the rule allows.
-    fn lengths(&self) -> Lengths
+    /// How long the components are, which are those of a readable reference that the rule allows.
+    pub fn lengths(&self) -> Lengths
         ensures lengths { result ≡ lengths_of (read_reference self.now) }
         ensures readable { is_readable C.tests (read_reference self.now) ≡ true }
         ensures allowed { R.allows_scheme (read_reference self.now).scheme ≡ true }

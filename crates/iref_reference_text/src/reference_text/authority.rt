@@ -25,7 +25,7 @@ impl<R: HeldRule, C: CharSet> Target<AuthorityPart, C> for ReferenceText<R, C> {
     }
 
     fn part(&self, after: (), at: Span) -> &str {
-        &self.as_str()[at.start..at.end]
+        &self.text.as_str()[at.start..at.end]
     }
 
     fn replace(&mut self, after: (), at: Span, by: Change<'_>) -> Result<usize, Memory> {

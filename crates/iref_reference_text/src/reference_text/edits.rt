@@ -181,8 +181,8 @@ impl<R: HeldRule, C: CharSet> ReferenceText<R, C> {
         self.lengths().fragment_mark()..self.text.as_str().len()
     }
 
-    /// Where the path stands.
-    pub fn path_range(&self) -> Range<usize>
+    // Where the path stands.
+    pub(super) fn path_range(&self) -> Range<usize>
         ensures range { result ≡ (offsets_of self.now).path }
         ensures in_rule { R.test C.tests self.now ≡ true }
         ensures within { IsWithin self.now result }

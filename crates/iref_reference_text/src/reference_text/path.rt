@@ -1,7 +1,7 @@
 //! The path of a held reference as a part that is edited in place, and as a normal one (RFC 3986
 //! sections 3.3 and 5.2.4).
 ghost use Rattle.std.specs.Prelude.{◌≡◌, ◌||◌, ◌&&◌, not, true, OnErr, OnOk};
-ghost use Rattle.iref_component.specs.{read_path, context_of};
+ghost use Rattle.iref_component.specs.{read_path};
 ghost use Rattle.iref_component.specs.{read_reference, spell, is_path, is_empty, with_path};
 ghost use Rattle.iref_model.specs.ComponentSteps.{with_new_normal_path};
 ghost use Rattle.iref_reference_text.specs.PathRanges.{IsPathOf, one_path, path_is_within, RemovesDots};
@@ -35,7 +35,7 @@ impl<R: HeldRule, C: CharSet> Target<PathPart, C> for ReferenceText<R, C> {
     }
 
     fn part(&self, after: PathContext, at: Span) -> &str {
-        &self.as_str()[at.start..at.end]
+        &self.text.as_str()[at.start..at.end]
     }
 
     fn replace(&mut self, after: PathContext, at: Span, by: Change<'_>) -> Result<usize, Memory> {
@@ -56,13 +56,6 @@ impl<R: HeldRule, C: CharSet> PathTarget<C> for ReferenceText<R, C> {
 }
 
 impl<R: HeldRule, C: CharSet> ReferenceText<R, C> {
-    /// What stands before the path.
-    pub fn context(&self) -> PathContext
-        ensures { result ≡ context_of (read_reference self.now) }
-    {
-        self.lengths().context()
-    }
-
     /// Sets the path and normalizes it, as one edit.
     pub fn set_and_normalize_path(&mut self, path: &str) -> Result<(), Memory>
         requires { is_path C.tests path.now ≡ true }
@@ -75,13 +68,14 @@ impl<R: HeldRule, C: CharSet> ReferenceText<R, C> {
             (read_reference self.new)) }
         ensures err { OnErr result (self.new ≡ self.old) }
     {
-        let context = self.context();
+        let old = self.lengths();
+        let context = old.context();
         let absolute = is_absolute_after(context, path);
         let normal = normalized_text::<C>(*self.text.allocator(), context, absolute, path)?;
         let normal = normal.as_str();
         let lengths = Lengths {
             path: normal.len(),
-            ..self.lengths()
+            ..old
         };
         let change = Change {
             within: self.path_range(),

@@ -1,4 +1,5 @@
 use Rattle.std.proofs.Common.{sym, ap, ◌∙◌}
+use Rattle.std.proofs.lemmas.List.{append-nil}
 use Rattle.iref_grammar.specs.PathValue.{read_path, spell_path}
 use Rattle.iref_path.proofs.StepTextLemmas.{closed_spelled}
 use Rattle.iref_path.proofs.PopTextLemmas.{pushed_dot, pushed_parent, pushed_name}
@@ -17,4 +18,6 @@ returns-then-eq-2 g c =
 
 pub returns-else-eq-2 : goal.returns-else-eq-2
 returns-else-eq-2 g c =
-    steps_as g.C.CharSet.tests c.args.context _ _ c.args.path.now _ (pushed_name c.args.context c.args.segment.now _ (sym c.if-eq.ensures) (sym c.if-eq-2.ensures)) c.lazy_pushed.ensures
+    let step = pushed-step g.C.CharSet.tests c.args.context (read_path c.args.path.now) c.args.segment.now c.requires.segment in
+    steps_by g.C.CharSet.tests g.met.C.CharSet.above_ascii c.args.context _ c.args.path.now _ step c.requires.path c.push_text.ensures.within
+    (c.push_text.ensures.text ∙ append-nil _ ∙ ap spell_path (sym (pushed_name c.args.context c.args.segment.now _ (sym c.if-eq.ensures) (sym c.if-eq-2.ensures))))

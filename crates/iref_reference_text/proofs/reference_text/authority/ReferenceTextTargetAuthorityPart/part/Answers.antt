@@ -6,10 +6,10 @@ pub range-requires-clause-start_le_end : goal.range-requires-clause-start_le_end
 range-requires-clause-start_le_end g c = (authority_range_within g.C.CharSet.tests g.met.C.CharSet.above_ascii c.args.self.now c.args.at c.requires).start_le_end
 
 pub range-requires-clause-start_boundary : goal.range-requires-clause-start_boundary
-range-requires-clause-start_boundary g c = λ _. rw c.as_str.ensures.text (authority_range_within g.C.CharSet.tests g.met.C.CharSet.above_ascii c.args.self.now c.args.at c.requires).start
+range-requires-clause-start_boundary g c = λ _. rw (c.as_str.ensures.value, c.self.view_is) (authority_range_within g.C.CharSet.tests g.met.C.CharSet.above_ascii c.args.self.now c.args.at c.requires).start
 
 pub range-requires-clause-end_boundary : goal.range-requires-clause-end_boundary
-range-requires-clause-end_boundary g c = rw c.as_str.ensures.text (authority_range_within g.C.CharSet.tests g.met.C.CharSet.above_ascii c.args.self.now c.args.at c.requires).end
+range-requires-clause-end_boundary g c = rw (c.as_str.ensures.value, c.self.view_is) (authority_range_within g.C.CharSet.tests g.met.C.CharSet.above_ascii c.args.self.now c.args.at c.requires).end
 
 pub returns-clause-test : goal.returns-clause-test
 returns-clause-test g c =
