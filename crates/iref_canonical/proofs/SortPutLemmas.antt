@@ -124,6 +124,7 @@ sorted_pieces (c ∷ cs) h = by (c == slash) (sorted_pieces cs) h
         let kept = (and_parts (is_kept_byte c) (is_kept p) both.0).1 in
         ap (λ s. 1 ∷ (s ++ flat_map sort_item ps)) (kept_sorted (c ∷ p) both.0) ∙ ap (λ s. 1 ∷ (c ∷ (s ++ flat_map sort_item ps))) (sym (kept_sorted p kept))
         ∙ ap (λ s. 1 ∷ (c ∷ drop 1 s)) (e (λ i. kept i && both.1 i))
+
     by : (b : Bool) → (AreKept (pieces_at slash cs) → flat_map sort_item (pieces_at slash cs) ≡ 1 ∷ (segment_bytes cs ++ 0 ∷ []))
         → AreKept (cond b ([] ∷ pieces_at slash cs) (onto_first c (pieces_at slash cs)))
         → flat_map sort_item (cond b ([] ∷ pieces_at slash cs) (onto_first c (pieces_at slash cs))) ≡ 1 ∷ ((cond b (0 ∷ 1 ∷ []) (c ∷ []) ++ segment_bytes cs) ++ 0 ∷ [])
