@@ -3,10 +3,9 @@ use Rattle.std.proofs.Common.{◌≡◌, ◌∷◌, ◌++◌, [], refl, sym, ◌
 use Rattle.std.specs.Prelude.{Option, Some, None, codes, is_some, option_map}
 use Rattle.std.specs.Str.{str_to_ascii_lowercase}
 use Rattle.percent_encoding.specs.Percent.{percent_decode}
-use Rattle.iref_grammar.specs.declared.context.PathContext.{PathContext}
 use Rattle.iref_grammar.specs.Characters.{uri_chars}
 use Rattle.iref_grammar.specs.ComponentTexts.{ComponentTexts, read_components}
-use Rattle.iref_grammar.specs.Grammar.{colon, hash_sign, is_fragment_char, is_query_char, question_mark}
+use Rattle.iref_grammar.specs.Grammar.{colon, hash_sign, is_fragment_char, question_mark}
 use Rattle.iref_grammar.specs.Authority.{read_authority, spell_authority}
 use Rattle.iref_grammar.specs.PathValue.{read_path, spell_path}
 use Rattle.iref_grammar.specs.Reference.{context_of, spell}

@@ -1,9 +1,8 @@
 -- The last byte that a text decodes to.
-use Rattle.std.proofs.Common.{◌≡◌, ℕ, zero, suc, ◌+◌, ◌*◌, ◌-◌, ◌<◌, ◌≤◌, Bool, true, false, [], ◌∷◌, ◌++◌, get_or, length, take, drop, refl, sym, ◌∙◌, ap, arith}
+use Rattle.std.proofs.Common.{◌≡◌, ℕ, zero, suc, ◌+◌, ◌*◌, ◌<◌, true, false, [], ◌∷◌, ◌++◌, get_or, length, take, refl, sym, ◌∙◌, ap, arith}
 use Rattle.std.proofs.lemmas.Grind.{common_steps}
-use Rattle.std.specs.Char.{digit_value, is_digit}
+use Rattle.std.specs.Char.{digit_value}
 use Rattle.std.proofs.lemmas.Bool.Decides.{nat_tests}
-use Rattle.std.proofs.lemmas.List.{take_more, take_all}
 use Rattle.percent_encoding.specs.Percent.{is_escape, percent_decode}
 use Rattle.iref_grammar.specs.Rules.{Text}
 use Rattle.iref_canonical.specs.Decoded.{SplitsLast, ends_in_escape}

@@ -1,6 +1,5 @@
 -- What decides on the guard of a canonical path: whether the first item is empty, and whether it has a `:`.
-use Rattle.std.proofs.Common.{◌≡◌, ℕ, ◌+◌, ◌*◌, ◌/◌, ◌%◌, ◌<◌, ◌≤◌, Bool, true, false, not, cond, ◌&&◌, ◌||◌, List, [], ◌∷◌, ◌++◌, map, length, refl, sym, ◌∙◌, ap, arith}
-use Rattle.std.proofs.lemmas.Grind.{common_steps}
+use Rattle.std.proofs.Common.{◌≡◌, ℕ, ◌*◌, ◌/◌, ◌%◌, ◌<◌, ◌≤◌, Bool, true, false, not, cond, ◌&&◌, ◌||◌, List, [], ◌∷◌, ◌++◌, map, length, refl, sym, ◌∙◌, ap, arith}
 use Rattle.std.specs.Prelude.{codes, ◌==◌}
 use Rattle.std.specs.Char.{char_set_contains}
 use Rattle.std.specs.Fmt.{digit_glyph}
@@ -22,11 +21,10 @@ use Rattle.iref_model.specs.PathKey.{path_key}
 use Rattle.iref_model.proofs.RewritingLemmas.{not_lone}
 use Rattle.iref_model.proofs.SettledLemmas.{lone-normal}
 use Rattle.iref_path.specs.BothEnds.{first_or}
-use Rattle.iref_path.specs.Spelling.{each_closed, guard, guard_in, needs_guard}
+use Rattle.iref_path.specs.Spelling.{each_closed, guard, guard_in}
 use Rattle.iref_path.proofs.SpellLemmas.{list-spelled, size-cons}
 use Rattle.iref_canonical.specs.Canonical.{canonical_items, canonical_name, canonical_path, canonical_relative, encoded}
 use Rattle.iref_canonical.specs.SpelledItems.{spelled_items, standing_of}
-use Rattle.iref_canonical.proofs.EncodedTextLemmas.{encoded-nil}
 use Rattle.iref_canonical.proofs.SpelledItemLemmas.{spelled-none, spelled-relative}
 
 -- both are empty or neither, and both have a `:` or neither

@@ -3,7 +3,7 @@ use Rattle.std.proofs.Common.{arith, ◌≡◌, ℕ, ◌+◌, ◌*◌, ◌<◌, 
 use Rattle.std.proofs.lemmas.Grind.{common_steps}
 use Rattle.std.proofs.lemmas.Bool.Decides.{nat_tests}
 use Rattle.std.proofs.lemmas.List.{append-nil, drop_more, take_more_set, map-append, take_at, drop_at, length-take, length-map, length-drop}
-use Rattle.std.specs.List.{flat_map, list_all}
+use Rattle.std.specs.List.{flat_map}
 use Rattle.std.specs.Char.{to_ascii_lowercase}
 use Rattle.std.specs.Prelude.{map, option_map, Option, Some, None, ◌-◌}
 use Rattle.iref_path.specs.Written.{WritesBefore}
@@ -12,7 +12,7 @@ use Rattle.percent_encoding.proofs.PercentLemmas.{length-percent_decode, percent
 use Rattle.iref_grammar.specs.Authority.{AuthorityValue}
 use Rattle.iref_grammar.specs.Rules.{Text}
 use Rattle.iref_canonical.specs.SortKey.{sort_byte, sort_option, sort_text, sort_authority}
-use Rattle.iref_canonical.specs.SortBytes.{is_kept_byte, is_kept, IsBegun}
+use Rattle.iref_canonical.specs.SortBytes.{is_kept, IsBegun}
 
 -- ---- lengths
 

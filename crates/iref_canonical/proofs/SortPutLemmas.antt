@@ -1,5 +1,5 @@
 -- Sort keys put from the front.
-use Rattle.std.proofs.Common.{arith, ◌≡◌, ℕ, ◌+◌, ◌*◌, ◌-◌, ◌<◌, ◌≤◌, ◌++◌, ◌∷◌, [], List, Bool, true, false, length, take, drop, refl, sym, ◌∙◌, ap, subst, cond, ◌&&◌, append_assoc, length-append, length-take, length-drop}
+use Rattle.std.proofs.Common.{arith, ◌≡◌, ℕ, ◌+◌, ◌≤◌, ◌++◌, ◌∷◌, [], List, Bool, true, false, length, take, drop, refl, sym, ◌∙◌, ap, subst, cond, ◌&&◌, append_assoc, length-append, length-take, length-drop}
 use Rattle.std.proofs.lemmas.Bool.{and_parts}
 use Rattle.std.proofs.lemmas.List.{append-nil, length-map, map-append, take_at}
 use Rattle.std.specs.List.{flat_map, list_all, onto_first}
@@ -18,7 +18,7 @@ use Rattle.iref_parse.specs.declared.split.ReferenceSlices.{ReferenceSlices}
 use Rattle.iref_canonical.specs.SortBytes.{is_kept_byte, is_kept, are_kept_parts}
 use Rattle.iref_canonical.specs.SortItems.{AreKept}
 use Rattle.iref_canonical.specs.SortKey.{sort_authority, sort_item, sort_key, sort_list, sort_option, sort_path, sort_text}
-use Rattle.iref_canonical.specs.SortPuts.{Puts, lowered, segment_byte, segment_bytes}
+use Rattle.iref_canonical.specs.SortPuts.{Puts, lowered, segment_bytes}
 use Rattle.iref_canonical.proofs.SortByteLemmas.{kept_sorted, length-sort_authority, option-lower, sort_text-lower}
 use Rattle.iref_canonical.proofs.SortableLemmas.{length-sort_key}
 

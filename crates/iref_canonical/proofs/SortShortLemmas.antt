@@ -1,14 +1,13 @@
 -- Sort keys of short texts whose bytes stand in them as they are: what they are, and that there is room.
-use Rattle.std.proofs.Common.{arith, ◌≡◌, ℕ, ◌+◌, ◌*◌, ◌<◌, ◌≤◌, ◌++◌, ◌∷◌, [], List, Bool, true, false, length, refl, sym, ◌∙◌, ap, subst, cond, length-append}
+use Rattle.std.proofs.Common.{arith, ◌≡◌, ℕ, ◌+◌, ◌*◌, ◌≤◌, ◌++◌, ◌∷◌, [], Bool, true, false, length, refl, sym, ◌∙◌, ap, cond, length-append}
 use Rattle.std.proofs.lemmas.Bool.{and_parts}
 use Rattle.std.proofs.lemmas.List.Splits.{length-slice_split}
 use Rattle.std.proofs.lemmas.List.Sums.{count_by-le-length}
-use Rattle.std.specs.List.{count_by, list_all}
 use Rattle.std.specs.Option.{option_copied}
 use Rattle.std.specs.Prelude.{codes, option_map, Option, None, Some, ◌&&◌, ◌==◌}
 use Rattle.std.specs.Str.{str_to_ascii_lowercase}
 use Rattle.percent_encoding.specs.Percent.{percent_decode}
-use Rattle.iref_grammar.specs.Authority.{AuthorityValue, read_authority, spell_authority}
+use Rattle.iref_grammar.specs.Authority.{AuthorityValue, spell_authority}
 use Rattle.iref_grammar.specs.ComponentTexts.{ComponentTexts, spell_components}
 use Rattle.iref_grammar.specs.Grammar.{at_sign, colon, hash_sign, question_mark, slash}
 use Rattle.iref_grammar.specs.PathValue.{PathValue, read_path, segments_of}
@@ -27,7 +26,7 @@ use Rattle.iref_canonical.specs.SortBytes.{is_kept, are_kept_parts}
 use Rattle.iref_canonical.specs.SortItems.{AreKept}
 use Rattle.iref_canonical.specs.SortKey.{sort_authority, sort_item, sort_key, sort_list, sort_option, sort_text}
 use Rattle.iref_canonical.specs.SortPuts.{IsKept, IsShort, lowered}
-use Rattle.iref_canonical.proofs.SortByteLemmas.{kept_decodes, kept_sorted}
+use Rattle.iref_canonical.proofs.SortByteLemmas.{kept_decodes}
 use Rattle.iref_canonical.proofs.SortItemLemmas.{kept_key, kept_path, kept_size}
 use Rattle.iref_canonical.proofs.SortPutLemmas.{all_size, kept_host, option_size, parts_size}
 use Rattle.iref_canonical.proofs.SortableLemmas.{HasKeptParts, parts_kept_in, text_kept}

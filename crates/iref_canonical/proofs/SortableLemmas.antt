@@ -1,9 +1,8 @@
 -- Each component of a text without escapes, whose bytes stand in sort keys as they are, is such a text.
-use Rattle.std.proofs.Common.{arith, ◌≡◌, ℕ, ◌+◌, Bool, true, ◌++◌, ◌∷◌, [], List, length, refl, sym, ◌∙◌, ap, Option, Some, None, length-append}
+use Rattle.std.proofs.Common.{arith, ◌≡◌, ◌+◌, Bool, true, ◌++◌, ◌∷◌, [], List, length, refl, sym, ◌∙◌, ap, Option, Some, None, length-append}
 use Rattle.std.proofs.lemmas.Bool.{and_from, and_parts}
 use Rattle.std.proofs.lemmas.List.Folds.{list_all-append}
-use Rattle.std.specs.List.{list_all}
-use Rattle.std.specs.Prelude.{codes, option_map, ◌&&◌}
+use Rattle.std.specs.Prelude.{codes, option_map}
 use Rattle.iref_grammar.specs.Authority.{AuthorityValue, spell_authority, read_authority}
 use Rattle.iref_grammar.specs.Grammar.{colon, at_sign, question_mark, hash_sign}
 use Rattle.iref_grammar.specs.PathValue.{spell_path}

@@ -1,9 +1,8 @@
 -- The items of a canonical path as they are written from the back.
-use Rattle.std.proofs.Common.{◌≡◌, ℕ, zero, suc, ◌+◌, ◌-◌, ◌<◌, ◌≤◌, Bool, true, false, not, cond, ◌&&◌, ◌||◌, List, [], ◌∷◌, ◌++◌, map, length, refl, sym, ◌∙◌, ap, subst, append_assoc, arith}
+use Rattle.std.proofs.Common.{◌≡◌, ℕ, zero, suc, ◌+◌, ◌-◌, ◌≤◌, Bool, true, false, not, cond, ◌&&◌, List, [], ◌∷◌, ◌++◌, map, length, refl, sym, ◌∙◌, ap, subst, arith}
 use Rattle.std.proofs.lemmas.Grind.{common_steps}
 use Rattle.std.proofs.lemmas.List.{length-map}
-use Rattle.std.specs.Prelude.{codes, nat_lt, nat_eq, ◌==◌}
-use Rattle.std.specs.Char.{char_set_contains}
+use Rattle.std.specs.Prelude.{codes, nat_lt}
 use Rattle.std.specs.List.{join_with_byte}
 use Rattle.std.specs.Cmp.Lexicographic.{bytes_decides}
 use Rattle.std.proofs.lemmas.Bool.{and_parts}
@@ -12,11 +11,10 @@ use Rattle.percent_encoding.specs.Percent.{percent_decode}
 use Rattle.iref_grammar.specs.Grammar.{slash}
 use Rattle.iref_grammar.specs.Rules.{Text}
 use Rattle.iref_grammar.specs.Texts.{is_empty}
-use Rattle.iref_grammar.specs.PathValue.{PathValue}
 use Rattle.iref_model.specs.NormalList.{is_dot_dot}
 use Rattle.iref_path.specs.Spelling.{each_closed}
 use Rattle.iref_path.proofs.SpellLemmas.{each_closed-append, joined_before}
-use Rattle.iref_canonical.specs.Canonical.{canonical_items, canonical_name, canonical_relative}
+use Rattle.iref_canonical.specs.Canonical.{canonical_name, canonical_relative}
 use Rattle.iref_canonical.specs.SpelledItems.{spelled_item, spelled_items, standing_before, standing_of}
 
 -- ---- how many stand

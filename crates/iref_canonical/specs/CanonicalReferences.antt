@@ -1,5 +1,5 @@
 -- The canonical text of a reference that is measured before it is written.
-use Rattle.std.specs.Prelude.{◌≡◌, ◌∷◌, ◌++◌, [], codes, option_map}
+use Rattle.std.specs.Prelude.{◌∷◌, ◌++◌, [], codes, option_map}
 use Rattle.std.specs.Option.{option_copied}
 use Rattle.std.specs.Str.{str_to_ascii_lowercase}
 use Rattle.iref_grammar.specs.Grammar.{colon, hash_sign, question_mark}

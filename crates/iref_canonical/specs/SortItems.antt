@@ -1,6 +1,5 @@
 -- The items of a path, of which the last are written into a sort key, and others are left.
-use Rattle.std.specs.Prelude.{◌≡◌, ℕ, ◌+◌, true, List, ◌++◌, Option, length, drop}
-use Rattle.std.specs.Borrow.{Bor}
+use Rattle.std.specs.Prelude.{◌≡◌, ℕ, ◌+◌, true, List, ◌++◌, length, drop}
 use Rattle.std.specs.List.{flat_map, list_all}
 use Rattle.iref_grammar.specs.Rules.{Text}
 use Rattle.iref_path.specs.BothEnds.{IsSound, decoded_left}

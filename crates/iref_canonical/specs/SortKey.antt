@@ -1,5 +1,5 @@
 -- Sort keys of references (RFC 3986 section 6.2.2): bytes in whose order the keys stand in theirs.
-use Rattle.std.specs.Prelude.{ℕ, Bool, ◌==◌, List, [], ◌∷◌, ◌++◌, Option, None, Some, if◌then◌else◌}
+use Rattle.std.specs.Prelude.{ℕ, ◌==◌, List, [], ◌∷◌, ◌++◌, Option, None, Some, if◌then◌else◌}
 use Rattle.std.specs.List.{flat_map}
 use Rattle.iref_grammar.specs.Authority.{AuthorityValue}
 use Rattle.iref_grammar.specs.PathValue.{PathValue}

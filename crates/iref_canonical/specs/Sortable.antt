@@ -1,5 +1,5 @@
 -- The components of a reference as a sort key has them.
-use Rattle.std.specs.Prelude.{◌≡◌, Bool, true, ◌&&◌, Option, option_map}
+use Rattle.std.specs.Prelude.{◌≡◌, Bool, true, Option, option_map}
 use Rattle.std.specs.Option.{option_copied}
 use Rattle.std.specs.Str.{str_to_ascii_lowercase}
 use Rattle.percent_encoding.specs.Percent.{percent_decode}

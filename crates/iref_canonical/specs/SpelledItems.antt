@@ -1,5 +1,5 @@
 -- The items of a canonical path as they are written, and how many of them are `..` that stand.
-use Rattle.std.specs.Prelude.{◌≡◌, ℕ, zero, suc, ◌-◌, ◌≤◌, ◌<◌, ◌^◌, Bool, not, ◌&&◌, List, [], ◌∷◌, ◌++◌, map, codes, length, if◌then◌else◌}
+use Rattle.std.specs.Prelude.{◌≡◌, ℕ, zero, suc, ◌-◌, ◌≤◌, Bool, not, ◌&&◌, List, [], ◌∷◌, ◌++◌, map, codes, length, if◌then◌else◌}
 use Rattle.std.specs.List.{join_with_byte}
 use Rattle.percent_encoding.specs.Percent.{percent_decode}
 use Rattle.iref_grammar.specs.Grammar.{slash}

@@ -1,4 +1,4 @@
-use Rattle.std.proofs.Common.{◌≡◌, ◌+◌, ◌≤◌, ◌<◌, ◌^◌, length}
+use Rattle.std.proofs.Common.{◌≡◌, ◌+◌, ◌<◌, ◌^◌, length}
 use Rattle.iref_path.specs.Merged.{IsMergeSound, merged_left}
 use Rattle.iref_canonical.specs.SpelledItems.{decoded_left, standing_before, standing_of}
 use Rattle.iref_canonical.proofs.path.count_standing.Given as goal

@@ -1,6 +1,6 @@
 use Rattle.std.proofs.Common.{arith}
 use Rattle.iref_path.specs.Merged.{merged_left}
-use Rattle.iref_canonical.proofs.SpelledItemLemmas.{joined-end, joined-step, one_less}
+use Rattle.iref_canonical.proofs.SpelledItemLemmas.{joined-end, joined-step}
 use Rattle.iref_canonical.proofs.path.put_items.Goals as goal
 
 pub put_name-requires : goal.put_name-requires

@@ -1,4 +1,4 @@
-use Rattle.std.proofs.Common.{arith, get_or, drop, ◌+◌}
+use Rattle.std.proofs.Common.{arith, drop, ◌+◌}
 use Rattle.std.proofs.lemmas.List.{drop_more}
 use Rattle.iref_canonical.proofs.SortByteLemmas.{none_counted, counted_within, length-sort_text}
 use Rattle.iref_canonical.proofs.sort_bytes.bytes_len.Goals as goal

@@ -1,4 +1,4 @@
-use Rattle.std.proofs.Common.{arith, ◌≡◌, [], drop, subst}
+use Rattle.std.proofs.Common.{subst}
 use Rattle.std.proofs.lemmas.List.{drop_all}
 use Rattle.iref_canonical.specs.SortBytes.{IsBegun}
 use Rattle.iref_canonical.proofs.SortByteLemmas.{none_begun, ended}

@@ -1,5 +1,4 @@
-use Rattle.std.proofs.Common.{arith}
-use Rattle.iref_canonical.proofs.SortItemLemmas.{none_written, room_left, within_left, more_written, all_written}
+use Rattle.iref_canonical.proofs.SortItemLemmas.{none_written}
 use Rattle.iref_canonical.proofs.sort_path.write_items.Goals as goal
 
 pub loop-item-init : goal.loop-item-init

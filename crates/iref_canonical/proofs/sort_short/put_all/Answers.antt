@@ -1,4 +1,4 @@
-use Rattle.std.proofs.Common.{arith, ap, length, ◌≡◌, ◌+◌, ◌++◌, sym, ◌∙◌}
+use Rattle.std.proofs.Common.{arith, ◌++◌}
 use Rattle.std.specs.Option.{option_copied}
 use Rattle.std.specs.Prelude.{option_map}
 use Rattle.std.specs.Str.{str_to_ascii_lowercase}

@@ -1,12 +1,10 @@
-use Rattle.std.proofs.Common.{◌≡◌, List, [], length, map, ap, sym, ◌∙◌, arith}
+use Rattle.std.proofs.Common.{[], arith}
 use Rattle.std.proofs.lemmas.List.{length-map}
 use Rattle.percent_encoding.specs.Percent.{percent_decode}
 use Rattle.iref_grammar.specs.PathValue.{read_path}
-use Rattle.iref_grammar.specs.Texts.{is_empty}
-use Rattle.iref_grammar.specs.Rules.{Text}
 use Rattle.iref_path.specs.Merged.{merged_left}
 use Rattle.iref_path.specs.BothEnds.{first_or}
-use Rattle.iref_path.proofs.SpellLemmas.{list_size, read_size}
+use Rattle.iref_path.proofs.SpellLemmas.{read_size}
 use Rattle.iref_canonical.specs.SpelledItems.{canonical_path_text, decoded_left}
 use Rattle.iref_canonical.proofs.ShapeLemmas.{AreLike, first-decoded, path-spelled}
 use Rattle.iref_canonical.proofs.SpelledItemLemmas.{standing-few}

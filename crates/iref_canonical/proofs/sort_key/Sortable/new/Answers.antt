@@ -2,10 +2,8 @@ use Rattle.std.proofs.Common.{◌≡◌, true, ap, refl, sym, ◌∙◌, option_
 use Rattle.std.specs.Option.{option_copied}
 use Rattle.std.specs.Str.{str_to_ascii_lowercase}
 use Rattle.percent_encoding.specs.Percent.{percent_decode}
-use Rattle.iref_grammar.specs.Authority.{AuthorityValue}
 use Rattle.iref_grammar.specs.ComponentTexts.{ComponentTexts}
 use Rattle.iref_grammar.specs.Reference.{read_reference}
-use Rattle.iref_grammar.specs.Rules.{Text}
 use Rattle.iref_grammar.specs.Tests.{none_or}
 use Rattle.iref_model.specs.AuthorityKey.{authority_key}
 use Rattle.iref_model.specs.Key.{key}

@@ -1,7 +1,7 @@
-use Rattle.std.proofs.Common.{arith, ap, sym, subst, ◌∙◌, true, false}
+use Rattle.std.proofs.Common.{ap, sym, subst, ◌∙◌}
 use Rattle.std.specs.Prelude.{map}
 use Rattle.percent_encoding.specs.Percent.{percent_decode}
-use Rattle.iref_grammar.specs.PathValue.{PathValue, read_path}
+use Rattle.iref_grammar.specs.PathValue.{PathValue}
 use Rattle.iref_model.specs.PathKey.{path_key}
 use Rattle.iref_parse.specs.Dots.{has_dot_segment}
 use Rattle.iref_canonical.specs.SortItems.{AreKept}
