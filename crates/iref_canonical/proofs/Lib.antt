@@ -23,4 +23,5 @@ pub mod SortByteLemmas
 pub mod SortItemLemmas
 pub mod SortableLemmas
 pub mod SortPutLemmas
+pub mod SortBlockLemmas
 pub mod SortShortLemmas

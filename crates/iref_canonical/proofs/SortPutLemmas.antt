@@ -1,7 +1,7 @@
 -- Sort keys put from the front.
-use Rattle.std.proofs.Common.{arith, ◌≡◌, ℕ, ◌+◌, ◌≤◌, ◌++◌, ◌∷◌, [], List, Bool, true, false, length, take, drop, refl, sym, ◌∙◌, ap, subst, cond, ◌&&◌, append_assoc, length-append, length-take, length-drop}
+use Rattle.std.proofs.Common.{arith, ◌≡◌, ℕ, ◌+◌, ◌++◌, ◌∷◌, [], List, Bool, true, false, length, take, drop, refl, sym, ◌∙◌, ap, subst, cond, ◌&&◌, append_assoc, length-append}
 use Rattle.std.proofs.lemmas.Bool.{and_parts}
-use Rattle.std.proofs.lemmas.List.{append-nil, length-map, map-append, take_at}
+use Rattle.std.proofs.lemmas.List.{append-nil, length-map, map-append}
 use Rattle.std.specs.List.{flat_map, list_all, onto_first}
 use Rattle.std.specs.Char.{to_ascii_lowercase}
 use Rattle.std.specs.Prelude.{map, option_map, Option, None, Some, ◌==◌}
@@ -24,16 +24,6 @@ use Rattle.iref_canonical.proofs.SortableLemmas.{length-sort_key}
 
 pub both_put : (front back : Text) {at mid end : ℕ} {old half new : Text} → Puts at front old half mid → Puts mid back half new end → Puts at (front ++ back) old new end
 both_put front back h k = let r = h.range in let w = h.written in let s = k.range in let v = k.written in record { range = grind (arith, length-append); written = grind (arith, append_assoc); len = k.len ∙ h.len }
-
--- a text that is copied to an index
-pub copied : (at k : ℕ) (text old new : Text) → k ≡ length text → at + length text ≤ length old → new ≡ take at old ++ (text ++ drop k (drop at old)) → Puts at text old new (at + length text)
-copied at k text old new same room e =
-    let whole = e ∙ sym (append_assoc (take at old) text (drop k (drop at old))) in
-    record {
-      range = refl;
-      written = ap (take (at + length text)) whole ∙ take_at (take at old ++ text) (drop k (drop at old)) (at + length text) (grind (arith, length-append, length-take));
-      len = grind (arith, length-append, length-take, length-drop);
-    }
 
 -- ---- bytes one by one
 

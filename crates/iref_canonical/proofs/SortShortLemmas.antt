@@ -3,18 +3,23 @@ use Rattle.std.proofs.Common.{arith, ◌≡◌, ℕ, ◌+◌, ◌*◌, ◌≤◌
 use Rattle.std.proofs.lemmas.Bool.{and_parts}
 use Rattle.std.proofs.lemmas.List.Splits.{length-slice_split}
 use Rattle.std.proofs.lemmas.List.Sums.{count_by-le-length}
+use Rattle.std.specs.Borrow.{Bor}
+use Rattle.std.specs.List.{join_with_byte}
 use Rattle.std.specs.Option.{option_copied}
-use Rattle.std.specs.Prelude.{codes, option_map, Option, None, Some, ◌&&◌, ◌==◌}
+use Rattle.std.specs.Prelude.{IfSome, codes, option_map, Option, None, Some, ◌&&◌, ◌==◌}
 use Rattle.std.specs.Str.{str_to_ascii_lowercase}
 use Rattle.percent_encoding.specs.Percent.{percent_decode}
 use Rattle.iref_grammar.specs.Authority.{AuthorityValue, spell_authority}
 use Rattle.iref_grammar.specs.ComponentTexts.{ComponentTexts, spell_components}
 use Rattle.iref_grammar.specs.Grammar.{at_sign, colon, hash_sign, question_mark, slash}
-use Rattle.iref_grammar.specs.PathValue.{PathValue, read_path, segments_of}
+use Rattle.iref_grammar.specs.PathValue.{PathValue, read_path, segments_of, spell_path}
 use Rattle.iref_grammar.specs.Reference.{ReferenceValue, read_reference, spell}
 use Rattle.iref_grammar.specs.Rules.{Text}
 use Rattle.iref_grammar.specs.Tests.{none_or}
 use Rattle.iref_grammar.specs.Texts.{part_then, pieces_at, then_part}
+use Rattle.iref_grammar.proofs.PathLemmas.{read_path-reads}
+use Rattle.iref_grammar.proofs.TextLemmas.{join-pieces_at}
+use Rattle.iref_path.specs.Pieces.{pieces_if_some}
 use Rattle.iref_grammar.proofs.ReferenceCutLemmas.{read_reference-spelled}
 use Rattle.iref_model.specs.AuthorityKey.{authority_key}
 use Rattle.iref_model.specs.Key.{key}
@@ -84,6 +89,16 @@ path_room (c ∷ cs) h = by (c == slash) h
     by true k = omega (arith, segments_room cs k)
     by false k = segments_room (c ∷ cs) k
 
+-- the segments of a path are not longer than it
+pub segments_short : (path : Text) (absolute : Bool) (segments : Option (Bor Text)) → read_path path ≡ record { absolute = absolute; segments = pieces_if_some segments } → length path ≤ 96
+    → IfSome segments (λ text. length text.now ≤ 96)
+unfolding spell_path
+segments_short path absolute None e h = tt
+segments_short path absolute (Some text) e h =
+    let size = ap length (sym (read_path-reads path).spelled) ∙ ap (λ (p : PathValue). length (spell_path p)) e ∙ length-append (cond absolute (slash ∷ []) []) (join_with_byte slash (pieces_at slash text.now)) in
+    let same = ap length (join-pieces_at slash text.now) in
+    omega arith
+
 -- ---- slices of a short text
 
 module _ (text : Text) (s : ReferenceSlices) (value : value_of s ≡ read_reference text) (texts : texts_of s ≡ spell_components (read_reference text)) (short : IsShort text s.path.now) where
@@ -124,7 +139,10 @@ module _ (text : Text) (s : ReferenceSlices) (value : value_of s ≡ read_refere
       ∙ ap (λ (t : ComponentTexts). length (part_then (colon ∷ []) t.scheme ++ then_part (codes "//") t.authority ++ t.path ++ then_part (question_mark ∷ []) t.query ++ then_part (hash_sign ∷ []) t.fragment)) (sym texts)
       ∙ grind (arith, length-append)
 
-  pub short_room : length (sort_key (lowered (value_of s))) ≤ 256
+  pub path_short : length s.path.now ≤ 96
+  path_short = omega (arith, text_size, short.len)
+
+  pub short_room : length (sort_key (lowered (value_of s))) ≤ 208
   short_room =
       let size = all_size s (read_path s.path.now).absolute (read_path s.path.now).segments refl in
       let scheme = option_room colon (option_copied s.scheme) slices_kept.scheme in

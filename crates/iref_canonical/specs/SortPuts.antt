@@ -35,7 +35,7 @@ lowered r = record {
 
 -- the sort key of a text with this path is written from the front
 pub record IsShort (text path : Text) : Type 0 where
-  pub len : length text ≤ 122
+  pub len : length text ≤ 96
   pub kept : is_kept text ≡ true
   pub dotless : has_dot_segment path ≡ false
 

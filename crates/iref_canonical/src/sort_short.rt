@@ -1,7 +1,7 @@
 //! Sort keys of short texts whose bytes stand in them as they are, written from the front.
 
-ghost use Rattle.std.specs.Prelude.{◌≡◌, ◌+◌, ◌*◌, ◌<◌, ◌≤◌, ◌++◌, [], ◌∷◌};
-ghost use Rattle.std.specs.Prelude.{OnErr, OnOk, false, if◌then◌else◌, length, option_map, true};
+ghost use Rattle.std.specs.Prelude.{◌≡◌, ℕ, ◌+◌, ◌<◌, ◌≤◌, ◌++◌, [], ◌∷◌, take};
+ghost use Rattle.std.specs.Prelude.{IfSome, OnErr, OnOk, if◌then◌else◌, length, option_map, true};
 ghost use Rattle.std.specs.{Option.{option_copied}, Str.{str_to_ascii_lowercase}};
 ghost use Rattle.iref_grammar.specs.{Authority.{read_authority}, Tests.{none_or}};
 ghost use Rattle.iref_grammar.specs.{ComponentTexts.{spell_components}, Reference.{read_reference}};
@@ -12,20 +12,21 @@ ghost use Rattle.iref_canonical.specs.SortBytes.{is_kept, are_kept_parts};
 ghost use Rattle.iref_canonical.specs.SortItems.{AreKept};
 ghost use Rattle.iref_canonical.specs.SortKey.{sort_authority, sort_item, sort_key, sort_list};
 ghost use Rattle.iref_canonical.specs.SortKey.{sort_option, sort_text};
-ghost use Rattle.iref_canonical.specs.SortPuts.{IsKept, IsShort, Puts, lowered, segment_byte};
+ghost use Rattle.iref_canonical.specs.SortPuts.{IsKept, IsShort, Puts, lowered};
 ghost use Rattle.iref_canonical.specs.SortPuts.{segment_bytes};
 
 use iref_error::Memory;
 use iref_parse::authority::{is_host_alone, split_parts};
+use iref_parse::cut::cut_bytes;
 use iref_parse::dots::has_dots;
 use iref_parse::split::ReferenceSlices;
 use iref_parse::unescaped::is_kept;
 use iref_path::segments::split_root;
 
-// How many bytes a sort key has at most, where the text has `LONGEST`: two for each, and nine.
-const ROOM: usize = 256;
+// Two bytes for each of the longest text, nine more, and a block: with these a sort key is written.
+const ROOM: usize = 224;
 // The length of the longest text whose sort key is written so.
-const LONGEST: usize = 122;
+const LONGEST: usize = 96;
 
 // Puts a byte at an index, and returns where it ends.
 #[inline(always)]
@@ -37,15 +38,24 @@ fn put(buffer: &mut [u8], at: usize, byte: u8) -> usize
     at + 1
 }
 
+// Stores bytes at an index. Any number of the first are put so.
+#[inline(always)]
+fn store(buffer: &mut [u8], at: usize, bytes: &[u8])
+    requires { at + length bytes.now ≤ length buffer.old }
+    ensures { (count : ℕ) → count ≤ length bytes.now
+        → Puts at (take count bytes.now) buffer.old buffer.new (at + count) }
+{
+    buffer[at..at + bytes.len()].copy_from_slice(bytes);
+}
+
 // Puts a text and its end.
 #[inline(always)]
 fn put_text(buffer: &mut [u8], at: usize, text: &str) -> usize
     requires { at + length text.now + 1 ≤ length buffer.old }
     ensures { Puts at (text.now ++ 0 ∷ []) buffer.old buffer.new result }
 {
-    let end = at + text.len();
-    buffer[at..end].copy_from_slice(text.as_bytes());
-    put(buffer, end, 0)
+    store(buffer, at, text.as_bytes());
+    put(buffer, at + text.len(), 0)
 }
 
 // Puts a text that may not be there.
@@ -66,33 +76,55 @@ fn put_option(buffer: &mut [u8], at: usize, text: Option<&str>) -> usize
     }
 }
 
-// Puts a byte of segments. It is stored first, for most bytes are no `/`.
+// Puts where a segment ends and the next begins.
 #[inline(always)]
-fn put_segment_byte(buffer: &mut [u8], at: usize, byte: u8) -> usize
-    requires { at + length (segment_byte byte) ≤ length buffer.old }
-    ensures { Puts at (segment_byte byte) buffer.old buffer.new result }
+fn put_slash(buffer: &mut [u8], at: usize) -> usize
+    requires { at + 1 < length buffer.old }
+    ensures { Puts at (0 ∷ 1 ∷ []) buffer.old buffer.new result }
 {
-    buffer[at] = byte;
-    let end = at + 1;
-    if byte != b'/' {
-        return end;
+    let at = put(buffer, at, 0);
+    put(buffer, at, 1)
+}
+
+// Puts segments, the first `count` bytes of a text, but for where the first begins and the last ends.
+// 16 bytes are stored at once, and those behind a `/` are written over.
+#[inline(always)]
+fn put_segments(buffer: &mut [u8], at: usize, text: &[u8], count: usize) -> usize
+    requires count { count + 16 ≤ length text.now }
+    requires room { at + length (segment_bytes (take count text.now)) + 16
+        ≤ length buffer.old }
+    ensures { Puts at (segment_bytes (take count text.now)) buffer.old buffer.new result }
+{
+    let mut end = at;
+    let mut from = 0;
+    loop {
+        let block = &text[from..from + 16];
+        store(buffer, end, block);
+        let found = cut_bytes(block, b'/').0.len();
+        let left = count - from;
+        if left <= found {
+            return end + left;
+        }
+        if found == 16 {
+            end += 16;
+            from += 16;
+        } else {
+            end = put_slash(buffer, end + found);
+            from += found + 1;
+        }
     }
-    buffer[at] = 0;
-    buffer[end] = 1;
-    end + 1
 }
 
 // Puts segments, but for where the first begins and the last ends.
 #[inline(always)]
-fn put_segments(buffer: &mut [u8], at: usize, segments: &str) -> usize
-    requires { at + length (segment_bytes segments.now) ≤ length buffer.old }
+fn put_padded(buffer: &mut [u8], at: usize, segments: &str) -> usize
+    requires short { length segments.now ≤ 96 }
+    requires room { at + length (segment_bytes segments.now) + 16 ≤ length buffer.old }
     ensures { Puts at (segment_bytes segments.now) buffer.old buffer.new result }
 {
-    let mut end = at;
-    for byte in segments.as_bytes() {
-        end = put_segment_byte(buffer, end, *byte);
-    }
-    end
+    let mut padded = [0u8; 112];
+    padded[..segments.len()].copy_from_slice(segments.as_bytes());
+    put_segments(buffer, at, &padded, segments.len())
 }
 
 // Puts whether a path is absolute.
@@ -108,7 +140,8 @@ fn put_flag(buffer: &mut [u8], at: usize, absolute: bool) -> usize
 #[inline(always)]
 fn put_items(buffer: &mut [u8], at: usize, segments: Option<&str>) -> usize
     requires kept { AreKept (pieces_if_some segments) }
-    requires room { at + length (sort_list sort_item (pieces_if_some segments))
+    requires short { IfSome segments (λ text. length text.now ≤ 96) }
+    requires room { at + length (sort_list sort_item (pieces_if_some segments)) + 16
         ≤ length buffer.old }
     ensures { Puts at (sort_list sort_item (pieces_if_some segments.entry))
         buffer.old buffer.new result }
@@ -116,7 +149,7 @@ fn put_items(buffer: &mut [u8], at: usize, segments: Option<&str>) -> usize
     match segments {
         Some(text) => {
             let at = put(buffer, at, 1);
-            let at = put_segments(buffer, at, text);
+            let at = put_padded(buffer, at, text);
             let at = put(buffer, at, 0);
             put(buffer, at, 0)
         }
@@ -223,7 +256,8 @@ fn put_authority_option(buffer: &mut [u8], at: usize, authority: Option<&str>) -
 #[inline(always)]
 fn put_all(buffer: &mut [u8], slices: ReferenceSlices<'_>) -> usize
     requires kept { IsKept (value_of slices) }
-    requires room { length (sort_key (lowered (value_of slices))) ≤ length buffer.old }
+    requires short { length slices.path.now ≤ 96 }
+    requires room { length (sort_key (lowered (value_of slices))) + 16 ≤ length buffer.old }
     ensures { Puts 0 (sort_key (lowered (value_of slices.entry))) buffer.old buffer.new result }
 {
     let (absolute, segments) = split_root(slices.path);

@@ -7,6 +7,7 @@ use Rattle.iref_grammar.specs.PathValue.{read_path}
 use Rattle.iref_path.specs.Pieces.{pieces_if_some}
 use Rattle.iref_canonical.specs.SortKey.{sort_authority, sort_key, sort_option, sort_path, sort_text}
 use Rattle.iref_canonical.proofs.SortPutLemmas.{all_size, both_put, lower_size, path_put}
+use Rattle.iref_canonical.proofs.SortShortLemmas.{segments_short}
 use Rattle.iref_canonical.proofs.sort_short.put_all.Goals as goal
 
 pub put_scheme-at-requires-clause-room : goal.put_scheme-at-requires-clause-room
@@ -23,6 +24,9 @@ pub put_flag-at-requires : goal.put_flag-at-requires
 put_flag-at-requires c =
     let size = all_size c.args.slices _ _ c.split_root-absolute.ensures.path in
     omega (arith, c.requires.room, size, lower_size (option_copied c.args.slices.scheme), c.put_scheme-at.ensures.range, c.put_scheme-at.ensures.len, c.put_authority_option-at.ensures.range, c.put_authority_option-at.ensures.len)
+
+pub put_items-at-requires-clause-short : goal.put_items-at-requires-clause-short
+put_items-at-requires-clause-short c = segments_short c.args.slices.path.now _ _ c.split_root-absolute.ensures.path c.requires.short
 
 pub put_items-at-requires-clause-room : goal.put_items-at-requires-clause-room
 put_items-at-requires-clause-room c =

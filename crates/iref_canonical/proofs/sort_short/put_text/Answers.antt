@@ -1,12 +1,12 @@
-use Rattle.std.proofs.Common.{arith, ◌++◌, ◌+◌, ◌-◌, [], ◌∷◌, ap, ◌∙◌, take, drop, length}
-use Rattle.iref_canonical.proofs.SortPutLemmas.{both_put, copied}
+use Rattle.std.proofs.Common.{arith, [], ◌∷◌, ◌+◌, ◌∙◌, ap, length, subst, take, take_all}
+use Rattle.iref_canonical.specs.SortPuts.{Puts}
+use Rattle.iref_canonical.proofs.SortPutLemmas.{both_put}
 use Rattle.iref_canonical.proofs.sort_short.put_text.Goals as goal
 
 pub returns : goal.returns
 returns c =
     let at = c.args.at in
     let text = c.args.text.now in
-    let old = c.args.buffer.now in
-    let size = at + length text - at in
-    let same = ap (λ t. take at old ++ (t ++ drop size (drop at old))) (c.copy_from_slice.ensures.after ∙ c.as_bytes.ensures.value) in
-    both_put text (0 ∷ []) (copied at size text old _ (omega arith) (omega (arith, c.requires)) same) c.put.ensures
+    let same = ap (take (length text)) c.as_bytes.ensures.value ∙ take_all (length text) text (omega arith) in
+    let stored = c.store.ensures (length text) (omega (arith, c.as_bytes.ensures.len)) in
+    both_put text (0 ∷ []) (subst (λ t. Puts at t c.args.buffer.now c.store.new.buffer (at + length text)) same stored) c.put.ensures

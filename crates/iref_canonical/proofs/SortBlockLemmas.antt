@@ -1,0 +1,123 @@
+-- Segments put in blocks of 16 bytes, each up to its first slash.
+use Rattle.std.proofs.Common.{arith, ◌≡◌, ℕ, zero, suc, ◌+◌, ◌-◌, ◌<◌, ◌≤◌, ◌++◌, ◌∷◌, [], length, take, drop, refl, sym, ◌∙◌, ap, subst, append_assoc, length-append, length-drop, length-take, take-append-drop}
+use Rattle.std.proofs.lemmas.Bool.Decides.{nat_tests}
+use Rattle.std.proofs.lemmas.Grind.{common_steps, flat_map-append}
+use Rattle.std.proofs.lemmas.List.{append-nil, take_at}
+use Rattle.std.specs.Char.{char_set_contains}
+use Rattle.std.specs.List.{position_or_len}
+use Rattle.iref_grammar.specs.Grammar.{slash}
+use Rattle.iref_grammar.specs.Rules.{Text}
+use Rattle.iref_grammar.specs.Texts.{before}
+use Rattle.iref_canonical.specs.SortPuts.{Puts, segment_byte, segment_bytes}
+use Rattle.iref_canonical.proofs.SortPutLemmas.{IsPutting, all_put, one_put}
+
+abbrev first_slash : Text → ℕ
+first_slash text = position_or_len (char_set_contains (slash ∷ [])) text
+
+take_both : (k m : ℕ) (t : Text) → take (k + m) t ≡ take k t ++ take m (drop k t)
+take_both zero m t = grind (arith, common_steps)
+take_both (suc k) m [] = grind (arith, common_steps)
+take_both (suc k) m (c ∷ cs) = let on : suc k + m ≡ suc (k + m) = omega arith in ap (λ n. take n (c ∷ cs)) on ∙ ap (λ t. c ∷ t) (take_both k m cs)
+
+drop_both : (k m : ℕ) (t : Text) → drop m (drop k t) ≡ drop (k + m) t
+drop_both zero m t = grind (arith, common_steps)
+drop_both (suc k) m [] = grind (arith, common_steps)
+drop_both (suc k) m (c ∷ cs) = let on : suc (k + m) ≡ suc k + m = omega arith in drop_both k m cs ∙ ap (λ n. drop n (c ∷ cs)) on
+
+-- what is left behind some bytes
+pub behind : (from count k : ℕ) (rest : Text) → segment_bytes (take (count - from - k) (drop k (drop from rest))) ≡ segment_bytes (take (count - (from + k)) (drop (from + k) rest))
+behind from count k rest = let same : count - from - k ≡ count - (from + k) = omega arith in (λ i. segment_bytes (take (same i) (drop_both from k rest i)))
+
+-- the bytes before the first slash stand as they are
+no_slash : (n : ℕ) (t : Text) → n ≤ first_slash t → segment_bytes (take n t) ≡ take n t
+no_slash zero t h = grind (arith, common_steps)
+no_slash (suc n) [] h = refl
+no_slash (suc n) (c ∷ cs) h = grind (arith, nat_tests, no_slash n cs)
+
+first_within : (t : Text) → first_slash t ≤ length t
+first_within [] = omega arith
+first_within (c ∷ cs) = grind (arith, nat_tests, first_within cs)
+
+slash_at : (t : Text) → first_slash t < length t → drop (first_slash t) t ≡ slash ∷ drop (first_slash t + 1) t
+slash_at [] h = grind arith
+slash_at (c ∷ cs) h = grind (arith, nat_tests, common_steps, slash_at cs)
+
+take_within : (k n : ℕ) (t : Text) → k ≤ n → take k (take n t) ≡ take k t
+take_within zero n t h = grind (arith, common_steps)
+take_within (suc k) zero t h = grind arith
+take_within (suc k) (suc n) [] h = refl
+take_within (suc k) (suc n) (c ∷ cs) h = ap (λ t. c ∷ t) (take_within k n cs (omega arith))
+
+-- a slash among the first bytes is the first of all
+first_same : (n : ℕ) (t : Text) → first_slash (take n t) < length (take n t) → first_slash t ≡ first_slash (take n t)
+first_same zero t h = grind (arith, common_steps)
+first_same (suc n) [] h = refl
+first_same (suc n) (c ∷ cs) h = grind (arith, nat_tests, first_same n cs)
+
+-- a block that is stored
+pub stored : (at k count : ℕ) (block old new : Text) → k ≡ length block → at + length block ≤ length old → count ≤ length block
+    → new ≡ take at old ++ (block ++ drop k (drop at old)) → Puts at (take count block) old new (at + count)
+stored at k count block old new same room most e =
+    let parts = ap (λ t. take at old ++ (t ++ drop k (drop at old))) (sym (take-append-drop count block)) in
+    let moved = ap (λ t. take at old ++ t) (append_assoc (take count block) (drop count block) (drop k (drop at old))) ∙ sym (append_assoc (take at old) (take count block) (drop count block ++ drop k (drop at old))) in
+    record {
+      range = grind (arith, length-take);
+      written = ap (take (at + count)) (e ∙ parts ∙ moved) ∙ take_at (take at old ++ take count block) (drop count block ++ drop k (drop at old)) (at + count) (grind (arith, length-append, length-take));
+      len = grind (arith, length-append, length-take, length-drop);
+    }
+
+-- ---- one block
+
+module _ (w block : Text) (left f : ℕ) (is : block ≡ take 16 w) (size : length block ≡ 16) (found : f ≡ length (before (slash ∷ []) block)) where
+  place : f ≡ first_slash block
+  place = found ∙ grind (arith, length-take, first_within block)
+
+  same : (k : ℕ) → k ≤ 16 → take k block ≡ take k w
+  same k h = ap (take k) is ∙ take_within k 16 w h
+
+  plain : (k : ℕ) → k ≤ f → segment_bytes (take k block) ≡ take k block
+  plain k h = no_slash k block (omega (arith, place))
+
+  pub within : f ≤ 16
+  within = omega (arith, place, first_within block, size)
+
+  last_is : left ≤ f → segment_bytes (take left w) ≡ take left block ++ []
+  last_is h = ap segment_bytes (sym (same left (omega (arith, within)))) ∙ plain left h ∙ sym (append-nil (take left block))
+
+  whole_is : f ≡ 16 → 16 ≤ left → segment_bytes (take left w) ≡ take 16 block ++ segment_bytes (take (left - 16) (drop 16 w))
+  whole_is e h =
+      let sum : left ≡ 16 + (left - 16) = omega arith in
+      ap (λ n. segment_bytes (take n w)) sum ∙ ap segment_bytes (take_both 16 (left - 16) w) ∙ flat_map-append segment_byte (take 16 w) (take (left - 16) (drop 16 w))
+      ∙ ap (λ t. t ++ segment_bytes (take (left - 16) (drop 16 w))) (ap segment_bytes (sym (same 16 (omega arith))) ∙ plain 16 (omega arith))
+
+  slash_is : f < 16 → f < left → segment_bytes (take left w) ≡ take f block ++ (0 ∷ 1 ∷ segment_bytes (take (left - (f + 1)) (drop (f + 1) w)))
+  slash_is e h =
+      let m = left - (f + 1) in
+      let sum : left ≡ f + suc m = omega arith in
+      let first : first_slash w ≡ f = first_same 16 w (subst (λ t. first_slash t < length t) is (omega (arith, place, size))) ∙ ap first_slash (sym is) ∙ sym place in
+      let cut : drop f w ≡ slash ∷ drop (f + 1) w = subst (λ n. drop n w ≡ slash ∷ drop (n + 1) w) first (slash_at w (omega (arith, first, longer))) in
+      ap (λ n. segment_bytes (take n w)) sum ∙ ap segment_bytes (take_both f (suc m) w) ∙ flat_map-append segment_byte (take f w) (take (suc m) (drop f w))
+      ∙ (λ i. (ap segment_bytes (sym (same f (omega arith))) ∙ plain f (omega arith)) i ++ segment_bytes (take (suc m) (cut i)))
+    where
+      longer : 16 ≤ length w
+      longer = let l = ap length is in omega (arith, size, length-take 16 w)
+
+  -- ---- what it is put to
+
+  module _ (at end : ℕ) (all old mid : Text) (h : IsPutting at all (segment_bytes (take left w)) old mid end) where
+    pub last_put : {new : Text} → left ≤ f → Puts end (take left block) mid new (end + left) → Puts at all old new (end + left)
+    last_put {new} l k = all_put at all old new (end + left) (one_put at all (take left block) [] old mid new end (end + left) (subst (λ t. IsPutting at all t old mid end) (last_is l) h) k)
+
+    pub whole_put : {new : Text} → f ≡ 16 → 16 ≤ left → Puts end (take 16 block) mid new (end + 16) → IsPutting at all (segment_bytes (take (left - 16) (drop 16 w))) old new (end + 16)
+    whole_put {new} e l k =
+        one_put at all (take 16 block) (segment_bytes (take (left - 16) (drop 16 w))) old mid new end (end + 16) (subst (λ t. IsPutting at all t old mid end) (whole_is e l) h) k
+
+    pub slash_room : f < 16 → f < left → end + f + 2 ≤ at + length all
+    slash_room e l = let r = h.range in let b = ap length (slash_is e l) in grind (arith, length-append, length-take)
+
+    pub slash_put : {half new : Text} {last : ℕ} → f < 16 → f < left → Puts end (take f block) mid half (end + f) → Puts (end + f) (0 ∷ 1 ∷ []) half new last
+        → IsPutting at all (segment_bytes (take (left - (f + 1)) (drop (f + 1) w))) old new last
+    slash_put {half} {new} {last} e l k m =
+        let rest = segment_bytes (take (left - (f + 1)) (drop (f + 1) w)) in
+        let first = one_put at all (take f block) (0 ∷ 1 ∷ rest) old mid half end (end + f) (subst (λ t. IsPutting at all t old mid end) (slash_is e l) h) k in
+        one_put at all (0 ∷ 1 ∷ []) rest old half new (end + f) last first m
