@@ -1,5 +1,6 @@
 -- What the operations on vectors of 16 bytes hold at each lane.
 use Rattle.std.proofs.Common.{◌≡◌, ℕ, ◌+◌, ◌*◌, ◌/◌, ◌<◌, List, [], ◌∷◌, Bool, false, not, cond, eqb, ◌&&◌, length, take, length-take-le, get_or, get_or-take, map, replicate, refl, sym, ap, ◌∙◌, arith, w8}
+use Rattle.std.specs.Prelude.{min, nat_lt}
 use Rattle.std.specs.List.{list_all}
 use Rattle.std.specs.Simd.Lanes.{zip2, sel_l, mask_l}
 use Rattle.std.proofs.lemmas.Simd.{length-sel_l, get_or-sel_l, length-zip2, get_or-zip2, get_or-replicate, length-swz_l, get_or-swz_l_below, swz_l, SwzOk, SwzOk-from_below, Each1-from_get_or}
@@ -29,6 +30,20 @@ HasLanes-select t a x y z p =
       each = λ k l.
           get_or-sel_l _ (replicate 16 y) (replicate 16 z) k 0 (omega arith) l l
           ∙ (λ i. cond ((get_or-zip2 t a (replicate 16 x) k 0 0 false (omega arith) l ∙ ap (t (get_or a k 0)) (get_or-replicate 16 k x 0 l)) i) (get_or-replicate 16 k y 0 l i) (get_or-replicate 16 k z 0 l i));
+    }
+
+lesser_of : (x y : ℕ) → cond (nat_lt x y) x y ≡ min x y
+lesser_of x y = grind (arith, nat_tests)
+
+-- a choice of the lesser of two
+pub HasLanes-lesser : (a b : List ℕ) → length a ≡ 16 → length b ≡ 16 → HasLanes (sel_l (zip2 nat_lt a b) a b) (λ k. min (get_or a k 0) (get_or b k 0))
+HasLanes-lesser a b p q =
+    let test : length (zip2 nat_lt a b) ≡ 16 = length-zip2 nat_lt a b (p ∙ sym q) ∙ p in
+    record {
+      long = length-sel_l _ a b (test ∙ sym p) (test ∙ sym q) ∙ test;
+      each = λ k l.
+          get_or-sel_l (zip2 nat_lt a b) a b k 0 (omega arith) (omega arith) (omega arith)
+          ∙ ap (λ t. cond t (get_or a k 0) (get_or b k 0)) (get_or-zip2 nat_lt a b k 0 0 false (omega arith) (omega arith)) ∙ lesser_of (get_or a k 0) (get_or b k 0);
     }
 
 module _ (js : List ℕ) (f : ℕ → ℕ) (h : HasLanes js f) (small : (k : ℕ) → k < 16 → f k < 16) where

@@ -26,3 +26,4 @@ pub mod EncodedTextLemmas
 pub mod WideLemmas
 pub mod CommonLemmas
 pub mod UnescapedLemmas
+pub mod KeptBlockLemmas

@@ -1,6 +1,6 @@
 //! Vectors of 16 bytes, lane by lane.
 ghost use Rattle.std.specs.Prelude.{◌≡◌, ◌+◌, ◌/◌, ◌%◌, ◌≤◌, ◌==◌, if◌then◌else◌, length};
-ghost use Rattle.std.specs.Prelude.{slice_index, bit_and, bit_or, bit_xor};
+ghost use Rattle.std.specs.Prelude.{slice_index, bit_and, bit_or, bit_xor, min};
 ghost use Rattle.std.specs.List.{list_all};
 ghost use Rattle.iref_parse.specs.Lanes.{HasLanes, DifferFirstAt};
 
@@ -26,6 +26,13 @@ pub(crate) fn either(a: u8x16, b: u8x16) -> u8x16
     ensures { HasLanes result (λ k. bit_or (slice_index a k) (slice_index b k)) }
 {
     a | b
+}
+
+#[inline(always)]
+pub(crate) fn lesser(a: u8x16, b: u8x16) -> u8x16
+    ensures { HasLanes result (λ k. min (slice_index a k) (slice_index b k)) }
+{
+    a.simd_min(b)
 }
 
 // A lane is 0 where the two are the same, and else not.

@@ -1,12 +1,13 @@
 //! Whether a text is ASCII, and has no escape; and whether it has neither escapes nor bytes below 2.
 ghost use Rattle.std.proofs.{Common.{refl}, lemmas.Bool.{agree_below_at}};
-ghost use Rattle.std.specs.Prelude.{◌≡◌, ℕ, ◌+◌, ◌<◌, ◌≤◌, ◌==◌, Bool, length, slice_index};
+ghost use Rattle.std.specs.Prelude.{◌≡◌, ℕ, ◌+◌, ◌%◌, ◌<◌, ◌≤◌, ◌==◌, if◌then◌else◌};
+ghost use Rattle.std.specs.Prelude.{Bool, bit_and, length, slice_index};
 ghost use Rattle.std.specs.List.{list_all};
 ghost use Rattle.iref_parse.specs.Lanes.{HasLanes};
 ghost use Rattle.iref_parse.specs.Plain.{is_kept_byte, is_unescaped_byte, kept_mark};
 ghost use Rattle.iref_parse.specs.Plain.{unescaped_mark};
 
-use crate::lanes::{both, either, equal_to, is_clear, load};
+use crate::lanes::{both, either, equal_to, is_clear, lesser, load};
 use crate::position::ends_of;
 use std::simd::prelude::*;
 
@@ -57,6 +58,14 @@ impl ByteRule for UnescapedBytes {
     }
 }
 
+// All bits of a lane of 0 or 1, and none of another.
+#[inline(always)]
+fn below_two(v: u8x16) -> u8x16
+    ensures { HasLanes result (λ k. if bit_and (slice_index v k) 254 == 0 then 255 else 0) }
+{
+    equal_to(both(v, u8x16::splat(254)), 0)
+}
+
 impl ByteRule for KeptBytes {
     ghost allowed = { is_kept_byte };
 
@@ -72,8 +81,7 @@ impl ByteRule for KeptBytes {
     #[inline(always)]
     fn marks(bytes: &[u8], at: usize) -> u8x16 {
         let v = load(bytes, at);
-        let low = equal_to(both(v, u8x16::splat(254)), 0);
-        either(low, equal_to(v, b'%'))
+        either(below_two(v), equal_to(v, b'%'))
     }
 }
 
@@ -135,4 +143,22 @@ pub fn is_kept(bytes: &[u8]) -> bool
     ensures { result ≡ list_all is_kept_byte bytes.now }
 {
     allows_all::<KeptBytes>(bytes)
+}
+
+/// Whether no byte is 0, 1 or `%`, of whole blocks of 16.
+#[inline(always)]
+pub fn are_kept_blocks(bytes: &[u8]) -> bool
+    requires { length bytes.now % 16 ≡ 0 }
+    ensures { result ≡ list_all is_kept_byte bytes.now }
+{
+    let mut least = u8x16::splat(255);
+    let mut percent = u8x16::splat(0);
+    let mut at = 0;
+    while at < bytes.len() {
+        let block = load(bytes, at);
+        least = lesser(least, block);
+        percent = either(percent, equal_to(block, b'%'));
+        at += 16;
+    }
+    is_clear(either(below_two(least), percent))
 }
