@@ -75,10 +75,11 @@ second_slash text h = let e = slashes text h in (omega (arith, ap length e), ome
 
 -- ---- a host alone
 
-lack_both : (first second : ℕ) (text : Text) → position_or_len (char_set_contains (first ∷ second ∷ [])) text ≡ length text
-    → (lacks first text ≡ true) × (lacks second text ≡ true)
-lack_both first second [] h = (refl, refl)
-lack_both first second (c ∷ cs) h = grind (arith, nat_tests, lack_both first second cs)
+-- the text has neither of two characters
+pub lacks_both : (first second : ℕ) (text : Text)
+    → (position_or_len (char_set_contains (first ∷ second ∷ [])) text == length text) ≡ (lacks first text && lacks second text)
+lacks_both first second [] = refl
+lacks_both first second (c ∷ cs) = grind (arith, nat_tests, lacks_both first second cs)
 
 suffix_lacks : (mark end : ℕ) (text : Text) → lacks mark text ≡ true → lacks mark (from_first (end ∷ []) text) ≡ true
 suffix_lacks mark end [] h = refl
@@ -88,11 +89,11 @@ suffix_lacks mark end (c ∷ cs) h = by (suffix_lacks mark end cs (rest_lacks ma
     by k true e = ap (lacks mark) (from_first-yes (end ∷ []) c cs e) ∙ h
     by k false e = ap (lacks mark) (from_first-no (end ∷ []) c cs e) ∙ k
 
-pub without_marks : (text : Text) → position_or_len (char_set_contains (at_sign ∷ colon ∷ [])) text ≡ length text
+pub without_marks : (text : Text) → (lacks at_sign text && lacks colon text) ≡ true
     → read_authority text ≡ record { user_info = None; host = text; port = None }
 unfolding read_authority
 without_marks text h =
-    let both = lack_both at_sign colon text h in
+    let both = and_parts (lacks at_sign text) (lacks colon text) h in
     let none : after at_sign text ≡ None = ap after_first_char (from_first-lacking at_sign text both.0) in
     let bracket = begins_with (left_bracket ∷ []) text in
     rw (none, read_authority) (λ i. record { user_info = None; host = host both.1 bracket i; port = port both.1 bracket i })

@@ -1,6 +1,6 @@
 //! The split of an authority (RFC 3986 section 3.2), and whether a text is one.
 
-ghost use Rattle.std.specs.{Prelude.{◌≡◌, None, true}, Option.{option_copied}};
+ghost use Rattle.std.specs.{Prelude.{◌≡◌, true}, Option.{option_copied}};
 ghost use Rattle.iref_grammar.specs.Authority.{read_authority, read_host_and_port, bracketed};
 ghost use Rattle.iref_grammar.specs.Authority.{after_bracketed, has_authority_parts};
 ghost use Rattle.iref_grammar.specs.Authority as authority;
@@ -10,7 +10,6 @@ ghost use Rattle.iref_parse.specs.AuthoritySlices.{authority_of, is_port_part};
 use crate::cut::{cut, split_before};
 use crate::host::is_host;
 use crate::ipv6::is_ipv6;
-use crate::position::position_of_either;
 use crate::scan::{are_digits, is_port, is_user_info};
 use iref_grammar::chars::CharSet;
 
@@ -52,15 +51,6 @@ fn split_host<'a>(user_info: Option<&'a str>, text: &'a str) -> AuthoritySlices<
         host,
         port,
     }
-}
-
-/// Whether the text has neither `@` nor `:`. As an authority it is a host alone, as `a.b` is.
-#[inline(always)]
-pub fn is_host_alone(text: &str) -> bool
-    ensures { result ≡ true → read_authority text.now
-        ≡ record { user_info = None; host = text.now; port = None } }
-{
-    position_of_either(text.as_bytes(), b'@', b':') == text.len()
 }
 
 /// The parts of the text as an authority.

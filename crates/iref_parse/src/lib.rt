@@ -15,7 +15,7 @@ pub mod ipv6;
 mod lanes;
 mod marked;
 mod plain;
-mod position;
+pub mod position;
 pub mod scan;
 pub mod split;
 pub mod unescaped;
