@@ -1,12 +1,13 @@
 -- A part after an edit within it.
-use Rattle.std.proofs.Common.{◌≡◌, ℕ, ◌+◌, ◌-◌, ◌≤◌, List, length, ◌∙◌, length-append, length-take, length-drop, arith, rules}
+use Rattle.std.proofs.Common.{◌≡◌, ℕ, ◌+◌, ◌-◌, ◌≤◌, List, [], ◌∷◌, Option, length, ◌∙◌, length-append, length-take, length-drop, arith, rules}
 use Rattle.std.specs.List.{splice, slice_range}
 use Rattle.std.specs.Str.{IsCharBoundary}
 use Rattle.std.specs.declared.ops.Range.{Range}
 use Rattle.std.proofs.lemmas.Grind.{common_steps}
 use Rattle.std.proofs.lemmas.List.{places, same_lists}
 use Rattle.iref_grammar.specs.Rules.{Text}
-use Rattle.iref_splice.specs.Changes.{IsWithin, part_at}
+use Rattle.iref_grammar.specs.Texts.{part_then}
+use Rattle.iref_splice.specs.Changes.{IsWithin, part_at, with_mark}
 use Rattle.iref_splice.specs.declared.change.Span.{Span}
 
 splice-within : (bs text : List ℕ) (start end from to : ℕ) → start ≤ from → from ≤ to → to ≤ end → end ≤ length bs → splice bs from to text ≡ splice bs start end (splice (slice_range bs start end) (from - start) (to - start) text)
@@ -65,3 +66,7 @@ part_within text at placed within inside = record {
   start = cut_in_part text at.start at.end within.start placed.start_le_end placed.end inside.start;
   end = cut_in_part text at.start at.end within.end placed.start_le_end placed.end inside.end;
 }
+
+-- a part with the delimiter after it
+pub first_len : (mark : ℕ) (part : Option Text) → with_mark 1 part ≡ length (part_then (mark ∷ []) part)
+first_len mark part = grind (arith, common_steps)

@@ -1,9 +1,9 @@
 //! A range of a text replaced in place.
-ghost use Rattle.std.specs.Prelude.{◌≡◌, ◌+◌, ◌++◌, [], length, OnOk, OnErr, IfOk, IsOk, IsNone};
+ghost use Rattle.std.specs.Prelude.{◌≡◌, ◌+◌, ◌≤◌, ◌++◌, [], length, OnOk, OnErr, IfOk, IsOk, IsNone};
 ghost use Rattle.std.specs.{Option.{option_copied}, String.{string_bytes}};
 ghost use Rattle.iref_grammar.specs.Texts.{part_then, then_part};
 ghost use Rattle.iref_splice.specs.Changes.{IsNoLonger, IsWithin, changed, changed_at};
-ghost use Rattle.iref_splice.specs.Changes.{changed_part, part_at};
+ghost use Rattle.iref_splice.specs.Changes.{changed_part, part_at, with_mark};
 
 use crate::bytes;
 use crate::change::{Change, Span};
@@ -44,6 +44,17 @@ pub fn replace_part(text: &mut String, at: Span, by: Change<'_>) -> Result<usize
     let within = at.start + by.within.start..at.start + by.within.end;
     replace(text, Change { within, ..by })?;
     Ok(text.as_str().len() - behind)
+}
+
+/// How long a part is with its delimiter, or 0 without a part: of a scheme of 4 bytes 5.
+pub fn marked_len(mark: usize, part: Option<&str>) -> usize
+    requires { mark ≤ 2 }
+    ensures { result ≡ with_mark mark (option_copied part.entry) }
+{
+    match part {
+        Some(part) => mark + part.len(),
+        None => 0,
+    }
 }
 
 /// The delimiter and the part, or nothing.
