@@ -123,6 +123,8 @@ fn write_over(path: &mut [u8], guard: &str) -> usize
 }
 
 // Writes it over the path that is at `at`, and returns how many bytes of the path stand before it.
+// Inlined beside what cuts, its loops would take an instruction more a segment.
+#[inline(never)]
 fn write_at(bytes: &mut [u8], at: Span, guard: &str) -> usize
     requires start_le_end { at.start ≤ at.end }
     requires in_bounds { at.end ≤ length bytes.old }
