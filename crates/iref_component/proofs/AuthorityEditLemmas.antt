@@ -1,13 +1,13 @@
 -- A part of an authority replaced in its text.
-use Rattle.std.proofs.Common.{◌≡◌, ℕ, ◌+◌, true, [], ◌∷◌, ◌++◌, length, refl, sym, ◌∙◌, length-append, append_assoc, arith, rules, subst, lit<}
+use Rattle.std.proofs.Common.{◌≡◌, ℕ, ◌+◌, true, [], ◌∷◌, ◌++◌, length, sym, ◌∙◌, length-append, append_assoc, arith, rules, subst, lit<}
 use Rattle.std.proofs.lemmas.Grind.{common_steps}
-use Rattle.std.specs.Prelude.{Option, Some, None, Result, MatchResult}
+use Rattle.std.specs.Prelude.{Option, None, Result, MatchResult}
 use Rattle.std.specs.List.{splice, slice_range}
 use Rattle.std.specs.Str.{IsCharBoundary, IsUtf8}
 use Rattle.std.proofs.lemmas.List.{places, same_lists}
 use Rattle.std.proofs.lemmas.Str.{IsCharBoundary-start, IsCharBoundary-end, IsCharBoundary-at_seam}
 use Rattle.std.proofs.lemmas.Result.{MatchResult-weaker}
-use Rattle.iref_splice.specs.Changes.{IsWithin}
+use Rattle.iref_splice.specs.Changes.{IsWithin, with_mark}
 use Rattle.iref_grammar.specs.Characters.{CharTests, AreAboveAscii}
 use Rattle.iref_grammar.specs.Rules.{Text}
 use Rattle.iref_grammar.specs.Grammar.{at_sign, colon}
@@ -18,7 +18,8 @@ use Rattle.iref_grammar.proofs.AuthorityLemmas.{read_authority-spelled}
 use Rattle.iref_grammar.proofs.AuthorityRuleLemmas.{authority_read, Decides-has_authority_parts}
 use Rattle.iref_grammar.proofs.SliceLemmas.{mark_boundary}
 use Rattle.iref_model.specs.AuthoritySteps.{with_user_info, with_host, with_port}
-use Rattle.iref_component.specs.AuthorityTexts.{SpellsAuthority, IsStep, marked_length, authority_is_text}
+use Rattle.iref_component.specs.AuthorityTexts.{SpellsAuthority, IsStep, authority_is_text}
+use Rattle.iref_splice.proofs.PartLemmas.{first_len}
 use Rattle.iref_component.specs.declared.authority_mut.AuthorityMut.{AuthorityMut}
 use Rattle.iref_component.specs.AuthorityEdits.{edited_bytes, authority_mut_start, authority_mut_end, Edits}
 use Rattle.iref_component.proofs.PathEditLemmas.{splice_all}
@@ -37,10 +38,6 @@ end_replaced a b c x = same_lists _ _ (search (rules, places)) (λ k d h. grind 
 
 pub slice_whole : (text : Text) (start end : ℕ) → start ≡ 0 → end ≡ length text → slice_range text start end ≡ text
 slice_whole text start end e f = rw (e, f) (same_lists _ _ (search (rules, places)) (λ k d h. grind (arith, places)))
-
-part_then-length : (mark : ℕ) (part : Option Text) → length (part_then (mark ∷ []) part) ≡ marked_length part
-part_then-length mark None = refl
-part_then-length mark (Some part) = length-append part (mark ∷ [])
 
 -- ---- an authority with another part
 
@@ -65,8 +62,8 @@ module _ (set : CharTests) (above : AreAboveAscii set) (text : Text) (a : Author
   unfolding spell_authority
   text_is = grind (arith, common_steps, read_authority-spelled)
 
-  user_length : length user ≡ marked_length a.user_info
-  user_length = part_then-length at_sign a.user_info
+  user_length : length user ≡ with_mark 1 a.user_info
+  user_length = sym (first_len at_sign a.user_info)
 
   -- what follows the user info is text
   tail_is_text : IsUtf8 (a.host ++ port)
@@ -75,50 +72,50 @@ module _ (set : CharTests) (above : AreAboveAscii set) (text : Text) (a : Author
       let tail : AuthorityValue = record a { user_info = None } in
       grind (arith, common_steps, authority_is_text set above (a.host ++ port), spells_parts set above (a.host ++ port) tail, parts_with set tail, host_in_rule set text a, port_in_rule set text a)
 
-  after_user : IsCharBoundary text (marked_length a.user_info)
+  after_user : IsCharBoundary text (with_mark 1 a.user_info)
   after_user = subst (IsCharBoundary text) user_length (IsCharBoundary-at_seam text user (a.host ++ port) (text_is ∙ append_assoc user a.host port) tail_is_text)
 
-  before_port : IsCharBoundary text (marked_length a.user_info + length a.host)
+  before_port : IsCharBoundary text (with_mark 1 a.user_info + length a.host)
   before_port =
-      let front : length (user ++ a.host) ≡ marked_length a.user_info + length a.host = omega (arith, user_length, length-append user a.host) in
+      let front : length (user ++ a.host) ≡ with_mark 1 a.user_info + length a.host = omega (arith, user_length, length-append user a.host) in
       subst (IsCharBoundary text) front (mark_boundary colon (user ++ a.host) a.port text (lit< tt) (sym text_is))
 
   -- ---- the user info
 
-  pub user_info_within : IsWithin text (record { start = 0; end = marked_length a.user_info })
+  pub user_info_within : IsWithin text (record { start = 0; end = with_mark 1 a.user_info })
   user_info_within = grind (arith, common_steps, IsCharBoundary-start, authority_is_text, after_user)
 
-  user_info_put : (u : Option Text) → splice text 0 (marked_length a.user_info) (part_then (at_sign ∷ []) u) ≡ spell_authority (with_user_info u a)
+  user_info_put : (u : Option Text) → splice text 0 (with_mark 1 a.user_info) (part_then (at_sign ∷ []) u) ≡ spell_authority (with_user_info u a)
   unfolding spell_authority
   user_info_put u = grind (arith, common_steps, text_is, user_length, front_replaced)
 
-  pub user_info_replaced : (u : Option Text) → none_or (is_user_info set) u ≡ true → SpellsAuthority set (splice text 0 (marked_length a.user_info) (part_then (at_sign ∷ []) u)) (with_user_info u (read_authority text))
+  pub user_info_replaced : (u : Option Text) → none_or (is_user_info set) u ≡ true → SpellsAuthority set (splice text 0 (with_mark 1 a.user_info) (part_then (at_sign ∷ []) u)) (with_user_info u (read_authority text))
   user_info_replaced u k =
       rw (← e) (spells_parts set above _ (with_user_info u a) (user_info_put u) (parts_with set (with_user_info u a) k (host_in_rule set text a e h) (port_in_rule set text a e h)))
 
   -- ---- the host
 
-  pub host_within : IsWithin text (record { start = marked_length a.user_info; end = marked_length a.user_info + length a.host })
+  pub host_within : IsWithin text (record { start = with_mark 1 a.user_info; end = with_mark 1 a.user_info + length a.host })
   host_within = grind (arith, after_user, before_port)
 
-  host_put : (x : Text) → splice text (marked_length a.user_info) (marked_length a.user_info + length a.host) x ≡ spell_authority (with_host x a)
+  host_put : (x : Text) → splice text (with_mark 1 a.user_info) (with_mark 1 a.user_info + length a.host) x ≡ spell_authority (with_host x a)
   unfolding spell_authority
   host_put x = grind (arith, common_steps, text_is, user_length, middle_replaced)
 
-  pub host_replaced : (x : Text) → is_host set x ≡ true → SpellsAuthority set (splice text (marked_length a.user_info) (marked_length a.user_info + length a.host) x) (with_host x (read_authority text))
+  pub host_replaced : (x : Text) → is_host set x ≡ true → SpellsAuthority set (splice text (with_mark 1 a.user_info) (with_mark 1 a.user_info + length a.host) x) (with_host x (read_authority text))
   host_replaced x k =
       rw (← e) (spells_parts set above _ (with_host x a) (host_put x) (parts_with set (with_host x a) (user_info_in_rule set text a e h) k (port_in_rule set text a e h)))
 
   -- ---- the port
 
-  pub port_within : IsWithin text (record { start = marked_length a.user_info + length a.host; end = length text })
+  pub port_within : IsWithin text (record { start = with_mark 1 a.user_info + length a.host; end = length text })
   port_within = grind (arith, before_port, IsCharBoundary-end)
 
-  port_put : (p : Option Text) → splice text (marked_length a.user_info + length a.host) (length text) (then_part (colon ∷ []) p) ≡ spell_authority (with_port p a)
+  port_put : (p : Option Text) → splice text (with_mark 1 a.user_info + length a.host) (length text) (then_part (colon ∷ []) p) ≡ spell_authority (with_port p a)
   unfolding spell_authority
   port_put p = grind (arith, common_steps, text_is, user_length, end_replaced)
 
-  pub port_replaced : (p : Option Text) → none_or is_port p ≡ true → SpellsAuthority set (splice text (marked_length a.user_info + length a.host) (length text) (then_part (colon ∷ []) p)) (with_port p (read_authority text))
+  pub port_replaced : (p : Option Text) → none_or is_port p ≡ true → SpellsAuthority set (splice text (with_mark 1 a.user_info + length a.host) (length text) (then_part (colon ∷ []) p)) (with_port p (read_authority text))
   port_replaced p k =
       rw (← e) (spells_parts set above _ (with_port p a) (port_put p) (parts_with set (with_port p a) (user_info_in_rule set text a e h) (host_in_rule set text a e h) k))
 

@@ -1,16 +1,11 @@
 -- The text of an authority that is edited in place.
-use Rattle.std.specs.Prelude.{ℕ, ◌≡◌, ◌+◌, true, Option, Some, None, length}
+use Rattle.std.specs.Prelude.{ℕ, ◌≡◌, true, length}
 use Rattle.std.specs.Str.{IsUtf8}
 use Rattle.std.proofs.Props.{props}
 use Rattle.iref_grammar.specs.Characters.{CharTests, AreAboveAscii}
 use Rattle.iref_grammar.specs.Rules.{Text}
 use Rattle.iref_grammar.specs.Authority.{AuthorityValue, spell_authority, read_authority, is_authority}
 use Rattle.iref_grammar.proofs.AuthorityRuleLemmas.{Decides-is_authority}
-
--- how many bytes a part and its delimiter have, where there is one
-abbrev pub marked_length : Option Text → ℕ
-marked_length None = 0
-marked_length (Some part) = length part + 1
 
 -- the text spells this authority, is in the rule, and is read as it
 pub record SpellsAuthority (set : CharTests) (text : Text) (value : AuthorityValue) : Type 0 where

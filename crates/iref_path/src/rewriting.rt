@@ -3,7 +3,7 @@
 
 ghost use Rattle.std.specs.Prelude.{◌≡◌, ◌+◌, ◌-◌, ◌<◌, ◌≤◌, ◌^◌, ◌∷◌, ◌++◌, []};
 ghost use Rattle.std.specs.Prelude.{false, length, slice_range, take, vec_len};
-ghost use Rattle.std.specs.{Prelude.{if◌then◌else◌}, List.{splice}, Str.{IsUtf8}};
+ghost use Rattle.std.specs.{List.{splice}, Str.{IsUtf8}};
 ghost use Rattle.std.specs.String.{string_bytes, string_len};
 ghost use Rattle.iref_model.specs.{read_path, spell_path, open_before, staying_before, normalized};
 ghost use Rattle.iref_path.specs.Rewriting.{items_text, pieces_before, rewritten};
@@ -91,15 +91,6 @@ fn move_names(
     (start, open_parents)
 }
 
-// Where the names end that move: one that comes last stays where it is.
-fn moved_end(stays: bool, last: usize, len: usize) -> usize
-    requires { last ≤ len }
-    ensures index { result ≡ (if stays then last else len) }
-    ensures within { result ≤ len }
-{
-    if stays { last } else { len }
-}
-
 // Writes the normal list of the segments over them, with `/` between, so that it ends where they
 // end, and returns where it begins.
 fn write_list(bytes: &mut [u8], absolute: bool) -> usize
@@ -112,7 +103,8 @@ fn write_list(bytes: &mut [u8], absolute: bool) -> usize
     let last = segment_before(bytes, len + 1);
     let mut open_parents: usize = 0;
     let stays = bytes_stay(&bytes[last..], &mut open_parents);
-    let end = moved_end(stays, last, len);
+    // A name that comes last stays where it is.
+    let end = if stays { last } else { len };
     let (start, open_parents) = move_names(bytes, last, open_parents, end);
     write_parents(bytes, leading_parents(absolute, open_parents), start)
 }
@@ -131,6 +123,8 @@ fn write_over(path: &mut [u8], guard: &str) -> usize
 }
 
 // Writes it over the path that is at `at`, and returns how many bytes of the path stand before it.
+// Inlined beside what cuts, its loops would take an instruction more a segment.
+#[inline(never)]
 fn write_at(bytes: &mut [u8], at: Span, guard: &str) -> usize
     requires start_le_end { at.start ≤ at.end }
     requires in_bounds { at.end ≤ length bytes.old }

@@ -1,8 +1,8 @@
 //! The segments of a text, taken from either end.
 
-ghost use Rattle.std.specs.Prelude.{◌≡◌, ◌+◌, ◌<◌, ◌≤◌, ◌^◌, ◌++◌, ◌∷◌, ◌==◌, [], length};
+ghost use Rattle.std.specs.Prelude.{◌≡◌, ◌+◌, ◌≤◌, ◌++◌, ◌∷◌, ◌==◌, [], length};
 ghost use Rattle.std.specs.Prelude.{true, false, MatchOption, count_by, drop, take};
-ghost use Rattle.iref_grammar.specs.{slash, pieces_at, segments_of, read_path};
+ghost use Rattle.iref_grammar.specs.{slash, pieces_at, read_path};
 ghost use Rattle.iref_grammar.specs.Texts.{all_but_last};
 ghost use Rattle.iref_path.specs.Pieces.{ShareFront, pieces_if_some};
 ghost use Rattle.iref_path.specs.Slashes.{IsLastSlash, LacksSlashFrom, slash_mask};
@@ -29,16 +29,6 @@ fn slashes(bytes: &[u8], at: usize) -> u64
         .to_bitmask()
 }
 
-// The index of the highest bit.
-#[inline(always)]
-fn highest_bit(bits: u64) -> usize
-    requires { 0 < bits }
-    ensures above { 2 ^ result ≤ bits }
-    ensures below { bits < 2 ^ (result + 1) }
-{
-    63 - bits.leading_zeros() as usize
-}
-
 // Where the last `/` is.
 #[inline(always)]
 pub(crate) fn last_slash(bytes: &[u8]) -> Option<usize>
@@ -48,7 +38,8 @@ pub(crate) fn last_slash(bytes: &[u8]) -> Option<usize>
     while 16 <= end {
         let bits = slashes(bytes, end - 16);
         if bits != 0 {
-            return Some(end - 16 + highest_bit(bits));
+            let highest = 63 - bits.leading_zeros() as usize;
+            return Some(end - 16 + highest);
         }
         end -= 16;
     }
@@ -96,25 +87,21 @@ pub fn without_last(segments: Option<&str>) -> Option<&str>
     }
 }
 
-/// The text, unless it is empty: the empty text of a path has no segment.
-#[tactic(auto, using(crate::proofs::SlashLemmas::counts))]
-fn unless_empty(text: &str) -> Option<&str>
-    ensures segments { pieces_if_some result ≡ segments_of text.now }
-    ensures fewer { length (pieces_if_some result) ≤ length text.now + 1 }
-{
-    if text.is_empty() { None } else { Some(text) }
-}
-
 /// Whether the path is absolute, and the text of its segments if it has any.
-#[tactic(auto, unfolding(iref_grammar::specs::PathValue::read_path))]
+#[tactic(auto, using(crate::proofs::SlashLemmas::counts))]
 pub fn split_root(path: &str) -> (bool, Option<&str>)
     ensures path { read_path path.now
         ≡ record { absolute = result.0; segments = pieces_if_some result.1 } }
     ensures fewer { length (pieces_if_some result.1) ≤ length path.now + 1 }
 {
-    match strip_mark(path, '/') {
-        Some(text) => (true, unless_empty(text)),
-        None => (false, unless_empty(path)),
+    let (absolute, segments) = match strip_mark(path, '/') {
+        Some(text) => (true, text),
+        None => (false, path),
+    };
+    if segments.is_empty() {
+        (absolute, None)
+    } else {
+        (absolute, Some(segments))
     }
 }
 

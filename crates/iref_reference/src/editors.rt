@@ -107,7 +107,7 @@ impl<R: HeldRule, C: CharSet> ReferenceBuf<R, C> {
         ensures reference { is_reference C.tests (reference_buf_text self.old) ≡ true }
     {
         let lengths = self.inner.lengths();
-        let range = lengths.path_start()..lengths.query_mark();
-        PathMut::of_target(self, lengths.context(), range)
+        let start = lengths.path_start();
+        PathMut::of_target(self, lengths.context(), start..start + lengths.path)
     }
 }

@@ -28,7 +28,8 @@ use Rattle.iref_reference_text.specs.ComponentLengths.{fragment_after, HasLength
 use Rattle.iref_reference_text.specs.Steps.{Spells}
 use Rattle.iref_splice.specs.Changes.{IsWithin}
 use Rattle.iref_reference_text.proofs.ReferenceTextLemmas.{authority_mark_within, fragment_mark_within, in_rule_utf8, offsets_within}
-use Rattle.iref_reference_text.proofs.LengthLemmas.{first_len, fragment_after-lengths, path_after-lengths, query_after-lengths}
+use Rattle.iref_splice.proofs.PartLemmas.{first_len}
+use Rattle.iref_reference_text.proofs.LengthLemmas.{fragment_after-lengths, path_after-lengths, query_after-lengths}
 
 pub readable_of : (set : CharTests) (text : Text) → is_reference set text ≡ true → is_readable set (read_reference text) ≡ true
 unfolding is_reference
@@ -132,12 +133,12 @@ module _ (text : Text) where
   pub authority_replaced : (authority : Option AuthorityValue) (path : PathValue) (guard : Text) → guard ++ p ≡ spell_path path
       → splice text l.scheme (path_after l) (then_part (codes "//") (option_map spell_authority authority) ++ guard) ≡ spell (record r { authority = authority; path = path })
   unfolding spell
-  authority_replaced authority path guard e = rw (← e) (simp append_assoc (grind (arith, common_steps, spelled, first_len, path_after-lengths r, authority_spliced)))
+  authority_replaced authority path guard e = rw (← e) (simp append_assoc (grind (arith, common_steps, spelled, first_len colon, path_after-lengths r, authority_spliced)))
 
   pub scheme_replaced : (scheme : Option Text) (path : PathValue) (guard : Text) → guard ++ a ++ p ≡ a ++ spell_path path
       → splice text 0 l.scheme (part_then (colon ∷ []) scheme ++ guard) ≡ spell (record r { scheme = scheme; path = path })
   unfolding spell
-  scheme_replaced scheme path guard e = grind (arith, common_steps, spelled, first_len, scheme_spliced)
+  scheme_replaced scheme path guard e = grind (arith, common_steps, spelled, first_len colon, scheme_spliced)
 
 -- ---- where the parts stand in a text
 
@@ -165,7 +166,7 @@ module _ (set : CharTests) (above : AreAboveAscii set) (text : Text) (h : is_ref
   front_ends = rw fragment_after-lengths (fragment_mark_within set above text h)
 
   scheme_ends : IsCharBoundary text (lengths.scheme)
-  scheme_ends = rw first_len (authority_mark_within set above text h)
+  scheme_ends = rw (first_len colon) (authority_mark_within set above text h)
 
   pub query_within : IsWithin text (record { start = query_after lengths; end = fragment_after lengths })
   query_within = record { start_le_end = omega arith; start = path_ends; end = front_ends }

@@ -12,22 +12,20 @@ use Rattle.iref_grammar.proofs.ComponentLemmas.{spelled_as_read}
 use Rattle.iref_grammar.proofs.ReferenceCutLemmas.{read_reference-spelled}
 use Rattle.iref_parse.specs.declared.split.ReferenceSlices.{ReferenceSlices}
 use Rattle.iref_parse.specs.ReferenceSlices.{texts_of, value_of}
+use Rattle.iref_splice.proofs.PartLemmas.{first_len}
 use Rattle.iref_reference_text.specs.ComponentLengths.{with_mark, lengths_of, lengths_of_texts, context_by, path_after, query_after, fragment_after, placed, total_length}
 
 -- the lengths of the texts of a reference are those of its components
 pub lengths-slices : (s : ReferenceSlices) (r : ReferenceValue) → value_of s ≡ r → lengths_of_texts (texts_of s) ≡ lengths_of r
 lengths-slices s r e = ap lengths_of_texts (spelled_as_read (texts_of s) r e)
 
--- a part with its delimiter
-pub first_len : (o : Option Text) → with_mark 1 o ≡ length (part_then (colon ∷ []) o)
-first_len o = grind (arith, common_steps)
-
+-- a part with the delimiter before it
 pub marked_len : (mark : Text) (o : Option Text) → with_mark (length mark) o ≡ length (then_part mark o)
 marked_len mark o = grind (arith, common_steps)
 
 -- the scheme and the authority of texts of components
 pub path_after-texts : (t : ComponentTexts) → path_after (lengths_of_texts t) ≡ length (part_then (colon ∷ []) t.scheme) + length (then_part (codes "//") t.authority)
-path_after-texts t = grind (arith, first_len, marked_len (codes "//"))
+path_after-texts t = grind (arith, first_len colon, marked_len (codes "//"))
 
 -- where the path, the query and the fragment begin
 pub path_after-lengths : (r : ReferenceValue) → path_after (lengths_of r) ≡ path_start r
@@ -42,11 +40,11 @@ fragment_after-lengths r = grind (arith, common_steps, query_after-lengths r)
 -- of the components of a spelled reference
 pub total-spelled : (r : ReferenceValue) → total_length (lengths_of r) ≡ length (spell r)
 unfolding spell
-total-spelled r = grind (arith, common_steps, first_len, marked_len)
+total-spelled r = grind (arith, common_steps, first_len colon, marked_len)
 
 pub placed-spelled : (r : ReferenceValue) → placed (lengths_of r) ≡ offsets_in r
 unfolding offsets_in
-placed-spelled r = grind (arith, first_len, marked_len)
+placed-spelled r = grind (arith, first_len colon, marked_len)
 
 -- and of those that are read from a text
 pub total-read : (text : Text) → total_length (lengths_of (read_reference text)) ≡ length text

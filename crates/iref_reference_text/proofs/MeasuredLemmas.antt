@@ -25,7 +25,9 @@ use Rattle.iref_reference_text.specs.MeasuredReferences.{IsComposed, IsReady, me
 use Rattle.iref_reference_text.specs.Steps.{Spells}
 use Rattle.iref_reference_text.specs.declared.measured.MeasuredReference.{MeasuredReference}
 use Rattle.iref_reference_text.proofs.EditLemmas.{is_step}
-use Rattle.iref_reference_text.proofs.LengthLemmas.{first_len, marked_len}
+use Rattle.iref_grammar.specs.Grammar.{colon}
+use Rattle.iref_splice.proofs.PartLemmas.{first_len}
+use Rattle.iref_reference_text.proofs.LengthLemmas.{marked_len}
 
 pub or-copied : (first second : Option (Bor Text)) → option_copied (option_or first second) ≡ option_or (option_copied first) (option_copied second)
 or-copied first second = grind arith
@@ -74,7 +76,7 @@ module _ (b t : ComponentTexts) (none : (is_some t.scheme || is_some t.authority
 -- how long the text of components is
 pub total-texts : (t : ComponentTexts) → total_length (lengths_of_texts t) ≡ length (spell_texts t)
 unfolding spell_texts
-total-texts t = grind (arith, common_steps, first_len, marked_len)
+total-texts t = grind (arith, common_steps, first_len colon, marked_len)
 
 -- the text of the components of a reference is its spelling
 pub spelled_texts : (t : ComponentTexts) (r : ReferenceValue) → t ≡ spell_components r → spell_texts t ≡ spell r

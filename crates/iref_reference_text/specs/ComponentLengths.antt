@@ -10,11 +10,7 @@ use Rattle.iref_grammar.specs.ComponentTexts.{ComponentTexts}
 use Rattle.iref_grammar.specs.PathValue.{spell_path}
 use Rattle.iref_grammar.specs.Reference.{ReferenceValue, read_reference}
 use Rattle.iref_reference_text.specs.declared.lengths.Lengths.{Lengths}
-
--- of a part with its delimiter, where there is a part
-abbrev pub with_mark : ℕ → Option Text → ℕ
-with_mark mark None = 0
-with_mark mark (Some part) = mark + length part
+pub use Rattle.iref_splice.specs.Changes.{with_mark}
 
 -- of the components of a reference, each with its delimiter
 abbrev pub lengths_of : ReferenceValue → Lengths

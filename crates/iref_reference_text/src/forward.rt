@@ -7,10 +7,11 @@ ghost use Rattle.iref_model.specs.{fits, read_reference, resolved};
 ghost use Rattle.iref_parse.specs.{texts_of, value_of};
 ghost use Rattle.std.specs.Prelude.{◌≡◌, ◌≢◌, ◌+◌, ◌||◌, [], IfOk, IfSome, length, true};
 
-use crate::lengths::{Lengths, marked_len};
+use crate::lengths::Lengths;
 use iref_error::Memory;
 use iref_parse::split::ReferenceSlices;
 use iref_path::forward::append_normal_after;
+use iref_splice::text::marked_len;
 use std::alloc::{AllocError, Global};
 
 // How many bytes two paths take, what stands around them, and a `/`, if that can be counted.

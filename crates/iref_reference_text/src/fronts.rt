@@ -7,11 +7,12 @@ ghost use Rattle.iref_parse.specs.{texts_of, value_of};
 ghost use Rattle.std.specs.Prelude.{◌≡◌, ◌≢◌, [], IfSome, is_some, true};
 
 use crate::base::base_slice;
-use crate::lengths::{Lengths, marked_len};
+use crate::lengths::Lengths;
 use iref_grammar::chars::CharSet;
 use iref_parse::dots::has_dots;
 use iref_parse::split::ReferenceSlices;
 use iref_path::segments::split_root;
+use iref_splice::text::marked_len;
 
 // The front part of the base's text that stays before a path. Of `//h/x/y` it is `//h` before `/a`,
 // and `//h/x/` before `a`. There is none where a segment of the path begins with a dot. Before a

@@ -1,17 +1,16 @@
 //! How long the components of a reference are with their delimiters, from which all its offsets
 //! follow.
-ghost use Rattle.std.specs.Prelude.{◌≡◌, ◌+◌, ◌≤◌, ◌<◌, ◌^◌, length};
-ghost use Rattle.std.specs.Option.{option_copied};
+ghost use Rattle.std.specs.Prelude.{◌≡◌, ◌+◌, ◌<◌, ◌^◌, length};
 ghost use Rattle.iref_reference_text.specs.ComponentLengths.{context_by, fragment_after, lengths_of_texts};
 ghost use Rattle.iref_reference_text.specs.ComponentLengths.{path_after, placed, query_after};
 ghost use Rattle.iref_reference_text.specs.ComponentLengths.{range_after, range_before, total_length};
-ghost use Rattle.iref_reference_text.specs.ComponentLengths.{with_mark};
 ghost use Rattle.iref_grammar.specs.{offsets_in, spell};
 ghost use Rattle.iref_parse.specs.{texts_of, value_of};
 
 use iref_grammar::context::PathContext;
 use iref_grammar::offsets::Offsets;
 use iref_parse::split::ReferenceSlices;
+use iref_splice::text::marked_len;
 use std::ops::Range;
 
 /// The lengths of the components in bytes, each with its delimiter, and 0 for one that is absent:
@@ -93,17 +92,6 @@ impl Lengths {
             query: range_after(query, 1, self.query),
             fragment: range_after(fragment, 1, self.fragment),
         }
-    }
-}
-
-/// How long a part is with its delimiter, or 0 without a part: of a scheme of 4 bytes 5.
-pub fn marked_len(mark: usize, part: Option<&str>) -> usize
-    requires { mark ≤ 2 }
-    ensures { result ≡ with_mark mark (option_copied part.entry) }
-{
-    match part {
-        Some(part) => mark + part.len(),
-        None => 0,
     }
 }
 

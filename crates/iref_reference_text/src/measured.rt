@@ -11,12 +11,13 @@ ghost use Rattle.std.specs.Fmt.{WritesOnOk};
 ghost use Rattle.std.specs.{Option.{option_copied}, Prelude.{◌≡◌, ◌+◌, ◌*◌, ◌<◌, ◌≤◌, ◌^◌}};
 ghost use Rattle.std.specs.Prelude.{[], ◌∷◌, IfOk, is_some, length, true};
 
-use crate::lengths::{Lengths, marked_len};
+use crate::lengths::Lengths;
 use iref_error::Memory;
 use iref_grammar::context::PathContext;
 use iref_parse::split::ReferenceSlices;
 use iref_path::measured::MeasuredPath;
 use iref_path::spell::write_before;
+use iref_splice::text::marked_len;
 use std::alloc::{AllocError, Global};
 use std::fmt;
 

@@ -1,10 +1,14 @@
 -- A part after an edit within it.
-use Rattle.std.proofs.Common.{◌≡◌, ℕ, ◌+◌, ◌-◌, ◌≤◌, List, length, ◌∙◌, length-append, length-take, length-drop, arith, rules}
+use Rattle.std.proofs.Common.{◌≡◌, ℕ, ◌+◌, ◌-◌, ◌≤◌, List, [], ◌∷◌, Option, length, ◌∙◌, length-append, length-take, length-drop, arith, rules}
 use Rattle.std.specs.List.{splice, slice_range}
+use Rattle.std.specs.Str.{IsCharBoundary}
+use Rattle.std.specs.declared.ops.Range.{Range}
+use Rattle.std.proofs.lemmas.Grind.{common_steps}
 use Rattle.std.proofs.lemmas.List.{places, same_lists}
-use Rattle.iref_splice.specs.declared.change.Change.{Change}
+use Rattle.iref_grammar.specs.Rules.{Text}
+use Rattle.iref_grammar.specs.Texts.{part_then}
+use Rattle.iref_splice.specs.Changes.{IsWithin, part_at, with_mark}
 use Rattle.iref_splice.specs.declared.change.Span.{Span}
-use Rattle.iref_splice.specs.Changes.{IsWithin, changed, cut_length, part_at, pieces, pieces_length}
 
 splice-within : (bs text : List ℕ) (start end from to : ℕ) → start ≤ from → from ≤ to → to ≤ end → end ≤ length bs → splice bs from to text ≡ splice bs start end (splice (slice_range bs start end) (from - start) (to - start) text)
 splice-within bs text start end from to h1 h2 h3 h4 = same_lists _ _ (search (rules, places)) (λ k d h. grind (arith, places))
@@ -27,6 +31,13 @@ slice-spliced text part start end a b = same_lists _ _ (search (rules, places)) 
 length-spliced : (bs text : List ℕ) (start end : ℕ) → start ≤ end → end ≤ length bs → length (splice bs start end text) + end ≡ length bs + start + length text
 length-spliced bs text start end h1 h2 = simp (length-append, length-take, length-drop) (omega arith)
 
+-- the part ends before what stands behind it, which stays as long as it is
+pub part_end : (text new part : List ℕ) (start end len new_len : ℕ) → start ≤ end → end ≤ length text → len ≡ length text → new_len ≡ length new → new ≡ splice text start end part
+    → (len - end ≤ new_len) × (new_len - (len - end) ≡ start + length part)
+part_end text new part start end len new_len a b c d e =
+    let size : length new + end ≡ length text + start + length part = rw e (length-spliced text part start end a b) in
+    (omega arith, omega arith)
+
 -- a part that is all of a text is within it
 pub whole_is_within : {start end n : ℕ} → start ≡ 0 → end ≡ n → (start ≤ end) × (end ≤ n)
 whole_is_within from to = (omega (arith, from), omega (arith, to))
@@ -40,14 +51,22 @@ pub record StandsThere (new part : List ℕ) (start new_end : ℕ) : Type 0 wher
 pub part_stands : (text new part : List ℕ) (start end new_end : ℕ) → start ≤ end → end ≤ length text → new ≡ splice text start end part → new_end ≡ start + length part → StandsThere new part start new_end
 part_stands text new part start end new_end a b e f = record {
   start_le_end = omega arith;
-  in_bounds = rw e (omega (arith, length-spliced text part start end a b));
+  in_bounds = rw e (omega (arith, f, length-spliced text part start end a b));
   holds = rw (e, f) (slice-spliced text part start end a b);
 }
 
--- how long the part is then
-pub part_len : (text : List ℕ) (change : Change) (range : Span) → range.start ≤ range.end → range.end ≤ length text → IsWithin (part_at text range) change.within
-    → range.end - range.start - cut_length change + pieces_length change ≡ length (changed (part_at text range) change)
-part_len text change range a b within =
-    let part = part_at text range in
-    let added : length (pieces change) ≡ pieces_length change = simp length-append in
-    omega (arith, added, slice-length text range.start range.end b, length-spliced part (pieces change) change.within.start change.within.end within.start_le_end within.end.0)
+-- what stands in a part may be cut where the part may
+cut_in_part : (text : Text) (start end i : ℕ) → start ≤ end → IsCharBoundary text end → IsCharBoundary (slice_range text start end) i → IsCharBoundary text (start + i)
+cut_in_part text start end i a b w = grind (arith, common_steps, slice-length)
+
+pub part_within : (text : Text) (at : Span) → IsWithin text (record { start = at.start; end = at.end }) → (within : Range ℕ) → IsWithin (part_at text at) within
+    → IsWithin text (record { start = at.start + within.start; end = at.start + within.end })
+part_within text at placed within inside = record {
+  start_le_end = omega (arith, inside.start_le_end);
+  start = cut_in_part text at.start at.end within.start placed.start_le_end placed.end inside.start;
+  end = cut_in_part text at.start at.end within.end placed.start_le_end placed.end inside.end;
+}
+
+-- a part with the delimiter after it
+pub first_len : (mark : ℕ) (part : Option Text) → with_mark 1 part ≡ length (part_then (mark ∷ []) part)
+first_len mark part = grind (arith, common_steps)

@@ -1,5 +1,5 @@
--- The new texts of a change, the text after it, and the part in a range.
-use Rattle.std.specs.Prelude.{ℕ, ◌+◌, ◌-◌, ◌≤◌, ◌++◌, length, slice_range}
+-- The new texts of a change, the text after it, the part in a range, and the length of a part with its delimiter.
+use Rattle.std.specs.Prelude.{ℕ, ◌+◌, ◌-◌, ◌≤◌, ◌++◌, Option, Some, None, length, slice_range}
 use Rattle.std.specs.List.{splice}
 use Rattle.std.specs.Str.{IsCharBoundary}
 use Rattle.std.specs.declared.ops.Range.{Range}
@@ -47,3 +47,8 @@ changed_part text range change = changed (part_at text range) change
 -- the text after a change of what stands in the range
 abbrev pub changed_at : Text → Span → Change → Text
 changed_at text range change = splice text range.start range.end (changed_part text range change)
+
+-- how long a part is with its delimiter, where there is a part
+abbrev pub with_mark : ℕ → Option Text → ℕ
+with_mark mark None = 0
+with_mark mark (Some part) = mark + length part

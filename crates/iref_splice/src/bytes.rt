@@ -2,7 +2,7 @@
 ghost use Rattle.std.specs.Prelude.{◌≡◌, ◌+◌, ◌≤◌, length, vec_len, OnOk};
 ghost use Rattle.std.specs.{Prelude.{OnErr, IsOk}, List.{splice}};
 ghost use Rattle.iref_grammar.specs.Rules.{Text};
-ghost use Rattle.iref_splice.specs.Changes.{IsNoLonger, changed, pieces, pieces_length};
+ghost use Rattle.iref_splice.specs.Changes.{IsNoLonger, changed};
 ghost use Rattle.iref_splice.specs.Edited.{StandsIn, one_range};
 
 use crate::change::{Change, Span};
@@ -22,9 +22,14 @@ pub fn replace(bytes: &mut Vec<u8>, change: Change<'_>) -> Result<(), AllocError
     ensures err { OnErr result (bytes.new.items ≡ bytes.old.items) }
     ensures shorter { IsNoLonger change.entry → IsOk result }
 {
-    let added = change.added_len()?;
-    move_tail(bytes, change.within.start, change.within.end, added)?;
-    fill(bytes, &change);
+    let start = change.within.start;
+    let (lead, middle, close) = (change.lead, change.middle, change.close);
+    let two = lead.len().checked_add(middle.len()).ok_or(AllocError)?;
+    let added = two.checked_add(close.len()).ok_or(AllocError)?;
+    move_tail(bytes, start, change.within.end, added)?;
+    overwrite(bytes, start, lead.as_bytes());
+    overwrite(bytes, start + lead.len(), middle.as_bytes());
+    overwrite(bytes, start + two, close.as_bytes());
     Ok(())
 }
 
@@ -54,25 +59,7 @@ fn move_tail(bytes: &mut Vec<u8>, start: usize, end: usize, added: usize) -> Res
     Ok(())
 }
 
-// Writes the three texts over what stands where the change begins.
-#[tactic(auto, using(crate::proofs::Splices::gaps))]
-fn fill(bytes: &mut Vec<u8>, change: &Change<'_>)
-    requires { change.now.within.start + pieces_length change.now ≤ vec_len bytes.old }
-    ensures { bytes.new.items ≡ splice bytes.old.items change.now.within.start
-        (change.now.within.start + pieces_length change.now) (pieces change.now) }
-{
-    let lead = change.lead;
-    let middle = change.middle;
-    let start = change.within.start;
-    overwrite(bytes, start, lead.as_bytes());
-    overwrite(bytes, start + lead.len(), middle.as_bytes());
-    overwrite(
-        bytes,
-        start + (lead.len() + middle.len()),
-        change.close.as_bytes(),
-    );
-}
-
+// Writes a text over what stands from an index on.
 fn overwrite(bytes: &mut Vec<u8>, start: usize, text: &[u8])
     requires { start + length text.now ≤ vec_len bytes.old }
     ensures items { bytes.new.items
@@ -106,9 +93,9 @@ impl<P: Part, C: CharSet> Target<P, C> for Vec<u8> {
     }
 
     fn replace(&mut self, after: P::Context, at: Span, by: Change<'_>) -> Result<usize, Memory> {
-        let len = by.len_after(at.end - at.start)?;
+        let behind = self.len() - at.end;
         let within = at.start + by.within.start..at.start + by.within.end;
         replace(self, Change { within, ..by })?;
-        Ok(at.start + len)
+        Ok(self.len() - behind)
     }
 }

@@ -1,16 +1,17 @@
 //! Where the parts of an authority stand in its text, each with its delimiter (RFC 3986 section
 //! 3.2).
-ghost use Rattle.std.specs.{Prelude.{◌≡◌, true, [], ◌∷◌, Option}, Option.{option_copied}};
+ghost use Rattle.std.specs.Prelude.{◌≡◌, true, [], ◌∷◌, Option};
 ghost use Rattle.std.specs.List.{splice};
 ghost use Rattle.iref_grammar.specs.{Rules.{Text}, Grammar.{at_sign, colon}, Texts.{part_then}};
 ghost use Rattle.iref_grammar.specs.{Texts.{then_part}, Tests.{is_user_info, is_host, is_port}};
 ghost use Rattle.iref_grammar.specs.{Tests.{none_or}, Authority.{is_authority, read_authority}};
 ghost use Rattle.iref_model.specs.AuthoritySteps.{with_user_info, with_host, with_port};
-ghost use Rattle.iref_component.specs.AuthorityTexts.{SpellsAuthority, marked_length};
+ghost use Rattle.iref_component.specs.AuthorityTexts.{SpellsAuthority};
 ghost use Rattle.iref_splice.specs.Changes.{IsWithin};
 
 use iref_grammar::chars::CharSet;
 use iref_parse::authority::split_parts;
+use iref_splice::text::marked_len;
 use std::ops::Range;
 
 /// The user info and its `@`, or where they would stand.
@@ -23,7 +24,7 @@ pub(crate) fn user_info_range<C: CharSet>(text: &str) -> Range<usize>
         (with_user_info user_info (read_authority text.now)) }
 {
     let slices = split_parts(text);
-    0..marked_len(slices.user_info)
+    0..marked_len(1, slices.user_info)
 }
 
 /// The host.
@@ -35,7 +36,7 @@ pub(crate) fn host_range<C: CharSet>(text: &str) -> Range<usize>
         (with_host host (read_authority text.now)) }
 {
     let slices = split_parts(text);
-    let start = marked_len(slices.user_info);
+    let start = marked_len(1, slices.user_info);
     start..start + slices.host.len()
 }
 
@@ -49,15 +50,5 @@ pub(crate) fn port_range<C: CharSet>(text: &str) -> Range<usize>
         (with_port port (read_authority text.now)) }
 {
     let slices = split_parts(text);
-    marked_len(slices.user_info) + slices.host.len()..text.len()
-}
-
-// How many bytes the part and its delimiter have together.
-fn marked_len(part: Option<&str>) -> usize
-    ensures { result ≡ marked_length (option_copied part.entry) }
-{
-    match part {
-        Some(part) => part.len() + 1,
-        None => 0,
-    }
+    marked_len(1, slices.user_info) + slices.host.len()..text.len()
 }

@@ -8,7 +8,7 @@ use iref_error::Memory;
 use iref_grammar::chars::CharSet;
 use iref_splice::change::{Change, Span};
 use iref_splice::target::Target;
-use iref_splice::text;
+use iref_splice::text::replace_part;
 use std::alloc::Global;
 
 impl<R: HeldRule, C: CharSet> Target<AuthorityPart, C> for ReferenceText<R, C> {
@@ -29,10 +29,8 @@ impl<R: HeldRule, C: CharSet> Target<AuthorityPart, C> for ReferenceText<R, C> {
     }
 
     fn replace(&mut self, after: (), at: Span, by: Change<'_>) -> Result<usize, Memory> {
-        let len = by.len_after(at.end - at.start)?;
-        let within = at.start + by.within.start..at.start + by.within.end;
-        text::replace(&mut self.text, Change { within, ..by })?;
-        self.lengths.authority = 2 + len;
-        Ok(at.start + len)
+        let end = replace_part(&mut self.text, at, by)?;
+        self.lengths.authority = 2 + (end - at.start);
+        Ok(end)
     }
 }

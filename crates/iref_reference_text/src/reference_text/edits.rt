@@ -15,13 +15,13 @@ ghost use Rattle.iref_reference_text.specs.ComponentLengths.{HasLengths, lengths
 ghost use Rattle.iref_splice.specs.Changes.{IsNoLonger, IsWithin, changed, replaced};
 
 use super::{HeldRule, ReferenceText};
-use crate::lengths::{Lengths, marked_len};
+use crate::lengths::Lengths;
 use iref_error::Memory;
 use iref_grammar::chars::CharSet;
 use iref_grammar::context::PathContext;
 use iref_path::guard::{guard_of, root_of};
 use iref_splice::change::Change;
-use iref_splice::text::{self, marked, marked_after};
+use iref_splice::text::{self, marked, marked_after, marked_len};
 use std::alloc::AllocError;
 use std::ops::Range;
 

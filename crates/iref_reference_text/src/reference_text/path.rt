@@ -18,7 +18,7 @@ use iref_path::spell::normalized_text;
 use iref_path::target::PathTarget;
 use iref_splice::change::{Change, Span};
 use iref_splice::target::Target;
-use iref_splice::text;
+use iref_splice::text::replace_part;
 use std::alloc::Global;
 
 impl<R: HeldRule, C: CharSet> Target<PathPart, C> for ReferenceText<R, C> {
@@ -39,11 +39,9 @@ impl<R: HeldRule, C: CharSet> Target<PathPart, C> for ReferenceText<R, C> {
     }
 
     fn replace(&mut self, after: PathContext, at: Span, by: Change<'_>) -> Result<usize, Memory> {
-        let len = by.len_after(at.end - at.start)?;
-        let within = at.start + by.within.start..at.start + by.within.end;
-        text::replace(&mut self.text, Change { within, ..by })?;
-        self.lengths.path = len;
-        Ok(at.start + len)
+        let end = replace_part(&mut self.text, at, by)?;
+        self.lengths.path = end - at.start;
+        Ok(end)
     }
 }
 

@@ -1,6 +1,8 @@
 use Rattle.iref_grammar.specs.Rules.{Text}
 use Rattle.std.proofs.Common.{ℕ, length, ◌≡◌, ◌+◌, ◌-◌, ◌<◌, ◌≤◌, ◌^◌, arith, drop, take}
 use Rattle.std.proofs.lemmas.Bool.Decides.{nat_tests}
+use Rattle.std.proofs.lemmas.Nat.{leading_top}
+use lib.Count.{count_leading_zeros}
 use Rattle.iref_path.specs.Slashes.{IsLastSlash, LacksSlashFrom, slash_mask}
 use Rattle.iref_path.proofs.SlashLemmas.{last_slash_there, no_slash_there, slash_at_highest}
 use Rattle.iref_path.proofs.segments.last_slash.Goals as goal
@@ -10,19 +12,22 @@ behind : (text : Text) (end : ℕ) → 16 ≤ end → LacksSlashFrom text end �
 behind text end room h = λ i from within. h i (omega arith) within
 
 -- the last slash of the 16 bytes
-last_found : (text : Text) (end bit bits : ℕ) → end ≤ length text → 16 ≤ end → LacksSlashFrom text end → bits ≡ slash_mask (take 16 (drop (end - 16) text)) → 2 ^ bit ≤ bits → bits < 2 ^ (bit + 1)
-    → IsLastSlash text (end - 16 + bit)
-last_found text end bit bits within room none e above below =
-    last_slash_there text (end - 16) (omega arith) (behind text end room none) bit (slash_at_highest bit _ (rw (← e) above) (rw (← e) below))
+last_found : (text : Text) (end bits : ℕ) → end ≤ length text → 16 ≤ end → LacksSlashFrom text end → bits ≡ slash_mask (take 16 (drop (end - 16) text)) → 0 < bits → bits < 2 ^ 64
+    → IsLastSlash text (end - 16 + (63 - count_leading_zeros 64 bits))
+last_found text end bits within room none e some fits =
+    let top = leading_top 64 bits some fits in
+    let highest : 63 - count_leading_zeros 64 bits ≡ top.0 = omega (arith, top.1) in
+    let below : bits < 2 ^ (top.0 + 1) = grind (arith, top.3) in
+    rw highest (last_slash_there text (end - 16) (omega arith) (behind text end room none) top.0 (slash_at_highest top.0 _ (rw (← e) top.2) (rw (← e) below)))
 
 pub overflow_add-result : goal.overflow_add-result
 overflow_add-result c =
-    let last = last_found _ _ _ _ c.loop-end.invariant.within c.loop-end-test.true c.loop-end.invariant.behind c.slashes-bits.ensures c.highest_bit.ensures.above c.highest_bit.ensures.below in
+    let last = last_found _ _ c.slashes-bits.result c.loop-end.invariant.within c.loop-end-test.true c.loop-end.invariant.behind c.slashes-bits.ensures (omega arith) (omega arith) in
     omega (arith, last.within)
 
 pub returns-then-bits-ne0 : goal.returns-then-bits-ne0
 returns-then-bits-ne0 c =
-    last_found _ _ _ _ c.loop-end.invariant.within c.loop-end-test.true c.loop-end.invariant.behind c.slashes-bits.ensures c.highest_bit.ensures.above c.highest_bit.ensures.below
+    last_found _ _ _ c.loop-end.invariant.within c.loop-end-test.true c.loop-end.invariant.behind c.slashes-bits.ensures (omega arith) (omega arith)
 
 pub loop-end-preserved : goal.loop-end-preserved
 loop-end-preserved c =

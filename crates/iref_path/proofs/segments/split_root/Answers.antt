@@ -1,8 +1,17 @@
+use Rattle.std.proofs.Common.{◌≡◌, arith, refl}
+use Rattle.iref_grammar.specs.{segments_of, read_path}
 use Rattle.iref_path.proofs.SlashLemmas.{read-absolute, read-relative}
 use Rattle.iref_path.proofs.segments.split_root.Goals as goal
+use Rattle.iref_path.proofs.segments.split_root.Goals.{in-Some, in-None}
 
-pub returns-in-Some-clause-path : goal.returns-in-Some-clause-path
-returns-in-Some-clause-path c = read-absolute _ c.in-Some.text.now _ c.in-Some.ensures c.unless_empty.ensures.segments
+pub returns-then-is_empty-clause-path : goal.returns-then-is_empty-clause-path
+returns-then-is_empty-clause-path c =
+    let read : read_path c.args.path.now ≡ record { absolute = c.match-strip_mark.absolute.0; segments = segments_of c.match-strip_mark.absolute.1.now } =
+    elim c.match-strip_mark.branch [ in-Some w ↦ rw w.absolute-is (read-absolute _ w.in-Some.text.now _ w.in-Some.ensures refl) | in-None w ↦ rw w.absolute-is (read-relative _ _ w.in-None.ensures refl) ] in
+    grind (arith, read)
 
-pub returns-in-None-clause-path : goal.returns-in-None-clause-path
-returns-in-None-clause-path c = read-relative _ _ c.in-None.ensures c.unless_empty-in-None.ensures.segments
+pub returns-else-is_empty-clause-path : goal.returns-else-is_empty-clause-path
+returns-else-is_empty-clause-path c =
+    let read : read_path c.args.path.now ≡ record { absolute = c.match-strip_mark.absolute.0; segments = segments_of c.match-strip_mark.absolute.1.now } =
+    elim c.match-strip_mark.branch [ in-Some w ↦ rw w.absolute-is (read-absolute _ w.in-Some.text.now _ w.in-Some.ensures refl) | in-None w ↦ rw w.absolute-is (read-relative _ _ w.in-None.ensures refl) ] in
+    grind (arith, read)

@@ -11,8 +11,8 @@ of_target-requires g c =
     let r = read_reference c.args.self.now.inner in
     let context : c.context.result ≡ context_of r = c.context.ensures ∙ ap context_by c.lengths-lengths.ensures.lengths ∙ context-lengths r in (
       g.met.R.HeldRule.references g.C.CharSet.tests c.args.self.now.inner c.lengths-lengths.ensures.in_rule,
-      rw (c.path_start.ensures, c.lengths-lengths.ensures.lengths, path_after-lengths) refl,
-      rw (c.query_mark.ensures, c.lengths-lengths.ensures.lengths, query_after-lengths) refl,
+      rw (c.path_start-start.ensures, c.lengths-lengths.ensures.lengths, path_after-lengths) refl,
+      rw (c.path_start-start.ensures, c.lengths-lengths.ensures.lengths, query_after-lengths) refl,
       ap (λ x. x.has_scheme) context,
       ap (λ x. x.has_authority) context,
     )
