@@ -16,7 +16,7 @@ use Rattle.iref_model.proofs.StayingLemmas.{open_before-append, staying_before-a
 use Rattle.iref_path.specs.NormalItems.{first_or}
 use Rattle.iref_path.specs.Pieces.{pieces_if_some}
 use Rattle.iref_path.specs.Spelling.{each_closed}
-use Rattle.iref_path.proofs.SpellLemmas.{kept_size, last_size, list_size, read_size, size-append, size-cons, size-parents}
+use Rattle.iref_path.proofs.SpellLemmas.{kept_size, last_size, read_size, size-append, size-cons, size-parents}
 use Rattle.iref_path.proofs.NormalItemsLemmas.{parts_left}
 
 -- this number of `..` is open before the list behind, of which this is left
@@ -56,14 +56,9 @@ pub size-parts : (parents : ℕ) (names : List Text) (closes : Bool) → length 
 size-parts parents names closes = grind (arith, size-append, size-parents)
 
 -- what is added up takes no more than the segments
-module _ (list : List Text) (absolute closes : Bool) (opened parents names size closed : ℕ)
-    (opened_is : opened ≡ open_before list 0) (parents_are : parents ≡ cond absolute 0 opened) (names_are : names ≡ length (staying_before list 0))
-    (size_is : size ≡ length (each_closed (staying_before list 0))) (closed_is : closed ≡ cond closes 1 0) where
-  pub size_most : 3 * parents + size + closed ≤ length (each_closed list) + 1
-  size_most = grind (arith, kept_size list)
-
-  pub count_most : parents + names + closed ≤ length (each_closed list) + 1
-  count_most = grind (arith, list_size (staying_before list 0), size_most)
+pub size_most : (list : List Text) (absolute closes : Bool) (opened parents size closed : ℕ) → opened ≡ open_before list 0 → parents ≡ cond absolute 0 opened
+    → size ≡ length (each_closed (staying_before list 0)) → closed ≡ cond closes 1 0 → 3 * parents + size + closed ≤ length (each_closed list) + 1
+size_most list absolute closes opened parents size closed e f g h = grind (arith, kept_size list)
 
 pub first-parts : (parents : ℕ) (names : List Text) (closes : Bool) → first_or [] (parts_left parents names closes) ≡ cond (parents == 0) (first_or [] names) (codes "..")
 first-parts parents names closes = grind arith

@@ -37,9 +37,6 @@ pub record IsScanned (opened : ℕ) (names : List Text) (n count : ℕ) (rest : 
 pub all_last : (names : List Text) → last_ones (length names) names ≡ names
 all_last names = grind arith
 
-pub one_last : (names : List Text) (s : Text) (k : ℕ) → k ≤ length names → last_ones (k + 1) (names ++ s ∷ []) ≡ last_ones k names ++ s ∷ []
-one_last names s k h = grind (arith, length-append, drop-append-le)
-
 pub length-last : (names : List Text) (k : ℕ) → k ≤ length names → length (last_ones k names) ≡ k
 length-last names k h = grind (arith, length-drop)
 

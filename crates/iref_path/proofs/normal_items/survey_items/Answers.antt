@@ -43,8 +43,8 @@ overflow_add-result c = grind (arith, size_most, root_is)
 pub overflow_add-result-2 : goal.overflow_add-result-2
 overflow_add-result-2 c =
     let found = c.survey_names-found.ensures in
-    let most = size_most (merged_list c.args.front c.args.back) _ _ _ _ _ _ _ (ap (λ (n : NormalItems). n.parents) found.items) c.leading_parents-parents.ensures
-    (ap (λ (n : NormalItems). n.names_left) found.items) found.size (c.from.ensures ∙ root_is c.ends_in_dots-closes.result) in
+    let most = size_most (merged_list c.args.front c.args.back) _ _ _ _ _ _ (ap (λ (n : NormalItems). n.parents) found.items) c.leading_parents-parents.ensures
+    found.size (c.from.ensures ∙ root_is c.ends_in_dots-closes.result) in
     omega (arith, most, c.requires)
 
 pub returns-then-is_one_empty-clause-size : goal.returns-then-is_one_empty-clause-size
