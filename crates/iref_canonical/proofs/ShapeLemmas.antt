@@ -20,7 +20,7 @@ use Rattle.iref_model.specs.NormalList.{is_dot, is_dot_dot, normal_segments}
 use Rattle.iref_model.specs.PathKey.{path_key}
 use Rattle.iref_model.proofs.RewritingLemmas.{not_lone}
 use Rattle.iref_model.proofs.SettledLemmas.{lone-normal}
-use Rattle.iref_path.specs.BothEnds.{first_or}
+use Rattle.iref_path.specs.NormalItems.{first_or}
 use Rattle.iref_path.specs.Spelling.{each_closed, guard, guard_in}
 use Rattle.iref_path.proofs.SpellLemmas.{list-spelled, size-cons}
 use Rattle.iref_canonical.specs.Canonical.{canonical_items, canonical_name, canonical_path, canonical_relative, encoded}

@@ -2,7 +2,7 @@
 use Rattle.std.specs.Prelude.{◌≡◌, ℕ, ◌+◌, true, List, ◌++◌, length, drop}
 use Rattle.std.specs.List.{flat_map, list_all}
 use Rattle.iref_grammar.specs.Rules.{Text}
-use Rattle.iref_path.specs.BothEnds.{IsSound, decoded_left}
+use Rattle.iref_path.specs.NormalItems.{decoded_left, IsSound}
 use Rattle.iref_path.specs.Pieces.{pieces_if_some}
 use Rattle.iref_canonical.specs.declared.sort_path.Items.{Items}
 use Rattle.iref_canonical.specs.declared.sort_path.Items.TheVariants.{Kept, Normal}

@@ -1,13 +1,11 @@
 -- The items of a canonical path as they are written, and how many of them are `..` that stand.
 use Rattle.std.specs.Prelude.{◌≡◌, ℕ, zero, suc, ◌-◌, ◌≤◌, Bool, not, ◌&&◌, List, [], ◌∷◌, ◌++◌, map, codes, length, if◌then◌else◌}
 use Rattle.std.specs.List.{join_with_byte}
-use Rattle.percent_encoding.specs.Percent.{percent_decode}
 use Rattle.iref_grammar.specs.Grammar.{slash}
 use Rattle.iref_grammar.specs.Rules.{Text}
 use Rattle.iref_grammar.specs.Texts.{is_empty}
 use Rattle.iref_model.specs.NormalList.{is_dot_dot}
-use Rattle.iref_path.specs.Merged.{IsMergeSound, merged_left}
-use Rattle.iref_path.specs.declared.both_ends.merged.Merged.{Merged}
+use Rattle.iref_path.specs.NormalItems.{decoded_left, IsSound, normal_left}
 use Rattle.iref_canonical.specs.Canonical.{canonical_name}
 use Rattle.iref_canonical.specs.declared.path.CanonicalPath.{CanonicalPath}
 
@@ -31,16 +29,12 @@ spelled_items zero items = map canonical_name items
 spelled_items (suc n) [] = []
 spelled_items (suc n) (item ∷ rest) = codes ".." ∷ spelled_items n rest
 
--- what is left of a list that is read from the back, decoded
-abbrev pub decoded_left : Merged → List Text
-decoded_left left = map percent_decode (merged_left left)
-
 -- the guard, and the items
 unfoldable pub canonical_path_text : CanonicalPath → Text
 canonical_path_text p = p.guard.now ++ join_with_byte slash (spelled_items p.standing (decoded_left p.items))
 
 -- the items can be read and are counted, and the last one does not stand
 pub record IsCounted (p : CanonicalPath) : Type 0 where
-  pub sound : IsMergeSound p.items
-  pub count : p.count ≡ length (merged_left p.items)
+  pub sound : IsSound p.items
+  pub count : p.count ≡ length (normal_left p.items)
   pub standing : p.standing ≤ p.count - 1

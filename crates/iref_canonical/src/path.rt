@@ -6,16 +6,16 @@ ghost use Rattle.percent_encoding.specs.Percent.{percent_decode};
 ghost use Rattle.iref_grammar.specs.{Grammar.{colon, slash}, PathValue.{read_path, spell_path}};
 ghost use Rattle.iref_grammar.specs.Texts.{is_empty};
 ghost use Rattle.iref_model.specs.{Guard.{guarded}, NormalList.{is_dot, is_dot_dot}, PathKey.{path_key}};
-ghost use Rattle.iref_path.specs.{Merged.{IsMergeSound, merged_left}, Spelling.{each_closed}};
+ghost use Rattle.iref_path.specs.{NormalItems.{IsSound, decoded_left, normal_left}, Spelling.{each_closed}};
 ghost use Rattle.iref_canonical.specs.Canonical.{canonical_name, canonical_path};
-ghost use Rattle.iref_canonical.specs.SpelledItems.{IsCounted, canonical_path_text, decoded_left};
+ghost use Rattle.iref_canonical.specs.SpelledItems.{IsCounted, canonical_path_text};
 ghost use Rattle.iref_canonical.specs.SpelledItems.{spelled_item, spelled_items, standing_of};
 
 use crate::backward::Backward;
 use crate::encoded::{SEGMENT, put_encoded, split_last_decoded};
 use iref_grammar::context::PathContext;
 use iref_parse::decoded::decoded_eq;
-use iref_path::both_ends::merged::Merged;
+use iref_path::normal_items::{NormalItems, survey_items};
 use iref_path::segments::split_root;
 use iref_path::spell::guard_in;
 
@@ -24,7 +24,7 @@ use iref_path::spell::guard_in;
 pub struct CanonicalPath<'a> {
     // What stands before the items.
     guard: &'static str,
-    items: Merged<'a>,
+    items: NormalItems<'a>,
     count: usize,
     // How many `..` stand first.
     standing: usize,
@@ -61,9 +61,9 @@ fn decodes_to_colon(text: &str) -> bool
 }
 
 // How many items of a relative list are `..` that stand first, not the last item among them.
-fn count_standing(mut left: Merged<'_>) -> usize
-    requires sound { IsMergeSound left }
-    requires countable { length (merged_left left) < 2 ^ 64 }
+fn count_standing(mut left: NormalItems<'_>) -> usize
+    requires sound { IsSound left }
+    requires countable { length (normal_left left) < 2 ^ 64 }
     ensures { result ≡ standing_of (decoded_left left.entry) }
 {
     if left.next_back().is_none() {
@@ -81,9 +81,9 @@ fn count_standing(mut left: Merged<'_>) -> usize
 }
 
 // How many items of a list stand.
-fn count_standing_in(absolute: bool, left: Merged<'_>) -> usize
-    requires sound { IsMergeSound left }
-    requires countable { length (merged_left left) < 2 ^ 64 }
+fn count_standing_in(absolute: bool, left: NormalItems<'_>) -> usize
+    requires sound { IsSound left }
+    requires countable { length (normal_left left) < 2 ^ 64 }
     ensures { result ≡ (if absolute then 0 else standing_of (decoded_left left.entry)) }
 {
     if absolute { 0 } else { count_standing(left) }
@@ -141,9 +141,9 @@ fn put_closed_item<O: Backward>(out: &mut O, item: &str, stands: bool)
 }
 
 // Puts the items, each with a `/` after it.
-fn put_closed<O: Backward>(out: &mut O, mut left: Merged<'_>, count: usize, standing: usize)
-    requires sound { IsMergeSound left }
-    requires count { count ≡ length (merged_left left) }
+fn put_closed<O: Backward>(out: &mut O, mut left: NormalItems<'_>, count: usize, standing: usize)
+    requires sound { IsSound left }
+    requires count { count ≡ length (normal_left left) }
     requires fits { O.fits out.old (each_closed (spelled_items standing (decoded_left left))) }
     ensures { out.new ≡ O.after out.old
         (each_closed (spelled_items standing (decoded_left left.entry))) }
@@ -156,9 +156,9 @@ fn put_closed<O: Backward>(out: &mut O, mut left: Merged<'_>, count: usize, stan
 }
 
 // Puts the items with `/` between. The last one does not stand.
-fn put_items<O: Backward>(out: &mut O, mut left: Merged<'_>, count: usize, standing: usize)
-    requires sound { IsMergeSound left }
-    requires count { count ≡ length (merged_left left) }
+fn put_items<O: Backward>(out: &mut O, mut left: NormalItems<'_>, count: usize, standing: usize)
+    requires sound { IsSound left }
+    requires count { count ≡ length (normal_left left) }
     requires standing { standing ≤ count - 1 }
     requires fits { O.fits out.old
         (join_with_byte slash (spelled_items standing (decoded_left left))) }
@@ -179,13 +179,14 @@ impl<'a> CanonicalPath<'a> {
         ensures counted { IsCounted result }
     {
         let (absolute, segments) = split_root(path);
-        let all = Merged::new(absolute, None, segments);
-        let guard = guard_in(context, absolute, all.count, sample(all.first));
+        let all = survey_items(absolute, None, segments);
+        let count = all.items.len();
+        let guard = guard_in(context, absolute, count, sample(all.first));
         let standing = count_standing_in(absolute, all.items);
         CanonicalPath {
             guard,
             items: all.items,
-            count: all.count,
+            count,
             standing,
         }
     }

@@ -3,7 +3,7 @@
 ghost use Rattle.std.specs.Prelude.{◌≡◌, ◌≤◌, IfSome, length, true};
 ghost use Rattle.iref_grammar.specs.PathValue.{read_path};
 ghost use Rattle.iref_model.specs.PathKey.{path_key};
-ghost use Rattle.iref_path.specs.{BothEnds.{IsSound, decoded_left}, Pieces.{pieces_if_some}};
+ghost use Rattle.iref_path.specs.{NormalItems.{IsSound, decoded_left}, Pieces.{pieces_if_some}};
 ghost use Rattle.iref_path.specs.Written.{WritesBefore};
 ghost use Rattle.iref_canonical.specs.SortBytes as bytes;
 ghost use Rattle.iref_canonical.specs.SortItems.{AreItems, AreKept, items_of};
@@ -12,7 +12,7 @@ ghost use Rattle.iref_canonical.specs.SortKey.{sort_item, sort_list};
 use crate::sort_text::{text_len, write_byte, write_kept, write_text};
 use iref_parse::dots::has_dots;
 use iref_parse::unescaped::is_kept;
-use iref_path::both_ends::BothEnds;
+use iref_path::normal_items::NormalItems;
 use iref_path::segments::{count_segments, last_segment, split_root};
 
 /// The items of a path's normal list.
@@ -21,7 +21,7 @@ pub(crate) enum Items<'a> {
     /// The segments of a text: none begins with a dot, and each byte is written as it is.
     Kept(Option<&'a str>),
     /// Items that are found from the end.
-    Normal(BothEnds<'a>),
+    Normal(NormalItems<'a>),
 }
 
 // How many bytes a sort key has for segments, each byte of which is written as it is, and their end.
@@ -57,7 +57,7 @@ fn write_segments(buffer: &mut [u8], end: usize, segments: Option<&str>) -> usiz
 }
 
 // How many bytes a sort key has for items, and their end.
-fn items_len(mut left: BothEnds<'_>) -> Option<usize>
+fn items_len(mut left: NormalItems<'_>) -> Option<usize>
     requires { IsSound left }
     ensures { IfSome result (λ len.
         len ≡ length (sort_list sort_item (decoded_left left.entry))) }
@@ -71,7 +71,7 @@ fn items_len(mut left: BothEnds<'_>) -> Option<usize>
 }
 
 // Writes items and their end so that they end at `end`, and returns where they begin.
-fn write_items(buffer: &mut [u8], end: usize, mut left: BothEnds<'_>) -> usize
+fn write_items(buffer: &mut [u8], end: usize, mut left: NormalItems<'_>) -> usize
     requires sound { IsSound left }
     requires room { length (sort_list sort_item (decoded_left left)) ≤ end }
     requires within { end ≤ length buffer.old }
@@ -99,7 +99,7 @@ impl<'a> Items<'a> {
         if kept && !has_dots(path.as_bytes()) {
             (absolute, Items::Kept(segments))
         } else {
-            (absolute, Items::Normal(BothEnds::new(path).0))
+            (absolute, Items::Normal(NormalItems::new(path)))
         }
     }
 

@@ -26,7 +26,7 @@ pub use Rattle.iref_model.specs.PortNumbers.{port_text}
 pub use Rattle.iref_model.specs.ReferenceParts.{base_of, host_of, port_of, user_info_of}
 pub use Rattle.iref_model.specs.PathSuffix.{path_suffix}
 pub use Rattle.iref_path.specs.Pieces.{pieces_if_some}
-pub use Rattle.iref_path.specs.BothEnds.{IsSound, normal_left}
+pub use Rattle.iref_path.specs.NormalItems.{IsSound, normal_left}
 pub use Rattle.iref_path.specs.CountedPath.{HasRoomFor, steps_count, steps_taken}
 pub use Rattle.iref_component.specs.AuthorityParts.{parts_key, parts_value}
 pub use Rattle.iref_component.specs.Comparisons.{by_parts, by_segments, by_text, ComparesBy, Comparison}

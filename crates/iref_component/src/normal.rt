@@ -10,7 +10,7 @@ ghost use Rattle.iref_path.specs.Listed.{listed_left};
 
 use crate::named_texts::Segment;
 use iref_grammar::chars::CharSet;
-use iref_path::both_ends::listed::Listed;
+use iref_path::normal_items::listed::Listed;
 use std::marker::PhantomData;
 
 /// The normal segments of a path that are left, from both ends (RFC 3986 section 5.2.4): of

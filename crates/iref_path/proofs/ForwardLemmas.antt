@@ -24,7 +24,7 @@ use Rattle.iref_parse.proofs.DotSegmentLemmas.{later_dotless}
 use Rattle.iref_path.proofs.DotlessLemmas.{dotless_name}
 use Rattle.iref_path.specs.Forward.{forward, last_put, popped_text, segment_put}
 use Rattle.iref_path.specs.Merged.{path_after}
-use Rattle.iref_path.specs.BothEnds.{first_or}
+use Rattle.iref_path.specs.NormalItems.{first_or}
 use Rattle.iref_path.specs.Slashes.{IsLastSlash, LacksSlashFrom}
 use Rattle.iref_path.specs.Spelling.{each_closed}
 use Rattle.iref_path.proofs.SlashLemmas.{pieces-cut_last, pieces-uncut, read-absolute, read-relative}

@@ -2,7 +2,7 @@ pub mod ShownLemmas
 pub mod SlashLemmas
 pub mod CountedPathLemmas
 pub mod PathTextLemmas
-pub mod BothEndsLemmas
+pub mod NormalItemsLemmas
 pub mod OrderLemmas
 pub mod SpellLemmas
 pub mod StepTextLemmas

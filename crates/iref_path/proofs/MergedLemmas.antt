@@ -13,13 +13,11 @@ use Rattle.iref_model.specs.NormalReading.{open_before, staying_before}
 use Rattle.iref_model.proofs.PieceLemmas.{some_piece}
 use Rattle.iref_model.proofs.SettledLemmas.{ends-append}
 use Rattle.iref_model.proofs.StayingLemmas.{open_before-append, staying_before-append}
-use Rattle.iref_path.specs.declared.both_ends.merged.Merged.{Merged}
-use Rattle.iref_path.specs.Merged.{IsBehind, IsMergeSound, merged_left}
+use Rattle.iref_path.specs.NormalItems.{first_or}
 use Rattle.iref_path.specs.Pieces.{pieces_if_some}
-use Rattle.iref_path.specs.BothEnds.{IsSound, first_or, normal_left}
 use Rattle.iref_path.specs.Spelling.{each_closed}
-use Rattle.iref_path.proofs.SpellLemmas.{kept_size, last_size, list_size, read_size, size-append, size-cons, size-parents}
-use Rattle.iref_path.proofs.BothEndsLemmas.{parts_left}
+use Rattle.iref_path.proofs.SpellLemmas.{kept_size, last_size, read_size, size-append, size-cons, size-parents}
+use Rattle.iref_path.proofs.NormalItemsLemmas.{parts_left}
 
 -- this number of `..` is open before the list behind, of which this is left
 module _ (front back left : List Text) (n m : ℕ) (open_is : open_before left m ≡ open_before back n) where
@@ -58,23 +56,9 @@ pub size-parts : (parents : ℕ) (names : List Text) (closes : Bool) → length 
 size-parts parents names closes = grind (arith, size-append, size-parents)
 
 -- what is added up takes no more than the segments
-module _ (list : List Text) (absolute closes : Bool) (opened parents names size closed : ℕ)
-    (opened_is : opened ≡ open_before list 0) (parents_are : parents ≡ cond absolute 0 opened) (names_are : names ≡ length (staying_before list 0))
-    (size_is : size ≡ length (each_closed (staying_before list 0))) (closed_is : closed ≡ cond closes 1 0) where
-  pub size_most : 3 * parents + size + closed ≤ length (each_closed list) + 1
-  size_most = grind (arith, kept_size list)
-
-  pub count_most : parents + names + closed ≤ length (each_closed list) + 1
-  count_most = grind (arith, list_size (staying_before list 0), size_most)
+pub size_most : (list : List Text) (absolute closes : Bool) (opened parents size closed : ℕ) → opened ≡ open_before list 0 → parents ≡ cond absolute 0 opened
+    → size ≡ length (each_closed (staying_before list 0)) → closed ≡ cond closes 1 0 → 3 * parents + size + closed ≤ length (each_closed list) + 1
+size_most list absolute closes opened parents size closed e f g h = grind (arith, kept_size list)
 
 pub first-parts : (parents : ℕ) (names : List Text) (closes : Bool) → first_or [] (parts_left parents names closes) ≡ cond (parents == 0) (first_or [] names) (codes "..")
 first-parts parents names closes = grind arith
-
--- ---- no segments stand in front
-
-pub behind-left : (m : Merged) → IsBehind m → normal_left m.back ≡ merged_left m
-unfolding normal_left merged_left
-behind-left m h = grind arith
-
-pub behind-sound : (m : Merged) → IsBehind m → IsMergeSound m → IsSound m.back
-behind-sound m h sound = grind arith

@@ -1,10 +1,8 @@
 -- Lists that are compared from the back.
-use Rattle.std.proofs.Common.{append_assoc, length-append, ◌≡◌, ℕ, ◌-◌, ◌<◌, ◌≤◌, List, [], ◌∷◌, ◌++◌, length, take, map, fold, arith, true, false, Ordering}
-use Rattle.std.proofs.lemmas.List.{reverse-append, map-append, length-take-le, take_at, take_min, length-map, take-map, take-append-drop}
+use Rattle.std.proofs.Common.{length-append, ◌≡◌, ℕ, ◌-◌, List, [], ◌∷◌, ◌++◌, length, take, map, fold, arith, true, false, Ordering}
+use Rattle.std.proofs.lemmas.List.{reverse-append, map-append, take_min, length-map, take-map}
 use Rattle.std.proofs.lemmas.Bool.Decides.{nat_tests}
 use Rattle.std.proofs.lemmas.Grind.{common_steps}
-use Rattle.std.specs.Prelude.{Option, MatchOption}
-use Rattle.std.specs.Borrow.{Bor}
 use Rattle.std.specs.Ordering.{bool_cmp, is_ne, nat_cmp, ordering_then}
 use Rattle.std.specs.Cmp.Lexicographic.{slice_cmp}
 use Rattle.std.proofs.lemmas.List.Concat.{flat_map-cons}
@@ -16,13 +14,6 @@ use Rattle.iref_grammar.specs.Rules.{Text}
 use Rattle.iref_grammar.specs.PathValue.{PathValue}
 use Rattle.iref_model.specs.NormalList.{normal_segments}
 use Rattle.iref_model.specs.PathKey.{path_key, path_key_cmp}
-
--- ---- the last items passed over
-
--- one more item is passed over
-pub one_less : (whole left after : List Text) (given : Option (Bor Text)) (n : ℕ) → n ≤ length whole → 0 < n → left ≡ take n whole
-    → MatchOption given ((left ≡ []) × (after ≡ [])) (λ s. left ≡ after ++ s.now ∷ []) → after ≡ take (n - 1) whole
-one_less whole left after given n h some e m = grind (arith, append_assoc, length-append, length-take-le, take-append-drop n whole, take_at after)
 
 -- ---- the foremost difference decides
 

@@ -24,7 +24,7 @@ use Rattle.iref_model.specs.NormalList.{normal_segments}
 use Rattle.iref_model.specs.NormalReading.{open_before, staying_before}
 use Rattle.iref_model.specs.PathSteps.{normalized}
 use Rattle.iref_path.specs.PathParts.{is_path_after}
-use Rattle.iref_path.specs.BothEnds.{first_or, flagged_path}
+use Rattle.iref_path.specs.NormalItems.{first_or, flagged_path}
 use Rattle.iref_path.specs.Spelling.{each_closed, guard, guard_in, normal_in}
 use Rattle.iref_model.proofs.GuardLemmas.{guarded-fits}
 use Rattle.iref_model.proofs.PieceLemmas.{some_piece}

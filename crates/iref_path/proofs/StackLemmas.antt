@@ -8,8 +8,8 @@ use Rattle.iref_model.specs.NormalReading.{closing}
 use Rattle.iref_path.specs.Spelling.{each_closed}
 use Rattle.iref_path.specs.Pieces.{text_at}
 use Rattle.iref_path.specs.Stacks.{Completes, in_order}
-use Rattle.iref_path.specs.declared.both_ends.stack.Stack.{Stack}
-use Rattle.iref_path.proofs.BothEndsLemmas.{parts_left}
+use Rattle.iref_path.specs.declared.normal_items.stack.Stack.{Stack}
+use Rattle.iref_path.proofs.NormalItemsLemmas.{parts_left}
 use Rattle.iref_path.proofs.SpellLemmas.{size-append, size-cons}
 
 -- the three parts, one after the other

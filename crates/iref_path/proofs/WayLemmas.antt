@@ -1,13 +1,11 @@
 -- The way from the directory of one path to another, up to their common beginning and down.
-use Rattle.std.proofs.Common.{◌≡◌, ◌+◌, ◌-◌, ◌*◌, ◌<◌, ◌≤◌, List, [], ◌∷◌, ◌++◌, length, sym, arith, length-append}
-use Rattle.std.specs.Prelude.{Option, Some, None, MatchOption}
-use Rattle.std.specs.Borrow.{Bor}
+use Rattle.std.proofs.Common.{◌≡◌, ◌+◌, ◌-◌, ◌*◌, ◌<◌, ◌≤◌, List, [], ◌∷◌, length, sym, take, arith, length-append}
+use Rattle.std.proofs.lemmas.List.{take_at}
 use Rattle.std.specs.List.{common_prefix_len}
 use Rattle.iref_grammar.specs.Rules.{Text}
 use Rattle.iref_grammar.specs.Texts.{all_but_last}
 use Rattle.iref_model.specs.PathSuffix.{same_decoded}
 use Rattle.iref_model.specs.Relative.{last_or_empty, steps_between}
-use Rattle.iref_model.proofs.DirectoryLemmas.{all_but_last-snoc}
 use Rattle.iref_model.proofs.LeadingLemmas.{divided_last}
 use Rattle.iref_path.specs.Spelling.{each_closed}
 use Rattle.iref_path.specs.Ways.{with_last}
@@ -27,11 +25,8 @@ whole_divided (s ∷ rest) some = sym (divided_last s rest)
 pub length-with_last : (list : List Text) → length (with_last list) ≡ length (all_but_last list) + 1
 length-with_last list = length-append (all_but_last list) (last_or_empty list ∷ [])
 
--- the last item is taken of a list that has one
-pub last_taken : (list items left : List Text) (given : Option (Bor Text)) → items ≡ with_last list
-    → MatchOption given ((items ≡ []) × (left ≡ [])) (λ s. items ≡ left ++ s.now ∷ []) → left ≡ all_but_last list
-last_taken list items left None e h = grind (arith, length-with_last list)
-last_taken list items left (Some s) e h = grind (arith, all_but_last-snoc left s.now, all_but_last-snoc (all_but_last list) (last_or_empty list))
+pub all_but_last-take : (list : List Text) → take (length (with_last list) - 1) (with_last list) ≡ all_but_last list
+all_but_last-take list = grind (arith, length-with_last list, take_at (all_but_last list) (last_or_empty list ∷ []))
 
 -- ---- its size
 

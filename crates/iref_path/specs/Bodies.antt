@@ -5,7 +5,7 @@ use Rattle.std.specs.List.{join_with_byte}
 use Rattle.iref_grammar.specs.Rules.{Text}
 use Rattle.iref_grammar.specs.Grammar.{slash}
 use Rattle.iref_path.specs.Spelling.{each_closed}
-use Rattle.iref_path.specs.Ways.{IsWaySound, way_left}
+use Rattle.iref_path.specs.NormalItems.{IsSound, normal_left}
 use Rattle.iref_path.specs.declared.measured_body.Body.{Body}
 use Rattle.iref_path.specs.declared.measured_body.Body.TheVariants.{Kept, Up, Items}
 
@@ -21,10 +21,10 @@ parents_then up text = each_closed (replicate up (codes "..")) ++ text
 abbrev pub body_text : Body → Text
 body_text (Kept front back) = after_front front back.now
 body_text (Up up text) = parents_then up text.now
-body_text (Items items size) = join_with_byte slash (way_left items)
+body_text (Items items size) = join_with_byte slash (normal_left items)
 
 -- the size is that of the items
 abbrev pub IsBody : Body → Type 0
 IsBody (Kept front back) = length (after_front front back.now) < 2 ^ 64
 IsBody (Up up text) = length (parents_then up text.now) < 2 ^ 64
-IsBody (Items items size) = IsWaySound items × (size ≡ length (each_closed (way_left items)))
+IsBody (Items items size) = IsSound items × (size ≡ length (each_closed (normal_left items)))

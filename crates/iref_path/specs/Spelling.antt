@@ -7,7 +7,7 @@ use Rattle.iref_grammar.specs.Grammar.{slash, colon}
 use Rattle.iref_grammar.specs.Texts.{is_empty}
 use Rattle.iref_grammar.specs.PathValue.{PathValue}
 use Rattle.iref_model.specs.PathSteps.{normalized}
-use Rattle.iref_path.specs.BothEnds.{flagged_path}
+use Rattle.iref_path.specs.NormalItems.{flagged_path}
 
 -- the segments, with a `/` after each
 abbrev pub each_closed : List Text → Text

@@ -6,9 +6,9 @@ use Rattle.iref_grammar.specs.Grammar.{slash}
 use Rattle.iref_grammar.specs.Rules.{Text}
 use Rattle.iref_grammar.specs.PathValue.{PathValue}
 use Rattle.iref_path.specs.Pieces.{pieces_if_some, text_at}
-use Rattle.iref_path.specs.BothEnds.{first_or}
+use Rattle.iref_path.specs.NormalItems.{first_or}
 use Rattle.iref_path.specs.Spelling.{each_closed}
-use Rattle.iref_path.specs.declared.both_ends.stack.Stack.{Stack}
+use Rattle.iref_path.specs.declared.normal_items.stack.Stack.{Stack}
 
 -- these items, which were put the last first, in their order
 abbrev pub in_order : List (Bor Text) → List Text

@@ -3,9 +3,9 @@ use Rattle.std.specs.Prelude.{false}
 use Rattle.iref_grammar.specs.Contexts.{alone}
 use Rattle.iref_grammar.specs.PathValue.{PathValue}
 use Rattle.iref_model.specs.Guard.{guarded}
-use Rattle.iref_path.specs.Ways.{way_left}
-use Rattle.iref_path.specs.declared.both_ends.way.Way.{Way}
+use Rattle.iref_path.specs.NormalItems.{normal_left}
+use Rattle.iref_path.specs.declared.normal_items.NormalItems.{NormalItems}
 
 -- the relative path of the items that are left, which stands alone
-abbrev pub way_path : Way → PathValue
-way_path w = guarded alone (record { absolute = false; segments = way_left w })
+abbrev pub items_path : NormalItems → PathValue
+items_path items = guarded alone (record { absolute = false; segments = normal_left items })

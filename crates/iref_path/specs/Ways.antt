@@ -1,5 +1,5 @@
--- A way up and down: a number of `..`, and the last items of a normal list.
-use Rattle.std.specs.Prelude.{ℕ, ◌-◌, false, List, [], ◌∷◌, ◌++◌, codes, drop, length, replicate, if◌then◌else◌}
+-- The steps that lead up and down: a number of `..`, and the last items of a normal list.
+use Rattle.std.specs.Prelude.{ℕ, ◌-◌, false, List, [], ◌∷◌, ◌++◌, drop, length, if◌then◌else◌}
 use Rattle.iref_grammar.specs.Rules.{Text}
 use Rattle.iref_grammar.specs.Grammar.{slash}
 use Rattle.iref_grammar.specs.Texts.{all_but_last, pieces_at}
@@ -8,19 +8,6 @@ use Rattle.iref_grammar.specs.PathValue.{PathValue}
 use Rattle.iref_model.specs.Guard.{guarded}
 use Rattle.iref_model.specs.NormalList.{normal, normal_segments}
 use Rattle.iref_model.specs.Relative.{directory_names, last_or_empty, steps_between}
-use Rattle.iref_path.specs.Merged.{IsMergeSound, merged_left}
-use Rattle.iref_path.specs.declared.both_ends.way.Way.{Way}
-
--- the last of the items, at most this number
-abbrev pub items_down : Way → List Text
-items_down w = drop (length (merged_left w.items) - w.down) (merged_left w.items)
-
--- the items that are left
-unfoldable pub way_left : Way → List Text
-way_left w = replicate w.up (codes "..") ++ items_down w
-
-abbrev pub IsWaySound : Way → Type 0
-IsWaySound w = IsMergeSound w.items
 
 -- the last items of a list, this many
 abbrev pub last_ones : ℕ → List Text → List Text

@@ -4,25 +4,12 @@ ghost use Rattle.std.specs.{List.{common_prefix_len}, Prelude.{◌≡◌, ◌-�
 ghost use Rattle.std.specs.Cmp.Lexicographic.{slice_cmp};
 ghost use Rattle.iref_grammar.specs.{text_order};
 ghost use Rattle.iref_model.specs.PathSuffix.{same_decoded};
-ghost use Rattle.iref_path.specs.BothEnds.{IsSound, decoded_left, normal_left};
+ghost use Rattle.iref_path.specs.NormalItems.{IsSound, decoded_left, normal_left};
 ghost use Rattle.percent_encoding.specs.Percent.{percent_decode};
 
-use crate::both_ends::BothEnds;
+use crate::normal_items::NormalItems;
 use iref_parse::decoded::decoded_cmp;
 use std::cmp::Ordering;
-
-// Passes over the last `count` items.
-fn skip_back(left: &mut BothEnds<'_>, count: usize)
-    requires sound { IsSound left.old }
-    requires within { count ≤ length (normal_left left.old) }
-    ensures items { normal_left left.new
-        ≡ take (length (normal_left left.old) - count) (normal_left left.old) }
-    ensures sound { IsSound left.new }
-{
-    for _skipped in 0..count {
-        left.next_back();
-    }
-}
 
 // The order of the bytes that two items decode to. Most are the same text, which is not decoded.
 #[inline(always)]
@@ -38,8 +25,8 @@ pub(crate) fn items_cmp(a: &str, b: &str) -> Ordering
 
 // Two lists of this number of items each: the foremost difference decides, and is read last.
 fn compare_same_length(
-    mut left: BothEnds<'_>,
-    mut right: BothEnds<'_>,
+    mut left: NormalItems<'_>,
+    mut right: NormalItems<'_>,
     len: usize,
 ) -> (usize, Ordering)
     requires left { IsSound left }
@@ -73,23 +60,18 @@ fn compare_same_length(
 ///
 /// Of `a`, `b`, `c` and `a`, `%62`, `d`, `e` it is 2 and `Less`. Each segment that is left is read
 /// once.
-pub fn compare_lists(
-    mut left: BothEnds<'_>,
-    left_len: usize,
-    mut right: BothEnds<'_>,
-    right_len: usize,
-) -> (usize, Ordering)
+pub fn compare_lists(left: NormalItems<'_>, right: NormalItems<'_>) -> (usize, Ordering)
     requires left { IsSound left }
     requires right { IsSound right }
-    requires left_len { left_len ≡ length (normal_left left) }
-    requires right_len { right_len ≡ length (normal_left right) }
     ensures common { result.0
         ≡ common_prefix_len same_decoded (normal_left left.entry) (normal_left right.entry) }
     ensures order { result.1
         ≡ slice_cmp text_order (decoded_left left.entry) (decoded_left right.entry) }
 {
-    skip_back(&mut left, left_len.saturating_sub(right_len));
-    skip_back(&mut right, right_len.saturating_sub(left_len));
+    let left_len = left.len();
+    let right_len = right.len();
+    let left = left.without_last(left_len.saturating_sub(right_len));
+    let right = right.without_last(right_len.saturating_sub(left_len));
     let (common, order) = compare_same_length(left, right, left_len.min(right_len));
     (common, order.then(left_len.cmp(&right_len)))
 }

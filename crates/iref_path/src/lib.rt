@@ -3,7 +3,6 @@
 //! and what edits make of such a text.
 #![tactic(auto)]
 
-pub mod both_ends;
 pub mod compare_lists;
 pub mod counted;
 pub mod directory;
@@ -11,6 +10,7 @@ pub mod forward;
 pub mod guard;
 pub mod measured;
 pub mod measured_body;
+pub mod normal_items;
 pub mod order;
 pub mod path_part;
 pub mod relative_steps;

@@ -8,18 +8,17 @@ ghost use Rattle.iref_path.specs.Bodies.{after_front, parents_then};
 ghost use Rattle.iref_path.specs.Merged.{merged_list, merged_path, path_after};
 ghost use Rattle.iref_path.specs.MeasuredPaths.{IsMeasured, measured_text};
 ghost use Rattle.iref_path.specs.{Pieces.{pieces_if_some}, Spelling.{each_closed}};
-ghost use Rattle.iref_path.specs.Ways.{IsWaySound, path_between};
-ghost use Rattle.iref_path.specs.{Ways.{way_left}, Written.{WritesBefore}};
+ghost use Rattle.iref_path.specs.{NormalItems.{IsSound}, Ways.{path_between}};
+ghost use Rattle.iref_path.specs.{NormalItems.{normal_left}, Written.{WritesBefore}};
 ghost use Rattle.std.specs.Prelude.{◌||◌, ◌&&◌, ◌≡◌, ◌+◌, ◌*◌, ◌<◌, ◌≤◌, ◌^◌, ◌++◌, IfOk};
 ghost use Rattle.std.specs.Prelude.{Bool, Some, [], codes, false, length, replicate, true, ℕ};
 ghost use Rattle.std.specs.{Fmt.{WritesOnOk}, String.{string_bytes}};
-ghost use Rattle.iref_path.specs.BothEnds.{first_or};
+ghost use Rattle.iref_path.specs.NormalItems.{first_or};
 ghost use Rattle.iref_path.specs.Spelling as spelling;
 
-use crate::both_ends::merged::Merged;
-use crate::both_ends::way::Way;
 use crate::measured_body::Body;
-use crate::relative_steps::{behind_roots, first_step, steps_apart};
+use crate::normal_items::{NormalItems, survey_items};
+use crate::relative_steps::{behind_roots, first_step, items_between, steps_apart};
 use crate::segments::{first_segment, split_root, without_last};
 use crate::spell::{guard_in, measure, write_before};
 use iref_error::Memory;
@@ -147,9 +146,9 @@ impl<'a> MeasuredPath<'a> {
                 return MeasuredPath::dotless(context, absolute, front, back);
             }
         }
-        let all = Merged::new(absolute, front, back);
+        let all = survey_items(absolute, front, back);
         let guard = guard_in(context, absolute, all.size, all.first);
-        let body = Body::Items(Way::all(all.items), all.size);
+        let body = Body::Items(all.items, all.size);
         MeasuredPath { guard, body }
     }
 
@@ -168,12 +167,12 @@ impl<'a> MeasuredPath<'a> {
     }
 
     /// The text of a relative path of these items, which stands alone.
-    pub fn relative(items: Way<'a>) -> Self
-        requires sound { IsWaySound items }
-        requires room { length (each_closed (way_left items)) + 4 < 2 ^ 64 }
+    pub fn relative(items: NormalItems<'a>) -> Self
+        requires sound { IsSound items }
+        requires room { length (each_closed (normal_left items)) + 4 < 2 ^ 64 }
         ensures text { measured_text result ≡ spell_path (guarded alone (record {
           absolute = false;
-          segments = way_left items.entry;
+          segments = normal_left items.entry;
         })) }
         ensures measured { IsMeasured result }
     {
@@ -213,7 +212,7 @@ impl<'a> MeasuredPath<'a> {
             let (up, path) = steps_apart(base, path);
             return MeasuredPath::up(up, path);
         }
-        MeasuredPath::relative(Way::between(base, path))
+        MeasuredPath::relative(items_between(base, path))
     }
 
     /// How many bytes the text has.

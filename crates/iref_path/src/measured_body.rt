@@ -4,7 +4,7 @@ ghost use Rattle.iref_path.specs.Bodies.{IsBody, after_front, body_text, parents
 ghost use Rattle.iref_path.specs.{Written.{WritesBefore}};
 ghost use Rattle.std.specs.{Fmt.{WritesOnOk}, Prelude.{◌≡◌, ◌<◌, ◌≤◌, ◌^◌, length}};
 
-use crate::both_ends::way::Way;
+use crate::normal_items::NormalItems;
 use crate::shown::{show_items, show_parents};
 use crate::spell::{write_before, write_items, write_parents};
 use std::fmt;
@@ -17,7 +17,7 @@ pub enum Body<'a> {
     /// A number of `..`, each with a `/` after it, and a text.
     Up(usize, &'a str),
     /// Items with `/` between, and how many bytes they have with a `/` after each.
-    Items(Way<'a>, usize),
+    Items(NormalItems<'a>, usize),
 }
 
 // How many bytes a text has, and before it another one with a `/` after it.

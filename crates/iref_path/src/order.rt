@@ -14,10 +14,10 @@ ghost use Rattle.iref_model.specs.{fed_from_the_back, fed_path};
 ghost use Rattle.iref_parse.specs.Dots.{is_some_dotted};
 ghost use Rattle.iref_path.specs.Named.{begins_with_dot_slash, named, rank};
 ghost use Rattle.iref_path.specs.Pieces.{pieces_if_some};
-ghost use Rattle.iref_path.specs.BothEnds.{IsSound, decoded_left};
+ghost use Rattle.iref_path.specs.NormalItems.{IsSound, decoded_left};
 
-use crate::both_ends::BothEnds;
 use crate::compare_lists::{compare_lists, items_cmp};
+use crate::normal_items::NormalItems;
 use crate::segments::{behind_directory, first_segment, last_segment, split_root};
 use iref_parse::cut::strip_mark;
 use iref_parse::decoded::{hash_decoded, kept_front};
@@ -175,9 +175,7 @@ fn compare_normal(a: &str, b: &str) -> Ordering
         (map percent_decode (normal_segments (read_path a.now)))
         (map percent_decode (normal_segments (read_path b.now))) }
 {
-    let (left, left_len) = BothEnds::new(a);
-    let (right, right_len) = BothEnds::new(b);
-    compare_lists(left, left_len, right, right_len).1
+    compare_lists(NormalItems::new(a), NormalItems::new(b)).1
 }
 
 /// The order of the paths of two texts: relative before absolute, then segment by segment, the
@@ -212,7 +210,7 @@ fn hash_segments<H: Hasher>(segments: Option<&str>, state: &mut H)
 }
 
 // Feeds the hasher the items that are left, from the last to the first.
-fn hash_left<H: Hasher>(left: &mut BothEnds<'_>, state: &mut H)
+fn hash_left<H: Hasher>(left: &mut NormalItems<'_>, state: &mut H)
     requires { IsSound left.old }
     ensures { state.new ≡ fold H.write state.old (fed_from_the_back (decoded_left left.old)) }
 {
@@ -238,7 +236,7 @@ fn hash_items<H: Hasher>(path: &str, state: &mut H)
 {
     let segments = split_root(path).1;
     if is_dotted(segments) {
-        hash_left(&mut BothEnds::new(path).0, state);
+        hash_left(&mut NormalItems::new(path), state);
     } else {
         hash_segments(segments, state);
     }

@@ -4,11 +4,13 @@
 ghost use Rattle.iref_grammar.specs.{slash, Texts.{all_but_last, pieces_at}};
 ghost use Rattle.iref_model.specs.{normal_segments, read_path, Relative.{directory_names}};
 ghost use Rattle.iref_model.specs.Relative.{steps_between};
-ghost use Rattle.iref_path.specs.{BothEnds.{first_or}, Ways.{text_steps}};
-ghost use Rattle.std.specs.Prelude.{◌≡◌, ◌<◌, ◌≤◌, ◌++◌, IfNone, IfSome, [], codes, length};
+ghost use Rattle.iref_path.specs.{NormalItems.{IsSound, first_or, normal_left}, Ways.{text_steps, with_last}};
+ghost use Rattle.std.specs.Prelude.{◌≡◌, ◌+◌, ◌*◌, ◌^◌, ◌<◌, ◌≤◌, ◌++◌, IfNone, IfSome, [], codes, length};
 ghost use Rattle.std.specs.Prelude.{replicate};
 
-use crate::segments::{first_segment, slash_count};
+use crate::compare_lists::compare_lists;
+use crate::normal_items::NormalItems;
+use crate::segments::{first_segment, slash_count, split_root, without_last};
 use iref_parse::decoded::decoded_eq;
 use iref_parse::dots::has_dots;
 
@@ -77,4 +79,41 @@ pub(crate) fn behind_roots<'a>(base: &'a str, path: &'a str) -> Option<(&'a str,
         return None;
     }
     Some((base, path))
+}
+
+// The names that stay of a path without its last segment.
+fn directory_names(path: &str) -> NormalItems<'_>
+    ensures items { normal_left result ≡ directory_names (read_path path.now) }
+    ensures fewer { length (normal_left result) ≤ length path.now + 1 }
+    ensures sound { IsSound result }
+{
+    NormalItems::names(without_last(split_root(path).1))
+}
+
+// The items of a path, or an empty one where there are none.
+fn some_items(path: &str) -> NormalItems<'_>
+    ensures items { normal_left result ≡ with_last (normal_segments (read_path path.now)) }
+    ensures some { 0 < length (normal_left result) }
+    ensures sound { IsSound result }
+{
+    let items = NormalItems::new(path);
+    if items.len() == 0 {
+        NormalItems::one_empty()
+    } else {
+        items
+    }
+}
+
+/// The steps from the directory of a base to a path: up to their common beginning, and down.
+pub(crate) fn items_between<'a>(base: &str, path: &'a str) -> NormalItems<'a>
+    requires { 3 * length base.now + length path.now + 16 < 2 ^ 64 }
+    ensures items { normal_left result ≡ steps_between
+        (directory_names (read_path base.now)) (normal_segments (read_path path.now)) }
+    ensures depth { length (directory_names (read_path base.now)) ≤ length base.now + 1 }
+    ensures sound { IsSound result }
+{
+    let directory = directory_names(base);
+    let items = some_items(path);
+    let (common, _) = compare_lists(directory, items.without_last(1));
+    items.last_after(directory.len() - common, items.len() - common)
 }

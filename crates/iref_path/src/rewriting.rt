@@ -11,8 +11,7 @@ ghost use Rattle.iref_path.specs.{Rewriting.{rewritten_at}, Spelling.{each_close
 ghost use Rattle.iref_path.specs.Written.{WritesBefore};
 ghost use Rattle.iref_splice.specs.Changes.{part_at};
 
-use crate::both_ends::leading_parents;
-use crate::both_ends::merged::Merged;
+use crate::normal_items::{leading_parents, survey_items};
 use crate::segments::split_root;
 use crate::spell::{guard_in, write_before, write_parents};
 use crate::staying_names::bytes_stay;
@@ -194,7 +193,7 @@ pub fn normal_guard(context: PathContext, path: &str) -> (&'static str, usize)
     ensures len { result.1 ≡ length (rewritten result.0.now path.now) }
 {
     let (absolute, segments) = split_root(path);
-    let all = Merged::new(absolute, None, segments);
+    let all = survey_items(absolute, None, segments);
     let guard = guard_in(context, absolute, all.size, all.first);
     (guard, guard.len() + all.size.saturating_sub(1))
 }

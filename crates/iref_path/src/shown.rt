@@ -1,12 +1,12 @@
 //! Items that are written from the front, though they are read from the back.
 
 ghost use Rattle.iref_grammar.specs.{slash};
-ghost use Rattle.iref_path.specs.{Spelling.{each_closed}, Ways.{IsWaySound, last_ones, way_left}};
+ghost use Rattle.iref_path.specs.{Spelling.{each_closed}, NormalItems.{IsSound, normal_left}, Ways.{last_ones}};
 ghost use Rattle.std.specs.Fmt.{WritesOnOk};
 ghost use Rattle.std.specs.List.{join_with_byte};
 ghost use Rattle.std.specs.Prelude.{◌≡◌, ◌+◌, ◌-◌, ◌<◌, ◌≤◌, ◌^◌, codes, length, replicate, take};
 
-use crate::both_ends::way::Way;
+use crate::normal_items::NormalItems;
 use std::fmt;
 
 /// Writes `..` this many times, with a `/` after each.
@@ -20,38 +20,11 @@ pub(crate) fn show_parents<W: fmt::Write>(count: usize, f: &mut fmt::Formatter<W
     Ok(())
 }
 
-// How many items are left.
-fn count(mut left: Way<'_>) -> usize
-    requires sound { IsWaySound left }
-    requires fits { length (each_closed (way_left left)) < 2 ^ 64 }
-    ensures { result ≡ length (way_left left.entry) }
-{
-    let mut count: usize = 0;
-    while left.next_back().is_some() {
-        count += 1;
-    }
-    count
-}
-
-// The items without this many of the last.
-fn without_last_ones(items: Way<'_>, count: usize) -> Way<'_>
-    requires { IsWaySound items }
-    ensures items { way_left result
-        ≡ take (length (way_left items.entry) - count) (way_left items.entry) }
-    ensures sound { IsWaySound result }
-{
-    let mut left = items;
-    for _ in 0..count {
-        left.next_back();
-    }
-    left
-}
-
 // Writes the last item with a `/` after it.
-fn show_last<W: fmt::Write>(mut items: Way<'_>, f: &mut fmt::Formatter<W>) -> fmt::Result
-    requires { IsWaySound items }
+fn show_last<W: fmt::Write>(mut items: NormalItems<'_>, f: &mut fmt::Formatter<W>) -> fmt::Result
+    requires { IsSound items }
     ensures { WritesOnOk W.write_str_gives f.old result
-        (each_closed (last_ones 1 (way_left items.entry))) f.new }
+        (each_closed (last_ones 1 (normal_left items.entry))) f.new }
 {
     let Some(item) = items.next_back() else {
         return Ok(());
@@ -63,32 +36,31 @@ fn show_last<W: fmt::Write>(mut items: Way<'_>, f: &mut fmt::Formatter<W>) -> fm
 // Writes the last items, this many, each with a `/` after it. Each half is found from the back, so an
 // item is read once for each halving of their number.
 fn show_last_ones<W: fmt::Write>(
-    items: Way<'_>,
+    items: NormalItems<'_>,
     count: usize,
     f: &mut fmt::Formatter<W>,
 ) -> fmt::Result
-    requires sound { IsWaySound items }
+    requires sound { IsSound items }
     requires some { 0 < count }
-    requires within { count ≤ length (way_left items) }
+    requires within { count ≤ length (normal_left items) }
     ensures { WritesOnOk W.write_str_gives f.old result
-        (each_closed (last_ones count (way_left items.entry))) f.new }
+        (each_closed (last_ones count (normal_left items.entry))) f.new }
 {
     if count == 1 {
         return show_last(items, f);
     }
     let half = count / 2;
-    show_last_ones(without_last_ones(items, half), count - half, f)?;
+    show_last_ones(items.without_last(half), count - half, f)?;
     show_last_ones(items, half, f)
 }
 
 // Writes the items, each with a `/` after it.
-fn show_closed<W: fmt::Write>(items: Way<'_>, f: &mut fmt::Formatter<W>) -> fmt::Result
-    requires sound { IsWaySound items }
-    requires fits { length (each_closed (way_left items)) < 2 ^ 64 }
+fn show_closed<W: fmt::Write>(items: NormalItems<'_>, f: &mut fmt::Formatter<W>) -> fmt::Result
+    requires sound { IsSound items }
     ensures { WritesOnOk W.write_str_gives f.old result
-        (each_closed (way_left items.entry)) f.new }
+        (each_closed (normal_left items.entry)) f.new }
 {
-    let count = count(items);
+    let count = items.len();
     if count == 0 {
         return Ok(());
     }
@@ -97,13 +69,12 @@ fn show_closed<W: fmt::Write>(items: Way<'_>, f: &mut fmt::Formatter<W>) -> fmt:
 
 /// Writes the items with `/` between.
 pub(crate) fn show_items<W: fmt::Write>(
-    mut items: Way<'_>,
+    mut items: NormalItems<'_>,
     f: &mut fmt::Formatter<W>,
 ) -> fmt::Result
-    requires sound { IsWaySound items }
-    requires fits { length (each_closed (way_left items)) < 2 ^ 64 }
+    requires sound { IsSound items }
     ensures { WritesOnOk W.write_str_gives f.old result
-        (join_with_byte slash (way_left items.entry)) f.new }
+        (join_with_byte slash (normal_left items.entry)) f.new }
 {
     let Some(last) = items.next_back() else {
         return Ok(());

@@ -7,16 +7,16 @@ ghost use Rattle.std.specs.{List.{join_with_byte}};
 ghost use Rattle.std.specs.{List.{list_any}, String.{string_bytes}};
 ghost use Rattle.iref_grammar.specs.{is_path_in, colon, slash, read_path, spell_path, is_path};
 ghost use Rattle.iref_model.specs.PathSteps.{normalized};
-ghost use Rattle.iref_path.specs.{PathParts.{is_path_after}, BothEnds.{first_or}};
+ghost use Rattle.iref_path.specs.{PathParts.{is_path_after}, NormalItems.{first_or}};
 ghost use Rattle.iref_path.specs.{Spelling.{each_closed, normal_in}, Stacks.{in_order}};
 ghost use Rattle.iref_path.specs.Stacks.{stacked_text};
-ghost use Rattle.iref_path.specs.Ways.{IsWaySound, way_left};
+ghost use Rattle.iref_path.specs.NormalItems.{IsSound, normal_left};
 ghost use Rattle.iref_path.specs.Written.{WritesBefore};
 ghost use Rattle.iref_path.specs.Spelling as spelling;
 
-use crate::both_ends::stack::Stack;
-use crate::both_ends::way::Way;
 use crate::measured::MeasuredPath;
+use crate::normal_items::NormalItems;
+use crate::normal_items::stack::Stack;
 use crate::segments::split_root;
 use iref_error::Memory;
 use iref_grammar::chars::CharSet;
@@ -25,11 +25,11 @@ use iref_parse::dots::has_dots;
 use std::alloc::{AllocError, Global};
 
 /// How many bytes the items have with a `/` after each, and the first of them, or nothing.
-pub(crate) fn measure(mut left: Way<'_>) -> (usize, &str)
-    requires sound { IsWaySound left }
-    requires fits { length (each_closed (way_left left)) < 2 ^ 64 }
-    ensures size { result.0 ≡ length (each_closed (way_left left.entry)) }
-    ensures first { result.1.now ≡ first_or [] (way_left left.entry) }
+pub(crate) fn measure(mut left: NormalItems<'_>) -> (usize, &str)
+    requires sound { IsSound left }
+    requires fits { length (each_closed (normal_left left)) < 2 ^ 64 }
+    ensures size { result.0 ≡ length (each_closed (normal_left left.entry)) }
+    ensures first { result.1.now ≡ first_or [] (normal_left left.entry) }
 {
     let mut size: usize = 0;
     let mut first = "";
@@ -69,11 +69,11 @@ pub(crate) fn write_parents(buffer: &mut [u8], count: usize, end: usize) -> usiz
 
 /// Writes the items, each with a `/` after it, so that they end at `end`, and returns where they
 /// begin.
-fn write_closed(mut left: Way<'_>, buffer: &mut [u8], end: usize) -> usize
-    requires sound { IsWaySound left }
-    requires room { length (each_closed (way_left left)) ≤ end }
+fn write_closed(mut left: NormalItems<'_>, buffer: &mut [u8], end: usize) -> usize
+    requires sound { IsSound left }
+    requires room { length (each_closed (normal_left left)) ≤ end }
     requires within { end ≤ length buffer.old }
-    ensures { WritesBefore end (each_closed (way_left left.entry)) buffer.old buffer.new result }
+    ensures { WritesBefore end (each_closed (normal_left left.entry)) buffer.old buffer.new result }
 {
     let mut start = end;
     while let Some(item) = left.next_back() {
@@ -84,11 +84,11 @@ fn write_closed(mut left: Way<'_>, buffer: &mut [u8], end: usize) -> usize
 }
 
 /// Writes the items with `/` between so that they end at `end`, and returns where they begin.
-pub(crate) fn write_items(mut left: Way<'_>, buffer: &mut [u8], end: usize) -> usize
-    requires sound { IsWaySound left }
-    requires room { length (each_closed (way_left left)) ≤ end + 1 }
+pub(crate) fn write_items(mut left: NormalItems<'_>, buffer: &mut [u8], end: usize) -> usize
+    requires sound { IsSound left }
+    requires room { length (each_closed (normal_left left)) ≤ end + 1 }
     requires within { end ≤ length buffer.old }
-    ensures { WritesBefore end (join_with_byte slash (way_left left.entry))
+    ensures { WritesBefore end (join_with_byte slash (normal_left left.entry))
         buffer.old buffer.new result }
 {
     let Some(last) = left.next_back() else {

@@ -2,15 +2,14 @@
 
 ghost use Rattle.iref_grammar.specs.{PathValue.{read_path, spell_path}, Tests.{is_path}};
 ghost use Rattle.iref_model.specs.PathSuffix.{path_suffix};
-ghost use Rattle.iref_path.specs.{Spelling.{each_closed}, Suffixes.{way_path}};
-ghost use Rattle.iref_path.specs.Ways.{IsWaySound, way_left};
+ghost use Rattle.iref_path.specs.{Spelling.{each_closed}, Suffixes.{items_path}};
+ghost use Rattle.iref_path.specs.NormalItems.{IsSound, normal_left};
 ghost use Rattle.std.specs.Prelude.{◌≡◌, ◌+◌, ◌<◌, ◌^◌, IfOk, IfSome, IsNone, IsOk, length};
 ghost use Rattle.std.specs.{Prelude.{option_map, true}, String.{string_bytes}};
 
-use crate::both_ends::BothEnds;
-use crate::both_ends::way::Way;
 use crate::compare_lists::compare_lists;
 use crate::measured::MeasuredPath;
+use crate::normal_items::NormalItems;
 use crate::order::is_absolute;
 use iref_error::Memory;
 use iref_grammar::chars::CharSet;
@@ -18,22 +17,23 @@ use std::alloc::Global;
 
 // The items of the path after those of the prefix, if these are a beginning of them, and both paths
 // are absolute or both relative.
-fn rest_after<'a>(prefix: &str, path: &'a str) -> Option<Way<'a>>
-    ensures rest { option_map way_path result
+fn rest_after<'a>(prefix: &str, path: &'a str) -> Option<NormalItems<'a>>
+    ensures rest { option_map items_path result
         ≡ path_suffix (read_path prefix.now) (read_path path.now) }
-    ensures sound { IfSome result (λ rest. IsWaySound rest) }
-    ensures room { IfSome result (λ rest. length (each_closed (way_left rest)) + 4 < 2 ^ 64) }
+    ensures sound { IfSome result (λ rest. IsSound rest) }
+    ensures room { IfSome result (λ rest. length (each_closed (normal_left rest)) + 4 < 2 ^ 64) }
 {
     if is_absolute(prefix) != is_absolute(path) {
         return None;
     }
-    let (start, len) = BothEnds::new(prefix);
-    let (items, count) = BothEnds::new(path);
-    let (common, _) = compare_lists(start, len, items, count);
+    let start = NormalItems::new(prefix);
+    let items = NormalItems::new(path);
+    let (common, _) = compare_lists(start, items);
+    let len = start.len();
     if common < len {
         return None;
     }
-    Some(Way::new(0, count - len, items))
+    Some(items.last_after(0, items.len() - len))
 }
 
 /// The text of what is left of a path after a prefix, as a relative path: of `/foo/bar` after

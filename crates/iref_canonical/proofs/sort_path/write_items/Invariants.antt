@@ -1,5 +1,5 @@
 use Rattle.std.proofs.Common.{length}
-use Rattle.iref_path.specs.BothEnds.{IsSound, decoded_left, normal_left}
+use Rattle.iref_path.specs.NormalItems.{decoded_left, IsSound, normal_left}
 use Rattle.iref_canonical.specs.SortItems.{IsWriting}
 use Rattle.iref_canonical.proofs.sort_path.write_items.Given as goal
 

@@ -1,6 +1,6 @@
 use Rattle.std.proofs.Common.{arith, ap, ◌∙◌, take, length, ◌-◌}
 use Rattle.iref_model.specs.PathSuffix.{same_decoded}
-use Rattle.iref_path.specs.BothEnds.{normal_left}
+use Rattle.iref_path.specs.NormalItems.{normal_left}
 use Rattle.iref_path.proofs.CompareListLemmas.{common-cut}
 use Rattle.iref_path.proofs.OrderLemmas.{order-cut}
 use Rattle.iref_path.proofs.compare_lists.compare_lists.Goals as goal
@@ -9,6 +9,6 @@ pub returns : goal.returns
 returns c =
     let xs = normal_left c.args.left in
     let ys = normal_left c.args.right in
-    let cut = order-cut xs ys _ _ _ _ c.requires.left_len c.requires.right_len (c.skip_back.ensures.items ∙ ap (λ n. take (length xs - n) xs) c.saturating_sub.ensures)
-    (c.skip_back-2.ensures.items ∙ ap (λ n. take (length ys - n) ys) c.saturating_sub-2.ensures) in
+    let cut = order-cut xs ys _ _ _ _ c.len-left_len.ensures c.len-right_len.ensures (c.without_last-left.ensures.items ∙ ap (λ n. take (length xs - n) xs) c.saturating_sub.ensures)
+    (c.without_last-right.ensures.items ∙ ap (λ n. take (length ys - n) ys) c.saturating_sub-2.ensures) in
     record { common = grind (arith, common-cut same_decoded xs ys); order = grind arith }

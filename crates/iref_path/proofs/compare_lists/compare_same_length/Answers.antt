@@ -1,5 +1,5 @@
 use Rattle.std.proofs.Common.{arith, cond, length, is_eq, sym, ◌∙◌, ◌≡◌, ◌-◌}
-use Rattle.iref_path.specs.BothEnds.{normal_left}
+use Rattle.iref_path.specs.NormalItems.{normal_left}
 use Rattle.iref_path.proofs.CompareListLemmas.{nothing_compared, one_more, all_compared}
 use Rattle.iref_path.proofs.compare_lists.compare_same_length.Goals as goal
 use Rattle.iref_path.proofs.compare_lists.compare_same_length.Goals.{then-not-is_eq, else-not-is_eq}

@@ -1,5 +1,5 @@
 use Rattle.std.proofs.Common.{◌≡◌, length}
-use Rattle.iref_path.specs.BothEnds.{IsSound, normal_left}
+use Rattle.iref_path.specs.NormalItems.{IsSound, normal_left}
 use Rattle.iref_path.proofs.CompareListLemmas.{IsCompared}
 use Rattle.iref_path.proofs.compare_lists.compare_same_length.Given as goal
 

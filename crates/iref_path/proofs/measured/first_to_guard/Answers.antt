@@ -1,7 +1,7 @@
 use Rattle.std.proofs.Common.{arith, []}
 use Rattle.iref_grammar.specs.Grammar.{slash}
 use Rattle.iref_grammar.specs.Texts.{pieces_at}
-use Rattle.iref_path.specs.BothEnds.{first_or}
+use Rattle.iref_path.specs.NormalItems.{first_or}
 use Rattle.iref_path.proofs.DotlessLemmas.{unguarded}
 use Rattle.iref_path.proofs.measured.first_to_guard.Goals as goal
 

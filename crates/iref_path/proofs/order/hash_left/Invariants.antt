@@ -1,6 +1,6 @@
 use Rattle.std.proofs.Common.{◌≡◌, fold, length}
 use Rattle.iref_model.specs.PathHash.{fed_from_the_back}
-use Rattle.iref_path.specs.BothEnds.{IsSound, decoded_left, normal_left}
+use Rattle.iref_path.specs.NormalItems.{decoded_left, IsSound, normal_left}
 use Rattle.iref_path.proofs.order.hash_left.Given as goal
 
 abbrev pub invariant-loop-item : goal.invariant-loop-item

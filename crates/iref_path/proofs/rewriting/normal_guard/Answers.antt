@@ -5,18 +5,18 @@ use Rattle.iref_path.specs.Spelling.{each_closed}
 use Rattle.iref_path.proofs.SpellLemmas.{length-guard, normal_size, normalized-spelled, read_size}
 use Rattle.iref_path.proofs.rewriting.normal_guard.Goals as goal
 
-pub new-all-requires : goal.new-all-requires
-new-all-requires c = omega (arith, read_size c.args.path.now _ c.split_root-absolute.ensures.path)
+pub survey_items-all-requires : goal.survey_items-all-requires
+survey_items-all-requires c = omega (arith, read_size c.args.path.now _ c.split_root-absolute.ensures.path)
 
 pub overflow_add-result : goal.overflow_add-result
 overflow_add-result c =
-    let size = c.new-all.ensures.size ∙ ap (λ list. length (each_closed list)) c.new-all.ensures.items in
+    let size = c.survey_items-all.ensures.size ∙ ap (λ list. length (each_closed list)) c.survey_items-all.ensures.items in
     omega (arith, size, read_size c.args.path.now _ c.split_root-absolute.ensures.path, normal_size (merged_path c.split_root-absolute.result.0 None c.split_root-absolute.result.1))
 
 pub returns-clause-text : goal.returns-clause-text
 returns-clause-text c =
     let p = merged_path c.split_root-absolute.result.0 None c.split_root-absolute.result.1 in
-    let all = c.new-all.result in
+    let all = c.survey_items-all.result in
     let spelled = normalized-spelled c.args.context p (normal_segments p) all.size all.first.now refl (grind arith) (grind arith) in
     grind arith
 

@@ -1,17 +1,17 @@
 use Rattle.std.proofs.Common.{arith, sym}
 use Rattle.iref_grammar.specs.PathValue.{read_path}
-use Rattle.iref_path.specs.Suffixes.{way_path}
+use Rattle.iref_path.specs.Suffixes.{items_path}
 use Rattle.iref_path.proofs.SuffixLemmas.{suffix-reads}
 use Rattle.iref_path.proofs.suffix.suffix_text.Goals as goal
 
 pub to_text-requires-clause-path : goal.to_text-requires-clause-path
 to_text-requires-clause-path g c =
-    grind (arith, suffix-reads g.C.CharSet.tests g.met.C.CharSet.above_ascii (read_path c.args.prefix.now) c.args.path.now (way_path c.in-Some.rest) c.requires (sym c.in-Some.ensures.rest))
+    grind (arith, suffix-reads g.C.CharSet.tests g.met.C.CharSet.above_ascii (read_path c.args.prefix.now) c.args.path.now (items_path c.in-Some.rest) c.requires (sym c.in-Some.ensures.rest))
 
 pub returns-clause-value : goal.returns-clause-value
 returns-clause-value g c =
-    grind (arith, suffix-reads g.C.CharSet.tests g.met.C.CharSet.above_ascii (read_path c.args.prefix.now) c.args.path.now (way_path c.in-Some.rest) c.requires (sym c.in-Some.ensures.rest))
+    grind (arith, suffix-reads g.C.CharSet.tests g.met.C.CharSet.above_ascii (read_path c.args.prefix.now) c.args.path.now (items_path c.in-Some.rest) c.requires (sym c.in-Some.ensures.rest))
 
 pub returns-clause-path : goal.returns-clause-path
 returns-clause-path g c =
-    grind (arith, suffix-reads g.C.CharSet.tests g.met.C.CharSet.above_ascii (read_path c.args.prefix.now) c.args.path.now (way_path c.in-Some.rest) c.requires (sym c.in-Some.ensures.rest))
+    grind (arith, suffix-reads g.C.CharSet.tests g.met.C.CharSet.above_ascii (read_path c.args.prefix.now) c.args.path.now (items_path c.in-Some.rest) c.requires (sym c.in-Some.ensures.rest))

@@ -1,0 +1,387 @@
+//! The items of the normal list of a path, which are read from both ends of its text (RFC 3986
+//! sections 5.2.3 and 5.2.4).
+
+ghost use Rattle.std.specs.{Iterator.{YieldsFirstBy, YieldsLastBy}, Prelude.{◌≡◌, ◌+◌, ◌-◌, ◌<◌, ◌≤◌}};
+ghost use Rattle.std.specs.Prelude.{◌^◌, ◌==◌, ◌&&◌, ◌∷◌, ◌++◌, [], codes, false, length, replicate, take};
+ghost use Rattle.std.specs.Prelude.{IfNone, IfSome, None, if◌then◌else◌};
+ghost use Rattle.iref_grammar.specs.{is_empty, read_path};
+ghost use Rattle.iref_model.specs.{normal_segments, open_before, staying_before};
+ghost use Rattle.iref_path.specs.Merged.{both_names, merged_list, merged_path};
+ghost use Rattle.iref_path.specs.{Pieces.{pieces_if_some, text_at}, Spelling.{each_closed}};
+ghost use Rattle.iref_path.specs.NormalItems.{IsBehind, IsFate, IsReadable, IsSound, IsWhole, KeepsEnds};
+ghost use Rattle.iref_path.specs.NormalItems.{both_left, first_or, names_behind, names_staying};
+ghost use Rattle.iref_path.specs.NormalItems.{normal_left, open_at_start, open_behind, to_read, unread_items};
+ghost use Rattle.iref_path.specs.Ways.{last_ones};
+ghost use Rattle.iref_model.specs.NormalList as list;
+
+pub mod listed;
+pub mod stack;
+
+use crate::segments::{first_segment, last_segment, split_root};
+use crate::staying_names::{is_name, name_stays};
+
+/// The items that are left: first the `..`, then the names that stay, then the empty segment that
+/// closes the list. The segments stand in one text, or in two that are read as one.
+#[derive(Clone, Copy)]
+pub struct NormalItems<'a> {
+    parents: usize,
+    // How many names are left: the last of those that stay.
+    names_left: usize,
+    closes: bool,
+    // The text of the segments in front, until those behind have been read.
+    front: Option<&'a str>,
+    // The text of the segments behind that have been read from neither end.
+    back: Option<&'a str>,
+    // How many `..` are open behind them.
+    open_parents: usize,
+    // No `..` is among those behind, and none is open behind them: so their names stay.
+    settled: bool,
+}
+
+/// All items of a list, and what was found of them.
+#[derive(Clone, Copy)]
+pub struct Survey<'a> {
+    /// The items.
+    pub items: NormalItems<'a>,
+    /// How many bytes they have with a `/` after each.
+    pub size: usize,
+    /// The first of them, or nothing.
+    pub first: &'a str,
+}
+
+/// Whether the last segment is `.` or `..`.
+#[inline(always)]
+fn ends_in_dots(rest: Option<&str>) -> bool
+    ensures { result ≡ list.ends_in_dots (pieces_if_some rest.entry) }
+{
+    match rest {
+        Some(text) => !is_name(last_segment(text).1),
+        None => false,
+    }
+}
+
+/// How many `..` stand first in a list before which this number is open.
+pub(crate) fn leading_parents(absolute: bool, open_parents: usize) -> usize
+    ensures { result ≡ (if absolute then 0 else open_parents) }
+{
+    if absolute { 0 } else { open_parents }
+}
+
+/// Whether a list is one empty segment: by how many `..` and names it has, and whether it closes.
+#[inline(always)]
+fn is_one_empty(parents: usize, names: usize, first: &str, closes: bool) -> bool
+    requires { names + 1 < 2 ^ 64 }
+    ensures { result
+        ≡ (parents == 0) && (is_empty first.now && (names + (if closes then 1 else 0) == 1)) }
+{
+    parents == 0 && first.is_empty() && names + usize::from(closes) == 1
+}
+
+// The first of a number of `..` and of names that begin with this one.
+#[inline(always)]
+fn first_item(parents: usize, name: &str) -> &str
+    ensures { result.now ≡ (if parents == 0 then name.now else codes "..") }
+{
+    if parents == 0 { name } else { ".." }
+}
+
+// Finds the names that stay of the segments of both texts, and the `..` that are open before them.
+// Their size, and the first, are those of the names. Each segment is read once, the last first.
+#[inline(always)]
+fn survey_names<'a>(front: Option<&'a str>, back: Option<&'a str>) -> Survey<'a>
+    requires { length (each_closed (merged_list front back)) < 2 ^ 64 }
+    ensures items { result.items
+        ≡ unread_items (open_before (merged_list front.entry back.entry) 0)
+        (length (both_names front.entry back.entry)) front.entry back.entry false }
+    ensures size { result.size ≡ length (each_closed (both_names front.entry back.entry)) }
+    ensures first { result.first.now ≡ first_or [] (both_names front.entry back.entry) }
+    ensures fewer { open_before (merged_list front.entry back.entry) 0
+        + length (both_names front.entry back.entry)
+        ≤ length (merged_list front.entry back.entry) }
+{
+    let mut left = NormalItems::unread(0, 0, front, back, false);
+    let mut names: usize = 0;
+    let mut size: usize = 0;
+    let mut first = "";
+    while let Some(name) = left.next_back_name() {
+        names += 1;
+        size += name.len() + 1;
+        first = name;
+    }
+    let items = NormalItems::unread(left.open_parents, names, front, back, false);
+    Survey { items, size, first }
+}
+
+/// All items of the path of these segments. Only a relative list keeps the `..` that nothing
+/// cancels.
+#[inline(always)]
+pub fn survey_items<'a>(absolute: bool, front: Option<&'a str>, back: Option<&'a str>) -> Survey<'a>
+    requires { length (each_closed (merged_list front back)) + 1 < 2 ^ 64 }
+    ensures items { normal_left result.items
+        ≡ normal_segments (merged_path absolute front.entry back.entry) }
+    ensures size { result.size ≡ length (each_closed (normal_left result.items)) }
+    ensures first { result.first.now ≡ first_or [] (normal_left result.items) }
+    ensures whole { front.entry ≡ None → IsWhole result.items }
+    ensures sound { IsSound result.items }
+{
+    let found = survey_names(front, back);
+    let parents = leading_parents(absolute, found.items.parents);
+    let names = found.items.names_left;
+    let closes = ends_in_dots(back.or(front));
+    if is_one_empty(parents, names, found.first, closes) {
+        return Survey {
+            items: NormalItems::unread(0, 0, None, None, false),
+            size: 0,
+            first: "",
+        };
+    }
+    Survey {
+        items: NormalItems::unread(parents, names, front, back, closes),
+        size: 3 * parents + found.size + usize::from(closes),
+        first: first_item(parents, found.first),
+    }
+}
+
+impl<'a> NormalItems<'a> {
+    /// All items of a path. Only a relative list keeps the `..` that nothing cancels.
+    pub fn new(path: &'a str) -> Self
+        ensures items { normal_left result ≡ normal_segments (read_path path.now) }
+        ensures whole { IsWhole result }
+    {
+        let (absolute, segments) = split_root(path);
+        survey_items(absolute, None, segments).items
+    }
+
+    /// The names that stay of the segments of a text.
+    pub(crate) fn names(segments: Option<&'a str>) -> Self
+        requires { length (each_closed (pieces_if_some segments)) < 2 ^ 64 }
+        ensures items { normal_left result ≡ staying_before (pieces_if_some segments.entry) 0 }
+        ensures sound { IsSound result }
+    {
+        let names = survey_names(None, segments).items.names_left;
+        NormalItems::unread(0, names, None, segments, false)
+    }
+
+    /// One empty item.
+    #[tactic(auto, unfolding(crate::specs::NormalItems::normal_left))]
+    pub(crate) fn one_empty() -> Self
+        ensures items { normal_left result ≡ [] ∷ [] }
+        ensures sound { IsSound result }
+    {
+        NormalItems::unread(0, 0, None, None, true)
+    }
+
+    // The items of a list, of which none has been given.
+    fn unread(
+        parents: usize,
+        names_left: usize,
+        front: Option<&'a str>,
+        back: Option<&'a str>,
+        closes: bool,
+    ) -> Self
+        ensures { result ≡ unread_items parents names_left front.entry back.entry closes }
+    {
+        NormalItems {
+            parents,
+            names_left,
+            closes,
+            front,
+            back,
+            open_parents: 0,
+            settled: false,
+        }
+    }
+
+    /// How many items are left.
+    #[inline(always)]
+    pub fn len(&self) -> usize
+        requires { IsSound self.now }
+        ensures { result ≡ length (normal_left self.now) }
+    {
+        self.parents + self.names_left + usize::from(self.closes)
+    }
+
+    /// A number of `..`, and after them the last items, this many.
+    pub(crate) fn last_after(self, up: usize, count: usize) -> Self
+        requires sound { IsSound self }
+        requires within { count ≤ length (normal_left self) }
+        requires countable { up + count < 2 ^ 64 }
+        ensures items { normal_left result
+            ≡ replicate up (codes "..") ++ last_ones count (normal_left self.entry) }
+        ensures sound { IsSound result }
+    {
+        let closes = self.closes && count > 0;
+        let others = count - usize::from(closes);
+        let names_left = others.min(self.names_left);
+        NormalItems {
+            parents: up + (others - names_left),
+            names_left,
+            closes,
+            ..self
+        }
+    }
+
+    /// The items without this many of the last.
+    #[inline(always)]
+    pub(crate) fn without_last(self, count: usize) -> Self
+        requires { IsSound self }
+        ensures items { normal_left result
+            ≡ take (length (normal_left self.entry) - count) (normal_left self.entry) }
+        ensures sound { IsSound result }
+    {
+        let mut left = self;
+        for _ in 0..count {
+            left.next_back();
+        }
+        left
+    }
+
+    /// The first item that is left.
+    #[tactic(auto, unfolding(crate::specs::NormalItems::normal_left))]
+    pub fn next(&mut self) -> Option<&'a str>
+        requires { IsWhole self.old }
+        ensures item { YieldsFirstBy text_at normal_left self.old result self.new }
+        ensures whole { IsWhole self.new }
+    {
+        if self.parents > 0 {
+            self.parents -= 1;
+            return Some("..");
+        }
+        if self.names_left > 0 {
+            self.names_left -= 1;
+            return self.next_name();
+        }
+        if self.closes {
+            self.closes = false;
+            return Some("");
+        }
+        None
+    }
+
+    /// The last item that is left.
+    #[tactic(auto, unfolding(crate::specs::NormalItems::normal_left))]
+    #[inline(always)]
+    pub fn next_back(&mut self) -> Option<&'a str>
+        requires { IsSound self.old }
+        ensures item { YieldsLastBy text_at normal_left self.old result self.new }
+        ensures sound { IsSound self.new }
+        ensures whole { IsWhole self.old → IsWhole self.new }
+    {
+        if self.closes {
+            self.closes = false;
+            return Some("");
+        }
+        if self.names_left > 0 {
+            self.names_left -= 1;
+            return self.next_back_name();
+        }
+        self.parents = self.parents.checked_sub(1)?;
+        Some("..")
+    }
+
+    // The first name that stays. What takes a name is read once, and then passed over.
+    fn next_name(&mut self) -> Option<&'a str>
+        requires readable { IsReadable self.old }
+        requires behind { IsBehind self.old }
+        ensures name { YieldsFirstBy text_at names_behind self.old result self.new }
+        ensures ends { KeepsEnds self.old self.new }
+        ensures behind { IsBehind self.new }
+        ensures readable { IsReadable self.new }
+    {
+        while let Some(text) = self.back {
+            let (segment, rest) = first_segment(text);
+            self.back = rest;
+            if is_name(segment) {
+                match self.fate() {
+                    Some(after) => self.back = after,
+                    None => return Some(segment),
+                }
+            }
+        }
+        None
+    }
+
+    // Of a name right before the text behind: what follows the `..` that takes it, if one does.
+    fn fate(&mut self) -> Option<Option<&'a str>>
+        requires readable { IsReadable self.old }
+        requires behind { IsBehind self.old }
+        ensures fate { IsFate self.old result }
+        ensures readable { IfNone result (IsReadable self.new) }
+        ensures unsettled { IfSome result (λ rest. self.new.settled ≡ false) }
+        ensures back { self.new.back ≡ self.old.back }
+        ensures open_parents { self.new.open_parents ≡ self.old.open_parents }
+        ensures ends { KeepsEnds self.old self.new }
+        ensures behind { IsBehind self.new }
+    {
+        if self.settled {
+            return None;
+        }
+        let mut rest = self.back;
+        let mut names: usize = 0;
+        let mut settled = self.open_parents == 0;
+        while let Some(text) = rest {
+            let (segment, after) = first_segment(text);
+            rest = after;
+            if is_name(segment) {
+                names += 1;
+            } else if segment == ".." {
+                if names == 0 {
+                    return Some(rest);
+                }
+                names -= 1;
+                settled = false;
+            }
+        }
+        if names < self.open_parents {
+            return Some(None);
+        }
+        self.settled = settled;
+        None
+    }
+
+    // The last name that stays. The `..` that are open before the segments behind take names of
+    // those in front.
+    #[inline(always)]
+    fn next_back_name(&mut self) -> Option<&'a str>
+        requires { IsReadable self.old }
+        ensures name { YieldsLastBy text_at names_staying self.old result self.new }
+        ensures start { open_at_start self.new ≡ open_at_start self.old }
+        ensures ends { KeepsEnds self.old self.new }
+        ensures behind { IsBehind self.old → IsBehind self.new }
+        ensures readable { IsReadable self.new }
+        ensures done { IfNone result (both_left self.new ≡ []) }
+        ensures no_more { to_read self.new ≤ to_read self.old }
+        ensures fewer { IfSome result (λ name. to_read self.new < to_read self.old) }
+    {
+        if let Some(name) = self.next_back_name_behind() {
+            return Some(name);
+        }
+        self.back = self.front;
+        self.settled = false;
+        self.front = None;
+        self.next_back_name_behind()
+    }
+
+    // The last name that stays of the segments behind.
+    #[inline(always)]
+    fn next_back_name_behind(&mut self) -> Option<&'a str>
+        requires { IsReadable self.old }
+        ensures name { YieldsLastBy text_at names_behind self.old result self.new }
+        ensures start { open_behind self.new ≡ open_behind self.old }
+        ensures ends { KeepsEnds self.old self.new }
+        ensures front { self.new.front ≡ self.old.front }
+        ensures readable { IsReadable self.new }
+        ensures done { IfNone result (pieces_if_some self.new.back ≡ []) }
+        ensures no_more { to_read self.new ≤ to_read self.old }
+        ensures fewer { IfSome result (λ name. to_read self.new < to_read self.old) }
+    {
+        while let Some(text) = self.back {
+            let (rest, segment) = last_segment(text);
+            self.back = rest;
+            if name_stays(segment, &mut self.open_parents) {
+                return Some(segment);
+            }
+        }
+        None
+    }
+}
