@@ -1,5 +1,4 @@
-use Rattle.std.proofs.Common.{rules, arith, Some, sym, ap, ◌∙◌, IsUtf8}
-use Rattle.std.specs.Option.{option_copied}
+use Rattle.std.proofs.Common.{rules, sym, ◌∙◌, IsUtf8}
 use Rattle.iref_fault.proofs.BracketLemmas.{last-after, last-none}
 use Rattle.iref_fault.proofs.pieces.after_last.Goals as goal
 

@@ -1,4 +1,4 @@
-use Rattle.std.proofs.Common.{length, Some, arith, sym, ap, ◌∙◌}
+use Rattle.std.proofs.Common.{length, arith, sym, ap, ◌∙◌}
 use Rattle.std.specs.Option.{option_copied}
 use Rattle.iref_grammar.specs.Grammar.{at_sign}
 use Rattle.iref_fault.proofs.HostLemmas.{cut_len}

@@ -1,6 +1,5 @@
 use Rattle.std.proofs.Common.{◌+◌, ◌<◌, ◌^◌, refl, sym, subst, ap, ◌∙◌}
 use Rattle.std.specs.Prelude.{IfSome}
-use Rattle.iref_grammar.specs.Grammar.{is_user_info_char}
 use Rattle.iref_fault.specs.declared.component.Component.TheVariants as component
 use Rattle.iref_fault.specs.Places.{Host, place_in, host_place}
 use Rattle.iref_fault.specs.BytePlaces.{placed}

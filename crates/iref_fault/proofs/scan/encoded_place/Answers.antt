@@ -1,5 +1,4 @@
-use Rattle.std.proofs.Common.{arith, rules, ◌≡◌, ◌-◌, ◌<◌, ◌≤◌, length, sym, ap, ◌∙◌, chars, IsUtf8}
-use Rattle.std.specs.Prelude.{None, Some, if◌then◌else◌}
+use Rattle.std.proofs.Common.{arith, rules, sym, ◌∙◌, IsUtf8}
 use Rattle.iref_fault.proofs.BytePlaceLemmas.{scan_more, scan_ends, scan_owes}
 use Rattle.iref_fault.proofs.scan.encoded_place.Goals as goal
 

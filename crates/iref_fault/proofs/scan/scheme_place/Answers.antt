@@ -1,4 +1,4 @@
-use Rattle.std.proofs.Common.{arith, ◌≡◌, ◌<◌, true, false, length, slice_index, sym, ap, ◌∙◌, not}
+use Rattle.std.proofs.Common.{arith, ◌≡◌, ◌<◌, true, length, slice_index, sym, ap, ◌∙◌, not}
 use Rattle.std.specs.List.{position}
 use Rattle.std.specs.Char.{is_ascii_alphabetic}
 use Rattle.std.proofs.lemmas.Bool.Decides.{nat_tests}
