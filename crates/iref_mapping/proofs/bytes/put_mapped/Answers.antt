@@ -49,32 +49,6 @@ mapped-places b escape above e =
 long-above : (b : ℕ) → is_ascii b ≡ false → length (mapped_byte b) ≡ 3
 long-above b h = ap length (mapped_byte-above b h) ∙ length-escape b
 
-pub overflow_sub-start-else-is_ascii : goal.overflow_sub-start-else-is_ascii
-overflow_sub-start-else-is_ascii c = let room = c.requires.room in let long = long-above c.args.byte (sym c.if-is_ascii.ensures) in omega arith
-
-pub bounds-escape-0 : goal.bounds-escape-0
-bounds-escape-0 c = let long = ap length (c.as_bytes-escape.ensures.value ∙ c.percent_encode_byte.ensures) ∙ length-escape c.args.byte in omega arith
-
-pub bounds-escape-1 : goal.bounds-escape-1
-bounds-escape-1 c = let long = ap length (c.as_bytes-escape.ensures.value ∙ c.percent_encode_byte.ensures) ∙ length-escape c.args.byte in omega arith
-
-pub bounds-escape-2 : goal.bounds-escape-2
-bounds-escape-2 c = let long = ap length (c.as_bytes-escape.ensures.value ∙ c.percent_encode_byte.ensures) ∙ length-escape c.args.byte in omega arith
-
-pub bounds-buffer-start-else-is_ascii : goal.bounds-buffer-start-else-is_ascii
-bounds-buffer-start-else-is_ascii c = let room = c.requires.room in let within = c.requires.within in let long = long-above c.args.byte (sym c.if-is_ascii.ensures) in omega arith
-
-pub bounds-buffer-start-else-is_ascii-2 : goal.bounds-buffer-start-else-is_ascii-2
-bounds-buffer-start-else-is_ascii-2 c =
-    let room = c.requires.room in let within = c.requires.within in let long = long-above c.args.byte (sym c.if-is_ascii.ensures) in simp length-set (omega arith)
-
-pub bounds-buffer-start-else-is_ascii-3 : goal.bounds-buffer-start-else-is_ascii-3
-bounds-buffer-start-else-is_ascii-3 c =
-    let room = c.requires.room in let within = c.requires.within in let long = long-above c.args.byte (sym c.if-is_ascii.ensures) in simp length-set (omega arith)
-
-pub returns-else-is_ascii-clause-start : goal.returns-else-is_ascii-clause-start
-returns-else-is_ascii-clause-start c = let room = c.requires.room in let long = long-above c.args.byte (sym c.if-is_ascii.ensures) in omega arith
-
 pub returns-else-is_ascii-clause-written : goal.returns-else-is_ascii-clause-written
 returns-else-is_ascii-clause-written c =
     let room = c.requires.room in
