@@ -55,3 +55,5 @@ scan_owes test owed text rest e h =
     ap (λ cs. located (length text - length rest) cs (encoded_place_after test owed cs)) (ap chars (nil_from_length rest e) ∙ chars-nil)
     ∙ ap (λ b. located (length text - length rest) [] (if b then None else Some 0)) some
     ∙ ap (λ n. Some n) at
+
+pub ruleset scan = (scan_more, scan_ends, scan_owes)
