@@ -110,7 +110,7 @@ fn are_parts<C: CharSet>(parts: AuthoritySlices<'_>) -> bool
 
 /// Whether the text is an authority (RFC 3986 section 3.2). Most often it is a host alone, or an
 /// IPv6 address and a port.
-#[tactic(auto, unfolding(iref_grammar::specs::Authority::is_authority))]
+#[tactic(auto, using(crate::proofs::AuthorityLemmas::host_alone), unfolding(iref_grammar::specs::is_authority))]
 pub fn is_authority<C: CharSet>(text: &str) -> bool
     ensures { result ≡ authority.is_authority C.tests text.now }
 {

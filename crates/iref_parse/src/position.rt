@@ -95,6 +95,7 @@ fn position_in_few(bytes: &[u8], first: u8, second: u8) -> usize
 
 /// The position of the first byte that is one of two, or the length of the text.
 #[inline(always)]
+#[tactic(auto, using(crate::proofs::PositionLemmas::position_from_clear))]
 pub(crate) fn position_of_either(bytes: &[u8], first: u8, second: u8) -> usize
     ensures { result ≡ position_or_len (char_set_contains (first ∷ second ∷ [])) bytes.now }
 {

@@ -176,6 +176,7 @@ impl CharRule for PctStrChars {
 }
 
 /// The first character, and what follows it: of `é/` they are `é` and `/`.
+#[tactic(auto, using(crate::proofs::ScanLemmas::first_char))]
 pub fn split_first_char(text: &str) -> Option<(char, &str)>
     ensures { MatchOption result (length text.now ≡ 0)
         (λ x. (chars text.now ≡ x.0 ∷ chars x.1.now) × (length x.1.now < length text.now)) }

@@ -40,6 +40,7 @@ pub struct ReferenceSlices<'a> {
 
 // What stands before the first of two delimiters, and the text from there on.
 #[inline(always)]
+#[tactic(auto, using(crate::proofs::PositionLemmas::boundary_at_position))]
 fn split_before_either(text: &str, first: u8, second: u8) -> (&str, &str)
     requires first_is_ascii { first < 128 }
     requires second_is_ascii { second < 128 }
@@ -142,6 +143,7 @@ fn are_scanned_components<C: CharSet>(slices: ReferenceSlices<'_>) -> bool
 // Whether the authority, which is encoded, is in its rule. Up to the first `:` or `@` it is a
 // registered name.
 #[inline(always)]
+#[tactic(auto, using(crate::proofs::PlainTextLemmas::encoded_authority))]
 fn is_encoded_authority<C: CharSet>(part: Option<&str>) -> bool
     requires { none_or (are_encoded (is_authority_char C.tests)) (option_copied part) ≡ true }
     ensures { result ≡ none_or (authority.is_authority C.tests) (option_copied part.entry) }
