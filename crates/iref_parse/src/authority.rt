@@ -41,6 +41,7 @@ fn split_address(text: &str) -> (&str, &str)
 
 // The host and the port, beside the user info that stands before them.
 #[inline(always)]
+#[tactic(auto, using(std::proofs::lemmas::Grind::common_steps, iref_grammar::proofs::AuthorityLemmas::hosts))]
 fn split_host<'a>(user_info: Option<&'a str>, text: &'a str) -> AuthoritySlices<'a>
     ensures { authority_of result ≡ read_host_and_port (option_copied user_info.entry) text.now }
 {
@@ -56,6 +57,7 @@ fn split_host<'a>(user_info: Option<&'a str>, text: &'a str) -> AuthoritySlices<
 
 /// Whether the text has neither `@` nor `:`. As an authority it is a host alone, as `a.b` is.
 #[inline(always)]
+#[tactic(auto, using(std::proofs::lemmas::Grind::common_steps, crate::proofs::AuthorityLemmas::without_marks))]
 pub fn is_host_alone(text: &str) -> bool
     ensures { result ≡ true → read_authority text.now
         ≡ record { user_info = None; host = text.now; port = None } }

@@ -292,6 +292,7 @@ fn is_encoded_rest<C: CharSet, const IS_UTF8: bool>(text: &[u8]) -> bool
 /// Whether the bytes are found to be the UTF-8 of plain bytes, escapes and characters that the set
 /// has beyond ASCII. Most often all are plain.
 #[inline(always)]
+#[tactic(auto, using(std::proofs::lemmas::Grind::common_steps, crate::proofs::EncodedTextLemmas::encoded_nothing))]
 pub(crate) fn is_encoded_text<C: CharSet, const IS_UTF8: bool>(text: &[u8]) -> bool
     requires { IS_UTF8 ≡ true → IsUtf8 text.now }
     ensures { result ≡ true → are_encoded (is_plain_char C.tests) text.now ≡ true }

@@ -66,6 +66,7 @@ pub(crate) fn ends_of(bytes: &[u8]) -> [u8; 16]
 
 // The position of the first byte that is one of two, or the length, of 8 to 15 bytes.
 #[inline(always)]
+#[tactic(auto, using(std::proofs::lemmas::Grind::common_steps, crate::proofs::PositionLemmas::at_ends))]
 fn position_in_ends(bytes: &[u8], first: u8, second: u8) -> usize
     requires least { 8 ≤ length bytes.now }
     requires most { length bytes.now < 16 }
