@@ -1,4 +1,5 @@
-use Rattle.std.proofs.Common.{◌≡◌, false, ◌<◌, ◌≤◌, ◌+◌, ◌-◌, ◌∷◌, [], ◌++◌, length, get_or, set, take, drop, ℕ, ap, sym, ◌∙◌, refl, arith, take-append-drop, append_assoc}
+use Rattle.std.proofs.Common.{◌≡◌, false, ◌<◌, ◌≤◌, ◌+◌, ◌∷◌, [], ◌++◌, length, get_or, set, take, drop, ℕ, ap, sym, ◌∙◌, refl, arith, take-append-drop, append_assoc}
+use Rattle.std.proofs.lemmas.Grind.{common_steps}
 use Rattle.std.specs.Char.{is_ascii}
 use Rattle.std.proofs.lemmas.List.{take_more_set, drop-set-lt, length-set}
 use Rattle.percent_encoding.specs.Percent.{percent_encode_byte}
@@ -50,16 +51,7 @@ long-above : (b : ℕ) → is_ascii b ≡ false → length (mapped_byte b) ≡ 3
 long-above b h = ap length (mapped_byte-above b h) ∙ length-escape b
 
 pub returns-else-is_ascii-clause-written : goal.returns-else-is_ascii-clause-written
-returns-else-is_ascii-clause-written c =
-    let room = c.requires.room in
-    let long = long-above c.args.byte (sym c.if-is_ascii.ensures) in
-    set_three c.args.buffer.now (c.args.end - 3) c.args.end _ _ _ c.requires.within (omega arith)
-    ∙ ap (λ t. take (c.args.end - 3) c.args.buffer.now ++ t ++ drop c.args.end c.args.buffer.now) (mapped-places c.args.byte c.as_bytes-escape.result.now (sym c.if-is_ascii.ensures) (c.as_bytes-escape.ensures.value ∙ c.percent_encode_byte.ensures))
+returns-else-is_ascii-clause-written c = grind (arith, common_steps, mapped-places, set_three, long-above, long)
 
 pub returns-then-is_ascii-clause-written : goal.returns-then-is_ascii-clause-written
-returns-then-is_ascii-clause-written c =
-    let one = mapped_byte-ascii c.args.byte (sym c.is_ascii.ensures ∙ c.if-is_ascii.true) in
-    let long = ap length one in
-    let room = c.requires.room in
-    let within = c.requires.within in
-    set-parts c.args.buffer.now (c.args.end - 1) c.args.end c.args.byte (omega arith) (omega arith) ∙ ap (λ t. take (c.args.end - 1) c.args.buffer.now ++ t ++ drop c.args.end c.args.buffer.now) (sym one)
+returns-then-is_ascii-clause-written c = grind (arith, common_steps, mapped_byte-ascii, set-parts, long)
