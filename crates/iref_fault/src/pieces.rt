@@ -235,6 +235,7 @@ fn is_either(scheme: Option<&str>, authority: Option<&str>) -> bool
 }
 
 // Of an authority and a path, which stand behind a scheme, if there is one.
+#[tactic(auto, using(std::proofs::lemmas::Grind::common_steps, crate::proofs::HierarchyPlaceLemmas::place_behind))]
 fn place_after_scheme<C: CharSet>(start: usize, scheme: Option<&str>, text: &str) -> Option<Place>
     requires { start + length text.now < 2 ^ 64 }
     ensures { result ≡ first_place C.tests
