@@ -213,3 +213,5 @@ ended_at a b n l m differ = elim (cases_lt n (length b)) [
   | inl goes ↦ absurd (differ (goes_on a n ∙ lt-ltb n (length a) l ∙ sym (goes_on b n ∙ lt-ltb n (length b) goes)))
   | inr ended ↦ omega arith
 ]
+
+pub ruleset differences = (same_high, symbol_small, same_next, some_shift, differ_at)

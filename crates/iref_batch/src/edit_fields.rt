@@ -122,6 +122,7 @@ fn edit_of<'a>(name: &[u8], value: Option<&'a [u8]>) -> Result<Edit<'a>, FieldEr
 }
 
 /// The edit that a field names.
+#[tactic(auto, using(crate::proofs::EditFieldLemmas::read_is_named))]
 pub fn read_edit(field: &[u8]) -> Result<Edit<'_>, FieldError>
     ensures { IsRead edit_step (is_valid_edit iri_chars) (spec.read_edit field.now) result }
 {

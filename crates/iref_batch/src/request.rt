@@ -43,6 +43,7 @@ pub enum Request<'a> {
 
 /// The first field, and the text of the others, if there are any.
 #[inline(always)]
+#[tactic(auto, using(crate::proofs::FieldLemmas::fields_cut))]
 fn first_field(text: &[u8]) -> (&[u8], Option<&[u8]>)
     ensures { pieces_at tab text.now ≡ result.0.now ∷ fields_of (option_copied result.1) }
 {
@@ -60,6 +61,7 @@ pub fn next_field<'a>(fields: &mut Option<&'a [u8]>) -> Option<&'a [u8]>
 }
 
 /// The one field, if there is one and no other.
+#[tactic(auto, using(crate::proofs::FieldLemmas::more_fields))]
 fn one_field(fields: Option<&[u8]>) -> Option<&[u8]>
     ensures { (request : Text → spec.Request) →
         one_text request (fields_of (option_copied fields.entry))

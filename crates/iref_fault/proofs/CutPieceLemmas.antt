@@ -1,13 +1,13 @@
 -- The pieces of a text are slices of it, and have the shape of their rules.
 use Rattle.std.proofs.Common.{arith, ◌≡◌, ℕ, ◌+◌, ◌<◌, Bool, true, false, List, [], ◌∷◌, ◌++◌, ◌⊎◌, inl, inr, refl, sym, ◌∙◌, ap, subst, length, drop, append_assoc, length-append, lit<}
-use Rattle.std.specs.Prelude.{◌==◌, ◌&&◌, ◌||◌, codes, Option, Some, None, IfSome, is_some, chars, encode_utf8_all, if◌then◌else◌}
+use Rattle.std.specs.Prelude.{◌==◌, ◌&&◌, ◌||◌, codes, Option, Some, None, IfSome, is_some, chars, if◌then◌else◌}
 use Rattle.std.specs.Str.{IsUtf8}
-use Rattle.std.specs.Char.{char_set_contains, encode_utf8}
+use Rattle.std.specs.Char.{char_set_contains}
 use Rattle.std.specs.List.{AllByRecursion}
 use Rattle.std.proofs.lemmas.Grind.{common_steps}
 use Rattle.std.proofs.lemmas.Bool.Decides.{eqb_tells}
 use Rattle.std.proofs.lemmas.List.{append-nil}
-use Rattle.std.proofs.lemmas.Str.{chars-nil, encodes-chars, chars-append, chars_past_char}
+use Rattle.std.proofs.lemmas.Str.{chars-nil, encode_ascii, encodes-chars, chars-append, chars_past_char}
 use mathlib.Core.Bool.{true≢false}
 use Rattle.iref_grammar.specs.Characters.{CharTests, AreAboveAscii}
 use Rattle.iref_grammar.specs.Rules.{Text}
@@ -16,7 +16,7 @@ use Rattle.iref_grammar.specs.Texts.{before, after, from_first, begins_with, lac
 use Rattle.iref_grammar.specs.Reference.{split_scheme, split_authority, scheme_of, hierarchy}
 use Rattle.iref_grammar.proofs.CutLemmas.{cut, before-from_first, before-yes, before-no, before-part, first_lacks, rest_lacks}
 use Rattle.iref_grammar.proofs.HostLemmas.{before_lacks}
-use Rattle.iref_grammar.proofs.LackLemmas.{lacks_more}
+use Rattle.iref_grammar.proofs.SegmentRuleLemmas.{lacks-decoded}
 use Rattle.iref_grammar.proofs.SliceLemmas.{mark_boundary}
 use Rattle.iref_grammar.proofs.ReferenceCutLemmas.{split_scheme-joins}
 use Rattle.iref_fault.specs.Places.{PartRule, Scheme, UserInfo, Host, Port, Path, BarePath, Query, Fragment}
@@ -53,28 +53,8 @@ cut_scheme_joins text = by (begins_with (colon ∷ []) text)
 
 -- ---- bytes and characters
 
-encode_ascii : (mark : ℕ) → mark < 128 → encode_utf8 mark ≡ mark ∷ []
-unfolding encode_utf8
-encode_ascii mark m = grind arith
-
-lacks_rest : (mark : ℕ) (xs ys : Text) → lacks mark (xs ++ ys) ≡ true → lacks mark ys ≡ true
-lacks_rest mark [] ys h = h
-lacks_rest mark (c ∷ xs) ys h = lacks_rest mark xs ys (rest_lacks mark c (xs ++ ys) h)
-
-decoded_lacks : (mark : ℕ) (cs : Text) → mark < 128 → lacks mark (encode_utf8_all cs) ≡ true → lacks mark cs ≡ true
-decoded_lacks mark [] m h = refl
-decoded_lacks mark (c ∷ cs) m h = elim (eqb_tells c mark) [
-  | inl e ↦
-      let h' : lacks mark (mark ∷ encode_utf8_all cs) ≡ true = subst (λ t. lacks mark (t ++ encode_utf8_all cs) ≡ true) (ap encode_utf8 e.1 ∙ encode_ascii mark m) h in
-      absurd (not_itself (first_lacks mark mark (encode_utf8_all cs) h'))
-  | inr e ↦ lacks_more mark c cs e.0 (decoded_lacks mark cs m (lacks_rest mark (encode_utf8 c) (encode_utf8_all cs) h))
-]
-  where
-    not_itself : (mark == mark) ≡ false → ⊥
-    not_itself e = elim (eqb_tells mark mark) [ inl f ↦ true≢false (sym f.0 ∙ e) | inr f ↦ f.1 refl ]
-
 lacks_chars : (mark : ℕ) (text : Text) → mark < 128 → IsUtf8 text → lacks mark text ≡ true → lacks mark (chars text) ≡ true
-lacks_chars mark text m u h = decoded_lacks mark (chars text) m (ap (lacks mark) (encodes-chars text u) ∙ h)
+lacks_chars mark text m u h = lacks-decoded mark (chars text) m (ap (lacks mark) (encodes-chars text u) ∙ h)
 
 chars_mark : (mark : ℕ) (rest : Text) → mark < 128 → IsUtf8 (mark ∷ rest) → chars (mark ∷ rest) ≡ mark ∷ chars rest
 chars_mark mark rest m u = chars_past_char (mark ∷ rest) rest mark u (ap (λ t. t ++ rest) (sym (encode_ascii mark m)))

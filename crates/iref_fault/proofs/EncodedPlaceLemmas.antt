@@ -11,7 +11,7 @@ use Rattle.iref_grammar.specs.Tests.{owed_after, is_encoded_after}
 use Rattle.iref_grammar.proofs.EncodedLemmas.{by_digit}
 use Rattle.std.specs.List.{list_all}
 use Rattle.std.proofs.lemmas.Bool.{and_from}
-use Rattle.std.proofs.lemmas.Bool.Decides.{nat_tests}
+use Rattle.iref_fault.proofs.OnesPlaceLemmas.{ones-first}
 use Rattle.iref_fault.specs.Places.{IsFaultPlace, encoded_place_after, ones_place}
 
 -- A test refuses the text, and the place is where it does so: for some rest the test takes what stands before, and for none what
@@ -90,9 +90,6 @@ encoded_tells test owed (c ∷ cs) = by (owed_after test owed c) refl (λ left. 
 
 -- ---- characters that pass
 
-first_place : (test : ℕ → Bool) (c : ℕ) (cs : Text) → ones_place test (c ∷ cs) ≡ (if test c then option_map suc (ones_place test cs) else Some 0)
-first_place test c cs = grind (arith, nat_tests)
-
 one_passes : (test : ℕ → Bool) (c : ℕ) (cs : Text) → test c ≡ true → (p : Option ℕ) → PlaceTells (list_all test) cs p → PlaceTells (list_all test) (c ∷ cs) (option_map suc p)
 one_passes test c cs e None h = and_from (test c) (list_all test cs) e h
 one_passes test c cs e (Some n) z = record {
@@ -111,7 +108,7 @@ one_fails test c cs e = record { outside = ap (λ b. b && list_all test cs) e; r
 
 pub ones_tell : (test : ℕ → Bool) (text : Text) → PlaceTells (list_all test) text (ones_place test text)
 ones_tell test [] = refl
-ones_tell test (c ∷ cs) = subst (PlaceTells (list_all test) (c ∷ cs)) (sym (first_place test c cs)) (by (test c) refl (ones_tell test cs))
+ones_tell test (c ∷ cs) = subst (PlaceTells (list_all test) (c ∷ cs)) (sym (ones-first test c cs)) (by (test c) refl (ones_tell test cs))
   where
     by : (b : Bool) → test c ≡ b → PlaceTells (list_all test) cs (ones_place test cs) → PlaceTells (list_all test) (c ∷ cs) (if b then option_map suc (ones_place test cs) else Some 0)
     by true e more = one_passes test c cs e (ones_place test cs) more

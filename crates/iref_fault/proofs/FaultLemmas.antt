@@ -19,6 +19,7 @@ use Rattle.iref_fault.specs.Faults.{FaultValue, fault_at, first_char, first_faul
 use Rattle.iref_fault.specs.FirstFault.{AreInRules, IsFirstFault, IsPartFault}
 use Rattle.iref_fault.proofs.PartPlaceLemmas.{HasShape}
 use Rattle.iref_fault.proofs.CutSliceLemmas.{IsSlice, whole_slice, slice_boundary}
+use Rattle.iref_fault.proofs.CutReadLemmas.{authority_cut, reference_cut}
 use Rattle.iref_fault.proofs.PieceLemmas.{IsSound, AreSound, first_fault_is, no_fault_is}
 use Rattle.iref_fault.proofs.CutPieceLemmas.{pieces_sound, authority_sound}
 use Rattle.iref_fault.proofs.AuthorityFaultLemmas.{authority_pieces_are}
@@ -299,3 +300,6 @@ pieces_stand text u = stand uri_chars uri_above_ascii text (pieces_of text) (pie
 
 pub authority_pieces_stand : (text : Text) → is_utf8 text ≡ true → AllByRecursion (StandsAt text) (authority_pieces 0 text)
 authority_pieces_stand text u = stand uri_chars uri_above_ascii text (authority_pieces 0 text) (authority_pieces_sound uri_chars uri_above_ascii text (IsUtf8-from_is_utf8 text u))
+
+-- what are laws of faults
+pub ruleset laws = (part_invalid, authority_invalid, reference_invalid, uri_invalid, part_found, authority_found, reference_found, uri_found, pieces_stand, authority_pieces_stand, authority_cut, reference_cut)

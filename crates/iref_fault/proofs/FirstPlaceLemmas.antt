@@ -1,18 +1,15 @@
 -- Places of pieces in bytes: of one piece, of two lists of pieces, and how far a place is.
-use Rattle.std.proofs.Common.{◌≡◌, ℕ, ◌+◌, ◌<◌, ◌≤◌, Bool, true, false, List, [], ◌∷◌, ◌++◌, length, refl, sym, ap, ◌∙◌, subst, arith, chars, IsUtf8}
-use Rattle.std.specs.Prelude.{Option, Some, None, option_map, IfSome}
+use Rattle.std.proofs.Common.{◌≡◌, ℕ, ◌+◌, ◌<◌, Bool, true, false, List, [], ◌∷◌, ◌++◌, length, refl, ap, ◌∙◌, arith, chars, IsUtf8}
+use Rattle.std.specs.Prelude.{Option, Some, None, IfSome}
 use Rattle.std.specs.Option.{option_or}
-use Rattle.std.specs.Str.{IsCharBoundary}
-use Rattle.std.specs.List.{AllByRecursion}
 use Rattle.iref_grammar.specs.Characters.{CharTests}
 use Rattle.iref_grammar.specs.Rules.{Text}
-use Rattle.iref_fault.specs.declared.pieces.Place.{Place}
-use Rattle.iref_fault.specs.Places.{PartRule, component_of, place_in, bytes_before}
+use Rattle.iref_fault.specs.Places.{PartRule, component_of, place_in}
 use Rattle.iref_fault.specs.declared.component.Component.TheVariants.{Path}
 use Rattle.iref_fault.specs.Cut.{Piece, piece}
 use Rattle.iref_fault.specs.CutSteps.{path_rule}
 use Rattle.iref_fault.specs.BytePlaces.{located, byte_place, placed, place_of_piece, first_place}
-use Rattle.iref_fault.proofs.CutSliceLemmas.{IsSlice, whole_slice, slice_boundary}
+use Rattle.iref_fault.proofs.CutSliceLemmas.{whole_slice, slice_boundary}
 
 or-none : {A : Type 0} (o : Option A) → o ≡ option_or o None
 or-none None = refl

@@ -1,6 +1,6 @@
 -- Places in bytes where each character is one byte, up to the place.
-use Rattle.std.proofs.Common.{◌≡◌, ℕ, suc, ◌+◌, ◌<◌, ◌≤◌, Bool, true, false, not, [], ◌∷◌, ◌++◌, length, take, refl, sym, ap, ◌∙◌, arith, chars, IsUtf8, get_or, slice_index, drop, length-append, ⊎_elim, zero-add}
-use Rattle.std.specs.Prelude.{Option, Some, None, option_map, encode_utf8, encode_utf8_all, ◌==◌, if◌then◌else◌}
+use Rattle.std.proofs.Common.{◌≡◌, ℕ, suc, ◌<◌, ◌≤◌, Bool, true, false, not, [], ◌∷◌, ◌++◌, length, refl, sym, ap, ◌∙◌, arith, chars, IsUtf8, get_or, slice_index, drop, length-append, ⊎_elim, zero-add}
+use Rattle.std.specs.Prelude.{Option, Some, None, option_map, encode_utf8, encode_utf8_all, if◌then◌else◌}
 use Rattle.std.specs.List.{position}
 use Rattle.std.specs.Char.{is_ascii_digit, is_ascii_alphabetic}
 use Rattle.std.proofs.lemmas.Bool.{cases_lt}
@@ -8,15 +8,16 @@ use Rattle.std.proofs.lemmas.Bool.Decides.{nat_tests}
 use Rattle.std.proofs.lemmas.Str.{encodes-chars, encode_ascii, chars-nil, char_from_byte, byte_from_char, length-encode, len_utf8_bounds}
 use Rattle.std.proofs.lemmas.List.{nil_from_length}
 use mathlib.Core.Bool.{true≢false}
+use Rattle.iref_grammar.proofs.PartRuleLemmas.{letter_low, scheme_low, digit_low}
 use Rattle.iref_parse.proofs.ScanLemmas.{chars-ascii}
 use Rattle.iref_fault.proofs.BytePlaceLemmas.{located-suc}
 use Rattle.iref_grammar.specs.Rules.{Text}
 use Rattle.iref_grammar.specs.Grammar.{is_scheme_char}
-use Rattle.iref_fault.specs.Places.{bytes_before, ones_place, scheme_place}
+use Rattle.iref_fault.specs.Places.{ones_place, scheme_place}
 use Rattle.iref_fault.specs.BytePlaces.{located, byte_place}
 
 -- the first that does not pass, at a first element
-ones-first : (test : ℕ → Bool) (c : ℕ) (cs : Text) → ones_place test (c ∷ cs) ≡ (if test c then option_map suc (ones_place test cs) else Some 0)
+pub ones-first : (test : ℕ → Bool) (c : ℕ) (cs : Text) → ones_place test (c ∷ cs) ≡ (if test c then option_map suc (ones_place test cs) else Some 0)
 ones-first test c cs = grind (arith, nat_tests)
 
 fails_first : (test : ℕ → Bool) (bytes : Text) → 0 < length bytes → test (get_or bytes 0 0) ≡ false → ones_place test bytes ≡ Some 0
@@ -56,15 +57,6 @@ module _ (test : ℕ → Bool) (high : (c : ℕ) → 128 ≤ c → test c ≡ fa
 
   pub ones_in_text : (text : Text) → IsUtf8 text → byte_place (ones_place test) text ≡ position (λ b. not (test b)) text
   ones_in_text text u = ones_in_bytes (chars text) ∙ ap (ones_place test) (encodes-chars text u)
-
-digit_low : (c : ℕ) → 128 ≤ c → is_ascii_digit c ≡ false
-digit_low c h = grind (arith, nat_tests)
-
-scheme_low : (c : ℕ) → 128 ≤ c → is_scheme_char c ≡ false
-scheme_low c h = grind (arith, nat_tests)
-
-letter_low : (c : ℕ) → 128 ≤ c → is_ascii_alphabetic c ≡ false
-letter_low c h = grind (arith, nat_tests)
 
 letter_in_scheme : (c : ℕ) → is_ascii_alphabetic c ≡ true → is_scheme_char c ≡ true
 letter_in_scheme c h = grind (arith, nat_tests)

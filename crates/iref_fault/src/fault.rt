@@ -1,4 +1,6 @@
 //! Where a text is wrong, and why.
+#![tactic(auto, using(crate::proofs::FaultValueLemmas::part_value))]
+
 ghost use Rattle.std.specs.Prelude.{◌≡◌, option_map, true, false, chars, IfSome, MatchResult};
 ghost use Rattle.std.specs.Str.{IsCharBoundary, is_utf8};
 ghost use Rattle.iref_grammar.specs.Characters.{CharTests};

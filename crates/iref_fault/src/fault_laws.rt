@@ -1,5 +1,5 @@
 //! Laws of faults: each is the contract of a function that does nothing.
-#![tactic(auto)]
+#![tactic(auto, using(crate::proofs::FaultLemmas::laws))]
 
 ghost use Rattle.std.specs.Prelude.{◌≡◌, ◌↔◌, ℕ, ◌≤◌, length, take, drop, true, false, Some};
 ghost use Rattle.std.specs.{Prelude.{None, map}, Str.{is_utf8}, List.{AllByRecursion}};

@@ -47,6 +47,7 @@ pub(crate) fn place_in_scheme(part: Option<&str>) -> Option<Place>
 }
 
 // Of a port.
+#[tactic(auto, unfolding(crate::specs::Places::place_in))]
 pub(crate) fn place_in_port(start: usize, part: Option<&str>) -> Option<Place>
     requires { IfSome (option_copied part) (λ t. start + length t < 2 ^ 64) }
     ensures { (set : CharTests) → result
@@ -68,6 +69,7 @@ fn path_place<C: CharSet>(path: &str, follows: bool) -> Option<usize>
 }
 
 // Of a path.
+#[tactic(auto, using(crate::proofs::FirstPlaceLemmas::place_within))]
 pub(crate) fn place_in_path<C: CharSet>(start: usize, path: &str, follows: bool) -> Option<Place>
     requires { start + length path.now < 2 ^ 64 }
     ensures { result ≡ first_place C.tests (piece (path_rule follows) start path.now) }
@@ -76,6 +78,7 @@ pub(crate) fn place_in_path<C: CharSet>(start: usize, path: &str, follows: bool)
 }
 
 // Of a segment alone.
+#[tactic(auto, unfolding(crate::specs::Places::place_in))]
 pub(crate) fn place_in_segment<C: CharSet>(text: &str) -> Option<Place>
     ensures { result ≡ first_place C.tests (piece rule.Segment 0 text.now) }
 {
@@ -83,6 +86,7 @@ pub(crate) fn place_in_segment<C: CharSet>(text: &str) -> Option<Place>
 }
 
 // Of a query.
+#[tactic(auto, unfolding(crate::specs::Places::place_in))]
 pub(crate) fn place_in_query<C: CharSet>(start: usize, part: Option<&str>) -> Option<Place>
     requires { IfSome (option_copied part) (λ t. start + length t < 2 ^ 64) }
     ensures { result ≡ first_place C.tests (piece_if rule.Query start (option_copied part.entry)) }
@@ -91,6 +95,7 @@ pub(crate) fn place_in_query<C: CharSet>(start: usize, part: Option<&str>) -> Op
 }
 
 // Of a fragment.
+#[tactic(auto, unfolding(crate::specs::Places::place_in))]
 pub(crate) fn place_in_fragment<C: CharSet>(start: usize, part: Option<&str>) -> Option<Place>
     requires { IfSome (option_copied part) (λ t. start + length t < 2 ^ 64) }
     ensures { result
@@ -119,6 +124,7 @@ fn after_last(text: &str) -> &str
 }
 
 // The port of a text that begins with `[`: it follows the first `:` behind the last `]`.
+#[tactic(auto, using(crate::proofs::BracketLemmas::port_none, crate::proofs::BracketLemmas::port_after_last))]
 fn port_behind_brackets(text: &str) -> Option<&str>
     ensures { option_copied result ≡ spec.bracket_port text.now }
 {
@@ -153,6 +159,7 @@ fn host_before<'a>(text: &'a str, port: Option<&str>) -> &'a str
 }
 
 // Of a user info.
+#[tactic(auto, unfolding(crate::specs::Places::place_in))]
 pub(crate) fn place_in_user_info<C: CharSet>(start: usize, part: &str) -> Option<Place>
     requires { start + length part.now < 2 ^ 64 }
     ensures { result ≡ first_place C.tests (piece rule.UserInfo start part.now) }
@@ -161,6 +168,7 @@ pub(crate) fn place_in_user_info<C: CharSet>(start: usize, part: &str) -> Option
 }
 
 // Of a host.
+#[tactic(auto, unfolding(crate::specs::Places::place_in))]
 pub(crate) fn place_in_host<C: CharSet>(start: usize, part: &str) -> Option<Place>
     requires { start + length part.now < 2 ^ 64 }
     ensures { result ≡ first_place C.tests (piece rule.Host start part.now) }
@@ -227,6 +235,7 @@ fn is_either(scheme: Option<&str>, authority: Option<&str>) -> bool
 }
 
 // Of an authority and a path, which stand behind a scheme, if there is one.
+#[tactic(auto, using(std::proofs::lemmas::Grind::common_steps, crate::proofs::HierarchyPlaceLemmas::place_behind))]
 fn place_after_scheme<C: CharSet>(start: usize, scheme: Option<&str>, text: &str) -> Option<Place>
     requires { start + length text.now < 2 ^ 64 }
     ensures { result ≡ first_place C.tests

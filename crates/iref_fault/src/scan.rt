@@ -45,6 +45,7 @@ fn owed_after<R: CharRule>(owed: u8, c: char) -> Option<u8>
 }
 
 // Where a text of characters that the rule allows, and of escapes, is wrong.
+#[tactic(auto, using(crate::proofs::BytePlaceLemmas::scan))]
 fn encoded_place<R: CharRule>(text: &str) -> Option<usize>
     ensures { result ≡ byte_place (encoded_place R.allowed) text.now }
 {
@@ -96,6 +97,7 @@ pub fn user_info_place<C: CharSet>(text: &str) -> Option<usize>
 
 /// Where a host is wrong (RFC 3986 section 3.2.2): `a b` at 1, and `[::1` at 0, as each that begins
 /// with `[`.
+#[tactic(auto, using(crate::proofs::FirstCharLemmas::host_named, crate::proofs::FirstCharLemmas::host_in_brackets))]
 pub fn host_place<C: CharSet>(text: &str) -> Option<usize>
     ensures { result ≡ byte_place (spec.host_place C.tests) text.now }
 {
@@ -109,6 +111,7 @@ pub fn host_place<C: CharSet>(text: &str) -> Option<usize>
 }
 
 /// Where a port is wrong (RFC 3986 section 3.2.3): `8x0` at 1.
+#[tactic(auto, using(crate::proofs::OnesPlaceLemmas::digits_in_bytes))]
 pub fn port_place(text: &str) -> Option<usize>
     ensures { result ≡ byte_place (spec.ones_place is_ascii_digit) text.now }
 {
@@ -123,6 +126,7 @@ pub fn path_place<C: CharSet>(text: &str) -> Option<usize>
 }
 
 /// Where a path is wrong that stands alone, and so does not begin with `:` (RFC 3986 section 4.2).
+#[tactic(auto, using(crate::proofs::FirstCharLemmas::bare_path_colon, crate::proofs::FirstCharLemmas::bare_path_other))]
 pub fn bare_path_place<C: CharSet>(text: &str) -> Option<usize>
     ensures { result ≡ byte_place (spec.bare_path_place C.tests) text.now }
 {

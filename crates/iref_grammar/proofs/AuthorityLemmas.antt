@@ -112,3 +112,5 @@ pub take-host : (text address name : Text) → address ≡ bracketed text → na
 take-host text address name e f =
     let whole : length address + length name ≡ length (read_host text) = sym (length-append address name) ∙ ap length (λ i. e i ++ f i) in
     (λ i. take (whole i) (sym (read_host-joins text) i)) ∙ take-append_seam (read_host text) (then_part (colon ∷ []) (after colon (after_bracketed text)))
+
+pub ruleset hosts = (host_boundary, take-host)

@@ -45,3 +45,5 @@ is_reference-before_hash set text h = grind (arith, readable_parts, read_referen
 pub is_reference-hierarchy : (set : CharTests) (text : Text) → is_reference set text ≡ true → is_reference set (hierarchy text) ≡ true
 unfolding is_reference
 is_reference-hierarchy set text h = grind (arith, readable_parts, read_reference-hierarchy, readable_from)
+
+pub ruleset fronts = (read_reference-before_hash, is_reference-before_hash, read_reference-hierarchy, is_reference-hierarchy)

@@ -25,21 +25,21 @@ Decides-all test P d (x ∷ xs) = Decides-and (test x) (list_all test xs) (d x) 
 
 -- ---- schemes and ports, of bytes
 
-no_letter : (mark : ℕ) → 128 ≤ mark → is_ascii_alphabetic mark ≡ false
-no_letter mark h = grind (arith, nat_tests)
+pub letter_low : (mark : ℕ) → 128 ≤ mark → is_ascii_alphabetic mark ≡ false
+letter_low mark h = grind (arith, nat_tests)
 
-no_scheme_char : (mark : ℕ) → 128 ≤ mark → is_scheme_char mark ≡ false
-no_scheme_char mark h = grind (arith, nat_tests)
+pub scheme_low : (mark : ℕ) → 128 ≤ mark → is_scheme_char mark ≡ false
+scheme_low mark h = grind (arith, nat_tests)
 
-no_digit : (mark : ℕ) → 128 ≤ mark → is_ascii_digit mark ≡ false
-no_digit mark h = grind (arith, nat_tests)
+pub digit_low : (mark : ℕ) → 128 ≤ mark → is_ascii_digit mark ≡ false
+digit_low mark h = grind (arith, nat_tests)
 
 scheme_ascii : (text : Text) → IsScheme text → list_all is_ascii text ≡ true
-scheme_ascii text z = ascii_from_lacks text (λ m h. scheme_lacks m (no_letter m h) (no_scheme_char m h) text ((Decides-is_scheme text).1 z))
+scheme_ascii text z = ascii_from_lacks text (λ m h. scheme_lacks m (letter_low m h) (scheme_low m h) text ((Decides-is_scheme text).1 z))
 
 port_ascii : (text : Text) → IsPort text → list_all is_ascii text ≡ true
 unfolding is_port
-port_ascii text z = ascii_from_lacks text (λ m h. all_lacks is_ascii_digit m (no_digit m h) text ((Decides-is_port text).1 z))
+port_ascii text z = ascii_from_lacks text (λ m h. all_lacks is_ascii_digit m (digit_low m h) text ((Decides-is_port text).1 z))
 
 pub Decides-is_scheme_bytes : (bytes : Text) → Decides (is_scheme bytes) (InUtf8 IsScheme bytes)
 Decides-is_scheme_bytes bytes = Decides-like (is_scheme bytes) (in_utf8-ascii IsScheme scheme_ascii bytes).1 (in_utf8-ascii IsScheme scheme_ascii bytes).0 (Decides-is_scheme bytes)

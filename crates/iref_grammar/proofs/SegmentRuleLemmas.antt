@@ -65,7 +65,7 @@ lacks-split : (mark : ℕ) (xs ys : Text) → lacks mark (xs ++ ys) ≡ true →
 lacks-split mark [] ys h = (refl, h)
 lacks-split mark (c ∷ xs) ys h = grind (arith, lacks-split mark xs ys)
 
-lacks-decoded : (mark : ℕ) (cs : Text) → mark < 128 → lacks mark (encode_utf8_all cs) ≡ true → lacks mark cs ≡ true
+pub lacks-decoded : (mark : ℕ) (cs : Text) → mark < 128 → lacks mark (encode_utf8_all cs) ≡ true → lacks mark cs ≡ true
 lacks-decoded mark [] h k = refl
 lacks-decoded mark (c ∷ cs) h k = grind (arith, common_steps, lacks-split, lacks-decoded mark cs h)
 

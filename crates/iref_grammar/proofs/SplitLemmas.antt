@@ -146,3 +146,5 @@ pub query-cut : (text front : Text) (query : Option (Bor Text)) → front ≡ be
     → MatchOption query ((rest : Text) → front ≢ question_mark ∷ rest) (λ rest. front ≡ question_mark ∷ rest.now) → option_copied query ≡ after question_mark (before hash text)
 query-cut text front None e none = sym (query-missing text (λ rest f. none rest (e ∙ f)))
 query-cut text front (Some rest) e found = sym (query-found text rest.now (sym e ∙ found))
+
+pub ruleset schemes = (scheme-found, scheme-missing)

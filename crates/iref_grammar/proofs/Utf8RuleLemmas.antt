@@ -20,7 +20,7 @@ scalars-append : (xs ys : Text) → all_scalars xs ≡ true → all_scalars ys �
 scalars-append [] ys h k = k
 scalars-append (c ∷ xs) ys h k = grind (arith, scalars-append xs ys)
 
-scalars-split : (xs ys : Text) → all_scalars (xs ++ ys) ≡ true → (all_scalars xs ≡ true) × (all_scalars ys ≡ true)
+pub scalars-split : (xs ys : Text) → all_scalars (xs ++ ys) ≡ true → (all_scalars xs ≡ true) × (all_scalars ys ≡ true)
 scalars-split [] ys h = (refl, h)
 scalars-split (c ∷ xs) ys h = grind (arith, scalars-split xs ys)
 

@@ -16,6 +16,7 @@ pub struct PathContext {
 impl PathContext {
     /// What bytes before a path say of it: there is a scheme if a `:` stands before the first `/`,
     /// `?` or `#`, and an authority if `//` follows that `:`, or stands first without one.
+    #[tactic(auto, using(crate::proofs::MarkLemmas::context_at_colon, crate::proofs::MarkLemmas::context_without_colon))]
     pub fn from_bytes(bytes: &[u8]) -> PathContext
         ensures { result ≡ context_from bytes.now }
     {

@@ -46,6 +46,7 @@ pub fn mapped(alloc: Global, text: &str) -> Result<String, AllocError>
 }
 
 // Writes the mapping of a byte so that it ends before `end`, and says where it begins.
+#[tactic(auto, using(crate::proofs::MappedLemmas::lengths))]
 fn put_mapped(buffer: &mut [u8], end: usize, byte: u8) -> usize
     requires room { length (mapped_byte byte) ≤ end }
     requires within { end ≤ length buffer.old }

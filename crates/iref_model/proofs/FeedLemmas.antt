@@ -10,6 +10,7 @@ use Rattle.iref_grammar.specs.Rules.{Text}
 use Rattle.iref_grammar.specs.Authority.{AuthorityValue}
 use Rattle.iref_grammar.specs.Reference.{ReferenceValue}
 use Rattle.iref_grammar.specs.Keys.{fed_bytes, IsSelfDelimiting}
+use Rattle.iref_model.proofs.TieLemmas.{references_tie}
 use Rattle.iref_model.specs.AuthorityKey.{fed_authority}
 use Rattle.iref_model.specs.Key.{fed_reference}
 use Rattle.iref_model.specs.PathHash.{fed_from_the_back, fed_path}
@@ -102,3 +103,5 @@ reference_feed_delimits a b r s e =
     let query = first_fed (option fed_bytes) optional a.query b.query (fragment_of a) (fragment_of b) r s path.1 in
     let fragment = optional a.fragment b.fragment r s query.1 in
     ((λ i. record { scheme = scheme.0 i; authority = authority.0 i; path = path.0 i; query = query.0 i; fragment = fragment.0 i }), fragment.1)
+
+pub ruleset compared = (reference_feed_delimits, references_tie)

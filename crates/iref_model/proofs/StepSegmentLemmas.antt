@@ -41,7 +41,7 @@ pub lazy_pushed-in : (test : Text → Bool) → TakesDots test → (context : Pa
 unfolding lazy_pushed
 lazy_pushed-in test takes context s p k h = grind (arith, common_steps, guarded-in)
 
-in-shortened : (test : Text → Bool) (list : List Text) → list_all test list ≡ true → list_all test (all_but_last list) ≡ true
+pub in-shortened : (test : Text → Bool) (list : List Text) → list_all test list ≡ true → list_all test (all_but_last list) ≡ true
 in-shortened test [] h = refl
 in-shortened test (s ∷ []) h = refl
 in-shortened test (s ∷ t ∷ list) h = grind (arith, in-shortened test (t ∷ list))

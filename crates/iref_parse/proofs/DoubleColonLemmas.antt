@@ -62,3 +62,5 @@ module _ (text front back : Text) (i j : ℕ) (h : FindsText (codes "::") text (
 
   pub both_filled : (start_count start end_count end : ℕ) → counted (start_of front) ≡ Some (start_count, start) → counted (end_of back) ≡ Some (end_count, end) → ipv6_value text ≡ filled_number start_count start end_count end
   both_filled start_count start end_count end k l = both ∙ around_filled (start_of front) (end_of back) start_count start end_count end k l
+
+pub ruleset groups_by_colons = (whole_refused, whole_eight, both_filled)

@@ -18,6 +18,7 @@ use Rattle.iref_grammar.specs.Rules.{Text, InUtf8}
 use Rattle.iref_grammar.specs.Tests.{owed_after, is_encoded_after, is_encoded}
 use Rattle.iref_grammar.specs.Texts.{before, from_first}
 use Rattle.iref_grammar.proofs.CutLemmas.{before-no, before-yes, before-from_first, from_first-no, from_first-yes}
+use Rattle.iref_grammar.proofs.Utf8RuleLemmas.{scalars-split}
 use Rattle.iref_grammar.proofs.EncodedLemmas.{by_char, by_digit, by_percent, if_taken}
 use Rattle.iref_parse.specs.Encoded.{are_encoded, but, StepsTo, BeginsWide}
 use Rattle.iref_parse.proofs.ScanLemmas.{chars-ascii}
@@ -38,10 +39,6 @@ encoded_from : (test : ℕ → Bool) (text : Text) → Spelled test text → are
 encoded_from test text s =
     let u : IsUtf8 text = (s.0, (s.1, s.2)) in
     and_from _ _ (is_utf8-from_IsUtf8 text u) (ap (is_encoded test) (sym (chars_from_encodes s.0 text u s.2)) ∙ s.3)
-
-scalars-split : (xs ys : Text) → all_scalars (xs ++ ys) ≡ true → (all_scalars xs ≡ true) × (all_scalars ys ≡ true)
-scalars-split [] ys h = (refl, h)
-scalars-split (c ∷ xs) ys h = let parts = and_parts (scalar c) (all_scalars (xs ++ ys)) h in let r = scalars-split xs ys parts.1 in (and_from _ _ parts.0 r.0, r.1)
 
 -- one character more in front
 spelled_more : (test : ℕ → Bool) (c : ℕ) (rest : Text) → scalar c ≡ true → (c == percent_sign) ≡ false → test c ≡ true → Spelled test rest → Spelled test (encode c ++ rest)

@@ -182,3 +182,5 @@ around_filled start end j v k w h g =
     by : (xs ys : List ℕ) (b : Bool) → nat_le (length xs + length ys) 7 ≡ b → option_map (number_of 65536) (cond b (Some (filled_groups xs ys)) None) ≡ cond b (Some (number_of 65536 xs * 65536 ^ (8 - length xs) + number_of 65536 ys)) None
     by xs ys true e = ap (λ n. Some n) (number-filled xs ys (grind (arith, nat_tests)))
     by xs ys false e = refl
+
+pub ruleset reads = (read_last, read_refused, read_ninth, read_group)

@@ -8,6 +8,7 @@ use Rattle.std.specs.declared.cmp.Ordering.{Ordering}
 use Rattle.std.specs.declared.cmp.Ordering.TheVariants.{Less, Equal, Greater}
 use Rattle.percent_encoding.specs.Percent.{percent_decode}
 use Rattle.percent_encoding.proofs.PercentLemmas.{percent_decode_not_percent, length-percent_decode}
+use Rattle.std.proofs.lemmas.Slice.{between_to_end}
 use Rattle.iref_grammar.specs.Keys.{text_order}
 use Rattle.iref_parse.specs.Kept.{IsKeptFront}
 
@@ -71,3 +72,5 @@ module _ (xs ys : List ℕ) (n : ℕ) (h : IsKeptFront xs ys n) where
       let first = ap percent_decode (drop-cons xs n 0 l) ∙ percent_decode_not_percent x (drop (suc n) xs) p in
       let second = ap percent_decode (drop-cons ys n 0 m) ∙ percent_decode_not_percent y (drop (suc n) ys) q in
       sym (decided x y _ (λ e. p (h.ends l m e))) ∙ sym (order_past_front ∙ (λ i. text_order (first i) (second i)))
+
+pub ruleset ordered = (between_to_end, order_past_front, order_at_bytes)

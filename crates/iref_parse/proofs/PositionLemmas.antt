@@ -152,3 +152,5 @@ begins_at_mark mark text (c ∷ cs) e l = let marked = begins_with_mark (mark �
 
 pub from_mark_in_utf8 : (mark : ℕ) (text : List ℕ) → mark < 128 → IsUtf8 text → IsUtf8 (from_first (mark ∷ []) text)
 from_mark_in_utf8 mark text low u = IsUtf8-drop text _ u (subst (IsCharBoundary text) (position_of_one mark text) (boundary_at_position mark mark text low low))
+
+pub ruleset at_ends = (position_at_low_end, position_at_high_end)

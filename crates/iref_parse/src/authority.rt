@@ -40,6 +40,7 @@ fn split_address(text: &str) -> (&str, &str)
 
 // The host and the port, beside the user info that stands before them.
 #[inline(always)]
+#[tactic(auto, using(std::proofs::lemmas::Grind::common_steps, iref_grammar::proofs::AuthorityLemmas::hosts))]
 fn split_host<'a>(user_info: Option<&'a str>, text: &'a str) -> AuthoritySlices<'a>
     ensures { authority_of result ≡ read_host_and_port (option_copied user_info.entry) text.now }
 {
@@ -100,7 +101,7 @@ fn are_parts<C: CharSet>(parts: AuthoritySlices<'_>) -> bool
 
 /// Whether the text is an authority (RFC 3986 section 3.2). Most often it is a host alone, or an
 /// IPv6 address and a port.
-#[tactic(auto, unfolding(iref_grammar::specs::Authority::is_authority))]
+#[tactic(auto, using(crate::proofs::AuthorityLemmas::host_alone), unfolding(iref_grammar::specs::is_authority))]
 pub fn is_authority<C: CharSet>(text: &str) -> bool
     ensures { result ≡ authority.is_authority C.tests text.now }
 {

@@ -35,6 +35,7 @@ impl Chunk {
     }
 
     /// Adds a byte, and writes the chunk to the hasher where it is full.
+    #[tactic(auto, using(crate::proofs::BufferLemmas::full_turn, crate::proofs::BufferLemmas::room_turn))]
     pub fn add<H: Hasher>(&mut self, byte: u8, state: &mut H)
         ensures { (rest : Text) → fold H.write state.new (fed_after self.new rest)
             ≡ fold H.write state.old (fed_after self.old (byte ∷ rest)) }
@@ -49,6 +50,7 @@ impl Chunk {
     }
 
     /// Writes the last chunk to the hasher, which ends the text.
+    #[tactic(auto, using(crate::proofs::BufferLemmas::last_turn))]
     pub fn end<H: Hasher>(mut self, state: &mut H)
         ensures { state.new ≡ fold H.write state.old (fed_after self []) }
     {
@@ -59,6 +61,7 @@ impl Chunk {
 
 /// Feeds the hasher a text of at most seven bytes, which a buffer holds behind its first byte.
 #[inline(always)]
+#[tactic(auto, using(crate::proofs::PieceLemmas::piece_last))]
 pub fn hash_held<H: Hasher>(buffer: &mut [u8; 8], len: usize, state: &mut H)
     requires { len < 8 }
     ensures { state.new ≡ fold H.write state.old (fed_bytes (take len (drop 1 buffer.old))) }

@@ -83,6 +83,7 @@ fn begins_with_dot(text: &[u8]) -> bool
 /// Whether a segment of the path begins with a dot, as each `.` and each `..` does. Where none
 /// does, the path has no dot segment.
 #[inline(always)]
+#[tactic(auto, using(crate::proofs::DotSegmentLemmas::dots_by_pairs))]
 pub fn has_dots(path: &[u8]) -> bool
     ensures { result ≡ has_dot_segment path.now }
 {

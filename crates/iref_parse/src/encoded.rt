@@ -24,6 +24,7 @@ fn low_bits(byte: u8) -> Option<u32>
 
 // The character of two bytes, if they are one.
 #[inline(always)]
+#[tactic(auto, using(crate::proofs::WideLemmas::encode_two))]
 fn of_two(first: u8, second: u8) -> Option<u32>
     requires { first < 224 }
     ensures { IfSome result (IsWide (first ∷ second ∷ [])) }
@@ -36,6 +37,7 @@ fn of_two(first: u8, second: u8) -> Option<u32>
 
 // The code of three bytes, if they are one's. It may be a surrogate's.
 #[inline(always)]
+#[tactic(auto, using(crate::proofs::WideLemmas::encode_three))]
 fn of_three(first: u8, second: u8, third: u8) -> Option<u32>
     requires least { 224 ≤ first }
     requires most { first < 240 }
@@ -50,6 +52,7 @@ fn of_three(first: u8, second: u8, third: u8) -> Option<u32>
 
 // The code of four bytes, if they are one's. It may be beyond the last character's.
 #[inline(always)]
+#[tactic(auto, using(crate::proofs::WideLemmas::encode_four))]
 fn of_four(first: u8, second: u8, third: u8, fourth: u8) -> Option<u32>
     requires { 240 ≤ first }
     ensures { IfSome result (IsWide (first ∷ second ∷ third ∷ fourth ∷ [])) }
@@ -71,6 +74,7 @@ fn continues(byte: u8) -> bool
 
 // The character of two bytes, if they are one from U+00C0 on.
 #[inline(always)]
+#[tactic(auto, using(crate::proofs::WideLemmas::encode_two))]
 fn of_common_two(first: u8, second: u8) -> Option<u32>
     requires { first < 224 }
     ensures { IfSome result (IsWide (first ∷ second ∷ [])) }
@@ -84,6 +88,7 @@ fn of_common_two(first: u8, second: u8) -> Option<u32>
 
 // The character of three bytes, if they are one from U+0800 to U+CFFF.
 #[inline(always)]
+#[tactic(auto, using(crate::proofs::WideLemmas::encode_three))]
 fn of_common_three(first: u8, second: u8, third: u8) -> Option<u32>
     requires least { 224 ≤ first }
     requires most { first < 237 }
@@ -207,6 +212,7 @@ fn begins_common(byte: u8) -> bool
 // What follows the first character, which is from U+00C0 to U+D7FF: its first byte tells how many
 // bytes it has.
 #[inline(always)]
+#[tactic(auto, using(crate::proofs::CommonLemmas::common_of_two, crate::proofs::CommonLemmas::common_of_three))]
 fn after_common_char(text: &[u8]) -> &[u8]
     requires utf8 { IsUtf8 text.now }
     requires common { begins_common (slice_index text.now 0) ≡ true }
@@ -265,6 +271,7 @@ fn is_percent_or_wide(byte: u8) -> bool
 
 // Whether the bytes are found to be such a text, from the front on. The first byte, if any,
 // is not plain.
+#[tactic(auto, using(std::proofs::lemmas::Bool::Decides::nat_tests, crate::proofs::EncodedTextLemmas::encoded_nothing))]
 fn is_encoded_rest<C: CharSet, const IS_UTF8: bool>(text: &[u8]) -> bool
     requires { IS_UTF8 ≡ true → IsUtf8 text.now }
     ensures { result ≡ true → are_encoded (is_plain_char C.tests) text.now ≡ true }
@@ -285,6 +292,7 @@ fn is_encoded_rest<C: CharSet, const IS_UTF8: bool>(text: &[u8]) -> bool
 /// Whether the bytes are found to be the UTF-8 of plain bytes, escapes and characters that the set
 /// has beyond ASCII. Most often all are plain.
 #[inline(always)]
+#[tactic(auto, using(std::proofs::lemmas::Grind::common_steps, crate::proofs::EncodedTextLemmas::encoded_nothing))]
 pub(crate) fn is_encoded_text<C: CharSet, const IS_UTF8: bool>(text: &[u8]) -> bool
     requires { IS_UTF8 ≡ true → IsUtf8 text.now }
     ensures { result ≡ true → are_encoded (is_plain_char C.tests) text.now ≡ true }

@@ -135,7 +135,7 @@ impl Groups {
     }
 
     // The number of eight groups that begin with these and end with zeros.
-    #[tactic(auto, using(crate::proofs::GroupLemmas::room_fits))]
+    #[tactic(auto, using(crate::proofs::GroupLemmas::room_fits, crate::proofs::GroupLemmas::zeros_fit))]
     fn followed_by_zeros(self) -> u128
         ensures { result ≡ self.value * 65536 ^ (8 - self.count) }
     {
@@ -159,6 +159,7 @@ impl Groups {
 }
 
 // The groups before the last `:`, and what follows it.
+#[tactic(auto, using(crate::proofs::GroupLemmas::reads))]
 fn groups_before_last(text: &str) -> Option<(Groups, &str)>
     ensures { MatchOption result
         ((last : Text → Option (List ℕ))
@@ -202,6 +203,7 @@ fn end_groups(text: &str) -> Option<Groups>
 }
 
 /// The number of an IPv6 address, if the text is one.
+#[tactic(auto, using(crate::proofs::DoubleColonLemmas::groups_by_colons))]
 pub fn ipv6_value(text: &str) -> Option<u128>
     ensures { result ≡ ip.ipv6_value text.now }
 {

@@ -74,6 +74,7 @@ fn few_plain_first(groups: &Groups, bytes: &[u8]) -> usize
 
 // How many bytes stand first that are plain by the groups.
 #[inline(always)]
+#[tactic(auto, using(crate::proofs::PlainLemmas::plain_front_from_marks))]
 fn first_by(groups: &Groups, bytes: &[u8]) -> usize
     ensures { result ≡ prefix_len (plain.is_in_no_group groups.now) bytes.now }
 {
@@ -86,6 +87,7 @@ fn first_by(groups: &Groups, bytes: &[u8]) -> usize
 
 /// How many bytes stand first that are of a path, `?` or `#`.
 #[inline(always)]
+#[tactic(auto, using(crate::proofs::PlainLemmas::ascii_front))]
 pub(crate) fn plain_first(bytes: &[u8]) -> usize
     ensures { result ≡ prefix_len plain.is_plain_byte bytes.now }
 {
@@ -95,6 +97,7 @@ pub(crate) fn plain_first(bytes: &[u8]) -> usize
 /// How many bytes stand first that are such a byte or, in UTF-8, one of a character from U+00C0 to
 /// U+D7FF.
 #[inline(always)]
+#[tactic(auto, using(crate::proofs::PlainLemmas::common_front))]
 pub(crate) fn common_first(bytes: &[u8]) -> usize
     ensures { result ≡ prefix_len plain.is_common_byte bytes.now }
 {

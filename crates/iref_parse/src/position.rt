@@ -66,6 +66,7 @@ pub(crate) fn ends_of(bytes: &[u8]) -> [u8; 16]
 
 // The position of the first byte that is one of two, or the length, of 8 to 15 bytes.
 #[inline(always)]
+#[tactic(auto, using(std::proofs::lemmas::Grind::common_steps, crate::proofs::PositionLemmas::at_ends))]
 fn position_in_ends(bytes: &[u8], first: u8, second: u8) -> usize
     requires least { 8 ≤ length bytes.now }
     requires most { length bytes.now < 16 }
@@ -95,6 +96,7 @@ fn position_in_few(bytes: &[u8], first: u8, second: u8) -> usize
 
 /// The position of the first byte that is one of two, or the length of the text.
 #[inline(always)]
+#[tactic(auto, using(crate::proofs::PositionLemmas::position_from_clear))]
 pub fn position_of_either(bytes: &[u8], first: u8, second: u8) -> usize
     ensures { result ≡ position_or_len (char_set_contains (first ∷ second ∷ [])) bytes.now }
 {
@@ -114,7 +116,7 @@ pub fn position_of_either(bytes: &[u8], first: u8, second: u8) -> usize
 
 /// The position of the first such byte, or the length of the text.
 #[inline(always)]
-pub(crate) fn position_of(bytes: &[u8], mark: u8) -> usize
+pub fn position_of(bytes: &[u8], mark: u8) -> usize
     ensures { result ≡ position_or_len (char_set_contains (mark ∷ [])) bytes.now }
 {
     position_of_either(bytes, mark, mark)

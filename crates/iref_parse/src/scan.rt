@@ -176,6 +176,7 @@ impl CharRule for PctStrChars {
 }
 
 /// The first character, and what follows it: of `é/` they are `é` and `/`.
+#[tactic(auto, using(crate::proofs::ScanLemmas::first_char))]
 pub fn split_first_char(text: &str) -> Option<(char, &str)>
     ensures { MatchOption result (length text.now ≡ 0)
         (λ x. (chars text.now ≡ x.0 ∷ chars x.1.now) × (length x.1.now < length text.now)) }
@@ -223,6 +224,7 @@ fn after_ascii(text: &str) -> &str
 }
 
 // What follows the first character, if it is one byte that the rule's table has.
+#[tactic(auto, using(std::proofs::lemmas::Grind::common_steps, crate::proofs::ScanLemmas::after_byte))]
 fn after_one<R: CharRule>(text: &str) -> Option<&str>
     ensures { IfSome result (λ _. ScansTo R.allowed 0 0 text.now result) }
 {
@@ -306,6 +308,7 @@ pub fn is_segment<C: CharSet>(text: &str) -> bool
 
 // Whether the text has 16 bytes at least, and is found to be a path by a scan of vectors.
 #[inline(always)]
+#[tactic(auto, using(std::proofs::lemmas::Grind::common_steps, crate::proofs::PlainTextLemmas::encoded_path))]
 fn is_encoded_path<C: CharSet>(text: &str) -> bool
     ensures { result ≡ true → test.is_path C.tests text.now ≡ true }
 {

@@ -40,6 +40,7 @@ pub struct ReferenceSlices<'a> {
 
 // What stands before the first of two delimiters, and the text from there on.
 #[inline(always)]
+#[tactic(auto, using(crate::proofs::PositionLemmas::boundary_at_position))]
 fn split_before_either(text: &str, first: u8, second: u8) -> (&str, &str)
     requires first_is_ascii { first < 128 }
     requires second_is_ascii { second < 128 }
@@ -50,6 +51,7 @@ fn split_before_either(text: &str, first: u8, second: u8) -> (&str, &str)
 
 /// The scheme, if a `:` stands before each `/`, and what follows it: of `a:b` they are `a` and `b`.
 #[inline(always)]
+#[tactic(auto, using(std::proofs::lemmas::Grind::common_steps, iref_grammar::proofs::SplitLemmas::schemes))]
 pub fn split_scheme(text: &str) -> (Option<&str>, &str)
     ensures scheme { option_copied result.0 ≡ (spec.split_scheme text.now).0 }
     ensures rest { result.1.now ≡ (spec.split_scheme text.now).1 }
@@ -142,6 +144,7 @@ fn are_scanned_components<C: CharSet>(slices: ReferenceSlices<'_>) -> bool
 // Whether the authority, which is encoded, is in its rule. Up to the first `:` or `@` it is a
 // registered name.
 #[inline(always)]
+#[tactic(auto, using(crate::proofs::PlainTextLemmas::encoded_authority))]
 fn is_encoded_authority<C: CharSet>(part: Option<&str>) -> bool
     requires { none_or (are_encoded (is_authority_char C.tests)) (option_copied part) ≡ true }
     ensures { result ≡ none_or (authority.is_authority C.tests) (option_copied part.entry) }
@@ -154,6 +157,7 @@ fn is_encoded_authority<C: CharSet>(part: Option<&str>) -> bool
 }
 
 // Whether the fragment, which is encoded, is in its rule, as it is without `#`.
+#[tactic(auto, using(std::proofs::lemmas::Grind::common_steps, crate::proofs::PlainTextLemmas::encoded_fragment))]
 fn is_encoded_fragment<C: CharSet>(part: Option<&str>) -> bool
     requires { none_or (are_encoded (is_plain_char C.tests)) (option_copied part) ≡ true }
     ensures { result ≡ none_or (test.is_fragment C.tests) (option_copied part.entry) }

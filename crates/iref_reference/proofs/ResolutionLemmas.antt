@@ -2,6 +2,7 @@
 use Rattle.std.proofs.Common.{◌≡◌, true, ◌++◌, arith}
 use Rattle.std.specs.Prelude.{is_some}
 use Rattle.std.specs.Borrow.{Bor}
+use Rattle.std.proofs.lemmas.Result.{IfOk-weaker}
 use Rattle.iref_grammar.specs.Characters.{AreAboveAscii, CharTests}
 use Rattle.iref_grammar.specs.Rules.{Text}
 use Rattle.iref_grammar.specs.Reference.{ReferenceValue, is_uri, is_readable, is_reference, read_reference}
@@ -54,3 +55,5 @@ module _ (set : CharTests) (above : AreAboveAscii set) (base text : Text) (b r :
 
     pub front-resolved : IsResolved base text (front.0.now ++ text)
     front-resolved = whole-resolved (front.0.now ++ text) front.1 front_spelled
+
+pub ruleset anew = (IfOk-weaker, resolved-scheme)

@@ -16,3 +16,5 @@ text_order-as k l x y p q = ap (λ x. text_order x y) p ∙ ap (text_order (sort
 -- and they are the same where the keys tie
 pub is_same_text-as : (k l : ReferenceValue) (x y : Text) → x ≡ sort_key k → y ≡ sort_key l → is_same_text x y ≡ eq_by_cmp key_cmp k l
 is_same_text-as k l x y p q = texts_ties x y ∙ ap is_eq (text_order-as k l x y p q)
+
+pub ruleset as_references = (is_same_text-as, text_order-as)

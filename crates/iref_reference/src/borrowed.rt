@@ -166,6 +166,7 @@ impl<'a, R: HeldRule, C: CharSet> Reference<'a, R, C> {
     }
 
     /// The reference up to its fragment: of `a?b#c`, `a?b`.
+    #[tactic(auto, using(iref_grammar::proofs::FrontLemmas::fronts))]
     pub fn without_fragment(&self) -> UriRef<'a, C>
         ensures text { reference_text result ≡ before (hash_sign ∷ []) (reference_text self.now) }
         ensures value { reference_value result ≡ with_fragment None (reference_value self.now) }
@@ -175,6 +176,7 @@ impl<'a, R: HeldRule, C: CharSet> Reference<'a, R, C> {
     }
 
     /// The reference up to its query and its fragment: of `a?b#c`, `a`.
+    #[tactic(auto, using(iref_grammar::proofs::FrontLemmas::fronts))]
     pub fn without_query_and_fragment(&self) -> UriRef<'a, C>
         ensures text { reference_text result ≡ hierarchy (reference_text self.now) }
         ensures value { reference_value result
@@ -195,6 +197,7 @@ impl<'a, R: HeldRule, C: CharSet> Reference<'a, R, C> {
     }
 
     // The URI of the same text, if the reference has a scheme.
+    #[tactic(auto, using(iref_grammar::proofs::ComponentLemmas::uri_if_scheme))]
     pub(crate) fn to_uri_rule(&self) -> Option<Uri<'a, C>>
         ensures text { IfSome result (λ uri. reference_text uri ≡ reference_text self.now) }
         ensures scheme { is_some result ≡ is_some (reference_value self.now).scheme }

@@ -130,6 +130,7 @@ fn is_canonical_in<R: HeldRule, C: CharSet>(text: &str, slices: ReferenceSlices<
 /// Two references are equal exactly if the texts of their canonical references are the same bytes,
 /// by the `==` of each: of these texts it asks for what the calls above say of them (RFC 3986
 /// section 6.2.2).
+#[tactic(auto, using(crate::proofs::CanonicalLemmas::tied_by_texts))]
 pub fn references_are_equal_as_their_canonical_texts<R: HeldRule, C: CharSet>()
     ensures references { AreEqualByTexts key_of_reference
         ⟦<UriRef<'static, C> as PartialEq>⟧.eq }

@@ -66,6 +66,7 @@ impl<R: HeldRule, C: CharSet> Hash for ReferenceBuf<R, C> {
 
 /// References and URIs are equal, in order and hashed by the key of the reference, so a URI as its
 /// reference (RFC 3986 section 6.2.2).
+#[tactic(auto, using(iref_model::proofs::FeedLemmas::compared))]
 pub fn references_compare_by_key<C: CharSet>()
     ensures references { ComparesBy key_of_reference key_cmp fed_reference
         ⟦<UriRef<'static, C> as Ord>⟧ ⟦<UriRef<'static, C> as Hash>⟧ }
@@ -75,6 +76,7 @@ pub fn references_compare_by_key<C: CharSet>()
 
 /// Owned values of any rule are equal, in order and hashed by the key of the reference, as borrowed
 /// ones are.
+#[tactic(auto, using(iref_model::proofs::FeedLemmas::compared))]
 pub fn owners_compare_by_key<R: HeldRule, C: CharSet>()
     ensures { ComparesBy key_of_reference_buf key_cmp fed_reference
         ⟦<ReferenceBuf<R, C> as Ord>⟧ ⟦<ReferenceBuf<R, C> as Hash>⟧ }

@@ -211,6 +211,7 @@ impl<R: HeldRule, C: CharSet> ReferenceBuf<R, C> {
     }
 
     // The URI of the same text, with no copy, or the reference if it has no scheme.
+    #[tactic(auto, using(iref_grammar::proofs::ComponentLemmas::uri_if_scheme))]
     pub(crate) fn try_into_uri_rule(self) -> Result<UriBuf<C>, InvalidUri<Self>>
         ensures { OwnerNarrowsToUri (λ error. error.0) self result }
     {

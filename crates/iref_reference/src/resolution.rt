@@ -91,6 +91,7 @@ impl<'a, S: SchemePart<'a>, C: CharSet> Parts<'a, S, C> {
     /// What the reference of these components resolves to against a base, not written yet: `../g`
     /// and `http://a/b/c` give `http://a/g`. `Memory` says that its length cannot be counted.
     /// Components that were read from a text are readable.
+    #[tactic(auto, using(crate::proofs::ResolutionLemmas::scheme_of_base))]
     pub fn resolved(&self, base: &UriParts<'a, C>) -> Result<ComposedUri<'a, C>, Memory>
         requires reference { is_readable C.tests (parts_value S.text self.now) ≡ true }
         requires base { is_readable C.tests (uri_parts_value base.now) ≡ true }

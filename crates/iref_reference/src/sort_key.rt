@@ -63,6 +63,7 @@ impl<R: HeldRule, C: CharSet> ReferenceBuf<R, C> {
 
 /// Sort keys are in order as their references are, and equal exactly where these are, by `cmp` and
 /// `==` of each: of two sort keys it asks for what each call above says of its result.
+#[tactic(auto, using(crate::proofs::SortOrderLemmas::as_references))]
 pub fn sort_keys_compare_as_their_references<R: HeldRule, C: CharSet>()
     ensures references { SortsAs key_of_reference
         ⟦<UriRef<'static, C> as Ord>⟧ ⟦<SortKey as Ord>⟧ }

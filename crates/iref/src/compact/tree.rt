@@ -82,6 +82,7 @@ fn symbol(text: &[u8], at: usize) -> usize
 
 impl Bit {
     // The first bit by which two texts differ, whose symbols differ at a place, and none before.
+    #[tactic(auto, using(crate::proofs::PrefixBitLemmas::differences))]
     fn of_difference(a: &[u8], b: &[u8], at: usize) -> Self
         requires same { SameBits (9 * at) a.now b.now }
         requires differ { symbol a.now at ≢ symbol b.now at }

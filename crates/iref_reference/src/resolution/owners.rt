@@ -28,6 +28,7 @@ impl<R: HeldRule, C: CharSet> ReferenceBuf<R, C> {
 
 impl<C: CharSet> UriRefBuf<C> {
     // What the reference resolves to against a base, in a buffer of its own.
+    #[tactic(auto, using(crate::proofs::ResolutionLemmas::anew))]
     fn resolved_anew(&self, base: Uri<'_, C>) -> Result<UriBuf<C>, Memory>
         ensures ok { IfOk result (λ uri. IsResolved (reference_text base.entry)
             (reference_buf_text self.now) (reference_buf_text uri)) }

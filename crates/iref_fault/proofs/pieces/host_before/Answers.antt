@@ -1,6 +1,6 @@
-use Rattle.std.proofs.Common.{◌≡◌, ◌-◌, length, take, arith, Some, None, sym, ap, ◌∙◌}
+use Rattle.std.proofs.Common.{◌≡◌, arith, Some, sym, ap, ◌∙◌}
+use Rattle.std.proofs.lemmas.Grind.{common_steps}
 use Rattle.std.specs.Option.{option_copied}
-use Rattle.std.specs.List.{slice_range}
 use Rattle.iref_fault.specs.Cut.{cut_port}
 use Rattle.iref_fault.proofs.HostLemmas.{host_alone, host_len, host_boundary, take-host}
 use Rattle.iref_fault.proofs.pieces.host_before.Goals as goal
@@ -19,12 +19,7 @@ pub range-requires-clause-end_boundary : goal.range-requires-clause-end_boundary
 range-requires-clause-end_boundary c = host_boundary c.args.text.now c.in-Some.port.now (ap option_copied (sym c.in-Some.is) ∙ c.requires)
 
 pub returns-in-Some : goal.returns-in-Some
-returns-in-Some c =
-    let cut = take-host c.args.text.now c.in-Some.port.now (ap option_copied (sym c.in-Some.is) ∙ c.requires) in
-    let text = c.args.text.now in
-    let len = length text - length c.in-Some.port.now - 1 in
-    let same : slice_range text 0 len ≡ take len text = grind arith in
-    c.range.ensures.value ∙ same ∙ cut
+returns-in-Some c = grind (arith, common_steps, take-host)
 
 pub returns-in-None : goal.returns-in-None
 returns-in-None c = host_alone c.args.text.now (ap option_copied (sym c.in-None.is) ∙ c.requires)

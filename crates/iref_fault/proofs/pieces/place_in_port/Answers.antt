@@ -1,12 +1,9 @@
-use Rattle.std.proofs.Common.{◌+◌, ◌<◌, ◌^◌, length, IsUtf8, refl, rules, sym, subst, ap, ◌∙◌}
+use Rattle.std.proofs.Common.{◌+◌, ◌<◌, ◌^◌, length, IsUtf8, rules, sym, subst}
 use Rattle.std.specs.Prelude.{IfSome}
 use Rattle.std.specs.Option.{option_copied}
 use Rattle.std.specs.Char.{is_ascii_digit}
-use Rattle.iref_fault.specs.declared.component.Component.TheVariants as component
-use Rattle.iref_fault.specs.Places.{Port, place_in, ones_place}
-use Rattle.iref_fault.specs.Cut.{piece_if}
-use Rattle.iref_fault.specs.BytePlaces.{first_place, placed}
-use Rattle.iref_fault.proofs.FirstPlaceLemmas.{one_piece, place_within}
+use Rattle.iref_fault.specs.Places.{ones_place}
+use Rattle.iref_fault.proofs.FirstPlaceLemmas.{place_within}
 use Rattle.iref_fault.proofs.pieces.place_in_port.Goals as goal
 
 pub placed-requires : goal.placed-requires
@@ -16,11 +13,3 @@ placed-requires c =
     let utf8 : IsUtf8 text = search rules in
     let room : start + length text < 2 ^ 64 = subst (λ o. IfSome (option_copied o) (λ t. start + length t < 2 ^ 64)) c.in_ok-part.was c.requires in
     subst (λ o. IfSome o (λ n. start + n < 2 ^ 64)) (sym c.port_place.ensures) (place_within (ones_place is_ascii_digit) text start (2 ^ 64) utf8 room)
-
-pub returns : goal.returns
-unfolding place_in
-returns c = λ set.
-    let start = c.args.start in
-    c.placed.ensures ∙ ap (placed component.Port start) c.port_place.ensures
-    ∙ one_piece set Port start c.in_ok-part.field-0.now (ones_place is_ascii_digit) refl
-    ∙ ap (λ o. first_place set (piece_if Port start (option_copied o))) (sym c.in_ok-part.was)

@@ -1,19 +1,11 @@
-use Rattle.std.proofs.Common.{◌+◌, ◌<◌, ◌^◌, refl, sym, subst, ap, ◌∙◌}
+use Rattle.std.proofs.Common.{◌+◌, ◌<◌, ◌^◌, sym, subst}
 use Rattle.std.specs.Prelude.{IfSome}
 use Rattle.iref_grammar.specs.Grammar.{is_user_info_char}
-use Rattle.iref_fault.specs.declared.component.Component.TheVariants as component
-use Rattle.iref_fault.specs.Places.{UserInfo, place_in, encoded_place}
-use Rattle.iref_fault.specs.BytePlaces.{placed}
-use Rattle.iref_fault.proofs.FirstPlaceLemmas.{one_piece, place_within}
+use Rattle.iref_fault.specs.Places.{encoded_place}
+use Rattle.iref_fault.proofs.FirstPlaceLemmas.{place_within}
 use Rattle.iref_fault.proofs.pieces.place_in_user_info.Goals as goal
 
 pub placed-requires : goal.placed-requires
 placed-requires g c =
     subst (λ o. IfSome o (λ n. c.args.start + n < 2 ^ 64)) (sym c.user_info_place.ensures)
     (place_within (encoded_place (is_user_info_char g.C.CharSet.tests)) c.args.part.now c.args.start (2 ^ 64) c.utf8.part c.requires)
-
-pub returns : goal.returns
-unfolding place_in
-returns g c =
-    c.placed.ensures ∙ ap (placed component.UserInfo c.args.start) c.user_info_place.ensures
-    ∙ one_piece g.C.CharSet.tests UserInfo c.args.start c.args.part.now (encoded_place (is_user_info_char g.C.CharSet.tests)) refl

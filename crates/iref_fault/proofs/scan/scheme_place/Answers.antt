@@ -1,8 +1,7 @@
-use Rattle.std.proofs.Common.{arith, ◌≡◌, ◌<◌, true, false, length, slice_index, sym, ap, ◌∙◌, not}
-use Rattle.std.specs.List.{position}
+use Rattle.std.proofs.Common.{arith, length, slice_index, sym, ap, ◌∙◌}
+use Rattle.std.proofs.lemmas.Grind.{common_steps}
 use Rattle.std.specs.Char.{is_ascii_alphabetic}
 use Rattle.std.proofs.lemmas.Bool.Decides.{nat_tests}
-use Rattle.iref_grammar.specs.Grammar.{is_scheme_char}
 use Rattle.iref_fault.proofs.OnesPlaceLemmas.{scheme_in_bytes, empty_scheme, no_letter}
 use Rattle.iref_fault.proofs.scan.scheme_place.Goals as goal
 use Rattle.iref_fault.proofs.scan.scheme_place.Goals.{then-is_empty-via-then-is_empty, then-is_empty-via-else-is_empty+then-not-is_ascii_alphabetic}
@@ -18,9 +17,4 @@ returns-then-is_empty c =
     ]
 
 pub returns : goal.returns
-returns c =
-    let text = c.args.text.now in
-    let same = c.as_bytes-bytes.ensures.value in
-    let some : 0 < length text = grind (arith, nat_tests, c.if-is_empty.false, c.is_empty.ensures, ap length same) in
-    let letter : is_ascii_alphabetic (slice_index text 0) ≡ true = ap (λ t. is_ascii_alphabetic (slice_index t 0)) (sym same) ∙ sym c.is_ascii_alphabetic.ensures.value ∙ c.if-not-is_ascii_alphabetic.false in
-    c.first_outside_scheme.ensures ∙ ap (position (λ b. not (is_scheme_char b))) same ∙ sym (scheme_in_bytes text c.utf8.text some letter)
+returns c = grind (arith, common_steps, nat_tests, scheme_in_bytes)

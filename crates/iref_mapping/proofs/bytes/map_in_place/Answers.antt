@@ -1,4 +1,5 @@
-use Rattle.std.proofs.Common.{◌≡◌, ℕ, ◌+◌, ◌-◌, ◌*◌, ◌≤◌, ◌++◌, length, take, replicate, vec_len, ap, sym, ◌∙◌, arith, take-append-drop}
+use Rattle.std.proofs.Common.{◌≡◌, ℕ, ◌+◌, ◌*◌, ◌≤◌, ◌++◌, length, take, ap, sym, ◌∙◌, arith, take-append-drop}
+use Rattle.std.proofs.lemmas.Grind.{common_steps}
 use Rattle.std.proofs.Math.ListN.{drop_of_length-le}
 use Rattle.std.proofs.lemmas.List.{append-nil}
 use Rattle.std.proofs.Math.Seq.{take-append_seam}
@@ -19,9 +20,4 @@ grown old room now from count f k e long =
     long ∙ (λ i. f i + 2 * k i) ∙ sym (ap (λ t. length (mapped t)) front ∙ length-mapped old)
 
 pub map_to_the_end-requires-clause-room : goal.map_to_the_end-requires-clause-room
-map_to_the_end-requires-clause-room c =
-    let n = (length c.as_slice-from.result.now) + 2 * c.args.escaped in
-    grown c.args.bytes.now.items (replicate (n - vec_len c.reserve.new.self) 0) c.as_mut_slice.result.now (length c.as_slice-from.result.now) c.args.escaped
-    (ap length c.as_slice-from.ensures.value) c.requires
-    (c.as_mut_slice.ensures.value ∙ c.in_ok-resize.ensures.items ∙ ap (λ t. take n t ++ replicate (n - vec_len c.reserve.new.self) 0) c.in_ok-reserve.ensures.items)
-    (c.as_mut_slice.ensures.len ∙ c.in_ok-resize.ensures.len)
+map_to_the_end-requires-clause-room c = grind (arith, common_steps, grown)

@@ -1,4 +1,5 @@
-use Rattle.std.proofs.Common.{◌≡◌, false, ◌<◌, ◌≤◌, ◌+◌, ◌-◌, ◌∷◌, [], ◌++◌, length, get_or, set, take, drop, ℕ, ap, sym, ◌∙◌, refl, arith, take-append-drop, append_assoc}
+use Rattle.std.proofs.Common.{◌≡◌, false, ◌<◌, ◌≤◌, ◌+◌, ◌∷◌, [], ◌++◌, length, get_or, set, take, drop, ℕ, ap, sym, ◌∙◌, refl, arith, take-append-drop, append_assoc}
+use Rattle.std.proofs.lemmas.Grind.{common_steps}
 use Rattle.std.specs.Char.{is_ascii}
 use Rattle.std.proofs.lemmas.List.{take_more_set, drop-set-lt, length-set}
 use Rattle.percent_encoding.specs.Percent.{percent_encode_byte}
@@ -49,43 +50,8 @@ mapped-places b escape above e =
 long-above : (b : ℕ) → is_ascii b ≡ false → length (mapped_byte b) ≡ 3
 long-above b h = ap length (mapped_byte-above b h) ∙ length-escape b
 
-pub overflow_sub-start-else-is_ascii : goal.overflow_sub-start-else-is_ascii
-overflow_sub-start-else-is_ascii c = let room = c.requires.room in let long = long-above c.args.byte (sym c.if-is_ascii.ensures) in omega arith
-
-pub bounds-escape-0 : goal.bounds-escape-0
-bounds-escape-0 c = let long = ap length (c.as_bytes-escape.ensures.value ∙ c.percent_encode_byte.ensures) ∙ length-escape c.args.byte in omega arith
-
-pub bounds-escape-1 : goal.bounds-escape-1
-bounds-escape-1 c = let long = ap length (c.as_bytes-escape.ensures.value ∙ c.percent_encode_byte.ensures) ∙ length-escape c.args.byte in omega arith
-
-pub bounds-escape-2 : goal.bounds-escape-2
-bounds-escape-2 c = let long = ap length (c.as_bytes-escape.ensures.value ∙ c.percent_encode_byte.ensures) ∙ length-escape c.args.byte in omega arith
-
-pub bounds-buffer-start-else-is_ascii : goal.bounds-buffer-start-else-is_ascii
-bounds-buffer-start-else-is_ascii c = let room = c.requires.room in let within = c.requires.within in let long = long-above c.args.byte (sym c.if-is_ascii.ensures) in omega arith
-
-pub bounds-buffer-start-else-is_ascii-2 : goal.bounds-buffer-start-else-is_ascii-2
-bounds-buffer-start-else-is_ascii-2 c =
-    let room = c.requires.room in let within = c.requires.within in let long = long-above c.args.byte (sym c.if-is_ascii.ensures) in simp length-set (omega arith)
-
-pub bounds-buffer-start-else-is_ascii-3 : goal.bounds-buffer-start-else-is_ascii-3
-bounds-buffer-start-else-is_ascii-3 c =
-    let room = c.requires.room in let within = c.requires.within in let long = long-above c.args.byte (sym c.if-is_ascii.ensures) in simp length-set (omega arith)
-
-pub returns-else-is_ascii-clause-start : goal.returns-else-is_ascii-clause-start
-returns-else-is_ascii-clause-start c = let room = c.requires.room in let long = long-above c.args.byte (sym c.if-is_ascii.ensures) in omega arith
-
 pub returns-else-is_ascii-clause-written : goal.returns-else-is_ascii-clause-written
-returns-else-is_ascii-clause-written c =
-    let room = c.requires.room in
-    let long = long-above c.args.byte (sym c.if-is_ascii.ensures) in
-    set_three c.args.buffer.now (c.args.end - 3) c.args.end _ _ _ c.requires.within (omega arith)
-    ∙ ap (λ t. take (c.args.end - 3) c.args.buffer.now ++ t ++ drop c.args.end c.args.buffer.now) (mapped-places c.args.byte c.as_bytes-escape.result.now (sym c.if-is_ascii.ensures) (c.as_bytes-escape.ensures.value ∙ c.percent_encode_byte.ensures))
+returns-else-is_ascii-clause-written c = grind (arith, common_steps, mapped-places, set_three, long-above, long)
 
 pub returns-then-is_ascii-clause-written : goal.returns-then-is_ascii-clause-written
-returns-then-is_ascii-clause-written c =
-    let one = mapped_byte-ascii c.args.byte (sym c.is_ascii.ensures ∙ c.if-is_ascii.true) in
-    let long = ap length one in
-    let room = c.requires.room in
-    let within = c.requires.within in
-    set-parts c.args.buffer.now (c.args.end - 1) c.args.end c.args.byte (omega arith) (omega arith) ∙ ap (λ t. take (c.args.end - 1) c.args.buffer.now ++ t ++ drop c.args.end c.args.buffer.now) (sym one)
+returns-then-is_ascii-clause-written c = grind (arith, common_steps, mapped_byte-ascii, set-parts, long)

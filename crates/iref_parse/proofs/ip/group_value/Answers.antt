@@ -1,7 +1,7 @@
-use Rattle.std.proofs.Common.{◌∙◌, sym}
+use Rattle.std.proofs.Common.{arith}
+use Rattle.std.proofs.lemmas.Grind.{common_steps}
 use Rattle.iref_parse.proofs.DigitLemmas.{group_value-parsed}
 use Rattle.iref_parse.proofs.ip.group_value.Goals as goal
 
 pub returns-then-is_short_hexadecimal : goal.returns-then-is_short_hexadecimal
-returns-then-is_short_hexadecimal c =
-    c.ok.ensures.value ∙ sym (group_value-parsed c.args.text.now c.from_str_radix.result c.from_str_radix.ensures.value (sym c.is_short_hexadecimal.ensures ∙ c.if-is_short_hexadecimal.true))
+returns-then-is_short_hexadecimal c = grind (arith, common_steps, group_value-parsed)

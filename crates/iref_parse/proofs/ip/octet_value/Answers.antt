@@ -1,6 +1,6 @@
-use Rattle.std.proofs.Common.{◌∙◌, sym, lit<}
+use Rattle.std.proofs.Common.{◌∙◌, sym, lit<, arith}
+use Rattle.std.proofs.lemmas.Grind.{common_steps}
 use Rattle.std.proofs.lemmas.Str.Pattern.{starts_char}
-use mathlib.Core.Bool.{true≢false}
 use Rattle.iref_parse.proofs.DigitLemmas.{octet_value-plus, octet_value-zero, octet_value-parsed}
 use Rattle.iref_parse.proofs.ip.octet_value.Goals as goal
 use Rattle.iref_parse.proofs.ip.octet_value.Goals.{then-starts_with-via-then-starts_with, then-starts_with-via-else-starts_with+then-has_leading_zero}
@@ -12,7 +12,4 @@ returns-then-starts_with c = elim c.then-starts_with.branch [
 ]
 
 pub returns : goal.returns
-returns c =
-    let first = starts_char 43 c.args.text.now c.starts_with.result c.starts_with.ensures.cases (lit< tt) (lit< tt) in
-    c.ok.ensures.value
-    ∙ sym (octet_value-parsed c.args.text.now c.parse.result c.parse.ensures.value.0 (λ e. true≢false (sym (first.1 e) ∙ c.if-starts_with.false)) (sym c.has_leading_zero.ensures ∙ c.if-has_leading_zero.false))
+returns c = grind (arith, common_steps, starts_char, octet_value-parsed)

@@ -1,6 +1,7 @@
-use Rattle.std.proofs.Common.{sym, subst, ◌∙◌, ap, chars, ◌+◌}
+use Rattle.std.proofs.Common.{◌∙◌, ap, chars, arith}
+use Rattle.std.proofs.lemmas.Grind.{common_steps}
 use Rattle.std.specs.Prelude.{Some, None, if◌then◌else◌}
-use Rattle.iref_grammar.specs.Tests.{is_encoded_after, ScansTo}
+use Rattle.iref_grammar.specs.Tests.{is_encoded_after}
 use Rattle.iref_parse.proofs.ScanLemmas.{after_hexdigit, none_is_owed}
 use Rattle.iref_parse.proofs.scan.after_digit.Goals as goal
 
@@ -17,5 +18,4 @@ returns-else-is_ascii_hexdigit c allowed owed =
     after_hexdigit allowed owed c.in_ok-c.c _ _ _ c.in_ok-c.ensures.0 c.is_ascii_hexdigit.ensures.value ∙ ap (λ b. is_encoded_after allowed (if b then Some owed else None) rest) c.if-is_ascii_hexdigit.false
 
 pub returns-in_err-c : goal.returns-in_err-c
-returns-in_err-c c allowed owed =
-    subst (ScansTo allowed (owed + 1) owed c.args.text.now) (sym c.from_residual.ensures) (none_is_owed allowed owed c.args.text.now c.in_err-c.ensures)
+returns-in_err-c c allowed owed = grind (arith, common_steps, none_is_owed)

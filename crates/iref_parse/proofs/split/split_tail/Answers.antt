@@ -1,6 +1,6 @@
-use Rattle.std.proofs.Common.{◌≡◌, ◌<◌, [], ◌∷◌, length, get_or, drop, refl, rules, arith, ap, subst, sym, ◌∙◌}
+use Rattle.std.proofs.Common.{◌≡◌, ◌<◌, [], ◌∷◌, length, drop, refl, rules, arith, ap, sym, ◌∙◌}
+use Rattle.std.proofs.lemmas.Grind.{common_steps}
 use Rattle.std.specs.Prelude.{◌≢◌, Some, None}
-use Rattle.std.specs.Str.{IsUtf8}
 use Rattle.std.proofs.lemmas.Bool.Decides.{nat_tests}
 use Rattle.std.proofs.lemmas.List.{nil_from_length}
 use Rattle.std.proofs.lemmas.Str.{IsUtf8-drop, lead_after_ascii}
@@ -27,11 +27,7 @@ tail_is c =
     question_first c.args.text.now c.split_before_either.result.1.now c.split_before_either.ensures.back (grind (arith, nat_tests, c.if-is_empty.false, c.is_empty.ensures)) c.in-None.ensures
 
 pub range_from-requires : goal.range_from-requires
-range_from-requires c h =
-    let tail = c.split_before_either.result.1.now in
-    let utf8 = subst IsUtf8 (sym c.split_before_either.ensures.back) (IsUtf8-drop c.args.text.now _ c.utf8.text (boundary_at_position question_mark hash_sign c.args.text.now (omega arith) (omega arith))) in
-    let first = ap (λ t. get_or t 0 0) (tail_is c) in
-    (omega (arith, ap length (tail_is c)), lead_after_ascii tail 0 utf8 (omega (arith, first)))
+range_from-requires c h = grind (arith, common_steps, IsUtf8-drop, lead_after_ascii, boundary_at_position, tail_is)
 
 pub returns-then-is_empty-clause-front : goal.returns-then-is_empty-clause-front
 returns-then-is_empty-clause-front c = c.split_before_either.ensures.front ∙ hierarchy-cut c.args.text.now
