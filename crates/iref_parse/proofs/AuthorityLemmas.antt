@@ -2,11 +2,10 @@
 use Rattle.std.proofs.Common.{◌≡◌, true, ◌&&◌, ◌||◌, [], ◌∷◌, ◌++◌, ◌<◌, ◌≤◌, false, append_assoc, length, get_or, drop, sym, ◌∙◌, ap, arith, refl, cond, Bool, ℕ}
 use Rattle.std.specs.Prelude.{Option, Some, None, codes, ◌==◌}
 use mathlib.Core.Bool.{true≢false}
-use Rattle.std.specs.List.{list_all, position_or_len}
+use Rattle.std.specs.List.{list_all}
 use Rattle.std.specs.Char.{char_set_contains, is_ascii_digit}
 use Rattle.std.proofs.lemmas.List.{append-nil}
 use Rattle.std.proofs.lemmas.Bool.{eqb-true, and_parts}
-use Rattle.std.proofs.lemmas.Bool.Decides.{nat_tests}
 use Rattle.iref_grammar.specs.Characters.{CharTests, AreAboveAscii}
 use Rattle.iref_grammar.specs.Rules.{Text}
 use Rattle.iref_grammar.specs.Grammar.{at_sign, colon, slash, left_bracket, right_bracket}
@@ -76,11 +75,6 @@ second_slash text h = let e = slashes text h in (omega (arith, ap length e), ome
 -- ---- a host alone
 
 -- the text has neither of two characters
-pub lacks_both : (first second : ℕ) (text : Text)
-    → (position_or_len (char_set_contains (first ∷ second ∷ [])) text == length text) ≡ (lacks first text && lacks second text)
-lacks_both first second [] = refl
-lacks_both first second (c ∷ cs) = grind (arith, nat_tests, lacks_both first second cs)
-
 suffix_lacks : (mark end : ℕ) (text : Text) → lacks mark text ≡ true → lacks mark (from_first (end ∷ []) text) ≡ true
 suffix_lacks mark end [] h = refl
 suffix_lacks mark end (c ∷ cs) h = by (suffix_lacks mark end cs (rest_lacks mark c cs h)) (char_set_contains (end ∷ []) c) refl
