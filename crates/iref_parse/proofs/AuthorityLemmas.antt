@@ -76,11 +76,6 @@ second_slash text h = let e = slashes text h in (omega (arith, ap length e), ome
 -- ---- a host alone
 
 -- the text has neither of two characters
-pub lacks_both : (first second : ℕ) (text : Text)
-    → (position_or_len (char_set_contains (first ∷ second ∷ [])) text == length text) ≡ (lacks first text && lacks second text)
-lacks_both first second [] = refl
-lacks_both first second (c ∷ cs) = grind (arith, nat_tests, lacks_both first second cs)
-
 suffix_lacks : (mark end : ℕ) (text : Text) → lacks mark text ≡ true → lacks mark (from_first (end ∷ []) text) ≡ true
 suffix_lacks mark end [] h = refl
 suffix_lacks mark end (c ∷ cs) h = by (suffix_lacks mark end cs (rest_lacks mark c cs h)) (char_set_contains (end ∷ []) c) refl

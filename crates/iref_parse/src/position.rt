@@ -114,7 +114,7 @@ pub fn position_of_either(bytes: &[u8], first: u8, second: u8) -> usize
 
 /// The position of the first such byte, or the length of the text.
 #[inline(always)]
-pub(crate) fn position_of(bytes: &[u8], mark: u8) -> usize
+pub fn position_of(bytes: &[u8], mark: u8) -> usize
     ensures { result ≡ position_or_len (char_set_contains (mark ∷ [])) bytes.now }
 {
     position_of_either(bytes, mark, mark)
