@@ -25,3 +25,5 @@ pub mod SortableLemmas
 pub mod SortPutLemmas
 pub mod SortBlockLemmas
 pub mod SortShortLemmas
+pub mod PaddedLemmas
+pub mod SortCutLemmas

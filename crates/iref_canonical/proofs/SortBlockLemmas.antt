@@ -1,17 +1,21 @@
 -- Segments put in blocks of 16 bytes, each up to its first slash.
-use Rattle.std.proofs.Common.{arith, ◌≡◌, ℕ, zero, suc, ◌+◌, ◌-◌, ◌<◌, ◌≤◌, ◌++◌, ◌∷◌, [], length, take, drop, refl, sym, ◌∙◌, ap, subst, append_assoc, length-append, length-drop, length-take, take-append-drop}
+use Rattle.std.proofs.Common.{arith, false, ◌&&◌, ◌||◌, get_or, get_or-drop, get_or-take, ⊎_elim, ◌≡◌, ℕ, zero, suc, ◌+◌, ◌-◌, ◌<◌, ◌≤◌, ◌++◌, ◌∷◌, [], length, take, drop, refl, sym, ◌∙◌, ap, subst, append_assoc, length-append, length-drop, length-take, take-append-drop}
+use Rattle.std.proofs.lemmas.Bool.{cases_lt}
 use Rattle.std.proofs.lemmas.Bool.Decides.{nat_tests}
 use Rattle.std.proofs.lemmas.Grind.{common_steps, flat_map-append}
 use Rattle.std.proofs.lemmas.List.{append-nil, take_at}
 use Rattle.std.specs.Char.{char_set_contains}
 use Rattle.std.specs.List.{position_or_len}
+use Rattle.std.specs.Prelude.{◌==◌}
 use Rattle.iref_grammar.specs.Grammar.{slash}
 use Rattle.iref_grammar.specs.Rules.{Text}
-use Rattle.iref_grammar.specs.Texts.{before}
+use Rattle.iref_parse.specs.Dots.{begins_with_dot, has_dot_segment, is_slash_dot}
+use Rattle.iref_parse.proofs.DotSegmentLemmas.{dots_by_pairs}
+use Rattle.iref_parse.proofs.PairLemmas.{no_pair}
 use Rattle.iref_canonical.specs.SortPuts.{Puts, segment_byte, segment_bytes}
 use Rattle.iref_canonical.proofs.SortPutLemmas.{IsPutting, all_put, one_put}
 
-abbrev first_slash : Text → ℕ
+abbrev pub first_slash : Text → ℕ
 first_slash text = position_or_len (char_set_contains (slash ∷ [])) text
 
 take_both : (k m : ℕ) (t : Text) → take (k + m) t ≡ take k t ++ take m (drop k t)
@@ -42,7 +46,7 @@ slash_at : (t : Text) → first_slash t < length t → drop (first_slash t) t �
 slash_at [] h = grind arith
 slash_at (c ∷ cs) h = grind (arith, nat_tests, common_steps, slash_at cs)
 
-take_within : (k n : ℕ) (t : Text) → k ≤ n → take k (take n t) ≡ take k t
+pub take_within : (k n : ℕ) (t : Text) → k ≤ n → take k (take n t) ≡ take k t
 take_within zero n t h = grind (arith, common_steps)
 take_within (suc k) zero t h = grind arith
 take_within (suc k) (suc n) [] h = refl
@@ -68,10 +72,7 @@ stored at k count block old new same room most e =
 
 -- ---- one block
 
-module _ (w block : Text) (left f : ℕ) (is : block ≡ take 16 w) (size : length block ≡ 16) (found : f ≡ length (before (slash ∷ []) block)) where
-  place : f ≡ first_slash block
-  place = found ∙ grind (arith, length-take, first_within block)
-
+module _ (w block : Text) (left f : ℕ) (is : block ≡ take 16 w) (size : length block ≡ 16) (place : f ≡ first_slash block) where
   same : (k : ℕ) → k ≤ 16 → take k block ≡ take k w
   same k h = ap (take k) is ∙ take_within k 16 w h
 
@@ -121,3 +122,44 @@ module _ (w block : Text) (left f : ℕ) (is : block ≡ take 16 w) (size : leng
         let rest = segment_bytes (take (left - (f + 1)) (drop (f + 1) w)) in
         let first = one_put at all (take f block) (0 ∷ 1 ∷ rest) old mid half end (end + f) (subst (λ t. IsPutting at all t old mid end) (slash_is e l) h) k in
         one_put at all (0 ∷ 1 ∷ []) rest old half new (end + f) last first m
+
+-- ---- no segment begins with a dot
+
+pub no_slash_before : (n k : ℕ) (t : Text) → k < first_slash (take n t) → (get_or t k 0 == slash) ≡ false
+no_slash_before zero k t h = grind (arith, common_steps)
+no_slash_before (suc n) k [] h = grind arith
+no_slash_before (suc n) zero (c ∷ cs) h = grind (arith, nat_tests)
+no_slash_before (suc n) (suc k) (c ∷ cs) h = no_slash_before n k cs (grind (arith, nat_tests))
+
+-- before an index no dot follows a slash
+abbrev pub IsDotlessBefore : ℕ → Text → Type 0
+IsDotlessBefore n t = (k : ℕ) → k < n → is_slash_dot t k ≡ false
+
+module _ (t : Text) (from : ℕ) (so_far : IsDotlessBefore from t) where
+  -- and not in bytes before the first slash of a block
+  pub dotless_block : (f count : ℕ) → f ≡ first_slash (take 16 (drop from t)) → count ≤ f → IsDotlessBefore (from + count) t
+  dotless_block f count e h k l = ⊎_elim (λ below. so_far k below) (λ behind.
+      let same : from + (k - from) ≡ k = omega arith in
+      let clear = no_slash_before 16 (k - from) (drop from t) (omega arith) in
+      let here = ap (λ j. get_or t j 0 == slash) (sym same) ∙ ap (λ b. b == slash) (sym (get_or-drop from t (k - from) 0)) ∙ clear in
+      grind (arith, nat_tests)) (cases_lt k from)
+
+  -- nor at the slash, where no dot is next
+  pub dotless_slash : (f : ℕ) → f ≡ first_slash (take 16 (drop from t)) → (get_or t (from + (f + 1)) 0 == 0x2E) ≡ false → IsDotlessBefore (from + (f + 1)) t
+  dotless_slash f e next k l = ⊎_elim (λ below. dotless_block f f e (omega arith) k below) (λ behind.
+      let same : k ≡ from + f = omega arith in
+      let after : from + (f + 1) ≡ k + 1 = omega arith in
+      let dot = ap (λ j. get_or t j 0 == 0x2E) (sym after) ∙ next in
+      grind (arith, nat_tests)) (cases_lt k (from + f))
+
+pub dotless_text : (n : ℕ) (t : Text) → n ≤ length t → (get_or t 0 0 == 0x2E) ≡ false → ((k : ℕ) → k + 1 < n → is_slash_dot t k ≡ false) → has_dot_segment (take n t) ≡ false
+dotless_text n t long first none =
+    let pairs = no_pair slash 0x2E (take n t) (λ k l.
+    let within : k + 1 < n = grind (arith, length-take) in
+    (λ i. (get_or-take n t k 0 (omega arith) i == slash) && (get_or-take n t (k + 1) 0 within i == 0x2E)) ∙ none k within) in
+    dots_by_pairs (take n t) ∙ (λ i. begins n t long first i || pairs i)
+  where
+    begins : (n : ℕ) (t : Text) → n ≤ length t → (get_or t 0 0 == 0x2E) ≡ false → begins_with_dot (take n t) ≡ false
+    begins zero t long first = grind (arith, common_steps)
+    begins (suc n) [] long first = refl
+    begins (suc n) (c ∷ cs) long first = first

@@ -128,7 +128,7 @@ onto_kept c (p ∷ ps) h k =
     let both = and_parts (is_kept p) (list_all is_kept ps) k in
     and_from (is_kept (c ∷ p)) (list_all is_kept ps) (and_from (is_kept_byte c) (is_kept p) h both.0) both.1
 
-kept_pieces : (text : Text) → is_kept text ≡ true → AreKept (pieces_at slash text)
+pub kept_pieces : (text : Text) → is_kept text ≡ true → AreKept (pieces_at slash text)
 kept_pieces [] h = refl
 kept_pieces (c ∷ cs) h =
     let both = and_parts (is_kept_byte c) (is_kept cs) h in

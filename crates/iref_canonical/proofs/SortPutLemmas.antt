@@ -93,13 +93,6 @@ parts_size a h =
     let host = ap length (kept_sorted a.host (kept_host a h)) ∙ length-append a.host (0 ∷ []) in
     length-sort_authority a ∙ ap (λ n. length (sort_option sort_text a.user_info) + n + length (sort_option sort_text a.port)) host
 
-pub parts_put : (a : AuthorityValue) {at one two end : ℕ} {old first second new : Text} → are_kept_parts a ≡ true → Puts at (sort_option sort_text a.user_info) old first one
-    → Puts one (a.host ++ 0 ∷ []) first second two → Puts two (sort_option sort_text a.port) second new end → Puts at (sort_authority a) old new end
-unfolding sort_authority
-parts_put a {one = one} {two = two} {first = first} {second = second} h k l m =
-    let host = subst (λ t. Puts one t first second two) (sym (kept_sorted a.host (kept_host a h))) l in
-    both_put (sort_option sort_text a.user_info ++ sort_text a.host) (sort_option sort_text a.port) (both_put (sort_option sort_text a.user_info) (sort_text a.host) k host) m
-
 -- ---- the items of a path
 
 sorted_pieces : (text : Text) → AreKept (pieces_at slash text) → flat_map sort_item (pieces_at slash text) ≡ 1 ∷ (segment_bytes text ++ 0 ∷ [])

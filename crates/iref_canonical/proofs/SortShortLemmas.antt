@@ -1,25 +1,20 @@
 -- Sort keys of short texts whose bytes stand in them as they are: what they are, and that there is room.
-use Rattle.std.proofs.Common.{arith, ◌≡◌, ℕ, ◌+◌, ◌*◌, ◌≤◌, ◌++◌, ◌∷◌, [], Bool, true, false, length, refl, sym, ◌∙◌, ap, cond, length-append}
+use Rattle.std.proofs.Common.{arith, ◌≡◌, ℕ, ◌+◌, ◌*◌, ◌≤◌, ◌++◌, ◌∷◌, [], Bool, true, false, length, refl, sym, ◌∙◌, ap, append_assoc, cond, length-append}
 use Rattle.std.proofs.lemmas.Bool.{and_parts}
 use Rattle.std.proofs.lemmas.List.Splits.{length-slice_split}
 use Rattle.std.proofs.lemmas.List.Sums.{count_by-le-length}
-use Rattle.std.specs.Borrow.{Bor}
-use Rattle.std.specs.List.{join_with_byte}
 use Rattle.std.specs.Option.{option_copied}
 use Rattle.std.specs.Prelude.{IfSome, codes, option_map, Option, None, Some, ◌&&◌, ◌==◌}
 use Rattle.std.specs.Str.{str_to_ascii_lowercase}
 use Rattle.percent_encoding.specs.Percent.{percent_decode}
-use Rattle.iref_grammar.specs.Authority.{AuthorityValue, spell_authority}
+use Rattle.iref_grammar.specs.Authority.{AuthorityValue, read_authority, spell_authority}
 use Rattle.iref_grammar.specs.ComponentTexts.{ComponentTexts, spell_components}
 use Rattle.iref_grammar.specs.Grammar.{at_sign, colon, hash_sign, question_mark, slash}
-use Rattle.iref_grammar.specs.PathValue.{PathValue, read_path, segments_of, spell_path}
+use Rattle.iref_grammar.specs.PathValue.{PathValue, read_path, segments_of}
 use Rattle.iref_grammar.specs.Reference.{ReferenceValue, read_reference, spell}
 use Rattle.iref_grammar.specs.Rules.{Text}
 use Rattle.iref_grammar.specs.Tests.{none_or}
 use Rattle.iref_grammar.specs.Texts.{part_then, pieces_at, then_part}
-use Rattle.iref_grammar.proofs.PathLemmas.{read_path-reads}
-use Rattle.iref_grammar.proofs.TextLemmas.{join-pieces_at}
-use Rattle.iref_path.specs.Pieces.{pieces_if_some}
 use Rattle.iref_grammar.proofs.ReferenceCutLemmas.{read_reference-spelled}
 use Rattle.iref_model.specs.AuthorityKey.{authority_key}
 use Rattle.iref_model.specs.Key.{key}
@@ -29,10 +24,11 @@ use Rattle.iref_parse.specs.ReferenceSlices.{texts_of, value_of}
 use Rattle.iref_parse.specs.declared.split.ReferenceSlices.{ReferenceSlices}
 use Rattle.iref_canonical.specs.SortBytes.{is_kept, are_kept_parts}
 use Rattle.iref_canonical.specs.SortItems.{AreKept}
-use Rattle.iref_canonical.specs.SortKey.{sort_authority, sort_item, sort_key, sort_list, sort_option, sort_text}
-use Rattle.iref_canonical.specs.SortPuts.{IsKept, IsShort, lowered}
+use Rattle.iref_canonical.specs.SortKey.{sort_authority, sort_item, sort_key, sort_list, sort_option, sort_path, sort_text}
+use Rattle.iref_canonical.specs.SortPuts.{AreKeptSlices, lowered, sorted_slices, spelled_slices}
 use Rattle.iref_canonical.proofs.SortByteLemmas.{kept_decodes}
-use Rattle.iref_canonical.proofs.SortItemLemmas.{kept_key, kept_path, kept_size}
+use Rattle.iref_canonical.proofs.SortCutLemmas.{kept_behind}
+use Rattle.iref_canonical.proofs.SortItemLemmas.{kept_key, kept_pieces, kept_size}
 use Rattle.iref_canonical.proofs.SortPutLemmas.{all_size, kept_host, option_size, parts_size}
 use Rattle.iref_canonical.proofs.SortableLemmas.{HasKeptParts, parts_kept_in, text_kept}
 
@@ -89,68 +85,83 @@ path_room (c ∷ cs) h = by (c == slash) h
     by true k = omega (arith, segments_room cs k)
     by false k = segments_room (c ∷ cs) k
 
--- the segments of a path are not longer than it
-pub segments_short : (path : Text) (absolute : Bool) (segments : Option (Bor Text)) → read_path path ≡ record { absolute = absolute; segments = pieces_if_some segments } → length path ≤ 96
-    → IfSome segments (λ text. length text.now ≤ 96)
-unfolding spell_path
-segments_short path absolute None e h = tt
-segments_short path absolute (Some text) e h =
-    let size = ap length (sym (read_path-reads path).spelled) ∙ ap (λ (p : PathValue). length (spell_path p)) e ∙ length-append (cond absolute (slash ∷ []) []) (join_with_byte slash (pieces_at slash text.now)) in
-    let same = ap length (join-pieces_at slash text.now) in
-    omega arith
+kept_segments : (path : Text) → is_kept path ≡ true → AreKept (read_path path).segments
+unfolding read_path
+kept_segments [] h = refl
+kept_segments (c ∷ cs) h = by (c == slash) (some cs (kept_behind (c ∷ cs) h)) (kept_pieces (c ∷ cs) h)
+  where
+    some : (cs : Text) → is_kept cs ≡ true → AreKept (segments_of cs)
+    some [] k = refl
+    some (d ∷ ds) k = kept_pieces (d ∷ ds) k
+
+    by : (b : Bool) → AreKept (segments_of cs) → AreKept (segments_of (c ∷ cs))
+        → AreKept (cond {A = PathValue} b (record { absolute = true; segments = segments_of cs }) (record { absolute = false; segments = segments_of (c ∷ cs) })).segments
+    by true k l = k
+    by false k l = l
 
 -- ---- slices of a short text
 
-module _ (text : Text) (s : ReferenceSlices) (value : value_of s ≡ read_reference text) (texts : texts_of s ≡ spell_components (read_reference text)) (short : IsShort text s.path.now) where
-  kept : HasKeptParts (read_reference text)
-  kept = text_kept text short.kept
+from_last : (a b c d e : Text) → a ++ b ++ c ++ d ++ e ≡ a ++ (b ++ (c ++ (d ++ e)))
+from_last a b c d e = append_assoc (a ++ b ++ c) d e ∙ append_assoc (a ++ b) c (d ++ e) ∙ append_assoc a b (c ++ (d ++ e))
 
-  path_kept : is_kept s.path.now ≡ true
-  path_kept = ap (λ (t : ComponentTexts). is_kept t.path) texts ∙ kept.path
+pub sorted_is : (s : ReferenceSlices) → sort_key (lowered (value_of s)) ≡ sorted_slices s
+unfolding sort_key
+sorted_is s =
+    from_last (sort_option sort_text (option_map str_to_ascii_lowercase (option_copied s.scheme))) (sort_option sort_authority (option_map read_authority (option_copied s.authority))) (sort_path (read_path s.path.now))
+    (sort_option sort_text (option_copied s.query))
+    (sort_option sort_text (option_copied s.fragment))
 
-  pub slices_kept : IsKept (value_of s)
-  slices_kept = record {
-    scheme = ap (λ (r : ReferenceValue). none_or is_kept r.scheme) value ∙ kept.scheme;
-    authority = ap (λ (r : ReferenceValue). none_or are_kept_parts r.authority) value ∙ parts_kept_in (read_reference text).authority kept.authority;
-    segments = kept_path s.path.now path_kept short.dotless;
-    query = ap (λ (r : ReferenceValue). none_or is_kept r.query) value ∙ kept.query;
-    fragment = ap (λ (r : ReferenceValue). none_or is_kept r.fragment) value ∙ kept.fragment;
-  }
-
-  pub lowered_key : lowered (value_of s) ≡ key (read_reference text)
-  unfolding key
-  lowered_key =
-      sym (λ i. record {
-        scheme = option_map str_to_ascii_lowercase (option_copied s.scheme);
-        authority = decoded_authority (value_of s).authority slices_kept.authority i;
-        path = kept_path_key s.path.now path_kept short.dotless i;
-        query = decoded_option (option_copied s.query) slices_kept.query i;
-        fragment = decoded_option (option_copied s.fragment) slices_kept.fragment i;
-      })
-      ∙ ap key value
-
-  text_size : length text
-      ≡ length (part_then (colon ∷ []) (option_copied s.scheme)) + length (then_part (codes "//") (option_copied s.authority)) + length s.path.now
-      + length (then_part (question_mark ∷ []) (option_copied s.query))
-      + length (then_part (hash_sign ∷ []) (option_copied s.fragment))
+module _ (text : Text) (s : ReferenceSlices) (value : value_of s ≡ read_reference text) (texts : texts_of s ≡ spell_components (read_reference text)) where
+  pub spelled_is : text ≡ spelled_slices s
   unfolding spell
-  text_size =
-      sym (ap length (read_reference-spelled text))
-      ∙ ap (λ (t : ComponentTexts). length (part_then (colon ∷ []) t.scheme ++ then_part (codes "//") t.authority ++ t.path ++ then_part (question_mark ∷ []) t.query ++ then_part (hash_sign ∷ []) t.fragment)) (sym texts)
-      ∙ grind (arith, length-append)
+  spelled_is =
+      sym (read_reference-spelled text)
+      ∙ ap (λ (t : ComponentTexts). part_then (colon ∷ []) t.scheme ++ then_part (codes "//") t.authority ++ t.path ++ then_part (question_mark ∷ []) t.query ++ then_part (hash_sign ∷ []) t.fragment) (sym texts)
+      ∙ from_last (part_then (colon ∷ []) (option_copied s.scheme)) (then_part (codes "//") (option_copied s.authority)) s.path.now (then_part (question_mark ∷ []) (option_copied s.query)) (then_part (hash_sign ∷ []) (option_copied s.fragment))
 
-  pub path_short : length s.path.now ≤ 96
-  path_short = omega (arith, text_size, short.len)
+  module _ (all : is_kept text ≡ true) where
+    kept : HasKeptParts (read_reference text)
+    kept = text_kept text all
 
-  pub short_room : length (sort_key (lowered (value_of s))) ≤ 208
-  short_room =
-      let size = all_size s (read_path s.path.now).absolute (read_path s.path.now).segments refl in
-      let scheme = option_room colon (option_copied s.scheme) slices_kept.scheme in
-      let mark = same_size colon (option_copied s.scheme) in
-      let authority = authority_room (value_of s).authority slices_kept.authority in
-      let spelled : length (then_part (codes "//") (option_map spell_authority (value_of s).authority)) ≡ length (then_part (codes "//") (option_copied s.authority)) =
-      ap (λ (r : ReferenceValue). length (then_part (codes "//") (option_map spell_authority r.authority))) value ∙ ap (λ (t : ComponentTexts). length (then_part (codes "//") t.authority)) (sym texts) in
-      let path = path_room s.path.now slices_kept.segments in
-      let query = option_room question_mark (option_copied s.query) slices_kept.query in
-      let fragment = option_room hash_sign (option_copied s.fragment) slices_kept.fragment in
-      omega (arith, text_size, short.len)
+    pub slices_kept : AreKeptSlices s
+    slices_kept = record {
+      scheme = ap (λ (r : ReferenceValue). none_or is_kept r.scheme) value ∙ kept.scheme;
+      authority = ap (λ (r : ReferenceValue). none_or are_kept_parts r.authority) value ∙ parts_kept_in (read_reference text).authority kept.authority;
+      path = ap (λ (t : ComponentTexts). is_kept t.path) texts ∙ kept.path;
+      query = ap (λ (r : ReferenceValue). none_or is_kept r.query) value ∙ kept.query;
+      fragment = ap (λ (r : ReferenceValue). none_or is_kept r.fragment) value ∙ kept.fragment;
+    }
+
+    pub lowered_key : has_dot_segment s.path.now ≡ false → lowered (value_of s) ≡ key (read_reference text)
+    unfolding key
+    lowered_key dotless =
+        sym (λ i. record {
+          scheme = option_map str_to_ascii_lowercase (option_copied s.scheme);
+          authority = decoded_authority (value_of s).authority slices_kept.authority i;
+          path = kept_path_key s.path.now slices_kept.path dotless i;
+          query = decoded_option (option_copied s.query) slices_kept.query i;
+          fragment = decoded_option (option_copied s.fragment) slices_kept.fragment i;
+        })
+        ∙ ap key value
+
+    pub short_room : length text ≤ 96 → length (sorted_slices s) ≤ 208
+    short_room short =
+        let size = ap length (sym (sorted_is s)) ∙ all_size s (read_path s.path.now).absolute (read_path s.path.now).segments refl in
+        let whole = ap length spelled_is in
+        let scheme = option_room colon (option_copied s.scheme) slices_kept.scheme in
+        let mark = same_size colon (option_copied s.scheme) in
+        let authority = authority_room (value_of s).authority slices_kept.authority in
+        let spelled : length (then_part (codes "//") (option_map spell_authority (value_of s).authority)) ≡ length (then_part (codes "//") (option_copied s.authority)) =
+        ap (λ (r : ReferenceValue). length (then_part (codes "//") (option_map spell_authority r.authority))) value ∙ ap (λ (t : ComponentTexts). length (then_part (codes "//") t.authority)) (sym texts) in
+        let path = path_room s.path.now (kept_segments s.path.now slices_kept.path) in
+        let query = option_room question_mark (option_copied s.query) slices_kept.query in
+        let fragment = option_room hash_sign (option_copied s.fragment) slices_kept.fragment in
+        let parts : length (spelled_slices s)
+        ≡ length (part_then (colon ∷ []) (option_copied s.scheme)) + length (then_part (codes "//") (option_copied s.authority)) + length s.path.now
+        + length (then_part (question_mark ∷ []) (option_copied s.query))
+        + length (then_part (hash_sign ∷ []) (option_copied s.fragment)) = grind (arith, length-append) in
+        omega arith
+
+pub both_if_some : {X : Type 0} (r : Option X) {P Q R : X → Type 0} → IfSome r P → IfSome r Q → ((x : X) → P x → Q x → R x) → IfSome r R
+both_if_some None p q k = tt
+both_if_some (Some x) p q k = k x p q

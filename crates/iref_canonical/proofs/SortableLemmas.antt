@@ -23,7 +23,7 @@ use Rattle.iref_canonical.proofs.SortByteLemmas.{option-lower}
 use Rattle.iref_canonical.specs.SortBytes.{is_kept_byte, is_kept, are_kept_parts}
 use Rattle.iref_canonical.specs.SortKey.{sort_key, sort_authority, sort_list, sort_item, sort_option, sort_path, sort_text}
 
-both_kept : (front back : Text) → is_kept (front ++ back) ≡ true → (is_kept front ≡ true) × (is_kept back ≡ true)
+pub both_kept : (front back : Text) → is_kept (front ++ back) ≡ true → (is_kept front ≡ true) × (is_kept back ≡ true)
 both_kept front back h = and_parts (is_kept front) (is_kept back) (sym (list_all-append is_kept_byte front back) ∙ h)
 
 part_kept : (mark : Text) (part : Option Text) → is_kept (part_then mark part) ≡ true → none_or is_kept part ≡ true

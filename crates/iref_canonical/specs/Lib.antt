@@ -12,3 +12,4 @@ pub mod SortBytes
 pub mod SortItems
 pub mod Sortable
 pub mod SortPuts
+pub mod Padded

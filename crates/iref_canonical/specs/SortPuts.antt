@@ -1,14 +1,18 @@
 -- Sort keys of texts whose bytes stand in them as they are, put from the front.
-use Rattle.std.specs.Prelude.{◌≡◌, ℕ, ◌+◌, ◌≤◌, false, true, ◌==◌, [], ◌∷◌, ◌++◌, length, option_map, take, if◌then◌else◌}
+use Rattle.std.specs.Prelude.{◌≡◌, ℕ, ◌+◌, ◌≤◌, false, true, ◌==◌, [], ◌∷◌, ◌++◌, length, option_map, take, codes, if◌then◌else◌}
 use Rattle.std.specs.List.{flat_map}
+use Rattle.std.specs.Option.{option_copied}
 use Rattle.std.specs.Str.{str_to_ascii_lowercase}
-use Rattle.iref_grammar.specs.Grammar.{slash}
+use Rattle.iref_grammar.specs.Authority.{read_authority}
+use Rattle.iref_grammar.specs.Grammar.{colon, hash_sign, question_mark, slash}
+use Rattle.iref_grammar.specs.PathValue.{read_path}
 use Rattle.iref_grammar.specs.Reference.{ReferenceValue}
 use Rattle.iref_grammar.specs.Rules.{Text}
 use Rattle.iref_grammar.specs.Tests.{none_or}
-use Rattle.iref_parse.specs.Dots.{has_dot_segment}
+use Rattle.iref_grammar.specs.Texts.{part_then, then_part}
+use Rattle.iref_parse.specs.declared.split.ReferenceSlices.{ReferenceSlices}
 use Rattle.iref_canonical.specs.SortBytes.{is_kept, are_kept_parts}
-use Rattle.iref_canonical.specs.SortItems.{AreKept}
+use Rattle.iref_canonical.specs.SortKey.{sort_authority, sort_option, sort_path, sort_text}
 
 -- a text is put at an index and ends there, and what stands before it stays
 pub record Puts (at : ℕ) (text old new : Text) (end : ℕ) : Type 0 where
@@ -33,16 +37,36 @@ lowered r = record {
   fragment = r.fragment;
 }
 
--- the sort key of a text with this path is written from the front
-pub record IsShort (text path : Text) : Type 0 where
-  pub len : length text ≤ 96
-  pub kept : is_kept text ≡ true
-  pub dotless : has_dot_segment path ≡ false
+-- ---- components from one on, as they are spelled and as the sort key has them
+
+abbrev pub spelled_tail : ReferenceSlices → Text
+spelled_tail s = then_part (question_mark ∷ []) (option_copied s.query) ++ then_part (hash_sign ∷ []) (option_copied s.fragment)
+
+abbrev pub sorted_tail : ReferenceSlices → Text
+sorted_tail s = sort_option sort_text (option_copied s.query) ++ sort_option sort_text (option_copied s.fragment)
+
+abbrev pub spelled_from_path : ReferenceSlices → Text
+spelled_from_path s = s.path.now ++ spelled_tail s
+
+abbrev pub sorted_from_path : ReferenceSlices → Text
+sorted_from_path s = sort_path (read_path s.path.now) ++ sorted_tail s
+
+abbrev pub spelled_from_authority : ReferenceSlices → Text
+spelled_from_authority s = then_part (codes "//") (option_copied s.authority) ++ spelled_from_path s
+
+abbrev pub sorted_from_authority : ReferenceSlices → Text
+sorted_from_authority s = sort_option sort_authority (option_map read_authority (option_copied s.authority)) ++ sorted_from_path s
+
+abbrev pub spelled_slices : ReferenceSlices → Text
+spelled_slices s = part_then (colon ∷ []) (option_copied s.scheme) ++ spelled_from_authority s
+
+abbrev pub sorted_slices : ReferenceSlices → Text
+sorted_slices s = sort_option sort_text (option_map str_to_ascii_lowercase (option_copied s.scheme)) ++ sorted_from_authority s
 
 -- each byte stands in the sort key as it is
-pub record IsKept (r : ReferenceValue) : Type 0 where
-  pub scheme : none_or is_kept r.scheme ≡ true
-  pub authority : none_or are_kept_parts r.authority ≡ true
-  pub segments : AreKept r.path.segments
-  pub query : none_or is_kept r.query ≡ true
-  pub fragment : none_or is_kept r.fragment ≡ true
+pub record AreKeptSlices (s : ReferenceSlices) : Type 0 where
+  pub scheme : none_or is_kept (option_copied s.scheme) ≡ true
+  pub authority : none_or are_kept_parts (option_map read_authority (option_copied s.authority)) ≡ true
+  pub path : is_kept s.path.now ≡ true
+  pub query : none_or is_kept (option_copied s.query) ≡ true
+  pub fragment : none_or is_kept (option_copied s.fragment) ≡ true

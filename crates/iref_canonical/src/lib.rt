@@ -7,6 +7,7 @@ pub mod canonical_laws;
 pub mod encoded;
 mod literal;
 pub mod owned;
+mod padded;
 mod path;
 pub mod plain;
 pub mod reference;

@@ -1,7 +1,8 @@
 //! The sort key of a reference, from its text and the slices of its components (RFC 3986 section
 //! 6.2.2).
 
-ghost use Rattle.std.specs.Prelude.{◌≡◌, ◌+◌, ◌≤◌, ◌++◌, IfSome, OnErr, OnOk, length, option_map};
+ghost use Rattle.std.specs.Prelude.{◌≡◌, ◌+◌, ◌≤◌, ◌++◌, IfOk, IfSome, OnErr, OnOk, length};
+ghost use Rattle.std.specs.Prelude.{option_map};
 ghost use Rattle.std.specs.Prelude.{true};
 ghost use Rattle.std.specs.Option.{option_copied};
 ghost use Rattle.iref_grammar.specs.Authority.{read_authority};
@@ -21,13 +22,13 @@ use crate::sort_parts::{
     write_text_option,
 };
 use crate::sort_path::Items;
-use crate::sort_short::{append_short, is_short};
+use crate::sort_short::{LONGEST, ROOM, put_short};
 use crate::sort_text::write_byte;
 use iref_error::Memory;
 use iref_parse::authority::{AuthoritySlices, split_parts};
 use iref_parse::split::ReferenceSlices;
 use iref_parse::unescaped::is_kept;
-use std::alloc::AllocError;
+use std::alloc::{AllocError, Global};
 
 // The components of a reference as a sort key has them.
 #[derive(Clone, Copy)]
@@ -154,6 +155,23 @@ impl<'a> Sortable<'a> {
     }
 }
 
+// Appends the sort key of a reference to a vector, component by component. The room is taken once.
+fn append_long(text: &str, slices: ReferenceSlices<'_>, out: &mut Vec<u8>) -> Result<(), Memory>
+    requires value { value_of slices ≡ read_reference text.now }
+    requires texts { texts_of slices ≡ spell_components (read_reference text.now) }
+    ensures ok { OnOk result (out.new.items
+        ≡ out.old.items ++ sort_key (key (read_reference text.now))) }
+    ensures err { OnErr result (out.new.items ≡ out.old.items) }
+{
+    let sortable = Sortable::new(text, slices);
+    let len = sortable.len().ok_or(AllocError)?;
+    let start = out.len();
+    let end = start.checked_add(len).ok_or(AllocError)?;
+    out.resize(end, 0)?;
+    sortable.write(&mut out[start..], len);
+    Ok(())
+}
+
 /// Appends the sort key of a reference to a vector, from the reference's text and the slices of its
 /// components. The room is taken once.
 pub fn append_sort_key(
@@ -167,14 +185,30 @@ pub fn append_sort_key(
         ≡ out.old.items ++ sort_key (key (read_reference text.now))) }
     ensures err { OnErr result (out.new.items ≡ out.old.items) }
 {
-    if is_short(text, slices.path) {
-        return append_short(text, slices, out);
+    if text.len() <= LONGEST {
+        let mut buffer = [0; ROOM];
+        if let Some(end) = put_short(&mut buffer, text, slices) {
+            out.extend_from_slice(&buffer[..end])?;
+            return Ok(());
+        }
     }
-    let sortable = Sortable::new(text, slices);
-    let len = sortable.len().ok_or(AllocError)?;
-    let start = out.len();
-    let end = start.checked_add(len).ok_or(AllocError)?;
-    out.resize(end, 0)?;
-    sortable.write(&mut out[start..], len);
-    Ok(())
+    append_long(text, slices, out)
+}
+
+/// The sort key of a reference, from the reference's text and the slices of its components. The room
+/// is taken once, of the exact length.
+pub fn sort_key(alloc: Global, text: &str, slices: ReferenceSlices<'_>) -> Result<Vec<u8>, Memory>
+    requires value { value_of slices ≡ read_reference text.now }
+    requires texts { texts_of slices ≡ spell_components (read_reference text.now) }
+    ensures { IfOk result (λ bytes. bytes.items ≡ sort_key (key (read_reference text.now))) }
+{
+    if text.len() <= LONGEST {
+        let mut buffer = [0; ROOM];
+        if let Some(end) = put_short(&mut buffer, text, slices) {
+            return Ok(Vec::from_slice(alloc, &buffer[..end])?);
+        }
+    }
+    let mut bytes = Vec::new(alloc);
+    append_long(text, slices, &mut bytes)?;
+    Ok(bytes)
 }

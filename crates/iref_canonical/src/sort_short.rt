@@ -1,32 +1,42 @@
 //! Sort keys of short texts whose bytes stand in them as they are, written from the front.
 
-ghost use Rattle.std.specs.Prelude.{◌≡◌, ℕ, ◌+◌, ◌<◌, ◌≤◌, ◌++◌, [], ◌∷◌, take};
-ghost use Rattle.std.specs.Prelude.{IfSome, OnErr, OnOk, if◌then◌else◌, length, option_map, true};
+ghost use Rattle.std.specs.Prelude.{◌≡◌, ℕ, ◌+◌, ◌<◌, ◌≤◌, ◌++◌, [], ◌∷◌, drop, take, false};
+ghost use Rattle.std.specs.Prelude.{IfSome, None, length, option_map, true};
 ghost use Rattle.std.specs.{Option.{option_copied}, Str.{str_to_ascii_lowercase}};
-ghost use Rattle.iref_grammar.specs.{Authority.{read_authority}, Tests.{none_or}};
+ghost use Rattle.iref_grammar.specs.Authority.{after_bracketed, bracketed, read_authority};
+ghost use Rattle.iref_grammar.specs.Authority.{read_host, read_host_and_port};
+ghost use Rattle.iref_grammar.specs.Grammar.{colon};
+ghost use Rattle.iref_grammar.specs.PathValue.{read_path, segments_of};
+ghost use Rattle.iref_grammar.specs.Tests.{none_or};
+ghost use Rattle.iref_grammar.specs.Rules.{Text};
+ghost use Rattle.iref_grammar.specs.Texts.{after, part_then, then_part};
 ghost use Rattle.iref_grammar.specs.{ComponentTexts.{spell_components}, Reference.{read_reference}};
 ghost use Rattle.iref_model.specs.Key.{key};
+ghost use Rattle.iref_parse.specs.Dots.{has_dot_segment};
 ghost use Rattle.iref_parse.specs.ReferenceSlices.{texts_of, value_of};
-ghost use Rattle.iref_path.specs.Pieces.{pieces_if_some};
+ghost use Rattle.iref_canonical.specs.Padded.{IsPadded, text_in};
 ghost use Rattle.iref_canonical.specs.SortBytes.{is_kept, are_kept_parts};
 ghost use Rattle.iref_canonical.specs.SortItems.{AreKept};
 ghost use Rattle.iref_canonical.specs.SortKey.{sort_authority, sort_item, sort_key, sort_list};
-ghost use Rattle.iref_canonical.specs.SortKey.{sort_option, sort_text};
-ghost use Rattle.iref_canonical.specs.SortPuts.{IsKept, IsShort, Puts, lowered};
-ghost use Rattle.iref_canonical.specs.SortPuts.{segment_bytes};
+ghost use Rattle.iref_canonical.specs.SortKey.{sort_option, sort_path, sort_text};
+ghost use Rattle.iref_canonical.specs.SortPuts.{AreKeptSlices, Puts, segment_bytes};
+ghost use Rattle.iref_canonical.specs.SortPuts.{sorted_from_authority, sorted_from_path};
+ghost use Rattle.iref_canonical.specs.SortPuts.{sorted_slices, sorted_tail};
+ghost use Rattle.iref_canonical.specs.SortPuts.{spelled_from_authority, spelled_from_path};
+ghost use Rattle.iref_canonical.specs.SortPuts.{spelled_slices, spelled_tail};
 
-use iref_error::Memory;
-use iref_parse::authority::{is_host_alone, split_parts};
-use iref_parse::cut::cut_bytes;
-use iref_parse::dots::has_dots;
+use crate::padded::Padded;
+use iref_parse::position::{position_of, position_of_either};
 use iref_parse::split::ReferenceSlices;
-use iref_parse::unescaped::is_kept;
-use iref_path::segments::split_root;
+use iref_parse::unescaped::are_kept_blocks;
+use std::simd::prelude::*;
 
-// Two bytes for each of the longest text, nine more, and a block: with these a sort key is written.
-const ROOM: usize = 224;
 // The length of the longest text whose sort key is written so.
-const LONGEST: usize = 96;
+pub(crate) const LONGEST: usize = 96;
+// The longest text, and a block behind it.
+const PADDED: usize = 112;
+// Two bytes for each of the longest text, nine more, and a block: with these a sort key is written.
+pub(crate) const ROOM: usize = 224;
 
 // Puts a byte at an index, and returns where it ends.
 #[inline(always)]
@@ -48,6 +58,17 @@ fn store(buffer: &mut [u8], at: usize, bytes: &[u8])
     buffer[at..at + bytes.len()].copy_from_slice(bytes);
 }
 
+// Stores the first 16 bytes at an index. Any number of the first are put so.
+#[inline(always)]
+fn store_block(buffer: &mut [u8], at: usize, bytes: &[u8])
+    requires block { 16 ≤ length bytes.now }
+    requires room { at + 16 ≤ length buffer.old }
+    ensures { (count : ℕ) → count ≤ 16
+        → Puts at (take count bytes.now) buffer.old buffer.new (at + count) }
+{
+    u8x16::from_slice(bytes).copy_to_slice(&mut buffer[at..]);
+}
+
 // Puts a text and its end.
 #[inline(always)]
 fn put_text(buffer: &mut [u8], at: usize, text: &str) -> usize
@@ -58,19 +79,35 @@ fn put_text(buffer: &mut [u8], at: usize, text: &str) -> usize
     put(buffer, at + text.len(), 0)
 }
 
+// Puts a text and its end. Most texts are in one block.
+#[inline(always)]
+fn put_padded(buffer: &mut [u8], at: usize, text: Padded<'_>) -> usize
+    requires padded { IsPadded text }
+    requires room { at + length (text_in text) + 16 ≤ length buffer.old }
+    ensures { Puts at (text_in text.entry ++ 0 ∷ []) buffer.old buffer.new result }
+{
+    if text.len <= 16 {
+        store_block(buffer, at, text.bytes);
+    } else {
+        store(buffer, at, &text.bytes[..text.len]);
+    }
+    put(buffer, at + text.len, 0)
+}
+
 // Puts a text that may not be there.
 #[inline(always)]
-fn put_option(buffer: &mut [u8], at: usize, text: Option<&str>) -> usize
-    requires kept { none_or is_kept (option_copied text) ≡ true }
-    requires room { at + length (sort_option sort_text (option_copied text))
+fn put_option(buffer: &mut [u8], at: usize, text: Option<Padded<'_>>) -> usize
+    requires kept { none_or is_kept (option_map text_in text) ≡ true }
+    requires padded { IfSome text IsPadded }
+    requires room { at + length (sort_option sort_text (option_map text_in text)) + 16
         ≤ length buffer.old }
-    ensures { Puts at (sort_option sort_text (option_copied text.entry))
+    ensures { Puts at (sort_option sort_text (option_map text_in text.entry))
         buffer.old buffer.new result }
 {
     match text {
         Some(text) => {
             let at = put(buffer, at, 1);
-            put_text(buffer, at, text)
+            put_padded(buffer, at, text)
         }
         None => put(buffer, at, 0),
     }
@@ -86,74 +123,79 @@ fn put_slash(buffer: &mut [u8], at: usize) -> usize
     put(buffer, at, 1)
 }
 
-// Puts segments, the first `count` bytes of a text, but for where the first begins and the last ends.
-// 16 bytes are stored at once, and those behind a `/` are written over.
+// Puts segments, but for where the first begins and the last ends, unless one begins with a dot. 16
+// bytes are stored at once, and those behind a `/` are written over.
 #[inline(always)]
-fn put_segments(buffer: &mut [u8], at: usize, text: &[u8], count: usize) -> usize
-    requires count { count + 16 ≤ length text.now }
-    requires room { at + length (segment_bytes (take count text.now)) + 16
-        ≤ length buffer.old }
-    ensures { Puts at (segment_bytes (take count text.now)) buffer.old buffer.new result }
+fn put_segments(buffer: &mut [u8], at: usize, text: Padded<'_>) -> Option<usize>
+    requires padded { IsPadded text }
+    requires room { at + length (segment_bytes (text_in text)) + 16 ≤ length buffer.old }
+    ensures put { IfSome result (λ end.
+        Puts at (segment_bytes (text_in text.entry)) buffer.old buffer.new end) }
+    ensures dotless { IfSome result (λ end. has_dot_segment (text_in text.entry) ≡ false) }
 {
+    if text.bytes[0] == b'.' {
+        return None;
+    }
     let mut end = at;
     let mut from = 0;
     loop {
-        let block = &text[from..from + 16];
-        store(buffer, end, block);
-        let found = cut_bytes(block, b'/').0.len();
-        let left = count - from;
-        if left <= found {
-            return end + left;
-        }
-        if found == 16 {
+        let block = &text.bytes[from..from + 16];
+        let found = position_of(block, b'/');
+        store_block(buffer, end, block);
+        let left = text.len - from;
+        if found == 16 && 16 < left {
             end += 16;
             from += 16;
         } else {
+            if left <= found {
+                return Some(end + left);
+            }
             end = put_slash(buffer, end + found);
             from += found + 1;
+            if text.bytes[from] == b'.' {
+                return None;
+            }
         }
     }
 }
 
-// Puts segments, but for where the first begins and the last ends.
+// Puts the items of a path without its root, and their end, unless one begins with a dot.
 #[inline(always)]
-fn put_padded(buffer: &mut [u8], at: usize, segments: &str) -> usize
-    requires short { length segments.now ≤ 96 }
-    requires room { at + length (segment_bytes segments.now) + 16 ≤ length buffer.old }
-    ensures { Puts at (segment_bytes segments.now) buffer.old buffer.new result }
-{
-    let mut padded = [0u8; 112];
-    padded[..segments.len()].copy_from_slice(segments.as_bytes());
-    put_segments(buffer, at, &padded, segments.len())
-}
-
-// Puts whether a path is absolute.
-#[inline(always)]
-fn put_flag(buffer: &mut [u8], at: usize, absolute: bool) -> usize
-    requires { at < length buffer.old }
-    ensures { Puts at ((if absolute then 1 else 0) ∷ []) buffer.old buffer.new result }
-{
-    put(buffer, at, u8::from(absolute))
-}
-
-// Puts the items of a path, and their end.
-#[inline(always)]
-fn put_items(buffer: &mut [u8], at: usize, segments: Option<&str>) -> usize
-    requires kept { AreKept (pieces_if_some segments) }
-    requires short { IfSome segments (λ text. length text.now ≤ 96) }
-    requires room { at + length (sort_list sort_item (pieces_if_some segments)) + 16
+fn put_items(buffer: &mut [u8], at: usize, text: Padded<'_>) -> Option<usize>
+    requires kept { is_kept (text_in text) ≡ true }
+    requires padded { IsPadded text }
+    requires room { at + length (sort_list sort_item (segments_of (text_in text))) + 16
         ≤ length buffer.old }
-    ensures { Puts at (sort_list sort_item (pieces_if_some segments.entry))
-        buffer.old buffer.new result }
+    ensures put { IfSome result (λ end.
+        Puts at (sort_list sort_item (segments_of (text_in text.entry)))
+        buffer.old buffer.new end) }
+    ensures dotless { IfSome result (λ end. has_dot_segment (text_in text.entry) ≡ false) }
 {
-    match segments {
-        Some(text) => {
-            let at = put(buffer, at, 1);
-            let at = put_padded(buffer, at, text);
-            let at = put(buffer, at, 0);
-            put(buffer, at, 0)
-        }
-        None => put(buffer, at, 0),
+    if text.len == 0 {
+        return Some(put(buffer, at, 0));
+    }
+    let at = put(buffer, at, 1);
+    let at = put_segments(buffer, at, text)?;
+    let at = put(buffer, at, 0);
+    Some(put(buffer, at, 0))
+}
+
+// Puts a path, unless a segment begins with a dot.
+#[inline(always)]
+fn put_path(buffer: &mut [u8], at: usize, path: Padded<'_>) -> Option<usize>
+    requires kept { is_kept (text_in path) ≡ true }
+    requires padded { IsPadded path }
+    requires room { at + length (sort_path (read_path (text_in path))) + 16 ≤ length buffer.old }
+    ensures put { IfSome result (λ end.
+        Puts at (sort_path (read_path (text_in path.entry))) buffer.old buffer.new end) }
+    ensures dotless { IfSome result (λ end. has_dot_segment (text_in path.entry) ≡ false) }
+{
+    if 0 < path.len && path.bytes[0] == b'/' {
+        let at = put(buffer, at, 1);
+        put_items(buffer, at, path.skip(1))
+    } else {
+        let at = put(buffer, at, 0);
+        put_items(buffer, at, path)
     }
 }
 
@@ -190,111 +232,244 @@ fn put_scheme(buffer: &mut [u8], at: usize, scheme: Option<&str>) -> usize
     }
 }
 
-// Puts the parts of an authority.
-#[inline(never)]
-fn put_parts(buffer: &mut [u8], at: usize, authority: &str) -> usize
-    requires kept { are_kept_parts (read_authority authority.now) ≡ true }
-    requires room { at + length (sort_authority (read_authority authority.now))
-        ≤ length buffer.old }
-    ensures { Puts at (sort_authority (read_authority authority.now))
-        buffer.old buffer.new result }
-{
-    let parts = split_parts(authority);
-    let at = put_option(buffer, at, parts.user_info);
-    let at = put_text(buffer, at, parts.host);
-    put_option(buffer, at, parts.port)
-}
-
-// Puts an authority that is a host alone.
+// Where the first `:` of a host and a port can stand: behind an address in brackets.
 #[inline(always)]
-fn put_host(buffer: &mut [u8], at: usize, host: &str) -> usize
-    requires { at + length host.now + 3 ≤ length buffer.old }
-    ensures { Puts at (0 ∷ (host.now ++ 0 ∷ 0 ∷ [])) buffer.old buffer.new result }
+fn address_len(text: Padded<'_>) -> usize
+    requires { IsPadded text }
+    ensures value { take result (text_in text.entry) ≡ bracketed (text_in text.entry) }
+    ensures rest { drop result (text_in text.entry) ≡ after_bracketed (text_in text.entry) }
+    ensures within { result ≤ text.entry.len }
 {
-    let at = put(buffer, at, 0);
-    let at = put_text(buffer, at, host);
-    put(buffer, at, 0)
-}
-
-// Puts an authority. Most are a host alone.
-#[inline(always)]
-fn put_authority(buffer: &mut [u8], at: usize, authority: &str) -> usize
-    requires kept { are_kept_parts (read_authority authority.now) ≡ true }
-    requires room { at + length (sort_authority (read_authority authority.now))
-        ≤ length buffer.old }
-    ensures { Puts at (sort_authority (read_authority authority.now))
-        buffer.old buffer.new result }
-{
-    if is_host_alone(authority) {
-        put_host(buffer, at, authority)
+    if 0 < text.len && text.bytes[0] == b'[' {
+        text.position(b']')
     } else {
-        put_parts(buffer, at, authority)
+        0
     }
+}
+
+// Puts a host, and a port, which may not be there.
+#[inline(always)]
+fn put_host(buffer: &mut [u8], at: usize, text: Padded<'_>) -> usize
+    requires kept { are_kept_parts (read_host_and_port None (text_in text)) ≡ true }
+    requires padded { IsPadded text }
+    requires room { at + length (sort_text (read_host (text_in text))
+        ++ sort_option sort_text (after colon (after_bracketed (text_in text)))) + 16
+        ≤ length buffer.old }
+    ensures { Puts at (sort_text (read_host (text_in text.entry))
+        ++ sort_option sort_text (after colon (after_bracketed (text_in text.entry))))
+        buffer.old buffer.new result }
+{
+    let address = address_len(text);
+    let (name, port) = text.skip(address).cut(b':');
+    let at = put_padded(buffer, at, text.front(address + name.len));
+    put_option(buffer, at, port)
+}
+
+// Puts the parts of an authority.
+#[inline(always)]
+fn put_parts(buffer: &mut [u8], at: usize, text: Padded<'_>) -> usize
+    requires kept { are_kept_parts (read_authority (text_in text)) ≡ true }
+    requires padded { IsPadded text }
+    requires room { at + length (sort_authority (read_authority (text_in text))) + 16
+        ≤ length buffer.old }
+    ensures { Puts at (sort_authority (read_authority (text_in text.entry)))
+        buffer.old buffer.new result }
+{
+    let (user_info, back) = text.cut(b'@');
+    match back {
+        Some(rest) => {
+            let at = put_option(buffer, at, Some(user_info));
+            put_host(buffer, at, rest)
+        }
+        None => {
+            let at = put(buffer, at, 0);
+            put_host(buffer, at, text)
+        }
+    }
+}
+
+// Puts an authority. Most are a host of at most 16 bytes.
+#[inline(always)]
+fn put_authority(buffer: &mut [u8], at: usize, text: Padded<'_>) -> usize
+    requires kept { are_kept_parts (read_authority (text_in text)) ≡ true }
+    requires padded { IsPadded text }
+    requires room { at + length (sort_authority (read_authority (text_in text))) + 16
+        ≤ length buffer.old }
+    ensures { Puts at (sort_authority (read_authority (text_in text.entry)))
+        buffer.old buffer.new result }
+{
+    if position_of_either(&text.bytes[..16], b'@', b':') < text.len {
+        return put_parts(buffer, at, text);
+    }
+    let at = put(buffer, at, 0);
+    store_block(buffer, at, text.bytes);
+    let at = put(buffer, at + text.len, 0);
+    put(buffer, at, 0)
 }
 
 // Puts an authority that may not be there.
 #[inline(always)]
-fn put_authority_option(buffer: &mut [u8], at: usize, authority: Option<&str>) -> usize
+fn put_authority_option(buffer: &mut [u8], at: usize, text: Option<Padded<'_>>) -> usize
     requires kept { none_or are_kept_parts
-        (option_map read_authority (option_copied authority)) ≡ true }
+        (option_map read_authority (option_map text_in text)) ≡ true }
+    requires padded { IfSome text IsPadded }
     requires room { at + length (sort_option sort_authority
-        (option_map read_authority (option_copied authority))) ≤ length buffer.old }
+        (option_map read_authority (option_map text_in text))) + 16 ≤ length buffer.old }
     ensures { Puts at (sort_option sort_authority
-        (option_map read_authority (option_copied authority.entry)))
+        (option_map read_authority (option_map text_in text.entry)))
         buffer.old buffer.new result }
 {
-    match authority {
-        Some(authority) => {
+    match text {
+        Some(text) => {
             let at = put(buffer, at, 1);
-            put_authority(buffer, at, authority)
+            put_authority(buffer, at, text)
         }
         None => put(buffer, at, 0),
     }
 }
 
+// What follows the scheme.
+#[inline(always)]
+fn after_scheme<'a>(text: Padded<'a>, scheme: Option<&str>) -> Padded<'a>
+    requires padded { IsPadded text }
+    requires within { length (part_then (colon ∷ []) (option_copied scheme))
+        ≤ length (text_in text) }
+    ensures rest { (rest : Text)
+        → text_in text.entry ≡ part_then (colon ∷ []) (option_copied scheme.entry) ++ rest
+        → text_in result ≡ rest }
+    ensures padded { IsPadded result }
+{
+    match scheme {
+        Some(scheme) => text.skip(scheme.len() + 1),
+        None => text,
+    }
+}
+
+// The part that follows a delimiter of this length, if it is there, and what follows the part.
+#[inline(always)]
+fn split_part<'a>(
+    text: Padded<'a>,
+    mark: usize,
+    part: Option<&str>,
+) -> (Option<Padded<'a>>, Padded<'a>)
+    requires padded { IsPadded text }
+    requires within { IfSome part (λ it. mark + length it.now ≤ length (text_in text)) }
+    ensures part { (delimiter rest : Text) → length delimiter ≡ mark
+        → text_in text.entry ≡ then_part delimiter (option_copied part.entry) ++ rest
+        → option_map text_in result.0 ≡ option_copied part.entry }
+    ensures rest { (delimiter rest : Text) → length delimiter ≡ mark
+        → text_in text.entry ≡ then_part delimiter (option_copied part.entry) ++ rest
+        → text_in result.1 ≡ rest }
+    ensures part_padded { IfSome result.0 IsPadded }
+    ensures rest_padded { IsPadded result.1 }
+{
+    match part {
+        Some(part) => {
+            let rest = text.skip(mark);
+            (Some(rest.front(part.len())), rest.skip(part.len()))
+        }
+        None => (None, text),
+    }
+}
+
+// Puts the query and the fragment of a text that begins with them.
+#[inline(always)]
+fn put_tail(buffer: &mut [u8], at: usize, text: Padded<'_>, slices: ReferenceSlices<'_>) -> usize
+    requires spelled { text_in text ≡ spelled_tail slices }
+    requires kept { AreKeptSlices slices }
+    requires padded { IsPadded text }
+    requires room { at + length (sorted_tail slices) + 16 ≤ length buffer.old }
+    ensures { Puts at (sorted_tail slices.entry) buffer.old buffer.new result }
+{
+    let (query, rest) = split_part(text, 1, slices.query);
+    let at = put_option(buffer, at, query);
+    let (fragment, _) = split_part(rest, 1, slices.fragment);
+    put_option(buffer, at, fragment)
+}
+
+// Puts the path and what follows it.
+#[inline(always)]
+fn put_from_path(
+    buffer: &mut [u8],
+    at: usize,
+    text: Padded<'_>,
+    slices: ReferenceSlices<'_>,
+) -> Option<usize>
+    requires spelled { text_in text ≡ spelled_from_path slices }
+    requires kept { AreKeptSlices slices }
+    requires padded { IsPadded text }
+    requires room { at + length (sorted_from_path slices) + 16 ≤ length buffer.old }
+    ensures put { IfSome result (λ end.
+        Puts at (sorted_from_path slices.entry) buffer.old buffer.new end) }
+    ensures dotless { IfSome result (λ end.
+        has_dot_segment slices.entry.path.now ≡ false) }
+{
+    let at = put_path(buffer, at, text.front(slices.path.len()))?;
+    let rest = text.skip(slices.path.len());
+    Some(put_tail(buffer, at, rest, slices))
+}
+
+// Puts the authority and what follows it.
+#[inline(always)]
+fn put_from_authority(
+    buffer: &mut [u8],
+    at: usize,
+    text: Padded<'_>,
+    slices: ReferenceSlices<'_>,
+) -> Option<usize>
+    requires spelled { text_in text ≡ spelled_from_authority slices }
+    requires kept { AreKeptSlices slices }
+    requires padded { IsPadded text }
+    requires room { at + length (sorted_from_authority slices) + 16 ≤ length buffer.old }
+    ensures put { IfSome result (λ end.
+        Puts at (sorted_from_authority slices.entry) buffer.old buffer.new end) }
+    ensures dotless { IfSome result (λ end.
+        has_dot_segment slices.entry.path.now ≡ false) }
+{
+    let (authority, rest) = split_part(text, 2, slices.authority);
+    let at = put_authority_option(buffer, at, authority);
+    put_from_path(buffer, at, rest, slices)
+}
+
 // Puts the sort key of the reference of these components, from the front of the buffer.
 #[inline(always)]
-fn put_all(buffer: &mut [u8], slices: ReferenceSlices<'_>) -> usize
-    requires kept { IsKept (value_of slices) }
-    requires short { length slices.path.now ≤ 96 }
-    requires room { length (sort_key (lowered (value_of slices))) + 16 ≤ length buffer.old }
-    ensures { Puts 0 (sort_key (lowered (value_of slices.entry))) buffer.old buffer.new result }
+fn put_all(buffer: &mut [u8], text: Padded<'_>, slices: ReferenceSlices<'_>) -> Option<usize>
+    requires spelled { text_in text ≡ spelled_slices slices }
+    requires kept { AreKeptSlices slices }
+    requires padded { IsPadded text }
+    requires room { length (sorted_slices slices) + 16 ≤ length buffer.old }
+    ensures put { IfSome result (λ end.
+        Puts 0 (sorted_slices slices.entry) buffer.old buffer.new end) }
+    ensures dotless { IfSome result (λ end.
+        has_dot_segment slices.entry.path.now ≡ false) }
 {
-    let (absolute, segments) = split_root(slices.path);
     let at = put_scheme(buffer, 0, slices.scheme);
-    let at = put_authority_option(buffer, at, slices.authority);
-    let at = put_flag(buffer, at, absolute);
-    let at = put_items(buffer, at, segments);
-    let at = put_option(buffer, at, slices.query);
-    put_option(buffer, at, slices.fragment)
+    let rest = after_scheme(text, slices.scheme);
+    put_from_authority(buffer, at, rest, slices)
 }
 
-/// Whether the sort key of a text with this path is written from the front: the text is short, and
-/// has neither escapes nor, in the path, segments that begin with a dot.
+// Puts the sort key of a short text, unless a byte stands in it otherwise or a segment of the path
+// begins with a dot.
 #[inline(always)]
-pub(crate) fn is_short(text: &str, path: &str) -> bool
-    ensures { result ≡ true → IsShort text.now path.now }
-{
-    text.len() <= LONGEST && is_kept(text.as_bytes()) && !has_dots(path.as_bytes())
-}
-
-/// Appends the sort key of a reference to a vector, from the reference's text and the slices of its
-/// components. The key is written beside, so that its length is known where room is taken.
-#[inline(always)]
-pub(crate) fn append_short(
+pub(crate) fn put_short(
+    buffer: &mut [u8; ROOM],
     text: &str,
     slices: ReferenceSlices<'_>,
-    out: &mut Vec<u8>,
-) -> Result<(), Memory>
+) -> Option<usize>
+    requires short { length text.now ≤ 96 }
     requires value { value_of slices ≡ read_reference text.now }
     requires texts { texts_of slices ≡ spell_components (read_reference text.now) }
-    requires short { IsShort text.now slices.path.now }
-    ensures ok { OnOk result (out.new.items
-        ≡ out.old.items ++ sort_key (key (read_reference text.now))) }
-    ensures err { OnErr result (out.new.items ≡ out.old.items) }
+    ensures { IfSome result (λ end.
+        Puts 0 (sort_key (key (read_reference text.now))) buffer.old buffer.new end) }
 {
-    let mut buffer = [0u8; ROOM];
-    let end = put_all(&mut buffer, slices);
-    out.extend_from_slice(&buffer[..end])?;
-    Ok(())
+    let mut padded = [b' '; PADDED];
+    padded[..text.len()].copy_from_slice(text.as_bytes());
+    if !are_kept_blocks(&padded) {
+        return None;
+    }
+    let whole = Padded {
+        bytes: &padded,
+        len: text.len(),
+    };
+    put_all(buffer, whole, slices)
 }

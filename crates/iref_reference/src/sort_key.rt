@@ -8,7 +8,7 @@ ghost use Rattle.iref_reference.specs.SortKeys.{SortsAs};
 use crate::borrowed::{Reference, Uri, UriRef};
 use crate::owned::ReferenceBuf;
 use iref_canonical::owned::SortKey;
-use iref_canonical::sort_key::append_sort_key;
+use iref_canonical::sort_key::{append_sort_key, sort_key};
 use iref_error::Memory;
 use iref_grammar::chars::CharSet;
 use iref_parse::split::split_reference;
@@ -22,8 +22,8 @@ impl<R: HeldRule, C: CharSet> Reference<'_, R, C> {
     pub fn sort_key(&self, alloc: Global) -> Result<SortKey, Memory>
         ensures { IfOk result (λ bytes. bytes ≡ sort_key (key_of_reference self.now)) }
     {
-        let mut bytes = Vec::new(alloc);
-        self.append_sort_key_to(&mut bytes)?;
+        let text = self.as_str();
+        let bytes = sort_key(alloc, text, split_reference(text))?;
         Ok(SortKey::of_bytes(bytes))
     }
 
@@ -45,8 +45,7 @@ impl<R: HeldRule, C: CharSet> ReferenceBuf<R, C> {
     pub fn sort_key(&self, alloc: Global) -> Result<SortKey, Memory>
         ensures { IfOk result (λ bytes. bytes ≡ sort_key (key_of_reference_buf self.now)) }
     {
-        let mut bytes = Vec::new(alloc);
-        self.append_sort_key_to(&mut bytes)?;
+        let bytes = sort_key(alloc, self.as_str(), self.inner.slices())?;
         Ok(SortKey::of_bytes(bytes))
     }
 

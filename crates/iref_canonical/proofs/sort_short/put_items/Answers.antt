@@ -1,35 +1,36 @@
-use Rattle.std.proofs.Common.{arith, ◌≤◌, ap, length, subst, sym, ◌∙◌}
-use Rattle.std.specs.Prelude.{IfSome}
-use Rattle.iref_path.specs.Pieces.{pieces_if_some}
-use Rattle.iref_canonical.specs.SortItems.{AreKept}
+use Rattle.std.proofs.Common.{arith, ap, length, subst, sym, ◌∙◌}
+use Rattle.iref_canonical.specs.Padded.{text_in}
 use Rattle.iref_canonical.specs.SortKey.{sort_item, sort_list}
 use Rattle.iref_canonical.specs.SortPuts.{Puts}
+use Rattle.iref_canonical.proofs.SortCutLemmas.{length_in, some_segments}
+use Rattle.iref_canonical.proofs.SortItemLemmas.{kept_pieces}
 use Rattle.iref_canonical.proofs.SortPutLemmas.{items_put, items_size}
 use Rattle.iref_canonical.proofs.sort_short.put_items.Goals as goal
 
-pub put_padded-at-requires-clause-room : goal.put_padded-at-requires-clause-room
-put_padded-at-requires-clause-room c =
-    let kept = subst (λ o. AreKept (pieces_if_some o)) c.in-Some.is c.requires.kept in
-    let size = ap (λ o. length (sort_list sort_item (pieces_if_some o))) c.in-Some.is ∙ items_size c.in-Some.text.now kept in
+pub put_segments-requires-clause-room : goal.put_segments-requires-clause-room
+put_segments-requires-clause-room c =
+    let t = text_in c.args.text in
+    let some = some_segments t (omega (arith, length_in c.args.text c.requires.padded, c.if-text-eq0.false)) in
+    let size = ap (λ l. length (sort_list sort_item l)) some ∙ items_size t (kept_pieces t c.requires.kept) in
     omega (arith, size, c.requires.room, c.put-at.ensures.range, c.put-at.ensures.len)
 
-pub put_padded-at-requires-clause-short : goal.put_padded-at-requires-clause-short
-put_padded-at-requires-clause-short c = subst (λ o. IfSome o (λ text. length text.now ≤ 96)) c.in-Some.is c.requires.short
+pub put-at-requires-2 : goal.put-at-requires-2
+put-at-requires-2 c =
+    let t = text_in c.args.text in
+    let some = some_segments t (omega (arith, length_in c.args.text c.requires.padded, c.if-text-eq0.false)) in
+    let size = ap (λ l. length (sort_list sort_item l)) some ∙ items_size t (kept_pieces t c.requires.kept) in
+    omega (arith, size, c.requires.room, c.put-at.ensures.range, c.put-at.ensures.len, c.in_ok-at.ensures.put.range, c.in_ok-at.ensures.put.len)
 
-pub put-at-requires-in-Some : goal.put-at-requires-in-Some
-put-at-requires-in-Some c =
-    let kept = subst (λ o. AreKept (pieces_if_some o)) c.in-Some.is c.requires.kept in
-    let size = ap (λ o. length (sort_list sort_item (pieces_if_some o))) c.in-Some.is ∙ items_size c.in-Some.text.now kept in
-    omega (arith, size, c.requires.room, c.put-at.ensures.range, c.put-at.ensures.len, c.put_padded-at.ensures.range, c.put_padded-at.ensures.len)
+pub put-requires-2 : goal.put-requires-2
+put-requires-2 c =
+    let t = text_in c.args.text in
+    let some = some_segments t (omega (arith, length_in c.args.text c.requires.padded, c.if-text-eq0.false)) in
+    let size = ap (λ l. length (sort_list sort_item l)) some ∙ items_size t (kept_pieces t c.requires.kept) in
+    omega (arith, size, c.requires.room, c.put-at.ensures.range, c.put-at.ensures.len, c.in_ok-at.ensures.put.range, c.in_ok-at.ensures.put.len, c.put-at-2.ensures.range, c.put-at-2.ensures.len)
 
-pub put-requires : goal.put-requires
-put-requires c =
-    let kept = subst (λ o. AreKept (pieces_if_some o)) c.in-Some.is c.requires.kept in
-    let size = ap (λ o. length (sort_list sort_item (pieces_if_some o))) c.in-Some.is ∙ items_size c.in-Some.text.now kept in
-    omega (arith, size, c.requires.room, c.put-at.ensures.range, c.put-at.ensures.len, c.put_padded-at.ensures.range, c.put_padded-at.ensures.len, c.put-at-in-Some.ensures.range, c.put-at-in-Some.ensures.len)
-
-pub returns-in-Some : goal.returns-in-Some
-returns-in-Some c =
-    let kept = subst (λ o. AreKept (pieces_if_some o)) c.in-Some.is c.requires.kept in
-    subst (λ o. Puts c.args.at (sort_list sort_item (pieces_if_some o)) c.args.buffer.now c.put.new.buffer c.put.result) (sym c.in-Some.is)
-    (items_put c.in-Some.text.now kept c.put-at.ensures c.put_padded-at.ensures c.put-at-in-Some.ensures c.put.ensures)
+pub returns-clause-put : goal.returns-clause-put
+returns-clause-put c =
+    let t = text_in c.args.text in
+    let some = some_segments t (omega (arith, length_in c.args.text c.requires.padded, c.if-text-eq0.false)) in
+    subst (λ l. Puts c.args.at (sort_list sort_item l) c.args.buffer.now c.put-2.new.buffer c.put-2.result) (sym some)
+    (items_put t (kept_pieces t c.requires.kept) c.put-at.ensures c.in_ok-at.ensures.put c.put-at-2.ensures c.put-2.ensures)
