@@ -1,8 +1,7 @@
 -- A spelled text cut into its parts, as they are put into a sort key.
-use Rattle.std.proofs.Common.{arith, ◌≡◌, ℕ, zero, suc, ◌+◌, ◌<◌, ◌≤◌, ◌++◌, ◌∷◌, [], Bool, true, false, ◌&&◌, length, take, drop, refl, sym, ◌∙◌, ap, subst, append_assoc, length-append, length-take, length-take-le, not, get_or, cond}
+use Rattle.std.proofs.Common.{arith, ◌≡◌, ℕ, zero, suc, ◌+◌, ◌<◌, ◌≤◌, ◌++◌, ◌∷◌, [], true, false, ◌&&◌, length, take, drop, refl, sym, ◌∙◌, ap, subst, append_assoc, length-append, length-take, length-take-le, not, get_or, cond}
 use Rattle.std.proofs.lemmas.Bool.Decides.{nat_tests}
 use Rattle.std.proofs.lemmas.Grind.{common_steps}
-use Rattle.std.proofs.lemmas.List.{append-nil, take_at, drop_at}
 use Rattle.std.proofs.lemmas.Bool.{and_parts}
 use Rattle.std.proofs.lemmas.List.Sums.{prefix_len-le-length}
 use Rattle.std.specs.Char.{char_set_contains}

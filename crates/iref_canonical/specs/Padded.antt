@@ -1,5 +1,5 @@
 -- Texts behind which 16 more bytes can be read.
-use Rattle.std.specs.Prelude.{ℕ, ◌+◌, ◌≤◌, length, take}
+use Rattle.std.specs.Prelude.{◌+◌, ◌≤◌, length, take}
 use Rattle.iref_grammar.specs.Rules.{Text}
 use Rattle.iref_canonical.specs.declared.padded.Padded.{Padded}
 

@@ -1,5 +1,5 @@
 -- Sort keys of texts whose bytes stand in them as they are, put from the front.
-use Rattle.std.specs.Prelude.{◌≡◌, ℕ, ◌+◌, ◌≤◌, false, true, ◌==◌, [], ◌∷◌, ◌++◌, length, option_map, take, codes, if◌then◌else◌}
+use Rattle.std.specs.Prelude.{◌≡◌, ℕ, ◌+◌, true, ◌==◌, [], ◌∷◌, ◌++◌, length, option_map, take, codes, if◌then◌else◌}
 use Rattle.std.specs.List.{flat_map}
 use Rattle.std.specs.Option.{option_copied}
 use Rattle.std.specs.Str.{str_to_ascii_lowercase}

@@ -1,4 +1,4 @@
-use Rattle.std.proofs.Common.{arith, [], ◌∷◌, ◌++◌, ◌≤◌, ◌≡◌}
+use Rattle.std.proofs.Common.{arith, [], ◌∷◌, ◌++◌, ◌≤◌}
 use Rattle.iref_grammar.specs.Authority.{read_authority}
 use Rattle.iref_parse.proofs.AuthorityLemmas.{without_marks}
 use Rattle.iref_canonical.specs.Padded.{text_in}

@@ -3,7 +3,7 @@ use Rattle.std.proofs.lemmas.Bool.Decides.{nat_tests}
 use Rattle.std.proofs.lemmas.Option.{IfSome_then}
 use Rattle.std.specs.Prelude.{◌==◌}
 use Rattle.iref_grammar.specs.Grammar.{slash}
-use Rattle.iref_grammar.specs.PathValue.{PathValue, read_path, segments_of}
+use Rattle.iref_grammar.specs.PathValue.{read_path, segments_of}
 use Rattle.iref_canonical.specs.Padded.{text_in}
 use Rattle.iref_canonical.specs.SortKey.{sort_path}
 use Rattle.iref_canonical.proofs.SortCutLemmas.{length_in, rooted, rootless}

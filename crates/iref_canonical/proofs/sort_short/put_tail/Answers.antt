@@ -1,4 +1,4 @@
-use Rattle.std.proofs.Common.{arith, ◌++◌, [], ◌∷◌, ap, length, length-append, refl, subst, sym, ◌∙◌}
+use Rattle.std.proofs.Common.{arith, [], ◌∷◌, ap, length, length-append, refl, subst, sym, ◌∙◌}
 use Rattle.std.proofs.lemmas.List.{append-nil}
 use Rattle.std.specs.Option.{option_copied}
 use Rattle.iref_grammar.specs.Grammar.{hash_sign, question_mark}
