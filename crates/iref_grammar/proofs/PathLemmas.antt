@@ -16,7 +16,7 @@ join-segments_of : (text : Text) → join_with_byte slash (segments_of text) ≡
 join-segments_of [] = refl
 join-segments_of (c ∷ cs) = join-pieces_at slash (c ∷ cs)
 
-lacks-segments_of : (text : Text) → list_all (lacks slash) (segments_of text) ≡ true
+pub lacks-segments_of : (text : Text) → list_all (lacks slash) (segments_of text) ≡ true
 lacks-segments_of [] = refl
 lacks-segments_of (c ∷ cs) = lacks-pieces_at slash (c ∷ cs)
 

@@ -143,7 +143,7 @@ decoded_some c [] = refl
 decoded_some c (d ∷ []) = refl
 decoded_some c (d ∷ e ∷ cs) = grind arith
 
-empty-decoded : (s : Text) → is_empty (percent_decode s) ≡ is_empty s
+pub empty-decoded : (s : Text) → is_empty (percent_decode s) ≡ is_empty s
 empty-decoded [] = ap is_empty percent_decode-nil
 empty-decoded (c ∷ cs) = decoded_some c cs
 

@@ -19,7 +19,7 @@ use Rattle.iref_model.proofs.JoinedLemmas.{climbs}
 use Rattle.iref_model.proofs.StepSegmentLemmas.{TakesDots, normal-in, guarded-in}
 use Rattle.iref_model.proofs.LeadingLemmas.{names_down-all, climb_between, steps-are}
 use Rattle.iref_model.proofs.RelativeLemmas.{at_no_root, path_down, stands}
-use Rattle.iref_model.proofs.ReadableStepLemmas.{is_segment-dots}
+use Rattle.iref_model.proofs.NormalGrammarLemmas.{takes_dots}
 
 -- ---- what each segment passes
 
@@ -54,7 +54,7 @@ relative_to-readable set target base readable = by (schemes_agree target base &&
     by : (agree range root : Bool) → is_readable set (cond agree (cond range (with_only_path (at_no_root []) target) (cond root (with_only_path (leading_path target base) target) target)) target) ≡ true
     by false range root = readable
     by true true root = only_path-readable set target (at_no_root []) readable refl refl
-    by true false true = only_path-readable set target (leading_path target base) readable (all_leading (is_segment set) (is_segment-dots set) target base (readable_parts set target readable).segments) (leading_path-fits target base)
+    by true false true = only_path-readable set target (leading_path target base) readable (all_leading (is_segment set) (takes_dots set) target base (readable_parts set target readable).segments) (leading_path-fits target base)
     by true false false = readable
 
 -- the same by the rules of the grammar

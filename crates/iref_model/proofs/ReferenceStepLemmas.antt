@@ -23,7 +23,7 @@ use Rattle.iref_model.specs.DotSegments.{RemovesDotSegments}
 use Rattle.iref_grammar.specs.Grammar.{slash}
 use Rattle.iref_grammar.specs.Texts.{lacks}
 use Rattle.iref_model.proofs.NormalPathLemmas.{normalized-normalized, path_key-normalized}
-use Rattle.iref_model.proofs.ReadableStepLemmas.{is_segment-dots}
+use Rattle.iref_model.proofs.NormalGrammarLemmas.{takes_dots}
 use Rattle.iref_model.proofs.FitsLemmas.{lazy_pushed-fits, popped-fits, pushed-fits, appended-fits, lazy_appended-fits, replaced-fits, joined-fits, normalized-fits, cleared-fits}
 use Rattle.iref_model.proofs.StepSegmentLemmas.{all_in, in-cond, guarded-in, lazy_pushed-in, popped-in, pushed-in, appended-in, lazy_appended-in, joined-in, normalized-in}
 
@@ -37,28 +37,28 @@ pub with_path_step-readable : (set : CharTests) (step : PathContext → PathValu
 with_path_step-readable set step r keeps_fit keeps_in h = grind (arith, common_steps, readable_parts, readable_from)
 
 pub lazy_pushed-readable : (set : CharTests) (s : Text) (r : ReferenceValue) → is_segment set s ≡ true → is_readable set r ≡ true → is_readable set (with_path_step (λ context. lazy_pushed context s) r) ≡ true
-lazy_pushed-readable set s r k = with_path_step-readable set (λ context. lazy_pushed context s) r (lazy_pushed-fits (context_of r) s r.path) (lazy_pushed-in (is_segment set) (is_segment-dots set) (context_of r) s r.path k)
+lazy_pushed-readable set s r k = with_path_step-readable set (λ context. lazy_pushed context s) r (lazy_pushed-fits (context_of r) s r.path) (lazy_pushed-in (is_segment set) (takes_dots set) (context_of r) s r.path k)
 
 pub pushed-readable : (set : CharTests) (s : Text) (r : ReferenceValue) → is_segment set s ≡ true → is_readable set r ≡ true → is_readable set (with_path_step (λ context. pushed context s) r) ≡ true
-pushed-readable set s r k = with_path_step-readable set (λ context. pushed context s) r (pushed-fits (context_of r) s r.path) (pushed-in (is_segment set) (is_segment-dots set) (context_of r) s r.path k)
+pushed-readable set s r k = with_path_step-readable set (λ context. pushed context s) r (pushed-fits (context_of r) s r.path) (pushed-in (is_segment set) (takes_dots set) (context_of r) s r.path k)
 
 pub popped-readable : (set : CharTests) (r : ReferenceValue) → is_readable set r ≡ true → is_readable set (with_path_step popped r) ≡ true
-popped-readable set r = with_path_step-readable set popped r (popped-fits (context_of r) r.path) (popped-in (is_segment set) (is_segment-dots set) (context_of r) r.path)
+popped-readable set r = with_path_step-readable set popped r (popped-fits (context_of r) r.path) (popped-in (is_segment set) (takes_dots set) (context_of r) r.path)
 
 pub appended-readable : (set : CharTests) (items : List Text) (r : ReferenceValue) → list_all (is_segment set) items ≡ true → is_readable set r ≡ true → is_readable set (with_path_step (λ context. appended context items) r) ≡ true
-appended-readable set items r k = with_path_step-readable set (λ context. appended context items) r (appended-fits (context_of r) items r.path) (appended-in (is_segment set) (is_segment-dots set) (context_of r) items r.path k)
+appended-readable set items r k = with_path_step-readable set (λ context. appended context items) r (appended-fits (context_of r) items r.path) (appended-in (is_segment set) (takes_dots set) (context_of r) items r.path k)
 
 pub lazy_appended-readable : (set : CharTests) (items : List Text) (r : ReferenceValue) → list_all (is_segment set) items ≡ true → is_readable set r ≡ true → is_readable set (with_path_step (λ context. lazy_appended context items) r) ≡ true
-lazy_appended-readable set items r k = with_path_step-readable set (λ context. lazy_appended context items) r (lazy_appended-fits (context_of r) items r.path) (lazy_appended-in (is_segment set) (is_segment-dots set) (context_of r) items r.path k)
+lazy_appended-readable set items r k = with_path_step-readable set (λ context. lazy_appended context items) r (lazy_appended-fits (context_of r) items r.path) (lazy_appended-in (is_segment set) (takes_dots set) (context_of r) items r.path k)
 
 pub joined-readable : (set : CharTests) (new : PathValue) (r : ReferenceValue) → all_in (is_segment set) new ≡ true → is_readable set r ≡ true → is_readable set (with_path_step (λ context. joined context new) r) ≡ true
-joined-readable set new r k = with_path_step-readable set (λ context. joined context new) r (joined-fits (context_of r) new r.path) (joined-in (is_segment set) (is_segment-dots set) (context_of r) new r.path k)
+joined-readable set new r k = with_path_step-readable set (λ context. joined context new) r (joined-fits (context_of r) new r.path) (joined-in (is_segment set) (takes_dots set) (context_of r) new r.path k)
 
 pub replaced-readable : (set : CharTests) (new : PathValue) (r : ReferenceValue) → all_in (is_segment set) new ≡ true → is_readable set r ≡ true → is_readable set (with_path_step (λ context. replaced context new) r) ≡ true
-replaced-readable set new r k = with_path_step-readable set (λ context. replaced context new) r (λ h. replaced-fits (context_of r) new r.path) (λ h. guarded-in (is_segment set) (is_segment-dots set) (context_of r) new k)
+replaced-readable set new r k = with_path_step-readable set (λ context. replaced context new) r (λ h. replaced-fits (context_of r) new r.path) (λ h. guarded-in (is_segment set) (takes_dots set) (context_of r) new k)
 
 pub normalized-readable : (set : CharTests) (r : ReferenceValue) → is_readable set r ≡ true → is_readable set (with_path_step normalized r) ≡ true
-normalized-readable set r = with_path_step-readable set normalized r (λ h. normalized-fits (context_of r) r.path) (normalized-in (is_segment set) (is_segment-dots set) (context_of r) r.path)
+normalized-readable set r = with_path_step-readable set normalized r (λ h. normalized-fits (context_of r) r.path) (normalized-in (is_segment set) (takes_dots set) (context_of r) r.path)
 
 pub cleared-readable : (set : CharTests) (r : ReferenceValue) → is_readable set r ≡ true → is_readable set (with_path_step (λ context. cleared) r) ≡ true
 cleared-readable set r = with_path_step-readable set (λ context. cleared) r (λ h. cleared-fits (context_of r) r.path) (λ h. refl)
@@ -85,7 +85,7 @@ guarded_reference-readable set r own =
     readable_from set (guarded_reference r) (record {
       scheme = own.scheme;
       authority = own.authority;
-      segments = guarded-in (is_segment set) (is_segment-dots set) (context_of r) r.path own.segments;
+      segments = guarded-in (is_segment set) (takes_dots set) (context_of r) r.path own.segments;
       query = own.query;
       fragment = own.fragment;
       follows = guarded_fits.0;

@@ -9,18 +9,18 @@ use Rattle.iref_grammar.specs.Reference.{ReferenceValue, is_readable}
 use Rattle.iref_model.specs.Resolution.{merged, target_path, target, resolved}
 use Rattle.iref_model.proofs.StepSegmentLemmas.{normal-in}
 use Rattle.iref_model.proofs.LeadingLemmas.{all_last}
-use Rattle.iref_model.proofs.ReadableStepLemmas.{is_segment-dots}
+use Rattle.iref_model.proofs.NormalGrammarLemmas.{takes_dots}
 use Rattle.iref_model.proofs.ReferenceStepLemmas.{HasComponents, readable_components, guarded_reference-readable}
 
 module _ (set : CharTests) (base r : ReferenceValue) (own_base : HasComponents set base) (own : HasComponents set r) where
   normal-components : list_all (is_segment set) (normal r.path).segments ≡ true
-  normal-components = normal-in (is_segment set) (is_segment-dots set) r.path own.segments
+  normal-components = normal-in (is_segment set) (takes_dots set) r.path own.segments
 
   merged-components : list_all (is_segment set) (merged base r.path).segments ≡ true
-  merged-components = grind (arith, common_steps, is_some, all_last, is_segment-dots)
+  merged-components = grind (arith, common_steps, is_some, all_last, takes_dots)
 
   path-components : list_all (is_segment set) (target_path base r.path).segments ≡ true
-  path-components = grind (arith, common_steps, normal-components, normal-in, is_segment-dots, merged-components)
+  path-components = grind (arith, common_steps, normal-components, normal-in, takes_dots, merged-components)
 
   target-components : HasComponents set (target base r)
   target-components = grind (arith, common_steps, is_some, normal-components, path-components)

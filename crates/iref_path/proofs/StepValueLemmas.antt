@@ -18,7 +18,7 @@ use Rattle.iref_model.specs.PathSteps.{lazy_pushed, popped, closed_path, followe
 use Rattle.iref_model.proofs.GuardLemmas.{guarded-fits, guarded_list-shows}
 use Rattle.iref_model.proofs.FitsLemmas.{is_empty-snoc, lazy_pushed-fits, popped-fits, closed_path-fits, followed-fits, pushed-fits, cleared-fits}
 use Rattle.iref_model.proofs.PathGrammarLemmas.{segments_of_path}
-use Rattle.iref_model.proofs.ReadableStepLemmas.{is_segment-dots}
+use Rattle.iref_model.proofs.NormalGrammarLemmas.{takes_dots}
 use Rattle.iref_model.proofs.StepSegmentLemmas.{guarded-in, lazy_pushed-in, popped-in, closed_path-in, followed-in, pushed-in}
 use Rattle.iref_splice.specs.Changes.{IsWithin, changed}
 use Rattle.iref_splice.specs.declared.change.Change.{Change}
@@ -84,26 +84,26 @@ popped-shown context p h = grind (arith, lazy_pushed-shown, guarded_list-shows)
 module _ (set : CharTests) (context : PathContext) (p : PathValue) where
   pub lazy_pushed-step : (s : Text) → is_segment set s ≡ true → IsStep set context p (lazy_pushed context s p)
   lazy_pushed-step s k =
-      record { segments = lazy_pushed-in (is_segment set) (is_segment-dots set) context s p k; shown = lazy_pushed-shown context s p; fit = lazy_pushed-fits context s p }
+      record { segments = lazy_pushed-in (is_segment set) (takes_dots set) context s p k; shown = lazy_pushed-shown context s p; fit = lazy_pushed-fits context s p }
 
   pub popped-step : IsStep set context p (popped context p)
-  popped-step = record { segments = popped-in (is_segment set) (is_segment-dots set) context p; shown = popped-shown context p; fit = popped-fits context p }
+  popped-step = record { segments = popped-in (is_segment set) (takes_dots set) context p; shown = popped-shown context p; fit = popped-fits context p }
 
   pub closed-step : IsStep set context p (closed_path context p)
-  closed-step = record { segments = closed_path-in (is_segment set) (is_segment-dots set) context p; shown = λ h. grind (arith, lazy_pushed-shown); fit = closed_path-fits context p }
+  closed-step = record { segments = closed_path-in (is_segment set) (takes_dots set) context p; shown = λ h. grind (arith, lazy_pushed-shown); fit = closed_path-fits context p }
 
   pub followed-step : (s : Text) → is_segment set s ≡ true → IsStep set context p (followed context p s)
   followed-step s k =
-      record { segments = followed-in (is_segment set) (is_segment-dots set) context p s k; shown = λ h. grind (arith, popped-shown, lazy_pushed-shown); fit = followed-fits context p s }
+      record { segments = followed-in (is_segment set) (takes_dots set) context p s k; shown = λ h. grind (arith, popped-shown, lazy_pushed-shown); fit = followed-fits context p s }
 
   pub pushed-step : (s : Text) → is_segment set s ≡ true → IsStep set context p (pushed context s p)
   unfolding pushed
   pushed-step s k =
-      record { segments = pushed-in (is_segment set) (is_segment-dots set) context s p k; shown = λ h. grind (arith, popped-shown, lazy_pushed-shown); fit = pushed-fits context s p }
+      record { segments = pushed-in (is_segment set) (takes_dots set) context s p k; shown = λ h. grind (arith, popped-shown, lazy_pushed-shown); fit = pushed-fits context s p }
 
   pub cleared-step : IsStep set context p (cleared p)
   cleared-step = record { segments = λ h. refl; shown = λ h. grind arith; fit = λ h. cleared-fits context p }
 
   pub replaced-step : (new : PathValue) → list_all (is_segment set) new.segments ≡ true → IsStep set context p (guarded context new)
   replaced-step new k =
-      record { segments = λ h. guarded-in (is_segment set) (is_segment-dots set) context new k; shown = λ h. fit-shows context (guarded context new) (guarded-fits context new); fit = λ h. guarded-fits context new }
+      record { segments = λ h. guarded-in (is_segment set) (takes_dots set) context new k; shown = λ h. fit-shows context (guarded context new) (guarded-fits context new); fit = λ h. guarded-fits context new }
