@@ -40,7 +40,7 @@ impl<R: HeldRule, C: CharSet> Reference<'_, R, C> {
             (canonical_text (key_of_reference self.now)) }
     {
         let text = self.as_str();
-        is_canonical_in::<R, C>(text, split_reference(text))
+        is_canonical::<C>(text, split_reference(text))
     }
 }
 
@@ -63,42 +63,11 @@ impl<R: HeldRule, C: CharSet> ReferenceBuf<R, C> {
         ensures { result ≡ bytes_eq (reference_buf_text self.now)
             (canonical_text (key_of_reference_buf self.now)) }
     {
-        is_canonical_in::<R, C>(self.as_str(), self.inner.slices())
+        is_canonical::<C>(self.as_str(), self.inner.slices())
     }
 }
 
-// A copy of a text in the rule that is canonical, of which the components are given too.
-fn copied<R: HeldRule, C: CharSet>(
-    alloc: Global,
-    text: &str,
-    slices: ReferenceSlices<'_>,
-) -> Result<ReferenceBuf<R, UriChars>, Memory>
-    requires in_rule { R.test C.tests text.now ≡ true }
-    requires texts { texts_of slices ≡ spell_components (read_reference text.now) }
-    requires canonical { canonical_text (key (read_reference text.now)) ≡ text.now }
-    ensures { IfOk result (λ copy. reference_buf_text copy ≡ text.now) }
-{
-    let copy = String::from_str(alloc, text)?;
-    Ok(ReferenceBuf::from_inner(ReferenceText::of_slices(copy, slices)))
-}
-
-// The reference of the canonical text of a text in the rule, written from the components.
-fn written<R: HeldRule, C: CharSet>(
-    alloc: Global,
-    text: &str,
-    slices: ReferenceSlices<'_>,
-) -> Result<ReferenceBuf<R, UriChars>, Memory>
-    requires in_rule { R.test C.tests text.now ≡ true }
-    requires slices { value_of slices ≡ read_reference text.now }
-    ensures text { IfOk result (λ copy.
-        reference_buf_text copy ≡ canonical_text (key (read_reference text.now))) }
-    ensures key { IfOk result (λ copy. key_of_reference_buf copy ≡ key (read_reference text.now)) }
-{
-    let copy = canonical_text::<C>(alloc, text, slices)?;
-    Ok(ReferenceBuf::from_inner(ReferenceText::new_unchecked(copy)))
-}
-
-// The reference of the canonical text of a text in the rule.
+// The reference of the canonical text of a text in the rule, of which the components are given too.
 fn canonical_of<R: HeldRule, C: CharSet>(
     alloc: Global,
     text: &str,
@@ -112,19 +81,11 @@ fn canonical_of<R: HeldRule, C: CharSet>(
     ensures key { IfOk result (λ copy. key_of_reference_buf copy ≡ key (read_reference text.now)) }
 {
     if is_plain::<C>(text, slices) {
-        copied::<R, C>(alloc, text, slices)
-    } else {
-        written::<R, C>(alloc, text, slices)
+        let copy = String::from_str(alloc, text)?;
+        return Ok(ReferenceBuf::from_inner(ReferenceText::of_slices(copy, slices)));
     }
-}
-
-// Whether a text in the rule is canonical.
-fn is_canonical_in<R: HeldRule, C: CharSet>(text: &str, slices: ReferenceSlices<'_>) -> bool
-    requires in_rule { R.test C.tests text.now ≡ true }
-    requires slices { value_of slices ≡ read_reference text.now }
-    ensures { result ≡ bytes_eq text.now (canonical_text (key (read_reference text.now))) }
-{
-    is_canonical::<C>(text, slices)
+    let copy = canonical_text::<C>(alloc, text, slices)?;
+    Ok(ReferenceBuf::from_inner(ReferenceText::new_unchecked(copy)))
 }
 
 /// Two references are equal exactly if the texts of their canonical references are the same bytes,
