@@ -24,7 +24,7 @@ use Rattle.iref_model.specs.PathKey.{path_key}
 use Rattle.iref_model.proofs.JoinedLemmas.{are_names, climbs, open-names, staying-names}
 use Rattle.iref_model.proofs.NormalPathLemmas.{normal-guarded}
 use Rattle.iref_model.proofs.PathGrammarLemmas.{is_segment-dot_dot}
-use Rattle.iref_model.proofs.SettledLemmas.{lead, normal-is, ends-names}
+use Rattle.iref_model.proofs.SettledLemmas.{leading, normal-is, ends-names}
 use Rattle.iref_canonical.specs.Canonical.{encoded, canonical_name, canonical_relative, canonical_items, canonical_path}
 use Rattle.iref_canonical.proofs.EncodedTextLemmas.{decoded-encoded, encoded-in}
 use Rattle.iref_canonical.proofs.PlainCharacterLemmas.{plain_path}
@@ -113,17 +113,17 @@ canonical_names-in (item ∷ rest) = and_from _ _ (is_segment-canonical_name ite
 
 record IsNormal (absolute : Bool) (list : List Text) : Type 0 where
   ends : ends_in_dots list ≡ false
-  kept : climbs (lead absolute list) ++ staying_names list ≡ list
+  kept : climbs (leading absolute list) ++ staying_names list ≡ list
 
 normal-same : (absolute : Bool) (list : List Text) → IsNormal absolute list → is_one_empty list ≡ false → let p : PathValue = record { absolute = absolute; segments = list } in normal_segments p ≡ list
 normal-same absolute list n some =
-    let kept = climbs (lead absolute list) ++ staying_names list in
+    let kept = climbs (leading absolute list) ++ staying_names list in
     normal-is absolute list ∙ ap without_lone_empty ((λ i. cond (n.ends i) (closed kept) kept) ∙ n.kept) ∙ cond-false (is_one_empty list) [] list some
 
 names_normal : (absolute : Bool) (list : List Text) → are_names list ≡ true → IsNormal absolute list
 names_normal absolute list h = record { ends = ends-names list h; kept = by absolute }
   where
-    by : (absolute : Bool) → climbs (lead absolute list) ++ staying_names list ≡ list
+    by : (absolute : Bool) → climbs (leading absolute list) ++ staying_names list ≡ list
     by true = staying-names list h
     by false = λ i. climbs (open-names list h i) ++ staying-names list h i
 

@@ -29,40 +29,40 @@ greatest_same g h e (f ∷ fronts) = λ i. max (e f i) (greatest_same g h e fron
 pub parents-cons : (s : Text) (f : List Text) → count_parents (s ∷ f) ≡ cond (is_dot_dot s) 1 0 + count_parents f
 parents-cons s f = sum_by-cons (λ x. cond (is_dot_dot x) 1 0) s f
 
--- the count of `..` above k less the count of names above m
-abbrev lead : ℕ → ℕ → List Text → ℕ
-lead k m f = k + count_parents f - (m + count_names f)
+-- how far the count of `..` above k passes the count of names above m
+abbrev surplus : ℕ → ℕ → List Text → ℕ
+surplus k m f = k + count_parents f - (m + count_names f)
 
 abbrev levels : ℕ → ℕ → List Text → Bool
 levels k m f = (k + count_parents f) == (m + count_names f)
 
-lead-cons : (k m : ℕ) (s : Text) (f : List Text) → lead k m (s ∷ f) ≡ lead (k + cond (is_dot_dot s) 1 0) (m + cond (is_name s) 1 0) f
-lead-cons k m s f = grind (arith, common_steps)
+surplus-cons : (k m : ℕ) (s : Text) (f : List Text) → surplus k m (s ∷ f) ≡ surplus (k + cond (is_dot_dot s) 1 0) (m + cond (is_name s) 1 0) f
+surplus-cons k m s f = grind (arith, common_steps)
 
 levels-cons : (k m : ℕ) (s : Text) (f : List Text) → levels k m (s ∷ f) ≡ levels (k + cond (is_dot_dot s) 1 0) (m + cond (is_name s) 1 0) f
 levels-cons k m s f = grind (arith, common_steps)
 
-lead_by_kind : (parent dot : Bool) (k m n : ℕ) → max (k - m) (k + cond parent 1 0 + n - (m + cond (not dot && not parent) 1 0)) ≡ k + counted parent (not dot && not parent) n - m
-lead_by_kind true true k m n = omega arith
-lead_by_kind true false k m n = omega arith
-lead_by_kind false true k m n = omega arith
-lead_by_kind false false k m n = omega arith
+surplus_by_kind : (parent dot : Bool) (k m n : ℕ) → max (k - m) (k + cond parent 1 0 + n - (m + cond (not dot && not parent) 1 0)) ≡ k + counted parent (not dot && not parent) n - m
+surplus_by_kind true true k m n = omega arith
+surplus_by_kind true false k m n = omega arith
+surplus_by_kind false true k m n = omega arith
+surplus_by_kind false false k m n = omega arith
 
-pub greatest_lead : (k m : ℕ) (segments : List Text) → greatest (map (lead k m) (beginnings segments)) ≡ k + open_parents segments - m
-greatest_lead k m [] = omega arith
-greatest_lead k m (s ∷ rest) =
+pub greatest_surplus : (k m : ℕ) (segments : List Text) → greatest (map (surplus k m) (beginnings segments)) ≡ k + open_parents segments - m
+greatest_surplus k m [] = omega arith
+greatest_surplus k m (s ∷ rest) =
     let k' = k + cond (is_dot_dot s) 1 0 in
     let m' = m + cond (is_name s) 1 0 in
-    let here : lead k m [] ≡ k - m = omega arith in
-    let later = over_longer s (lead k m) (lead k' m') (lead-cons k m s) (beginnings rest) ∙ greatest_lead k' m' rest in
-    (λ i. max (here i) (later i)) ∙ lead_by_kind (is_dot_dot s) (is_dot s) k m (open_parents rest)
+    let here : surplus k m [] ≡ k - m = omega arith in
+    let later = over_longer s (surplus k m) (surplus k' m') (surplus-cons k m s) (beginnings rest) ∙ greatest_surplus k' m' rest in
+    (λ i. max (here i) (later i)) ∙ surplus_by_kind (is_dot_dot s) (is_dot s) k m (open_parents rest)
 
 -- the excess is what the count leaves
 pub excess-is : (segments : List Text) → excess segments ≡ open_parents segments
 unfolding excess
 excess-is segments =
-    let same : (f : List Text) → count_parents f - count_names f ≡ lead 0 0 f = λ f. omega arith in
-    let all = greatest_lead 0 0 segments in
+    let same : (f : List Text) → count_parents f - count_names f ≡ surplus 0 0 f = λ f. omega arith in
+    let all = greatest_surplus 0 0 segments in
     greatest_same _ _ same (beginnings segments) ∙ omega (arith, all)
 
 levels_by_kind : (parent dot : Bool) (k m n : ℕ) → k < m → nat_le (m + cond (not dot && not parent) 1 0) (k + cond parent 1 0 + n) ≡ nat_le m (k + counted parent (not dot && not parent) n)

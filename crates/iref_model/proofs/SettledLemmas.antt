@@ -65,40 +65,40 @@ settled-normal : (absolute : Bool) (n : ℕ) (names : List Text) → are_names n
 settled-normal absolute n names h rooted ends = grind (arith, common_steps, normal_from, climbs, ends-settled, kept_at, open-settled, staying-settled)
 
 -- how many `..` the path keeps
-abbrev pub lead : Bool → List Text → ℕ
-lead absolute segments = cond absolute 0 (open_parents segments)
+abbrev pub leading : Bool → List Text → ℕ
+leading absolute segments = cond absolute 0 (open_parents segments)
 
-pub kept-is : (absolute : Bool) (segments : List Text) → let p : PathValue = record { absolute = absolute; segments = segments } in kept_segments p ≡ climbs (lead absolute segments) ++ staying_names segments
+pub kept-is : (absolute : Bool) (segments : List Text) → let p : PathValue = record { absolute = absolute; segments = segments } in kept_segments p ≡ climbs (leading absolute segments) ++ staying_names segments
 kept-is true segments = refl
 kept-is false segments = λ i. climbs (excess-is segments i) ++ staying_names segments
 
-lead_rooted : (absolute : Bool) (segments : List Text) → absolute ≡ true → lead absolute segments ≡ 0
-lead_rooted true segments e = refl
-lead_rooted false segments e = absurd (true≢false (sym e))
+leading_rooted : (absolute : Bool) (segments : List Text) → absolute ≡ true → leading absolute segments ≡ 0
+leading_rooted true segments e = refl
+leading_rooted false segments e = absurd (true≢false (sym e))
 
-settled_kept : (absolute : Bool) (segments : List Text) → ends_in_dots segments ≡ false → IsSettled absolute (climbs (lead absolute segments) ++ staying_names segments)
+settled_kept : (absolute : Bool) (segments : List Text) → ends_in_dots segments ≡ false → IsSettled absolute (climbs (leading absolute segments) ++ staying_names segments)
 settled_kept absolute segments e =
     record {
-      climb = lead absolute segments;
+      climb = leading absolute segments;
       names = staying_names segments;
       are_names = are_names-staying segments;
       divided = refl;
-      rooted = lead_rooted absolute segments;
+      rooted = leading_rooted absolute segments;
       ends = by absolute segments e;
     }
   where
-    by : (absolute : Bool) (segments : List Text) → ends_in_dots segments ≡ false → is_empty (staying_names segments) ≡ true → lead absolute segments ≡ 0
+    by : (absolute : Bool) (segments : List Text) → ends_in_dots segments ≡ false → is_empty (staying_names segments) ≡ true → leading absolute segments ≡ 0
     by true segments e h = refl
     by false [] e h = refl
     by false (s ∷ rest) e h = absurd (true≢false (sym h ∙ last_stays s rest e))
 
-pub settled_before_lone : (absolute : Bool) (segments : List Text) (ends : Bool) → ends_in_dots segments ≡ ends → let list = climbs (lead absolute segments) ++ staying_names segments in IsSettled absolute (cond ends (closed list) list)
+pub settled_before_lone : (absolute : Bool) (segments : List Text) (ends : Bool) → ends_in_dots segments ≡ ends → let list = climbs (leading absolute segments) ++ staying_names segments in IsSettled absolute (cond ends (closed list) list)
 settled_before_lone absolute segments true e = grind (arith, common_steps, are_names-staying)
 settled_before_lone absolute segments false e = settled_kept absolute segments e
 
 abbrev pub before_lone : Bool → List Text → List Text
 before_lone absolute segments =
-    let list = climbs (lead absolute segments) ++ staying_names segments in
+    let list = climbs (leading absolute segments) ++ staying_names segments in
     cond (ends_in_dots segments) (closed list) list
 
 pub normal-is : (absolute : Bool) (segments : List Text) → let p : PathValue = record { absolute = absolute; segments = segments } in normal_segments p ≡ without_lone_empty (before_lone absolute segments)
