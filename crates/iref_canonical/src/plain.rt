@@ -17,14 +17,7 @@ use iref_parse::unescaped::is_unescaped;
 fn is_lower(text: &str) -> bool
     ensures { result ≡ is_lower text.now }
 {
-    let mut rest = text.as_bytes();
-    while let Some((first, behind)) = rest.split_first() {
-        if first.is_ascii_uppercase() {
-            return false;
-        }
-        rest = behind;
-    }
-    true
+    text.bytes().all(|byte| !byte.is_ascii_uppercase())
 }
 
 // Whether the scheme, if there is one, has no upper-case letter. Most schemes are `http` and `https`.
