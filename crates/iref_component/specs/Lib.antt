@@ -46,6 +46,7 @@ pub mod BytePaths
 pub mod Comparisons
 pub mod Components
 pub mod Makers
+pub mod NormalLeft
 pub mod NormalPaths
 pub mod PathEdits
 pub mod Paths

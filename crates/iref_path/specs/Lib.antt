@@ -28,7 +28,6 @@ pub mod Bodies
 pub mod MeasuredPaths
 pub mod Suffixes
 pub mod Stacks
-pub mod Listed
 pub mod Rewriting
 pub mod Written
 pub mod Slashes

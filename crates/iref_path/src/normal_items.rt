@@ -14,7 +14,6 @@ ghost use Rattle.iref_path.specs.NormalItems.{normal_left, open_at_start, open_b
 ghost use Rattle.iref_path.specs.Ways.{last_ones};
 ghost use Rattle.iref_model.specs.NormalList as list;
 
-pub mod listed;
 pub mod stack;
 
 use crate::segments::{first_segment, last_segment, split_root};
