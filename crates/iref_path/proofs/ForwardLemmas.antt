@@ -243,3 +243,5 @@ module _ (old mid : Text) (floor : ℕ) (list : List Text) (root : mid ≡ old +
       let front : take floor between ≡ mid = ap (take floor) seen ∙ grind (arith, take_at) in
       let back : drop floor between ≡ forward [] list = ap (drop floor) seen ∙ grind (arith, drop_at) in
       f ∙ (λ i. front i ++ forward (back i) more) ∙ ap (λ t. t ++ forward (forward [] list) more) root ∙ append_assoc old (slash ∷ []) (forward (forward [] list) more)
+
+pub ruleset cut_off = (append-nil, drop_all, take_all)

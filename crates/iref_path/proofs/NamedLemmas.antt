@@ -24,7 +24,7 @@ use Rattle.iref_path.specs.Named.{named}
 use Rattle.iref_path.specs.Pieces.{ShareFront}
 use Rattle.iref_path.proofs.DotlessLemmas.{dotless_name}
 use Rattle.iref_path.proofs.FrontOrderLemmas.{same_order}
-use Rattle.iref_path.proofs.OrderLemmas.{decoded}
+use Rattle.iref_path.proofs.OrderLemmas.{decoded, flags_decide, lists_decide}
 
 -- ---- the list
 
@@ -182,3 +182,9 @@ order_behind p q left right below rest flags e f shared h k =
     ∙ normal_segments-behind p.absolute shared.front (pieces_at slash rest) (some_pieces rest) k in
     sym (behind_front front names others (named_some _ (some_pieces below)) (named_some _ (some_pieces rest)))
     ∙ sym (λ i. slice_cmp text_order (decoded (one i)) (decoded (two i)))
+
+pub ruleset without_parents = (dotless_named, dotless_parents, paired-parents)
+
+pub ruleset whole_lists = (order_behind, flags_decide, lists_decide)
+
+pub ruleset dot_slash = (length-dot_slash, named-dot_slash)

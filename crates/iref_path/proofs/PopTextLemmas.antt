@@ -21,6 +21,7 @@ use Rattle.iref_model.proofs.PieceLemmas.{some_piece}
 use Rattle.iref_path.specs.Pieces.{pieces_if_some}
 use Rattle.iref_path.specs.StepTexts.{closed_by}
 use Rattle.iref_path.proofs.StepTextLemmas.{IsCut, cut_at_slash, join-snoc, root_text}
+use Rattle.iref_path.proofs.StepValueLemmas.{steps_as}
 
 abbrev path_with : Bool → List Text → PathValue
 path_with absolute segments = record { absolute = absolute; segments = segments }
@@ -136,3 +137,5 @@ module _ (context : PathContext) (s : Text) (p : PathValue) where
   pub pushed_name : is_dot s ≡ false → is_dot_dot s ≡ false → pushed context s p ≡ lazy_pushed context s p
   unfolding pushed
   pushed_name h k = grind arith
+
+pub ruleset follows = (followed_parent, followed_name, steps_as)

@@ -18,3 +18,5 @@ to_end text old h = grind (arith, nothing_behind)
 -- all of the bytes
 pub written_whole : (text old rest : Text) {new : Text} {end start len : ℕ} → end ≡ length text → length old ≡ end → length new ≡ len → WritesBefore end text old new start → take len (new ++ rest) ≡ text
 written_whole text old rest all size k h = grind (arith, append-nil, drop_all, take_at)
+
+pub ruleset both = (both_written)

@@ -40,7 +40,7 @@ impl<'a> CountedPath<'a> {
     }
 
     /// The last segment that is left.
-    #[tactic(auto, unfolding(crate::specs::CountedPath::unread_in))]
+    #[tactic(auto, using(std::proofs::lemmas::Grind::common_steps), unfolding(crate::specs::CountedPath::unread_in))]
     fn read(&mut self, steps: &mut u128) -> Option<&'a str>
         requires { HasRoom steps.old self.old }
         ensures segment { GivesSegment self.old result self.new }
@@ -73,6 +73,7 @@ impl<'a> CountedPath<'a> {
     }
 
     /// The last item that is left.
+    #[tactic(auto, unfolding(crate::specs::CountedPath::items_unread))]
     fn next_back(&mut self, steps: &mut u128) -> Option<&'a str>
         requires countable { IsCountable self.old }
         requires room { HasRoom steps.old self.old }
@@ -116,7 +117,7 @@ fn items_eq(left: &mut CountedPath<'_>, right: &mut CountedPath<'_>, steps: &mut
 
 /// Whether the texts of two paths are those of equal paths. The count grows by the segments that
 /// are read.
-#[tactic(auto, using(crate::proofs::CountedPathLemmas::sizes), unfolding(crate::specs::CountedPath::unread_in))]
+#[tactic(auto, using(crate::proofs::CountedPathLemmas::decided), unfolding(crate::specs::CountedPath::unread_in))]
 pub fn path_texts_eq_counted(a: &str, b: &str, steps: &mut u128) -> bool
     requires { steps.old + segment_count (read_path a.now) + segment_count (read_path b.now)
         < 2 ^ 128 }

@@ -23,6 +23,7 @@ use std::mem;
 use std::ops::Range;
 
 // Where the segment begins that ends, with the `/` after it, at `end`.
+#[tactic(auto, using(crate::proofs::RewritingLemmas::found_before))]
 fn segment_before(bytes: &[u8], end: usize) -> usize
     requires some { 0 < end }
     requires within { end ≤ length bytes.now + 1 }
@@ -38,6 +39,7 @@ fn segment_before(bytes: &[u8], end: usize) -> usize
 
 // Moves a segment, if it is a name that stays, so that it ends, with a `/` after it, at `end`, and
 // returns where that begins.
+#[tactic(auto, using(std::proofs::lemmas::Grind::common_steps, crate::proofs::RewritingLemmas::moved))]
 fn move_segment(
     bytes: &mut [u8],
     segment: usize,
@@ -187,6 +189,7 @@ pub fn rewrite_text(text: &mut String, at: Span, guard: &str) -> usize
 }
 
 /// What stands first in the normal form of a path in its context, and how many bytes this has.
+#[tactic(auto, using(crate::proofs::SpellLemmas::guarded_sizes))]
 pub fn normal_guard(context: PathContext, path: &str) -> (&'static str, usize)
     ensures text { rewritten result.0.now path.now
         ≡ spell_path (normalized context (read_path path.now)) }

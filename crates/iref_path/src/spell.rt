@@ -54,6 +54,7 @@ pub fn write_before(buffer: &mut [u8], end: usize, text: &str) -> usize
 
 /// Writes `..` this many times, with a `/` after each, so that they end at a position, and returns
 /// where they begin.
+#[tactic(auto, using(crate::proofs::SpellLemmas::parent_sizes))]
 pub(crate) fn write_parents(buffer: &mut [u8], count: usize, end: usize) -> usize
     requires room { length (each_closed (replicate count (codes ".."))) ≤ end }
     requires within { end ≤ length buffer.old }

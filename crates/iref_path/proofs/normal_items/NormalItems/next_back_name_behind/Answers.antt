@@ -4,12 +4,6 @@ use Rattle.std.proofs.lemmas.List.{append-nil}
 use Rattle.std.proofs.lemmas.List.Folds.{list_all-append}
 use Rattle.iref_path.proofs.normal_items.NormalItems.next_back_name_behind.Goals as goal
 
-pub returns-then-name_stays-clause-name : goal.returns-then-name_stays-clause-name
-returns-then-name_stays-clause-name c = grind (arith, staying_before-append)
-
-pub returns-then-name_stays-clause-start : goal.returns-then-name_stays-clause-start
-returns-then-name_stays-clause-start c = grind (arith, open_before-append)
-
 pub loop-self-preserved : goal.loop-self-preserved
 loop-self-preserved c = record {
   same = grind (arith, append-nil, staying_before-append);
