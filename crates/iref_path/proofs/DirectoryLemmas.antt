@@ -24,7 +24,7 @@ same_front (x ∷ a) (y ∷ b) (suc n) h = grind (arith, nat_tests, same_front a
 around : (text : Text) (at : ℕ) → at < length text → get_or text at 0 ≡ slash → text ≡ take at text ++ slash ∷ drop (at + 1) text
 around text at h e = grind (arith, take-append-drop, drop-cons text at 0, add-one)
 
-around_pieces : (text : Text) (at : ℕ) → at < length text → get_or text at 0 ≡ slash → pieces_at slash text ≡ pieces_at slash (take at text) ++ pieces_at slash (drop (at + 1) text)
+pub around_pieces : (text : Text) (at : ℕ) → at < length text → get_or text at 0 ≡ slash → pieces_at slash text ≡ pieces_at slash (take at text) ++ pieces_at slash (drop (at + 1) text)
 around_pieces text at h e = ap (pieces_at slash) (around text at h e) ∙ pieces-append slash (take at text) (drop (at + 1) text)
 
 pub no_front : (xs ys : List Text) → ShareFront xs ys xs ys

@@ -11,12 +11,13 @@ use Rattle.std.proofs.lemmas.Grind.{common_steps}
 use Rattle.iref_model.specs.NormalReading.{open_before, staying_before, closing}
 use Rattle.std.proofs.Math.Seq.{drop-append-add, drop-length}
 use Rattle.std.proofs.lemmas.Bool.{cases_lt}
-use Rattle.std.proofs.lemmas.List.{drop-append-le, drop-drop, drop-replicate, length-drop, length-replicate, replicate-append-replicate}
+use Rattle.std.proofs.lemmas.List.{drop-append-le, drop-drop, drop-replicate, length-drop, length-replicate, replicate-append-replicate, append-nil}
 use Rattle.std.specs.Borrow.{Bor}
 use Rattle.iref_path.specs.Merged.{both_names, merged_list}
 use Rattle.iref_path.specs.NormalItems.{are_no_parents, first_or, IsSound, unread_items}
 use Rattle.iref_path.specs.Ways.{last_ones}
 use Rattle.iref_model.proofs.StayingLemmas.{open_before-append, staying_before-append}
+use Rattle.std.proofs.lemmas.List.Folds.{list_all-append}
 
 -- ---- the three parts
 
@@ -102,6 +103,6 @@ pub unread-sound : (parents names : ℕ) (front back : Option (Bor Text)) (close
     → parents + names + cond closes 1 0 < 2 ^ 64 → IsSound (unread_items parents names front back closes)
 unread-sound parents names front back closes h most items = record { readable = record { countable = omega (arith, h); settled = refl }; names = most; items = items }
 
-pub ruleset staying = (open_before-append, staying_before-append)
+pub ruleset staying = (open_before-append, staying_before-append, append-nil, list_all-append)
 
 pub ruleset closed_at_end = (ends-last)

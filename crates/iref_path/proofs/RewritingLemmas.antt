@@ -22,6 +22,7 @@ use Rattle.iref_path.specs.Slashes.{IsLastSlash}
 use Rattle.iref_path.specs.Spelling.{each_closed}
 use Rattle.iref_path.proofs.SlashLemmas.{pieces-cut_last, read-absolute, read-relative, lacks_by_index, pieces-whole}
 use Rattle.iref_path.proofs.SpellLemmas.{each_closed-append, joined_before}
+use Rattle.iref_path.proofs.WrittenLemmas.{to_end}
 
 -- the segments before an index depend on the text before it alone
 pub pieces_before-same : (new old : Text) (index : ℕ) → take index new ≡ take index old → pieces_before new index ≡ pieces_before old index
@@ -105,3 +106,7 @@ unused_cut bytes new text start end unused h k e l w = rw (sym w) (same_lists _ 
 pub ruleset moved = (drop-set, length-set, copied, before_set)
 
 pub ruleset found_before = (segment_found, lacks_by_index, pieces-whole)
+
+pub ruleset names_moved = (one_size, pieces_before-same, open_before-append, staying_before-append, each_closed-append)
+
+pub ruleset cut_to_text = (unused_cut, to_end)

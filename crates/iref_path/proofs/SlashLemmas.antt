@@ -174,6 +174,6 @@ last_item (t ∷ front) s o = last_item front s (Some t)
 pub last_given : {A : Type 0} (view : A → Text) (list left : List Text) (given : Option A) → MatchOption given ((list ≡ []) × (left ≡ [])) (λ x. list ≡ left ++ view x ∷ []) → option_map view given ≡ last_or None list
 last_given view list left given h = grind (arith, last_item)
 
-pub ruleset last_cut = (IsCharBoundary-after_ascii, pieces-uncut)
+pub ruleset last_cut = (IsCharBoundary-after_ascii, pieces-uncut, pieces-cut_last)
 
 pub ruleset counted = (nil_from_length, counted_more, counted_within)

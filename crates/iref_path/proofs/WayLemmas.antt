@@ -1,6 +1,6 @@
 -- The way from the directory of one path to another, up to their common beginning and down.
 use Rattle.std.proofs.Common.{◌≡◌, ◌+◌, ◌-◌, ◌*◌, ◌<◌, ◌≤◌, List, [], ◌∷◌, length, sym, take, arith, length-append}
-use Rattle.std.proofs.lemmas.List.{take_at}
+use Rattle.std.proofs.lemmas.List.{take_at, drop-append-le}
 use Rattle.std.specs.List.{common_prefix_len}
 use Rattle.iref_grammar.specs.Rules.{Text}
 use Rattle.iref_grammar.specs.Texts.{all_but_last}
@@ -9,7 +9,7 @@ use Rattle.iref_model.specs.Relative.{last_or_empty, steps_between}
 use Rattle.iref_model.proofs.LeadingLemmas.{divided_last}
 use Rattle.iref_path.specs.Spelling.{each_closed}
 use Rattle.iref_path.specs.Ways.{with_last}
-use Rattle.iref_path.proofs.SpellLemmas.{size-append, size-parents, relative-spelled}
+use Rattle.iref_path.proofs.SpellLemmas.{size-append, size-parents, relative-spelled, list_size, normal_size-text}
 use Rattle.iref_path.proofs.SuffixLemmas.{size-drop}
 use Rattle.iref_path.proofs.RelativeStepLemmas.{up-joined, up-size}
 use Rattle.std.proofs.lemmas.List.Sums.{common_prefix_len-le}
@@ -43,4 +43,4 @@ size-steps directory list =
 
 pub ruleset steps_up = (up-joined, up-size, relative-spelled)
 
-pub ruleset between = (common_prefix_len-le, all_but_last-take, length-with_last)
+pub ruleset between = (common_prefix_len-le, all_but_last-take, length-with_last, drop-append-le, list_size, normal_size-text, fewer_without_last)

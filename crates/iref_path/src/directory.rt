@@ -21,7 +21,7 @@ pub fn directory_text<C: CharSet>(path: &str) -> &str
 }
 
 /// The text of the path without its last segment, if that is a parent.
-#[tactic(auto, using(crate::proofs::PathTextLemmas::parents))]
+#[tactic(auto, using(std::proofs::lemmas::Grind::common_steps, crate::proofs::PathTextLemmas::parents))]
 pub fn parent_text<C: CharSet>(path: &str) -> Option<&str>
     requires { is_path C.tests path.now ≡ true }
     ensures parent { option_map value_at result ≡ function.parent (read_path path.now) }

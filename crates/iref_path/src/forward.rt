@@ -122,6 +122,7 @@ fn put_all(out: &mut Vec<u8>, floor: usize, text: &[u8]) -> Result<(), Memory>
 /// Appends the normalized path of a reference to the text that stands before the path of its base,
 /// after an authority (RFC 3986 sections 5.2.3 and 5.2.4): for `/b/c` and `../g` this is `/g`. It
 /// takes no more room on the way than for both paths and a `/`.
+#[tactic(auto, using(std::proofs::lemmas::Grind::common_steps, crate::proofs::ForwardLemmas::appended))]
 pub fn append_normal_after(out: &mut Vec<u8>, base: &str, path: &str) -> Result<(), Memory>
     requires base { (read_path base.now).absolute || is_empty (read_path base.now).segments ≡ true }
     requires path { path.now ≢ [] }

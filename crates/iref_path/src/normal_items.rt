@@ -371,7 +371,7 @@ impl<'a> NormalItems<'a> {
     }
 
     // The last name that stays of the segments behind.
-    #[tactic(auto, using(crate::proofs::NormalItemsLemmas::staying))]
+    #[tactic(auto, using(std::proofs::lemmas::Grind::common_steps, crate::proofs::NormalItemsLemmas::staying))]
     #[inline(always)]
     fn next_back_name_behind(&mut self) -> Option<&'a str>
         requires { IsReadable self.old }

@@ -109,7 +109,7 @@ fn some_items(path: &str) -> NormalItems<'_>
 }
 
 /// The steps from the directory of a base to a path: up to their common beginning, and down.
-#[tactic(auto, using(crate::proofs::WayLemmas::between))]
+#[tactic(auto, using(std::proofs::lemmas::Grind::common_steps, crate::proofs::WayLemmas::between))]
 pub(crate) fn items_between<'a>(base: &str, path: &'a str) -> NormalItems<'a>
     requires { 3 * length base.now + length path.now + 16 < 2 ^ 64 }
     ensures items { normal_left result ≡ steps_between

@@ -69,6 +69,7 @@ fn move_segment(
 
 // Moves the names that stay before `unread`, with a `/` after each, so that they end at `end`, and
 // returns where they begin then, and how many `..` are open before them.
+#[tactic(auto, using(std::proofs::lemmas::Grind::common_steps, crate::proofs::RewritingLemmas::names_moved))]
 fn move_names(
     bytes: &mut [u8],
     mut unread: usize,
@@ -125,6 +126,7 @@ fn write_over(path: &mut [u8], guard: &str) -> usize
 
 // Writes it over the path that is at `at`, and returns how many bytes of the path stand before it.
 // Inlined beside what cuts, its loops would take an instruction more a segment.
+#[tactic(auto, using(std::proofs::lemmas::Grind::common_steps, crate::proofs::RewritingLemmas::cut_to_text))]
 #[inline(never)]
 fn write_at(bytes: &mut [u8], at: Span, guard: &str) -> usize
     requires start_le_end { at.start ≤ at.end }

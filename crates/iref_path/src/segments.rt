@@ -53,7 +53,7 @@ pub(crate) fn last_slash(bytes: &[u8]) -> Option<usize>
 }
 
 /// The text of the segments before the last one, and the last one.
-#[tactic(auto, using(crate::proofs::SlashLemmas::last_cut))]
+#[tactic(auto, using(std::proofs::lemmas::Grind::common_steps, crate::proofs::SlashLemmas::last_cut))]
 #[inline(always)]
 pub fn last_segment(text: &str) -> (Option<&str>, &str)
     ensures { pieces_at slash text.now ≡ pieces_if_some result.0 ++ result.1.now ∷ [] }

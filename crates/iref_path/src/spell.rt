@@ -174,6 +174,7 @@ fn write_stacked(items: &[&str], buffer: &mut [u8], end: usize) -> usize
 
 // The guard, and the items with `/` between. The items are given the last first. `size` is their
 // length with a `/` after each.
+#[tactic(auto, using(crate::proofs::WrittenLemmas::stacked), unfolding(crate::specs::Stacks::stacked_text))]
 fn stacked_bytes(alloc: Global, guard: &str, items: &[&str], size: usize) -> Result<Vec<u8>, Memory>
     requires size { size ≡ length (each_closed (in_order items.now)) }
     requires countable { length guard.now + size < 2 ^ 64 }

@@ -2,14 +2,9 @@ use Rattle.std.proofs.Common.{sym, ap, ◌∙◌}
 use Rattle.std.specs.Cmp.Lexicographic.{same_text, other_text}
 use Rattle.iref_grammar.specs.Tests.{is_path}
 use Rattle.iref_path.proofs.SlashLemmas.{cut_last}
-use Rattle.iref_model.proofs.PathGrammarLemmas.{path_parts, is_path-guard}
-use Rattle.iref_path.proofs.PathTextLemmas.{parent-slice, parent-guarded, parent-root, parent-none, nothing, something}
+use Rattle.iref_model.proofs.PathGrammarLemmas.{path_parts}
+use Rattle.iref_path.proofs.PathTextLemmas.{parent-slice, parent-guarded, parent-root, nothing, something}
 use Rattle.iref_path.proofs.directory.parent_text.Goals as goal
-
-pub returns-then-is_empty-2-clause-parent : goal.returns-then-is_empty-2-clause-parent
-returns-then-is_empty-2-clause-parent g c =
-    sym (parent-none c.args.path.now c.in_ok-front.front.now c.in_ok-front.last.now (cut_last _ _ _ c.in_ok-front.ensures.cases)
-    (nothing _ c.if-is_empty.ensures) (nothing _ c.if-is_empty-2.ensures))
 
 pub returns-else-is_empty-2-clause-parent : goal.returns-else-is_empty-2-clause-parent
 returns-else-is_empty-2-clause-parent g c =
@@ -19,9 +14,6 @@ returns-else-is_empty-2-clause-parent g c =
 pub returns-then-eq-clause-parent : goal.returns-then-eq-clause-parent
 returns-then-eq-clause-parent g c =
     sym (parent-guarded c.args.path.now c.in_ok-front.front.now c.in_ok-front.last.now (cut_last _ _ _ c.in_ok-front.ensures.cases) (same_text _ _ c.if-eq.ensures))
-
-pub returns-then-eq-clause-path : goal.returns-then-eq-clause-path
-returns-then-eq-clause-path g c = is_path-guard g.C.CharSet.tests g.met.C.CharSet.above_ascii
 
 pub returns-else-eq-clause-parent : goal.returns-else-eq-clause-parent
 returns-else-eq-clause-parent g c =
