@@ -47,10 +47,10 @@ pub use Rattle.iref_mapping.specs.Mapping
 pub use Rattle.iref_mapping.specs.PrefixTable
 pub use Rattle.iref_parse.specs.AuthoritySlices
 pub use Rattle.iref_parse.specs.ReferenceSlices
-pub use Rattle.iref_path.specs.CountedPath
 pub use Rattle.iref_component.specs.Makers
 pub use Rattle.iref_component.specs.Ports
 pub use Rattle.iref_component.specs.Components
+pub use Rattle.iref_component.specs.CountedPath
 pub use Rattle.iref_component.specs.Tries
 pub use Rattle.iref_component.specs.Authorities
 pub use Rattle.iref_component.specs.AuthorityParts

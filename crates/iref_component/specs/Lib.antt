@@ -27,10 +27,10 @@ pub use Rattle.iref_model.specs.ReferenceParts.{base_of, host_of, port_of, user_
 pub use Rattle.iref_model.specs.PathSuffix.{path_suffix}
 pub use Rattle.iref_path.specs.Pieces.{pieces_if_some}
 pub use Rattle.iref_path.specs.NormalItems.{IsSound, normal_left}
-pub use Rattle.iref_path.specs.CountedPath.{HasRoomFor, steps_count, steps_taken}
 pub use Rattle.iref_component.specs.AuthorityParts.{parts_key, parts_value}
 pub use Rattle.iref_component.specs.Comparisons.{by_parts, by_segments, by_text, ComparesBy, Comparison}
 pub use Rattle.iref_component.specs.Components.{text_of}
+pub use Rattle.iref_component.specs.CountedPath.{HasRoomFor, steps_count, steps_taken}
 pub use Rattle.iref_component.specs.Makers.{Parses, ParsesUtf8}
 pub use Rattle.iref_component.specs.NormalPaths.{normal_segments_left}
 pub use Rattle.iref_component.specs.Paths.{path_value, segments_left}
@@ -45,7 +45,9 @@ pub mod AuthorityTexts
 pub mod BytePaths
 pub mod Comparisons
 pub mod Components
+pub mod CountedPath
 pub mod Makers
+pub mod NormalLeft
 pub mod NormalPaths
 pub mod PathEdits
 pub mod Paths

@@ -2,12 +2,33 @@
 ghost use Rattle.std.specs.Prelude.{◌≡◌, ◌≢◌, ◌↔◌, ◌+◌, ◌<◌, ◌≤◌, ◌^◌, true};
 ghost use Rattle.iref_component.specs.Paths.{path_value};
 ghost use Rattle.iref_model.specs.{IsCountedAnswer, path_key, segment_count};
-ghost use Rattle.iref_path.specs.{HasRoomFor, steps_count, steps_taken};
+ghost use Rattle.iref_component.specs.CountedPath.{HasRoomFor, steps_count, steps_taken};
 
 use crate::path::Path;
 use iref_grammar::chars::CharSet;
-pub use iref_path::counted::Steps;
 use iref_path::counted::path_texts_eq_counted;
+
+/// How many segments comparisons have read.
+#[derive(Clone, Copy, Debug)]
+pub struct Steps {
+    count: u128,
+}
+
+impl Steps {
+    /// No segment has been read.
+    pub fn new() -> Self
+        ensures { steps_count result ≡ 0 }
+    {
+        Steps { count: 0 }
+    }
+
+    /// How many segments have been read.
+    pub fn count(&self) -> u128
+        ensures { result ≡ steps_count self.now }
+    {
+        self.count
+    }
+}
 
 /// A new count has room for the segments of any two paths.
 #[tactic(auto, using(iref_path::proofs::SlashLemmas::segment_counts))]
@@ -33,5 +54,5 @@ pub fn path_eq_counted<C: CharSet>(a: Path<'_, C>, b: Path<'_, C>, steps: &mut S
         → steps_count steps.new ≡ steps_count steps.old }
     ensures grown { steps_count steps.old ≤ steps_count steps.new }
 {
-    path_texts_eq_counted(a.as_str(), b.as_str(), steps)
+    path_texts_eq_counted(a.as_str(), b.as_str(), &mut steps.count)
 }

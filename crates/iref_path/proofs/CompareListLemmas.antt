@@ -55,3 +55,7 @@ module _ (xs ys ss ts us vs : List Text) (s t : Text) (common n : ℕ) (order he
   pub one_more : (length us + 1 ≡ n) × (length vs + 1 ≡ n) × IsCompared xs ys us vs (cond (is_eq here) common (length us)) (ordering_then here order)
   one_more =
       grind (arith, nat_tests, length-append, common-last same_decoded us vs s t, order-before ss ts us vs s t order, is_eq-slice_cmp (percent_decode s) (percent_decode t))
+
+pub ruleset compared = (nothing_compared, all_compared)
+
+pub ruleset same_texts = (same_text-order)

@@ -11,6 +11,8 @@ use Rattle.iref_grammar.specs.Texts.{pieces_at}
 use Rattle.iref_model.proofs.PieceLemmas.{pieces-append}
 use Rattle.iref_path.specs.Pieces.{ShareFront}
 use Rattle.iref_path.specs.Slashes.{IsLastSlash}
+use Rattle.std.proofs.lemmas.Str.{IsCharBoundary-after_ascii}
+use Rattle.iref_model.proofs.DirectoryLemmas.{all_but_last-snoc}
 
 same_front : (a b : Text) (n : ℕ) → n ≤ common_prefix_len nat_eq a b → take n a ≡ take n b
 same_front a b zero h = refl
@@ -22,7 +24,7 @@ same_front (x ∷ a) (y ∷ b) (suc n) h = grind (arith, nat_tests, same_front a
 around : (text : Text) (at : ℕ) → at < length text → get_or text at 0 ≡ slash → text ≡ take at text ++ slash ∷ drop (at + 1) text
 around text at h e = grind (arith, take-append-drop, drop-cons text at 0, add-one)
 
-around_pieces : (text : Text) (at : ℕ) → at < length text → get_or text at 0 ≡ slash → pieces_at slash text ≡ pieces_at slash (take at text) ++ pieces_at slash (drop (at + 1) text)
+pub around_pieces : (text : Text) (at : ℕ) → at < length text → get_or text at 0 ≡ slash → pieces_at slash text ≡ pieces_at slash (take at text) ++ pieces_at slash (drop (at + 1) text)
 around_pieces text at h e = ap (pieces_at slash) (around text at h e) ∙ pieces-append slash (take at text) (drop (at + 1) text)
 
 pub no_front : (xs ys : List Text) → ShareFront xs ys xs ys
@@ -64,3 +66,7 @@ module _ (left right : Text) (at : ℕ) (last : IsLastSlash (take (common_prefix
     first = around_pieces left at at_left.0 at_left.1;
     second = around_pieces right at at_right.0 at_right.1 ∙ ap (λ t. pieces_at slash t ++ pieces_at slash (drop (at + 1) right)) (sym same_directory);
   }
+
+pub ruleset directory_of_texts = (IsCharBoundary-after_ascii, at_left, at_right, no_front, of_texts, same_directory-shared)
+
+pub ruleset one_less = (all_but_last-snoc)

@@ -28,7 +28,8 @@ use Rattle.iref_path.specs.NormalItems.{first_or}
 use Rattle.iref_path.specs.Ways.{text_steps}
 use Rattle.iref_path.specs.Spelling.{each_closed, guard_in}
 use Rattle.iref_path.proofs.SlashLemmas.{read-absolute}
-use Rattle.iref_path.proofs.SpellLemmas.{length-joined, normalized-spelled}
+use Rattle.iref_path.proofs.SpellLemmas.{length-joined, normalized-spelled, length-join, normal_size}
+use Rattle.std.proofs.lemmas.Str.Pattern.{strip_prefix_char}
 
 -- a segment that begins with no dot is a name
 pub dotless_name : (s : Text) → begins_with_dot s ≡ false → is_name s ≡ true
@@ -113,3 +114,7 @@ pub dotless-steps : (base path below rest : Text) → base ≡ slash ∷ below �
     → text_steps below rest ≡ steps_between (directory_names (read_path base)) (normal_segments (read_path path))
 dotless-steps base path below rest e f h k =
     cc (dotless_target (all_but_last (pieces_at slash below)) rest k, dotless_names below h, read-absolute base below _ e refl, read-absolute path rest _ f refl)
+
+pub ruleset sizes = (both_size, length-join, normal_size)
+
+pub ruleset behind_roots = (strip_prefix_char, dotless-steps)

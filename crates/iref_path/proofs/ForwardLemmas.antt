@@ -1,8 +1,8 @@
 -- The normal list of segments, written forward.
-use Rattle.std.proofs.Common.{add-one, ◌||◌, length-take, drop-cons, eqb, get_or, get_or-take, ◌<◌, ⊎_elim, ◌≡◌, ℕ, ◌+◌, ◌-◌, Bool, true, false, cond, List, [], ◌∷◌, ◌++◌, length, take, drop, refl, sym, ◌∙◌, ap, append_assoc, length-append, arith}
+use Rattle.std.proofs.Common.{add-one, ◌||◌, length-take, eqb, get_or, get_or-take, ◌<◌, ⊎_elim, ◌≡◌, ℕ, ◌+◌, ◌-◌, Bool, true, false, cond, List, [], ◌∷◌, ◌++◌, length, take, drop, refl, sym, ◌∙◌, ap, append_assoc, length-append, arith}
 use Rattle.std.proofs.lemmas.Bool.Decides.{nat_tests}
 use Rattle.std.proofs.lemmas.Grind.{common_steps}
-use Rattle.std.proofs.lemmas.List.{append-nil, drop_all, get_or_past, take_all, take_at, drop_at, take-append-drop}
+use Rattle.std.proofs.lemmas.List.{append-nil, drop_all, get_or_past, take_all, take_at, drop_at}
 use Rattle.std.proofs.lemmas.Bool.{and_parts, cases_lt, eqb-true}
 use Rattle.std.proofs.Math.Seq.{take-suc}
 use Rattle.std.specs.Prelude.{◌≢◌}
@@ -16,11 +16,14 @@ use Rattle.iref_grammar.specs.Texts.{all_but_last, is_empty, lacks, pieces_at}
 use Rattle.iref_model.specs.NormalList.{is_name, normal_segments}
 use Rattle.iref_model.specs.NormalReading.{items, open_before, staying_before}
 use Rattle.iref_model.specs.PathSteps.{normalized}
+use Rattle.iref_model.proofs.DirectoryLemmas.{all_but_last-snoc}
 use Rattle.iref_model.proofs.ItemLemmas.{name_no_parent, normal_segments-is}
-use Rattle.iref_model.proofs.PieceLemmas.{pieces-append, some_piece}
+use Rattle.iref_model.proofs.PieceLemmas.{some_piece}
 use Rattle.iref_model.proofs.StayingLemmas.{TakesLast, staying_before-append, takes_last}
+use Rattle.iref_model.proofs.StepSegmentLemmas.{in-shortened}
 use Rattle.iref_parse.specs.Dots.{is_slash_dot, is_some_dotted}
 use Rattle.iref_parse.proofs.DotSegmentLemmas.{later_dotless}
+use Rattle.iref_path.proofs.DirectoryLemmas.{around_pieces}
 use Rattle.iref_path.proofs.DotlessLemmas.{dotless_name}
 use Rattle.iref_path.specs.Forward.{forward, last_put, popped_text, segment_put}
 use Rattle.iref_path.specs.Merged.{path_after}
@@ -30,6 +33,7 @@ use Rattle.iref_path.specs.Spelling.{each_closed}
 use Rattle.iref_path.proofs.SlashLemmas.{pieces-cut_last, pieces-uncut, read-absolute, read-relative}
 use Rattle.iref_path.proofs.RewritingLemmas.{join-lone, join-segments, one_last}
 use Rattle.iref_path.proofs.SpellLemmas.{each_closed-append, joined_before, normalized-spelled}
+use Rattle.std.proofs.lemmas.Result.{on_ok_weaker}
 
 abbrev absolute_list : List Text → PathValue
 absolute_list segments = record { absolute = true; segments = segments }
@@ -51,23 +55,15 @@ closed-joined s (t ∷ rest) = grind (arith, append_assoc, closed-joined t rest)
 closed-pieces : (text : Text) → each_closed (pieces_at slash text) ≡ text ++ slash ∷ []
 closed-pieces text = let some = some_piece slash text in grind (arith, closed-joined, join-pieces_at slash text)
 
-all_but_last-append : (front : List Text) (s : Text) → all_but_last (front ++ s ∷ []) ≡ front
-all_but_last-append [] s = refl
-all_but_last-append (t ∷ []) s = refl
-all_but_last-append (t ∷ u ∷ front) s = ap (λ xs. t ∷ xs) (all_but_last-append (u ∷ front) s)
-
 -- a text up to a slash, and with it
 through_slash : (text : Text) (at : ℕ) → at < length text → get_or text at 0 ≡ slash → take at text ++ slash ∷ [] ≡ take (at + 1) text
 through_slash text at h e = grind (arith, add-one, take-suc)
-
-cut_at_slash : (text : Text) (at : ℕ) → at < length text → get_or text at 0 ≡ slash → text ≡ take at text ++ slash ∷ drop (at + 1) text
-cut_at_slash text at h e = grind (arith, take-append-drop, drop-cons text at 0, add-one)
 
 -- all before the last segment
 pub closed_to_last : (text : Text) (at : ℕ) → IsLastSlash text at → take (at + 1) text ≡ each_closed (all_but_last (pieces_at slash text))
 closed_to_last text at h =
     let cut = pieces-cut_last text at h in
-    grind (arith, all_but_last-append, closed-pieces (take at text), through_slash text at h.within h.slash_there)
+    grind (arith, all_but_last-snoc, closed-pieces (take at text), through_slash text at h.within h.slash_there)
 
 pub closed_if_one : (text : Text) → LacksSlashFrom text 0 → [] ≡ each_closed (all_but_last (pieces_at slash text))
 closed_if_one text h = grind (arith, pieces-uncut text (λ i within. h i (omega arith) within))
@@ -162,8 +158,7 @@ module _ (text : Text) (at : ℕ) (none : (k : ℕ) → k < at → is_slash_dot 
     names_to_dot within found before =
         let here : get_or text at 0 ≡ slash = eqb-true _ slash (and_parts (eqb (get_or text at 0) 0x2F) (eqb (get_or text (at + 1) 0) 0x2E) found).0 in
         let rest = drop (at + 1) text in
-        let pieces : pieces_at slash text ≡ pieces_at slash (take at text) ++ pieces_at slash rest =
-        ap (pieces_at slash) (cut_at_slash text at within here) ∙ pieces-append slash (take at text) rest in
+        let pieces : pieces_at slash text ≡ pieces_at slash (take at text) ++ pieces_at slash rest = around_pieces text at within here in
         let some = some_piece slash rest in
         let moved = forward-names before (pieces_at slash (take at text)) some.0 some.1 (names_before (pieces_at slash rest) pieces) in
         let put : each_closed (pieces_at slash (take at text)) ≡ take (at + 1) text = closed-pieces (take at text) ∙ through_slash text at within here in
@@ -179,10 +174,6 @@ module _ (text : Text) (at : ℕ) (none : (k : ℕ) → k < at → is_slash_dot 
         grind (arith, append-nil, some.2, join-pieces_at slash text)
 
 -- ---- the path of a reference
-
-all_but_last-all : (test : Text → Bool) (list : List Text) → list_all test list ≡ true → list_all test (all_but_last list) ≡ true
-all_but_last-all test [] h = refl
-all_but_last-all test (s ∷ rest) h = grind (arith, common_steps, all_but_last-all test rest)
 
 pieces-closed : (list : List Text) → list_all (lacks slash) list ≡ true → pieces_at slash (each_closed list) ≡ list ++ [] ∷ []
 pieces-closed [] h = refl
@@ -212,7 +203,7 @@ pub relative_after : (context : PathContext) (base : PathValue) (below path clos
 relative_after context base below path closed h k e some relative d =
     let front = all_but_last (pieces_at slash below) in
     let piece = some_piece slash path in
-    let names : list_all (lacks slash) front ≡ true = all_but_last-all (lacks slash) (pieces_at slash below) (lacks-pieces_at slash below) in
+    let names : list_all (lacks slash) front ≡ true = in-shortened (lacks slash) (pieces_at slash below) (lacks-pieces_at slash below) in
     let lacks_all : list_all (lacks slash) (front ++ piece.0 ∷ piece.1) ≡ true = grind (arith, common_steps, piece.2, names, lacks-pieces_at slash path) in
     let dir : pieces_at slash closed ≡ front ++ [] ∷ [] = ap (pieces_at slash) d ∙ pieces-closed front names in
     let list : forward (forward [] (pieces_at slash closed)) (pieces_at slash path) ≡ join_with_byte slash (items (absolute_list (front ++ pieces_at slash path))) =
@@ -243,3 +234,7 @@ module _ (old mid : Text) (floor : ℕ) (list : List Text) (root : mid ≡ old +
       let front : take floor between ≡ mid = ap (take floor) seen ∙ grind (arith, take_at) in
       let back : drop floor between ≡ forward [] list = ap (drop floor) seen ∙ grind (arith, drop_at) in
       f ∙ (λ i. front i ++ forward (back i) more) ∙ ap (λ t. t ++ forward (forward [] list) more) root ∙ append_assoc old (slash ∷ []) (forward (forward [] list) more)
+
+pub ruleset cut_off = (append-nil, drop_all, take_all)
+
+pub ruleset appended = (on_ok_weaker, absolute_after, appended_once, appended_twice, relative_after)

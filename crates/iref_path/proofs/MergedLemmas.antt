@@ -16,8 +16,9 @@ use Rattle.iref_model.proofs.StayingLemmas.{open_before-append, staying_before-a
 use Rattle.iref_path.specs.NormalItems.{first_or}
 use Rattle.iref_path.specs.Pieces.{pieces_if_some}
 use Rattle.iref_path.specs.Spelling.{each_closed}
-use Rattle.iref_path.proofs.SpellLemmas.{kept_size, last_size, read_size, size-append, size-cons, size-parents}
-use Rattle.iref_path.proofs.NormalItemsLemmas.{parts_left}
+use Rattle.iref_path.proofs.SpellLemmas.{kept_size, last_size, read_size, size-append, size-cons, size-parents, list_size}
+use Rattle.iref_path.proofs.NormalItemsLemmas.{parts_left, last-parts, length-last, length-parts, all_last, unread-sound}
+use Rattle.iref_path.proofs.RewritingLemmas.{root_is}
 
 -- this number of `..` is open before the list behind, of which this is left
 module _ (front back left : List Text) (n m : ℕ) (open_is : open_before left m ≡ open_before back n) where
@@ -62,3 +63,11 @@ size_most list absolute closes opened parents size closed e f g h = grind (arith
 
 pub first-parts : (parents : ℕ) (names : List Text) (closes : Bool) → first_or [] (parts_left parents names closes) ≡ cond (parents == 0) (first_or [] names) (codes "..")
 first-parts parents names closes = grind arith
+
+pub ruleset last_parts = (last-parts, length-last, length-parts, root_is)
+
+pub ruleset all_names = (append-nil, all_last, unread-sound, list_size)
+
+pub ruleset from_both = (back_gives, front_opened, front_remains, opened_before)
+
+pub ruleset surveyed = (first-parts, size-parts, size_most, all_last, unread-sound, root_is, kept_size, list_size)

@@ -19,12 +19,13 @@ use Rattle.iref_model.proofs.StayingLemmas.{open_before-append, staying_before-a
 use Rattle.iref_model.specs.NormalReading.{closing, leading_parents, open_before, staying_before}
 use Rattle.iref_model.proofs.ItemLemmas.{normal_segments-is}
 use Rattle.iref_model.proofs.PieceLemmas.{some_piece}
+use Rattle.iref_model.proofs.SettledLemmas.{ends-append}
 use Rattle.iref_parse.specs.Dots.{begins_with, has_dot_pair, is_some_dotted}
 use Rattle.iref_path.specs.Named.{named}
 use Rattle.iref_path.specs.Pieces.{ShareFront}
 use Rattle.iref_path.proofs.DotlessLemmas.{dotless_name}
 use Rattle.iref_path.proofs.FrontOrderLemmas.{same_order}
-use Rattle.iref_path.proofs.OrderLemmas.{decoded}
+use Rattle.iref_path.proofs.OrderLemmas.{decoded, flags_decide, lists_decide}
 
 -- ---- the list
 
@@ -106,12 +107,6 @@ longer_right text = let some = some_piece slash text in let named = some_named s
 
 -- ---- behind a front, in which anything may stand
 
--- the last segment decides whether a list ends in `.` or `..`
-ends-behind : (front : List Text) (s : Text) (rest : List Text) → ends_in_dots (front ++ s ∷ rest) ≡ ends_in_dots (s ∷ rest)
-ends-behind [] s rest = refl
-ends-behind (t ∷ []) s rest = refl
-ends-behind (t ∷ u ∷ front) s rest = ends-behind (u ∷ front) s rest
-
 -- what is in the normal list of a front that no `..` follows
 abbrev of_front : Bool → List Text → List Text
 of_front absolute front = leading_parents absolute (open_before front 0) ++ staying_before front 0
@@ -122,7 +117,7 @@ normal_segments-behind absolute front [] some h = absurd (cc some)
 normal_segments-behind absolute front (s ∷ rest) some h =
     let none = none_open (s ∷ rest) h in
     let all = items_named (s ∷ rest) h in
-    let ends = ends-behind front s rest in
+    let ends = ends-append front s rest in
     grind (arith, normal_segments-is, open_before-append, staying_before-append, append_assoc)
 
 named_some : (list : List Text) → is_empty list ≡ false → is_empty (named list) ≡ false
@@ -182,3 +177,9 @@ order_behind p q left right below rest flags e f shared h k =
     ∙ normal_segments-behind p.absolute shared.front (pieces_at slash rest) (some_pieces rest) k in
     sym (behind_front front names others (named_some _ (some_pieces below)) (named_some _ (some_pieces rest)))
     ∙ sym (λ i. slice_cmp text_order (decoded (one i)) (decoded (two i)))
+
+pub ruleset without_parents = (dotless_named, dotless_parents, paired-parents)
+
+pub ruleset whole_lists = (order_behind, flags_decide, lists_decide)
+
+pub ruleset dot_slash = (length-dot_slash, named-dot_slash)

@@ -6,16 +6,18 @@ use Rattle.iref_grammar.specs.Rules.{Text}
 use Rattle.iref_grammar.specs.Texts.{is_empty}
 use Rattle.iref_grammar.specs.PathValue.{PathValue, is_one_empty}
 use Rattle.iref_model.specs.NormalList.{ends_in_dots, without_lone_empty, normal_segments}
-use Rattle.iref_model.proofs.ItemLemmas.{normal_segments-is}
+use Rattle.iref_model.proofs.ItemLemmas.{normal_segments-is, ends-last}
 use Rattle.std.proofs.lemmas.Grind.{common_steps}
 use Rattle.iref_model.specs.NormalReading.{open_before, staying_before, closing}
 use Rattle.std.proofs.Math.Seq.{drop-append-add, drop-length}
 use Rattle.std.proofs.lemmas.Bool.{cases_lt}
-use Rattle.std.proofs.lemmas.List.{drop-append-le, drop-drop, drop-replicate, length-drop, length-replicate, replicate-append-replicate}
+use Rattle.std.proofs.lemmas.List.{drop-append-le, drop-drop, drop-replicate, length-drop, length-replicate, replicate-append-replicate, append-nil}
 use Rattle.std.specs.Borrow.{Bor}
 use Rattle.iref_path.specs.Merged.{both_names, merged_list}
 use Rattle.iref_path.specs.NormalItems.{are_no_parents, first_or, IsSound, unread_items}
 use Rattle.iref_path.specs.Ways.{last_ones}
+use Rattle.iref_model.proofs.StayingLemmas.{open_before-append, staying_before-append}
+use Rattle.std.proofs.lemmas.List.Folds.{list_all-append}
 
 -- ---- the three parts
 
@@ -100,3 +102,7 @@ parts-whole p parents names closes h k l = grind (arith, common_steps, normal_se
 pub unread-sound : (parents names : ℕ) (front back : Option (Bor Text)) (closes : Bool) → length (merged_list front back) < 2 ^ 64 → names ≤ length (both_names front back)
     → parents + names + cond closes 1 0 < 2 ^ 64 → IsSound (unread_items parents names front back closes)
 unread-sound parents names front back closes h most items = record { readable = record { countable = omega (arith, h); settled = refl }; names = most; items = items }
+
+pub ruleset staying = (open_before-append, staying_before-append, append-nil, list_all-append)
+
+pub ruleset closed_at_end = (ends-last)

@@ -17,10 +17,11 @@ use Rattle.iref_grammar.proofs.PathLemmas.{read_path-reads}
 use Rattle.iref_model.specs.Guard.{guarded_list}
 use Rattle.iref_model.specs.PathFunctions.{directory_text, parent}
 use Rattle.iref_model.proofs.PieceLemmas.{pieces-append, some_piece}
-use Rattle.iref_path.proofs.SlashLemmas.{LacksSlash, pieces-whole}
-use Rattle.iref_model.proofs.PathGrammarLemmas.{path_parts, path_joined, is_path_empty}
+use Rattle.iref_path.proofs.SlashLemmas.{LacksSlash, pieces-whole, lacks_if_none, cut_last}
+use Rattle.iref_model.proofs.PathGrammarLemmas.{path_parts, path_joined, is_path_empty, is_path-root, is_path-guard}
 use Rattle.iref_model.proofs.DirectoryLemmas.{all_but_last-snoc}
 use Rattle.iref_model.proofs.FitsLemmas.{is_empty-snoc}
+use Rattle.std.proofs.lemmas.Str.Pattern.{rfind_char}
 
 -- ---- the directory
 
@@ -82,3 +83,7 @@ nothing text h = grind (arith, common_steps)
 
 pub something : (text : Text) → false ≡ (length text == 0) → text ≢ []
 something text h e = true≢false (sym (h ∙ (λ i. length (e i) == 0)))
+
+pub ruleset directories = (rfind_char, is_path_empty, is_path-directory)
+
+pub ruleset parents = (lacks_if_none, is_path-root, parent-uncut, cut_last, path_parts, is_path-guard, parent-slice, parent-guarded, parent-root, parent-none, nothing, something)

@@ -20,7 +20,9 @@ use Rattle.iref_model.proofs.FitsLemmas.{is_empty-snoc}
 use Rattle.iref_model.proofs.PieceLemmas.{some_piece}
 use Rattle.iref_path.specs.Pieces.{pieces_if_some}
 use Rattle.iref_path.specs.StepTexts.{closed_by}
-use Rattle.iref_path.proofs.StepTextLemmas.{IsCut, cut_at_slash, join-snoc, root_text}
+use Rattle.iref_path.proofs.StepTextLemmas.{IsCut, cut_at_slash, join-snoc, root_text, put_to_end, same_text, to_end}
+use Rattle.iref_path.proofs.StepValueLemmas.{steps_as, steps_by, followed-step}
+use Rattle.std.proofs.lemmas.Str.{IsCharBoundary-end}
 
 abbrev path_with : Bool → List Text → PathValue
 path_with absolute segments = record { absolute = absolute; segments = segments }
@@ -136,3 +138,5 @@ module _ (context : PathContext) (s : Text) (p : PathValue) where
   pub pushed_name : is_dot s ≡ false → is_dot_dot s ≡ false → pushed context s p ≡ lazy_pushed context s p
   unfolding pushed
   pushed_name h k = grind arith
+
+pub ruleset follows = (followed_parent, followed_name, steps_as, IsCharBoundary-end, put_to_end, same_text, to_end, followed_dot, steps_by, followed-step)

@@ -15,7 +15,7 @@ use Rattle.iref_model.proofs.PieceLemmas.{some_piece}
 use Rattle.iref_path.specs.Bodies.{parents_then}
 use Rattle.iref_path.specs.Spelling.{each_closed}
 use Rattle.iref_path.specs.Ways.{text_steps}
-use Rattle.iref_path.proofs.SpellLemmas.{length-joined, size-append, size-parents}
+use Rattle.iref_path.proofs.SpellLemmas.{length-joined, size-append, size-parents, length-join}
 
 -- equal first segments do not count
 steps-behind : (s t p : Text) (d ps : List Text) → same_decoded s t ≡ true → steps_between (s ∷ d) (t ∷ p ∷ ps) ≡ steps_between d (p ∷ ps)
@@ -70,3 +70,7 @@ up-joined up path = grind (arith, some_piece slash path, join-pieces_at slash pa
 
 pub up-size : (up : ℕ) (path : Text) → length (parents_then up path) + 1 ≡ length (each_closed (replicate up (codes "..") ++ pieces_at slash path))
 up-size up path = grind (arith, up_length, size-append, size-parents, some_piece slash path, length-joined, join-pieces_at slash path)
+
+pub ruleset sizes = (length-join, up_length)
+
+pub ruleset apart = (apart-base, apart-first, behind, shorter)

@@ -7,7 +7,7 @@ use borrow.Rule.Slice.PartMut.{put_mid}
 use Rattle.std.specs.List.{join_with_byte, copy_within, splice}
 use Rattle.std.proofs.lemmas.Bool.Decides.{nat_tests}
 use Rattle.std.proofs.lemmas.Grind.{common_steps}
-use Rattle.std.proofs.lemmas.List.{drop-take, drop_all, take_all, take_rest, take-take, places, same_lists}
+use Rattle.std.proofs.lemmas.List.{drop-take, drop_all, take_all, take_rest, take-take, places, same_lists, drop-set, length-set}
 use Rattle.memchr.specs.Find.{NoneAfter, Passes, is_byte}
 use Rattle.iref_grammar.specs.Rules.{Text}
 use Rattle.iref_grammar.specs.Grammar.{slash}
@@ -20,8 +20,9 @@ use Rattle.iref_model.proofs.StayingLemmas.{open_before-append, staying_before-a
 use Rattle.iref_path.specs.Rewriting.{pieces_before}
 use Rattle.iref_path.specs.Slashes.{IsLastSlash}
 use Rattle.iref_path.specs.Spelling.{each_closed}
-use Rattle.iref_path.proofs.SlashLemmas.{pieces-cut_last, read-absolute, read-relative}
+use Rattle.iref_path.proofs.SlashLemmas.{pieces-cut_last, read-absolute, read-relative, lacks_by_index, pieces-whole}
 use Rattle.iref_path.proofs.SpellLemmas.{each_closed-append, joined_before}
+use Rattle.iref_path.proofs.WrittenLemmas.{to_end}
 
 -- the segments before an index depend on the text before it alone
 pub pieces_before-same : (new old : Text) (index : ℕ) → take index new ≡ take index old → pieces_before new index ≡ pieces_before old index
@@ -101,3 +102,11 @@ behind_root path new root start h e = same_lists _ _ (search (rules, places)) (�
 pub unused_cut : (bytes new text : Text) (start end unused : ℕ) → start ≤ end → end ≤ length bytes → length new ≡ end - start → unused ≤ end - start → drop unused new ≡ text
     → splice (put_mid start (end - start) bytes new) start (start + unused) [] ≡ splice bytes start end text
 unused_cut bytes new text start end unused h k e l w = rw (sym w) (same_lists _ _ (search (rules, places)) (λ j d m. grind (arith, places)))
+
+pub ruleset moved = (drop-set, length-set, copied, before_set)
+
+pub ruleset found_before = (segment_found, lacks_by_index, pieces-whole)
+
+pub ruleset names_moved = (one_size, pieces_before-same, open_before-append, staying_before-append, each_closed-append)
+
+pub ruleset cut_to_text = (unused_cut, to_end)

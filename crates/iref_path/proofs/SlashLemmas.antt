@@ -9,7 +9,7 @@ use Rattle.std.specs.Str.{NoCharPasses}
 use Rattle.std.specs.Str.Pattern.{RFindsChar, SplitsAroundMatch}
 use Rattle.std.proofs.lemmas.Grind.{common_steps}
 use Rattle.std.proofs.lemmas.Bool.Decides.{nat_tests}
-use Rattle.std.proofs.lemmas.List.{take-append-drop}
+use Rattle.std.proofs.lemmas.List.{take-append-drop, nil_from_length}
 use Rattle.std.proofs.lemmas.List.Elements.{All-from_get_or}
 use Rattle.std.proofs.lemmas.List.Splits.{slice_split_none, slice_split_at, length-slice_split}
 use Rattle.std.proofs.lemmas.List.Sums.{count_by-le-length}
@@ -22,6 +22,7 @@ use Rattle.iref_path.specs.Pieces.{pieces_if_some}
 use Rattle.iref_path.specs.Slashes.{IsLastSlash, LacksSlashFrom, slash_mask}
 use Rattle.iref_grammar.specs.PathValue.{segments_of, read_path}
 use Rattle.iref_model.proofs.PieceLemmas.{some_piece, pieces-append}
+use Rattle.std.proofs.lemmas.Str.{IsCharBoundary-after_ascii}
 
 -- no character of the text is a slash
 abbrev pub LacksSlash : Text → Type 0
@@ -172,3 +173,7 @@ last_item (t ∷ front) s o = last_item front s (Some t)
 
 pub last_given : {A : Type 0} (view : A → Text) (list left : List Text) (given : Option A) → MatchOption given ((list ≡ []) × (left ≡ [])) (λ x. list ≡ left ++ view x ∷ []) → option_map view given ≡ last_or None list
 last_given view list left given h = grind (arith, last_item)
+
+pub ruleset last_cut = (IsCharBoundary-after_ascii, pieces-uncut, pieces-cut_last)
+
+pub ruleset counted = (nil_from_length, counted_more, counted_within)

@@ -164,3 +164,13 @@ last_size (s ∷ rest) = grind (arith, size-cons, last_size rest)
 -- what comes before the items, and these
 pub length-guard : (guard : Text) (list : List Text) → length (guard ++ join_with_byte slash list) ≡ length guard + (length (each_closed list) - 1)
 length-guard guard list = grind (arith, append_assoc, length-append, nat_tests, length-join)
+
+pub ruleset relative = (length-join, relative-spelled)
+
+pub ruleset in_utf8 = (path-utf8)
+
+pub ruleset joined = (length-join)
+
+pub ruleset guarded_sizes = (length-guard, normalized-spelled)
+
+pub ruleset parent_sizes = (size-parents)

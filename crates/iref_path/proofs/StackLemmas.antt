@@ -31,6 +31,9 @@ in_order-cons item items = reverse-append (text_at item ∷ []) (map text_at ite
 pub in_order-append : (front back : List (Bor Text)) → in_order (front ++ back) ≡ in_order back ++ in_order front
 in_order-append front back = ap reverse (map-append text_at front back) ∙ reverse-append (map text_at front) (map text_at back)
 
+-- one item more at either end
+pub ruleset ends = (in_order-cons, in_order-append)
+
 -- what has been written of them leaves room for the next
 pub stacked_room : (items : List (Bor Text)) (i : ℕ) (d : Bor Text) → i < length items
     → length (text_at (get_or items i d)) + 1 + length (each_closed (in_order (take i items))) ≤ length (each_closed (in_order items))

@@ -97,3 +97,5 @@ module _ (path : Text) (utf8 : IsUtf8 path) (absolute : Bool) (segments : List T
 -- nothing changes
 pub same_text : (path : Text) → take (length path) path ++ [] ≡ spell_path (read_path path)
 same_text path = append-nil (take (length path) path) ∙ take_all (length path) path (omega arith) ∙ sym (read_path-reads path).spelled
+
+pub ruleset ends = (IsCharBoundary-end, IsCharBoundary-start, to_end)

@@ -18,7 +18,8 @@ use Rattle.iref_model.proofs.LeadingLemmas.{all_drop}
 use Rattle.iref_model.proofs.NormalGrammarLemmas.{normal_in_grammar}
 use Rattle.iref_model.proofs.StepSegmentLemmas.{normal-in}
 use Rattle.iref_path.specs.Spelling.{each_closed}
-use Rattle.iref_path.proofs.SpellLemmas.{guarded-in_context, guarded-read, lacks_dots, size-append}
+use Rattle.iref_path.proofs.SpellLemmas.{guarded-in_context, guarded-read, lacks_dots, size-append, normal_size-text}
+use Rattle.std.proofs.lemmas.List.Sums.{common_prefix_len-le}
 
 -- a list is a beginning exactly where the common beginning is all of it
 pub beginning-is : (xs ys : List Text) → is_decoded_beginning xs ys ≡ (common_prefix_len same_decoded xs ys == length xs)
@@ -41,3 +42,5 @@ suffix-reads set above prefix text left h e =
 -- a list without its first items is not longer
 pub size-drop : (n : ℕ) (list : List Text) → length (each_closed (drop n list)) ≤ length (each_closed list)
 size-drop n list = omega (arith, size-append (take n list) (drop n list), ap (λ xs. length (each_closed xs)) (take-append-drop n list))
+
+pub ruleset beginnings = (common_prefix_len-le, normal_size-text, beginning-is, size-drop, nat_tests)

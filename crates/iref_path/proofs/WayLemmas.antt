@@ -1,6 +1,6 @@
 -- The way from the directory of one path to another, up to their common beginning and down.
 use Rattle.std.proofs.Common.{◌≡◌, ◌+◌, ◌-◌, ◌*◌, ◌<◌, ◌≤◌, List, [], ◌∷◌, length, sym, take, arith, length-append}
-use Rattle.std.proofs.lemmas.List.{take_at}
+use Rattle.std.proofs.lemmas.List.{take_at, drop-append-le}
 use Rattle.std.specs.List.{common_prefix_len}
 use Rattle.iref_grammar.specs.Rules.{Text}
 use Rattle.iref_grammar.specs.Texts.{all_but_last}
@@ -9,8 +9,10 @@ use Rattle.iref_model.specs.Relative.{last_or_empty, steps_between}
 use Rattle.iref_model.proofs.LeadingLemmas.{divided_last}
 use Rattle.iref_path.specs.Spelling.{each_closed}
 use Rattle.iref_path.specs.Ways.{with_last}
-use Rattle.iref_path.proofs.SpellLemmas.{size-append, size-parents}
+use Rattle.iref_path.proofs.SpellLemmas.{size-append, size-parents, relative-spelled, list_size, normal_size-text}
 use Rattle.iref_path.proofs.SuffixLemmas.{size-drop}
+use Rattle.iref_path.proofs.RelativeStepLemmas.{up-joined, up-size}
+use Rattle.std.proofs.lemmas.List.Sums.{common_prefix_len-le}
 
 -- ---- all items but the last
 
@@ -38,3 +40,7 @@ pub size-steps : (directory list : List Text) → length (each_closed (steps_bet
 size-steps directory list =
     let shared = common_prefix_len same_decoded directory (all_but_last list) in
     grind (arith, size-append, size-parents (length directory - shared), size-drop shared (all_but_last list), size-with_last list)
+
+pub ruleset steps_up = (up-joined, up-size, relative-spelled)
+
+pub ruleset between = (common_prefix_len-le, all_but_last-take, length-with_last, drop-append-le, list_size, normal_size-text, fewer_without_last)

@@ -3,6 +3,8 @@ use Rattle.std.proofs.Common.{◌≡◌, ℕ, ◌++◌, drop, length, take, leng
 use Rattle.std.proofs.lemmas.List.{append-nil, drop_all, take_at}
 use Rattle.iref_grammar.specs.Rules.{Text}
 use Rattle.iref_path.specs.Written.{WritesBefore}
+use Rattle.std.proofs.lemmas.Grind.{common_steps}
+use Rattle.iref_path.proofs.SpellLemmas.{length-join, length-guard}
 
 -- one text, and then another before it
 pub both_written : (front back : Text) {end start first : ℕ} {old mid new : Text} → WritesBefore end back old mid start → WritesBefore start front mid new first → WritesBefore end (front ++ back) old new first
@@ -18,3 +20,7 @@ to_end text old h = grind (arith, nothing_behind)
 -- all of the bytes
 pub written_whole : (text old rest : Text) {new : Text} {end start len : ℕ} → end ≡ length text → length old ≡ end → length new ≡ len → WritesBefore end text old new start → take len (new ++ rest) ≡ text
 written_whole text old rest all size k h = grind (arith, append-nil, drop_all, take_at)
+
+pub ruleset both = (both_written)
+
+pub ruleset stacked = (common_steps, length-join, length-guard, both_written, written_whole)

@@ -1,18 +1,12 @@
 -- A path that is read from the back, and the count of the segments read.
-use Rattle.std.specs.Prelude.{◌≡◌, ℕ, ◌+◌, ◌-◌, ◌<◌, ◌≤◌, ◌^◌, Bool, List, [], ◌∷◌, Option, Some, None, reverse, length}
+use Rattle.std.specs.Prelude.{◌≡◌, ℕ, ◌+◌, ◌<◌, ◌≤◌, ◌^◌, Bool, List, [], ◌∷◌, Option, Some, None, reverse, length}
 use Rattle.std.specs.Borrow.{Bor}
 use Rattle.std.specs.Iterator.{YieldsFirstBy}
 use Rattle.iref_grammar.specs.Rules.{Text}
 use Rattle.iref_grammar.specs.PathValue.{PathValue}
-use Rattle.iref_model.specs.PathFunctions.{segment_count}
 use Rattle.iref_path.specs.Pieces.{pieces_if_some, text_at}
 use Rattle.iref_model.specs.CountedEquality.{ItemRead, Comparison, items_read, all_items_read}
-use Rattle.iref_path.specs.declared.counted.Steps.{Steps}
 use Rattle.iref_path.specs.declared.counted.CountedPath.{CountedPath}
-
--- how many segments have been read
-abbrev pub steps_count : Steps → ℕ
-steps_count steps = steps.count
 
 -- the segments of a text, if it is there, last first
 unfoldable pub unread_in : Option (Bor Text) → List Text
@@ -43,22 +37,14 @@ pub record IsWhole (u : CountedPath) : Type 0 where
 abbrev pub path_unread : CountedPath → PathValue
 path_unread u = record { absolute = u.absolute; segments = pieces_if_some u.rest }
 
--- how many segments have been read since
-abbrev pub steps_taken : Steps → Steps → ℕ
-steps_taken before after = steps_count after - steps_count before
-
--- the count has room for the segments of two paths
-abbrev pub HasRoomFor : Steps → PathValue → PathValue → Type 0
-HasRoomFor steps p q = steps_count steps + segment_count p + segment_count q < 2 ^ 128
-
 -- the count has room for the segments that are left
-abbrev pub HasRoom : Steps → CountedPath → Type 0
-HasRoom steps u = steps_count steps + length (segments_unread u) < 2 ^ 128
+abbrev pub HasRoom : ℕ → CountedPath → Type 0
+HasRoom steps u = steps + length (segments_unread u) < 2 ^ 128
 
 -- each segment that was read has been counted
-pub record IsCounted (before : Steps) (unread_before : CountedPath) (after : Steps) (unread_after : CountedPath) : Type 0 where
+pub record IsCounted (before : ℕ) (unread_before : CountedPath) (after : ℕ) (unread_after : CountedPath) : Type 0 where
   pub shorter : length (segments_unread unread_after) ≤ length (segments_unread unread_before)
-  pub counted : steps_count after + length (segments_unread unread_after) ≡ steps_count before + length (segments_unread unread_before)
+  pub counted : after + length (segments_unread unread_after) ≡ before + length (segments_unread unread_before)
 
 -- the last segment that was left, or none; what is known of the others stays
 pub record GivesSegment (before : CountedPath) (given : Option (Bor Text)) (after : CountedPath) : Type 0 where
@@ -79,13 +65,13 @@ abbrev pub IsAnswer : Comparison → Bool → CountedPath → CountedPath → Ty
 IsAnswer c equal left right = (equal ≡ c.equal) × (segments_unread left ≡ c.left) × (segments_unread right ≡ c.right)
 
 -- the same of two paths and one count
-abbrev pub HaveRoom : Steps → CountedPath → CountedPath → Type 0
+abbrev pub HaveRoom : ℕ → CountedPath → CountedPath → Type 0
 HaveRoom steps left right =
-    steps_count steps + length (segments_unread left) + length (segments_unread right) < 2 ^ 128
+    steps + length (segments_unread left) + length (segments_unread right) < 2 ^ 128
 
 -- each segment that was read of both has been counted
-pub record AreCounted (before : Steps) (left_before right_before : CountedPath) (after : Steps) (left_after right_after : CountedPath) : Type 0 where
+pub record AreCounted (before : ℕ) (left_before right_before : CountedPath) (after : ℕ) (left_after right_after : CountedPath) : Type 0 where
   pub left_shorter : length (segments_unread left_after) ≤ length (segments_unread left_before)
   pub right_shorter : length (segments_unread right_after) ≤ length (segments_unread right_before)
-  pub counted : steps_count after + length (segments_unread left_after) + length (segments_unread right_after)
-      ≡ steps_count before + length (segments_unread left_before) + length (segments_unread right_before)
+  pub counted : after + length (segments_unread left_after) + length (segments_unread right_after)
+      ≡ before + length (segments_unread left_before) + length (segments_unread right_before)

@@ -12,6 +12,7 @@ use iref_parse::decoded::decoded_cmp;
 use std::cmp::Ordering;
 
 // The order of the bytes that two items decode to. Most are the same text, which is not decoded.
+#[tactic(auto, using(crate::proofs::CompareListLemmas::same_texts))]
 #[inline(always)]
 pub(crate) fn items_cmp(a: &str, b: &str) -> Ordering
     ensures { result ≡ text_order (percent_decode a.now) (percent_decode b.now) }
@@ -24,6 +25,7 @@ pub(crate) fn items_cmp(a: &str, b: &str) -> Ordering
 }
 
 // Two lists of this number of items each: the foremost difference decides, and is read last.
+#[tactic(auto, using(crate::proofs::CompareListLemmas::compared))]
 fn compare_same_length(
     mut left: NormalItems<'_>,
     mut right: NormalItems<'_>,

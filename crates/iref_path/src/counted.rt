@@ -1,45 +1,14 @@
 //! Equality of paths: one scan of both from the back, with a count of the segments read.
 
-ghost use Rattle.std.specs.Prelude.{◌≡◌, ◌≢◌, ◌↔◌, ◌+◌, ◌<◌, ◌≤◌, ◌^◌, ◌∷◌, true};
+ghost use Rattle.std.specs.Prelude.{◌≡◌, ◌≢◌, ◌↔◌, ◌+◌, ◌-◌, ◌<◌, ◌≤◌, ◌^◌, ◌∷◌, true};
 ghost use Rattle.iref_model.specs.{read_path, items_compared, IsCountedAnswer, path_key};
-ghost use Rattle.iref_path.specs.CountedPath.{AreCounted, HasRoomFor, HaveRoom, IsAnswer};
-ghost use Rattle.iref_path.specs.CountedPath.{IsCountable, items_unread, steps_count, steps_taken};
+ghost use Rattle.iref_model.specs.PathFunctions.{segment_count};
+ghost use Rattle.iref_path.specs.CountedPath.{AreCounted, HaveRoom, IsAnswer};
+ghost use Rattle.iref_path.specs.CountedPath.{IsCountable, items_unread};
 
 use crate::segments::{last_segment, split_root};
 use crate::staying_names::name_stays;
 use iref_parse::decoded::decoded_eq;
-
-/// How many segments comparisons have read.
-#[derive(Clone, Copy, Debug)]
-pub struct Steps {
-    count: u128,
-}
-
-impl Steps {
-    ghost use Rattle.iref_path.specs.CountedPath.{steps_count};
-
-    /// No segment has been read.
-    pub fn new() -> Self
-        ensures { steps_count result ≡ 0 }
-    {
-        Steps { count: 0 }
-    }
-
-    /// How many segments have been read.
-    pub fn count(&self) -> u128
-        ensures { result ≡ steps_count self.now }
-    {
-        self.count
-    }
-
-    // One more segment is read.
-    fn tick(&mut self)
-        requires { steps_count self.old + 1 < 2 ^ 128 }
-        ensures { steps_count self.new ≡ steps_count self.old + 1 }
-    {
-        self.count += 1;
-    }
-}
 
 /// What has not been read of a path, which is read from the back.
 #[derive(Clone, Copy)]
@@ -71,21 +40,21 @@ impl<'a> CountedPath<'a> {
     }
 
     /// The last segment that is left.
-    #[tactic(auto, unfolding(crate::specs::CountedPath::unread_in))]
-    fn read(&mut self, steps: &mut Steps) -> Option<&'a str>
+    #[tactic(auto, using(std::proofs::lemmas::Grind::common_steps), unfolding(crate::specs::CountedPath::unread_in))]
+    fn read(&mut self, steps: &mut u128) -> Option<&'a str>
         requires { HasRoom steps.old self.old }
         ensures segment { GivesSegment self.old result self.new }
         ensures counted { IsCounted steps.old self.old steps.new self.new }
     {
         let (rest, segment) = last_segment(self.rest?);
         self.rest = rest;
-        steps.tick();
+        *steps += 1;
         Some(segment)
     }
 
     /// The last item of a path of which nothing has been read: its last segment, or the empty
     /// segment that closes a path that ends in `.` or `..`.
-    fn first_back(&mut self, steps: &mut Steps) -> &'a str
+    fn first_back(&mut self, steps: &mut u128) -> &'a str
         requires whole { IsWhole self.old }
         requires room { HasRoom steps.old self.old }
         ensures item { all_items_unread self.old
@@ -104,7 +73,8 @@ impl<'a> CountedPath<'a> {
     }
 
     /// The last item that is left.
-    fn next_back(&mut self, steps: &mut Steps) -> Option<&'a str>
+    #[tactic(auto, unfolding(crate::specs::CountedPath::items_unread))]
+    fn next_back(&mut self, steps: &mut u128) -> Option<&'a str>
         requires countable { IsCountable self.old }
         requires room { HasRoom steps.old self.old }
         ensures item { GivesItem self.old result self.new }
@@ -125,7 +95,7 @@ impl<'a> CountedPath<'a> {
 }
 
 /// Whether what is left of both paths decodes to the same items.
-fn items_eq(left: &mut CountedPath<'_>, right: &mut CountedPath<'_>, steps: &mut Steps) -> bool
+fn items_eq(left: &mut CountedPath<'_>, right: &mut CountedPath<'_>, steps: &mut u128) -> bool
     requires left { IsCountable left.old }
     requires right { IsCountable right.old }
     requires room { HaveRoom steps.old left.old right.old }
@@ -147,14 +117,15 @@ fn items_eq(left: &mut CountedPath<'_>, right: &mut CountedPath<'_>, steps: &mut
 
 /// Whether the texts of two paths are those of equal paths. The count grows by the segments that
 /// are read.
-#[tactic(auto, using(crate::proofs::CountedPathLemmas::sizes), unfolding(crate::specs::CountedPath::unread_in))]
-pub fn path_texts_eq_counted(a: &str, b: &str, steps: &mut Steps) -> bool
-    requires { HasRoomFor steps.old (read_path a.now) (read_path b.now) }
+#[tactic(auto, using(crate::proofs::CountedPathLemmas::decided), unfolding(crate::specs::CountedPath::unread_in))]
+pub fn path_texts_eq_counted(a: &str, b: &str, steps: &mut u128) -> bool
+    requires { steps.old + segment_count (read_path a.now) + segment_count (read_path b.now)
+        < 2 ^ 128 }
     ensures counted { IsCountedAnswer (read_path a.now) (read_path b.now) result
-        (steps_taken steps.old steps.new) }
+        (steps.new - steps.old) }
     ensures flags { (read_path a.now).absolute ≢ (read_path b.now).absolute
-        → steps_count steps.new ≡ steps_count steps.old }
-    ensures grown { steps_count steps.old ≤ steps_count steps.new }
+        → steps.new ≡ steps.old }
+    ensures grown { steps.old ≤ steps.new }
 {
     let mut left = CountedPath::new(a);
     let mut right = CountedPath::new(b);
@@ -174,5 +145,5 @@ pub fn path_texts_eq_counted(a: &str, b: &str, steps: &mut Steps) -> bool
 pub fn path_texts_eq(a: &str, b: &str) -> bool
     ensures { (result ≡ true) ↔ (path_key (read_path a.now) ≡ path_key (read_path b.now)) }
 {
-    path_texts_eq_counted(a, b, &mut Steps::new())
+    path_texts_eq_counted(a, b, &mut 0)
 }

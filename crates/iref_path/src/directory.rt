@@ -8,6 +8,7 @@ ghost use Rattle.iref_path.specs.Pieces.{value_at};
 use iref_grammar::chars::CharSet;
 
 /// All up to and with the last `/`.
+#[tactic(auto, using(crate::proofs::PathTextLemmas::directories))]
 pub fn directory_text<C: CharSet>(path: &str) -> &str
     requires { is_path C.tests path.now ≡ true }
     ensures text { result.now ≡ function.directory_text path.now }
@@ -20,6 +21,7 @@ pub fn directory_text<C: CharSet>(path: &str) -> &str
 }
 
 /// The text of the path without its last segment, if that is a parent.
+#[tactic(auto, using(std::proofs::lemmas::Grind::common_steps, crate::proofs::PathTextLemmas::parents))]
 pub fn parent_text<C: CharSet>(path: &str) -> Option<&str>
     requires { is_path C.tests path.now ≡ true }
     ensures parent { option_map value_at result ≡ function.parent (read_path path.now) }

@@ -17,6 +17,7 @@ use iref_parse::cut::{cut_bytes, strip_mark};
 use iref_parse::dots::position_of_slash_dot;
 
 // Where the last segment of a text begins.
+#[tactic(auto, using(crate::proofs::ForwardLemmas::closed_if_one, crate::proofs::ForwardLemmas::closed_to_last))]
 #[inline(always)]
 fn last_start(text: &[u8]) -> usize
     ensures before { take result text.now
@@ -30,7 +31,7 @@ fn last_start(text: &[u8]) -> usize
 }
 
 // Cuts off the last of the segments that stand from `floor` on, each with a `/` after it.
-#[tactic(auto, unfolding(crate::specs::Forward::popped_text))]
+#[tactic(auto, using(crate::proofs::ForwardLemmas::cut_off), unfolding(crate::specs::Forward::popped_text))]
 fn pop(out: &mut Vec<u8>, floor: usize)
     requires { floor ≤ vec_len out.old }
     ensures { out.new.items
@@ -45,6 +46,7 @@ fn pop(out: &mut Vec<u8>, floor: usize)
 
 // Where the names end that begin a text, if its first segment is one: behind the `/` before the
 // first of the other segments that begins with a dot.
+#[tactic(auto, using(crate::proofs::ForwardLemmas::names_to_dot, crate::proofs::ForwardLemmas::names_to_end))]
 #[inline(always)]
 fn names_end(text: &[u8]) -> usize
     requires some { text.now ≢ [] }
@@ -120,6 +122,7 @@ fn put_all(out: &mut Vec<u8>, floor: usize, text: &[u8]) -> Result<(), Memory>
 /// Appends the normalized path of a reference to the text that stands before the path of its base,
 /// after an authority (RFC 3986 sections 5.2.3 and 5.2.4): for `/b/c` and `../g` this is `/g`. It
 /// takes no more room on the way than for both paths and a `/`.
+#[tactic(auto, using(std::proofs::lemmas::Grind::common_steps, crate::proofs::ForwardLemmas::appended))]
 pub fn append_normal_after(out: &mut Vec<u8>, base: &str, path: &str) -> Result<(), Memory>
     requires base { (read_path base.now).absolute || is_empty (read_path base.now).segments ≡ true }
     requires path { path.now ≢ [] }

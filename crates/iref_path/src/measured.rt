@@ -52,7 +52,7 @@ fn is_merged_absolute(has_authority: bool, absolute: bool, segments: Option<&str
 }
 
 // Whether a segment of the two texts begins with a dot.
-#[tactic(auto, using(crate::proofs::DotlessLemmas::both_dotted))]
+#[tactic(auto, using(crate::proofs::DotlessLemmas::both_dotted, crate::proofs::DotlessLemmas::both_dotted))]
 fn have_dots(front: Option<&str>, back: &str) -> bool
     ensures { result ≡ has_dot_segment (after_front front.entry back.now) }
 {
@@ -64,6 +64,7 @@ fn have_dots(front: Option<&str>, back: &str) -> bool
 
 // The first segment of a text, which decides on a guard. After an authority none is needed, and the
 // text is returned unread.
+#[tactic(auto, using(crate::proofs::DotlessLemmas::unguarded))]
 #[inline(always)]
 fn first_to_guard(context: PathContext, text: &str) -> &str
     ensures { (absolute : Bool) (size : ℕ) → spelling.guard_in context absolute size result.now
@@ -91,6 +92,7 @@ fn write_guard(buffer: &mut [u8], end: usize, guard: &str) -> usize
 
 impl<'a> MeasuredPath<'a> {
     /// The text as it stands.
+    #[tactic(auto, unfolding(crate::specs::MeasuredPaths::measured_text))]
     pub fn kept(path: &'a str) -> Self
         ensures text { measured_text result ≡ path.now }
         ensures measured { IsMeasured result }
@@ -130,6 +132,7 @@ impl<'a> MeasuredPath<'a> {
     }
 
     /// The text of the normalized path of these segments, in its context.
+    #[tactic(auto, using(crate::proofs::DotlessLemmas::sizes))]
     pub fn of_segments(
         context: PathContext,
         absolute: bool,
@@ -167,6 +170,7 @@ impl<'a> MeasuredPath<'a> {
     }
 
     /// The text of a relative path of these items, which stands alone.
+    #[tactic(auto, using(crate::proofs::SpellLemmas::relative), unfolding(crate::specs::MeasuredPaths::measured_text))]
     pub fn relative(items: NormalItems<'a>) -> Self
         requires sound { IsSound items }
         requires room { length (each_closed (normal_left items)) + 4 < 2 ^ 64 }
@@ -184,6 +188,7 @@ impl<'a> MeasuredPath<'a> {
 
     // The text of a relative path of a number of `..` and the segments of a text, which stands
     // alone.
+    #[tactic(auto, using(crate::proofs::WayLemmas::steps_up), unfolding(crate::specs::MeasuredPaths::measured_text))]
     fn up(up: usize, path: &'a str) -> Self
         requires { length (parents_then up path.now) + 4 < 2 ^ 64 }
         ensures text { measured_text result ≡ spell_path (guarded alone (record {
@@ -216,6 +221,7 @@ impl<'a> MeasuredPath<'a> {
     }
 
     /// How many bytes the text has.
+    #[tactic(auto, unfolding(crate::specs::MeasuredPaths::measured_text))]
     pub fn len(&self) -> usize
         requires { IsMeasured self.now }
         ensures { result ≡ length (measured_text self.now) }
@@ -224,6 +230,7 @@ impl<'a> MeasuredPath<'a> {
     }
 
     /// The text of a path. The room is taken once; out of memory, it returns an `Err`.
+    #[tactic(auto, using(crate::proofs::SpellLemmas::in_utf8))]
     pub fn to_text<C: CharSet>(self, alloc: Global) -> Result<String, Memory>
         requires measured { IsMeasured self }
         requires path { is_path C.tests (measured_text self) ≡ true }
@@ -247,6 +254,7 @@ impl<'a> MeasuredPath<'a> {
     }
 
     /// Writes the text so that it ends at `end`, and returns where it begins.
+    #[tactic(auto, using(crate::proofs::WrittenLemmas::both), unfolding(crate::specs::MeasuredPaths::measured_text))]
     pub fn write_before(self, buffer: &mut [u8], end: usize) -> usize
         requires measured { IsMeasured self }
         requires room { length (measured_text self) ≤ end }

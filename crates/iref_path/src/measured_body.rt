@@ -76,6 +76,7 @@ fn show_up<W: fmt::Write>(up: usize, text: &str, f: &mut fmt::Formatter<W>) -> f
 
 impl<'a> Body<'a> {
     /// How many bytes the text has.
+    #[tactic(auto, using(crate::proofs::RelativeStepLemmas::sizes))]
     pub fn len(&self) -> usize
         requires { IsBody self.now }
         ensures { result ≡ length (body_text self.now) }
@@ -88,6 +89,7 @@ impl<'a> Body<'a> {
     }
 
     /// Writes the text so that it ends at `end`, and returns where it begins.
+    #[tactic(auto, using(crate::proofs::SpellLemmas::joined))]
     pub fn write_before(self, buffer: &mut [u8], end: usize) -> usize
         requires body { IsBody self }
         requires room { length (body_text self) ≤ end }

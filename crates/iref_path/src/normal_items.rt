@@ -14,7 +14,6 @@ ghost use Rattle.iref_path.specs.NormalItems.{normal_left, open_at_start, open_b
 ghost use Rattle.iref_path.specs.Ways.{last_ones};
 ghost use Rattle.iref_model.specs.NormalList as list;
 
-pub mod listed;
 pub mod stack;
 
 use crate::segments::{first_segment, last_segment, split_root};
@@ -50,6 +49,7 @@ pub struct Survey<'a> {
 }
 
 /// Whether the last segment is `.` or `..`.
+#[tactic(auto, using(crate::proofs::NormalItemsLemmas::closed_at_end))]
 #[inline(always)]
 fn ends_in_dots(rest: Option<&str>) -> bool
     ensures { result ≡ list.ends_in_dots (pieces_if_some rest.entry) }
@@ -87,6 +87,7 @@ fn first_item(parents: usize, name: &str) -> &str
 
 // Finds the names that stay of the segments of both texts, and the `..` that are open before them.
 // Their size, and the first, are those of the names. Each segment is read once, the last first.
+#[tactic(auto, using(crate::proofs::SpellLemmas::kept_size, crate::proofs::SpellLemmas::list_size))]
 #[inline(always)]
 fn survey_names<'a>(front: Option<&'a str>, back: Option<&'a str>) -> Survey<'a>
     requires { length (each_closed (merged_list front back)) < 2 ^ 64 }
@@ -114,6 +115,7 @@ fn survey_names<'a>(front: Option<&'a str>, back: Option<&'a str>) -> Survey<'a>
 
 /// All items of the path of these segments. Only a relative list keeps the `..` that nothing
 /// cancels.
+#[tactic(auto, using(crate::proofs::MergedLemmas::surveyed), unfolding(crate::specs::NormalItems::normal_left))]
 #[inline(always)]
 pub fn survey_items<'a>(absolute: bool, front: Option<&'a str>, back: Option<&'a str>) -> Survey<'a>
     requires { length (each_closed (merged_list front back)) + 1 < 2 ^ 64 }
@@ -153,6 +155,7 @@ impl<'a> NormalItems<'a> {
     }
 
     /// The names that stay of the segments of a text.
+    #[tactic(auto, using(crate::proofs::MergedLemmas::all_names), unfolding(crate::specs::NormalItems::normal_left))]
     pub(crate) fn names(segments: Option<&'a str>) -> Self
         requires { length (each_closed (pieces_if_some segments)) < 2 ^ 64 }
         ensures items { normal_left result ≡ staying_before (pieces_if_some segments.entry) 0 }
@@ -193,6 +196,7 @@ impl<'a> NormalItems<'a> {
     }
 
     /// How many items are left.
+    #[tactic(auto, using(crate::proofs::MergedLemmas::last_parts), unfolding(crate::specs::NormalItems::normal_left))]
     #[inline(always)]
     pub fn len(&self) -> usize
         requires { IsSound self.now }
@@ -202,6 +206,7 @@ impl<'a> NormalItems<'a> {
     }
 
     /// A number of `..`, and after them the last items, this many.
+    #[tactic(auto, using(crate::proofs::MergedLemmas::last_parts), unfolding(crate::specs::NormalItems::normal_left))]
     pub(crate) fn last_after(self, up: usize, count: usize) -> Self
         requires sound { IsSound self }
         requires within { count ≤ length (normal_left self) }
@@ -222,6 +227,7 @@ impl<'a> NormalItems<'a> {
     }
 
     /// The items without this many of the last.
+    #[tactic(auto, using(crate::proofs::ShownLemmas::none_less, crate::proofs::ShownLemmas::one_less))]
     #[inline(always)]
     pub(crate) fn without_last(self, count: usize) -> Self
         requires { IsSound self }
@@ -302,6 +308,7 @@ impl<'a> NormalItems<'a> {
     }
 
     // Of a name right before the text behind: what follows the `..` that takes it, if one does.
+    #[tactic(auto, using(crate::proofs::NormalItemsLemmas::none_open))]
     fn fate(&mut self) -> Option<Option<&'a str>>
         requires readable { IsReadable self.old }
         requires behind { IsBehind self.old }
@@ -341,6 +348,7 @@ impl<'a> NormalItems<'a> {
 
     // The last name that stays. The `..` that are open before the segments behind take names of
     // those in front.
+    #[tactic(auto, using(crate::proofs::MergedLemmas::from_both))]
     #[inline(always)]
     fn next_back_name(&mut self) -> Option<&'a str>
         requires { IsReadable self.old }
@@ -363,6 +371,7 @@ impl<'a> NormalItems<'a> {
     }
 
     // The last name that stays of the segments behind.
+    #[tactic(auto, using(std::proofs::lemmas::Grind::common_steps, crate::proofs::NormalItemsLemmas::staying))]
     #[inline(always)]
     fn next_back_name_behind(&mut self) -> Option<&'a str>
         requires { IsReadable self.old }

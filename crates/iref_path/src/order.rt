@@ -42,6 +42,7 @@ fn strip_dot(text: &str) -> Option<&str>
 }
 
 // What follows each `./` that a text begins with.
+#[tactic(auto, using(crate::proofs::NamedLemmas::dot_slash))]
 #[inline(always)]
 fn strip_dots(text: &str) -> &str
     ensures names { named (pieces_at slash result.now) ≡ named (pieces_at slash text.now) }
@@ -73,6 +74,7 @@ fn first_name(text: &str) -> (&str, Option<&str>)
 
 // The order of two lists of segments among which no `..` is: the first difference decides, and then
 // the shorter is less.
+#[tactic(auto, using(crate::proofs::NamedLemmas::longer_left, crate::proofs::NamedLemmas::longer_right))]
 fn compare_names(mut left: Option<&str>, mut right: Option<&str>) -> Ordering
     ensures { result ≡ slice_cmp text_order (map percent_decode (named (pieces_if_some left.entry)))
         (map percent_decode (named (pieces_if_some right.entry))) }
@@ -113,6 +115,7 @@ fn rank(rest: &[u8]) -> Option<u16>
 
 // The order of the segments of two texts, unless an escape stands before their first difference, or
 // there.
+#[tactic(auto, using(std::proofs::lemmas::Slice::between_to_end, crate::proofs::DifferenceLemmas::order_at_difference))]
 fn compare_at_difference(left: &[u8], right: &[u8]) -> Option<Ordering>
     ensures { IfSome result (λ order. order ≡ slice_cmp text_order
         (map percent_decode (pieces_at slash left.now))
@@ -124,6 +127,7 @@ fn compare_at_difference(left: &[u8], right: &[u8]) -> Option<Ordering>
 
 // The order of the segments of two texts. Their first difference decides, and behind segments that
 // are the same in other escapes the next one.
+#[tactic(auto, using(crate::proofs::FrontOrderLemmas::order_behind_first))]
 fn compare_segments<'a>(mut left: &'a str, mut right: &'a str) -> Ordering
     ensures { result ≡ slice_cmp text_order
         (map percent_decode (pieces_at slash left.entry.now))
@@ -149,6 +153,7 @@ fn compare_segments<'a>(mut left: &'a str, mut right: &'a str) -> Ordering
 }
 
 // The order of the segments of two texts but for each `.`, unless one of them may be `..`.
+#[tactic(auto, using(crate::proofs::NamedLemmas::without_parents))]
 fn compare_without_parents(left: &str, right: &str) -> Option<Ordering>
     ensures left { IfSome result (λ order.
         list_any is_dot_dot (pieces_at slash left.now) ≡ false) }
@@ -180,6 +185,7 @@ fn compare_normal(a: &str, b: &str) -> Ordering
 
 /// The order of the paths of two texts: relative before absolute, then segment by segment, the
 /// shorter list first.
+#[tactic(auto, using(crate::proofs::NamedLemmas::whole_lists))]
 pub fn path_texts_cmp(a: &str, b: &str) -> Ordering
     ensures { result ≡ path_key_cmp (path_key (read_path a.now)) (path_key (read_path b.now)) }
 {
@@ -210,6 +216,7 @@ fn hash_segments<H: Hasher>(segments: Option<&str>, state: &mut H)
 }
 
 // Feeds the hasher the items that are left, from the last to the first.
+#[tactic(auto, using(crate::proofs::OrderLemmas::fed_before))]
 fn hash_left<H: Hasher>(left: &mut NormalItems<'_>, state: &mut H)
     requires { IsSound left.old }
     ensures { state.new ≡ fold H.write state.old (fed_from_the_back (decoded_left left.old)) }
@@ -230,6 +237,7 @@ fn is_dotted(segments: Option<&str>) -> bool
 }
 
 // Feeds the hasher the normal list of a path, from the last item to the first.
+#[tactic(auto, using(crate::proofs::FrontOrderLemmas::dotless_list))]
 fn hash_items<H: Hasher>(path: &str, state: &mut H)
     ensures { state.new ≡ fold H.write state.old
         (fed_from_the_back (map percent_decode (normal_segments (read_path path.now)))) }
@@ -243,6 +251,7 @@ fn hash_items<H: Hasher>(path: &str, state: &mut H)
 }
 
 /// Feeds the hasher the key of the path of a text.
+#[tactic(auto, using(crate::proofs::OrderLemmas::fed_key))]
 pub fn hash_path_text<H: Hasher>(path: &str, state: &mut H)
     ensures { state.new ≡ fold H.write state.old (fed_path (path_key (read_path path.now))) }
 {

@@ -16,6 +16,7 @@ use iref_parse::dots::has_dots;
 
 // What follows the first segments of both, where these decode to the same bytes and neither is the
 // last.
+#[tactic(auto, using(crate::proofs::RelativeStepLemmas::apart))]
 fn behind_first<'a>(base: &'a str, path: &'a str) -> Option<(&'a str, &'a str)>
     ensures steps { IfSome result (λ left.
         text_steps left.0.now left.1.now ≡ text_steps base.now path.now) }
@@ -42,6 +43,7 @@ fn behind_first<'a>(base: &'a str, path: &'a str) -> Option<(&'a str, &'a str)>
 
 /// The steps from the directory of `base` to `path`: how many `..`, and the text of the segments
 /// after them. From `a/b/c` to `a/d` they are one `..` and `d`.
+#[tactic(auto, using(crate::proofs::RelativeStepLemmas::climbs))]
 pub(crate) fn steps_apart<'a>(mut base: &'a str, mut path: &'a str) -> (usize, &'a str)
     ensures steps { text_steps base.entry.now path.entry.now
         ≡ replicate result.0 (codes "..") ++ pieces_at slash result.1.now }
@@ -67,6 +69,7 @@ pub(crate) fn first_step(up: usize, path: &str) -> &str
 }
 
 /// What follows the roots of two absolute paths, where no segment of either begins with a dot.
+#[tactic(auto, using(crate::proofs::DotlessLemmas::behind_roots))]
 pub(crate) fn behind_roots<'a>(base: &'a str, path: &'a str) -> Option<(&'a str, &'a str)>
     ensures steps { IfSome result (λ left. text_steps left.0.now left.1.now ≡ steps_between
         (directory_names (read_path base.now)) (normal_segments (read_path path.now))) }
@@ -91,6 +94,7 @@ fn directory_names(path: &str) -> NormalItems<'_>
 }
 
 // The items of a path, or an empty one where there are none.
+#[tactic(auto, using(std::proofs::lemmas::Bool::Decides::nat_tests, crate::proofs::WayLemmas::whole_divided))]
 fn some_items(path: &str) -> NormalItems<'_>
     ensures items { normal_left result ≡ with_last (normal_segments (read_path path.now)) }
     ensures some { 0 < length (normal_left result) }
@@ -105,6 +109,7 @@ fn some_items(path: &str) -> NormalItems<'_>
 }
 
 /// The steps from the directory of a base to a path: up to their common beginning, and down.
+#[tactic(auto, using(std::proofs::lemmas::Grind::common_steps, crate::proofs::WayLemmas::between))]
 pub(crate) fn items_between<'a>(base: &str, path: &'a str) -> NormalItems<'a>
     requires { 3 * length base.now + length path.now + 16 < 2 ^ 64 }
     ensures items { normal_left result ≡ steps_between

@@ -23,6 +23,7 @@ use std::mem;
 use std::ops::Range;
 
 // Where the segment begins that ends, with the `/` after it, at `end`.
+#[tactic(auto, using(crate::proofs::RewritingLemmas::found_before))]
 fn segment_before(bytes: &[u8], end: usize) -> usize
     requires some { 0 < end }
     requires within { end ≤ length bytes.now + 1 }
@@ -38,6 +39,7 @@ fn segment_before(bytes: &[u8], end: usize) -> usize
 
 // Moves a segment, if it is a name that stays, so that it ends, with a `/` after it, at `end`, and
 // returns where that begins.
+#[tactic(auto, using(std::proofs::lemmas::Grind::common_steps, crate::proofs::RewritingLemmas::moved))]
 fn move_segment(
     bytes: &mut [u8],
     segment: usize,
@@ -67,6 +69,7 @@ fn move_segment(
 
 // Moves the names that stay before `unread`, with a `/` after each, so that they end at `end`, and
 // returns where they begin then, and how many `..` are open before them.
+#[tactic(auto, using(std::proofs::lemmas::Grind::common_steps, crate::proofs::RewritingLemmas::names_moved))]
 fn move_names(
     bytes: &mut [u8],
     mut unread: usize,
@@ -123,6 +126,7 @@ fn write_over(path: &mut [u8], guard: &str) -> usize
 
 // Writes it over the path that is at `at`, and returns how many bytes of the path stand before it.
 // Inlined beside what cuts, its loops would take an instruction more a segment.
+#[tactic(auto, using(std::proofs::lemmas::Grind::common_steps, crate::proofs::RewritingLemmas::cut_to_text))]
 #[inline(never)]
 fn write_at(bytes: &mut [u8], at: Span, guard: &str) -> usize
     requires start_le_end { at.start ≤ at.end }
@@ -187,6 +191,7 @@ pub fn rewrite_text(text: &mut String, at: Span, guard: &str) -> usize
 }
 
 /// What stands first in the normal form of a path in its context, and how many bytes this has.
+#[tactic(auto, using(crate::proofs::SpellLemmas::guarded_sizes))]
 pub fn normal_guard(context: PathContext, path: &str) -> (&'static str, usize)
     ensures text { rewritten result.0.now path.now
         ≡ spell_path (normalized context (read_path path.now)) }

@@ -53,6 +53,7 @@ pub(crate) fn last_slash(bytes: &[u8]) -> Option<usize>
 }
 
 /// The text of the segments before the last one, and the last one.
+#[tactic(auto, using(std::proofs::lemmas::Grind::common_steps, crate::proofs::SlashLemmas::last_cut))]
 #[inline(always)]
 pub fn last_segment(text: &str) -> (Option<&str>, &str)
     ensures { pieces_at slash text.now ≡ pieces_if_some result.0 ++ result.1.now ∷ [] }
@@ -64,6 +65,7 @@ pub fn last_segment(text: &str) -> (Option<&str>, &str)
 }
 
 /// What follows the directories that both texts begin with, byte by byte.
+#[tactic(auto, using(crate::proofs::DirectoryLemmas::directory_of_texts))]
 pub(crate) fn behind_directory<'a>(left: &'a str, right: &'a str) -> (&'a str, &'a str)
     ensures shared { ShareFront (pieces_at slash left.now) (pieces_at slash right.now)
         (pieces_at slash result.0.now) (pieces_at slash result.1.now) }
@@ -78,6 +80,7 @@ pub(crate) fn behind_directory<'a>(left: &'a str, right: &'a str) -> (&'a str, &
 }
 
 /// The text of all segments but the last.
+#[tactic(auto, using(crate::proofs::DirectoryLemmas::one_less))]
 pub fn without_last(segments: Option<&str>) -> Option<&str>
     ensures { pieces_if_some result ≡ all_but_last (pieces_if_some segments.entry) }
 {
@@ -120,6 +123,7 @@ fn count_in_part(part: &[u8]) -> u8
 
 /// How many `/` the text has. A part of 240 bytes is of whole pieces of 16; a text of few bytes is
 /// one part.
+#[tactic(auto, using(std::proofs::lemmas::Grind::common_steps, crate::proofs::SlashLemmas::counted))]
 pub(crate) fn slash_count(text: &str) -> usize
     ensures { result ≡ count_by (λ c. c == slash) text.now }
 {

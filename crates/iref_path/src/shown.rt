@@ -35,6 +35,7 @@ fn show_last<W: fmt::Write>(mut items: NormalItems<'_>, f: &mut fmt::Formatter<W
 
 // Writes the last items, this many, each with a `/` after it. Each half is found from the back, so an
 // item is read once for each halving of their number.
+#[tactic(auto, using(std::proofs::lemmas::Grind::put_two, crate::proofs::ShownLemmas::halves_closed))]
 fn show_last_ones<W: fmt::Write>(
     items: NormalItems<'_>,
     count: usize,
@@ -68,6 +69,7 @@ fn show_closed<W: fmt::Write>(items: NormalItems<'_>, f: &mut fmt::Formatter<W>)
 }
 
 /// Writes the items with `/` between.
+#[tactic(auto, using(std::proofs::lemmas::Grind::put_two, crate::proofs::SpellLemmas::joined_before))]
 pub(crate) fn show_items<W: fmt::Write>(
     mut items: NormalItems<'_>,
     f: &mut fmt::Formatter<W>,

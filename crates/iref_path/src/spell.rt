@@ -54,6 +54,7 @@ pub fn write_before(buffer: &mut [u8], end: usize, text: &str) -> usize
 
 /// Writes `..` this many times, with a `/` after each, so that they end at a position, and returns
 /// where they begin.
+#[tactic(auto, using(crate::proofs::SpellLemmas::parent_sizes))]
 pub(crate) fn write_parents(buffer: &mut [u8], count: usize, end: usize) -> usize
     requires room { length (each_closed (replicate count (codes ".."))) ≤ end }
     requires within { end ≤ length buffer.old }
@@ -173,6 +174,7 @@ fn write_stacked(items: &[&str], buffer: &mut [u8], end: usize) -> usize
 
 // The guard, and the items with `/` between. The items are given the last first. `size` is their
 // length with a `/` after each.
+#[tactic(auto, using(crate::proofs::WrittenLemmas::stacked), unfolding(crate::specs::Stacks::stacked_text))]
 fn stacked_bytes(alloc: Global, guard: &str, items: &[&str], size: usize) -> Result<Vec<u8>, Memory>
     requires size { size ≡ length (each_closed (in_order items.now)) }
     requires countable { length guard.now + size < 2 ^ 64 }

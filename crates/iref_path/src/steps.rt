@@ -49,6 +49,7 @@ pub fn pushed<'a, C: CharSet>(context: PathContext, path: &str, segment: &'a str
 }
 
 /// A segment at the end, where `.` does nothing and `..` is a pop: `foo/bar` and `..` give `foo`.
+#[tactic(auto, using(std::proofs::lemmas::Grind::common_steps, crate::proofs::PopTextLemmas::follows))]
 pub fn followed<'a, C: CharSet>(context: PathContext, path: &str, segment: &'a str) -> Change<'a>
     requires path { is_path_after C.tests context path.now ≡ true }
     requires segment { is_segment C.tests segment.now ≡ true }
@@ -115,6 +116,7 @@ pub fn replaced<'a, C: CharSet>(context: PathContext, path: &str, new: &'a str) 
 }
 
 // The text with a segment at the end, and what closes it.
+#[tactic(auto, using(crate::proofs::StepTextLemmas::ends))]
 fn push_text<'a>(
     context: PathContext,
     path: &str,

@@ -17,6 +17,7 @@ use std::alloc::Global;
 
 // The items of the path after those of the prefix, if these are a beginning of them, and both paths
 // are absolute or both relative.
+#[tactic(auto, using(crate::proofs::SuffixLemmas::beginnings), unfolding(iref_model::specs::PathSuffix::path_suffix))]
 fn rest_after<'a>(prefix: &str, path: &'a str) -> Option<NormalItems<'a>>
     ensures rest { option_map items_path result
         ≡ path_suffix (read_path prefix.now) (read_path path.now) }

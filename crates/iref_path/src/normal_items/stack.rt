@@ -69,6 +69,7 @@ impl<'a> Stack<'a> {
     }
 
     // Puts the names that stay, and returns how many `..` are open before them.
+    #[tactic(auto, using(crate::proofs::SpellLemmas::list_size))]
     fn put_names(&mut self, segments: Option<&'a str>) -> usize
         requires { self.old.size + length (each_closed (pieces_if_some segments)) < 2 ^ 64 }
         ensures parents { result ≡ open_before (pieces_if_some segments.entry) 0 }
@@ -87,6 +88,7 @@ impl<'a> Stack<'a> {
     }
 
     // Puts this number of `..`.
+    #[tactic(auto, using(std::proofs::lemmas::Grind::common_steps))]
     fn put_parents(&mut self, count: usize)
         requires { self.old.size + 3 * count < 2 ^ 64 }
         ensures items { (whole : List Text)

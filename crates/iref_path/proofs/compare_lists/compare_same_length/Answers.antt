@@ -1,17 +1,7 @@
-use Rattle.std.proofs.Common.{arith, cond, length, is_eq, sym, ◌∙◌, ◌≡◌, ◌-◌}
+use Rattle.std.proofs.Common.{arith, cond, length, is_eq, sym, ◌≡◌, ◌-◌}
 use Rattle.iref_path.specs.NormalItems.{normal_left}
-use Rattle.iref_path.proofs.CompareListLemmas.{nothing_compared, one_more, all_compared}
+use Rattle.iref_path.proofs.CompareListLemmas.{one_more}
 use Rattle.iref_path.proofs.compare_lists.compare_same_length.Goals as goal
-use Rattle.iref_path.proofs.compare_lists.compare_same_length.Goals.{then-not-is_eq, else-not-is_eq}
-
-pub loop-item-init : goal.loop-item-init
-loop-item-init c = record {
-  compared = nothing_compared (normal_left c.args.left) (normal_left c.args.right) c.args.len c.requires.left_len;
-  left_len = c.requires.left_len;
-  right_len = c.requires.right_len;
-  left = c.requires.left;
-  right = c.requires.right;
-}
 
 pub loop-item-preserved : goal.loop-item-preserved
 loop-item-preserved c =
@@ -29,8 +19,3 @@ loop-item-preserved c =
       left = c.in-Some.ensures.sound;
       right = c.in-Some-next_back.ensures.sound;
     }
-
-pub returns-clause-order : goal.returns-clause-order
-returns-clause-order c =
-    let read = c.loop-item.invariant in
-    (all_compared _ _ (normal_left c.loop-item.left) (normal_left c.loop-item.right) _ _ read.compared c.in_default.ensures.item.0 (read.left_len ∙ sym read.right_len)).1

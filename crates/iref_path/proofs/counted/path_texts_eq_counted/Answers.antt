@@ -1,15 +1,8 @@
 use Rattle.std.proofs.Common.{arith, false}
 use Rattle.std.specs.Cmp.{booleans_Decides}
-use Rattle.std.proofs.lemmas.Bool.{not-false, not-true}
-use Rattle.iref_model.proofs.CountedLemmas.{flags_apart}
-use Rattle.iref_path.specs.CountedPath.{path_unread}
+use Rattle.std.proofs.lemmas.Bool.{not-false}
 use Rattle.iref_path.proofs.CountedPathLemmas.{counted_by_items}
 use Rattle.iref_path.proofs.counted.path_texts_eq_counted.Goals as goal
-
-pub returns-then-left-right-clause-counted : goal.returns-then-left-right-clause-counted
-returns-then-left-right-clause-counted c =
-    rw (← c.new-left.ensures.path, ← c.new-right.ensures.path)
-    (flags_apart (path_unread c.new-left.result) (path_unread c.new-right.result) _ (omega arith) (not-true _ c.if-left-right.true))
 
 pub returns-then-not-decoded_eq-clause-counted : goal.returns-then-not-decoded_eq-clause-counted
 returns-then-not-decoded_eq-clause-counted c =
@@ -18,16 +11,3 @@ returns-then-not-decoded_eq-clause-counted c =
     rw (← c.new-left.ensures.path, ← c.new-right.ensures.path)
     (counted_by_items c.new-left.result c.new-right.result ((booleans_Decides _ _).0 (not-false _ c.if-left-right.false)) false left.new.self right.new.self (grind arith)
     c.args.steps.now right.new.steps (record { left_shorter = left.ensures.counted.shorter; right_shorter = right.ensures.counted.shorter; counted = omega (arith, left.ensures.counted, right.ensures.counted) }))
-
-pub returns-clause-counted : goal.returns-clause-counted
-returns-clause-counted c =
-    let left = c.first_back-item in
-    let right = c.first_back-other in
-    let done = c.items_eq in
-    rw (← c.new-left.ensures.path, ← c.new-right.ensures.path)
-    (counted_by_items c.new-left.result c.new-right.result ((booleans_Decides _ _).0 (not-false _ c.if-left-right.false)) done.result done.new.left done.new.right (grind arith)
-    c.args.steps.now done.new.steps (record {
-      left_shorter = omega (arith, left.ensures.counted, done.ensures.counted);
-      right_shorter = omega (arith, right.ensures.counted, done.ensures.counted);
-      counted = omega (arith, left.ensures.counted, right.ensures.counted, done.ensures.counted);
-    }))

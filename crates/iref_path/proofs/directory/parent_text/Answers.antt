@@ -1,35 +1,19 @@
 use Rattle.std.proofs.Common.{sym, ap, ◌∙◌}
 use Rattle.std.specs.Cmp.Lexicographic.{same_text, other_text}
 use Rattle.iref_grammar.specs.Tests.{is_path}
-use Rattle.std.specs.Option.{option_map}
-use Rattle.iref_path.specs.Pieces.{value_at}
-use Rattle.iref_path.proofs.SlashLemmas.{cut_last, lacks_if_none}
-use Rattle.iref_model.proofs.PathGrammarLemmas.{path_parts, is_path-root, is_path-guard}
-use Rattle.iref_path.proofs.PathTextLemmas.{parent-slice, parent-guarded, parent-root, parent-none, parent-uncut, nothing, something}
+use Rattle.iref_path.proofs.SlashLemmas.{cut_last}
+use Rattle.iref_model.proofs.PathGrammarLemmas.{path_parts}
+use Rattle.iref_path.proofs.PathTextLemmas.{parent-slice, parent-guarded, parent-root, nothing, something}
 use Rattle.iref_path.proofs.directory.parent_text.Goals as goal
-
-pub returns-in_err-front-clause-parent : goal.returns-in_err-front-clause-parent
-returns-in_err-front-clause-parent g c = ap (option_map value_at) c.from_residual.ensures ∙ sym (parent-uncut c.args.path.now (lacks_if_none _ c.in_err-front.ensures.cases))
-
-pub returns-then-is_empty-2-clause-parent : goal.returns-then-is_empty-2-clause-parent
-returns-then-is_empty-2-clause-parent g c =
-    sym (parent-none c.args.path.now c.in_ok-front.front.now c.in_ok-front.last.now (cut_last _ _ _ c.in_ok-front.ensures.cases)
-    (nothing _ c.if-is_empty.ensures) (nothing _ c.if-is_empty-2.ensures))
 
 pub returns-else-is_empty-2-clause-parent : goal.returns-else-is_empty-2-clause-parent
 returns-else-is_empty-2-clause-parent g c =
     sym (parent-root c.args.path.now c.in_ok-front.front.now c.in_ok-front.last.now (cut_last _ _ _ c.in_ok-front.ensures.cases)
     (nothing _ c.if-is_empty.ensures) (something _ c.if-is_empty-2.ensures))
 
-pub returns-else-is_empty-2-clause-path : goal.returns-else-is_empty-2-clause-path
-returns-else-is_empty-2-clause-path g c = is_path-root g.C.CharSet.tests
-
 pub returns-then-eq-clause-parent : goal.returns-then-eq-clause-parent
 returns-then-eq-clause-parent g c =
     sym (parent-guarded c.args.path.now c.in_ok-front.front.now c.in_ok-front.last.now (cut_last _ _ _ c.in_ok-front.ensures.cases) (same_text _ _ c.if-eq.ensures))
-
-pub returns-then-eq-clause-path : goal.returns-then-eq-clause-path
-returns-then-eq-clause-path g c = is_path-guard g.C.CharSet.tests g.met.C.CharSet.above_ascii
 
 pub returns-else-eq-clause-parent : goal.returns-else-eq-clause-parent
 returns-else-eq-clause-parent g c =

@@ -3,20 +3,8 @@ use Rattle.std.proofs.lemmas.Result.{on_ok_weaker}
 use Rattle.iref_grammar.specs.Grammar.{slash}
 use Rattle.iref_grammar.specs.PathValue.{read_path}
 use Rattle.iref_grammar.specs.Texts.{pieces_at}
-use Rattle.iref_path.proofs.ForwardLemmas.{absolute_after, appended_once, appended_twice, relative_after}
+use Rattle.iref_path.proofs.ForwardLemmas.{appended_twice, relative_after}
 use Rattle.iref_path.proofs.forward.append_normal_after.Goals as goal
-
-pub returns-in-Some : goal.returns-in-Some
-returns-in-Some c =
-    let old = c.args.out.now.items in
-    let base = read_path c.args.base.now in
-    let path = c.args.path.now in
-    let segments = c.in-Some.segments.now in
-    on_ok_weaker c.put_all.result
-    (λ e context h.
-    appended_once old c.extend_from_slice.new.self.items c.len-floor.result (pieces_at slash segments) (grind arith) (grind arith) c.put_all.new.out.items (grind arith)
-    ∙ ap (λ t. old ++ t) (absolute_after context base path segments h c.in-Some.ensures))
-    c.put_all.ensures
 
 pub returns : goal.returns
 returns c =

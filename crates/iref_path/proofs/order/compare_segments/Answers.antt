@@ -1,15 +1,7 @@
-use Rattle.std.proofs.Common.{arith, rules}
+use Rattle.std.proofs.Common.{arith}
 use Rattle.iref_grammar.specs.Grammar.{slash}
 use Rattle.iref_model.proofs.PieceLemmas.{some_piece}
-use Rattle.iref_path.proofs.FrontOrderLemmas.{order_behind_first}
 use Rattle.iref_path.proofs.order.compare_segments.Goals as goal
-
-pub loop-order-preserved : goal.loop-order-preserved
-loop-order-preserved c = record {
-  order = grind (arith, order_behind_first);
-  left = search rules;
-  right = search rules;
-}
 
 pub returns-in-Some-None : goal.returns-in-Some-None
 returns-in-Some-None c = let some = some_piece slash c.in-Some-None.field-0-0.now in grind arith

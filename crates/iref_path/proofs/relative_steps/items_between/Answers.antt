@@ -1,20 +1,9 @@
-use Rattle.std.proofs.Common.{ap, arith, append_assoc, length}
-use Rattle.std.proofs.lemmas.List.{drop-append-le}
-use Rattle.std.proofs.lemmas.List.Sums.{common_prefix_len-le}
+use Rattle.std.proofs.Common.{ap, arith, length}
 use Rattle.iref_grammar.specs.PathValue.{read_path}
 use Rattle.iref_model.specs.NormalList.{normal_segments}
 use Rattle.iref_path.proofs.SpellLemmas.{list_size, normal_size-text}
-use Rattle.iref_path.proofs.WayLemmas.{all_but_last-take, fewer_without_last, length-with_last}
+use Rattle.iref_path.proofs.WayLemmas.{fewer_without_last, length-with_last}
 use Rattle.iref_path.proofs.relative_steps.items_between.Goals as goal
-
-pub overflow_sub-len : goal.overflow_sub-len
-overflow_sub-len c = grind (arith, common_prefix_len-le)
-
-pub overflow_sub-len-2 : goal.overflow_sub-len-2
-overflow_sub-len-2 c = grind (arith, common_prefix_len-le, all_but_last-take, length-with_last)
-
-pub returns-clause-items : goal.returns-clause-items
-returns-clause-items c = grind (arith, common_prefix_len-le, all_but_last-take, length-with_last, drop-append-le, append_assoc)
 
 pub last_after-requires-clause-countable : goal.last_after-requires-clause-countable
 last_after-requires-clause-countable c =
@@ -31,6 +20,3 @@ last_after-requires-clause-countable c =
       list_size list,
       normal_size-text (read_path c.args.path.now).absolute c.args.path.now,
     )
-
-pub returns-clause-depth : goal.returns-clause-depth
-returns-clause-depth c = grind (arith, c.directory_names-directory.ensures)

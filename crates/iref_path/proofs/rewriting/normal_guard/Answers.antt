@@ -1,8 +1,7 @@
-use Rattle.std.proofs.Common.{None, refl, length, arith, ap, ◌∙◌}
-use Rattle.iref_model.specs.NormalList.{normal_segments}
+use Rattle.std.proofs.Common.{None, length, arith, ap, ◌∙◌}
 use Rattle.iref_path.specs.Merged.{merged_path}
 use Rattle.iref_path.specs.Spelling.{each_closed}
-use Rattle.iref_path.proofs.SpellLemmas.{length-guard, normal_size, normalized-spelled, read_size}
+use Rattle.iref_path.proofs.SpellLemmas.{normal_size, read_size}
 use Rattle.iref_path.proofs.rewriting.normal_guard.Goals as goal
 
 pub survey_items-all-requires : goal.survey_items-all-requires
@@ -12,13 +11,3 @@ pub overflow_add-result : goal.overflow_add-result
 overflow_add-result c =
     let size = c.survey_items-all.ensures.size ∙ ap (λ list. length (each_closed list)) c.survey_items-all.ensures.items in
     omega (arith, size, read_size c.args.path.now _ c.split_root-absolute.ensures.path, normal_size (merged_path c.split_root-absolute.result.0 None c.split_root-absolute.result.1))
-
-pub returns-clause-text : goal.returns-clause-text
-returns-clause-text c =
-    let p = merged_path c.split_root-absolute.result.0 None c.split_root-absolute.result.1 in
-    let all = c.survey_items-all.result in
-    let spelled = normalized-spelled c.args.context p (normal_segments p) all.size all.first.now refl (grind arith) (grind arith) in
-    grind arith
-
-pub returns-clause-len : goal.returns-clause-len
-returns-clause-len c = grind (arith, length-guard)

@@ -1,22 +1,15 @@
-use Rattle.std.proofs.lemmas.Str.{IsCharBoundary-end, IsCharBoundary-start}
 use Rattle.std.proofs.Common.{◌++◌, ◌∙◌, append_assoc, arith, length}
 use Rattle.std.proofs.lemmas.List.{take_all}
 use Rattle.iref_grammar.specs.PathValue.{read_path}
 use Rattle.iref_grammar.proofs.PathLemmas.{read_path-reads}
 use Rattle.iref_path.proofs.SlashLemmas.{is_empty-pieces}
-use Rattle.iref_path.proofs.StepTextLemmas.{first_pushed, next_pushed, put_to_end, to_end}
+use Rattle.iref_path.proofs.StepTextLemmas.{first_pushed, next_pushed, put_to_end}
 use Rattle.iref_path.proofs.steps.push_text.Goals as goal
 
 pub returns-then-is_some-clause-text : goal.returns-then-is_some-clause-text
 returns-then-is_some-clause-text c =
     let path = c.args.path.now in
     grind (arith, append_assoc, put_to_end, take_all (length path) path, (read_path-reads path).spelled, is_empty-pieces, next_pushed c.args.context (read_path path) c.args.segment.now)
-
-pub returns-then-is_some-clause-within : goal.returns-then-is_some-clause-within
-returns-then-is_some-clause-within c = to_end c.args.path.now _ (IsCharBoundary-end c.args.path.now)
-
-pub returns-clause-within : goal.returns-clause-within
-returns-clause-within c = to_end c.args.path.now 0 (IsCharBoundary-start c.args.path.now c.utf8.path)
 
 pub returns-clause-text : goal.returns-clause-text
 returns-clause-text c =

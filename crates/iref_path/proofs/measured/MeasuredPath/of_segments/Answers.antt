@@ -2,12 +2,8 @@ use Rattle.std.proofs.Common.{arith}
 use Rattle.iref_path.specs.Merged.{merged_path}
 use Rattle.iref_path.specs.NormalItems.{normal_left}
 use Rattle.iref_path.specs.MeasuredPaths.{measured_text}
-use Rattle.iref_path.proofs.DotlessLemmas.{both_size}
-use Rattle.iref_path.proofs.SpellLemmas.{length-join, normal_size, normalized-spelled}
+use Rattle.iref_path.proofs.SpellLemmas.{normalized-spelled}
 use Rattle.iref_path.proofs.measured.MeasuredPath.of_segments.Goals as goal
-
-pub dotless-requires-clause-room : goal.dotless-requires-clause-room
-dotless-requires-clause-room c = grind (arith, both_size)
 
 pub returns-clause-text : goal.returns-clause-text
 unfolding measured_text
@@ -15,9 +11,3 @@ returns-clause-text c =
     let spelled = normalized-spelled c.args.context (merged_path c.args.absolute c.args.front c.args.back) (normal_left c.survey_items-all.result.items) c.survey_items-all.result.size c.survey_items-all.result.first.now
     (grind arith) (grind arith) (grind arith) in
     grind arith
-
-pub returns-clause-measured : goal.returns-clause-measured
-returns-clause-measured c = record {
-  body = (c.survey_items-all.ensures.sound, grind arith);
-  countable = grind (arith, normal_size, length-join);
-}

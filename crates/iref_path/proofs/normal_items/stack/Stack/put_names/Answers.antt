@@ -1,18 +1,10 @@
-use Rattle.std.proofs.Common.{◌++◌, refl, arith, append_assoc, ◌∙◌}
+use Rattle.std.proofs.Common.{◌++◌, arith, append_assoc, ◌∙◌}
 use Rattle.std.proofs.lemmas.List.{append-nil}
 use Rattle.iref_path.specs.Pieces.{pieces_if_some}
 use Rattle.iref_path.specs.NormalItems.{names_staying}
-use Rattle.iref_path.proofs.SpellLemmas.{kept_size, list_size}
+use Rattle.iref_path.proofs.SpellLemmas.{kept_size}
 use Rattle.iref_path.proofs.MergedLemmas.{size_last}
 use Rattle.iref_path.proofs.normal_items.stack.Stack.put_names.Goals as goal
-
-pub loop-name-init : goal.loop-name-init
-loop-name-init c = record {
-  parents = grind arith;
-  items = λ front whole h. rw c.unread-left.ensures h;
-  size = grind arith;
-  readable = rw c.unread-left.ensures (record { countable = omega (arith, list_size (pieces_if_some c.args.segments)); settled = refl });
-}
 
 pub put-requires : goal.put-requires
 put-requires c = omega (arith, size_last _ _ _ c.in-Some.ensures.name, kept_size (pieces_if_some c.args.segments))

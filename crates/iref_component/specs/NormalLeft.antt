@@ -5,12 +5,8 @@ use Rattle.iref_grammar.specs.Rules.{Text}
 use Rattle.iref_path.specs.NormalItems.{normal_left}
 use Rattle.iref_path.specs.Stacks.{in_order}
 use Rattle.iref_path.specs.declared.normal_items.NormalItems.{NormalItems}
-use Rattle.iref_path.specs.declared.normal_items.listed.Listed.{Listed}
 
 -- the items that are left in the text, if they are there, and else those on the stack
 unfoldable pub left_of : List (Bor Text) → Option NormalItems → List Text
 left_of items (Some rest) = normal_left rest
 left_of items None = in_order items
-
-abbrev pub listed_left : Listed → List Text
-listed_left l = left_of l.items l.rest
