@@ -3,7 +3,8 @@ use Rattle.std.proofs.Common.{arith, false, ◌&&◌, ◌||◌, get_or, get_or-d
 use Rattle.std.proofs.lemmas.Bool.{cases_lt}
 use Rattle.std.proofs.lemmas.Bool.Decides.{nat_tests}
 use Rattle.std.proofs.lemmas.Grind.{common_steps, flat_map-append}
-use Rattle.std.proofs.lemmas.List.{append-nil, take_at}
+use Rattle.std.proofs.lemmas.List.{append-nil, drop-drop, take_at}
+use Rattle.std.proofs.Math.Seq.{take-add}
 use Rattle.std.specs.Char.{char_set_contains}
 use Rattle.std.specs.List.{position_or_len}
 use Rattle.std.specs.Prelude.{◌==◌}
@@ -18,19 +19,9 @@ use Rattle.iref_canonical.proofs.SortPutLemmas.{IsPutting, all_put, one_put}
 abbrev pub first_slash : Text → ℕ
 first_slash text = position_or_len (char_set_contains (slash ∷ [])) text
 
-take_both : (k m : ℕ) (t : Text) → take (k + m) t ≡ take k t ++ take m (drop k t)
-take_both zero m t = grind (arith, common_steps)
-take_both (suc k) m [] = grind (arith, common_steps)
-take_both (suc k) m (c ∷ cs) = let on : suc k + m ≡ suc (k + m) = omega arith in ap (λ n. take n (c ∷ cs)) on ∙ ap (λ t. c ∷ t) (take_both k m cs)
-
-drop_both : (k m : ℕ) (t : Text) → drop m (drop k t) ≡ drop (k + m) t
-drop_both zero m t = grind (arith, common_steps)
-drop_both (suc k) m [] = grind (arith, common_steps)
-drop_both (suc k) m (c ∷ cs) = let on : suc (k + m) ≡ suc k + m = omega arith in drop_both k m cs ∙ ap (λ n. drop n (c ∷ cs)) on
-
 -- what is left behind some bytes
 pub behind : (from count k : ℕ) (rest : Text) → segment_bytes (take (count - from - k) (drop k (drop from rest))) ≡ segment_bytes (take (count - (from + k)) (drop (from + k) rest))
-behind from count k rest = let same : count - from - k ≡ count - (from + k) = omega arith in (λ i. segment_bytes (take (same i) (drop_both from k rest i)))
+behind from count k rest = let same : count - from - k ≡ count - (from + k) = omega arith in (λ i. segment_bytes (take (same i) (drop-drop k from rest i)))
 
 -- the bytes before the first slash stand as they are
 no_slash : (n : ℕ) (t : Text) → n ≤ first_slash t → segment_bytes (take n t) ≡ take n t
@@ -88,7 +79,7 @@ module _ (w block : Text) (left f : ℕ) (is : block ≡ take 16 w) (size : leng
   whole_is : f ≡ 16 → 16 ≤ left → segment_bytes (take left w) ≡ take 16 block ++ segment_bytes (take (left - 16) (drop 16 w))
   whole_is e h =
       let sum : left ≡ 16 + (left - 16) = omega arith in
-      ap (λ n. segment_bytes (take n w)) sum ∙ ap segment_bytes (take_both 16 (left - 16) w) ∙ flat_map-append segment_byte (take 16 w) (take (left - 16) (drop 16 w))
+      ap (λ n. segment_bytes (take n w)) sum ∙ ap segment_bytes (take-add 16 (left - 16) w) ∙ flat_map-append segment_byte (take 16 w) (take (left - 16) (drop 16 w))
       ∙ ap (λ t. t ++ segment_bytes (take (left - 16) (drop 16 w))) (ap segment_bytes (sym (same 16 (omega arith))) ∙ plain 16 (omega arith))
 
   slash_is : f < 16 → f < left → segment_bytes (take left w) ≡ take f block ++ (0 ∷ 1 ∷ segment_bytes (take (left - (f + 1)) (drop (f + 1) w)))
@@ -97,7 +88,7 @@ module _ (w block : Text) (left f : ℕ) (is : block ≡ take 16 w) (size : leng
       let sum : left ≡ f + suc m = omega arith in
       let first : first_slash w ≡ f = first_same 16 w (subst (λ t. first_slash t < length t) is (omega (arith, place, size))) ∙ ap first_slash (sym is) ∙ sym place in
       let cut : drop f w ≡ slash ∷ drop (f + 1) w = subst (λ n. drop n w ≡ slash ∷ drop (n + 1) w) first (slash_at w (omega (arith, first, longer))) in
-      ap (λ n. segment_bytes (take n w)) sum ∙ ap segment_bytes (take_both f (suc m) w) ∙ flat_map-append segment_byte (take f w) (take (suc m) (drop f w))
+      ap (λ n. segment_bytes (take n w)) sum ∙ ap segment_bytes (take-add f (suc m) w) ∙ flat_map-append segment_byte (take f w) (take (suc m) (drop f w))
       ∙ (λ i. (ap segment_bytes (sym (same f (omega arith))) ∙ plain f (omega arith)) i ++ segment_bytes (take (suc m) (cut i)))
     where
       longer : 16 ≤ length w

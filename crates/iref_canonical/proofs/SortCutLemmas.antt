@@ -20,7 +20,8 @@ use Rattle.iref_canonical.specs.declared.padded.Padded.{Padded}
 use Rattle.iref_canonical.specs.SortBytes.{is_kept, is_kept_byte, are_kept_parts}
 use Rattle.iref_canonical.specs.SortKey.{sort_authority, sort_option, sort_text}
 use Rattle.iref_canonical.specs.SortPuts.{Puts}
-use Rattle.iref_canonical.proofs.SortPutLemmas.{both_put}
+use Rattle.iref_canonical.proofs.SortByteLemmas.{kept_sorted}
+use Rattle.iref_canonical.proofs.SortPutLemmas.{both_put, kept_host}
 
 pub length_in : (p : Padded) → IsPadded p → length (text_in p) ≡ p.len
 length_in p h = grind (arith, length-take)
@@ -105,3 +106,5 @@ pub rootless : (t : Text) → (0 < length t → (get_or t 0 0 == slash) ≡ fals
 unfolding read_path
 rootless [] h = refl
 rootless (c ∷ cs) h = ap (λ b. cond {A = PathValue} b (record { absolute = true; segments = segments_of cs }) (record { absolute = false; segments = segments_of (c ∷ cs) })) (h (omega arith))
+
+pub ruleset hosts = (both_put, host_is, kept_host, kept_sorted, length_in, prefix_len-le-length)

@@ -1,7 +1,7 @@
 -- Sort keys put from the front.
-use Rattle.std.proofs.Common.{arith, ◌≡◌, ℕ, ◌+◌, ◌++◌, ◌∷◌, [], List, Bool, true, false, length, take, drop, refl, sym, ◌∙◌, ap, subst, cond, ◌&&◌, append_assoc, length-append}
+use Rattle.std.proofs.Common.{arith, ◌≡◌, ℕ, ◌+◌, ◌++◌, ◌∷◌, [], List, Bool, true, false, length, take, drop, refl, sym, ◌∙◌, ap, subst, cond, ◌&&◌, append_assoc, length-append, take_all}
 use Rattle.std.proofs.lemmas.Bool.{and_parts}
-use Rattle.std.proofs.lemmas.List.{append-nil, length-map, map-append}
+use Rattle.std.proofs.lemmas.List.{append-nil, drop_all, length-map, map-append}
 use Rattle.std.specs.List.{flat_map, list_all, onto_first}
 use Rattle.std.specs.Char.{to_ascii_lowercase}
 use Rattle.std.specs.Prelude.{map, option_map, Option, None, Some, ◌==◌}
@@ -146,3 +146,5 @@ all_size s absolute items e =
     let path = ap (λ (p : PathValue). length (sort_list sort_item p.segments)) e in
     let all = length-sort_key (lowered (value_of s)) in
     omega arith
+
+pub ruleset puts = (all_put, both_put, option_put, option_size, lower_size, length-append, take_all, drop_all)

@@ -16,6 +16,7 @@ use Rattle.std.proofs.lemmas.List.{length-map}
 use Rattle.std.specs.Char.{to_ascii_lowercase}
 use Rattle.std.specs.Option.{option_copied}
 use Rattle.percent_encoding.specs.Percent.{percent_decode}
+use Rattle.iref_path.proofs.WrittenLemmas.{both_written}
 use Rattle.iref_canonical.specs.declared.sort_key.Sortable.{Sortable}
 use Rattle.iref_canonical.specs.Sortable.{sortable_key, key_of_slices}
 use Rattle.iref_canonical.specs.SortItems.{items_of}
@@ -105,3 +106,5 @@ length-sortable s =
     ∙ ap (λ n. n + length (sort_option sort_authority (option_map key_of_slices s.authority)) + (1 + length (sort_list sort_item (items_of s.items)))
     + length (sort_option sort_text (option_map percent_decode (option_copied s.query)))
     + length (sort_option sort_text (option_map percent_decode (option_copied s.fragment)))) scheme
+
+pub ruleset sizes = (both_written, length-sort_path, length-sortable)

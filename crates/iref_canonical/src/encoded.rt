@@ -53,6 +53,7 @@ fn split_last_escape(text: &[u8]) -> Option<(&[u8], u8)>
 
 /// The last byte that the text decodes to, and what stands before it.
 #[inline(always)]
+#[tactic(auto, using(crate::proofs::DecodedLemmas::splits))]
 pub(crate) fn split_last_decoded(text: &[u8]) -> Option<(&[u8], u8)>
     ensures { MatchOption result (text.now ≡ [])
         (λ split. SplitsLast text.now split.0.now split.1) }

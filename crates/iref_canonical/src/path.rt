@@ -90,6 +90,7 @@ fn count_standing_in(absolute: bool, left: NormalItems<'_>) -> usize
 }
 
 // A text that is empty, or has a `:`, exactly if what the item decodes to is or has.
+#[tactic(auto, using(crate::proofs::ColonLemmas::samples))]
 fn sample(item: &str) -> &'static str
     ensures empty { is_empty result.now ≡ is_empty (percent_decode item.now) }
     ensures colon { char_set_contains result.now colon
@@ -105,6 +106,7 @@ fn sample(item: &str) -> &'static str
 }
 
 // Puts an item that does not stand.
+#[tactic(auto, using(crate::proofs::SetLemmas::sets))]
 fn put_name<O: Backward>(out: &mut O, item: &str)
     requires { O.fits out.old (canonical_name (percent_decode item.now)) }
     ensures { out.new ≡ O.after out.old (canonical_name (percent_decode item.now)) }

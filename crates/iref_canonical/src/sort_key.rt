@@ -126,6 +126,7 @@ impl<'a> Sortable<'a> {
     }
 
     // How many bytes the sort key has.
+    #[tactic(auto, using(crate::proofs::SortableLemmas::sizes))]
     fn len(&self) -> Option<usize>
         requires { IsSortable self.now }
         ensures { IfSome result (λ len. len ≡ length (sort_key (sortable_key self.now))) }
@@ -140,6 +141,7 @@ impl<'a> Sortable<'a> {
     }
 
     // Writes the sort key so that it ends at `end`, and returns where it begins.
+    #[tactic(auto, using(crate::proofs::SortableLemmas::sizes), unfolding(crate::specs::SortKey::sort_key))]
     fn write(&self, buffer: &mut [u8], end: usize) -> usize
         requires sortable { IsSortable self.now }
         requires room { length (sort_key (sortable_key self.now)) ≤ end }

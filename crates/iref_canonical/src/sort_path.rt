@@ -25,6 +25,7 @@ pub(crate) enum Items<'a> {
 }
 
 // How many bytes a sort key has for segments, each byte of which is written as it is, and their end.
+#[tactic(auto, using(crate::proofs::SortItemLemmas::kept_size))]
 fn segments_len(segments: Option<&str>) -> Option<usize>
     requires { AreKept (pieces_if_some segments) }
     ensures { IfSome result (λ len.
@@ -71,6 +72,7 @@ fn items_len(mut left: NormalItems<'_>) -> Option<usize>
 }
 
 // Writes items and their end so that they end at `end`, and returns where they begin.
+#[tactic(auto, using(crate::proofs::SortItemLemmas::none_written))]
 fn write_items(buffer: &mut [u8], end: usize, mut left: NormalItems<'_>) -> usize
     requires sound { IsSound left }
     requires room { length (sort_list sort_item (decoded_left left)) ≤ end }

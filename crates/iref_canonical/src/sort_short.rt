@@ -71,6 +71,7 @@ fn store_block(buffer: &mut [u8], at: usize, bytes: &[u8])
 
 // Puts a text and its end.
 #[inline(always)]
+#[tactic(auto, using(crate::proofs::SortPutLemmas::puts))]
 fn put_text(buffer: &mut [u8], at: usize, text: &str) -> usize
     requires { at + length text.now + 1 ≤ length buffer.old }
     ensures { Puts at (text.now ++ 0 ∷ []) buffer.old buffer.new result }
@@ -96,6 +97,7 @@ fn put_padded(buffer: &mut [u8], at: usize, text: Padded<'_>) -> usize
 
 // Puts a text that may not be there.
 #[inline(always)]
+#[tactic(auto, using(crate::proofs::SortPutLemmas::puts))]
 fn put_option(buffer: &mut [u8], at: usize, text: Option<Padded<'_>>) -> usize
     requires kept { none_or is_kept (option_map text_in text) ≡ true }
     requires padded { IfSome text IsPadded }
@@ -200,6 +202,7 @@ fn put_path(buffer: &mut [u8], at: usize, path: Padded<'_>) -> Option<usize>
 }
 
 // Puts a text in lower case and its end. The bytes are written one by one.
+#[tactic(auto, using(crate::proofs::SortPutLemmas::puts))]
 fn put_lower(buffer: &mut [u8], at: usize, text: &str) -> usize
     requires { at + length text.now + 1 ≤ length buffer.old }
     ensures { Puts at (str_to_ascii_lowercase text.now ++ 0 ∷ []) buffer.old buffer.new result }
@@ -234,6 +237,7 @@ fn put_scheme(buffer: &mut [u8], at: usize, scheme: Option<&str>) -> usize
 
 // Where the first `:` of a host and a port can stand: behind an address in brackets.
 #[inline(always)]
+#[tactic(auto, using(crate::proofs::SortCutLemmas::hosts))]
 fn address_len(text: Padded<'_>) -> usize
     requires { IsPadded text }
     ensures value { take result (text_in text.entry) ≡ bracketed (text_in text.entry) }
@@ -249,6 +253,7 @@ fn address_len(text: Padded<'_>) -> usize
 
 // Puts a host, and a port, which may not be there.
 #[inline(always)]
+#[tactic(auto, using(crate::proofs::SortCutLemmas::hosts, std::proofs::lemmas::Grind::common_steps))]
 fn put_host(buffer: &mut [u8], at: usize, text: Padded<'_>) -> usize
     requires kept { are_kept_parts (read_host_and_port None (text_in text)) ≡ true }
     requires padded { IsPadded text }
@@ -433,6 +438,7 @@ fn put_from_authority(
 
 // Puts the sort key of the reference of these components, from the front of the buffer.
 #[inline(always)]
+#[tactic(auto, using(crate::proofs::SortPutLemmas::puts))]
 fn put_all(buffer: &mut [u8], text: Padded<'_>, slices: ReferenceSlices<'_>) -> Option<usize>
     requires spelled { text_in text ≡ spelled_slices slices }
     requires kept { AreKeptSlices slices }
