@@ -163,6 +163,7 @@ fn put_segments(buffer: &mut [u8], at: usize, text: Padded<'_>) -> Option<usize>
 
 // Puts the items of a path without its root, and their end, unless one begins with a dot.
 #[inline(always)]
+#[tactic(auto, using(crate::proofs::SortPutLemmas::items))]
 fn put_items(buffer: &mut [u8], at: usize, text: Padded<'_>) -> Option<usize>
     requires kept { is_kept (text_in text) ≡ true }
     requires padded { IsPadded text }
@@ -184,6 +185,7 @@ fn put_items(buffer: &mut [u8], at: usize, text: Padded<'_>) -> Option<usize>
 
 // Puts a path, unless a segment begins with a dot.
 #[inline(always)]
+#[tactic(auto, using(crate::proofs::SortCutLemmas::paths), unfolding(crate::specs::SortKey::sort_path))]
 fn put_path(buffer: &mut [u8], at: usize, path: Padded<'_>) -> Option<usize>
     requires kept { is_kept (text_in path) ≡ true }
     requires padded { IsPadded path }
@@ -216,6 +218,7 @@ fn put_lower(buffer: &mut [u8], at: usize, text: &str) -> usize
 
 // Puts a scheme in lower case, which may not be there. Most schemes are `http` and `https`.
 #[inline(always)]
+#[tactic(auto, using(crate::proofs::SortPutLemmas::schemes))]
 fn put_scheme(buffer: &mut [u8], at: usize, scheme: Option<&str>) -> usize
     requires kept { none_or is_kept (option_copied scheme) ≡ true }
     requires room { at + length (sort_option sort_text (option_copied scheme))
@@ -272,6 +275,7 @@ fn put_host(buffer: &mut [u8], at: usize, text: Padded<'_>) -> usize
 
 // Puts the parts of an authority.
 #[inline(always)]
+#[tactic(auto, using(crate::proofs::SortCutLemmas::parts))]
 fn put_parts(buffer: &mut [u8], at: usize, text: Padded<'_>) -> usize
     requires kept { are_kept_parts (read_authority (text_in text)) ≡ true }
     requires padded { IsPadded text }
@@ -295,6 +299,7 @@ fn put_parts(buffer: &mut [u8], at: usize, text: Padded<'_>) -> usize
 
 // Puts an authority. Most are a host of at most 16 bytes.
 #[inline(always)]
+#[tactic(auto, using(crate::proofs::SortCutLemmas::lone))]
 fn put_authority(buffer: &mut [u8], at: usize, text: Padded<'_>) -> usize
     requires kept { are_kept_parts (read_authority (text_in text)) ≡ true }
     requires padded { IsPadded text }
@@ -379,6 +384,7 @@ fn split_part<'a>(
 
 // Puts the query and the fragment of a text that begins with them.
 #[inline(always)]
+#[tactic(auto, using(crate::proofs::SortPutLemmas::puts, std::proofs::lemmas::Grind::common_steps))]
 fn put_tail(buffer: &mut [u8], at: usize, text: Padded<'_>, slices: ReferenceSlices<'_>) -> usize
     requires spelled { text_in text ≡ spelled_tail slices }
     requires kept { AreKeptSlices slices }
@@ -457,6 +463,7 @@ fn put_all(buffer: &mut [u8], text: Padded<'_>, slices: ReferenceSlices<'_>) -> 
 // Puts the sort key of a short text, unless a byte stands in it otherwise or a segment of the path
 // begins with a dot.
 #[inline(always)]
+#[tactic(auto, using(crate::proofs::SortShortLemmas::shorts))]
 pub(crate) fn put_short(
     buffer: &mut [u8; ROOM],
     text: &str,

@@ -1,6 +1,6 @@
 use Rattle.std.proofs.Common.{arith, ap, length, length-append}
 use Rattle.iref_canonical.specs.SortPuts.{spelled_tail}
-use Rattle.iref_canonical.proofs.SortCutLemmas.{length_in}
+use Rattle.iref_canonical.proofs.SortPutLemmas.{length_in}
 use Rattle.iref_canonical.proofs.sort_short.put_from_path.Goals as goal
 
 pub front-requires-clause-within : goal.front-requires-clause-within
