@@ -1,5 +1,5 @@
 -- What decides on the guard of a canonical path: whether the first item is empty, and whether it has a `:`.
-use Rattle.std.proofs.Common.{◌≡◌, ℕ, ◌*◌, ◌/◌, ◌%◌, ◌<◌, ◌≤◌, Bool, true, false, not, cond, ◌&&◌, ◌||◌, List, [], ◌∷◌, ◌++◌, map, length, refl, sym, ◌∙◌, ap, arith}
+use Rattle.std.proofs.Common.{◌≡◌, ℕ, ◌/◌, ◌%◌, ◌<◌, Bool, true, false, not, cond, ◌&&◌, ◌||◌, List, [], ◌∷◌, ◌++◌, map, length, refl, sym, ◌∙◌, ap, arith}
 use Rattle.std.specs.Prelude.{codes, ◌==◌}
 use Rattle.std.specs.Char.{char_set_contains}
 use Rattle.std.specs.Fmt.{digit_glyph}

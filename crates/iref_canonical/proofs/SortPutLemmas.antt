@@ -50,8 +50,9 @@ pub record IsPutting (at : ℕ) (all left old new : Text) (end : ℕ) : Type 0 w
 pub none_put : (at : ℕ) (all old : Text) → IsPutting at all all old old at
 none_put at all old = record { range = refl; written = refl; len = refl }
 
-pub one_put : (at : ℕ) (all one left old half new : Text) (mid end : ℕ) → IsPutting at all (one ++ left) old half mid → Puts mid one half new end → IsPutting at all left old new end
-one_put at all one left old half new mid end h k = let r = h.range in let w = h.written in let s = k.range in let v = k.written in record { range = grind (arith, length-append); written = grind (arith, append_assoc); len = k.len ∙ h.len }
+pub one_put : (at : ℕ) (all before one left old half new : Text) (mid end : ℕ) → IsPutting at all before old half mid → Puts mid one half new end → before ≡ one ++ left → IsPutting at all left old new end
+one_put at all before one left old half new mid end h k e =
+    let r = h.range in let w = h.written in let s = k.range in let v = k.written in record { range = grind (arith, length-append); written = grind (arith, append_assoc); len = k.len ∙ h.len }
 
 pub all_put : (at : ℕ) (all old new : Text) (end : ℕ) → IsPutting at all [] old new end → Puts at all old new end
 all_put at all old new end h = let r = h.range in record { range = grind arith; written = sym (append-nil (take end new)) ∙ h.written; len = h.len }

@@ -138,3 +138,7 @@ standing-step all front item n e = sym (ap (λ list. standing_before list n) (de
 
 pub standing-end : (all : List Text) → all ≡ [] → standing_of (map percent_decode all) ≡ 0
 standing-end all e = ap (λ list. standing_of (map percent_decode list)) e ∙ standing-nothing
+
+pub ruleset steps = (joined-end, joined-step, closed-end, closed-step, one_less)
+
+pub ruleset stands = (standing-end, standing-first, standing-step)

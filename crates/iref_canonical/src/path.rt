@@ -61,6 +61,7 @@ fn decodes_to_colon(text: &str) -> bool
 }
 
 // How many items of a relative list are `..` that stand first, not the last item among them.
+#[tactic(auto, using(crate::proofs::SpelledItemLemmas::stands, std::proofs::lemmas::Grind::common_steps))]
 fn count_standing(mut left: NormalItems<'_>) -> usize
     requires sound { IsSound left }
     requires countable { length (normal_left left) < 2 ^ 64 }
@@ -143,6 +144,7 @@ fn put_closed_item<O: Backward>(out: &mut O, item: &str, stands: bool)
 }
 
 // Puts the items, each with a `/` after it.
+#[tactic(auto, using(crate::proofs::SpelledItemLemmas::steps))]
 fn put_closed<O: Backward>(out: &mut O, mut left: NormalItems<'_>, count: usize, standing: usize)
     requires sound { IsSound left }
     requires count { count ≡ length (normal_left left) }
@@ -158,6 +160,7 @@ fn put_closed<O: Backward>(out: &mut O, mut left: NormalItems<'_>, count: usize,
 }
 
 // Puts the items with `/` between. The last one does not stand.
+#[tactic(auto, using(crate::proofs::SpelledItemLemmas::steps))]
 fn put_items<O: Backward>(out: &mut O, mut left: NormalItems<'_>, count: usize, standing: usize)
     requires sound { IsSound left }
     requires count { count ≡ length (normal_left left) }

@@ -106,6 +106,7 @@ fn parts_of(authority: Option<&str>) -> Option<AuthoritySlices<'_>>
 
 impl<'a> Sortable<'a> {
     // The components of a reference's text, from its slices.
+    #[tactic(auto, unfolding(iref_model::specs::Key::key, iref_model::specs::PathKey::path_key))]
     fn new(text: &'a str, slices: ReferenceSlices<'a>) -> Self
         requires value { value_of slices ≡ read_reference text.now }
         requires texts { texts_of slices ≡ spell_components (read_reference text.now) }

@@ -20,9 +20,8 @@ ghost use Rattle.iref_canonical.specs.SortItems.{AreKept};
 ghost use Rattle.iref_canonical.specs.SortKey.{sort_authority, sort_item, sort_key, sort_list};
 ghost use Rattle.iref_canonical.specs.SortKey.{sort_option, sort_path, sort_text};
 ghost use Rattle.iref_canonical.specs.SortPuts.{AreKeptSlices, Puts, segment_bytes};
-ghost use Rattle.iref_canonical.specs.SortPuts.{sorted_from_authority, sorted_from_path};
-ghost use Rattle.iref_canonical.specs.SortPuts.{sorted_slices, sorted_tail};
-ghost use Rattle.iref_canonical.specs.SortPuts.{spelled_from_authority, spelled_from_path};
+ghost use Rattle.iref_canonical.specs.SortPuts.{sorted_from_authority, sorted_slices};
+ghost use Rattle.iref_canonical.specs.SortPuts.{sorted_tail, spelled_from_authority};
 ghost use Rattle.iref_canonical.specs.SortPuts.{spelled_slices, spelled_tail};
 
 use crate::padded::Padded;
@@ -398,30 +397,9 @@ fn put_tail(buffer: &mut [u8], at: usize, text: Padded<'_>, slices: ReferenceSli
     put_option(buffer, at, fragment)
 }
 
-// Puts the path and what follows it.
-#[inline(always)]
-fn put_from_path(
-    buffer: &mut [u8],
-    at: usize,
-    text: Padded<'_>,
-    slices: ReferenceSlices<'_>,
-) -> Option<usize>
-    requires spelled { text_in text ≡ spelled_from_path slices }
-    requires kept { AreKeptSlices slices }
-    requires padded { IsPadded text }
-    requires room { at + length (sorted_from_path slices) + 16 ≤ length buffer.old }
-    ensures put { IfSome result (λ end.
-        Puts at (sorted_from_path slices.entry) buffer.old buffer.new end) }
-    ensures dotless { IfSome result (λ end.
-        has_dot_segment slices.entry.path.now ≡ false) }
-{
-    let at = put_path(buffer, at, text.front(slices.path.len()))?;
-    let rest = text.skip(slices.path.len());
-    Some(put_tail(buffer, at, rest, slices))
-}
-
 // Puts the authority and what follows it.
 #[inline(always)]
+#[tactic(auto, using(crate::proofs::SortPutLemmas::puts))]
 fn put_from_authority(
     buffer: &mut [u8],
     at: usize,
@@ -439,7 +417,8 @@ fn put_from_authority(
 {
     let (authority, rest) = split_part(text, 2, slices.authority);
     let at = put_authority_option(buffer, at, authority);
-    put_from_path(buffer, at, rest, slices)
+    let at = put_path(buffer, at, rest.front(slices.path.len()))?;
+    Some(put_tail(buffer, at, rest.skip(slices.path.len()), slices))
 }
 
 // Puts the sort key of the reference of these components, from the front of the buffer.
