@@ -85,3 +85,5 @@ module _ (set : CharTests) (above : AreAboveAscii set) where
 
   pub text_utf8 : (text : Text) → is_reference set text ≡ true → IsUtf8 (canonical_text (key (read_reference text)))
   text_utf8 text h = let z = text_is_reference text ((Decides-is_uri_reference set above text).0 h) in (z.0, (z.1, z.2))
+
+pub ruleset again = (canonical-again, text_again)

@@ -6,6 +6,8 @@ use Rattle.std.proofs.lemmas.Bool.Decides.{nat_tests}
 use Rattle.percent_encoding.specs.Percent.{percent_decode}
 use Rattle.percent_encoding.proofs.PercentLemmas.{percent_decode-nil}
 use Rattle.iref_grammar.specs.Rules.{Text}
+use Rattle.iref_model.proofs.ComparisonLemmas.{empty-decoded}
+use Rattle.iref_path.proofs.PathTextLemmas.{nothing}
 use Rattle.iref_canonical.specs.Decoded.{SplitsLast}
 
 pub contains-last : (front : Text) (last mark : ℕ) → char_set_contains (front ++ last ∷ []) mark ≡ (char_set_contains front mark || last == mark)
@@ -18,3 +20,5 @@ decoded-contains text front byte mark h = ap (λ t. char_set_contains t mark) h.
 
 pub nothing-contains : (text : Text) (mark : ℕ) → text ≡ [] → char_set_contains (percent_decode text) mark ≡ false
 nothing-contains text mark e = ap (λ t. char_set_contains (percent_decode t) mark) e ∙ ap (λ t. char_set_contains t mark) percent_decode-nil
+
+pub ruleset samples = (nothing, nothing-contains, empty-decoded)

@@ -80,3 +80,5 @@ splits-byte text front last e h =
       decoded = ap percent_decode e ∙ decode_last_byte front last (ap ends_in_escape (sym e) ∙ h);
       shorter = grind (arith, common_steps);
     }
+
+pub ruleset splits = (splits-byte, splits-escape, ends-at, no_room)

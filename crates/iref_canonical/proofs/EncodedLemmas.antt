@@ -19,3 +19,5 @@ encoded-last set text front byte h =
 
 pub encoded-nothing : (set : AsciiSet) (text : Text) → text ≡ [] → percent_encode set (percent_decode text) ≡ []
 encoded-nothing set text e = ap (λ t. percent_encode set (percent_decode t)) e ∙ ap (percent_encode set) percent_decode-nil ∙ percent_encode-nil set
+
+pub ruleset lasts = (encoded-last, encoded-nothing)

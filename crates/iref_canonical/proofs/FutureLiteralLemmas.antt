@@ -135,3 +135,5 @@ read-next p text rest b e = ap (is_read p) e
 pub read-nothing : (p : Progress) (text : Text) → text ≡ [] → is_read p text ≡ is_whole p
 unfolding is_read
 read-nothing p text e = ap (is_read p) e
+
+pub ruleset reads = (read-future, read-next, read-nothing)

@@ -233,3 +233,5 @@ plain_text set above text h lower unescaped dotless =
     let readable = is_reference-ascii set above text h ∙ unescaped-ascii text unescaped in
     let plain : IsPlainReference (read_reference text) = record { lower = lower; unescaped = ap are_unescaped spelled ∙ unescaped; dotless = dotless } in
     ap spell (plain_canonical (read_reference text) readable plain) ∙ spelled
+
+pub ruleset plain = (plain_text, read_dotless)

@@ -54,3 +54,5 @@ module _ (parts : AuthoritySlices) where
       → spell_authority (canonical_authority (authority_key value)) ≡ (user_info_part ++ host_part) ++ port_part
   unfolding spell_authority
   authority-spelled value e = ap (λ a. spell_authority (canonical_authority (authority_key a))) (sym e)
+
+pub ruleset hosts = (encoded-literal, encoded-other)

@@ -70,3 +70,5 @@ encoded-fragment = all_bytes QUERY (is_fragment_char uri_chars) plain_fragment r
 pub encoded-query : (bytes : Text) → percent_encode QUERY bytes ≡ encoded (is_query_char uri_chars) bytes
 unfolding is_query_char is_fragment_char is_path_char is_user_info_char is_reg_name_char
 encoded-query = all_bytes QUERY (is_query_char uri_chars) plain_query refl
+
+pub ruleset sets = (encoded-query, encoded-segment)

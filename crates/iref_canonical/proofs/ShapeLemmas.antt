@@ -1,5 +1,5 @@
 -- What decides on the guard of a canonical path: whether the first item is empty, and whether it has a `:`.
-use Rattle.std.proofs.Common.{◌≡◌, ℕ, ◌*◌, ◌/◌, ◌%◌, ◌<◌, ◌≤◌, Bool, true, false, not, cond, ◌&&◌, ◌||◌, List, [], ◌∷◌, ◌++◌, map, length, refl, sym, ◌∙◌, ap, arith}
+use Rattle.std.proofs.Common.{◌≡◌, ℕ, ◌/◌, ◌%◌, ◌<◌, Bool, true, false, not, cond, ◌&&◌, ◌||◌, List, [], ◌∷◌, ◌++◌, map, length, refl, sym, ◌∙◌, ap, arith}
 use Rattle.std.specs.Prelude.{codes, ◌==◌}
 use Rattle.std.specs.Char.{char_set_contains}
 use Rattle.std.specs.Fmt.{digit_glyph}
@@ -8,7 +8,7 @@ use Rattle.std.specs.Cmp.Lexicographic.{bytes_decides}
 use Rattle.std.proofs.lemmas.Bool.Decides.{nat_tests}
 use mathlib.Core.Bool.{true≢false}
 use Rattle.percent_encoding.specs.Percent.{percent_decode, percent_encode_byte}
-use Rattle.percent_encoding.proofs.PercentLemmas.{length-percent_decode, percent_decode-nil}
+use Rattle.percent_encoding.proofs.PercentLemmas.{percent_decode-nil}
 use Rattle.iref_grammar.specs.declared.context.PathContext.{PathContext}
 use Rattle.iref_grammar.specs.Characters.{uri_chars}
 use Rattle.iref_grammar.specs.Grammar.{colon, slash, is_path_char, is_user_info_char}
@@ -18,6 +18,7 @@ use Rattle.iref_grammar.specs.PathValue.{PathValue, is_one_empty, spell_path}
 use Rattle.iref_model.specs.Guard.{guarded}
 use Rattle.iref_model.specs.NormalList.{is_dot, is_dot_dot, normal_segments}
 use Rattle.iref_model.specs.PathKey.{path_key}
+use Rattle.iref_model.proofs.ComparisonLemmas.{empty-decoded}
 use Rattle.iref_model.proofs.RewritingLemmas.{not_lone}
 use Rattle.iref_model.proofs.SettledLemmas.{lone-normal}
 use Rattle.iref_path.specs.NormalItems.{first_or}
@@ -137,17 +138,9 @@ items_not_lone false (x ∷ y ∷ rest) h = by (is_dot_dot x && true)
 
 -- ---- decoded
 
-pub decoded-empty : (text : Text) → is_empty (percent_decode text) ≡ is_empty text
-decoded-empty [] = ap is_empty percent_decode-nil
-decoded-empty (c ∷ cs) = by (percent_decode (c ∷ cs)) (length-percent_decode (c ∷ cs)).1
-  where
-    by : (bytes : Text) → length (c ∷ cs) ≤ 3 * length bytes → is_empty bytes ≡ false
-    by [] h = absurd (omega arith)
-    by (b ∷ bytes) h = refl
-
 decoded_not_lone : (list : List Text) → is_one_empty list ≡ false → is_one_empty (map percent_decode list) ≡ false
 decoded_not_lone [] h = refl
-decoded_not_lone (x ∷ []) h = one_empty (percent_decode x) ∙ decoded-empty x ∙ sym (one_empty x) ∙ h
+decoded_not_lone (x ∷ []) h = one_empty (percent_decode x) ∙ empty-decoded x ∙ sym (one_empty x) ∙ h
 decoded_not_lone (x ∷ y ∷ rest) h = two (percent_decode x) (map percent_decode (y ∷ rest)) refl
 
 -- ---- the guard and the path

@@ -3,7 +3,8 @@ use Rattle.std.proofs.Common.{arith, false, ◌&&◌, ◌||◌, get_or, get_or-d
 use Rattle.std.proofs.lemmas.Bool.{cases_lt}
 use Rattle.std.proofs.lemmas.Bool.Decides.{nat_tests}
 use Rattle.std.proofs.lemmas.Grind.{common_steps, flat_map-append}
-use Rattle.std.proofs.lemmas.List.{append-nil, take_at}
+use Rattle.std.proofs.lemmas.List.{append-nil, drop-drop, take-take, take_at}
+use Rattle.std.proofs.Math.Seq.{take-add}
 use Rattle.std.specs.Char.{char_set_contains}
 use Rattle.std.specs.List.{position_or_len}
 use Rattle.std.specs.Prelude.{◌==◌}
@@ -13,24 +14,9 @@ use Rattle.iref_parse.specs.Dots.{begins_with_dot, has_dot_segment, is_slash_dot
 use Rattle.iref_parse.proofs.DotSegmentLemmas.{dots_by_pairs}
 use Rattle.iref_parse.proofs.PairLemmas.{no_pair}
 use Rattle.iref_canonical.specs.SortPuts.{Puts, segment_byte, segment_bytes}
-use Rattle.iref_canonical.proofs.SortPutLemmas.{IsPutting, all_put, one_put}
 
 abbrev pub first_slash : Text → ℕ
 first_slash text = position_or_len (char_set_contains (slash ∷ [])) text
-
-take_both : (k m : ℕ) (t : Text) → take (k + m) t ≡ take k t ++ take m (drop k t)
-take_both zero m t = grind (arith, common_steps)
-take_both (suc k) m [] = grind (arith, common_steps)
-take_both (suc k) m (c ∷ cs) = let on : suc k + m ≡ suc (k + m) = omega arith in ap (λ n. take n (c ∷ cs)) on ∙ ap (λ t. c ∷ t) (take_both k m cs)
-
-drop_both : (k m : ℕ) (t : Text) → drop m (drop k t) ≡ drop (k + m) t
-drop_both zero m t = grind (arith, common_steps)
-drop_both (suc k) m [] = grind (arith, common_steps)
-drop_both (suc k) m (c ∷ cs) = let on : suc (k + m) ≡ suc k + m = omega arith in drop_both k m cs ∙ ap (λ n. drop n (c ∷ cs)) on
-
--- what is left behind some bytes
-pub behind : (from count k : ℕ) (rest : Text) → segment_bytes (take (count - from - k) (drop k (drop from rest))) ≡ segment_bytes (take (count - (from + k)) (drop (from + k) rest))
-behind from count k rest = let same : count - from - k ≡ count - (from + k) = omega arith in (λ i. segment_bytes (take (same i) (drop_both from k rest i)))
 
 -- the bytes before the first slash stand as they are
 no_slash : (n : ℕ) (t : Text) → n ≤ first_slash t → segment_bytes (take n t) ≡ take n t
@@ -45,12 +31,6 @@ first_within (c ∷ cs) = grind (arith, nat_tests, first_within cs)
 slash_at : (t : Text) → first_slash t < length t → drop (first_slash t) t ≡ slash ∷ drop (first_slash t + 1) t
 slash_at [] h = grind arith
 slash_at (c ∷ cs) h = grind (arith, nat_tests, common_steps, slash_at cs)
-
-pub take_within : (k n : ℕ) (t : Text) → k ≤ n → take k (take n t) ≡ take k t
-take_within zero n t h = grind (arith, common_steps)
-take_within (suc k) zero t h = grind arith
-take_within (suc k) (suc n) [] h = refl
-take_within (suc k) (suc n) (c ∷ cs) h = ap (λ t. c ∷ t) (take_within k n cs (omega arith))
 
 -- a slash among the first bytes is the first of all
 first_same : (n : ℕ) (t : Text) → first_slash (take n t) < length (take n t) → first_slash t ≡ first_slash (take n t)
@@ -72,56 +52,50 @@ stored at k count block old new same room most e =
 
 -- ---- one block
 
-module _ (w block : Text) (left f : ℕ) (is : block ≡ take 16 w) (size : length block ≡ 16) (place : f ≡ first_slash block) where
-  same : (k : ℕ) → k ≤ 16 → take k block ≡ take k w
-  same k h = ap (take k) is ∙ take_within k 16 w h
+abbrev pub block : ℕ → Text → Text
+block from bytes = take (from + 16 - from) (drop from bytes)
 
-  plain : (k : ℕ) → k ≤ f → segment_bytes (take k block) ≡ take k block
-  plain k h = no_slash k block (omega (arith, place))
+abbrev pub found : ℕ → Text → ℕ
+found from bytes = first_slash (block from bytes)
 
-  pub within : f ≤ 16
-  within = omega (arith, place, first_within block, size)
+module _ (bytes : Text) (from : ℕ) (long : from + 16 ≤ length bytes) where
+  is : block from bytes ≡ take 16 (drop from bytes)
+  is = let sum : from + 16 - from ≡ 16 = omega arith in ap (λ n. take n (drop from bytes)) sum
 
-  last_is : left ≤ f → segment_bytes (take left w) ≡ take left block ++ []
-  last_is h = ap segment_bytes (sym (same left (omega (arith, within)))) ∙ plain left h ∙ sym (append-nil (take left block))
+  size : length (block from bytes) ≡ 16
+  size = ap length is ∙ grind (arith, length-take, length-drop)
 
-  whole_is : f ≡ 16 → 16 ≤ left → segment_bytes (take left w) ≡ take 16 block ++ segment_bytes (take (left - 16) (drop 16 w))
-  whole_is e h =
-      let sum : left ≡ 16 + (left - 16) = omega arith in
-      ap (λ n. segment_bytes (take n w)) sum ∙ ap segment_bytes (take_both 16 (left - 16) w) ∙ flat_map-append segment_byte (take 16 w) (take (left - 16) (drop 16 w))
-      ∙ ap (λ t. t ++ segment_bytes (take (left - 16) (drop 16 w))) (ap segment_bytes (sym (same 16 (omega arith))) ∙ plain 16 (omega arith))
+  pub found_within : found from bytes ≤ 16
+  found_within = omega (arith, first_within (block from bytes), size)
 
-  slash_is : f < 16 → f < left → segment_bytes (take left w) ≡ take f block ++ (0 ∷ 1 ∷ segment_bytes (take (left - (f + 1)) (drop (f + 1) w)))
-  slash_is e h =
-      let m = left - (f + 1) in
-      let sum : left ≡ f + suc m = omega arith in
-      let first : first_slash w ≡ f = first_same 16 w (subst (λ t. first_slash t < length t) is (omega (arith, place, size))) ∙ ap first_slash (sym is) ∙ sym place in
-      let cut : drop f w ≡ slash ∷ drop (f + 1) w = subst (λ n. drop n w ≡ slash ∷ drop (n + 1) w) first (slash_at w (omega (arith, first, longer))) in
-      ap (λ n. segment_bytes (take n w)) sum ∙ ap segment_bytes (take_both f (suc m) w) ∙ flat_map-append segment_byte (take f w) (take (suc m) (drop f w))
-      ∙ (λ i. (ap segment_bytes (sym (same f (omega arith))) ∙ plain f (omega arith)) i ++ segment_bytes (take (suc m) (cut i)))
-    where
-      longer : 16 ≤ length w
-      longer = let l = ap length is in omega (arith, size, length-take 16 w)
+  plain : (k : ℕ) → k ≤ found from bytes → segment_bytes (take k (drop from bytes)) ≡ take k (block from bytes)
+  plain k h =
+      let same = ap (take k) is ∙ take-take k 16 (drop from bytes) (omega (arith, found_within)) in
+      ap segment_bytes (sym same) ∙ no_slash k (block from bytes) h
 
-  -- ---- what it is put to
+  module _ (len : ℕ) where
+    pub last_is : len - from ≤ found from bytes → segment_bytes (take (len - from) (drop from bytes)) ≡ take (len - from) (block from bytes) ++ []
+    last_is h = plain (len - from) h ∙ sym (append-nil (take (len - from) (block from bytes)))
 
-  module _ (at end : ℕ) (all old mid : Text) (h : IsPutting at all (segment_bytes (take left w)) old mid end) where
-    pub last_put : {new : Text} → left ≤ f → Puts end (take left block) mid new (end + left) → Puts at all old new (end + left)
-    last_put {new} l k = all_put at all old new (end + left) (one_put at all (take left block) [] old mid new end (end + left) (subst (λ t. IsPutting at all t old mid end) (last_is l) h) k)
+    pub front_is : (k : ℕ) → k ≤ found from bytes → from + k ≤ len
+        → segment_bytes (take (len - from) (drop from bytes)) ≡ take k (block from bytes) ++ segment_bytes (take (len - (from + k)) (drop (from + k) bytes))
+    front_is k h l =
+        let rest = len - (from + k) in
+        let sum : len - from ≡ k + rest = omega arith in
+        ap (λ n. segment_bytes (take n (drop from bytes))) sum ∙ ap segment_bytes (take-add k rest (drop from bytes))
+        ∙ flat_map-append segment_byte (take k (drop from bytes)) (take rest (drop k (drop from bytes)))
+        ∙ (λ i. plain k h i ++ segment_bytes (take rest (drop-drop k from bytes i)))
 
-    pub whole_put : {new : Text} → f ≡ 16 → 16 ≤ left → Puts end (take 16 block) mid new (end + 16) → IsPutting at all (segment_bytes (take (left - 16) (drop 16 w))) old new (end + 16)
-    whole_put {new} e l k =
-        one_put at all (take 16 block) (segment_bytes (take (left - 16) (drop 16 w))) old mid new end (end + 16) (subst (λ t. IsPutting at all t old mid end) (whole_is e l) h) k
-
-    pub slash_room : f < 16 → f < left → end + f + 2 ≤ at + length all
-    slash_room e l = let r = h.range in let b = ap length (slash_is e l) in grind (arith, length-append, length-take)
-
-    pub slash_put : {half new : Text} {last : ℕ} → f < 16 → f < left → Puts end (take f block) mid half (end + f) → Puts (end + f) (0 ∷ 1 ∷ []) half new last
-        → IsPutting at all (segment_bytes (take (left - (f + 1)) (drop (f + 1) w))) old new last
-    slash_put {half} {new} {last} e l k m =
-        let rest = segment_bytes (take (left - (f + 1)) (drop (f + 1) w)) in
-        let first = one_put at all (take f block) (0 ∷ 1 ∷ rest) old mid half end (end + f) (subst (λ t. IsPutting at all t old mid end) (slash_is e l) h) k in
-        one_put at all (0 ∷ 1 ∷ []) rest old half new (end + f) last first m
+    pub slash_is : (f : ℕ) → f ≡ found from bytes → f < 16 → from + f < len
+        → segment_bytes (take (len - from) (drop from bytes)) ≡ take f (block from bytes) ++ (0 ∷ 1 ∷ segment_bytes (take (len - (from + (f + 1))) (drop (from + (f + 1)) bytes)))
+    slash_is f place e h =
+        let rest = len - (from + (f + 1)) in
+        let more : len - (from + f) ≡ suc rest = omega arith in
+        let first : first_slash (drop from bytes) ≡ f = first_same 16 (drop from bytes) (subst (λ t. first_slash t < length t) is (omega (arith, place, size))) ∙ ap first_slash (sym is) ∙ sym place in
+        let cut : drop f (drop from bytes) ≡ slash ∷ drop (f + 1) (drop from bytes) =
+        subst (λ n. drop n (drop from bytes) ≡ slash ∷ drop (n + 1) (drop from bytes)) first (slash_at (drop from bytes) (omega (arith, first, length-drop from bytes))) in
+        let next = sym (drop-drop f from bytes) ∙ cut ∙ ap (λ t. slash ∷ t) (drop-drop (f + 1) from bytes) in
+        front_is f (omega arith) (omega arith) ∙ (λ i. take f (block from bytes) ++ segment_bytes (take (more i) (next i)))
 
 -- ---- no segment begins with a dot
 
@@ -137,15 +111,15 @@ IsDotlessBefore n t = (k : ℕ) → k < n → is_slash_dot t k ≡ false
 
 module _ (t : Text) (from : ℕ) (so_far : IsDotlessBefore from t) where
   -- and not in bytes before the first slash of a block
-  pub dotless_block : (f count : ℕ) → f ≡ first_slash (take 16 (drop from t)) → count ≤ f → IsDotlessBefore (from + count) t
+  pub dotless_block : (f count : ℕ) → f ≡ found from t → count ≤ f → IsDotlessBefore (from + count) t
   dotless_block f count e h k l = ⊎_elim (λ below. so_far k below) (λ behind.
       let same : from + (k - from) ≡ k = omega arith in
-      let clear = no_slash_before 16 (k - from) (drop from t) (omega arith) in
+      let clear = no_slash_before (from + 16 - from) (k - from) (drop from t) (omega arith) in
       let here = ap (λ j. get_or t j 0 == slash) (sym same) ∙ ap (λ b. b == slash) (sym (get_or-drop from t (k - from) 0)) ∙ clear in
       grind (arith, nat_tests)) (cases_lt k from)
 
   -- nor at the slash, where no dot is next
-  pub dotless_slash : (f : ℕ) → f ≡ first_slash (take 16 (drop from t)) → (get_or t (from + (f + 1)) 0 == 0x2E) ≡ false → IsDotlessBefore (from + (f + 1)) t
+  pub dotless_slash : (f : ℕ) → f ≡ found from t → (get_or t (from + (f + 1)) 0 == 0x2E) ≡ false → IsDotlessBefore (from + (f + 1)) t
   dotless_slash f e next k l = ⊎_elim (λ below. dotless_block f f e (omega arith) k below) (λ behind.
       let same : k ≡ from + f = omega arith in
       let after : from + (f + 1) ≡ k + 1 = omega arith in

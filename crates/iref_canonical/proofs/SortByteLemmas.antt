@@ -2,11 +2,12 @@
 use Rattle.std.proofs.Common.{arith, ◌≡◌, ℕ, ◌+◌, ◌*◌, ◌<◌, ◌≤◌, ◌++◌, ◌∷◌, [], length, take, drop, get_or, set, refl, sym, ◌∙◌, ap, true, append_assoc, length-append, length-set, take_all}
 use Rattle.std.proofs.lemmas.Grind.{common_steps}
 use Rattle.std.proofs.lemmas.Bool.Decides.{nat_tests}
-use Rattle.std.proofs.lemmas.List.{append-nil, drop_more, take_more_set, map-append, take_at, drop_at, length-take, length-map, length-drop}
+use Rattle.std.proofs.lemmas.List.{append-nil, drop_all, drop_more, take_more_set, map-append, take_at, drop_at, length-take, length-map, length-drop}
 use Rattle.std.specs.List.{flat_map}
 use Rattle.std.specs.Char.{to_ascii_lowercase}
 use Rattle.std.specs.Prelude.{map, option_map, Option, Some, None, ◌-◌}
 use Rattle.iref_path.specs.Written.{WritesBefore}
+use Rattle.iref_path.proofs.WrittenLemmas.{both_written}
 use Rattle.percent_encoding.specs.Percent.{percent_decode}
 use Rattle.percent_encoding.proofs.PercentLemmas.{length-percent_decode, percent_decode_not_percent, percent_decode-nil}
 use Rattle.iref_grammar.specs.Authority.{AuthorityValue}
@@ -128,3 +129,9 @@ lower_written end start text lowered old mid new h within same e =
       written = ap (drop start) whole ∙ drop_at (take start mid) all start (omega arith);
       len = let l = ap length same ∙ length-map text to_ascii_lowercase in ap length whole ∙ grind (arith, length-append, length-take, length-drop);
     }
+
+pub ruleset counts = (drop_more, none_counted, counted_within, length-sort_text, length-sort_decoded)
+
+pub ruleset writes = (drop_all, none_begun, ended)
+
+pub ruleset authorities = (both_written, length-sort_authority)

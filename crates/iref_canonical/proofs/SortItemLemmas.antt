@@ -168,3 +168,5 @@ kept_key path h k =
     let p = read_path path in
     let plain = plain_path path h k in
     ap (map percent_decode) (normal_segments-dotless p plain.dotless ∙ ap (λ b. cond b [] p.segments) plain.many) ∙ decoded_items p.segments plain.kept
+
+pub ruleset writing = (none_written, kept_room, kept_written, length-append)

@@ -164,3 +164,5 @@ sort_key-same k l = (
   λ same. keys_separate k l (ap is_eq (sym (text_order-sort_key k l) ∙ ap (text_order (sort_key k)) (sym same)) ∙ ap is_eq (tied_itself texts_total (sort_key k))),
   λ same. ap sort_key same,
 )
+
+pub ruleset laws = (text_order-sort_key, sort_key-same)

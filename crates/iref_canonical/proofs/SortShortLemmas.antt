@@ -3,6 +3,7 @@ use Rattle.std.proofs.Common.{arith, ◌≡◌, ℕ, ◌+◌, ◌*◌, ◌≤◌
 use Rattle.std.proofs.lemmas.Bool.{and_parts}
 use Rattle.std.proofs.lemmas.List.Splits.{length-slice_split}
 use Rattle.std.proofs.lemmas.List.Sums.{count_by-le-length}
+use Rattle.std.proofs.lemmas.List.{take_at}
 use Rattle.std.specs.Option.{option_copied}
 use Rattle.std.specs.Prelude.{IfSome, codes, option_map, Option, None, Some, ◌&&◌, ◌==◌}
 use Rattle.std.specs.Str.{str_to_ascii_lowercase}
@@ -30,7 +31,7 @@ use Rattle.iref_canonical.proofs.SortByteLemmas.{kept_decodes}
 use Rattle.iref_canonical.proofs.SortCutLemmas.{kept_behind}
 use Rattle.iref_canonical.proofs.SortItemLemmas.{kept_key, kept_pieces, kept_size}
 use Rattle.iref_canonical.proofs.SortPutLemmas.{all_size, kept_host, option_size, parts_size}
-use Rattle.iref_canonical.proofs.SortableLemmas.{HasKeptParts, parts_kept_in, text_kept}
+use Rattle.iref_canonical.proofs.SortableLemmas.{HasKeptParts, both_kept, parts_kept_in, text_kept}
 
 -- ---- the key is the reference with its scheme in lower case
 
@@ -165,3 +166,5 @@ module _ (text : Text) (s : ReferenceSlices) (value : value_of s ≡ read_refere
 pub both_if_some : {X : Type 0} (r : Option X) {P Q R : X → Type 0} → IfSome r P → IfSome r Q → ((x : X) → P x → Q x → R x) → IfSome r R
 both_if_some None p q k = tt
 both_if_some (Some x) p q k = k x p q
+
+pub ruleset shorts = (both_if_some, lowered_key, short_room, slices_kept, sorted_is, spelled_is, both_kept, take_at)

@@ -3,19 +3,19 @@ use Rattle.std.proofs.Common.{arith, ◌≡◌, ◌+◌, Bool, true, ◌++◌, �
 use Rattle.std.proofs.lemmas.Bool.{and_from, and_parts}
 use Rattle.std.proofs.lemmas.List.Folds.{list_all-append}
 use Rattle.std.specs.Prelude.{codes, option_map}
-use Rattle.iref_grammar.specs.Authority.{AuthorityValue, spell_authority, read_authority}
+use Rattle.iref_grammar.specs.Authority.{AuthorityValue, spell_authority}
 use Rattle.iref_grammar.specs.Grammar.{colon, at_sign, question_mark, hash_sign}
 use Rattle.iref_grammar.specs.PathValue.{spell_path}
 use Rattle.iref_grammar.specs.Reference.{ReferenceValue, spell, read_reference}
 use Rattle.iref_grammar.specs.Rules.{Text}
 use Rattle.iref_grammar.specs.Tests.{none_or}
 use Rattle.iref_grammar.specs.Texts.{part_then, then_part}
-use Rattle.iref_grammar.proofs.AuthorityLemmas.{read_authority-spelled}
 use Rattle.iref_grammar.proofs.ReferenceCutLemmas.{read_reference-spelled}
 use Rattle.std.proofs.lemmas.List.{length-map}
 use Rattle.std.specs.Char.{to_ascii_lowercase}
 use Rattle.std.specs.Option.{option_copied}
 use Rattle.percent_encoding.specs.Percent.{percent_decode}
+use Rattle.iref_path.proofs.WrittenLemmas.{both_written}
 use Rattle.iref_canonical.specs.declared.sort_key.Sortable.{Sortable}
 use Rattle.iref_canonical.specs.Sortable.{sortable_key, key_of_slices}
 use Rattle.iref_canonical.specs.SortItems.{items_of}
@@ -73,10 +73,6 @@ parts_kept a h =
     let two = both_kept user a.host one.0 in
     and_from _ _ (and_from _ _ (part_kept (at_sign ∷ []) a.user_info two.0) two.1) (then_kept (colon ∷ []) a.port one.1)
 
-pub authority_kept : (text : Option Text) → none_or is_kept text ≡ true → none_or are_kept_parts (option_map read_authority text) ≡ true
-authority_kept None h = refl
-authority_kept (Some text) h = parts_kept (read_authority text) (ap is_kept (read_authority-spelled text) ∙ h)
-
 pub parts_kept_in : (a : Option AuthorityValue) → none_or is_kept (option_map spell_authority a) ≡ true → none_or are_kept_parts a ≡ true
 parts_kept_in None h = refl
 parts_kept_in (Some a) h = parts_kept a h
@@ -105,3 +101,5 @@ length-sortable s =
     ∙ ap (λ n. n + length (sort_option sort_authority (option_map key_of_slices s.authority)) + (1 + length (sort_list sort_item (items_of s.items)))
     + length (sort_option sort_text (option_map percent_decode (option_copied s.query)))
     + length (sort_option sort_text (option_map percent_decode (option_copied s.fragment)))) scheme
+
+pub ruleset sizes = (both_written, length-sort_path, length-sortable)

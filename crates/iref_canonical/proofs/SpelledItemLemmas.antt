@@ -12,16 +12,13 @@ use Rattle.iref_grammar.specs.Grammar.{slash}
 use Rattle.iref_grammar.specs.Rules.{Text}
 use Rattle.iref_grammar.specs.Texts.{is_empty}
 use Rattle.iref_model.specs.NormalList.{is_dot_dot}
+use Rattle.iref_model.proofs.FitsLemmas.{is_empty-snoc}
 use Rattle.iref_path.specs.Spelling.{each_closed}
 use Rattle.iref_path.proofs.SpellLemmas.{each_closed-append, joined_before}
 use Rattle.iref_canonical.specs.Canonical.{canonical_name, canonical_relative}
 use Rattle.iref_canonical.specs.SpelledItems.{spelled_item, spelled_items, standing_before, standing_of}
 
 -- ---- how many stand
-
-some_last : (front : List Text) (last : Text) → is_empty (front ++ last ∷ []) ≡ false
-some_last [] last = refl
-some_last (x ∷ front) last = refl
 
 pub standing-last : (front : List Text) (last : Text) → standing_of (front ++ last ∷ []) ≡ standing_before front 0
 unfolding standing_of
@@ -30,7 +27,7 @@ standing-last (x ∷ front) last = by (is_dot_dot x) (standing-last front last)
   where
     by : (b : Bool) → standing_of (front ++ last ∷ []) ≡ standing_before front 0
         → cond (b && not (is_empty (front ++ last ∷ []))) (suc (standing_of (front ++ last ∷ []))) 0 ≡ cond b (suc (standing_before front 0)) 0
-    by true rest = (λ i. cond (not (some_last front last i)) (suc (standing_of (front ++ last ∷ []))) 0) ∙ ap suc rest
+    by true rest = (λ i. cond (not (is_empty-snoc front last i)) (suc (standing_of (front ++ last ∷ []))) 0) ∙ ap suc rest
     by false rest = refl
 
 pub standing-nothing : standing_of [] ≡ 0
@@ -141,3 +138,7 @@ standing-step all front item n e = sym (ap (λ list. standing_before list n) (de
 
 pub standing-end : (all : List Text) → all ≡ [] → standing_of (map percent_decode all) ≡ 0
 standing-end all e = ap (λ list. standing_of (map percent_decode list)) e ∙ standing-nothing
+
+pub ruleset steps = (joined-end, joined-step, closed-end, closed-step, one_less)
+
+pub ruleset stands = (standing-end, standing-first, standing-step)

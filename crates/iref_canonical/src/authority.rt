@@ -29,6 +29,7 @@ fn put_port<O: Backward>(out: &mut O, port: Option<&str>)
 }
 
 // Puts the host. An IP literal stands.
+#[tactic(auto, using(crate::proofs::PutAuthorityLemmas::hosts))]
 fn put_host<O: Backward>(out: &mut O, host: &str)
     requires { O.fits out.old (canonical_host (percent_decode host.now)) }
     ensures { out.new ≡ O.after out.old (canonical_host (percent_decode host.now)) }

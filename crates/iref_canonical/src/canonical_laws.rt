@@ -41,6 +41,7 @@ pub fn canonical_texts_are_uris<S: CharSet>()
 {}
 
 /// The key of a canonical reference is the key that it was made of, and so is that of its text.
+#[tactic(auto, using(crate::proofs::CanonicalTextLemmas::key_kept, crate::proofs::CanonicalTextLemmas::text_keeps_key))]
 pub fn canonical_keeps_the_key<S: CharSet>()
     ensures value { (r : ReferenceValue) → IsReadable S.tests r
         → key (canonical (key r)) ≡ key r }
@@ -56,6 +57,7 @@ pub fn canonical_texts_are_the_same_where_keys_are<S: CharSet>()
 {}
 
 /// What is canonical stays so: its canonical reference is it, and its canonical text its text.
+#[tactic(auto, using(crate::proofs::CanonicalTextLemmas::again))]
 pub fn canonical_again_changes_nothing<S: CharSet>()
     ensures value { (r : ReferenceValue) → IsReadable S.tests r
         → canonical (key (canonical (key r))) ≡ canonical (key r) }
@@ -65,6 +67,7 @@ pub fn canonical_again_changes_nothing<S: CharSet>()
 {}
 
 /// An IRI reference and its mapping have one canonical text.
+#[tactic(auto, using(crate::proofs::CanonicalTextLemmas::text_of_mapping))]
 pub fn mapping_keeps_the_canonical_text<S: CharSet>()
     ensures { (bytes : Text) → InUtf8 (IsUriReference S.tests) bytes
         → canonical_text (key (read_reference (mapped bytes)))

@@ -38,6 +38,7 @@ pub const QUERY: AsciiSet = ascii_set!(SEGMENT.remove(b'/').remove(b'?'));
 
 // The byte of the escape that ends the text, and what stands before it.
 #[inline(always)]
+#[tactic(auto, using(crate::proofs::DecodedLemmas::splits, std::proofs::lemmas::Grind::common_steps))]
 fn split_last_escape(text: &[u8]) -> Option<(&[u8], u8)>
     ensures { MatchOption result (ends_in_escape text.now ≡ false)
         (λ split. SplitsLast text.now split.0.now split.1) }
@@ -53,6 +54,7 @@ fn split_last_escape(text: &[u8]) -> Option<(&[u8], u8)>
 
 /// The last byte that the text decodes to, and what stands before it.
 #[inline(always)]
+#[tactic(auto, using(crate::proofs::DecodedLemmas::splits))]
 pub(crate) fn split_last_decoded(text: &[u8]) -> Option<(&[u8], u8)>
     ensures { MatchOption result (text.now ≡ [])
         (λ split. SplitsLast text.now split.0.now split.1) }
@@ -78,6 +80,7 @@ fn put_byte<O: Backward>(out: &mut O, byte: u8, set: AsciiSet)
 }
 
 /// Puts the bytes that the text decodes to, those of the set escaped.
+#[tactic(auto, using(crate::proofs::EncodedLemmas::lasts))]
 pub(crate) fn put_encoded<O: Backward>(out: &mut O, text: &str, set: AsciiSet)
     requires { O.fits out.old (percent_encode set (percent_decode text.now)) }
     ensures { out.new ≡ O.after out.old (percent_encode set (percent_decode text.now)) }

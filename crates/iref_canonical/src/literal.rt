@@ -51,6 +51,7 @@ fn is_whole(progress: Progress) -> bool
 }
 
 // Whether the text decodes to an address of a future version in brackets.
+#[tactic(auto, using(crate::proofs::FutureLiteralLemmas::reads))]
 fn decodes_to_future(text: &str) -> bool
     ensures { result ≡ test.some_and test.is_ipvfuture
         (test.in_brackets (percent_decode text.now)) }
@@ -63,6 +64,7 @@ fn decodes_to_future(text: &str) -> bool
 }
 
 // Whether the bytes are an IP literal.
+#[tactic(auto, using(crate::proofs::LiteralLengthLemmas::not_literal))]
 fn are_ip_literal(bytes: &[u8]) -> bool
     ensures { result ≡ test.is_ip_literal bytes.now }
 {
@@ -90,6 +92,7 @@ fn few_decode(text: &str) -> bool
 }
 
 // Whether all of the text decodes to an IP literal. Each of its bytes is decoded.
+#[tactic(auto, using(crate::proofs::LiteralLengthLemmas::literal_left))]
 fn is_literal_decoded(text: &str) -> bool
     ensures { result ≡ test.is_ip_literal (percent_decode text.now) }
 {

@@ -62,6 +62,7 @@ impl Padded<'_> {
 
     // What stands before the first of the delimiter, or all of the text, and what follows it.
     #[inline(always)]
+    #[tactic(auto, using(crate::proofs::PaddedLemmas::after_found, std::proofs::lemmas::Grind::common_steps))]
     pub(crate) fn cut(self, mark: u8) -> (Self, Option<Self>)
         requires { IsPadded self }
         ensures before { text_in result.0 ≡ before (mark ∷ []) (text_in self.entry) }

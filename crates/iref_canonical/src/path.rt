@@ -61,6 +61,7 @@ fn decodes_to_colon(text: &str) -> bool
 }
 
 // How many items of a relative list are `..` that stand first, not the last item among them.
+#[tactic(auto, using(crate::proofs::SpelledItemLemmas::stands, std::proofs::lemmas::Grind::common_steps))]
 fn count_standing(mut left: NormalItems<'_>) -> usize
     requires sound { IsSound left }
     requires countable { length (normal_left left) < 2 ^ 64 }
@@ -90,6 +91,7 @@ fn count_standing_in(absolute: bool, left: NormalItems<'_>) -> usize
 }
 
 // A text that is empty, or has a `:`, exactly if what the item decodes to is or has.
+#[tactic(auto, using(crate::proofs::ColonLemmas::samples))]
 fn sample(item: &str) -> &'static str
     ensures empty { is_empty result.now ≡ is_empty (percent_decode item.now) }
     ensures colon { char_set_contains result.now colon
@@ -105,6 +107,7 @@ fn sample(item: &str) -> &'static str
 }
 
 // Puts an item that does not stand.
+#[tactic(auto, using(crate::proofs::SetLemmas::sets))]
 fn put_name<O: Backward>(out: &mut O, item: &str)
     requires { O.fits out.old (canonical_name (percent_decode item.now)) }
     ensures { out.new ≡ O.after out.old (canonical_name (percent_decode item.now)) }
@@ -141,6 +144,7 @@ fn put_closed_item<O: Backward>(out: &mut O, item: &str, stands: bool)
 }
 
 // Puts the items, each with a `/` after it.
+#[tactic(auto, using(crate::proofs::SpelledItemLemmas::steps))]
 fn put_closed<O: Backward>(out: &mut O, mut left: NormalItems<'_>, count: usize, standing: usize)
     requires sound { IsSound left }
     requires count { count ≡ length (normal_left left) }
@@ -156,6 +160,7 @@ fn put_closed<O: Backward>(out: &mut O, mut left: NormalItems<'_>, count: usize,
 }
 
 // Puts the items with `/` between. The last one does not stand.
+#[tactic(auto, using(crate::proofs::SpelledItemLemmas::steps))]
 fn put_items<O: Backward>(out: &mut O, mut left: NormalItems<'_>, count: usize, standing: usize)
     requires sound { IsSound left }
     requires count { count ≡ length (normal_left left) }

@@ -35,6 +35,7 @@ fn is_lower_scheme(scheme: Option<&str>) -> bool
 /// with a dot and no upper-case letter in the scheme. Such a text is canonical, as `http://a/b` is.
 /// Some that are canonical are not such: `a/.b` is one.
 #[inline(always)]
+#[tactic(auto, using(crate::proofs::PlainReferenceLemmas::plain))]
 pub fn is_plain<C: CharSet>(text: &str, slices: ReferenceSlices<'_>) -> bool
     requires reference { is_reference C.tests text.now ≡ true }
     requires slices { value_of slices ≡ read_reference text.now }

@@ -25,6 +25,7 @@ pub struct CanonicalReference<'a> {
 }
 
 // Puts a query or a fragment after its delimiter, if there is one.
+#[tactic(auto, using(crate::proofs::SetLemmas::sets))]
 fn put_marked<O: Backward>(out: &mut O, mark: &[u8], part: Option<&str>)
     requires { O.fits out.old (then_part mark.now (encoded_query (option_copied part))) }
     ensures { out.new ≡ O.after out.old
@@ -79,6 +80,7 @@ impl<'a> CanonicalReference<'a> {
     }
 
     // Puts the text.
+    #[tactic(auto, unfolding(crate::specs::CanonicalReferences::measured_canonical))]
     fn put<O: Backward>(&self, out: &mut O)
         requires measured { IsMeasured self.now }
         requires fits { O.fits out.old (measured_canonical self.now) }
@@ -117,6 +119,7 @@ impl<'a> CanonicalReference<'a> {
     }
 
     /// Whether these are the bytes of the text.
+    #[tactic(auto, unfolding(crate::specs::CanonicalReferences::measured_canonical))]
     pub fn is(&self, bytes: &[u8]) -> bool
         requires { IsMeasured self.now }
         ensures { result ≡ bytes_eq bytes.now (measured_canonical self.now) }

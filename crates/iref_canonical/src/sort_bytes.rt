@@ -33,6 +33,7 @@ fn put_byte(buffer: &mut [u8], at: usize, byte: u8) -> usize
 }
 
 // How many bytes a sort key has for bytes, which are read one by one.
+#[tactic(auto, using(crate::proofs::SortByteLemmas::counts))]
 pub(crate) fn bytes_len(bytes: &[u8]) -> usize
     ensures { result ≡ length (sort_text bytes.now) }
 {
@@ -44,6 +45,7 @@ pub(crate) fn bytes_len(bytes: &[u8]) -> usize
 }
 
 // Writes bytes one by one, so that they and their end fill the buffer.
+#[tactic(auto, using(crate::proofs::SortByteLemmas::writes))]
 pub(crate) fn put_bytes(buffer: &mut [u8], bytes: &[u8])
     requires { length buffer.old ≡ length (sort_text bytes.now) }
     ensures { buffer.new ≡ sort_text bytes.now }
@@ -56,6 +58,7 @@ pub(crate) fn put_bytes(buffer: &mut [u8], bytes: &[u8])
 }
 
 // How many bytes a sort key has for what the bytes decode to, which is read one by one.
+#[tactic(auto, using(crate::proofs::SortByteLemmas::counts))]
 pub(crate) fn decoded_len(bytes: &[u8]) -> usize
     ensures { result ≡ length (sort_text (percent.percent_decode bytes.now)) }
 {
@@ -67,6 +70,7 @@ pub(crate) fn decoded_len(bytes: &[u8]) -> usize
 }
 
 // Writes what the bytes decode to one by one, so that it and its end fill the buffer.
+#[tactic(auto, using(crate::proofs::SortByteLemmas::writes))]
 pub(crate) fn put_decoded(buffer: &mut [u8], bytes: &[u8])
     requires { length buffer.old ≡ length (sort_text (percent.percent_decode bytes.now)) }
     ensures { buffer.new ≡ sort_text (percent.percent_decode bytes.now) }

@@ -106,6 +106,7 @@ fn parts_of(authority: Option<&str>) -> Option<AuthoritySlices<'_>>
 
 impl<'a> Sortable<'a> {
     // The components of a reference's text, from its slices.
+    #[tactic(auto, unfolding(iref_model::specs::Key::key, iref_model::specs::PathKey::path_key))]
     fn new(text: &'a str, slices: ReferenceSlices<'a>) -> Self
         requires value { value_of slices ≡ read_reference text.now }
         requires texts { texts_of slices ≡ spell_components (read_reference text.now) }
@@ -126,6 +127,7 @@ impl<'a> Sortable<'a> {
     }
 
     // How many bytes the sort key has.
+    #[tactic(auto, using(crate::proofs::SortableLemmas::sizes))]
     fn len(&self) -> Option<usize>
         requires { IsSortable self.now }
         ensures { IfSome result (λ len. len ≡ length (sort_key (sortable_key self.now))) }
@@ -140,6 +142,7 @@ impl<'a> Sortable<'a> {
     }
 
     // Writes the sort key so that it ends at `end`, and returns where it begins.
+    #[tactic(auto, using(crate::proofs::SortableLemmas::sizes), unfolding(crate::specs::SortKey::sort_key))]
     fn write(&self, buffer: &mut [u8], end: usize) -> usize
         requires sortable { IsSortable self.now }
         requires room { length (sort_key (sortable_key self.now)) ≤ end }

@@ -97,6 +97,7 @@ pub(crate) fn write_scheme(buffer: &mut [u8], end: usize, scheme: Option<&str>, 
 }
 
 /// How many bytes a sort key has for an authority.
+#[tactic(auto, using(std::proofs::lemmas::Grind::common_steps), unfolding(crate::specs::SortKey::sort_authority))]
 pub(crate) fn authority_len(parts: &AuthoritySlices<'_>, kept: bool) -> Option<usize>
     requires { kept ≡ true → are_kept_parts (authority_of parts.now) ≡ true }
     ensures { IfSome result (λ len.
@@ -110,6 +111,7 @@ pub(crate) fn authority_len(parts: &AuthoritySlices<'_>, kept: bool) -> Option<u
 
 /// Writes what a sort key has for an authority so that it ends at `end`, and returns where it
 /// begins.
+#[tactic(auto, using(crate::proofs::SortByteLemmas::authorities), unfolding(crate::specs::SortKey::sort_authority))]
 pub(crate) fn write_authority(
     buffer: &mut [u8],
     end: usize,

@@ -25,6 +25,7 @@ pub(crate) enum Items<'a> {
 }
 
 // How many bytes a sort key has for segments, each byte of which is written as it is, and their end.
+#[tactic(auto, using(crate::proofs::SortItemLemmas::kept_size))]
 fn segments_len(segments: Option<&str>) -> Option<usize>
     requires { AreKept (pieces_if_some segments) }
     ensures { IfSome result (λ len.
@@ -38,6 +39,7 @@ fn segments_len(segments: Option<&str>) -> Option<usize>
 
 // Writes segments, each byte as it is, and their end so that they end at `end`, and returns where
 // they begin.
+#[tactic(auto, using(crate::proofs::SortItemLemmas::writing))]
 fn write_segments(buffer: &mut [u8], end: usize, segments: Option<&str>) -> usize
     requires kept { AreKept (pieces_if_some segments) }
     requires room { length (sort_list sort_item (pieces_if_some segments)) ≤ end }
@@ -71,6 +73,7 @@ fn items_len(mut left: NormalItems<'_>) -> Option<usize>
 }
 
 // Writes items and their end so that they end at `end`, and returns where they begin.
+#[tactic(auto, using(crate::proofs::SortItemLemmas::none_written))]
 fn write_items(buffer: &mut [u8], end: usize, mut left: NormalItems<'_>) -> usize
     requires sound { IsSound left }
     requires room { length (sort_list sort_item (decoded_left left)) ≤ end }
@@ -89,6 +92,7 @@ fn write_items(buffer: &mut [u8], end: usize, mut left: NormalItems<'_>) -> usiz
 impl<'a> Items<'a> {
     /// The items of a path, and whether it is absolute. `kept` says that each byte is written as it
     /// is.
+    #[tactic(auto, using(crate::proofs::SortItemLemmas::kept_key), unfolding(iref_model::specs::PathKey::path_key))]
     pub(crate) fn of_path(path: &'a str, kept: bool) -> (bool, Self)
         requires { kept ≡ true → bytes.is_kept path.now ≡ true }
         ensures absolute { result.0 ≡ (read_path path.now).absolute }

@@ -20,9 +20,8 @@ ghost use Rattle.iref_canonical.specs.SortItems.{AreKept};
 ghost use Rattle.iref_canonical.specs.SortKey.{sort_authority, sort_item, sort_key, sort_list};
 ghost use Rattle.iref_canonical.specs.SortKey.{sort_option, sort_path, sort_text};
 ghost use Rattle.iref_canonical.specs.SortPuts.{AreKeptSlices, Puts, segment_bytes};
-ghost use Rattle.iref_canonical.specs.SortPuts.{sorted_from_authority, sorted_from_path};
-ghost use Rattle.iref_canonical.specs.SortPuts.{sorted_slices, sorted_tail};
-ghost use Rattle.iref_canonical.specs.SortPuts.{spelled_from_authority, spelled_from_path};
+ghost use Rattle.iref_canonical.specs.SortPuts.{sorted_from_authority, sorted_slices};
+ghost use Rattle.iref_canonical.specs.SortPuts.{sorted_tail, spelled_from_authority};
 ghost use Rattle.iref_canonical.specs.SortPuts.{spelled_slices, spelled_tail};
 
 use crate::padded::Padded;
@@ -71,6 +70,7 @@ fn store_block(buffer: &mut [u8], at: usize, bytes: &[u8])
 
 // Puts a text and its end.
 #[inline(always)]
+#[tactic(auto, using(crate::proofs::SortPutLemmas::puts))]
 fn put_text(buffer: &mut [u8], at: usize, text: &str) -> usize
     requires { at + length text.now + 1 ≤ length buffer.old }
     ensures { Puts at (text.now ++ 0 ∷ []) buffer.old buffer.new result }
@@ -96,6 +96,7 @@ fn put_padded(buffer: &mut [u8], at: usize, text: Padded<'_>) -> usize
 
 // Puts a text that may not be there.
 #[inline(always)]
+#[tactic(auto, using(crate::proofs::SortPutLemmas::puts))]
 fn put_option(buffer: &mut [u8], at: usize, text: Option<Padded<'_>>) -> usize
     requires kept { none_or is_kept (option_map text_in text) ≡ true }
     requires padded { IfSome text IsPadded }
@@ -161,6 +162,7 @@ fn put_segments(buffer: &mut [u8], at: usize, text: Padded<'_>) -> Option<usize>
 
 // Puts the items of a path without its root, and their end, unless one begins with a dot.
 #[inline(always)]
+#[tactic(auto, using(crate::proofs::SortPutLemmas::items))]
 fn put_items(buffer: &mut [u8], at: usize, text: Padded<'_>) -> Option<usize>
     requires kept { is_kept (text_in text) ≡ true }
     requires padded { IsPadded text }
@@ -182,6 +184,7 @@ fn put_items(buffer: &mut [u8], at: usize, text: Padded<'_>) -> Option<usize>
 
 // Puts a path, unless a segment begins with a dot.
 #[inline(always)]
+#[tactic(auto, using(crate::proofs::SortCutLemmas::paths), unfolding(crate::specs::SortKey::sort_path))]
 fn put_path(buffer: &mut [u8], at: usize, path: Padded<'_>) -> Option<usize>
     requires kept { is_kept (text_in path) ≡ true }
     requires padded { IsPadded path }
@@ -200,6 +203,7 @@ fn put_path(buffer: &mut [u8], at: usize, path: Padded<'_>) -> Option<usize>
 }
 
 // Puts a text in lower case and its end. The bytes are written one by one.
+#[tactic(auto, using(crate::proofs::SortPutLemmas::puts))]
 fn put_lower(buffer: &mut [u8], at: usize, text: &str) -> usize
     requires { at + length text.now + 1 ≤ length buffer.old }
     ensures { Puts at (str_to_ascii_lowercase text.now ++ 0 ∷ []) buffer.old buffer.new result }
@@ -213,6 +217,7 @@ fn put_lower(buffer: &mut [u8], at: usize, text: &str) -> usize
 
 // Puts a scheme in lower case, which may not be there. Most schemes are `http` and `https`.
 #[inline(always)]
+#[tactic(auto, using(crate::proofs::SortPutLemmas::schemes))]
 fn put_scheme(buffer: &mut [u8], at: usize, scheme: Option<&str>) -> usize
     requires kept { none_or is_kept (option_copied scheme) ≡ true }
     requires room { at + length (sort_option sort_text (option_copied scheme))
@@ -234,6 +239,7 @@ fn put_scheme(buffer: &mut [u8], at: usize, scheme: Option<&str>) -> usize
 
 // Where the first `:` of a host and a port can stand: behind an address in brackets.
 #[inline(always)]
+#[tactic(auto, using(crate::proofs::SortCutLemmas::hosts))]
 fn address_len(text: Padded<'_>) -> usize
     requires { IsPadded text }
     ensures value { take result (text_in text.entry) ≡ bracketed (text_in text.entry) }
@@ -249,6 +255,7 @@ fn address_len(text: Padded<'_>) -> usize
 
 // Puts a host, and a port, which may not be there.
 #[inline(always)]
+#[tactic(auto, using(crate::proofs::SortCutLemmas::hosts, std::proofs::lemmas::Grind::common_steps))]
 fn put_host(buffer: &mut [u8], at: usize, text: Padded<'_>) -> usize
     requires kept { are_kept_parts (read_host_and_port None (text_in text)) ≡ true }
     requires padded { IsPadded text }
@@ -267,6 +274,7 @@ fn put_host(buffer: &mut [u8], at: usize, text: Padded<'_>) -> usize
 
 // Puts the parts of an authority.
 #[inline(always)]
+#[tactic(auto, using(crate::proofs::SortCutLemmas::parts))]
 fn put_parts(buffer: &mut [u8], at: usize, text: Padded<'_>) -> usize
     requires kept { are_kept_parts (read_authority (text_in text)) ≡ true }
     requires padded { IsPadded text }
@@ -290,6 +298,7 @@ fn put_parts(buffer: &mut [u8], at: usize, text: Padded<'_>) -> usize
 
 // Puts an authority. Most are a host of at most 16 bytes.
 #[inline(always)]
+#[tactic(auto, using(crate::proofs::SortCutLemmas::lone))]
 fn put_authority(buffer: &mut [u8], at: usize, text: Padded<'_>) -> usize
     requires kept { are_kept_parts (read_authority (text_in text)) ≡ true }
     requires padded { IsPadded text }
@@ -374,6 +383,7 @@ fn split_part<'a>(
 
 // Puts the query and the fragment of a text that begins with them.
 #[inline(always)]
+#[tactic(auto, using(crate::proofs::SortPutLemmas::puts, std::proofs::lemmas::Grind::common_steps))]
 fn put_tail(buffer: &mut [u8], at: usize, text: Padded<'_>, slices: ReferenceSlices<'_>) -> usize
     requires spelled { text_in text ≡ spelled_tail slices }
     requires kept { AreKeptSlices slices }
@@ -387,30 +397,9 @@ fn put_tail(buffer: &mut [u8], at: usize, text: Padded<'_>, slices: ReferenceSli
     put_option(buffer, at, fragment)
 }
 
-// Puts the path and what follows it.
-#[inline(always)]
-fn put_from_path(
-    buffer: &mut [u8],
-    at: usize,
-    text: Padded<'_>,
-    slices: ReferenceSlices<'_>,
-) -> Option<usize>
-    requires spelled { text_in text ≡ spelled_from_path slices }
-    requires kept { AreKeptSlices slices }
-    requires padded { IsPadded text }
-    requires room { at + length (sorted_from_path slices) + 16 ≤ length buffer.old }
-    ensures put { IfSome result (λ end.
-        Puts at (sorted_from_path slices.entry) buffer.old buffer.new end) }
-    ensures dotless { IfSome result (λ end.
-        has_dot_segment slices.entry.path.now ≡ false) }
-{
-    let at = put_path(buffer, at, text.front(slices.path.len()))?;
-    let rest = text.skip(slices.path.len());
-    Some(put_tail(buffer, at, rest, slices))
-}
-
 // Puts the authority and what follows it.
 #[inline(always)]
+#[tactic(auto, using(crate::proofs::SortPutLemmas::puts))]
 fn put_from_authority(
     buffer: &mut [u8],
     at: usize,
@@ -428,11 +417,13 @@ fn put_from_authority(
 {
     let (authority, rest) = split_part(text, 2, slices.authority);
     let at = put_authority_option(buffer, at, authority);
-    put_from_path(buffer, at, rest, slices)
+    let at = put_path(buffer, at, rest.front(slices.path.len()))?;
+    Some(put_tail(buffer, at, rest.skip(slices.path.len()), slices))
 }
 
 // Puts the sort key of the reference of these components, from the front of the buffer.
 #[inline(always)]
+#[tactic(auto, using(crate::proofs::SortPutLemmas::puts))]
 fn put_all(buffer: &mut [u8], text: Padded<'_>, slices: ReferenceSlices<'_>) -> Option<usize>
     requires spelled { text_in text ≡ spelled_slices slices }
     requires kept { AreKeptSlices slices }
@@ -451,6 +442,7 @@ fn put_all(buffer: &mut [u8], text: Padded<'_>, slices: ReferenceSlices<'_>) -> 
 // Puts the sort key of a short text, unless a byte stands in it otherwise or a segment of the path
 // begins with a dot.
 #[inline(always)]
+#[tactic(auto, using(crate::proofs::SortShortLemmas::shorts))]
 pub(crate) fn put_short(
     buffer: &mut [u8; ROOM],
     text: &str,

@@ -1,10 +1,7 @@
 use Rattle.std.proofs.Common.{arith}
 use Rattle.std.proofs.lemmas.Bool.Decides.{nat_tests}
-use Rattle.iref_canonical.proofs.DecodedLemmas.{ends-at, no_room, splits-escape}
+use Rattle.iref_canonical.proofs.DecodedLemmas.{ends-at}
 use Rattle.iref_canonical.proofs.encoded.split_last_escape.Goals as goal
-
-pub returns-in_err-at : goal.returns-in_err-at
-returns-in_err-at c = grind (arith, no_room c.args.text.now)
 
 pub returns-then-text-at-ne37 : goal.returns-then-text-at-ne37
 returns-then-text-at-ne37 c = grind (arith, nat_tests, ends-at c.args.text.now c.in_ok-at.at)
@@ -14,6 +11,3 @@ returns-in_err-high c = grind (arith, nat_tests, ends-at c.args.text.now c.in_ok
 
 pub returns-in_err-low : goal.returns-in_err-low
 returns-in_err-low c = grind (arith, nat_tests, ends-at c.args.text.now c.in_ok-at.at)
-
-pub returns : goal.returns
-returns c = grind (arith, splits-escape c.args.text.now c.in_ok-at.at)
