@@ -22,7 +22,7 @@ use Rattle.iref_component.specs.AuthorityTexts.{SpellsAuthority, IsStep, authori
 use Rattle.iref_splice.proofs.PartLemmas.{first_len}
 use Rattle.iref_component.specs.declared.authority_mut.AuthorityMut.{AuthorityMut}
 use Rattle.iref_component.specs.AuthorityEdits.{edited_bytes, authority_mut_start, authority_mut_end, Edits}
-use Rattle.iref_component.proofs.PathEditLemmas.{splice_all}
+use Rattle.iref_component.proofs.PathEditLemmas.{slice_all, splice_all}
 use Rattle.iref_component.proofs.AuthorityPartLemmas.{user_info_in_rule, host_in_rule, port_in_rule}
 
 -- ---- lists
@@ -35,9 +35,6 @@ middle_replaced a b c x = same_lists _ _ (search (rules, places)) (λ k d h. gri
 
 end_replaced : (a b c x : Text) → splice (a ++ b ++ c) (length a + length b) (length (a ++ b ++ c)) x ≡ a ++ b ++ x
 end_replaced a b c x = same_lists _ _ (search (rules, places)) (λ k d h. grind (arith, places))
-
-pub slice_whole : (text : Text) (start end : ℕ) → start ≡ 0 → end ≡ length text → slice_range text start end ≡ text
-slice_whole text start end e f = rw (e, f) (same_lists _ _ (search (rules, places)) (λ k d h. grind (arith, places)))
 
 -- ---- an authority with another part
 
@@ -131,10 +128,12 @@ whole_put set text authority h = grind (arith, common_steps, splice_all text aut
 step_of_whole : (step : AuthorityValue → AuthorityValue) (old new : Text) (start end new_start new_end : ℕ) → start ≡ 0 → end ≡ length old
     → new ≡ splice old start end (spell_authority (step (read_authority (slice_range old start end)))) → new_start ≡ start → new_end ≡ start + length (spell_authority (step (read_authority (slice_range old start end))))
     → read_authority (slice_range new new_start new_end) ≡ step (read_authority (slice_range old start end)) → IsStep step old new
-step_of_whole step old new start end new_start new_end a b e f g r = grind (arith, common_steps, slice_whole, splice_all)
+step_of_whole step old new start end new_start new_end a b e f g r = grind (arith, common_steps, slice_all, splice_all)
 
 -- an edit of an editor of all of a text
-module _ {C T c H : _} {R E : Type 0} (result : Result R E) (text : Text) (old new : AuthorityMut C T c H) (bytes : edited_bytes old ≡ text) (start : authority_mut_start old ≡ 0) (end : authority_mut_end old ≡ length text) where
+pub ruleset whole_steps = (common_steps, splice_all, read_authority-spelled)
+
+module _ {C T c H : _} {R E : Type 0} {result : Result R E} {text : Text} {old new : AuthorityMut C T c H} (bytes : edited_bytes old ≡ text) (start : authority_mut_start old ≡ 0) (end : authority_mut_end old ≡ length text) where
   pub whole_edits : (step : AuthorityValue → AuthorityValue) → Edits step old new result → MatchResult result (λ _. IsStep step text (edited_bytes new)) (λ _. edited_bytes new ≡ text)
   whole_edits step edits =
       MatchResult-weaker result edits.outcome

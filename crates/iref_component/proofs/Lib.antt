@@ -7,6 +7,4 @@ pub mod PathTryLemmas
 pub mod PortLemmas
 pub mod SchemeLookLemmas
 pub mod TextLemmas
-pub mod WholeLemmas
 pub mod KeyLemmas
-pub mod FaultLemmas

@@ -1,7 +1,7 @@
 -- The text that an edit leaves.
-use Rattle.std.proofs.Common.{Bool, true, ◌≡◌, ℕ, ◌+◌, [], ◌++◌, length, sym, ap, ◌∙◌, arith}
+use Rattle.std.proofs.Common.{true, ◌≡◌, ℕ, ◌+◌, [], length, sym, ap, ◌∙◌, arith}
 use Rattle.std.proofs.lemmas.Grind.{common_steps}
-use Rattle.std.proofs.lemmas.List.{append-nil, drop_all, take_all}
+use Rattle.std.proofs.lemmas.List.{drop_all, take_all}
 use Rattle.std.specs.List.{splice, slice_range}
 use Rattle.iref_grammar.specs.declared.context.PathContext.{PathContext}
 use Rattle.iref_grammar.specs.Rules.{Text}
@@ -14,7 +14,6 @@ use Rattle.iref_model.specs.DotSegments.{RemovesDotSegments}
 use Rattle.iref_model.specs.PathSteps.{normalized}
 use Rattle.iref_model.proofs.RewritingLemmas.{path_removes_dot_segments}
 use Rattle.iref_path.specs.Rewriting.{rewritten}
-use Rattle.iref_path.specs.Spelling.{normal_in}
 use Rattle.iref_path.proofs.SpellLemmas.{normalized-in_context}
 use Rattle.iref_grammar.specs.PathValue.{PathValue, read_path, spell_path}
 use Rattle.iref_path.specs.PathParts.{is_path_after, StepsTo}
@@ -42,10 +41,6 @@ whole_edit {new = new} step of e = grind (arith, common_steps, whole_edited of, 
 pub put_steps : (set : CharTests) (context : PathContext) (old new text : Text) (value : PathValue) → new ≡ text → is_path_after set context text ≡ true → (is_path_in set context old ≡ true → is_path_in set context text ≡ true) → read_path text ≡ value
     → StepsTo set context old new value
 put_steps set context old new text value same path reads e = rw same (record { spelled = sym (read_path-reads text).spelled ∙ ap spell_path e; read = e; path = path; reads = reads })
-
--- the normal path of a text, by the flag that it is read with
-pub normal_value : (context : PathContext) (absolute : Bool) (path old : Text) → absolute ≡ (read_path old).absolute → path ≡ old → normal_in context absolute path ≡ normalized context (read_path old)
-normal_value context absolute path old a e = grind arith
 
 -- what is left of the dots of a text once its normal path stands there
 pub normal_dots : (context : PathContext) (old new : Text) → context.has_authority ≡ true → (read_path old).absolute ≡ true → read_path new ≡ normalized context (read_path old) → RemovesDotSegments old [] new

@@ -7,4 +7,4 @@ use Rattle.iref_component.proofs.authority.edits.AuthorityBuf+C.set_host.Goals a
 pub returns : goal.returns
 returns g c =
     let whole = c.as_authority_mut.ensures in
-    search (rules, whole_edits c.set_host.result (text_of c.args.self.now) c.as_authority_mut.result c.set_host.new.self whole.bytes whole.start whole.end (with_host (text_of c.args.host)) c.set_host.ensures)
+    search (rules, whole_edits whole.bytes whole.start whole.end (with_host (text_of c.args.host)) c.set_host.ensures)

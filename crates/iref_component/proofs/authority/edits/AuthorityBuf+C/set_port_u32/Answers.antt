@@ -2,11 +2,10 @@ use Rattle.std.proofs.Common.{rules}
 use Rattle.std.specs.Prelude.{option_map}
 use Rattle.iref_model.specs.AuthoritySteps.{with_port}
 use Rattle.iref_model.specs.PortNumbers.{port_text}
-use Rattle.iref_component.specs.Components.{text_of}
 use Rattle.iref_component.proofs.AuthorityEditLemmas.{whole_edits}
 use Rattle.iref_component.proofs.authority.edits.AuthorityBuf+C.set_port_u32.Goals as goal
 
 pub returns-clause-edit : goal.returns-clause-edit
 returns-clause-edit g c =
     let whole = c.as_authority_mut.ensures in
-    search (rules, whole_edits c.set_port_u32.result (text_of c.args.self.now) c.as_authority_mut.result c.set_port_u32.new.self whole.bytes whole.start whole.end (with_port (option_map port_text c.args.port)) c.set_port_u32.ensures.edit)
+    search (rules, whole_edits whole.bytes whole.start whole.end (with_port (option_map port_text c.args.port)) c.set_port_u32.ensures.edit)

@@ -8,4 +8,4 @@ use Rattle.iref_component.proofs.authority.edits.AuthorityBuf+C.set_user_info.Go
 pub returns-clause-edit : goal.returns-clause-edit
 returns-clause-edit g c =
     let whole = c.as_authority_mut.ensures in
-    search (rules, whole_edits c.set_user_info.result (text_of c.args.self.now) c.as_authority_mut.result c.set_user_info.new.self whole.bytes whole.start whole.end (with_user_info (option_map text_of c.args.user_info)) c.set_user_info.ensures.edit)
+    search (rules, whole_edits whole.bytes whole.start whole.end (with_user_info (option_map text_of c.args.user_info)) c.set_user_info.ensures.edit)

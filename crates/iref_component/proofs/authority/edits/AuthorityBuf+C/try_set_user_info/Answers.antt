@@ -1,11 +1,10 @@
 use Rattle.std.proofs.Common.{rules}
 use Rattle.std.specs.Option.{option_copied}
 use Rattle.iref_model.specs.AuthoritySteps.{with_user_info}
-use Rattle.iref_component.specs.Components.{text_of}
 use Rattle.iref_component.proofs.AuthorityEditLemmas.{whole_edits}
 use Rattle.iref_component.proofs.authority.edits.AuthorityBuf+C.try_set_user_info.Goals as goal
 
 pub returns-clause-edit : goal.returns-clause-edit
 returns-clause-edit g c =
     let whole = c.as_authority_mut.ensures in
-    search (rules, whole_edits c.try_set_user_info.result (text_of c.args.self.now) c.as_authority_mut.result c.try_set_user_info.new.self whole.bytes whole.start whole.end (with_user_info (option_copied c.args.user_info)) c.try_set_user_info.ensures.edit)
+    search (rules, whole_edits whole.bytes whole.start whole.end (with_user_info (option_copied c.args.user_info)) c.try_set_user_info.ensures.edit)
