@@ -1,13 +1,15 @@
 use Rattle.std.proofs.Common.{arith}
 use Rattle.std.proofs.lemmas.List.Elements.{All-nil, All-push}
 use Rattle.iref_component.specs.Appends.{IsSegmentText}
-use Rattle.iref_component.proofs.ManyLemmas.{no_edit, lazily_none, lazy_edit}
+use Rattle.iref_model.specs.PathSteps.{lazy_appended}
+use Rattle.iref_component.proofs.ManyLemmas.{no_edit, lazy_edit}
 use Rattle.iref_component.proofs.path_mut.PathMut.try_lazy_append.Goals as goal
 
 pub loop-segment-init : goal.loop-segment-init
+unfolding lazy_appended
 loop-segment-init g c =
     let it = c.into_iter-segment-iterator in
-    grind (arith, c.requires it.result it.ensures.into_iter_gives, All-nil (IsSegmentText g.C.CharSet.tests), lazily_none (no_edit {p = c.args.self.now} (g.T.Target.is_within _ _ _ _ c.args.self.now.placed)))
+    grind (arith, c.requires it.result it.ensures.into_iter_gives, All-nil (IsSegmentText g.C.CharSet.tests), no_edit {p = c.args.self.now} (g.T.Target.is_within _ _ _ _ c.args.self.now.placed))
 
 pub loop-segment-preserved : goal.loop-segment-preserved
 loop-segment-preserved g c =
