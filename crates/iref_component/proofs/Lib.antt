@@ -2,7 +2,6 @@ pub mod AuthorityEditLemmas
 pub mod AuthorityPartLemmas
 pub mod ManyLemmas
 pub mod PathEditLemmas
-pub mod PathOwnerLemmas
 pub mod PathTryLemmas
 pub mod PortLemmas
 pub mod SchemeLookLemmas

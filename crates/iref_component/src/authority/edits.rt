@@ -42,6 +42,7 @@ impl<C: CharSet> Target<AuthorityPart, C> for AuthorityBuf<C> {
     }
 }
 
+#[tactic(auto, using(crate::proofs::AuthorityEditLemmas::whole_steps))]
 impl<C: CharSet> AuthorityBuf<C> {
     ghost use Rattle.iref_component.specs.AuthorityEdits.{Borrows, edited_bytes};
     ghost use Rattle.iref_component.specs.AuthorityEdits.{authority_mut_start, authority_mut_end};
@@ -59,7 +60,6 @@ impl<C: CharSet> AuthorityBuf<C> {
 
     /// Replaces the authority, in the room of the old one where it fits: `u@h:80` by `g` is `g`. At
     /// `Memory` nothing has changed.
-    #[tactic(auto, using(crate::proofs::AuthorityEditLemmas::whole_steps))]
     pub fn replace(&mut self, authority: Authority<'_, C>) -> Result<(), Memory>
         ensures ok { OnOk result (text_of self.new ≡ text_of authority.entry) }
         ensures err { OnErr result (text_of self.new ≡ text_of self.old) }
@@ -105,7 +105,6 @@ impl<C: CharSet> AuthorityBuf<C> {
     }
 
     /// Does as `replace` does with a text: `Invalid` holds a text that is not an authority.
-    #[tactic(auto, using(crate::proofs::AuthorityEditLemmas::whole_steps))]
     pub fn try_replace<'t>(&mut self, authority: &'t str) -> Tried<InvalidAuthority<&'t str>>
         ensures ok { OnOk result (text_of self.new ≡ authority.now) }
         ensures text { Tests (IsAuthority C.tests) authority.entry (λ error. error.0) result }
