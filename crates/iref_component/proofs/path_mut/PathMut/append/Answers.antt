@@ -16,13 +16,10 @@ loop-segment-preserved g c =
 
 pub returns-in_ok-close-clause-edit : goal.returns-in_ok-close-clause-edit
 returns-in_ok-close-clause-edit g c =
-    let it = c.into_iter-segment-iterator in
-    let dots = sym c.loop-segment.invariant.dots ∙ c.if-ends_in_dots.true in
-    let close = closed_edit (g.T.Target.is_within _ _ _ _ c.args.self.now.placed) _ dots c.loop-segment.invariant.path c.in_ok-close.ensures.outcome in
-    (it.result, c.loop-segment.yielded, it.ensures.into_iter_gives, search rules, close)
+    grind (arith, closed_edit {p = c.args.self.now} {q = c.loop-segment.self} {r = c.close.new.self} (g.T.Target.is_within _ _ _ _ c.args.self.now.placed))
 
 pub returns-else-ends_in_dots-clause-edit : goal.returns-else-ends_in_dots-clause-edit
 returns-else-ends_in_dots-clause-edit g c =
     let it = c.into_iter-segment-iterator in
-    let dots = sym c.loop-segment.invariant.dots ∙ c.if-ends_in_dots.false in
-    (it.result, c.loop-segment.yielded, it.ensures.into_iter_gives, search rules, open_edit _ dots c.loop-segment.invariant.path)
+    let path = open_edit _ (sym c.loop-segment.invariant.dots ∙ c.if-ends_in_dots.false) c.loop-segment.invariant.path in
+    (it.result, c.loop-segment.yielded, it.ensures.into_iter_gives, search rules, path)

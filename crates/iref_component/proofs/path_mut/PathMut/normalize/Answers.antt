@@ -21,5 +21,4 @@ pub returns-clause-edit : goal.returns-clause-edit
 returns-clause-edit g c = grind (arith, common_steps, part_stands, normal_fits, normalized-read)
 
 pub returns-clause-dots : goal.returns-clause-dots
-returns-clause-dots g c = λ authority is_absolute.
-    normal_dots (path_mut_context c.args.self.now) (path_mut_text c.args.self.now) _ authority is_absolute (returns-clause-edit g c).outcome.read
+returns-clause-dots g c = grind (arith, normal_dots, returns-clause-edit g c)

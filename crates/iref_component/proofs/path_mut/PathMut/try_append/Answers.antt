@@ -31,5 +31,5 @@ returns-then-ends_in_dots-clause-edit g c =
 pub returns-else-ends_in_dots-clause-edit : goal.returns-else-ends_in_dots-clause-edit
 returns-else-ends_in_dots-clause-edit g c =
     let it = c.into_iter-segment-iterator in
-    let dots = sym c.loop-segment.invariant.dots ∙ c.if-ends_in_dots.false in
-    (it.result, c.loop-segment.yielded, it.ensures.into_iter_gives, search rules, (c.loop-segment.invariant.segments, open_edit _ dots c.loop-segment.invariant.path))
+    let path = open_edit _ (sym c.loop-segment.invariant.dots ∙ c.if-ends_in_dots.false) c.loop-segment.invariant.path in
+    (it.result, c.loop-segment.yielded, it.ensures.into_iter_gives, search rules, (c.loop-segment.invariant.segments, path))
