@@ -1,12 +1,11 @@
 -- A part of an authority replaced in its text.
-use Rattle.std.proofs.Common.{◌≡◌, ℕ, ◌+◌, true, [], ◌∷◌, ◌++◌, length, sym, ◌∙◌, length-append, append_assoc, arith, rules, subst, lit<}
+use Rattle.std.proofs.Common.{◌≡◌, ◌+◌, true, [], ◌∷◌, ◌++◌, length, sym, ◌∙◌, length-append, append_assoc, arith, rules, subst, lit<}
 use Rattle.std.proofs.lemmas.Grind.{common_steps}
-use Rattle.std.specs.Prelude.{Option, None, Result, MatchResult}
-use Rattle.std.specs.List.{splice, slice_range}
+use Rattle.std.specs.Prelude.{Option, None}
+use Rattle.std.specs.List.{splice}
 use Rattle.std.specs.Str.{IsCharBoundary, IsUtf8}
 use Rattle.std.proofs.lemmas.List.{places, same_lists}
 use Rattle.std.proofs.lemmas.Str.{IsCharBoundary-start, IsCharBoundary-end, IsCharBoundary-at_seam}
-use Rattle.std.proofs.lemmas.Result.{MatchResult-weaker}
 use Rattle.iref_splice.specs.Changes.{IsWithin, with_mark}
 use Rattle.iref_grammar.specs.Characters.{CharTests, AreAboveAscii}
 use Rattle.iref_grammar.specs.Rules.{Text}
@@ -18,11 +17,9 @@ use Rattle.iref_grammar.proofs.AuthorityLemmas.{read_authority-spelled}
 use Rattle.iref_grammar.proofs.AuthorityRuleLemmas.{authority_read, Decides-has_authority_parts}
 use Rattle.iref_grammar.proofs.SliceLemmas.{mark_boundary}
 use Rattle.iref_model.specs.AuthoritySteps.{with_user_info, with_host, with_port}
-use Rattle.iref_component.specs.AuthorityTexts.{SpellsAuthority, IsStep, authority_is_text}
+use Rattle.iref_component.specs.AuthorityTexts.{SpellsAuthority, authority_is_text}
 use Rattle.iref_splice.proofs.PartLemmas.{first_len}
-use Rattle.iref_component.specs.declared.authority_mut.AuthorityMut.{AuthorityMut}
-use Rattle.iref_component.specs.AuthorityEdits.{edited_bytes, authority_mut_start, authority_mut_end, Edits}
-use Rattle.iref_component.proofs.PathEditLemmas.{splice_all}
+use Rattle.iref_component.proofs.PathEditLemmas.{slice_all, splice_all}
 use Rattle.iref_component.proofs.AuthorityPartLemmas.{user_info_in_rule, host_in_rule, port_in_rule}
 
 -- ---- lists
@@ -35,9 +32,6 @@ middle_replaced a b c x = same_lists _ _ (search (rules, places)) (λ k d h. gri
 
 end_replaced : (a b c x : Text) → splice (a ++ b ++ c) (length a + length b) (length (a ++ b ++ c)) x ≡ a ++ b ++ x
 end_replaced a b c x = same_lists _ _ (search (rules, places)) (λ k d h. grind (arith, places))
-
-pub slice_whole : (text : Text) (start end : ℕ) → start ≡ 0 → end ≡ length text → slice_range text start end ≡ text
-slice_whole text start end e f = rw (e, f) (same_lists _ _ (search (rules, places)) (λ k d h. grind (arith, places)))
 
 -- ---- an authority with another part
 
@@ -127,16 +121,5 @@ whole_within set above text h = grind (arith, common_steps, IsCharBoundary-start
 pub whole_put : (set : CharTests) (text authority : Text) → is_authority set authority ≡ true → SpellsAuthority set (splice text 0 (length text) authority) (read_authority authority)
 whole_put set text authority h = grind (arith, common_steps, splice_all text authority, read_authority-spelled)
 
--- all of the text replaced by a step
-step_of_whole : (step : AuthorityValue → AuthorityValue) (old new : Text) (start end new_start new_end : ℕ) → start ≡ 0 → end ≡ length old
-    → new ≡ splice old start end (spell_authority (step (read_authority (slice_range old start end)))) → new_start ≡ start → new_end ≡ start + length (spell_authority (step (read_authority (slice_range old start end))))
-    → read_authority (slice_range new new_start new_end) ≡ step (read_authority (slice_range old start end)) → IsStep step old new
-step_of_whole step old new start end new_start new_end a b e f g r = grind (arith, common_steps, slice_whole, splice_all)
-
--- an edit of an editor of all of a text
-module _ {C T c H : _} {R E : Type 0} (result : Result R E) (text : Text) (old new : AuthorityMut C T c H) (bytes : edited_bytes old ≡ text) (start : authority_mut_start old ≡ 0) (end : authority_mut_end old ≡ length text) where
-  pub whole_edits : (step : AuthorityValue → AuthorityValue) → Edits step old new result → MatchResult result (λ _. IsStep step text (edited_bytes new)) (λ _. edited_bytes new ≡ text)
-  whole_edits step edits =
-      MatchResult-weaker result edits.outcome
-      (λ _ b. grind (arith, common_steps, step_of_whole step (edited_bytes old) (edited_bytes new) old.range.start old.range.end new.range.start new.range.end))
-      (λ _ same. same.bytes ∙ bytes)
+-- what an edit of an editor of a whole text comes to
+pub ruleset whole_steps = (splice_all, slice_all, read_authority-spelled)

@@ -2,11 +2,8 @@ pub mod AuthorityEditLemmas
 pub mod AuthorityPartLemmas
 pub mod ManyLemmas
 pub mod PathEditLemmas
-pub mod PathOwnerLemmas
 pub mod PathTryLemmas
 pub mod PortLemmas
 pub mod SchemeLookLemmas
 pub mod TextLemmas
-pub mod WholeLemmas
 pub mod KeyLemmas
-pub mod FaultLemmas

@@ -13,7 +13,7 @@ use Rattle.iref_grammar.specs.Rules.{Text}
 use Rattle.iref_grammar.specs.PathValue.{PathValue, read_path}
 use Rattle.iref_grammar.proofs.PathLemmas.{read_path-reads}
 use Rattle.iref_model.specs.NormalList.{is_name, ends_in_dots}
-use Rattle.iref_model.specs.PathSteps.{lazy_pushed, lazy_appended, followed, pushed, closed_path, appended, joined, replaced, from_segments}
+use Rattle.iref_model.specs.PathSteps.{lazy_pushed, lazy_appended, followed, pushed, closed_path, appended, joined, from_segments}
 use Rattle.iref_model.proofs.ItemLemmas.{ends-last}
 use Rattle.iref_component.specs.declared.path_mut.PathMut.{PathMut}
 use Rattle.iref_grammar.specs.Contexts.{alone}
@@ -34,10 +34,6 @@ pub no_edit : {C : _} {T : _} {c : _} {t : _} {p : PathMut C T c t} → (p.range
 no_edit {p = p} inside =
     let spelled = (read_path-reads (path_mut_text p)).spelled in
     grind (arith, spelled, splice_same (edited_bytes p) p.range.start p.range.end inside.0 inside.1, slice_len (edited_bytes p) p.range.start p.range.end inside.0 inside.1)
-
-pub lazily_none : {C : _} {T : _} {c : _} {t : _} {p : PathMut C T c t} → BecomesPath p p (path_mut_value p) → BecomesPath p p (lazy_appended (path_mut_context p) [] (path_mut_value p))
-unfolding lazy_appended
-lazily_none none = none
 
 -- a refused edit after another
 pub refused_then : {C : _} {T : _} {c : _} {t : _} {p q r : PathMut C T c t} {value : PathValue} → BecomesPath p q value → IsUnchanged q r → BecomesPath p r value
@@ -87,20 +83,12 @@ pub copy_edit : {C : _} {T : _} {c : _} {t : _} {p q : PathMut C T c t} {bytes :
     → BecomesPath p q (step (path_mut_context p) (path_mut_value p)) → path_mut_value q ≡ step context (read_path bytes)
 copy_edit {bytes = bytes} {n = n} step of len e = grind (arith, slice_all bytes 0 n)
 
--- what is joined, by whether it is absolute
-pub joined_absolute : (context : PathContext) (new p : PathValue) → new.absolute ≡ true → joined context new p ≡ replaced context new p
-unfolding joined
-joined_absolute context new p h = grind arith
-
+-- what is joined, where it is relative
 pub joined_relative : (context : PathContext) (new p : PathValue) → new.absolute ≡ false → joined context new p ≡ appended context new.segments p
 unfolding joined
 joined_relative context new p h = grind arith
 
 -- one more segment of a list pushed
-pub from_segments_none : (absolute : Bool) → from_segments absolute [] ≡ record { absolute = absolute; segments = [] }
-unfolding from_segments
-from_segments_none absolute = refl
-
 pub from_segments_next : {X : Type 0} (view : X → Text) (absolute : Bool) (items : List X) (x : X) → from_segments absolute (map view (items ++ x ∷ [])) ≡ pushed alone (view x) (from_segments absolute (map view items))
 unfolding from_segments
 from_segments_next view absolute items x = grind (arith, common_steps, map-append, fold-append)

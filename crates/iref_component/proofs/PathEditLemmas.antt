@@ -1,7 +1,7 @@
 -- The text that an edit leaves.
-use Rattle.std.proofs.Common.{Bool, true, ◌≡◌, ℕ, ◌+◌, [], ◌++◌, length, sym, ap, ◌∙◌, arith}
+use Rattle.std.proofs.Common.{true, ◌≡◌, ℕ, ◌+◌, [], length, sym, ap, ◌∙◌, arith}
 use Rattle.std.proofs.lemmas.Grind.{common_steps}
-use Rattle.std.proofs.lemmas.List.{append-nil, drop_all, take_all}
+use Rattle.std.proofs.lemmas.List.{drop_all, take_all}
 use Rattle.std.specs.List.{splice, slice_range}
 use Rattle.iref_grammar.specs.declared.context.PathContext.{PathContext}
 use Rattle.iref_grammar.specs.Rules.{Text}
@@ -14,12 +14,9 @@ use Rattle.iref_model.specs.DotSegments.{RemovesDotSegments}
 use Rattle.iref_model.specs.PathSteps.{normalized}
 use Rattle.iref_model.proofs.RewritingLemmas.{path_removes_dot_segments}
 use Rattle.iref_path.specs.Rewriting.{rewritten}
-use Rattle.iref_path.specs.Spelling.{normal_in}
 use Rattle.iref_path.proofs.SpellLemmas.{normalized-in_context}
 use Rattle.iref_grammar.specs.PathValue.{PathValue, read_path, spell_path}
 use Rattle.iref_path.specs.PathParts.{is_path_after, StepsTo}
-use Rattle.iref_component.specs.declared.path_mut.PathMut.{PathMut}
-use Rattle.iref_component.specs.PathEdits.{edited_bytes, path_mut_context, path_mut_text, path_mut_value, IsEditorOf, BecomesPath}
 
 -- all of a text replaced
 pub splice_all : (old text : Text) (start end : ℕ) → start ≡ 0 → end ≡ length old → splice old start end text ≡ text
@@ -28,24 +25,13 @@ splice_all old text start end from to = grind (arith, common_steps, drop_all)
 pub slice_all : (text : Text) (start end : ℕ) → start ≡ 0 → end ≡ start + length text → slice_range text start end ≡ text
 slice_all text start end from to = grind (arith, common_steps, take_all)
 
--- the text that an editor of a whole text edits
-pub whole_edited : {C : _} {T : _} {c : _} {t : _} {p : PathMut C T c t} {bytes : Text} {context : PathContext} → IsEditorOf p bytes context 0 (length bytes) → path_mut_text p ≡ bytes
-whole_edited {bytes = bytes} of = grind (arith, slice_all bytes 0 (length bytes))
-
--- the text and the value of a whole text after an edit by a step
-pub whole_edit : {C : _} {T : _} {c : _} {t : _} {old new : PathMut C T c t} {bytes : Text} {context : PathContext} (step : PathContext → PathValue → PathValue)
-    → IsEditorOf old bytes context 0 (length bytes) → BecomesPath old new (step (path_mut_context old) (path_mut_value old))
-    → let value = step context (read_path bytes) in (edited_bytes new ≡ spell_path value) × (read_path (edited_bytes new) ≡ value)
-whole_edit {new = new} step of e = grind (arith, common_steps, whole_edited of, splice_all, slice_all (edited_bytes new) new.range.start new.range.end)
+-- what an edit of an editor of a whole text comes to
+pub ruleset whole_steps = (splice_all, slice_all)
 
 -- the text that replaces a whole path is one step
 pub put_steps : (set : CharTests) (context : PathContext) (old new text : Text) (value : PathValue) → new ≡ text → is_path_after set context text ≡ true → (is_path_in set context old ≡ true → is_path_in set context text ≡ true) → read_path text ≡ value
     → StepsTo set context old new value
 put_steps set context old new text value same path reads e = rw same (record { spelled = sym (read_path-reads text).spelled ∙ ap spell_path e; read = e; path = path; reads = reads })
-
--- the normal path of a text, by the flag that it is read with
-pub normal_value : (context : PathContext) (absolute : Bool) (path old : Text) → absolute ≡ (read_path old).absolute → path ≡ old → normal_in context absolute path ≡ normalized context (read_path old)
-normal_value context absolute path old a e = grind arith
 
 -- what is left of the dots of a text once its normal path stands there
 pub normal_dots : (context : PathContext) (old new : Text) → context.has_authority ≡ true → (read_path old).absolute ≡ true → read_path new ≡ normalized context (read_path old) → RemovesDotSegments old [] new

@@ -42,6 +42,7 @@ impl<C: CharSet> Target<AuthorityPart, C> for AuthorityBuf<C> {
     }
 }
 
+#[tactic(auto, using(crate::proofs::AuthorityEditLemmas::whole_steps))]
 impl<C: CharSet> AuthorityBuf<C> {
     ghost use Rattle.iref_component.specs.AuthorityEdits.{Borrows, edited_bytes};
     ghost use Rattle.iref_component.specs.AuthorityEdits.{authority_mut_start, authority_mut_end};

@@ -13,6 +13,7 @@ use iref_error::Memory;
 use iref_grammar::chars::CharSet;
 use std::alloc::Global;
 
+#[tactic(auto, using(crate::proofs::PathEditLemmas::whole_steps))]
 impl<C: CharSet> PathBuf<C> {
     /// Appends each segment as it is. The iterator is asked up to its first `None`. At an `Err` the
     /// segments before the refused one stand.

@@ -55,6 +55,7 @@ impl<C: CharSet> PathTarget<C> for PathBuf<C> {
     }
 }
 
+#[tactic(auto, using(crate::proofs::PathEditLemmas::whole_steps))]
 impl<C: CharSet> PathBuf<C> {
     /// The editor of the path: with it, `push` with `b` turns `/a` into `/a/b`.
     pub fn as_path_mut(&mut self) -> PathMut<'_, C, PathBuf<C>>

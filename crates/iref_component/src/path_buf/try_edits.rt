@@ -10,6 +10,7 @@ use crate::test_before_edit::Tried;
 use iref_error::{InvalidPath, InvalidSegment};
 use iref_grammar::chars::CharSet;
 
+#[tactic(auto, using(crate::proofs::PathEditLemmas::whole_steps))]
 impl<C: CharSet> PathBuf<C> {
     /// Appends a text as a segment, as it is: `a` with `..` becomes `a/..`. `Invalid` holds a text
     /// that is no segment, such as `b/c`.

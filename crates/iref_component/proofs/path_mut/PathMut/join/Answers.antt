@@ -1,20 +1,18 @@
-use Rattle.std.proofs.Common.{rules, map, sym, ap, ◌∙◌, subst}
+use Rattle.std.proofs.Common.{arith, rules, map, sym, ap, ◌∙◌, subst}
 use Rattle.iref_component.specs.Components.{text_of}
 use Rattle.iref_grammar.specs.Contexts.{is_readable_path}
 use Rattle.iref_grammar.specs.PathValue.{read_path}
 use Rattle.iref_grammar.proofs.PathTestLemmas.{is_path-segments}
-use Rattle.iref_model.specs.PathSteps.{appended}
+use Rattle.iref_model.specs.PathSteps.{joined, appended}
 use Rattle.iref_model.proofs.ReadableStepLemmas.{appended-readable}
 use Rattle.iref_component.specs.Paths.{path_value, segments_left}
 use Rattle.iref_component.specs.PathEdits.{EditsTo, path_mut_context, path_mut_value}
-use Rattle.iref_component.proofs.ManyLemmas.{copy_edit, items_drained, joined_absolute, joined_relative}
+use Rattle.iref_component.proofs.ManyLemmas.{copy_edit, items_drained, joined_relative}
 use Rattle.iref_component.proofs.path_mut.PathMut.join.Goals as goal
 
 pub returns-then-is_absolute : goal.returns-then-is_absolute
-returns-then-is_absolute g c =
-    let p = c.args.self.now in
-    let absolute = sym c.is_absolute.ensures ∙ c.if-is_absolute.true in
-    subst (λ value. EditsTo value p c.replace.new.self c.replace.result) (sym (joined_absolute (path_mut_context p) (path_value c.args.path) (path_mut_value p) absolute)) c.replace.ensures
+unfolding joined
+returns-then-is_absolute g c = grind arith
 
 pub put-requires-clause-reads : goal.put-requires-clause-reads
 put-requires-clause-reads g c = λ old_reads.

@@ -1,7 +1,6 @@
-use Rattle.std.proofs.Common.{[], ◌++◌, length, refl, ap, subst, ◌∙◌}
+use Rattle.std.proofs.Common.{arith, [], ◌++◌, length, refl, ap, ◌∙◌}
 use Rattle.std.proofs.lemmas.List.{append-nil}
 use Rattle.std.proofs.lemmas.Str.{IsCharBoundary-start}
-use Rattle.iref_splice.specs.Changes.{IsWithin}
 use Rattle.iref_grammar.specs.PathValue.{read_path}
 use Rattle.iref_path.proofs.StepTextLemmas.{to_end}
 use Rattle.iref_component.specs.PathEdits.{path_mut_context, path_mut_text}
@@ -9,9 +8,7 @@ use Rattle.iref_component.proofs.PathEditLemmas.{put_steps, splice_all}
 use Rattle.iref_component.proofs.path_mut.PathMut.put.Goals as goal
 
 pub apply-requires-clause-within : goal.apply-requires-clause-within
-apply-requires-clause-within g c =
-    let text = c.text.result.now in
-    subst (λ t. IsWithin t (record { start = 0; end = length text })) c.text.ensures.value (to_end text 0 (IsCharBoundary-start text c.text.utf8))
+apply-requires-clause-within g c = grind (arith, to_end, IsCharBoundary-start)
 
 pub returns : goal.returns
 returns g c =

@@ -10,6 +10,3 @@ returns c =
     let some : 0 < length digits = grind (arith, nat_tests) in
     port_number-parsed digits c.parse.result c.or.result c.parse.ensures.value.0 c.as_str-digits.ensures.in_rule some (search rules)
     ∙ ap (port_number (2 ^ 128)) c.as_str-digits.ensures.text
-
-pub returns-then-is_empty : goal.returns-then-is_empty
-returns-then-is_empty c = search rules
