@@ -1,6 +1,5 @@
 use Rattle.std.proofs.Common.{arith}
 use Rattle.std.proofs.lemmas.List.{append-nil}
-use Rattle.iref_grammar.specs.Authority.{read_authority}
 use Rattle.iref_component.specs.AuthorityEdits.{authority_mut_text}
 use Rattle.iref_component.specs.Components.{text_of}
 use Rattle.iref_component.proofs.AuthorityEditLemmas.{whole_within, whole_put}
@@ -10,5 +9,4 @@ pub put-requires-clause-within : goal.put-requires-clause-within
 put-requires-clause-within g c = grind (arith, whole_within g.C.CharSet.tests g.met.C.CharSet.above_ascii)
 
 pub returns : goal.returns
-returns g c =
-    c.put.ensures.edit (read_authority (text_of c.args.authority)) (rw (append-nil, c.as_str.ensures.text, c.text.ensures.value) (whole_put g.C.CharSet.tests (authority_mut_text c.args.self.now) (text_of c.args.authority) c.args.authority.in_rule))
+returns g c = grind (arith, append-nil, whole_put g.C.CharSet.tests (authority_mut_text c.args.self.now) (text_of c.args.authority) c.args.authority.in_rule)
