@@ -29,7 +29,7 @@ use Rattle.iref_reference_text.specs.Steps.{Spells}
 use Rattle.iref_splice.specs.Changes.{IsWithin}
 use Rattle.iref_reference_text.proofs.ReferenceTextLemmas.{authority_mark_within, fragment_mark_within, in_rule_utf8, offsets_within}
 use Rattle.iref_splice.proofs.PartLemmas.{first_len}
-use Rattle.iref_reference_text.proofs.LengthLemmas.{fragment_after-lengths, path_after-lengths, query_after-lengths}
+use Rattle.iref_reference_text.proofs.LengthLemmas.{fragment_after-lengths, path_after-lengths, query_after-lengths, total-read}
 
 pub readable_of : (set : CharTests) (text : Text) → is_reference set text ≡ true → is_readable set (read_reference text) ≡ true
 unfolding is_reference
@@ -216,3 +216,7 @@ module _ (set : CharTests) (above : AreAboveAscii set) (test : Text → Bool) (a
   pub scheme_set : (scheme : Option Text) → none_or is_scheme scheme ≡ true → allows scheme ≡ true → let value = record r { scheme = scheme; path = (with_scheme scheme r).path } in
       new ≡ spell value → IsStep test new value
   scheme_set scheme q a e = is_step set above test allows by_scheme new _ e (ap (is_readable set) (with_scheme-parts scheme r) ∙ with_scheme-readable set scheme r q h) a
+
+pub ruleset replaces = (authority_replaced, query_replaced, fragment_replaced, scheme_replaced)
+
+pub ruleset reads = (readable_of, total-read)

@@ -12,8 +12,8 @@ use Rattle.iref_grammar.specs.PathValue.{PathValue, read_path, segments_of, spel
 use Rattle.iref_grammar.specs.ComponentTexts.{ComponentTexts, read_components, spell_components}
 use Rattle.iref_grammar.specs.Reference.{spell}
 use Rattle.iref_grammar.proofs.ComponentLemmas.{authority_spelled, spell_components-read}
-use Rattle.iref_grammar.proofs.PathLemmas.{read_path-reads}
-use Rattle.iref_grammar.proofs.TextLemmas.{lacks-pieces_at, pieces_at-front}
+use Rattle.iref_grammar.proofs.PathLemmas.{lacks-segments_of, read_path-reads}
+use Rattle.iref_grammar.proofs.TextLemmas.{pieces_at-front}
 use Rattle.iref_model.specs.NormalList.{closed, normal}
 use Rattle.iref_model.specs.PathFunctions.{directory}
 use Rattle.iref_model.specs.PathSteps.{normalized}
@@ -78,9 +78,6 @@ front_dotless (s ∷ rest) more h k = grind (arith, front_dotless rest more)
 after_segments : (list : List Text) (p : PathValue) → p.absolute ≡ false → record { absolute = true; segments = all_but_last list ++ p.segments } ≡ path_after true (record { absolute = true; segments = list }) p
 after_segments list p e = grind arith
 
-all_lack : (text : Text) → list_all (lacks slash) (segments_of text) ≡ true
-all_lack text = grind (arith, lacks-pieces_at slash text)
-
 none_dotted : (text : Text) → has_dot_segment text ≡ false → is_some_dotted (segments_of text) ≡ false
 none_dotted text h = grind arith
 
@@ -92,7 +89,7 @@ unfolding directory spell_path
 relative-stays context base path has absolute h some relative k =
     let below = join_with_byte slash (read_path base).segments in
     let list = segments_of below in
-    let pieces = front_pieces list path (all_lack below) in
+    let pieces = front_pieces list path (lacks-segments_of below) in
     let none = front_dotless list (pieces_at slash path) in
     grind (arith, absolute_text base absolute, read-absolute base below list, pieces, none, none_dotted below, both_dotted [] below, rooted context (front_text list ++ path), relative_pieces, after_segments)
 

@@ -16,6 +16,7 @@ use Rattle.iref_grammar.proofs.ReadablePartsLemmas.{readable_parts}
 use Rattle.iref_model.specs.Guard.{guarded}
 use Rattle.iref_model.specs.ComponentSteps.{with_authority, with_scheme}
 use Rattle.iref_reference_text.specs.ComponentLengths.{with_mark}
+use Rattle.iref_reference_text.proofs.LengthLemmas.{context-lengths}
 use Rattle.iref_path.proofs.GuardTextLemmas.{guarded-same, rooted}
 
 pub readable-fits : (set : CharTests) (r : ReferenceValue) → is_readable set r ≡ true → fits (context_of r) r.path ≡ true
@@ -69,3 +70,7 @@ pub scheme_short : (set : CharTests) (r : ReferenceValue) (guard : Text) → is_
     → guard ++ spell_path r.path ≡ spell_path (guarded (context_with false (is_some r.authority)) r.path) → length guard ≤ 2
     → length guard ≤ with_mark 1 r.scheme
 scheme_short set r guard h e short = grind (arith, no_longer guard r.path _ e, guarded-same (context_with false (is_some r.authority)) r.path, readable_parts set r h, readable-fits set r h, some_scheme)
+
+pub ruleset authority_guards = (context-lengths, authority_rooted, authority_kept, authority_short)
+
+pub ruleset scheme_guards = (context-lengths, scheme_kept, scheme_dropped, scheme_short)

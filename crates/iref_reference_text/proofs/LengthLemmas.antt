@@ -1,5 +1,5 @@
 -- The offsets of a reference follow from the lengths of its components.
-use Rattle.std.proofs.Common.{◌≡◌, ◌+◌, [], ◌∷◌, length, refl, ◌∙◌, ap, arith}
+use Rattle.std.proofs.Common.{◌≡◌, ◌+◌, [], ◌∷◌, length, length-take, refl, ◌∙◌, ap, arith}
 use Rattle.std.proofs.lemmas.Grind.{common_steps}
 use Rattle.std.specs.Prelude.{Option, codes}
 use Rattle.iref_grammar.specs.Rules.{Text}
@@ -62,3 +62,7 @@ placed-read text = placed-spelled (read_reference text)
 
 pub context-lengths : (r : ReferenceValue) → context_by (lengths_of r) ≡ context_of r
 context-lengths r = grind arith
+
+pub ruleset measures = (lengths-slices, placed-read)
+
+pub ruleset totals = (total-slices, length-take)

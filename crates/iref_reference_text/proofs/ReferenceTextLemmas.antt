@@ -186,3 +186,5 @@ unfolding spell
 hierarchy-range text = grind (arith, query_after-lengths, read_reference-spelled text, read_reference-hierarchy text, read_reference-spelled (hierarchy text), hierarchy_of)
 
 pub ruleset spelled = (read_reference-spelled)
+
+pub ruleset texts = (texts_at-offsets, read_components-spelled)

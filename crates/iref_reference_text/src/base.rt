@@ -12,6 +12,7 @@ use iref_path::segments::last_segment;
 
 /// The text of these components, which are this long, up to the end of the path's directory.
 #[inline(always)]
+#[tactic(auto, using(crate::proofs::LengthLemmas::totals))]
 pub fn base_slice<'a, C: CharSet>(
     text: &'a str,
     slices: ReferenceSlices<'a>,

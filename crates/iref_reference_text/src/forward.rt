@@ -26,6 +26,7 @@ fn room_for(base: &str, path: &str, front: &[u8], behind: &[u8]) -> Option<usize
 
 // The normalized path of a reference, between what stands before the path of its base, after an
 // authority, and what stands behind its own; and how long the path is.
+#[tactic(auto, using(std::proofs::lemmas::Grind::common_steps))]
 fn path_between(
     alloc: Global,
     front: &[u8],
@@ -52,6 +53,7 @@ fn path_between(
 /// scheme, an authority or no path, where the base has no authority, and where there is no room for
 /// both paths. The room that the normal path does not need stays in the vector.
 #[inline(always)]
+#[tactic(auto, using(crate::proofs::LengthLemmas::totals))]
 pub fn resolved_forward(
     alloc: Global,
     base_text: &str,

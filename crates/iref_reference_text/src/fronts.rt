@@ -19,6 +19,7 @@ use iref_splice::text::marked_len;
 // relative path there is none either where the base's path is relative, or where one of its
 // segments begins with a dot.
 #[inline(always)]
+#[tactic(auto, using(crate::proofs::LengthLemmas::totals))]
 fn front_before<'a, C: CharSet>(
     text: &'a str,
     base: ReferenceSlices<'a>,
@@ -50,6 +51,7 @@ fn front_before<'a, C: CharSet>(
 /// There is none where the reference has a scheme, an authority or no path, where the base has no
 /// authority, and where no front part stays before the path.
 #[inline(always)]
+#[tactic(auto, using(crate::proofs::LengthLemmas::totals))]
 pub fn front_kept<'a, C: CharSet>(
     text: &'a str,
     base: ReferenceSlices<'a>,

@@ -230,6 +230,7 @@ impl<'a> MeasuredReference<'a> {
     }
 
     /// Fills the buffer with the text, from its end.
+    #[tactic(auto, unfolding(crate::specs::MeasuredReferences::spell_texts))]
     pub fn write(&self, buffer: &mut [u8])
         requires ready { IsReady self.now }
         requires room { length (spell_texts (measured_components self.now)) ≡ length buffer.old }

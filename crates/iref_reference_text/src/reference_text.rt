@@ -99,6 +99,7 @@ impl<R: HeldRule, C: CharSet> ReferenceText<R, C> {
     }
 
     /// The text, which is known to be in the rule, with the lengths of its components.
+    #[tactic(auto, using(crate::proofs::LengthLemmas::measures))]
     pub fn new_unchecked(text: String) -> Self
         requires { R.test C.tests (string_bytes text) ≡ true }
         ensures { result ≡ string_bytes text }
@@ -153,6 +154,7 @@ impl<R: HeldRule, C: CharSet> ReferenceText<R, C> {
     }
 
     /// Where the components stand.
+    #[tactic(auto, using(crate::proofs::LengthLemmas::measures))]
     pub fn offsets(&self) -> Offsets
         ensures offsets { result ≡ offsets_of self.now }
         ensures in_rule { R.test C.tests self.now ≡ true }
@@ -161,6 +163,7 @@ impl<R: HeldRule, C: CharSet> ReferenceText<R, C> {
     }
 
     /// How long the components are, which are those of a readable reference that the rule allows.
+    #[tactic(auto, using(crate::proofs::EditLemmas::reads))]
     pub fn lengths(&self) -> Lengths
         ensures lengths { result ≡ lengths_of (read_reference self.now) }
         ensures readable { is_readable C.tests (read_reference self.now) ≡ true }
@@ -172,6 +175,7 @@ impl<R: HeldRule, C: CharSet> ReferenceText<R, C> {
     }
 
     /// The components, read at their offsets.
+    #[tactic(auto, using(crate::proofs::ReferenceTextLemmas::texts))]
     pub fn slices(&self) -> ReferenceSlices<'_>
         ensures texts { texts_of result ≡ spell_components (read_reference self.now) }
         ensures value { value_of result ≡ read_reference self.now }

@@ -60,6 +60,7 @@ fn is_same_place(target: ReferenceSlices<'_>, base: ReferenceSlices<'_>) -> bool
 impl<'a> MeasuredReference<'a> {
     /// What leads from the base to the target: the empty path, steps from the base's directory, or
     /// the target whole.
+    #[tactic(auto, unfolding(iref_model::specs::Relative::relative_to, iref_grammar::specs::PathValue::spell_path))]
     pub fn relative_to<C: CharSet>(target: ReferenceSlices<'a>, base: ReferenceSlices<'a>) -> Self
         requires target { AreComponents C.tests (texts_of target) }
         requires base { AreComponents C.tests (texts_of base) }

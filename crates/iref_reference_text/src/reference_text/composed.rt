@@ -15,6 +15,7 @@ use std::marker::PhantomData;
 
 impl<R: HeldRule, C: CharSet> ReferenceText<R, C> {
     /// The text of these components, which is in the rule and this long. The room is taken once.
+    #[tactic(auto, using(crate::proofs::ReferenceTextLemmas::in_rule_utf8))]
     pub fn of_components(
         alloc: Global,
         components: &MeasuredReference<'_>,
@@ -60,6 +61,7 @@ impl<R: HeldRule, C: CharSet> ReferenceText<R, C> {
 
     /// The text of these bytes, which is in the rule and has components of these lengths.
     #[inline(always)]
+    #[tactic(auto, using(crate::proofs::ReferenceTextLemmas::in_rule_utf8))]
     pub fn of_bytes(bytes: Vec<u8>, lengths: Lengths) -> Self
         requires { HasLengths (R.test C.tests) lengths bytes.items }
         ensures { result ≡ bytes.items }

@@ -42,6 +42,7 @@ impl<R: HeldRule, C: CharSet> ReferenceText<R, C> {
 
     /// The same reference under a scheme, with no copy where the buffer has room, or the reference
     /// as it was.
+    #[tactic(auto, unfolding(iref_model::specs::ComponentSteps::with_scheme))]
     pub fn into_with_scheme<S: HeldRule>(self, scheme: &str) -> Result<ReferenceText<S, C>, Self>
         requires scheme { is_scheme scheme.now ≡ true }
         requires allowed { R.allows_scheme (Some scheme.now) ≡ true }

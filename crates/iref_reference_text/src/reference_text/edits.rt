@@ -161,6 +161,7 @@ impl<R: HeldRule, C: CharSet> ReferenceText<R, C> {
     }
 
     // The query and its delimiter, or where they would stand.
+    #[tactic(auto, using(crate::proofs::EditLemmas::replaces))]
     fn query_range(&self) -> Range<usize>
         ensures within { IsWithin self.now result }
         ensures replaced { (query : Option Text)
@@ -172,6 +173,7 @@ impl<R: HeldRule, C: CharSet> ReferenceText<R, C> {
     }
 
     // The fragment and its delimiter, or where they would stand.
+    #[tactic(auto, using(crate::proofs::EditLemmas::replaces))]
     fn fragment_range(&self) -> Range<usize>
         ensures within { IsWithin self.now result }
         ensures replaced { (fragment : Option Text)
@@ -194,6 +196,7 @@ impl<R: HeldRule, C: CharSet> ReferenceText<R, C> {
     }
 
     // The authority and its delimiter, or where they would stand.
+    #[tactic(auto, using(crate::proofs::EditLemmas::replaces))]
     fn authority_range(&self) -> Range<usize>
         ensures within { IsWithin self.now result }
         ensures len { result.end - result.start
@@ -209,6 +212,7 @@ impl<R: HeldRule, C: CharSet> ReferenceText<R, C> {
     }
 
     // What is written before the path where an authority is put, or removed.
+    #[tactic(auto, using(crate::proofs::LeadLemmas::authority_guards))]
     fn authority_guard(&self, has_authority: bool) -> &'static str
         ensures spelled { (authority : Option AuthorityValue) → is_some authority ≡ has_authority
             → result.now ++ spell_path (read_reference self.now).path
@@ -235,6 +239,7 @@ impl<R: HeldRule, C: CharSet> ReferenceText<R, C> {
     }
 
     // The scheme and its delimiter, or where they would stand.
+    #[tactic(auto, using(crate::proofs::EditLemmas::replaces))]
     fn scheme_range(&self) -> Range<usize>
         ensures within { IsWithin self.now result }
         ensures len { result.end - result.start
@@ -249,6 +254,7 @@ impl<R: HeldRule, C: CharSet> ReferenceText<R, C> {
     }
 
     // What is written before the authority and the path where a scheme is put, or removed.
+    #[tactic(auto, using(crate::proofs::LeadLemmas::scheme_guards))]
     fn scheme_guard(&self, has_scheme: bool) -> &'static str
         ensures spelled { (scheme : Option Text) → is_some scheme ≡ has_scheme
             → result.now ++ authority_text self.now ++ spell_path (read_reference self.now).path

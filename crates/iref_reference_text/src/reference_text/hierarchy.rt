@@ -11,6 +11,7 @@ use std::marker::PhantomData;
 
 impl<R: HeldRule, C: CharSet> ReferenceText<R, C> {
     /// A copy of the text up to the query and the fragment, with as much room: of `s:/a?q`, `s:/a`.
+    #[tactic(auto, using(crate::proofs::ReferenceTextLemmas::spelled))]
     pub fn copied_hierarchy(&self) -> Result<Self, Memory>
         ensures { IfOk result (IsStep (λ r. with_query None (with_fragment None r)) self.now) }
     {

@@ -5,13 +5,9 @@ use Rattle.iref_grammar.specs.Reference.{spell}
 use Rattle.iref_grammar.proofs.ReferenceCutLemmas.{read_reference-spelled}
 use Rattle.iref_parse.specs.ReferenceSlices.{texts_of, value_of}
 use Rattle.iref_model.specs.ReferenceParts.{base_of}
-use Rattle.iref_reference_text.proofs.LengthLemmas.{total-slices}
 use Rattle.iref_reference_text.proofs.BaseLemmas.{base-joins, base-ends, tail, tail_utf8}
 use Rattle.iref_path.specs.Pieces.{pieces_if_some}
 use Rattle.iref_reference_text.proofs.base.base_slice.Goals as goal
-
-pub query_mark-requires : goal.query_mark-requires
-query_mark-requires g c = rw c.requires.lengths (omega (arith, total-slices c.args.slices c.args.text.now c.requires.value))
 
 pub overflow_sub-end : goal.overflow_sub-end
 overflow_sub-end g c = grind (arith, base-ends (texts_of c.args.slices) (pieces_if_some c.last_segment.result.0) c.last_segment.result.1.now c.last_segment.ensures)

@@ -1,4 +1,4 @@
-use Rattle.std.proofs.Common.{true, false, refl, length-append, append_assoc, arith}
+use Rattle.std.proofs.Common.{true, false, refl, length-append, arith}
 use Rattle.iref_grammar.specs.declared.context.PathContext.{PathContext}
 use Rattle.iref_reference_text.proofs.forward.path_between.Goals as goal
 
@@ -10,8 +10,3 @@ unfolding some_authority
 overflow_sub-len c =
     let put = c.in_ok-append_normal_after.ensures some_authority refl in
     grind (arith, length-append)
-
-pub returns : goal.returns
-returns c = λ context h.
-    let put = c.in_ok-append_normal_after.ensures context h in
-    (grind (arith, append_assoc), grind (arith, length-append))

@@ -1,4 +1,4 @@
-use Rattle.std.proofs.Common.{◌≡◌, ◌||◌, ◌++◌, ◌∷◌, [], false, true, length-take-le, take, sym, arith}
+use Rattle.std.proofs.Common.{◌≡◌, ◌||◌, ◌++◌, ◌∷◌, [], false, true, take, arith}
 use Rattle.std.specs.Prelude.{codes, is_some}
 use Rattle.iref_grammar.specs.Grammar.{colon, hash_sign, question_mark}
 use Rattle.iref_grammar.specs.Texts.{part_then, then_part}
@@ -6,15 +6,8 @@ use Rattle.iref_grammar.proofs.ComponentLemmas.{is_some-copied}
 use Rattle.iref_grammar.proofs.ReferenceCutLemmas.{read_reference-spelled}
 use Rattle.iref_parse.specs.ReferenceSlices.{texts_of}
 use Rattle.iref_path.proofs.PathTextLemmas.{something}
-use Rattle.iref_reference_text.proofs.LengthLemmas.{total-slices}
 use Rattle.iref_reference_text.proofs.FrontLemmas.{around_spelled, before_path, behind_path, path_first}
 use Rattle.iref_reference_text.proofs.forward.resolved_forward.Goals as goal
-
-pub path_start-requires : goal.path_start-requires
-path_start-requires c = rw c.requires.lengths (omega (arith, total-slices c.args.base c.args.base_text.now c.requires.base))
-
-pub slice_bounds-front-end : goal.slice_bounds-front-end
-slice_bounds-front-end c = sym (length-take-le _ _ (grind (arith, total-slices c.args.base c.args.base_text.now c.requires.base)))
 
 pub split_at-requires : goal.split_at-requires
 split_at-requires c =

@@ -6,11 +6,8 @@ use Rattle.iref_parse.specs.ReferenceSlices.{texts_of}
 use Rattle.iref_reference_text.proofs.FrontLemmas.{before_absolute, before_relative}
 use Rattle.iref_reference_text.specs.ComponentLengths.{path_after}
 use Rattle.iref_reference_text.proofs.EditLemmas.{path_starts}
-use Rattle.iref_reference_text.proofs.LengthLemmas.{lengths-slices, total-slices}
+use Rattle.iref_reference_text.proofs.LengthLemmas.{lengths-slices}
 use Rattle.iref_reference_text.proofs.fronts.front_before.Goals as goal
-
-pub path_start-requires : goal.path_start-requires
-path_start-requires g c = rw c.requires.lengths (omega (arith, total-slices c.args.base c.args.text.now c.requires.value))
 
 pub range-requires-clause-end_boundary : goal.range-requires-clause-end_boundary
 range-requires-clause-end_boundary g c =

@@ -3,12 +3,8 @@ use Rattle.std.specs.Prelude.{is_some}
 use Rattle.iref_grammar.proofs.ComponentLemmas.{is_some-copied}
 use Rattle.iref_parse.specs.ReferenceSlices.{texts_of}
 use Rattle.iref_path.proofs.PathTextLemmas.{something}
-use Rattle.iref_reference_text.proofs.LengthLemmas.{total-slices}
 use Rattle.iref_reference_text.proofs.FrontLemmas.{front_components, front_length, front_spells}
 use Rattle.iref_reference_text.proofs.fronts.front_kept.Goals as goal
-
-pub path_start-requires : goal.path_start-requires
-path_start-requires g c = rw c.requires.lengths (omega (arith, total-slices c.args.base c.args.text.now c.requires.value))
 
 pub overflow_sub-joined : goal.overflow_sub-joined
 overflow_sub-joined g c = grind (arith, front_length (texts_of c.args.base) c.args.reference.path.now c.in_ok-front.front.now c.in_ok-front.ensures)
