@@ -40,9 +40,9 @@ normal_dots context old new authority absolute e =
     rw (← e, (read_path-reads new).spelled, (read_path-reads old).spelled) at removed
 
 -- the normal form that is written over the path may stand there
-pub normal_fits : (set : CharTests) → AreAboveAscii set → (context : PathContext) (path old lead : Text) → path ≡ old → rewritten lead path ≡ spell_path (normalized context (read_path path)) → is_path_after set context path ≡ true
-    → (rewritten lead old ≡ spell_path (normalized context (read_path old))) × (is_path_in set context (rewritten lead old) ≡ true) × (is_path_after set context (rewritten lead old) ≡ true)
-normal_fits set above context path old lead e spelled h =
+pub normal_fits : (set : CharTests) → AreAboveAscii set → (context : PathContext) (path old guard : Text) → path ≡ old → rewritten guard path ≡ spell_path (normalized context (read_path path)) → is_path_after set context path ≡ true
+    → (rewritten guard old ≡ spell_path (normalized context (read_path old))) × (is_path_in set context (rewritten guard old) ≡ true) × (is_path_after set context (rewritten guard old) ≡ true)
+normal_fits set above context path old guard e spelled h =
     let text = rw e at spelled in
     let path_is : is_path set old ≡ true = first_of_both _ _ (rw e at h) in
     let fit = normalized-in_context context (read_path old).absolute old set above path_is in

@@ -162,10 +162,10 @@ impl<'a, C: CharSet, T: Target<AuthorityPart, C>> AuthorityMut<'a, C, T> {
         ensures shorter { length pieces.entry.0.now + length pieces.entry.1.now
             ≤ within.end - within.start → IsOk result }
     {
-        let (lead, middle) = pieces;
+        let (first, middle) = pieces;
         let change = Change {
             within,
-            lead,
+            first,
             middle,
             close: "",
         };

@@ -116,7 +116,7 @@ impl<'a, C: CharSet, T: Target<PathPart, C>> PathMut<'a, C, T> {
     {
         self.apply(Change {
             within: 0..self.text().len(),
-            lead: "",
+            first: "",
             middle: text,
             close: "",
         })

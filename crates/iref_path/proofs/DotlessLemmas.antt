@@ -25,7 +25,7 @@ use Rattle.iref_parse.specs.Dots.{begins_with_dot, has_dot_segment, is_some_dott
 use Rattle.iref_path.specs.Bodies.{after_front}
 use Rattle.iref_path.specs.Pieces.{pieces_if_some}
 use Rattle.iref_path.specs.NormalItems.{first_or}
-use Rattle.iref_path.specs.Ways.{text_steps}
+use Rattle.iref_path.specs.StepsBetween.{text_steps}
 use Rattle.iref_path.specs.Spelling.{each_closed, guard_in}
 use Rattle.iref_path.proofs.SlashLemmas.{read-absolute}
 use Rattle.iref_path.proofs.SpellLemmas.{length-joined, normalized-spelled, length-join, normal_size}

@@ -26,7 +26,7 @@ use Rattle.iref_parse.proofs.DotSegmentLemmas.{later_dotless}
 use Rattle.iref_path.proofs.DirectoryLemmas.{around_pieces}
 use Rattle.iref_path.proofs.DotlessLemmas.{dotless_name}
 use Rattle.iref_path.specs.Forward.{forward, last_put, popped_text, segment_put}
-use Rattle.iref_path.specs.Merged.{path_after}
+use Rattle.iref_path.specs.MergedPaths.{path_after}
 use Rattle.iref_path.specs.NormalItems.{first_or}
 use Rattle.iref_path.specs.Slashes.{IsLastSlash, LacksSlashFrom}
 use Rattle.iref_path.specs.Spelling.{each_closed}

@@ -13,9 +13,9 @@ pub mod FrontOrderLemmas
 pub mod NamedLemmas
 pub mod GuardTextLemmas
 pub mod PopTextLemmas
-pub mod MergedLemmas
+pub mod MergedPathLemmas
 pub mod CompareListLemmas
-pub mod WayLemmas
+pub mod StepsBetweenLemmas
 pub mod SuffixLemmas
 pub mod StackLemmas
 pub mod RewritingLemmas

@@ -13,9 +13,9 @@ use Rattle.std.proofs.Math.Seq.{drop-append-add, drop-length}
 use Rattle.std.proofs.lemmas.Bool.{cases_lt}
 use Rattle.std.proofs.lemmas.List.{drop-append-le, drop-drop, drop-replicate, length-drop, length-replicate, replicate-append-replicate, append-nil}
 use Rattle.std.specs.Borrow.{Bor}
-use Rattle.iref_path.specs.Merged.{both_names, merged_list}
+use Rattle.iref_path.specs.MergedPaths.{both_names, merged_list}
 use Rattle.iref_path.specs.NormalItems.{are_no_parents, first_or, IsSound, unread_items}
-use Rattle.iref_path.specs.Ways.{last_ones}
+use Rattle.iref_path.specs.StepsBetween.{last_ones}
 use Rattle.iref_model.proofs.StayingLemmas.{open_before-append, staying_before-append}
 use Rattle.std.proofs.lemmas.List.Folds.{list_all-append}
 

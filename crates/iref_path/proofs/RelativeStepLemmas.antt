@@ -14,7 +14,7 @@ use Rattle.iref_model.proofs.LeadingLemmas.{divided_last}
 use Rattle.iref_model.proofs.PieceLemmas.{some_piece}
 use Rattle.iref_path.specs.Bodies.{parents_then}
 use Rattle.iref_path.specs.Spelling.{each_closed}
-use Rattle.iref_path.specs.Ways.{text_steps}
+use Rattle.iref_path.specs.StepsBetween.{text_steps}
 use Rattle.iref_path.proofs.SpellLemmas.{length-joined, size-append, size-parents, length-join}
 
 -- equal first segments do not count

@@ -22,8 +22,8 @@ pub mod CountedPath
 pub mod NormalItems
 pub mod PathParts
 pub mod StepTexts
-pub mod Merged
-pub mod Ways
+pub mod MergedPaths
+pub mod StepsBetween
 pub mod Bodies
 pub mod MeasuredPaths
 pub mod Suffixes

@@ -6,8 +6,8 @@ use Rattle.std.specs.List.{list_all}
 use Rattle.percent_encoding.specs.Percent.{percent_decode}
 use Rattle.iref_grammar.specs.Rules.{Text}
 use Rattle.iref_grammar.specs.PathValue.{PathValue, read_path}
-use Rattle.iref_path.specs.Merged.{merged_list}
-use Rattle.iref_path.specs.Ways.{last_ones}
+use Rattle.iref_path.specs.MergedPaths.{merged_list}
+use Rattle.iref_path.specs.StepsBetween.{last_ones}
 use Rattle.iref_path.specs.Pieces.{pieces_if_some}
 use Rattle.iref_model.specs.NormalList.{is_dot_dot}
 use Rattle.iref_model.specs.NormalReading.{closing, open_before, staying_before}

@@ -7,7 +7,7 @@ ghost use Rattle.iref_grammar.specs.{is_empty, pieces_at, read_path, slash};
 ghost use Rattle.iref_grammar.specs.{spell_path, Text};
 ghost use Rattle.iref_model.specs.{PathSteps.{normalized}, NormalList.{is_name}};
 ghost use Rattle.iref_path.specs.Forward.{Follows, IsBehindDots, forward, popped_text};
-ghost use Rattle.iref_path.specs.{Merged.{path_after}, Spelling.{each_closed}};
+ghost use Rattle.iref_path.specs.{MergedPaths.{path_after}, Spelling.{each_closed}};
 ghost use Rattle.std.specs.Prelude.{◌≡◌, ◌≢◌, ◌<◌, ◌≤◌, ◌||◌, [], ◌∷◌, ◌++◌, List};
 ghost use Rattle.std.specs.Prelude.{drop, IfOk, length, MatchOption, OnOk, take, true, vec_len};
 

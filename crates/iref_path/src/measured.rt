@@ -5,10 +5,10 @@ ghost use Rattle.iref_grammar.specs.Texts.{pieces_at};
 ghost use Rattle.iref_model.specs.{Guard.{guarded}, PathSteps.{normalized}};
 ghost use Rattle.iref_parse.specs.Dots.{has_dot_segment};
 ghost use Rattle.iref_path.specs.Bodies.{after_front, parents_then};
-ghost use Rattle.iref_path.specs.Merged.{merged_list, merged_path, path_after};
+ghost use Rattle.iref_path.specs.MergedPaths.{merged_list, merged_path, path_after};
 ghost use Rattle.iref_path.specs.MeasuredPaths.{IsMeasured, measured_text};
 ghost use Rattle.iref_path.specs.{Pieces.{pieces_if_some}, Spelling.{each_closed}};
-ghost use Rattle.iref_path.specs.{NormalItems.{IsSound}, Ways.{path_between}};
+ghost use Rattle.iref_path.specs.{NormalItems.{IsSound}, StepsBetween.{path_between}};
 ghost use Rattle.iref_path.specs.{NormalItems.{normal_left}, Written.{WritesBefore}};
 ghost use Rattle.std.specs.Prelude.{◌||◌, ◌&&◌, ◌≡◌, ◌+◌, ◌*◌, ◌<◌, ◌≤◌, ◌^◌, ◌++◌, IfOk};
 ghost use Rattle.std.specs.Prelude.{Bool, Some, [], codes, false, length, replicate, true, ℕ};
@@ -188,7 +188,7 @@ impl<'a> MeasuredPath<'a> {
 
     // The text of a relative path of a number of `..` and the segments of a text, which stands
     // alone.
-    #[tactic(auto, using(crate::proofs::WayLemmas::steps_up), unfolding(crate::specs::MeasuredPaths::measured_text))]
+    #[tactic(auto, using(crate::proofs::StepsBetweenLemmas::steps_up), unfolding(crate::specs::MeasuredPaths::measured_text))]
     fn up(up: usize, path: &'a str) -> Self
         requires { length (parents_then up path.now) + 4 < 2 ^ 64 }
         ensures text { measured_text result ≡ spell_path (guarded alone (record {

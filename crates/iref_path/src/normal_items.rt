@@ -6,12 +6,12 @@ ghost use Rattle.std.specs.Prelude.{◌^◌, ◌==◌, ◌&&◌, ◌∷◌, ◌+
 ghost use Rattle.std.specs.Prelude.{IfNone, IfSome, None, if◌then◌else◌};
 ghost use Rattle.iref_grammar.specs.{is_empty, read_path};
 ghost use Rattle.iref_model.specs.{normal_segments, open_before, staying_before};
-ghost use Rattle.iref_path.specs.Merged.{both_names, merged_list, merged_path};
+ghost use Rattle.iref_path.specs.MergedPaths.{both_names, merged_list, merged_path};
 ghost use Rattle.iref_path.specs.{Pieces.{pieces_if_some, text_at}, Spelling.{each_closed}};
 ghost use Rattle.iref_path.specs.NormalItems.{IsBehind, IsFate, IsReadable, IsSound, IsWhole, KeepsEnds};
 ghost use Rattle.iref_path.specs.NormalItems.{both_left, first_or, names_behind, names_staying};
 ghost use Rattle.iref_path.specs.NormalItems.{normal_left, open_at_start, open_behind, to_read, unread_items};
-ghost use Rattle.iref_path.specs.Ways.{last_ones};
+ghost use Rattle.iref_path.specs.StepsBetween.{last_ones};
 ghost use Rattle.iref_model.specs.NormalList as list;
 
 pub mod stack;
@@ -115,7 +115,7 @@ fn survey_names<'a>(front: Option<&'a str>, back: Option<&'a str>) -> Survey<'a>
 
 /// All items of the path of these segments. Only a relative list keeps the `..` that nothing
 /// cancels.
-#[tactic(auto, using(crate::proofs::MergedLemmas::surveyed), unfolding(crate::specs::NormalItems::normal_left))]
+#[tactic(auto, using(crate::proofs::MergedPathLemmas::surveyed), unfolding(crate::specs::NormalItems::normal_left))]
 #[inline(always)]
 pub fn survey_items<'a>(absolute: bool, front: Option<&'a str>, back: Option<&'a str>) -> Survey<'a>
     requires { length (each_closed (merged_list front back)) + 1 < 2 ^ 64 }
@@ -155,7 +155,7 @@ impl<'a> NormalItems<'a> {
     }
 
     /// The names that stay of the segments of a text.
-    #[tactic(auto, using(crate::proofs::MergedLemmas::all_names), unfolding(crate::specs::NormalItems::normal_left))]
+    #[tactic(auto, using(crate::proofs::MergedPathLemmas::all_names), unfolding(crate::specs::NormalItems::normal_left))]
     pub(crate) fn names(segments: Option<&'a str>) -> Self
         requires { length (each_closed (pieces_if_some segments)) < 2 ^ 64 }
         ensures items { normal_left result ≡ staying_before (pieces_if_some segments.entry) 0 }
@@ -196,7 +196,7 @@ impl<'a> NormalItems<'a> {
     }
 
     /// How many items are left.
-    #[tactic(auto, using(crate::proofs::MergedLemmas::last_parts), unfolding(crate::specs::NormalItems::normal_left))]
+    #[tactic(auto, using(crate::proofs::MergedPathLemmas::last_parts), unfolding(crate::specs::NormalItems::normal_left))]
     #[inline(always)]
     pub fn len(&self) -> usize
         requires { IsSound self.now }
@@ -206,7 +206,7 @@ impl<'a> NormalItems<'a> {
     }
 
     /// A number of `..`, and after them the last items, this many.
-    #[tactic(auto, using(crate::proofs::MergedLemmas::last_parts), unfolding(crate::specs::NormalItems::normal_left))]
+    #[tactic(auto, using(crate::proofs::MergedPathLemmas::last_parts), unfolding(crate::specs::NormalItems::normal_left))]
     pub(crate) fn last_after(self, up: usize, count: usize) -> Self
         requires sound { IsSound self }
         requires within { count ≤ length (normal_left self) }
@@ -348,7 +348,7 @@ impl<'a> NormalItems<'a> {
 
     // The last name that stays. The `..` that are open before the segments behind take names of
     // those in front.
-    #[tactic(auto, using(crate::proofs::MergedLemmas::from_both))]
+    #[tactic(auto, using(crate::proofs::MergedPathLemmas::from_both))]
     #[inline(always)]
     fn next_back_name(&mut self) -> Option<&'a str>
         requires { IsReadable self.old }

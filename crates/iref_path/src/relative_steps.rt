@@ -4,7 +4,7 @@
 ghost use Rattle.iref_grammar.specs.{slash, Texts.{all_but_last, pieces_at}};
 ghost use Rattle.iref_model.specs.{normal_segments, read_path, Relative.{directory_names}};
 ghost use Rattle.iref_model.specs.Relative.{steps_between};
-ghost use Rattle.iref_path.specs.{NormalItems.{IsSound, first_or, normal_left}, Ways.{text_steps, with_last}};
+ghost use Rattle.iref_path.specs.{NormalItems.{IsSound, first_or, normal_left}, StepsBetween.{text_steps, with_last}};
 ghost use Rattle.std.specs.Prelude.{◌≡◌, ◌+◌, ◌*◌, ◌^◌, ◌<◌, ◌≤◌, ◌++◌, IfNone, IfSome, [], codes, length};
 ghost use Rattle.std.specs.Prelude.{replicate};
 
@@ -94,7 +94,7 @@ fn directory_names(path: &str) -> NormalItems<'_>
 }
 
 // The items of a path, or an empty one where there are none.
-#[tactic(auto, using(std::proofs::lemmas::Bool::Decides::nat_tests, crate::proofs::WayLemmas::whole_divided))]
+#[tactic(auto, using(std::proofs::lemmas::Bool::Decides::nat_tests, crate::proofs::StepsBetweenLemmas::whole_divided))]
 fn some_items(path: &str) -> NormalItems<'_>
     ensures items { normal_left result ≡ with_last (normal_segments (read_path path.now)) }
     ensures some { 0 < length (normal_left result) }
@@ -109,7 +109,7 @@ fn some_items(path: &str) -> NormalItems<'_>
 }
 
 /// The steps from the directory of a base to a path: up to their common beginning, and down.
-#[tactic(auto, using(std::proofs::lemmas::Grind::common_steps, crate::proofs::WayLemmas::between))]
+#[tactic(auto, using(std::proofs::lemmas::Grind::common_steps, crate::proofs::StepsBetweenLemmas::between))]
 pub(crate) fn items_between<'a>(base: &str, path: &'a str) -> NormalItems<'a>
     requires { 3 * length base.now + length path.now + 16 < 2 ^ 64 }
     ensures items { normal_left result ≡ steps_between

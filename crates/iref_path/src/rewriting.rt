@@ -149,7 +149,7 @@ fn cut(bytes: &mut Vec<u8>, within: Range<usize>)
 {
     let change = Change {
         within,
-        lead: "",
+        first: "",
         middle: "",
         close: "",
     };

@@ -17,7 +17,7 @@ use iref_splice::change::Change;
 // Nothing is taken out, and nothing comes in.
 const EMPTY: Change<'static> = Change {
     within: 0..0,
-    lead: "",
+    first: "",
     middle: "",
     close: "",
 };
@@ -109,7 +109,7 @@ pub fn replaced<'a, C: CharSet>(context: PathContext, path: &str, new: &'a str) 
 {
     Change {
         within: 0..path.len(),
-        lead: guard_of(context, new),
+        first: guard_of(context, new),
         middle: new,
         close: "",
     }
@@ -131,7 +131,7 @@ fn push_text<'a>(
     if segments.is_some() {
         return Change {
             within: path.len()..path.len(),
-            lead: "/",
+            first: "/",
             middle: segment,
             close,
         };
@@ -139,7 +139,7 @@ fn push_text<'a>(
     let rooted = absolute | context.has_authority;
     Change {
         within: 0..path.len(),
-        lead: guard(rooted, first_needs_guard(context, rooted, segment)),
+        first: guard(rooted, first_needs_guard(context, rooted, segment)),
         middle: segment,
         close,
     }
@@ -170,7 +170,7 @@ fn pop_text(context: PathContext, path: &str, close: &'static str) -> Change<'st
     match front {
         Some(front) => Change {
             within: root + front.len()..path.len(),
-            lead: if front.is_empty() { "./" } else { "" },
+            first: if front.is_empty() { "./" } else { "" },
             middle: "",
             close,
         },

@@ -16,23 +16,23 @@ use iref_splice::target::Target;
 pub trait PathTarget<C: CharSet>: Target<PathPart, C> {
     /// Replaces the path by what stands first and the normal list, and returns where that
     /// ends. It takes no memory.
-    fn rewrite(&mut self, after: PathContext, at: Span, lead: &str) -> usize
+    fn rewrite(&mut self, after: PathContext, at: Span, guard: &str) -> usize
         requires stands { Self.stands (Self.text self.old) after at.start at.end }
-        requires shorter { length (rewritten lead.now (part_at (Self.text self.old) at))
+        requires shorter { length (rewritten guard.now (part_at (Self.text self.old) at))
             ≤ at.end - at.start }
         requires test { is_path_after C.tests after
-            (rewritten lead.now (part_at (Self.text self.old) at)) ≡ true }
+            (rewritten guard.now (part_at (Self.text self.old) at)) ≡ true }
         requires reads { is_path_in C.tests after (part_at (Self.text self.old) at) ≡ true
-            → is_path_in C.tests after (rewritten lead.now (part_at (Self.text self.old) at))
+            → is_path_in C.tests after (rewritten guard.now (part_at (Self.text self.old) at))
             ≡ true }
-        ensures text { Self.text self.new ≡ rewritten_at lead.now (Self.text self.old) at }
+        ensures text { Self.text self.new ≡ rewritten_at guard.now (Self.text self.old) at }
         ensures stands { Self.stands (Self.text self.new) after at.start result }
         ensures end { result
-            ≡ at.start + length (rewritten lead.now (part_at (Self.text self.old) at)) };
+            ≡ at.start + length (rewritten guard.now (part_at (Self.text self.old) at)) };
 }
 
 impl<C: CharSet> PathTarget<C> for Vec<u8> {
-    fn rewrite(&mut self, after: PathContext, at: Span, lead: &str) -> usize {
-        rewrite(self, at, lead)
+    fn rewrite(&mut self, after: PathContext, at: Span, guard: &str) -> usize {
+        rewrite(self, at, guard)
     }
 }

@@ -44,8 +44,8 @@ impl<R: HeldRule, C: CharSet> Target<PathPart, C> for ReferenceBuf<R, C> {
 }
 
 impl<R: HeldRule, C: CharSet> PathTarget<C> for ReferenceBuf<R, C> {
-    fn rewrite(&mut self, after: PathContext, at: Span, lead: &str) -> usize {
-        self.inner.rewrite(after, at, lead)
+    fn rewrite(&mut self, after: PathContext, at: Span, guard: &str) -> usize {
+        self.inner.rewrite(after, at, guard)
     }
 }
 

@@ -21,7 +21,7 @@ use Rattle.iref_model.specs.ReferenceParts.{base_of}
 use Rattle.iref_model.specs.Resolution.{resolved}
 use Rattle.iref_model.proofs.PieceLemmas.{some_piece}
 use Rattle.iref_parse.specs.Dots.{has_dot_segment, is_some_dotted}
-use Rattle.iref_path.specs.Merged.{path_after}
+use Rattle.iref_path.specs.MergedPaths.{path_after}
 use Rattle.iref_path.proofs.DotlessLemmas.{both_dotted, dotless-spelled, normal_segments-dotless}
 use Rattle.iref_path.proofs.SlashLemmas.{read-absolute}
 use Rattle.iref_reference_text.specs.ComponentLengths.{lengths_of_texts, path_after as lengths_before, with_mark}

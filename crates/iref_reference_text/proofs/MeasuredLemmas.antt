@@ -18,7 +18,7 @@ use Rattle.iref_model.specs.NormalList.{normal}
 use Rattle.iref_model.specs.PathSteps.{normalized}
 use Rattle.iref_model.specs.Resolution.{is_no_path, resolved}
 use Rattle.iref_model.proofs.PieceLemmas.{some_piece}
-use Rattle.iref_path.specs.Merged.{path_after}
+use Rattle.iref_path.specs.MergedPaths.{path_after}
 use Rattle.iref_path.proofs.GuardTextLemmas.{guarded-same}
 use Rattle.iref_reference_text.specs.ComponentLengths.{lengths_of_texts, total_length}
 use Rattle.iref_reference_text.specs.MeasuredReferences.{IsComposed, IsReady, measured_components, spell_texts}

@@ -10,7 +10,7 @@ use Rattle.iref_grammar.specs.PathValue.{read_path, spell_path}
 use Rattle.iref_grammar.specs.Reference.{ReferenceValue, spell}
 use Rattle.iref_model.specs.PathSteps.{normalized}
 use Rattle.iref_model.specs.Resolution.{resolved}
-use Rattle.iref_path.specs.Merged.{path_after}
+use Rattle.iref_path.specs.MergedPaths.{path_after}
 use Rattle.iref_reference_text.specs.ComponentLengths.{lengths_of}
 use Rattle.iref_reference_text.specs.declared.lengths.Lengths.{Lengths}
 

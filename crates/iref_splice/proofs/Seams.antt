@@ -6,10 +6,10 @@ use Rattle.iref_grammar.specs.Rules.{Text}
 use Rattle.iref_splice.specs.declared.change.Change.{Change}
 use Rattle.iref_splice.specs.Changes.{IsWithin, changed, pieces}
 
-pub changed_is_text : (text : Text) (change : Change) → IsWithin text change.within → IsUtf8 text → IsUtf8 change.lead.now → IsUtf8 change.middle.now → IsUtf8 change.close.now
+pub changed_is_text : (text : Text) (change : Change) → IsWithin text change.within → IsUtf8 text → IsUtf8 change.first.now → IsUtf8 change.middle.now → IsUtf8 change.close.now
     → IsUtf8 (changed text change)
-changed_is_text text change within u lead middle close =
-    let put = IsUtf8-append (change.lead.now ++ change.middle.now) change.close.now (IsUtf8-append change.lead.now change.middle.now lead middle) close in
+changed_is_text text change within u first middle close =
+    let put = IsUtf8-append (change.first.now ++ change.middle.now) change.close.now (IsUtf8-append change.first.now change.middle.now first middle) close in
     IsUtf8-append (take change.within.start text) (pieces change ++ drop change.within.end text) (IsUtf8-take text change.within.start u within.start)
     (IsUtf8-append (pieces change) (drop change.within.end text) put (IsUtf8-drop text change.within.end u within.end))
 

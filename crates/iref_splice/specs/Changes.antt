@@ -15,10 +15,10 @@ pub record IsWithin (text : Text) (range : Range ℕ) : Type 0 where
 
 -- what comes in, one text after the other
 abbrev pub pieces : Change → Text
-pieces change = change.lead.now ++ change.middle.now ++ change.close.now
+pieces change = change.first.now ++ change.middle.now ++ change.close.now
 
 abbrev pub pieces_length : Change → ℕ
-pieces_length change = length change.lead.now + length change.middle.now + length change.close.now
+pieces_length change = length change.first.now + length change.middle.now + length change.close.now
 
 -- how much is taken out
 abbrev pub cut_length : Change → ℕ

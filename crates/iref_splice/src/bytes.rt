@@ -23,12 +23,12 @@ pub fn replace(bytes: &mut Vec<u8>, change: Change<'_>) -> Result<(), AllocError
     ensures shorter { IsNoLonger change.entry → IsOk result }
 {
     let start = change.within.start;
-    let (lead, middle, close) = (change.lead, change.middle, change.close);
-    let two = lead.len().checked_add(middle.len()).ok_or(AllocError)?;
+    let (first, middle, close) = (change.first, change.middle, change.close);
+    let two = first.len().checked_add(middle.len()).ok_or(AllocError)?;
     let added = two.checked_add(close.len()).ok_or(AllocError)?;
     move_tail(bytes, start, change.within.end, added)?;
-    overwrite(bytes, start, lead.as_bytes());
-    overwrite(bytes, start + lead.len(), middle.as_bytes());
+    overwrite(bytes, start, first.as_bytes());
+    overwrite(bytes, start + first.len(), middle.as_bytes());
     overwrite(bytes, start + two, close.as_bytes());
     Ok(())
 }

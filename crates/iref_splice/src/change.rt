@@ -17,7 +17,7 @@ pub struct Change<'a> {
     /// What is taken out, in bytes.
     pub within: Range<usize>,
     /// What comes in first.
-    pub lead: &'a str,
+    pub first: &'a str,
     /// What comes then.
     pub middle: &'a str,
     /// What comes last.

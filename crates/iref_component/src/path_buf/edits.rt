@@ -46,10 +46,10 @@ impl<C: CharSet> Target<PathPart, C> for PathBuf<C> {
 }
 
 impl<C: CharSet> PathTarget<C> for PathBuf<C> {
-    fn rewrite(&mut self, after: PathContext, at: Span, lead: &str) -> usize {
+    fn rewrite(&mut self, after: PathContext, at: Span, guard: &str) -> usize {
         let empty = PathBuf::empty(self.alloc());
         let mut text = mem::replace(self, empty).into_string();
-        let end = rewrite_text(&mut text, at, lead);
+        let end = rewrite_text(&mut text, at, guard);
         *self = PathBuf::new_unchecked(text);
         end
     }

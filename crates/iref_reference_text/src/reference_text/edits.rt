@@ -38,11 +38,11 @@ fn put_marked(
     ensures err { OnErr result (string_bytes text.new ≡ string_bytes text.old) }
     ensures none { IsNone part.entry → IsOk result }
 {
-    let (lead, middle) = marked(mark, part);
+    let (first, middle) = marked(mark, part);
     let close = "";
     let change = Change {
         within,
-        lead,
+        first,
         middle,
         close,
     };
@@ -89,7 +89,7 @@ impl<R: HeldRule, C: CharSet> ReferenceText<R, C> {
         };
         let change = Change {
             within: self.path_range(),
-            lead: guard,
+            first: guard,
             middle: path,
             close: "",
         };
@@ -112,7 +112,7 @@ impl<R: HeldRule, C: CharSet> ReferenceText<R, C> {
         let (part, mark) = marked_after(scheme, ":");
         let change = Change {
             within,
-            lead: part,
+            first: part,
             middle: mark,
             close: guard,
         };
@@ -137,7 +137,7 @@ impl<R: HeldRule, C: CharSet> ReferenceText<R, C> {
         let (mark, part) = marked("//", authority);
         let change = Change {
             within,
-            lead: mark,
+            first: mark,
             middle: part,
             close: guard,
         };

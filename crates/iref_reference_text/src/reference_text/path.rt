@@ -46,8 +46,8 @@ impl<R: HeldRule, C: CharSet> Target<PathPart, C> for ReferenceText<R, C> {
 }
 
 impl<R: HeldRule, C: CharSet> PathTarget<C> for ReferenceText<R, C> {
-    fn rewrite(&mut self, after: PathContext, at: Span, lead: &str) -> usize {
-        let end = rewrite_text(&mut self.text, at, lead);
+    fn rewrite(&mut self, after: PathContext, at: Span, guard: &str) -> usize {
+        let end = rewrite_text(&mut self.text, at, guard);
         self.lengths.path = end - at.start;
         end
     }
@@ -77,7 +77,7 @@ impl<R: HeldRule, C: CharSet> ReferenceText<R, C> {
         };
         let change = Change {
             within: self.path_range(),
-            lead: normal,
+            first: normal,
             middle: "",
             close: "",
         };

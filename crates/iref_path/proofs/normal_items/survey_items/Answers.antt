@@ -1,8 +1,8 @@
 use Rattle.std.proofs.Common.{arith}
 use Rattle.iref_model.specs.NormalReading.{staying_before}
-use Rattle.iref_path.specs.Merged.{merged_list, merged_path}
+use Rattle.iref_path.specs.MergedPaths.{merged_list, merged_path}
 use Rattle.iref_path.specs.NormalItems.{normal_left}
-use Rattle.iref_path.proofs.MergedLemmas.{ends-both}
+use Rattle.iref_path.proofs.MergedPathLemmas.{ends-both}
 use Rattle.iref_path.proofs.NormalItemsLemmas.{all_last, one_empty, parts-whole}
 use Rattle.iref_path.proofs.normal_items.survey_items.Goals as goal
 

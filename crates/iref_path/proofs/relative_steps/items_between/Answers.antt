@@ -2,7 +2,7 @@ use Rattle.std.proofs.Common.{ap, arith, length}
 use Rattle.iref_grammar.specs.PathValue.{read_path}
 use Rattle.iref_model.specs.NormalList.{normal_segments}
 use Rattle.iref_path.proofs.SpellLemmas.{list_size, normal_size-text}
-use Rattle.iref_path.proofs.WayLemmas.{fewer_without_last, length-with_last}
+use Rattle.iref_path.proofs.StepsBetweenLemmas.{fewer_without_last, length-with_last}
 use Rattle.iref_path.proofs.relative_steps.items_between.Goals as goal
 
 pub last_after-requires-clause-countable : goal.last_after-requires-clause-countable

@@ -1,7 +1,7 @@
 use Rattle.std.proofs.Common.{◌≡◌, ◌≤◌, length}
 use denote.Shadow.{shadow}
 use denote.Text.{Utf8}
-use Rattle.iref_path.specs.Ways.{text_steps}
+use Rattle.iref_path.specs.StepsBetween.{text_steps}
 use Rattle.iref_path.proofs.relative_steps.steps_apart.Given as goal
 
 abbrev pub invariant-loop-below : goal.invariant-loop-below

@@ -3,7 +3,7 @@ use Rattle.std.proofs.lemmas.List.{append-nil}
 use Rattle.iref_path.specs.Pieces.{pieces_if_some}
 use Rattle.iref_path.specs.NormalItems.{names_staying}
 use Rattle.iref_path.proofs.SpellLemmas.{kept_size}
-use Rattle.iref_path.proofs.MergedLemmas.{size_last}
+use Rattle.iref_path.proofs.MergedPathLemmas.{size_last}
 use Rattle.iref_path.proofs.normal_items.stack.Stack.put_names.Goals as goal
 
 pub put-requires : goal.put-requires

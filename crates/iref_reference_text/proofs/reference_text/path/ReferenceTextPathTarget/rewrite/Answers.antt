@@ -16,9 +16,9 @@ rewrite_text-end-requires-clause-utf8 g c =
     let set = g.C.CharSet.tests in
     let text = c.args.self.now in
     let known = rw c.self.view_is at c.self.invariant.0 in
-    let put = ap (λ t. rewritten_at c.args.lead.now t c.args.at) c.self.view_is in
+    let put = ap (λ t. rewritten_at c.args.guard.now t c.args.at) c.self.view_is in
     let holds = path_put set g.met.C.CharSet.above_ascii (g.R.Rule.test set) g.R.HeldRule.allows_scheme (g.met.R.HeldRule.by_scheme set) (g.met.R.HeldRule.references set)
-    text c.args.after c.args.at c.requires.stands (g.met.R.HeldRule.has_allowed_scheme set text known) (rewritten c.args.lead.now (part_at text c.args.at)) _ c.requires.reads put in
+    text c.args.after c.args.at c.requires.stands (g.met.R.HeldRule.has_allowed_scheme set text known) (rewritten c.args.guard.now (part_at text c.args.at)) _ c.requires.reads put in
     in_rule_utf8 _ _ ((g.R.Rule.decided set g.met.C.CharSet.above_ascii _).0 holds.leaves.in_rule)
 
 pub invariant_of-self : goal.invariant_of-self
@@ -28,7 +28,7 @@ invariant_of-self g c =
     let known = rw c.self.view_is at c.self.invariant.0 in
     let put = rw c.self.view_is at c.rewrite_text-end.ensures.bytes in
     let holds = path_put set g.met.C.CharSet.above_ascii (g.R.Rule.test set) g.R.HeldRule.allows_scheme (g.met.R.HeldRule.by_scheme set) (g.met.R.HeldRule.references set)
-    text c.args.after c.args.at c.requires.stands (g.met.R.HeldRule.has_allowed_scheme set text known) (rewritten c.args.lead.now (part_at text c.args.at)) _ c.requires.reads put in
+    text c.args.after c.args.at c.requires.stands (g.met.R.HeldRule.has_allowed_scheme set text known) (rewritten c.args.guard.now (part_at text c.args.at)) _ c.requires.reads put in
     grind (arith, holds)
 
 pub returns-clause-stands : goal.returns-clause-stands
@@ -38,5 +38,5 @@ returns-clause-stands g c =
     let known = rw c.self.view_is at c.self.invariant.0 in
     let put = rw c.self.view_is at c.rewrite_text-end.ensures.bytes in
     let holds = path_put set g.met.C.CharSet.above_ascii (g.R.Rule.test set) g.R.HeldRule.allows_scheme (g.met.R.HeldRule.by_scheme set) (g.met.R.HeldRule.references set)
-    text c.args.after c.args.at c.requires.stands (g.met.R.HeldRule.has_allowed_scheme set text known) (rewritten c.args.lead.now (part_at text c.args.at)) _ c.requires.reads put in
+    text c.args.after c.args.at c.requires.stands (g.met.R.HeldRule.has_allowed_scheme set text known) (rewritten c.args.guard.now (part_at text c.args.at)) _ c.requires.reads put in
     rw (c.rewrite_text-end.ensures.end, c.self.view_is) holds.stands

@@ -8,7 +8,7 @@ use Rattle.iref_model.specs.PathSuffix.{same_decoded}
 use Rattle.iref_model.specs.Relative.{last_or_empty, steps_between}
 use Rattle.iref_model.proofs.LeadingLemmas.{divided_last}
 use Rattle.iref_path.specs.Spelling.{each_closed}
-use Rattle.iref_path.specs.Ways.{with_last}
+use Rattle.iref_path.specs.StepsBetween.{with_last}
 use Rattle.iref_path.proofs.SpellLemmas.{size-append, size-parents, relative-spelled, list_size, normal_size-text}
 use Rattle.iref_path.proofs.SuffixLemmas.{size-drop}
 use Rattle.iref_path.proofs.RelativeStepLemmas.{up-joined, up-size}
