@@ -1,13 +1,11 @@
 //! Prefix tables: labels that stand for the beginnings of IRIs, as in `ex:a` for
 //! `http://example.org/a`.
-ghost use Rattle.std.specs.Prelude.{◌≡◌, [], length, option_map, Ok, IfOk};
-ghost use Rattle.std.specs.{Prelude.{IfErr, IfSome, OnOk, OnErr}, String.{string_bytes}};
-ghost use Rattle.std.specs.List.{find};
-ghost use Rattle.std.specs.Option.{option_copied};
-ghost use Rattle.iref.specs.Prefixes.{compact_value, RefusesExpand, RefusesInsert};
-ghost use Rattle.iref_mapping.specs.PrefixTable.{has_label, longest_fit, IsPrefixTable};
-ghost use Rattle.iref_mapping.specs.PrefixTable.{compact_text, compacted, expanded, get, inserted};
+ghost use Rattle.std.specs.Prelude.{◌≡◌, [], length, option_map, Ok, IfOk, IfErr, IfSome, OnOk, OnErr};
+ghost use Rattle.std.specs.{String.{string_bytes}, List.{find}, Option.{option_copied}};
+ghost use Rattle.iref_mapping.specs.PrefixTable.{has_label, longest_fit, IsPrefixTable, compact_text, compacted};
+ghost use Rattle.iref_mapping.specs.PrefixTable.{expanded, get, inserted};
 ghost use Rattle.iref_reference.specs.References.{reference_buf_text, reference_text};
+ghost use Rattle.iref.specs.Prefixes.{compact_value, RefusesExpand, RefusesInsert};
 
 mod entry;
 mod text;
@@ -107,8 +105,7 @@ pub struct Prefixes {
 
 impl Model for Prefixes {
     ghost use Rattle.iref_mapping.specs.PrefixTable.{PrefixTable, IsPrefixTable};
-    ghost use Rattle.iref.specs.PrefixTree.{keys_of, IsTree};
-    ghost use Rattle.iref.specs.declared.compact.entry.Key.TheVariants.{Label, Iri};
+    ghost use Rattle.iref.specs.{PrefixTree.{keys_of, IsTree}, declared.compact.entry.Key.TheVariants.{Label, Iri}};
 
     ghost Value = { PrefixTable };
 

@@ -1,12 +1,11 @@
 //! What a line asks for.
 ghost use Rattle.std.specs.{Iterator.{YieldsFirstBy}, Option.{option_copied}};
 ghost use Rattle.std.specs.Prelude.{◌≡◌, ◌∷◌, bytes_eq, List, option_and_then, option_map};
-ghost use Rattle.iref_answers.specs.Lines as spec;
-ghost use Rattle.iref.specs.{Texts.{pieces_at}, Rules.{Text}};
-ghost use Rattle.iref_answers.specs.Lines.{tab, read_line, one_text, two_texts, all_verbs};
-ghost use Rattle.iref_answers.specs.Lines.{text_and_edits, text_and_entries};
-ghost use Rattle.iref.specs.PrefixTable.{PrefixEntry};
+ghost use Rattle.iref_answers.specs.Lines.{tab, read_line, one_text, two_texts, all_verbs, text_and_edits};
+ghost use Rattle.iref_answers.specs.Lines.{text_and_entries};
+ghost use Rattle.iref.specs.{Texts.{pieces_at}, Rules.{Text}, PrefixTable.{PrefixEntry}};
 ghost use Rattle.iref_batch.specs.{Fields.{fields_of}, Requests.{request_of}};
+ghost use Rattle.iref_answers.specs.Lines as spec;
 
 use iref_answers::cut_bytes;
 

@@ -1,6 +1,6 @@
 //! Where lines come from, and where replies go.
-ghost use Rattle.std.specs.Prelude.{◌≡◌, ◌<◌, ◌≤◌, List, ℕ, Option, Bool, length, false, IfOk};
-ghost use Rattle.std.specs.{Prelude.{is_err}, Io.KnownBytes.{ReadConsumes, WriteAppends}};
+ghost use Rattle.std.specs.Prelude.{◌≡◌, ◌<◌, ◌≤◌, List, ℕ, Option, Bool, length, false, IfOk, is_err};
+ghost use Rattle.std.specs.Io.KnownBytes.{ReadConsumes, WriteAppends};
 
 use std::io::{Read, Write};
 

@@ -1,10 +1,8 @@
 //! Equality, order and hash of references, which agree (RFC 3986 section 6.2.2).
-ghost use Rattle.iref.specs.{Characters.{iri_chars}, Grammar.{IsUriReference}};
-ghost use Rattle.iref.specs.Reference.{ReferenceValue};
-ghost use Rattle.iref_c.specs.{Answers.{StoresOf, StoresOfTwo}, Comparison.{equal_number}};
-ghost use Rattle.iref_c.specs.Comparison.{hash_from, hash_number, keyed_hash_number};
-ghost use Rattle.iref_c.specs.Comparison.{number_of_order, order_number};
 ghost use Rattle.std.specs.Prelude.{◌≡◌, ◌↔◌, ℕ, pos};
+ghost use Rattle.iref.specs.{Characters.{iri_chars}, Grammar.{IsUriReference}, Reference.{ReferenceValue}};
+ghost use Rattle.iref_c.specs.{Answers.{StoresOf, StoresOfTwo}, Comparison.{equal_number, hash_from, hash_number}};
+ghost use Rattle.iref_c.specs.Comparison.{keyed_hash_number, number_of_order, order_number};
 
 use crate::status::INVALID;
 use crate::store::{store, two_references};

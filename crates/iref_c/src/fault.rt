@@ -1,7 +1,7 @@
 //! Where a text is outside the rule of references of IRIs, as C sees it (RFC 3986 appendix B).
+ghost use Rattle.std.specs.Prelude.{◌≡◌};
 ghost use Rattle.iref.specs.{Characters.{iri_chars}, Faults.{fault_of_reference}};
 ghost use Rattle.iref_c.specs.Faults.{number_of_cause, place_for_c};
-ghost use Rattle.std.specs.Prelude.{◌≡◌};
 
 use crate::status::OK;
 use crate::store::store;

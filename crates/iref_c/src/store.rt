@@ -1,7 +1,7 @@
 //! Reads two references, and writes a result where the caller wants it.
+ghost use Rattle.std.specs.Prelude.{◌≡◌, IfErr, IfOk, OnOk};
 ghost use Rattle.iref.specs.References.{reference_text};
 ghost use Rattle.iref_c.specs.Answers.{IsReference, ReportsInvalid};
-ghost use Rattle.std.specs.Prelude.{◌≡◌, IfErr, IfOk, OnOk};
 
 use crate::status::{INVALID, OK, SECOND_INVALID};
 use iref::iri::IriRef;

@@ -1,13 +1,12 @@
 //! Texts that are written into the caller's buffer: normal paths, resolution, relative references,
 //! the mapping to URIs, canonical texts and sort keys (RFC 3986 sections 5.2 and 6.2.2, RFC 3987
 //! section 3.1).
-ghost use Rattle.iref.specs.{Canonical.{canonical_text}, Key.{key}, SortKey.{sort_key}};
-ghost use Rattle.iref.specs.{Mapping.{mapped}, Relative.{relative_to}, Resolution.{resolved}};
-ghost use Rattle.iref.specs.{Characters.{iri_chars}, Contexts.{alone}, Grammar.{IsPath, IsUri}};
-ghost use Rattle.iref.specs.PathValue.{read_path, spell_path};
+ghost use Rattle.std.specs.Prelude.{⊤};
+ghost use Rattle.iref.specs.{Canonical.{canonical_text}, Key.{key}, SortKey.{sort_key}, Mapping.{mapped}};
+ghost use Rattle.iref.specs.{Relative.{relative_to}, Resolution.{resolved}, Characters.{iri_chars}, Contexts.{alone}};
+ghost use Rattle.iref.specs.{Grammar.{IsPath, IsUri}, PathValue.{read_path, spell_path}};
 ghost use Rattle.iref.specs.{Reference.{read_reference, spell}, Rules.{InUtf8}};
 ghost use Rattle.iref_c.specs.Answers.{IsReference, Writes};
-ghost use Rattle.std.specs.Prelude.{⊤};
 ghost use Rattle.iref.specs.PathSteps as step;
 
 use crate::status::{INVALID, MEMORY, SECOND_INVALID};

@@ -1,10 +1,8 @@
 //! The authority of the canonical text of a reference (RFC 3986 sections 3.2 and 6.2.2).
-ghost use Rattle.std.specs.{Prelude.{◌≡◌, [], ◌∷◌}, Option.{option_copied}};
-ghost use Rattle.std.specs.Prelude.{option_map};
+ghost use Rattle.std.specs.{Prelude.{◌≡◌, [], ◌∷◌, option_map}, Option.{option_copied}};
 ghost use Rattle.percent_encoding.specs.Percent.{percent_decode};
-ghost use Rattle.iref_grammar.specs.Authority.{read_authority, spell_authority};
-ghost use Rattle.iref_grammar.specs.{Characters.{uri_chars}, Texts.{part_then, then_part}};
-ghost use Rattle.iref_grammar.specs.Grammar.{at_sign, colon, is_user_info_char};
+ghost use Rattle.iref_grammar.specs.{Authority.{read_authority, spell_authority}, Characters.{uri_chars}};
+ghost use Rattle.iref_grammar.specs.{Texts.{part_then, then_part}, Grammar.{at_sign, colon, is_user_info_char}};
 ghost use Rattle.iref_model.specs.AuthorityKey.{authority_key};
 ghost use Rattle.iref_canonical.specs.Canonical.{canonical_authority, canonical_host, encoded};
 

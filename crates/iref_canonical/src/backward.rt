@@ -3,8 +3,7 @@ ghost use Rattle.std.specs.Prelude.{◌≡◌, ℕ, ◌≤◌, ◌++◌, Option,
 ghost use Rattle.std.specs.Option.{option_copied};
 ghost use Rattle.iref_grammar.specs.Rules.{Text};
 ghost use Rattle.iref_canonical.specs.Backward.{compared_after, counted_after, is_all, written_after};
-ghost use Rattle.iref_canonical.specs.BackwardLaws.{compared-both, compared-nothing};
-ghost use Rattle.iref_canonical.specs.BackwardLaws.{counted-both, counted-nothing};
+ghost use Rattle.iref_canonical.specs.BackwardLaws.{compared-both, compared-nothing, counted-both, counted-nothing};
 ghost use Rattle.iref_canonical.specs.BackwardLaws.{written-both, written-fits, written-nothing};
 
 use iref_error::Memory;

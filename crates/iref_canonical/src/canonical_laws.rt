@@ -1,11 +1,8 @@
 //! Laws of canonical texts: each is the contract of a function that does nothing.
 
-ghost use Rattle.std.specs.Prelude.{◌≡◌, ◌↔◌, true, is_some};
-ghost use Rattle.std.specs.{List.{list_all}, Char.{is_ascii}};
-ghost use Rattle.iref_grammar.specs.{Characters.{uri_chars}, Rules.{Text, InUtf8}};
-ghost use Rattle.iref_grammar.specs.Grammar.{IsUri, IsUriReference};
-ghost use Rattle.iref_grammar.specs.Reference.{ReferenceValue, IsReadable, read_reference};
-ghost use Rattle.iref_grammar.specs.Reference.{is_reference, is_uri};
+ghost use Rattle.std.specs.{Prelude.{◌≡◌, ◌↔◌, true, is_some}, List.{list_all}, Char.{is_ascii}};
+ghost use Rattle.iref_grammar.specs.{Characters.{uri_chars}, Rules.{Text, InUtf8}, Grammar.{IsUri, IsUriReference}};
+ghost use Rattle.iref_grammar.specs.Reference.{ReferenceValue, IsReadable, read_reference, is_reference, is_uri};
 ghost use Rattle.iref_model.specs.Key.{AreAlike, key};
 ghost use Rattle.iref_mapping.specs.Mapping.{mapped};
 ghost use Rattle.iref_canonical.specs.Canonical.{canonical, canonical_text};

@@ -1,6 +1,5 @@
 //! The bytes that a text decodes to, encoded anew (RFC 3986 section 2.1).
-ghost use Rattle.std.specs.Prelude.{◌≡◌, false, map, [], MatchOption};
-ghost use Rattle.std.specs.Str.{str_to_ascii_lowercase};
+ghost use Rattle.std.specs.{Prelude.{◌≡◌, false, map, [], MatchOption}, Str.{str_to_ascii_lowercase}};
 ghost use Rattle.percent_encoding.specs.Percent.{encode_byte, percent_decode, percent_encode};
 ghost use Rattle.iref_canonical.specs.Decoded.{SplitsLast, ends_in_escape};
 

@@ -1,13 +1,11 @@
 //! Sort keys that own their bytes.
 
-ghost use Rattle.std.proofs.Common.{rules};
-ghost use Rattle.std.specs.Prelude.{◌≡◌};
-ghost use Rattle.std.specs.Hash as fed;
-ghost use Rattle.std.specs.{Cmp.{partial_equiv_from_equiv}, Ordering.{as_partial_cmp}};
-ghost use Rattle.std.specs.Cmp.Lexicographic.{nat_list_cmp_total, nat_list_eq_equiv};
-ghost use Rattle.std.specs.Cmp.Lexicographic.{texts_po, texts_ties};
+ghost use Rattle.std.specs.{Prelude.{◌≡◌}, Cmp.{partial_equiv_from_equiv}, Ordering.{as_partial_cmp}};
+ghost use Rattle.std.specs.Cmp.Lexicographic.{nat_list_cmp_total, nat_list_eq_equiv, texts_po, texts_ties};
 ghost use Rattle.std.specs.Cmp.Rules.{comparing, hashing};
+ghost use Rattle.std.proofs.Common.{rules};
 ghost use Rattle.iref_grammar.specs.{Keys.{is_same_text, text_order}, Rules.{Text}};
+ghost use Rattle.std.specs.Hash as fed;
 
 use std::cmp::Ordering;
 use std::hash::{Hash, Hasher};

@@ -1,7 +1,7 @@
 //! Texts behind which 16 more bytes can be read, so that a block can be read from each of their bytes.
 
-ghost use Rattle.std.specs.Prelude.{◌≡◌, ◌-◌, ◌≤◌, [], ◌∷◌, IfSome, drop, option_map, take};
-ghost use Rattle.std.specs.{List.{position_or_len}, Char.{char_set_contains}};
+ghost use Rattle.std.specs.{Prelude.{◌≡◌, ◌-◌, ◌≤◌, [], ◌∷◌, IfSome, drop, option_map, take}, List.{position_or_len}};
+ghost use Rattle.std.specs.Char.{char_set_contains};
 ghost use Rattle.iref_grammar.specs.Texts.{after, before};
 ghost use Rattle.iref_canonical.specs.Padded.{IsPadded, text_in};
 

@@ -1,15 +1,12 @@
 //! The path of the canonical text of a reference (RFC 3986 section 6.2.2).
-ghost use Rattle.std.specs.Prelude.{◌≡◌, ◌-◌, ◌<◌, ◌≤◌, ◌^◌, ◌++◌, ◌∷◌, [], length};
-ghost use Rattle.std.specs.Prelude.{if◌then◌else◌};
+ghost use Rattle.std.specs.Prelude.{◌≡◌, ◌-◌, ◌<◌, ◌≤◌, ◌^◌, ◌++◌, ◌∷◌, [], length, if◌then◌else◌};
 ghost use Rattle.std.specs.{Char.{char_set_contains}, List.{join_with_byte}};
 ghost use Rattle.percent_encoding.specs.Percent.{percent_decode};
-ghost use Rattle.iref_grammar.specs.{Grammar.{colon, slash}, PathValue.{read_path, spell_path}};
-ghost use Rattle.iref_grammar.specs.Texts.{is_empty};
+ghost use Rattle.iref_grammar.specs.{Grammar.{colon, slash}, PathValue.{read_path, spell_path}, Texts.{is_empty}};
 ghost use Rattle.iref_model.specs.{Guard.{guarded}, NormalList.{is_dot, is_dot_dot}, PathKey.{path_key}};
 ghost use Rattle.iref_path.specs.{NormalItems.{IsSound, decoded_left, normal_left}, Spelling.{each_closed}};
-ghost use Rattle.iref_canonical.specs.Canonical.{canonical_name, canonical_path};
-ghost use Rattle.iref_canonical.specs.SpelledItems.{IsCounted, canonical_path_text};
-ghost use Rattle.iref_canonical.specs.SpelledItems.{spelled_item, spelled_items, standing_of};
+ghost use Rattle.iref_canonical.specs.{Canonical.{canonical_name, canonical_path}, SpelledItems.{IsCounted}};
+ghost use Rattle.iref_canonical.specs.SpelledItems.{canonical_path_text, spelled_item, spelled_items, standing_of};
 
 use crate::backward::Backward;
 use crate::encoded::{SEGMENT, put_encoded, split_last_decoded};

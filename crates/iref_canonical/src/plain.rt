@@ -1,8 +1,6 @@
 //! Texts that one scan finds to be canonical (RFC 3986 section 6.2.2).
-ghost use Rattle.std.specs.Prelude.{◌≡◌, true};
-ghost use Rattle.std.specs.{List.{list_all}, Option.{option_copied}};
-ghost use Rattle.iref_grammar.specs.Reference.{is_reference, read_reference};
-ghost use Rattle.iref_grammar.specs.Tests.{none_or};
+ghost use Rattle.std.specs.{Prelude.{◌≡◌, true}, List.{list_all}, Option.{option_copied}};
+ghost use Rattle.iref_grammar.specs.{Reference.{is_reference, read_reference}, Tests.{none_or}};
 ghost use Rattle.iref_model.specs.Key.{key};
 ghost use Rattle.iref_parse.specs.ReferenceSlices.{value_of};
 ghost use Rattle.iref_canonical.specs.{Canonical.{canonical_text}, Lower.{is_lower, is_lower_byte}};

@@ -4,8 +4,7 @@ ghost use Rattle.std.specs.{Option.{option_copied}, Str.{str_to_ascii_lowercase}
 ghost use Rattle.iref_grammar.specs.{Grammar.{colon}, Rules.{Text}, Texts.{part_then, then_part}};
 ghost use Rattle.iref_model.specs.Key.{key};
 ghost use Rattle.iref_parse.specs.ReferenceSlices.{value_of};
-ghost use Rattle.iref_canonical.specs.Canonical.{canonical_text};
-ghost use Rattle.iref_canonical.specs.CanonicalParts.{encoded_authority, encoded_query};
+ghost use Rattle.iref_canonical.specs.{Canonical.{canonical_text}, CanonicalParts.{encoded_authority, encoded_query}};
 ghost use Rattle.iref_canonical.specs.CanonicalReferences.{IsMeasured, measured_canonical};
 
 use crate::authority::put_authority;

@@ -1,8 +1,8 @@
 //! The bytes of a text as sort keys hold them: copied, or written one by one.
 
 ghost use Rattle.std.specs.Prelude.{◌≡◌, ◌+◌, ◌≤◌, ◌++◌, length, take};
-ghost use Rattle.percent_encoding.specs.Percent as percent;
 ghost use Rattle.iref_canonical.specs.SortKey.{sort_byte, sort_text};
+ghost use Rattle.percent_encoding.specs.Percent as percent;
 
 use percent_encoding::percent_decode;
 

@@ -1,21 +1,16 @@
 //! The sort key of a reference, from its text and the slices of its components (RFC 3986 section
 //! 6.2.2).
 
-ghost use Rattle.std.specs.Prelude.{◌≡◌, ◌+◌, ◌≤◌, ◌++◌, IfOk, IfSome, OnErr, OnOk, length};
-ghost use Rattle.std.specs.Prelude.{option_map};
-ghost use Rattle.std.specs.Prelude.{true};
+ghost use Rattle.std.specs.Prelude.{◌≡◌, ◌+◌, ◌≤◌, ◌++◌, IfOk, IfSome, OnErr, OnOk, length, option_map, true};
 ghost use Rattle.std.specs.Option.{option_copied};
-ghost use Rattle.iref_grammar.specs.Authority.{read_authority};
-ghost use Rattle.iref_grammar.specs.{ComponentTexts.{spell_components}, Reference.{read_reference}};
+ghost use Rattle.iref_grammar.specs.{Authority.{read_authority}, ComponentTexts.{spell_components}};
+ghost use Rattle.iref_grammar.specs.Reference.{read_reference};
 ghost use Rattle.iref_model.specs.Key.{key};
-ghost use Rattle.iref_parse.specs.AuthoritySlices.{authority_of};
-ghost use Rattle.iref_parse.specs.ReferenceSlices.{texts_of, value_of};
+ghost use Rattle.iref_parse.specs.{AuthoritySlices.{authority_of}, ReferenceSlices.{texts_of, value_of}};
 ghost use Rattle.iref_path.specs.Written.{WritesBefore};
 ghost use Rattle.iref_canonical.specs.SortItems.{AreItems, items_of};
-ghost use Rattle.iref_canonical.specs.SortKey.{sort_authority, sort_item, sort_key, sort_list};
-ghost use Rattle.iref_canonical.specs.SortKey.{sort_option, sort_path};
-ghost use Rattle.iref_canonical.specs.Sortable.{IsSortable, are_kept_slices, key_of_slices};
-ghost use Rattle.iref_canonical.specs.Sortable.{sortable_key};
+ghost use Rattle.iref_canonical.specs.SortKey.{sort_authority, sort_item, sort_key, sort_list, sort_option, sort_path};
+ghost use Rattle.iref_canonical.specs.Sortable.{IsSortable, are_kept_slices, key_of_slices, sortable_key};
 
 use crate::sort_parts::{
     authority_len, raw_option_len, text_option_len, write_authority, write_scheme,

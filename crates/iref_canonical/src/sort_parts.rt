@@ -1,13 +1,13 @@
 //! The parts of a reference in sort keys, but for the path: how many bytes they have there, and how
 //! they are written from the end. `kept` says that each byte is written as it is.
 
-ghost use Rattle.std.specs.Prelude.{◌≡◌, ◌≤◌, IfSome, length, option_map, true};
-ghost use Rattle.std.specs.{Option.{option_copied}, Str.{str_to_ascii_lowercase}};
+ghost use Rattle.std.specs.{Prelude.{◌≡◌, ◌≤◌, IfSome, length, option_map, true}, Option.{option_copied}};
+ghost use Rattle.std.specs.Str.{str_to_ascii_lowercase};
+ghost use Rattle.percent_encoding.specs.Percent.{percent_decode};
 ghost use Rattle.iref_grammar.specs.Tests.{none_or};
 ghost use Rattle.iref_model.specs.AuthorityKey.{authority_key};
 ghost use Rattle.iref_parse.specs.AuthoritySlices.{authority_of};
 ghost use Rattle.iref_path.specs.Written.{WritesBefore};
-ghost use Rattle.percent_encoding.specs.Percent.{percent_decode};
 ghost use Rattle.iref_canonical.specs.SortBytes.{is_kept, are_kept_parts};
 ghost use Rattle.iref_canonical.specs.SortKey.{sort_authority, sort_option, sort_text};
 

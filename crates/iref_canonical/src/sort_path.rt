@@ -3,11 +3,9 @@
 ghost use Rattle.std.specs.Prelude.{◌≡◌, ◌≤◌, IfSome, length, true};
 ghost use Rattle.iref_grammar.specs.PathValue.{read_path};
 ghost use Rattle.iref_model.specs.PathKey.{path_key};
-ghost use Rattle.iref_path.specs.{NormalItems.{IsSound, decoded_left}, Pieces.{pieces_if_some}};
-ghost use Rattle.iref_path.specs.Written.{WritesBefore};
+ghost use Rattle.iref_path.specs.{NormalItems.{IsSound, decoded_left}, Pieces.{pieces_if_some}, Written.{WritesBefore}};
+ghost use Rattle.iref_canonical.specs.{SortItems.{AreItems, AreKept, items_of}, SortKey.{sort_item, sort_list}};
 ghost use Rattle.iref_canonical.specs.SortBytes as bytes;
-ghost use Rattle.iref_canonical.specs.SortItems.{AreItems, AreKept, items_of};
-ghost use Rattle.iref_canonical.specs.SortKey.{sort_item, sort_list};
 
 use crate::sort_text::{text_len, write_byte, write_kept, write_text};
 use iref_parse::dots::has_dots;

@@ -1,28 +1,19 @@
 //! Sort keys of short texts whose bytes stand in them as they are, written from the front.
 
-ghost use Rattle.std.specs.Prelude.{◌≡◌, ℕ, ◌+◌, ◌<◌, ◌≤◌, ◌++◌, [], ◌∷◌, drop, take, false};
-ghost use Rattle.std.specs.Prelude.{IfSome, None, length, option_map, true};
-ghost use Rattle.std.specs.{Option.{option_copied}, Str.{str_to_ascii_lowercase}};
-ghost use Rattle.iref_grammar.specs.Authority.{after_bracketed, bracketed, read_authority};
-ghost use Rattle.iref_grammar.specs.Authority.{read_host, read_host_and_port};
-ghost use Rattle.iref_grammar.specs.Grammar.{colon};
-ghost use Rattle.iref_grammar.specs.PathValue.{read_path, segments_of};
-ghost use Rattle.iref_grammar.specs.Tests.{none_or};
-ghost use Rattle.iref_grammar.specs.Rules.{Text};
-ghost use Rattle.iref_grammar.specs.Texts.{after, part_then, then_part};
-ghost use Rattle.iref_grammar.specs.{ComponentTexts.{spell_components}, Reference.{read_reference}};
+ghost use Rattle.std.specs.Prelude.{◌≡◌, ℕ, ◌+◌, ◌<◌, ◌≤◌, ◌++◌, [], ◌∷◌, drop, take, false, IfSome, None, length};
+ghost use Rattle.std.specs.{Prelude.{option_map, true}, Option.{option_copied}, Str.{str_to_ascii_lowercase}};
+ghost use Rattle.iref_grammar.specs.Authority.{after_bracketed, bracketed, read_authority, read_host};
+ghost use Rattle.iref_grammar.specs.{Authority.{read_host_and_port}, Grammar.{colon}};
+ghost use Rattle.iref_grammar.specs.{PathValue.{read_path, segments_of}, Tests.{none_or}, Rules.{Text}};
+ghost use Rattle.iref_grammar.specs.{Texts.{after, part_then, then_part}, ComponentTexts.{spell_components}};
+ghost use Rattle.iref_grammar.specs.Reference.{read_reference};
 ghost use Rattle.iref_model.specs.Key.{key};
-ghost use Rattle.iref_parse.specs.Dots.{has_dot_segment};
-ghost use Rattle.iref_parse.specs.ReferenceSlices.{texts_of, value_of};
-ghost use Rattle.iref_canonical.specs.Padded.{IsPadded, text_in};
-ghost use Rattle.iref_canonical.specs.SortBytes.{is_kept, are_kept_parts};
-ghost use Rattle.iref_canonical.specs.SortItems.{AreKept};
-ghost use Rattle.iref_canonical.specs.SortKey.{sort_authority, sort_item, sort_key, sort_list};
-ghost use Rattle.iref_canonical.specs.SortKey.{sort_option, sort_path, sort_text};
-ghost use Rattle.iref_canonical.specs.SortPuts.{AreKeptSlices, Puts, segment_bytes};
-ghost use Rattle.iref_canonical.specs.SortPuts.{sorted_from_authority, sorted_slices};
-ghost use Rattle.iref_canonical.specs.SortPuts.{sorted_tail, spelled_from_authority};
-ghost use Rattle.iref_canonical.specs.SortPuts.{spelled_slices, spelled_tail};
+ghost use Rattle.iref_parse.specs.{Dots.{has_dot_segment}, ReferenceSlices.{texts_of, value_of}};
+ghost use Rattle.iref_canonical.specs.{Padded.{IsPadded, text_in}, SortBytes.{is_kept, are_kept_parts}};
+ghost use Rattle.iref_canonical.specs.{SortItems.{AreKept}, SortKey.{sort_authority, sort_item, sort_key, sort_list}};
+ghost use Rattle.iref_canonical.specs.{SortKey.{sort_option, sort_path, sort_text}, SortPuts.{AreKeptSlices, Puts}};
+ghost use Rattle.iref_canonical.specs.SortPuts.{segment_bytes, sorted_from_authority, sorted_slices, sorted_tail};
+ghost use Rattle.iref_canonical.specs.SortPuts.{spelled_from_authority, spelled_slices, spelled_tail};
 
 use crate::padded::Padded;
 use iref_parse::position::{position_of, position_of_either};

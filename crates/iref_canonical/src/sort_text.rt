@@ -2,11 +2,10 @@
 
 ghost use Rattle.std.specs.Prelude.{◌≡◌, ◌+◌, ◌≤◌, ◌++◌, [], ◌∷◌, IfSome, length, option_map, true};
 ghost use Rattle.std.specs.{Option.{option_copied}, Str.{str_to_ascii_lowercase}};
-ghost use Rattle.iref_grammar.specs.Tests.{none_or};
 ghost use Rattle.percent_encoding.specs.Percent.{percent_decode};
+ghost use Rattle.iref_grammar.specs.Tests.{none_or};
 ghost use Rattle.iref_path.specs.Written.{WritesBefore};
-ghost use Rattle.iref_canonical.specs.SortBytes.{is_kept};
-ghost use Rattle.iref_canonical.specs.SortKey.{sort_option, sort_text};
+ghost use Rattle.iref_canonical.specs.{SortBytes.{is_kept}, SortKey.{sort_option, sort_text}};
 
 use crate::sort_bytes::{bytes_len, decoded_len, put_bytes, put_decoded};
 use iref_path::spell::write_before;

@@ -1,6 +1,5 @@
 //! Canonical texts from the texts of references (RFC 3986 section 6.2.2).
-ghost use Rattle.std.specs.Prelude.{◌≡◌, true, bytes_eq, IfOk};
-ghost use Rattle.std.specs.String.{string_bytes};
+ghost use Rattle.std.specs.{Prelude.{◌≡◌, true, bytes_eq, IfOk}, String.{string_bytes}};
 ghost use Rattle.iref_grammar.specs.Reference.{is_reference, read_reference};
 ghost use Rattle.iref_model.specs.Key.{key};
 ghost use Rattle.iref_parse.specs.ReferenceSlices.{value_of};

@@ -1,9 +1,8 @@
 //! Authorities, borrowed and owned (RFC 3986 section 3.2).
 ghost use Rattle.std.specs.Prelude.{◌≡◌, option_map};
-ghost use Rattle.iref_component.specs.{AuthorityParts.{parts_value}, Comparisons.{ComparesBy}};
-ghost use Rattle.iref_component.specs.Components.{text_of};
 ghost use Rattle.iref_grammar.specs.{read_authority};
 ghost use Rattle.iref_model.specs.{authority_key, authority_key_cmp, fed_authority};
+ghost use Rattle.iref_component.specs.{AuthorityParts.{parts_value}, Comparisons.{ComparesBy}, Components.{text_of}};
 
 mod edits;
 

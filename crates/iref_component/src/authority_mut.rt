@@ -1,13 +1,11 @@
 //! Edits of an authority in place (RFC 3986 section 3.2).
-ghost use Rattle.std.specs.Prelude.{◌≡◌, ◌≤◌, ◌+◌, ◌-◌, ◌++◌, true, length, slice_range, vec_len};
-ghost use Rattle.std.specs.{Prelude.{Some, IfOk, IsOk, IsNone, option_map}, Borrow.{sem}};
-ghost use Rattle.std.specs.Borrow.{RestsIfErr};
-ghost use Rattle.iref_splice.specs.Changes.{IsWithin, replaced};
-ghost use Rattle.iref_component.specs.AuthorityTexts.{SpellsAuthority, authority_is_text};
-ghost use Rattle.iref_component.specs.{Components.{text_of}, Makers.{ParsesUtf8}};
+ghost use Rattle.std.specs.Prelude.{◌≡◌, ◌≤◌, ◌+◌, ◌-◌, ◌++◌, true, length, slice_range, vec_len, Some, IfOk, IsOk};
+ghost use Rattle.std.specs.{Prelude.{IsNone, option_map}, Borrow.{sem, RestsIfErr}};
 ghost use Rattle.iref_grammar.specs.{AuthorityValue, IsAuthority, is_authority, read_authority};
-ghost use Rattle.iref_model.specs.{port_text};
-ghost use Rattle.iref_model.specs.AuthoritySteps.{with_user_info, with_host, with_port};
+ghost use Rattle.iref_model.specs.{port_text, AuthoritySteps.{with_user_info, with_host, with_port}};
+ghost use Rattle.iref_splice.specs.Changes.{IsWithin, replaced};
+ghost use Rattle.iref_component.specs.{AuthorityTexts.{SpellsAuthority, authority_is_text}, Components.{text_of}};
+ghost use Rattle.iref_component.specs.Makers.{ParsesUtf8};
 
 mod ranges;
 mod try_edits;
@@ -52,9 +50,8 @@ pub struct AuthorityMut<'a, C: CharSet, T: Target<AuthorityPart, C> = Vec<u8>> {
 }
 
 impl<'a, C: CharSet> AuthorityMut<'a, C, Vec<u8>> {
-    ghost use Rattle.iref_component.specs.AuthorityEdits.{borrowed_name, Borrows, edited_bytes};
-    ghost use Rattle.iref_component.specs.AuthorityEdits.{authority_mut_start, authority_mut_end};
-    ghost use Rattle.iref_component.specs.{AuthorityEdits.{authority_mut_text}, Rows.{bytes_row}};
+    ghost use Rattle.iref_component.specs.AuthorityEdits.{borrowed_name, Borrows, edited_bytes, authority_mut_start};
+    ghost use Rattle.iref_component.specs.{AuthorityEdits.{authority_mut_end, authority_mut_text}, Rows.{bytes_row}};
 
     /// The editor of the authority in a range of the bytes: of `//h:80/x` that at 2 to 6. The error
     /// holds the bytes of a range that are no authority, such as `/x`.
@@ -96,9 +93,8 @@ impl<'a, C: CharSet> AuthorityMut<'a, C, Vec<u8>> {
 }
 
 impl<'a, C: CharSet, T: Target<AuthorityPart, C>> AuthorityMut<'a, C, T> {
-    ghost use Rattle.iref_component.specs.AuthorityEdits.{Borrows, edited_bytes, LiesInBytes};
-    ghost use Rattle.iref_component.specs.AuthorityEdits.{authority_mut_start, authority_mut_end};
-    ghost use Rattle.iref_component.specs.AuthorityEdits.{authority_mut_text, Edits, EditsTo};
+    ghost use Rattle.iref_component.specs.AuthorityEdits.{Borrows, edited_bytes, LiesInBytes, authority_mut_start};
+    ghost use Rattle.iref_component.specs.AuthorityEdits.{authority_mut_end, authority_mut_text, Edits, EditsTo};
 
     /// The editor of the authority in a range of what holds it.
     pub fn of_target(target: &'a mut T, range: Range<usize>) -> Self

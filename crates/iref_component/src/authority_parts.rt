@@ -1,9 +1,8 @@
 //! The parts of an authority (RFC 3986 section 3.2).
 ghost use Rattle.std.specs.Prelude.{◌≡◌, true, ⊤};
-ghost use Rattle.iref_component.specs.AuthorityParts.{parts_key, parts_value};
-ghost use Rattle.iref_component.specs.Comparisons.{ComparesBy};
 ghost use Rattle.iref_grammar.specs.{is_authority, read_authority};
 ghost use Rattle.iref_model.specs.{authority_key_cmp, fed_authority};
+ghost use Rattle.iref_component.specs.{AuthorityParts.{parts_key, parts_value}, Comparisons.{ComparesBy}};
 
 use crate::borrowed::borrowed_of;
 use crate::named_texts::{Host, Port, UserInfo};

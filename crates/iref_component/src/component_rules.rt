@@ -1,25 +1,19 @@
 //! The rules of components, and what each compares by.
 ghost use Rattle.std.specs.{Prelude.{◌≡◌}, Str.{str_to_ascii_lowercase}};
 ghost use Rattle.percent_encoding.specs.Percent.{percent_decode};
-ghost use Rattle.iref_grammar.specs.{IsFragment, IsHost, IsPctStr, IsPort, IsQuery, IsScheme};
-ghost use Rattle.iref_grammar.specs.{IsSegment, IsUserInfo, is_fragment, is_host, is_pct_str};
-ghost use Rattle.iref_grammar.specs.{is_port, is_query, is_scheme, is_segment, is_user_info};
-ghost use Rattle.iref_grammar.specs.{Authority.{is_authority}, IsAuthority, IsPath, is_path};
-ghost use Rattle.iref_grammar.proofs.AuthorityRuleLemmas.{Decides-is_authority};
-ghost use Rattle.iref_grammar.proofs.EmptyLemmas.{is_authority_empty};
-ghost use Rattle.iref_grammar.proofs.EmptyLemmas.{is_fragment_empty, is_host_empty};
-ghost use Rattle.iref_grammar.proofs.EmptyLemmas.{is_pct_str_empty, is_port_empty, is_query_empty};
-ghost use Rattle.iref_grammar.proofs.EmptyLemmas.{is_segment_empty, is_user_info_empty};
-ghost use Rattle.iref_grammar.proofs.HostRuleLemmas.{Decides-is_host};
-ghost use Rattle.iref_grammar.proofs.LeafLemmas.{Decides-is_fragment, Decides-is_query};
-ghost use Rattle.iref_grammar.proofs.LeafLemmas.{Decides-is_segment, Decides-is_user_info};
-ghost use Rattle.iref_grammar.proofs.PartRuleLemmas.{Decides-is_port_bytes};
-ghost use Rattle.iref_grammar.proofs.PartRuleLemmas.{Decides-is_scheme_bytes};
-ghost use Rattle.iref_grammar.proofs.PathTextLemmas.{Decides-is_path};
-ghost use Rattle.iref_model.proofs.PathGrammarLemmas.{is_path_empty};
-ghost use Rattle.iref_grammar.proofs.PctLemmas.{Decides-is_pct_str, fragment_is_pct_str};
-ghost use Rattle.iref_grammar.proofs.PctLemmas.{host_is_pct_str, query_is_pct_str};
+ghost use Rattle.iref_grammar.specs.{IsFragment, IsHost, IsPctStr, IsPort, IsQuery, IsScheme, IsSegment, IsUserInfo};
+ghost use Rattle.iref_grammar.specs.{is_fragment, is_host, is_pct_str, is_port, is_query, is_scheme, is_segment};
+ghost use Rattle.iref_grammar.specs.{is_user_info, IsAuthority, IsPath, is_path, Authority.{is_authority}};
+ghost use Rattle.iref_grammar.proofs.{AuthorityRuleLemmas.{Decides-is_authority}, EmptyLemmas.{is_authority_empty}};
+ghost use Rattle.iref_grammar.proofs.EmptyLemmas.{is_fragment_empty, is_host_empty, is_pct_str_empty, is_port_empty};
+ghost use Rattle.iref_grammar.proofs.EmptyLemmas.{is_query_empty, is_segment_empty, is_user_info_empty};
+ghost use Rattle.iref_grammar.proofs.{HostRuleLemmas.{Decides-is_host}, LeafLemmas.{Decides-is_fragment}};
+ghost use Rattle.iref_grammar.proofs.LeafLemmas.{Decides-is_query, Decides-is_segment, Decides-is_user_info};
+ghost use Rattle.iref_grammar.proofs.PartRuleLemmas.{Decides-is_port_bytes, Decides-is_scheme_bytes};
+ghost use Rattle.iref_grammar.proofs.{PathTextLemmas.{Decides-is_path}, PctLemmas.{Decides-is_pct_str}};
+ghost use Rattle.iref_grammar.proofs.PctLemmas.{fragment_is_pct_str, host_is_pct_str, query_is_pct_str};
 ghost use Rattle.iref_grammar.proofs.PctLemmas.{segment_is_pct_str, user_info_is_pct_str};
+ghost use Rattle.iref_model.proofs.PathGrammarLemmas.{is_path_empty};
 
 use crate::key::{DecodedBytes, Key, LowerCase, PartsKey, PathKey, SameText};
 use crate::rule::{AllowsEmpty, Escaped, Refuses, Rule};

@@ -1,12 +1,11 @@
 //! Where a text is outside a rule, and why.
-ghost use Rattle.std.specs.Prelude.{◌≡◌, ◌↔◌, Option, Some, None, option_map, false, refl};
-ghost use Rattle.std.specs.Str.{is_utf8};
+ghost use Rattle.std.specs.{Prelude.{◌≡◌, ◌↔◌, Option, Some, None, option_map, false, refl}, Str.{is_utf8}};
 ghost use Rattle.iref_grammar.specs.{CharTests, AreAboveAscii, Text, InUtf8};
 ghost use Rattle.iref_fault.specs.BytePlaces.{fault_value};
 ghost use Rattle.iref_fault.specs.Faults.{FaultValue, not_utf8, fault_of_part, fault_of_authority};
+ghost use Rattle.iref_fault.proofs.FaultLemmas.{no_fault_of_part, part_invalid, no_fault_of_authority};
+ghost use Rattle.iref_fault.proofs.FaultLemmas.{authority_invalid};
 ghost use Rattle.iref_fault.specs.Places as part;
-ghost use Rattle.iref_fault.proofs.FaultLemmas.{no_fault_of_part, part_invalid};
-ghost use Rattle.iref_fault.proofs.FaultLemmas.{no_fault_of_authority, authority_invalid};
 
 use crate::borrowed::BorrowedText;
 use crate::component_rules::{

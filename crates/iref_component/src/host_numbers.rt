@@ -1,8 +1,8 @@
 //! Texts of IP addresses (RFC 3986 section 3.2.2, RFC 5952 section 4).
 ghost use Rattle.std.specs.{Prelude.{◌≡◌, ◌+◌, ◌≤◌, ◌++◌, ◌==◌, length, IfOk}, List.{prefix_len}};
 ghost use Rattle.std.specs.String.{string_bytes};
-ghost use Rattle.iref_model.specs.HostNumbers.{ipv4_text, groups_of, groups_text, longest_run};
-ghost use Rattle.iref_model.specs.HostNumbers.{run_start, ipv6_text, ipv6_host_text};
+ghost use Rattle.iref_model.specs.HostNumbers.{ipv4_text, groups_of, groups_text, longest_run, run_start, ipv6_text};
+ghost use Rattle.iref_model.specs.HostNumbers.{ipv6_host_text};
 
 use iref_error::Memory;
 use std::alloc::{AllocError, Global};

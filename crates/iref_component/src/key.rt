@@ -1,9 +1,7 @@
 //! What texts are compared by, in their order, and hashed by (RFC 3986 section 6.2.2).
-ghost use Rattle.std.specs.{Prelude.{◌≡◌, ◌<◌, fold, length, true}, Ordering.{eq_by_cmp}};
-ghost use Rattle.std.specs.Str.{str_to_ascii_lowercase};
+ghost use Rattle.std.specs.{Prelude.{◌≡◌, ◌<◌, fold, length, true}, Ordering.{eq_by_cmp}, Str.{str_to_ascii_lowercase}};
 ghost use Rattle.percent_encoding.specs.Percent.{percent_decode};
-ghost use Rattle.iref_grammar.specs.{CharTests, Text, fed_bytes, text_order};
-ghost use Rattle.iref_grammar.specs.{Authority.{is_authority}};
+ghost use Rattle.iref_grammar.specs.{CharTests, Text, fed_bytes, text_order, Authority.{is_authority}};
 ghost use Rattle.iref_component.specs.Comparisons.{Comparison, by_parts, by_segments, by_text};
 
 use crate::authority_parts::parts_of;

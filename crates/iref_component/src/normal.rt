@@ -3,10 +3,10 @@
 ghost use Rattle.std.specs.{Prelude.{◌≡◌, ◌≤◌, true, length, Some, IfSome}, List.{list_all}};
 ghost use Rattle.std.specs.Iterator.{YieldsFirstBy, YieldsLastBy, item_count, UpTo};
 ghost use Rattle.std.specs.{Iterator.SizeHint.{IsWithinCount}, Option.{ForSome}};
-ghost use Rattle.iref_component.specs.{Components.{text_of}, NormalLeft.{left_of}};
 ghost use Rattle.iref_grammar.specs.{is_path, is_segment, read_path};
 ghost use Rattle.iref_model.specs.{normal_segments};
 ghost use Rattle.iref_path.specs.{NormalItems.{IsSound, IsWhole, normal_left}, Stacks.{in_order}};
+ghost use Rattle.iref_component.specs.{Components.{text_of}, NormalLeft.{left_of}};
 
 use crate::named_texts::Segment;
 use arrayvec::{ArrayVec, IntoIter};

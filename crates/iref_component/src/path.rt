@@ -1,14 +1,13 @@
 //! Paths (RFC 3986 section 3.3).
-ghost use Rattle.std.specs.Prelude.{◌≡◌, ◌<◌, ◌^◌, ◌++◌, not, [], IfOk, IsNone, IsOk, length};
-ghost use Rattle.std.specs.Prelude.{OnErr, OnOk, codes, option_map};
+ghost use Rattle.std.specs.Prelude.{◌≡◌, ◌<◌, ◌^◌, ◌++◌, not, [], IfOk, IsNone, IsOk, length, OnErr, OnOk, codes};
+ghost use Rattle.std.specs.Prelude.{option_map};
+ghost use Rattle.iref_grammar.specs.{alone, is_empty, spell_path};
+ghost use Rattle.iref_model.specs.{fed_path, normal_segments, path_key, path_key_cmp, PathSuffix.{path_suffix}};
+ghost use Rattle.iref_component.specs.{Comparisons.{ComparesBy}, Components.{text_of}};
+ghost use Rattle.iref_component.specs.{NormalPaths.{normal_segments_left}, Paths.{path_value, segments_left}};
+ghost use Rattle.iref_component.specs.Suffixes.{SpellsSuffix};
 ghost use Rattle.iref_model.specs.PathFunctions as function;
 ghost use Rattle.iref_model.specs.PathSteps as step;
-ghost use Rattle.iref_component.specs.{Comparisons.{ComparesBy}, Components.{text_of}};
-ghost use Rattle.iref_component.specs.{NormalPaths.{normal_segments_left}, Paths.{path_value}};
-ghost use Rattle.iref_component.specs.{Paths.{segments_left}, Suffixes.{SpellsSuffix}};
-ghost use Rattle.iref_grammar.specs.{alone, is_empty, spell_path};
-ghost use Rattle.iref_model.specs.{fed_path, normal_segments, path_key, path_key_cmp};
-ghost use Rattle.iref_model.specs.PathSuffix.{path_suffix};
 
 use crate::borrowed::BorrowedText;
 use crate::component_rules::PathRule;

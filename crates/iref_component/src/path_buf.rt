@@ -1,9 +1,9 @@
 //! Paths that own their text (RFC 3986 section 3.3).
 ghost use Rattle.std.specs.Prelude.{◌≡◌, ◌<◌, ◌^◌, length, option_map};
-ghost use Rattle.iref_model.specs.PathFunctions as function;
+ghost use Rattle.iref_model.specs.{normal_segments};
 ghost use Rattle.iref_component.specs.{Components.{text_of}, NormalPaths.{normal_segments_left}};
 ghost use Rattle.iref_component.specs.Paths.{path_value, segments_left};
-ghost use Rattle.iref_model.specs.{normal_segments};
+ghost use Rattle.iref_model.specs.PathFunctions as function;
 
 mod appends;
 mod edits;

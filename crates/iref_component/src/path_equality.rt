@@ -1,8 +1,7 @@
 //! Equality of paths with a count of the segments read.
 ghost use Rattle.std.specs.Prelude.{◌≡◌, ◌≢◌, ◌↔◌, ◌+◌, ◌<◌, ◌≤◌, ◌^◌, true};
-ghost use Rattle.iref_component.specs.Paths.{path_value};
 ghost use Rattle.iref_model.specs.{IsCountedAnswer, path_key, segment_count};
-ghost use Rattle.iref_component.specs.CountedPath.{HasRoomFor, steps_count, steps_taken};
+ghost use Rattle.iref_component.specs.{Paths.{path_value}, CountedPath.{HasRoomFor, steps_count, steps_taken}};
 
 use crate::path::Path;
 use iref_grammar::chars::CharSet;

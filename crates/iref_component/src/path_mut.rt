@@ -1,10 +1,10 @@
 //! Edits of a path in place (RFC 3986 section 3.3).
 ghost use Rattle.std.specs.Prelude.{◌≡◌, ◌&&◌, true, not, length, Some, IfOk, IsOk};
-ghost use Rattle.iref_splice.specs.Changes.{IsNoLonger, IsWithin, changed};
-ghost use Rattle.iref_component.specs.{Components.{text_of}, Paths.{path_value}};
 ghost use Rattle.iref_grammar.specs.{alone, is_empty, is_path_in, read_path, PathValue.{PathValue}};
 ghost use Rattle.iref_grammar.specs.Contexts.{follows_authority};
+ghost use Rattle.iref_splice.specs.Changes.{IsNoLonger, IsWithin, changed};
 ghost use Rattle.iref_path.specs.PathParts.{is_path_after, StepsTo};
+ghost use Rattle.iref_component.specs.{Components.{text_of}, Paths.{path_value}};
 ghost use Rattle.iref_model.specs.PathSteps as step;
 
 mod appends;
@@ -40,9 +40,8 @@ pub struct PathMut<'a, C: CharSet, T: Target<PathPart, C> = Vec<u8>> {
 }
 
 impl<'a, C: CharSet, T: Target<PathPart, C>> PathMut<'a, C, T> {
-    ghost use Rattle.iref_component.specs.PathEdits.{Borrows, path_mut_context};
-    ghost use Rattle.iref_component.specs.PathEdits.{path_mut_start, path_mut_end, path_mut_text};
-    ghost use Rattle.iref_component.specs.PathEdits.{path_mut_value, IsEditorOf, IsSameEditor};
+    ghost use Rattle.iref_component.specs.PathEdits.{Borrows, path_mut_context, path_mut_start, path_mut_end};
+    ghost use Rattle.iref_component.specs.PathEdits.{path_mut_text, path_mut_value, IsEditorOf, IsSameEditor};
     ghost use Rattle.iref_component.specs.PathEdits.{BecomesPath, Edits, EditsBy, EditsTo};
 
     /// The path in a range of what holds it, with what stands before it.

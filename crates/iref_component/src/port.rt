@@ -2,8 +2,7 @@
 ghost use Rattle.std.specs.{Prelude.{◌≡◌, ◌^◌, IfOk}, Result.{result_ok}};
 ghost use Rattle.iref_grammar.specs.{is_empty};
 ghost use Rattle.iref_model.specs.PortNumbers.{port_text};
-ghost use Rattle.iref_component.specs.Components.{text_of};
-ghost use Rattle.iref_component.specs.Ports.{port_number, signed_port_number};
+ghost use Rattle.iref_component.specs.{Components.{text_of}, Ports.{port_number, signed_port_number}};
 
 use crate::component_rules::PortRule;
 use crate::named_texts::{Port, PortBuf};

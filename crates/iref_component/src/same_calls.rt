@@ -1,11 +1,10 @@
 //! Texts of a rule, borrowed or owned: the calls that both have.
-ghost use Rattle.std.specs.{Prelude.{◌≡◌, length, Some}, Ordering.{on, as_partial_cmp}};
-ghost use Rattle.std.specs.{Ordering.{eq_by_cmp}, Cmp.{on_total, on_equiv, po}};
-ghost use Rattle.std.specs.{Cmp.{partial_equiv_from_equiv, eq_by_cmp_equiv}, Cmp.Rules.{comparing}};
+ghost use Rattle.std.specs.{Prelude.{◌≡◌, length, Some}, Ordering.{on, as_partial_cmp, eq_by_cmp}};
+ghost use Rattle.std.specs.Cmp.{on_total, on_equiv, po, partial_equiv_from_equiv, eq_by_cmp_equiv};
+ghost use Rattle.std.specs.Cmp.Rules.{comparing};
 ghost use Rattle.std.proofs.Common.{rules, ap, refl};
 ghost use Rattle.iref_grammar.specs.{is_empty};
-ghost use Rattle.iref_component.specs.{Comparisons.{ComparesBy}, Makers.{ParsesUtf8}};
-ghost use Rattle.iref_component.specs.Components.{text_of};
+ghost use Rattle.iref_component.specs.{Comparisons.{ComparesBy}, Makers.{ParsesUtf8}, Components.{text_of}};
 
 use crate::key::Key;
 use crate::rule::{Escaped, Rule};

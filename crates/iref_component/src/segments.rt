@@ -3,9 +3,9 @@
 ghost use Rattle.std.specs.{Prelude.{◌≡◌, true, length, Some, IfSome}, List.{list_all}};
 ghost use Rattle.std.specs.Iterator.{YieldsFirstBy, YieldsLastBy, item_count, UpTo};
 ghost use Rattle.std.specs.Iterator.SizeHint.{IsWithinCount};
-ghost use Rattle.iref_component.specs.Components.{text_of};
 ghost use Rattle.iref_grammar.specs.{is_segment};
 ghost use Rattle.iref_path.specs.{pieces_if_some};
+ghost use Rattle.iref_component.specs.Components.{text_of};
 
 use crate::named_texts::Segment;
 use iref_grammar::chars::CharSet;

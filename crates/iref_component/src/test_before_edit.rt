@@ -1,6 +1,5 @@
 //! Texts that are tested before an edit takes memory.
-ghost use Rattle.std.specs.Prelude.{◌≡◌, true, Some, IfOk, IfSome, OnOk, IsNone, IsOk};
-ghost use Rattle.std.specs.Option.{option_copied};
+ghost use Rattle.std.specs.{Prelude.{◌≡◌, true, Some, IfOk, IfSome, OnOk, IsNone, IsOk}, Option.{option_copied}};
 ghost use Rattle.iref_grammar.specs.{InUtf8, none_or};
 ghost use Rattle.iref_error.specs.Tried.{TellsInvalid};
 ghost use Rattle.iref_component.specs.{Components.{text_of}, Tries.{Tests}};

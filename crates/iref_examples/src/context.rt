@@ -1,8 +1,7 @@
 //! A context of prefixes, as in JSON-LD: IRIs made short, such as `schema:name` for
 //! `https://schema.org/name`.
 ghost use Rattle.std.specs.{Prelude.{◌≡◌, Ok, IfOk, IfSome, option_map}, String.{string_bytes}};
-ghost use Rattle.iref.specs.PrefixTable.{compact_text, compacted, expanded};
-ghost use Rattle.iref.specs.References.{reference_text};
+ghost use Rattle.iref.specs.{PrefixTable.{compact_text, compacted, expanded}, References.{reference_text}};
 
 use iref::Memory;
 use iref::compact::Prefixes;

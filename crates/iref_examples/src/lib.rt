@@ -2,14 +2,11 @@
 //! those of one reference or path, and a module for each longer example.
 #![tactic(auto)]
 
-ghost use Rattle.std.specs.Prelude.{◌≡◌, ◌↔◌, IfOk, MatchOption, count_by, fold, length, map, max};
-ghost use Rattle.std.specs.Prelude.{reverse, true};
-ghost use Rattle.iref.specs.{Characters.{uri_chars}, ComponentTexts.{spell_components}};
-ghost use Rattle.iref.specs.{Grammar.{IsUriReference}, Reference.{read_reference}, Rules.{InUtf8}};
-ghost use Rattle.iref.specs.{Parts.{uri_ref_part_texts}, Texts.{is_empty}};
-ghost use Rattle.iref.specs.{NormalList.{normal_segments}, Components.{text_of}};
-ghost use Rattle.iref.specs.{Paths.{path_value}, Key.{are_alike}, References.{reference_value}};
-ghost use Rattle.iref.specs.{CountedEquality.{IsCountedAnswer}, PathKey.{path_key}};
+ghost use Rattle.std.specs.Prelude.{◌≡◌, ◌↔◌, IfOk, MatchOption, count_by, fold, length, map, max, reverse, true};
+ghost use Rattle.iref.specs.{Characters.{uri_chars}, ComponentTexts.{spell_components}, Grammar.{IsUriReference}};
+ghost use Rattle.iref.specs.{Reference.{read_reference}, Rules.{InUtf8}, Parts.{uri_ref_part_texts}, Texts.{is_empty}};
+ghost use Rattle.iref.specs.{NormalList.{normal_segments}, Components.{text_of}, Paths.{path_value}, Key.{are_alike}};
+ghost use Rattle.iref.specs.{References.{reference_value}, CountedEquality.{IsCountedAnswer}, PathKey.{path_key}};
 
 pub mod cache;
 pub mod context;

@@ -1,6 +1,6 @@
 //! References of IRIs, compared by their mappings.
-ghost use Rattle.iref.specs.{Key.{are_alike}, References.{reference_buf_value, reference_value}};
 ghost use Rattle.std.specs.Prelude.{◌≡◌, IfOk};
+ghost use Rattle.iref.specs.{Key.{are_alike}, References.{reference_buf_value, reference_value}};
 
 use iref::{IriRef, IriRefBuf, Memory};
 use std::alloc::Global;

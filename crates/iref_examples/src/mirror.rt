@@ -1,8 +1,7 @@
 //! Links rewritten relative to their page (RFC 3986 section 5.2).
 ghost use Rattle.std.specs.Prelude.{IfOk, MatchOption};
-ghost use Rattle.iref.specs.{Characters.{uri_chars}, Grammar.{IsUri, IsUriReference}};
-ghost use Rattle.iref.specs.{Reference.{read_reference}, Rules.{InUtf8}};
-ghost use Rattle.iref.specs.References.{reference_buf_value, reference_value};
+ghost use Rattle.iref.specs.{Characters.{uri_chars}, Grammar.{IsUri, IsUriReference}, Reference.{read_reference}};
+ghost use Rattle.iref.specs.{Rules.{InUtf8}, References.{reference_buf_value, reference_value}};
 ghost use Rattle.iref_examples.specs.Links.{IsRelinked};
 
 use iref::Memory;

@@ -1,8 +1,8 @@
 //! Which component of a text keeps it from being an IRI reference, and where.
 ghost use Rattle.std.specs.Prelude.{◌≡◌, Some, MatchResult};
-ghost use Rattle.iref.specs.{BytePlaces.{fault_value}, Faults.{fault_of_reference}};
-ghost use Rattle.iref.specs.{Characters.{iri_chars}, ComponentTexts.{spell_components}};
-ghost use Rattle.iref.specs.{Grammar.{IsUriReference}, Reference.{read_reference}, Rules.{InUtf8}};
+ghost use Rattle.iref.specs.{BytePlaces.{fault_value}, Faults.{fault_of_reference}, Characters.{iri_chars}};
+ghost use Rattle.iref.specs.{ComponentTexts.{spell_components}, Grammar.{IsUriReference}, Reference.{read_reference}};
+ghost use Rattle.iref.specs.Rules.{InUtf8};
 ghost use Rattle.iref_examples.specs.Components.{IsChecked, IsFirstOutside};
 
 use iref::iri::{Authority, Fragment, Path, Query, Scheme};

@@ -1,6 +1,5 @@
 //! Which lines of a text are no IRI references, and why.
-ghost use Rattle.std.specs.Prelude.{◌≡◌, IfOk, map};
-ghost use Rattle.std.specs.Str.Lines.{lines};
+ghost use Rattle.std.specs.{Prelude.{◌≡◌, IfOk, map}, Str.Lines.{lines}};
 ghost use Rattle.iref_examples.specs.WrongLines.{line_and_fault, wrong_lines};
 
 use iref::{Fault, IriRef, Memory};

@@ -2,10 +2,10 @@
 
 ghost use Rattle.std.specs.{List.{common_prefix_len}, Prelude.{◌≡◌, ◌-◌, ◌≤◌, length, take}};
 ghost use Rattle.std.specs.Cmp.Lexicographic.{slice_cmp};
+ghost use Rattle.percent_encoding.specs.Percent.{percent_decode};
 ghost use Rattle.iref_grammar.specs.{text_order};
 ghost use Rattle.iref_model.specs.PathSuffix.{same_decoded};
 ghost use Rattle.iref_path.specs.NormalItems.{IsSound, decoded_left, normal_left};
-ghost use Rattle.percent_encoding.specs.Percent.{percent_decode};
 
 use crate::normal_items::NormalItems;
 use iref_parse::decoded::decoded_cmp;

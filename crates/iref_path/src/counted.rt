@@ -1,10 +1,8 @@
 //! Equality of paths: one scan of both from the back, with a count of the segments read.
 
 ghost use Rattle.std.specs.Prelude.{◌≡◌, ◌≢◌, ◌↔◌, ◌+◌, ◌-◌, ◌<◌, ◌≤◌, ◌^◌, ◌∷◌, true};
-ghost use Rattle.iref_model.specs.{read_path, items_compared, IsCountedAnswer, path_key};
-ghost use Rattle.iref_model.specs.PathFunctions.{segment_count};
-ghost use Rattle.iref_path.specs.CountedPath.{AreCounted, HaveRoom, IsAnswer};
-ghost use Rattle.iref_path.specs.CountedPath.{IsCountable, items_unread};
+ghost use Rattle.iref_model.specs.{read_path, items_compared, IsCountedAnswer, path_key, PathFunctions.{segment_count}};
+ghost use Rattle.iref_path.specs.CountedPath.{AreCounted, HaveRoom, IsAnswer, IsCountable, items_unread};
 
 use crate::segments::{last_segment, split_root};
 use crate::staying_names::name_stays;
@@ -21,9 +19,8 @@ pub struct CountedPath<'a> {
 }
 
 impl<'a> CountedPath<'a> {
-    ghost use Rattle.iref_path.specs.CountedPath.{GivesItem, GivesSegment, HasRoom, IsCountable};
-    ghost use Rattle.iref_path.specs.CountedPath.{IsCounted, IsWhole, all_items_unread, item_given};
-    ghost use Rattle.iref_path.specs.CountedPath.{items_unread, path_unread};
+    ghost use Rattle.iref_path.specs.CountedPath.{GivesItem, GivesSegment, HasRoom, IsCountable, IsCounted, IsWhole};
+    ghost use Rattle.iref_path.specs.CountedPath.{all_items_unread, item_given, items_unread, path_unread};
 
     /// The path, of which nothing has been read.
     #[tactic(auto, using(crate::proofs::CountedPathLemmas::sizes), unfolding(crate::specs::CountedPath::unread_in))]

@@ -1,15 +1,13 @@
 //! The normal list of a path that stands after an authority, written forward (RFC 3986 section
 //! 5.2.4). A `..` cuts off what was written last.
 
-ghost use Rattle.iref_grammar.specs.declared.context.PathContext.{PathContext};
-ghost use Rattle.iref_grammar.specs.Texts.{all_but_last};
-ghost use Rattle.iref_grammar.specs.{is_empty, pieces_at, read_path, slash};
-ghost use Rattle.iref_grammar.specs.{spell_path, Text};
+ghost use Rattle.std.specs.Prelude.{◌≡◌, ◌≢◌, ◌<◌, ◌≤◌, ◌||◌, [], ◌∷◌, ◌++◌, List, drop, IfOk, length, MatchOption};
+ghost use Rattle.std.specs.Prelude.{OnOk, take, true, vec_len};
+ghost use Rattle.iref_grammar.specs.{is_empty, pieces_at, read_path, slash, spell_path, Text};
+ghost use Rattle.iref_grammar.specs.{declared.context.PathContext.{PathContext}, Texts.{all_but_last}};
 ghost use Rattle.iref_model.specs.{PathSteps.{normalized}, NormalList.{is_name}};
-ghost use Rattle.iref_path.specs.Forward.{Follows, IsBehindDots, forward, popped_text};
-ghost use Rattle.iref_path.specs.{MergedPaths.{path_after}, Spelling.{each_closed}};
-ghost use Rattle.std.specs.Prelude.{◌≡◌, ◌≢◌, ◌<◌, ◌≤◌, ◌||◌, [], ◌∷◌, ◌++◌, List};
-ghost use Rattle.std.specs.Prelude.{drop, IfOk, length, MatchOption, OnOk, take, true, vec_len};
+ghost use Rattle.iref_path.specs.{Forward.{Follows, IsBehindDots, forward, popped_text}, MergedPaths.{path_after}};
+ghost use Rattle.iref_path.specs.Spelling.{each_closed};
 
 use crate::segments::{last_slash, split_root};
 use iref_error::Memory;

@@ -1,19 +1,15 @@
 //! The text of a path, which is measured before it is written (RFC 3986 sections 5.2.3 and 5.2.4).
 
-ghost use Rattle.iref_grammar.specs.{alone, slash, read_path, spell_path, is_path, is_empty};
-ghost use Rattle.iref_grammar.specs.Texts.{pieces_at};
+ghost use Rattle.std.specs.Prelude.{◌||◌, ◌&&◌, ◌≡◌, ◌+◌, ◌*◌, ◌<◌, ◌≤◌, ◌^◌, ◌++◌, IfOk, Bool, Some, [], codes, false};
+ghost use Rattle.std.specs.{Prelude.{length, replicate, true, ℕ}, Fmt.{WritesOnOk}, String.{string_bytes}};
+ghost use Rattle.iref_grammar.specs.{alone, slash, read_path, spell_path, is_path, is_empty, Texts.{pieces_at}};
 ghost use Rattle.iref_model.specs.{Guard.{guarded}, PathSteps.{normalized}};
 ghost use Rattle.iref_parse.specs.Dots.{has_dot_segment};
 ghost use Rattle.iref_path.specs.Bodies.{after_front, parents_then};
 ghost use Rattle.iref_path.specs.MergedPaths.{merged_list, merged_path, path_after};
-ghost use Rattle.iref_path.specs.MeasuredPaths.{IsMeasured, measured_text};
-ghost use Rattle.iref_path.specs.{Pieces.{pieces_if_some}, Spelling.{each_closed}};
-ghost use Rattle.iref_path.specs.{NormalItems.{IsSound}, StepsBetween.{path_between}};
-ghost use Rattle.iref_path.specs.{NormalItems.{normal_left}, Written.{WritesBefore}};
-ghost use Rattle.std.specs.Prelude.{◌||◌, ◌&&◌, ◌≡◌, ◌+◌, ◌*◌, ◌<◌, ◌≤◌, ◌^◌, ◌++◌, IfOk};
-ghost use Rattle.std.specs.Prelude.{Bool, Some, [], codes, false, length, replicate, true, ℕ};
-ghost use Rattle.std.specs.{Fmt.{WritesOnOk}, String.{string_bytes}};
-ghost use Rattle.iref_path.specs.NormalItems.{first_or};
+ghost use Rattle.iref_path.specs.{MeasuredPaths.{IsMeasured, measured_text}, Pieces.{pieces_if_some}};
+ghost use Rattle.iref_path.specs.{Spelling.{each_closed}, NormalItems.{IsSound, normal_left, first_or}};
+ghost use Rattle.iref_path.specs.{StepsBetween.{path_between}, Written.{WritesBefore}};
 ghost use Rattle.iref_path.specs.Spelling as spelling;
 
 use crate::measured_body::Body;

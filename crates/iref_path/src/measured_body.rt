@@ -1,8 +1,7 @@
 //! What follows the root and the guard in the text of a path.
 
-ghost use Rattle.iref_path.specs.Bodies.{IsBody, after_front, body_text, parents_then};
-ghost use Rattle.iref_path.specs.{Written.{WritesBefore}};
 ghost use Rattle.std.specs.{Fmt.{WritesOnOk}, Prelude.{◌≡◌, ◌<◌, ◌≤◌, ◌^◌, length}};
+ghost use Rattle.iref_path.specs.{Bodies.{IsBody, after_front, body_text, parents_then}, Written.{WritesBefore}};
 
 use crate::normal_items::NormalItems;
 use crate::shown::{show_items, show_parents};

@@ -9,11 +9,9 @@ ghost use Rattle.std.specs.{Cmp.Lexicographic.{slice_cmp}, List.{list_any}};
 ghost use Rattle.std.specs.Prelude.{◌≡◌, ◌∷◌, ◌<◌, ◌≤◌, IfSome, MatchOption, false, fold, length, map};
 ghost use Rattle.percent_encoding.specs.Percent.{percent_decode};
 ghost use Rattle.iref_grammar.specs.{read_path, slash, text_order, Texts.{pieces_at}};
-ghost use Rattle.iref_model.specs.{is_dot_dot, normal_segments, path_key, path_key_cmp};
-ghost use Rattle.iref_model.specs.{fed_from_the_back, fed_path};
+ghost use Rattle.iref_model.specs.{is_dot_dot, normal_segments, path_key, path_key_cmp, fed_from_the_back, fed_path};
 ghost use Rattle.iref_parse.specs.Dots.{is_some_dotted};
-ghost use Rattle.iref_path.specs.Named.{begins_with_dot_slash, named, rank};
-ghost use Rattle.iref_path.specs.Pieces.{pieces_if_some};
+ghost use Rattle.iref_path.specs.{Named.{begins_with_dot_slash, named, rank}, Pieces.{pieces_if_some}};
 ghost use Rattle.iref_path.specs.NormalItems.{IsSound, decoded_left};
 
 use crate::compare_lists::{compare_lists, items_cmp};

@@ -1,12 +1,10 @@
 //! The steps that lead from one text of segments to another, found on the texts: what both begin
 //! with is passed over.
 
+ghost use Rattle.std.specs.Prelude.{◌≡◌, ◌+◌, ◌*◌, ◌^◌, ◌<◌, ◌≤◌, ◌++◌, IfNone, IfSome, [], codes, length, replicate};
 ghost use Rattle.iref_grammar.specs.{slash, Texts.{all_but_last, pieces_at}};
-ghost use Rattle.iref_model.specs.{normal_segments, read_path, Relative.{directory_names}};
-ghost use Rattle.iref_model.specs.Relative.{steps_between};
+ghost use Rattle.iref_model.specs.{normal_segments, read_path, Relative.{directory_names, steps_between}};
 ghost use Rattle.iref_path.specs.{NormalItems.{IsSound, first_or, normal_left}, StepsBetween.{text_steps, with_last}};
-ghost use Rattle.std.specs.Prelude.{◌≡◌, ◌+◌, ◌*◌, ◌^◌, ◌<◌, ◌≤◌, ◌++◌, IfNone, IfSome, [], codes, length};
-ghost use Rattle.std.specs.Prelude.{replicate};
 
 use crate::compare_lists::compare_lists;
 use crate::normal_items::NormalItems;

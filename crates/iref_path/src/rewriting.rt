@@ -1,15 +1,12 @@
 //! A path rewritten over its own bytes, from the back (RFC 3986 section 5.2.4). What is written
 //! never passes what is not yet read.
 
-ghost use Rattle.std.specs.Prelude.{◌≡◌, ◌+◌, ◌-◌, ◌<◌, ◌≤◌, ◌^◌, ◌∷◌, ◌++◌, []};
-ghost use Rattle.std.specs.Prelude.{false, length, slice_range, take, vec_len};
-ghost use Rattle.std.specs.{List.{splice}, Str.{IsUtf8}};
-ghost use Rattle.std.specs.String.{string_bytes, string_len};
+ghost use Rattle.std.specs.Prelude.{◌≡◌, ◌+◌, ◌-◌, ◌<◌, ◌≤◌, ◌^◌, ◌∷◌, ◌++◌, [], false, length, slice_range, take};
+ghost use Rattle.std.specs.{Prelude.{vec_len}, List.{splice}, Str.{IsUtf8}, String.{string_bytes, string_len}};
 ghost use Rattle.iref_model.specs.{read_path, spell_path, open_before, staying_before, normalized};
-ghost use Rattle.iref_path.specs.Rewriting.{items_text, pieces_before, rewritten};
-ghost use Rattle.iref_path.specs.{Rewriting.{rewritten_at}, Spelling.{each_closed}};
-ghost use Rattle.iref_path.specs.Written.{WritesBefore};
 ghost use Rattle.iref_splice.specs.Changes.{part_at};
+ghost use Rattle.iref_path.specs.Rewriting.{items_text, pieces_before, rewritten, rewritten_at};
+ghost use Rattle.iref_path.specs.{Spelling.{each_closed}, Written.{WritesBefore}};
 
 use crate::normal_items::{leading_parents, survey_items};
 use crate::segments::split_root;

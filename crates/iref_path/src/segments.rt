@@ -1,9 +1,8 @@
 //! The segments of a text, taken from either end.
 
-ghost use Rattle.std.specs.Prelude.{◌≡◌, ◌+◌, ◌≤◌, ◌++◌, ◌∷◌, ◌==◌, [], length};
-ghost use Rattle.std.specs.Prelude.{true, false, MatchOption, count_by, drop, take};
-ghost use Rattle.iref_grammar.specs.{slash, pieces_at, read_path};
-ghost use Rattle.iref_grammar.specs.Texts.{all_but_last};
+ghost use Rattle.std.specs.Prelude.{◌≡◌, ◌+◌, ◌≤◌, ◌++◌, ◌∷◌, ◌==◌, [], length, true, false, MatchOption, count_by};
+ghost use Rattle.std.specs.Prelude.{drop, take};
+ghost use Rattle.iref_grammar.specs.{slash, pieces_at, read_path, Texts.{all_but_last}};
 ghost use Rattle.iref_path.specs.Pieces.{ShareFront, pieces_if_some};
 ghost use Rattle.iref_path.specs.Slashes.{IsLastSlash, LacksSlashFrom, slash_mask};
 

@@ -1,16 +1,13 @@
 //! The text of a normalized path, which is measured and written from its end (RFC 3986 section
 //! 5.2.4).
 
-ghost use Rattle.std.specs.Prelude.{◌≡◌, ◌+◌, ◌-◌, ◌<◌, ◌≤◌, ◌^◌, ◌||◌, ◌&&◌, ◌==◌, ◌++◌};
-ghost use Rattle.std.specs.Prelude.{true, [], codes, length, replicate, IfOk, OnErr, OnOk};
-ghost use Rattle.std.specs.{List.{join_with_byte}};
-ghost use Rattle.std.specs.{List.{list_any}, String.{string_bytes}};
+ghost use Rattle.std.specs.Prelude.{◌≡◌, ◌+◌, ◌-◌, ◌<◌, ◌≤◌, ◌^◌, ◌||◌, ◌&&◌, ◌==◌, ◌++◌, true, [], codes, length};
+ghost use Rattle.std.specs.{Prelude.{replicate, IfOk, OnErr, OnOk}, List.{join_with_byte, list_any}};
+ghost use Rattle.std.specs.String.{string_bytes};
 ghost use Rattle.iref_grammar.specs.{is_path_in, colon, slash, read_path, spell_path, is_path};
 ghost use Rattle.iref_model.specs.PathSteps.{normalized};
-ghost use Rattle.iref_path.specs.{PathParts.{is_path_after}, NormalItems.{first_or}};
-ghost use Rattle.iref_path.specs.{Spelling.{each_closed, normal_in}, Stacks.{in_order}};
-ghost use Rattle.iref_path.specs.Stacks.{stacked_text};
-ghost use Rattle.iref_path.specs.NormalItems.{IsSound, normal_left};
+ghost use Rattle.iref_path.specs.{PathParts.{is_path_after}, NormalItems.{first_or, IsSound, normal_left}};
+ghost use Rattle.iref_path.specs.{Spelling.{each_closed, normal_in}, Stacks.{in_order, stacked_text}};
 ghost use Rattle.iref_path.specs.Written.{WritesBefore};
 ghost use Rattle.iref_path.specs.Spelling as spelling;
 

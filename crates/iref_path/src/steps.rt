@@ -1,11 +1,9 @@
 //! The edits of a path, each one step, by its text (RFC 3986 sections 3.3 and 5.2.4).
 ghost use Rattle.std.specs.Prelude.{◌≡◌, ◌++◌, true};
-ghost use Rattle.iref_splice.specs.Changes.{IsNoLonger, IsWithin, changed};
 ghost use Rattle.iref_grammar.specs.{is_segment, is_path, read_path, spell_path};
-ghost use Rattle.iref_model.specs.PathSteps.{lazy_pushed, pushed, followed, popped, closed_path};
-ghost use Rattle.iref_model.specs.PathSteps.{cleared, replaced};
-ghost use Rattle.iref_path.specs.PathParts.{is_path_after, StepsBy};
-ghost use Rattle.iref_path.specs.StepTexts.{closed_by};
+ghost use Rattle.iref_model.specs.PathSteps.{lazy_pushed, pushed, followed, popped, closed_path, cleared, replaced};
+ghost use Rattle.iref_splice.specs.Changes.{IsNoLonger, IsWithin, changed};
+ghost use Rattle.iref_path.specs.{PathParts.{is_path_after, StepsBy}, StepTexts.{closed_by}};
 
 use crate::guard::guard_of;
 use crate::segments::{last_segment, split_root};

@@ -1,11 +1,10 @@
 //! What is left of a path after a prefix, by normal lists.
 
+ghost use Rattle.std.specs.Prelude.{◌≡◌, ◌+◌, ◌<◌, ◌^◌, IfOk, IfSome, IsNone, IsOk, length, option_map, true};
+ghost use Rattle.std.specs.String.{string_bytes};
 ghost use Rattle.iref_grammar.specs.{PathValue.{read_path, spell_path}, Tests.{is_path}};
 ghost use Rattle.iref_model.specs.PathSuffix.{path_suffix};
-ghost use Rattle.iref_path.specs.{Spelling.{each_closed}, Suffixes.{items_path}};
-ghost use Rattle.iref_path.specs.NormalItems.{IsSound, normal_left};
-ghost use Rattle.std.specs.Prelude.{◌≡◌, ◌+◌, ◌<◌, ◌^◌, IfOk, IfSome, IsNone, IsOk, length};
-ghost use Rattle.std.specs.{Prelude.{option_map, true}, String.{string_bytes}};
+ghost use Rattle.iref_path.specs.{Spelling.{each_closed}, Suffixes.{items_path}, NormalItems.{IsSound, normal_left}};
 
 use crate::compare_lists::compare_lists;
 use crate::measured::MeasuredPath;

@@ -1,9 +1,8 @@
 //! What holds a path that is rewritten in its own bytes (RFC 3986 section 5.2.4).
 ghost use Rattle.std.specs.Prelude.{◌≡◌, ◌+◌, ◌-◌, ◌≤◌, true, length};
-ghost use Rattle.iref_splice.specs.Changes.{part_at};
 ghost use Rattle.iref_grammar.specs.Contexts.{is_path_in};
-ghost use Rattle.iref_path.specs.PathParts.{is_path_after};
-ghost use Rattle.iref_path.specs.Rewriting.{rewritten, rewritten_at};
+ghost use Rattle.iref_splice.specs.Changes.{part_at};
+ghost use Rattle.iref_path.specs.{PathParts.{is_path_after}, Rewriting.{rewritten, rewritten_at}};
 
 use crate::path_part::PathPart;
 use crate::rewriting::rewrite;

@@ -1,14 +1,12 @@
 //! Borrowed references (RFC 3986 sections 3 and 4.1).
-ghost use Rattle.std.specs.Prelude.{IfOk, IfSome, is_some, ◌≡◌, true, [], ◌∷◌, Some, None};
-ghost use Rattle.std.specs.Prelude.{option_map};
+ghost use Rattle.std.specs.Prelude.{IfOk, IfSome, is_some, ◌≡◌, true, [], ◌∷◌, Some, None, option_map};
+ghost use Rattle.iref_component.specs.{text_of, spell_components, hierarchy, spell, hash_sign, spell_authority};
+ghost use Rattle.iref_component.specs.{with_query, with_fragment, user_info_of, host_of, port_of, base_of, spell_path};
+ghost use Rattle.iref_component.specs.{before};
 ghost use Rattle.iref_reference_text.specs.{AreComponents, is_readable, texts_of, value_of};
-ghost use Rattle.iref_component.specs.{text_of, spell_components, hierarchy, spell, hash_sign};
-ghost use Rattle.iref_component.specs.{spell_authority, with_query, with_fragment};
-ghost use Rattle.iref_component.specs.{user_info_of, host_of, port_of, base_of, spell_path, before};
-ghost use Rattle.iref_reference.specs.Parts.{part_texts, parts_value, uri_ref_part_texts};
-ghost use Rattle.iref_reference.specs.Parts.{uri_ref_parts_value};
-ghost use Rattle.iref_reference.specs.References.{reference_text, reference_value};
-ghost use Rattle.iref_reference.specs.References.{reference_buf_text, NarrowsToUri, ParsesReference};
+ghost use Rattle.iref_reference.specs.Parts.{part_texts, parts_value, uri_ref_part_texts, uri_ref_parts_value};
+ghost use Rattle.iref_reference.specs.References.{reference_text, reference_value, reference_buf_text, NarrowsToUri};
+ghost use Rattle.iref_reference.specs.References.{ParsesReference};
 
 use crate::owned::ReferenceBuf;
 use crate::parts::{Parts, UriRefParts};

@@ -1,12 +1,11 @@
 //! Canonical texts of references (RFC 3986 section 6.2.2). Two references are equal exactly if their
 //! canonical texts are the same bytes.
 ghost use Rattle.std.specs.Prelude.{◌≡◌, true, bytes_eq, IfOk};
-ghost use Rattle.iref_component.specs.{key, read_reference, spell_components};
 ghost use Rattle.iref_parse.specs.ReferenceSlices.{texts_of, value_of};
+ghost use Rattle.iref_component.specs.{key, read_reference, spell_components};
 ghost use Rattle.iref_canonical.specs.Canonical.{canonical_text};
-ghost use Rattle.iref_reference.specs.CanonicalTexts.{AreEqualByTexts};
-ghost use Rattle.iref_reference.specs.References.{key_of_reference, key_of_reference_buf};
-ghost use Rattle.iref_reference.specs.References.{reference_buf_text, reference_text};
+ghost use Rattle.iref_reference.specs.{CanonicalTexts.{AreEqualByTexts}, References.{key_of_reference}};
+ghost use Rattle.iref_reference.specs.References.{key_of_reference_buf, reference_buf_text, reference_text};
 
 use crate::borrowed::{Reference, Uri, UriRef};
 use crate::owned::ReferenceBuf;

@@ -1,11 +1,11 @@
 //! References and URIs, borrowed and owned, are compared by their keys (RFC 3986 section 6.2.2).
-ghost use Rattle.std.proofs.Common.{rules, refl};
 ghost use Rattle.std.specs.Cmp.{on_total, on_equiv, po, partial_equiv_from_equiv, eq_by_cmp_equiv};
 ghost use Rattle.std.specs.{Ordering.{on, as_partial_cmp, eq_by_cmp}, Cmp.Rules.{comparing}};
-ghost use Rattle.iref_component.specs.{Comparisons.{ComparesBy}, key_cmp, fed_reference};
+ghost use Rattle.std.proofs.Common.{rules, refl};
+ghost use Rattle.iref_model.proofs.KeyOrderLemmas.{keys_total, fed_where_tied};
+ghost use Rattle.iref_component.specs.{key_cmp, fed_reference, Comparisons.{ComparesBy}};
 ghost use Rattle.iref_reference.specs.Parts.{uri_ref_parts_key, uri_parts_key};
 ghost use Rattle.iref_reference.specs.References.{key_of_reference, key_of_reference_buf};
-ghost use Rattle.iref_model.proofs.KeyOrderLemmas.{keys_total, fed_where_tied};
 
 use crate::borrowed::{Uri, UriRef};
 use crate::owned::ReferenceBuf;

@@ -1,13 +1,12 @@
 //! References that are composed of the components of others, and not written yet (RFC 3986 sections
 //! 5.2 and 5.3).
-ghost use Rattle.iref_reference_text.specs.MeasuredReferences.{IsComposed, measured_components};
-ghost use Rattle.iref_reference_text.specs.MeasuredReferences.{spell_texts};
-ghost use Rattle.iref_reference_text.specs.{AreComponents, Steps.{Spells}, is_readable, texts_of};
-ghost use Rattle.iref_reference_text.specs.{value_of};
+ghost use Rattle.std.specs.Prelude.{◌≡◌, ◌≤◌, ◌++◌, drop, IfOk, length, OnErr, OnOk, Some, true};
 ghost use Rattle.iref_grammar.specs.{Rules.{Text}, Texts.{is_empty}};
 ghost use Rattle.iref_model.specs.{Relative.{relative_to}, Resolution.{resolved}};
+ghost use Rattle.iref_reference_text.specs.{AreComponents, is_readable, texts_of, value_of};
+ghost use Rattle.iref_reference_text.specs.MeasuredReferences.{IsComposed, measured_components, spell_texts};
+ghost use Rattle.iref_reference_text.specs.Steps.{Spells};
 ghost use Rattle.iref_reference.specs.References.{reference_buf_text};
-ghost use Rattle.std.specs.Prelude.{◌≡◌, ◌≤◌, ◌++◌, drop, IfOk, length, OnErr, OnOk, Some, true};
 
 use crate::owned::ReferenceBuf;
 use crate::rule::{ReferenceRule, UriRule};

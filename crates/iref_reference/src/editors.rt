@@ -3,8 +3,7 @@ ghost use Rattle.std.specs.{Prelude.{◌≡◌, true, is_some, IfSome}, Borrow.{
 ghost use Rattle.iref_grammar.specs.{context_of, is_reference, offsets_of};
 ghost use Rattle.iref_component.specs.PathEdits.{Borrows, IsEditorOf};
 ghost use Rattle.iref_reference_text.specs.PathRanges.{IsPathOf, one_path, path_is_within};
-ghost use Rattle.iref_reference_text.specs.AuthorityRanges.{IsAuthorityOf, one_authority};
-ghost use Rattle.iref_reference_text.specs.AuthorityRanges.{authority_is_within};
+ghost use Rattle.iref_reference_text.specs.AuthorityRanges.{IsAuthorityOf, one_authority, authority_is_within};
 ghost use Rattle.iref_reference.specs.contracts.owned.ReferenceBuf.{the_row};
 ghost use Rattle.iref_reference.specs.References.{reference_buf_text, reference_buf_value};
 

@@ -2,9 +2,8 @@
 ghost use Rattle.std.specs.Prelude.{◌≡◌, ◌↔◌, None, option_map};
 ghost use Rattle.iref_grammar.specs.{InUtf8};
 ghost use Rattle.iref_fault.specs.BytePlaces.{fault_value};
+ghost use Rattle.iref_fault.proofs.FaultLemmas.{no_fault_of_reference, reference_invalid, no_fault_of_uri, uri_invalid};
 ghost use Rattle.iref_fault.specs.Faults as spec;
-ghost use Rattle.iref_fault.proofs.FaultLemmas.{no_fault_of_reference, reference_invalid};
-ghost use Rattle.iref_fault.proofs.FaultLemmas.{no_fault_of_uri, uri_invalid};
 
 use crate::borrowed::Reference;
 use crate::rule::{ReferenceRule, UriRule};

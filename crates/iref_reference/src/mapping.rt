@@ -1,11 +1,9 @@
 //! IRIs as URIs (RFC 3987 section 3.1). Each byte beyond ASCII is escaped, with upper-case digits,
 //! and all else stays, escapes too. So an IRI and its mapping are equal by their keys.
+ghost use Rattle.std.specs.{Char.{is_ascii}, List.{list_all}, Prelude.{◌≡◌, IfErr, IfOk, IsOk, true}};
 ghost use Rattle.iref_grammar.specs.{uri_chars, IsUri, IsUriReference, InUtf8};
-ghost use Rattle.iref_reference.specs.Mappings.{IsMappingOf, KeepsEquality};
-ghost use Rattle.iref_reference.specs.References.{key_of_reference, key_of_reference_buf};
-ghost use Rattle.iref_reference.specs.References.{reference_buf_text, reference_text};
-ghost use Rattle.std.specs.{Char.{is_ascii}, List.{list_all}, Prelude.{◌≡◌, IfErr, IfOk, IsOk}};
-ghost use Rattle.std.specs.Prelude.{true};
+ghost use Rattle.iref_reference.specs.{Mappings.{IsMappingOf, KeepsEquality}, References.{key_of_reference}};
+ghost use Rattle.iref_reference.specs.References.{key_of_reference_buf, reference_buf_text, reference_text};
 
 use crate::borrowed::{Reference, Uri, UriRef};
 use crate::owned::{ReferenceBuf, UriBuf, UriRefBuf};

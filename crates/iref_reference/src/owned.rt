@@ -1,16 +1,12 @@
 //! References that own their text (RFC 3986 sections 3 and 4.1).
-ghost use Rattle.std.specs.Prelude.{◌≡◌, ◌++◌, true, [], ◌∷◌, Some, None, IfOk, option_map};
-ghost use Rattle.std.specs.String.{string_bytes};
-ghost use Rattle.iref_component.specs.{colon, hash_sign, spell_authority, before, spell_path};
-ghost use Rattle.iref_component.specs.{spell_components, hierarchy, spell, with_query, offsets_of};
-ghost use Rattle.iref_component.specs.{with_fragment, user_info_of, host_of, port_of, base_of};
-ghost use Rattle.iref_component.specs.{text_of};
+ghost use Rattle.std.specs.{Prelude.{◌≡◌, ◌++◌, true, [], ◌∷◌, Some, None, IfOk, option_map}, String.{string_bytes}};
+ghost use Rattle.iref_component.specs.{colon, hash_sign, spell_authority, before, spell_path, spell_components};
+ghost use Rattle.iref_component.specs.{hierarchy, spell, with_query, offsets_of, with_fragment, user_info_of, host_of};
+ghost use Rattle.iref_component.specs.{port_of, base_of, text_of};
 ghost use Rattle.iref_reference_text.specs.{is_readable};
-ghost use Rattle.iref_reference.specs.References.{reference_text, reference_value};
-ghost use Rattle.iref_reference.specs.References.{reference_buf_text, reference_buf_value};
-ghost use Rattle.iref_reference.specs.References.{OwnerNarrowsToUri, ParsesReferenceBuf};
-ghost use Rattle.iref_reference.specs.Parts.{uri_ref_part_texts, uri_ref_parts_value, part_texts};
-ghost use Rattle.iref_reference.specs.Parts.{parts_value};
+ghost use Rattle.iref_reference.specs.References.{reference_text, reference_value, reference_buf_text};
+ghost use Rattle.iref_reference.specs.References.{reference_buf_value, OwnerNarrowsToUri, ParsesReferenceBuf};
+ghost use Rattle.iref_reference.specs.Parts.{uri_ref_part_texts, uri_ref_parts_value, part_texts, parts_value};
 
 use crate::borrowed::{Reference, UriRef};
 use crate::parts::{Parts, UriRefParts};

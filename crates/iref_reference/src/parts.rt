@@ -1,18 +1,15 @@
 //! The components of references and of URIs.
-ghost use Rattle.std.specs.Prelude.{MatchResult, ◌≡◌, ◌↔◌, ⊤, true, Option, Some, option_map};
-ghost use Rattle.std.specs.Prelude.{IfOk, IfSome, is_some};
-ghost use Rattle.std.specs.{Str.{str_to_ascii_lowercase}, Ordering.{eq_by_cmp}};
-ghost use Rattle.std.specs.Option.{option_copied};
+ghost use Rattle.std.specs.Prelude.{MatchResult, ◌≡◌, ◌↔◌, ⊤, true, Option, Some, option_map, IfOk, IfSome, is_some};
+ghost use Rattle.std.specs.{Str.{str_to_ascii_lowercase}, Ordering.{eq_by_cmp}, Option.{option_copied}};
 ghost use Rattle.std.proofs.{Common.{ap}, lemmas.Option.{same_Some}};
-ghost use Rattle.iref_reference_text.specs.{texts_of, AreComponents, spell_components, is_scheme, none_or};
-ghost use Rattle.iref_reference_text.specs.{is_readable, is_reference, read_reference, Text, InUtf8};
+ghost use Rattle.iref_model.proofs.{PartTieLemmas.{lower_case_tie, parts_tie}, TieLemmas.{texts_tie}};
 ghost use Rattle.iref_component.specs.{IsUri, IsUriReference, key_cmp, fed_reference, text_of};
 ghost use Rattle.iref_component.specs.{parts_value as authority_parts_value};
-ghost use Rattle.iref_reference.specs.Parts.{part_texts, parts_value, uri_ref_part_texts};
-ghost use Rattle.iref_reference.specs.Parts.{key_of_parts, uri_ref_parts_key, scheme_key};
-ghost use Rattle.iref_reference.specs.Parts.{uri_part_texts, uri_parts_value, uri_ref_parts_value};
-ghost use Rattle.iref_model.proofs.PartTieLemmas.{lower_case_tie, parts_tie};
-ghost use Rattle.iref_model.proofs.TieLemmas.{texts_tie};
+ghost use Rattle.iref_reference_text.specs.{texts_of, AreComponents, spell_components, is_scheme, none_or, is_readable};
+ghost use Rattle.iref_reference_text.specs.{is_reference, read_reference, Text, InUtf8};
+ghost use Rattle.iref_reference.specs.Parts.{part_texts, parts_value, uri_ref_part_texts, key_of_parts};
+ghost use Rattle.iref_reference.specs.Parts.{uri_ref_parts_key, scheme_key, uri_part_texts, uri_parts_value};
+ghost use Rattle.iref_reference.specs.Parts.{uri_ref_parts_value};
 
 use iref_component::authority::Authority;
 use iref_component::authority_parts::AuthorityParts;

@@ -1,13 +1,11 @@
 //! References that lead from a base to a target, the way back from resolution (RFC 3986 section
 //! 5.2).
-ghost use Rattle.iref_reference_text.specs.{Steps.{Spells}, is_readable};
-ghost use Rattle.iref_model.specs.Relative.{relative_to};
-ghost use Rattle.iref_reference.specs.Parts.{parts_value, uri_ref_parts_value};
-ghost use Rattle.iref_reference.specs.References.{reference_buf_text, reference_buf_value};
-ghost use Rattle.iref_reference.specs.References.{reference_text, reference_value};
-ghost use Rattle.iref_reference.specs.Relatives.{ClimbsNoMore, IsRelative, LeadsThere};
-ghost use Rattle.iref_reference.specs.Relatives.{LeadsToTarget, WritesPathAlone};
 ghost use Rattle.std.specs.Prelude.{◌≡◌, IfOk, true};
+ghost use Rattle.iref_model.specs.Relative.{relative_to};
+ghost use Rattle.iref_reference_text.specs.{is_readable, Steps.{Spells}};
+ghost use Rattle.iref_reference.specs.{Parts.{parts_value, uri_ref_parts_value}, References.{reference_buf_text}};
+ghost use Rattle.iref_reference.specs.References.{reference_buf_value, reference_text, reference_value};
+ghost use Rattle.iref_reference.specs.Relatives.{ClimbsNoMore, IsRelative, LeadsThere, LeadsToTarget, WritesPathAlone};
 
 use crate::borrowed::{Reference, UriRef};
 use crate::composed::{Composed, ComposedUriRef};

@@ -1,13 +1,12 @@
 //! References resolved against a base, strict (RFC 3986 section 5.2).
-ghost use Rattle.iref_grammar.specs.{Grammar.{IsUri, IsUriReference}, Rules.{InUtf8}};
-ghost use Rattle.iref_error.specs.Tried.{TellsInvalid};
-ghost use Rattle.iref_reference_text.specs.{Steps.{Spells}, is_readable, value_of};
-ghost use Rattle.iref_component.specs.{is_reference, is_uri, read_reference};
-ghost use Rattle.iref_model.specs.Resolution.{resolved};
-ghost use Rattle.iref_reference.specs.Parts.{parts_value, uri_parts_value};
-ghost use Rattle.iref_reference.specs.References.{reference_buf_text, reference_text};
-ghost use Rattle.iref_reference.specs.Resolutions.{IsResolved};
 ghost use Rattle.std.specs.Prelude.{◌≡◌, IfOk, true};
+ghost use Rattle.iref_grammar.specs.{Grammar.{IsUri, IsUriReference}, Rules.{InUtf8}};
+ghost use Rattle.iref_model.specs.Resolution.{resolved};
+ghost use Rattle.iref_error.specs.Tried.{TellsInvalid};
+ghost use Rattle.iref_component.specs.{is_reference, is_uri, read_reference};
+ghost use Rattle.iref_reference_text.specs.{is_readable, value_of, Steps.{Spells}};
+ghost use Rattle.iref_reference.specs.Parts.{parts_value, uri_parts_value};
+ghost use Rattle.iref_reference.specs.{References.{reference_buf_text, reference_text}, Resolutions.{IsResolved}};
 
 mod owners;
 

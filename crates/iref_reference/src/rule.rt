@@ -1,15 +1,13 @@
 //! The rules of references and of URIs, and what both are compared by (RFC 3986 sections 3, 4.1
 //! and 6.2.2).
-ghost use Rattle.std.proofs.Common.{sym, ◌∙◌};
 ghost use Rattle.std.specs.Prelude.{◌≡◌, true, refl, is_some};
-ghost use Rattle.iref_component.specs.{IsUri, IsUriReference, read_reference, is_reference};
-ghost use Rattle.iref_component.specs.{is_uri, Text, CharTests};
+ghost use Rattle.std.proofs.Common.{sym, ◌∙◌};
 ghost use Rattle.iref_grammar.proofs.EmptyLemmas.{is_reference_empty};
 ghost use Rattle.iref_grammar.proofs.ReferenceRuleLemmas.{Decides-is_uri_reference, Decides-is_uri};
-ghost use Rattle.iref_grammar.proofs.ComponentLemmas.{reference_if_uri, scheme_if_uri};
-ghost use Rattle.iref_grammar.proofs.ComponentLemmas.{uri_if_scheme};
-ghost use Rattle.iref_reference.specs.Comparisons.{by_components};
+ghost use Rattle.iref_grammar.proofs.ComponentLemmas.{reference_if_uri, scheme_if_uri, uri_if_scheme};
+ghost use Rattle.iref_component.specs.{IsUri, IsUriReference, read_reference, is_reference, is_uri, Text, CharTests};
 ghost use Rattle.iref_reference_text.proofs.BaseLemmas.{base_of_in_rule, base_of_in_uri_rule};
+ghost use Rattle.iref_reference.specs.Comparisons.{by_components};
 
 use crate::parts::{SchemePart, UriRefParts};
 use iref_component::key::Key;

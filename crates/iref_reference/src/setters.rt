@@ -1,9 +1,9 @@
 //! Owned values edited in place, a component at a time (RFC 3986 sections 3 and 4.2).
 ghost use Rattle.std.specs.Prelude.{Some, OnOk, IsNone, IsOk, option_map};
-ghost use Rattle.iref_component.specs.{path_value, read_authority, text_of};
-ghost use Rattle.iref_reference_text.specs.{with_authority, with_fragment, with_path, with_query};
-ghost use Rattle.iref_reference_text.specs.{with_scheme, PathRanges.{RemovesDots}};
 ghost use Rattle.iref_model.specs.ComponentSteps.{with_new_normal_path};
+ghost use Rattle.iref_component.specs.{path_value, read_authority, text_of};
+ghost use Rattle.iref_reference_text.specs.{with_authority, with_fragment, with_path, with_query, with_scheme};
+ghost use Rattle.iref_reference_text.specs.PathRanges.{RemovesDots};
 ghost use Rattle.iref_reference.specs.References.{Edits, reference_buf_value};
 
 pub mod copies;

@@ -2,8 +2,7 @@
 //! 6.2.2).
 ghost use Rattle.std.specs.Prelude.{◌≡◌, ◌++◌, IfOk, OnErr, OnOk};
 ghost use Rattle.iref_canonical.specs.SortKey.{sort_key};
-ghost use Rattle.iref_reference.specs.References.{key_of_reference, key_of_reference_buf};
-ghost use Rattle.iref_reference.specs.SortKeys.{SortsAs};
+ghost use Rattle.iref_reference.specs.{References.{key_of_reference, key_of_reference_buf}, SortKeys.{SortsAs}};
 
 use crate::borrowed::{Reference, Uri, UriRef};
 use crate::owned::ReferenceBuf;

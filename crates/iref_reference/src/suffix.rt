@@ -1,10 +1,9 @@
 //! What is left of a reference after a prefix (RFC 3986 section 6.2.2).
+ghost use Rattle.std.specs.Prelude.{◌≡◌, ◌&&◌, IfOk, IsNone, IsOk};
 ghost use Rattle.iref_model.specs.ReferenceSuffix.{reference_suffix};
 ghost use Rattle.iref_model.specs.Relative.{have_same_authority, have_same_scheme};
-ghost use Rattle.iref_reference.specs.{Parts.{uri_ref_parts_value}, References.{reference_value}};
-ghost use Rattle.iref_reference.specs.References.{reference_buf_value};
+ghost use Rattle.iref_reference.specs.{Parts.{uri_ref_parts_value}, References.{reference_value, reference_buf_value}};
 ghost use Rattle.iref_reference.specs.ReferenceSuffixes.{SpellsReferenceSuffix};
-ghost use Rattle.std.specs.Prelude.{◌≡◌, ◌&&◌, IfOk, IsNone, IsOk};
 
 use crate::borrowed::{Reference, UriRef};
 use crate::owned::ReferenceBuf;

@@ -5,10 +5,9 @@
 ghost use Rattle.std.specs.Prelude.{◌≡◌, IfSome, is_some};
 ghost use Rattle.iref_grammar.specs.{uri_chars, IsUri, IsUriReference, InUtf8};
 ghost use Rattle.iref_reference.specs.Conversions.{BecomesUri, OwnerBecomesUri, SomeIfIn};
-ghost use Rattle.iref_reference.specs.References.{reference_text, reference_value};
-ghost use Rattle.iref_reference.specs.References.{reference_buf_text, reference_buf_value};
-ghost use Rattle.iref_reference.specs.References.{NarrowsToUri};
-ghost use Rattle.iref_reference.specs.References.{OwnerNarrowsToUri, ParsesReferenceBuf};
+ghost use Rattle.iref_reference.specs.References.{reference_text, reference_value, reference_buf_text};
+ghost use Rattle.iref_reference.specs.References.{reference_buf_value, NarrowsToUri, OwnerNarrowsToUri};
+ghost use Rattle.iref_reference.specs.References.{ParsesReferenceBuf};
 
 use crate::borrowed::{Reference, Uri, UriRef};
 use crate::owned::{ReferenceBuf, UriBuf, UriRefBuf};

@@ -1,8 +1,7 @@
 //! Conversions between URIs and references, by the names of each family.
-ghost use Rattle.iref_reference.specs.References.{reference_text, reference_value};
-ghost use Rattle.iref_reference.specs.References.{reference_buf_text, reference_buf_value};
-ghost use Rattle.iref_reference.specs.References.{OwnerNarrowsToUri};
 ghost use Rattle.std.specs.Prelude.{◌≡◌, true, IfSome, is_some};
+ghost use Rattle.iref_reference.specs.References.{reference_text, reference_value, reference_buf_text};
+ghost use Rattle.iref_reference.specs.References.{reference_buf_value, OwnerNarrowsToUri};
 
 use crate::borrowed::{Uri, UriRef};
 use crate::owned::{UriBuf, UriRefBuf};

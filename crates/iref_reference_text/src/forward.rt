@@ -1,11 +1,10 @@
 //! The text of what a reference resolves to against a base with an authority, written forward (RFC
 //! 3986 sections 5.2.2 and 5.3).
-ghost use Rattle.iref_reference_text.specs.ComponentLengths.{lengths_of_texts};
-ghost use Rattle.iref_reference_text.specs.Fronts.{IsAround, IsSpelled};
+ghost use Rattle.std.specs.Prelude.{◌≡◌, ◌≢◌, ◌+◌, ◌||◌, [], IfOk, IfSome, length, true};
 ghost use Rattle.iref_grammar.specs.{is_empty, read_path, Reference.{context_of}};
 ghost use Rattle.iref_model.specs.{fits, read_reference, resolved};
 ghost use Rattle.iref_parse.specs.{texts_of, value_of};
-ghost use Rattle.std.specs.Prelude.{◌≡◌, ◌≢◌, ◌+◌, ◌||◌, [], IfOk, IfSome, length, true};
+ghost use Rattle.iref_reference_text.specs.{ComponentLengths.{lengths_of_texts}, Fronts.{IsAround, IsSpelled}};
 
 use crate::lengths::Lengths;
 use iref_error::Memory;

@@ -1,10 +1,9 @@
 //! The front part of a base's text that stays before a reference's text: what `d` resolves to
 //! against `http://a/b/c` is `http://a/b/` and `d` (RFC 3986 sections 5.2.3 and 5.3).
-ghost use Rattle.iref_reference_text.specs.ComponentLengths.{lengths_of_texts};
-ghost use Rattle.iref_reference_text.specs.Fronts.{IsFront, StaysBefore};
+ghost use Rattle.std.specs.Prelude.{◌≡◌, ◌≢◌, [], IfSome, is_some, true};
 ghost use Rattle.iref_grammar.specs.{AreComponents, read_reference};
 ghost use Rattle.iref_parse.specs.{texts_of, value_of};
-ghost use Rattle.std.specs.Prelude.{◌≡◌, ◌≢◌, [], IfSome, is_some, true};
+ghost use Rattle.iref_reference_text.specs.{ComponentLengths.{lengths_of_texts}, Fronts.{IsFront, StaysBefore}};
 
 use crate::base::base_slice;
 use crate::lengths::Lengths;

@@ -1,11 +1,11 @@
 //! How long the components of a reference are with their delimiters, from which all its offsets
 //! follow.
 ghost use Rattle.std.specs.Prelude.{◌≡◌, ◌+◌, ◌<◌, ◌^◌, length};
-ghost use Rattle.iref_reference_text.specs.ComponentLengths.{context_by, fragment_after, lengths_of_texts};
-ghost use Rattle.iref_reference_text.specs.ComponentLengths.{path_after, placed, query_after};
-ghost use Rattle.iref_reference_text.specs.ComponentLengths.{range_after, range_before, total_length};
 ghost use Rattle.iref_grammar.specs.{offsets_in, spell};
 ghost use Rattle.iref_parse.specs.{texts_of, value_of};
+ghost use Rattle.iref_reference_text.specs.ComponentLengths.{context_by, fragment_after, lengths_of_texts, path_after};
+ghost use Rattle.iref_reference_text.specs.ComponentLengths.{placed, query_after, range_after, range_before};
+ghost use Rattle.iref_reference_text.specs.ComponentLengths.{total_length};
 
 use iref_grammar::context::PathContext;
 use iref_grammar::offsets::Offsets;

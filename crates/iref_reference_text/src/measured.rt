@@ -1,15 +1,14 @@
 //! References that are measured before they are written: what one resolves to against a base,
 //! strict (RFC 3986 sections 5.2.2 and 5.3).
-ghost use Rattle.iref_reference_text.specs.ComponentLengths.{lengths_of_texts, with_mark};
-ghost use Rattle.iref_reference_text.specs.MeasuredReferences.{IsReady, spell_texts, measured_components};
-ghost use Rattle.iref_grammar.specs.{ComponentTexts.{spell_components}, Reference.{context_of}};
-ghost use Rattle.iref_grammar.specs.{Grammar.{colon}, Texts.{part_then, then_part}};
+ghost use Rattle.std.specs.{Fmt.{WritesOnOk}, Option.{option_copied}};
+ghost use Rattle.std.specs.Prelude.{◌≡◌, ◌+◌, ◌*◌, ◌<◌, ◌≤◌, ◌^◌, [], ◌∷◌, IfOk, is_some, length, true};
+ghost use Rattle.iref_grammar.specs.{ComponentTexts.{spell_components}, Reference.{context_of}, Grammar.{colon}};
+ghost use Rattle.iref_grammar.specs.Texts.{part_then, then_part};
 ghost use Rattle.iref_model.specs.{fits, normal, resolved, ComponentSteps.{guarded_reference}};
 ghost use Rattle.iref_parse.specs.ReferenceSlices.{value_of};
 ghost use Rattle.iref_path.specs.Written.{WritesBefore};
-ghost use Rattle.std.specs.Fmt.{WritesOnOk};
-ghost use Rattle.std.specs.{Option.{option_copied}, Prelude.{◌≡◌, ◌+◌, ◌*◌, ◌<◌, ◌≤◌, ◌^◌}};
-ghost use Rattle.std.specs.Prelude.{[], ◌∷◌, IfOk, is_some, length, true};
+ghost use Rattle.iref_reference_text.specs.ComponentLengths.{lengths_of_texts, with_mark};
+ghost use Rattle.iref_reference_text.specs.MeasuredReferences.{IsReady, spell_texts, measured_components};
 
 use crate::lengths::Lengths;
 use iref_error::Memory;

@@ -1,10 +1,10 @@
 //! What leads from a base to a target, the way back from resolution (RFC 3986 section 5.2).
+ghost use Rattle.std.specs.Prelude.{◌≡◌, ◌+◌, ◌*◌, ◌<◌, ◌^◌, length};
+ghost use Rattle.iref_model.specs.{relative_to, Relative.{is_same_place}};
+ghost use Rattle.iref_parse.specs.{AreComponents, spell_components, texts_of, value_of};
+ghost use Rattle.iref_path.specs.MeasuredPaths.{IsMeasured, measured_text};
 ghost use Rattle.iref_reference_text.specs.Relatives.{after_path, agree, may_end_here};
 ghost use Rattle.iref_reference_text.specs.MeasuredReferences.{IsReady, measured_components};
-ghost use Rattle.iref_parse.specs.{AreComponents, spell_components, texts_of, value_of};
-ghost use Rattle.iref_model.specs.{relative_to, Relative.{is_same_place}};
-ghost use Rattle.iref_path.specs.MeasuredPaths.{IsMeasured, measured_text};
-ghost use Rattle.std.specs.Prelude.{◌≡◌, ◌+◌, ◌*◌, ◌<◌, ◌^◌, length};
 
 use crate::measured::MeasuredReference;
 use iref_component::authority::Authority;

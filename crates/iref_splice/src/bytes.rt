@@ -1,9 +1,7 @@
 //! A range of a vector of bytes replaced in place.
-ghost use Rattle.std.specs.Prelude.{◌≡◌, ◌+◌, ◌≤◌, length, vec_len, OnOk};
-ghost use Rattle.std.specs.{Prelude.{OnErr, IsOk}, List.{splice}};
+ghost use Rattle.std.specs.{Prelude.{◌≡◌, ◌+◌, ◌≤◌, length, vec_len, OnOk, OnErr, IsOk}, List.{splice}};
 ghost use Rattle.iref_grammar.specs.Rules.{Text};
-ghost use Rattle.iref_splice.specs.Changes.{IsNoLonger, changed};
-ghost use Rattle.iref_splice.specs.Edited.{StandsIn, one_range};
+ghost use Rattle.iref_splice.specs.{Changes.{IsNoLonger, changed}, Edited.{StandsIn, one_range}};
 
 use crate::change::{Change, Span};
 use crate::target::{Part, Target};

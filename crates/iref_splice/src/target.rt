@@ -1,6 +1,5 @@
 //! What holds a part of a text that is edited in place.
-ghost use Rattle.std.specs.Prelude.{◌≡◌, ◌+◌, ◌≤◌, ℕ, Bool, true, length, OnOk, OnErr, IfOk, IsOk};
-ghost use Rattle.std.specs.Str.{IsUtf8};
+ghost use Rattle.std.specs.{Prelude.{◌≡◌, ◌+◌, ◌≤◌, ℕ, Bool, true, length, OnOk, OnErr, IfOk, IsOk}, Str.{IsUtf8}};
 ghost use Rattle.iref_grammar.specs.{Characters.{CharTests, AreAboveAscii}, Rules.{Text}};
 ghost use Rattle.iref_splice.specs.Changes.{IsNoLonger, IsWithin, changed_at, changed_part, part_at};
 

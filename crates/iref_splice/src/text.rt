@@ -2,8 +2,8 @@
 ghost use Rattle.std.specs.Prelude.{◌≡◌, ◌+◌, ◌≤◌, ◌++◌, [], length, OnOk, OnErr, IfOk, IsOk, IsNone};
 ghost use Rattle.std.specs.{Option.{option_copied}, String.{string_bytes}};
 ghost use Rattle.iref_grammar.specs.Texts.{part_then, then_part};
-ghost use Rattle.iref_splice.specs.Changes.{IsNoLonger, IsWithin, changed, changed_at};
-ghost use Rattle.iref_splice.specs.Changes.{changed_part, part_at, with_mark};
+ghost use Rattle.iref_splice.specs.Changes.{IsNoLonger, IsWithin, changed, changed_at, changed_part, part_at};
+ghost use Rattle.iref_splice.specs.Changes.{with_mark};
 
 use crate::bytes;
 use crate::change::{Change, Span};

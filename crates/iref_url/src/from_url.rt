@@ -1,8 +1,8 @@
 //! Owned values of the text of a URL.
 ghost use Rattle.std.specs.Prelude.{◌≡◌};
+ghost use Rattle.url.specs.Parts.{serialize};
 ghost use Rattle.iref_reference_text.specs.{Text, InUtf8, Parses};
 ghost use Rattle.iref_reference.specs.References.{reference_buf_text};
-ghost use Rattle.url.specs.Parts.{serialize};
 ghost use Rattle.iref_url.specs.declared.error.FromUrlError.TheVariants.{Invalid};
 
 use crate::error::FromUrlError;

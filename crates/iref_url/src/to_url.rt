@@ -1,7 +1,7 @@
 //! The URL that a text is parsed to.
 ghost use Rattle.std.specs.Prelude.{None};
-ghost use Rattle.iref_reference.specs.{Text, reference_text, reference_buf_text};
 ghost use Rattle.url.specs.Parser.{Gives, parse_url};
+ghost use Rattle.iref_reference.specs.{Text, reference_text, reference_buf_text};
 
 use iref_grammar::chars::CharSet;
 use iref_reference::borrowed::Uri;

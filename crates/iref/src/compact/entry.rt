@@ -1,10 +1,8 @@
 //! An entry of a prefix table, and how one is added to the table and its trees.
-ghost use Rattle.std.specs.Prelude.{◌≡◌, ◌++◌, [], ◌∷◌, true, IfOk, OnOk, OnErr};
-ghost use Rattle.std.specs.{String.{string_bytes}};
+ghost use Rattle.std.specs.{Prelude.{◌≡◌, ◌++◌, [], ◌∷◌, true, IfOk, OnOk, OnErr}, String.{string_bytes}};
 ghost use Rattle.iref_grammar.specs.{Characters.{iri_chars}, Reference.{is_uri}};
 ghost use Rattle.iref_reference.specs.References.{reference_text};
-ghost use Rattle.iref.specs.PrefixTree.{key_of, keys_of, IsTree};
-ghost use Rattle.iref.specs.declared.compact.entry.Key.TheVariants.{Label, Iri};
+ghost use Rattle.iref.specs.{PrefixTree.{key_of, keys_of, IsTree}, declared.compact.entry.Key.TheVariants.{Label, Iri}};
 
 use super::tree::Tree;
 use crate::iri::Iri;

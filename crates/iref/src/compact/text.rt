@@ -1,6 +1,5 @@
 //! Texts of prefix tables: labels, and texts that are joined.
-ghost use Rattle.std.specs.Prelude.{◌≡◌, ◌++◌, length, drop, true, IfOk, IfErr, Ok};
-ghost use Rattle.std.specs.{List.{list_all}};
+ghost use Rattle.std.specs.{Prelude.{◌≡◌, ◌++◌, length, drop, true, IfOk, IfErr, Ok}, List.{list_all}};
 ghost use Rattle.std.specs.String.{string_bytes};
 ghost use Rattle.iref_grammar.specs.Texts.{begins_with};
 ghost use Rattle.iref_mapping.specs.PrefixTable.{is_label, is_label_char, if_iri};

@@ -1,14 +1,12 @@
 //! The first entries of texts, by the texts: a tree of nodes that each tell texts apart by one bit.
-ghost use Rattle.std.specs.Prelude.{◌≡◌, ◌≢◌, ℕ, ◌*◌, ◌<◌, ◌≤◌, ◌++◌, [], ◌∷◌, List, false};
-ghost use Rattle.std.specs.Prelude.{length, nat_lt, Option, MatchOption, OnOk, Some};
-ghost use Rattle.std.specs.List.{find};
-ghost use Rattle.std.specs.{Option.{option_copied}, Vec.{vec_len, vec_capacity}};
+ghost use Rattle.std.specs.Prelude.{◌≡◌, ◌≢◌, ℕ, ◌*◌, ◌<◌, ◌≤◌, ◌++◌, [], ◌∷◌, List, false, length, nat_lt, Option};
+ghost use Rattle.std.specs.{Prelude.{MatchOption, OnOk, Some}, List.{find}, Option.{option_copied}};
+ghost use Rattle.std.specs.Vec.{vec_len, vec_capacity};
 ghost use Rattle.iref_grammar.specs.Rules.{Text};
 ghost use Rattle.iref_mapping.specs.PrefixTable.{longest_fit};
-ghost use Rattle.iref.specs.declared.compact.entry.Key.TheVariants.{Iri};
-ghost use Rattle.iref.specs.PrefixTree.{has_key, keys_of, text_at, symbol, bit, place_of, child, spot};
-ghost use Rattle.iref.specs.PrefixTree.{with_child, IsAdded, IsFirstDifference, IsFit, IsNear};
-ghost use Rattle.iref.specs.PrefixTree.{IsNew, IsTree, IsWay, SameBits};
+ghost use Rattle.iref.specs.{declared.compact.entry.Key.TheVariants.{Iri}, PrefixTree.{has_key, keys_of, text_at}};
+ghost use Rattle.iref.specs.PrefixTree.{symbol, bit, place_of, child, spot, with_child, IsAdded, IsFirstDifference};
+ghost use Rattle.iref.specs.PrefixTree.{IsFit, IsNear, IsNew, IsTree, IsWay, SameBits};
 
 use super::entry::{Entry, Key};
 use iref_error::Memory;

@@ -1,10 +1,9 @@
 //! Edits of a list, one after the other, up to the first that cannot be done.
 ghost use Rattle.std.specs.Prelude.{◌≡◌, ◌≤◌, ◌<◌, ◌∷◌, [], true, length, map, take, IfNone, IfOk, IfSome};
-ghost use Rattle.iref_component.specs.{with_fragment, with_query};
 ghost use Rattle.iref_model.specs.Edits.{edited, edited_uri};
+ghost use Rattle.iref_component.specs.{with_fragment, with_query};
 ghost use Rattle.iref_reference.specs.References.{reference_buf_text, reference_buf_value};
-ghost use Rattle.iref.specs.EditAnswers.{AppliesEdit, AppliesTo, AreDone, StopsAt, edited_in};
-ghost use Rattle.iref.specs.EditAnswers.{keeps_query_and_fragment};
+ghost use Rattle.iref.specs.EditAnswers.{AppliesEdit, AppliesTo, AreDone, StopsAt, edited_in, keeps_query_and_fragment};
 ghost use Rattle.iref.specs.EditSteps.{AppliesList, all_keep_query_and_fragment, edit_step};
 
 use crate::edits::parts::{edit_authority, edit_path};

@@ -1,9 +1,8 @@
 //! Edits of the path and of the parts of the authority, by the editors of these.
 ghost use Rattle.std.specs.Prelude.{◌≡◌, true, is_some};
-ghost use Rattle.iref_reference_text.specs.{offsets_of, context_of, is_reference, read_reference};
 ghost use Rattle.iref_component.specs.PathEdits.{Borrows, IsEditorOf};
-ghost use Rattle.iref.specs.EditAnswers.{DoesEdit, is_authority_edit, is_path_edit};
-ghost use Rattle.iref.specs.EditSteps.{edit_step};
+ghost use Rattle.iref_reference_text.specs.{offsets_of, context_of, is_reference, read_reference};
+ghost use Rattle.iref.specs.{EditAnswers.{DoesEdit, is_authority_edit, is_path_edit}, EditSteps.{edit_step}};
 ghost use Rattle.iref_component.specs.AuthorityEdits as authority;
 
 use crate::edits::Edit;

@@ -1,7 +1,7 @@
 //! Edits of the scheme, which a URI cannot lose.
 ghost use Rattle.std.specs.Prelude.{option_map};
-ghost use Rattle.iref_reference.specs.{text_of, reference_buf_text};
 ghost use Rattle.iref_model.specs.Edits.{SetScheme};
+ghost use Rattle.iref_reference.specs.{text_of, reference_buf_text};
 ghost use Rattle.iref.specs.EditAnswers.{AppliesEdit, edited_in};
 
 use crate::edits::EditFault;

@@ -1,7 +1,7 @@
 //! The error of each component becomes the error of its family, and its input is converted.
+ghost use Rattle.iref.specs.Errors.{Becomes};
 ghost use Rattle.iref.specs.declared.errors.iri.IriError.TheVariants as iri;
 ghost use Rattle.iref.specs.declared.errors.uri.UriError.TheVariants as uri;
-ghost use Rattle.iref.specs.Errors.{Becomes};
 
 use crate::errors::iri::IriError;
 use crate::errors::uri::UriError;

@@ -1,7 +1,6 @@
 //! Where the input of an error is wrong, and why.
 ghost use Rattle.std.specs.Prelude.{◌≡◌, option_map};
-ghost use Rattle.iref.specs.BytePlaces.{fault_value};
-ghost use Rattle.iref.specs.Errors.{fault_of_iri_error, fault_of_uri_error};
+ghost use Rattle.iref.specs.{BytePlaces.{fault_value}, Errors.{fault_of_iri_error, fault_of_uri_error}};
 
 use crate::errors::iri::IriError;
 use crate::errors::uri::UriError;

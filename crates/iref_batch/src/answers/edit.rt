@@ -1,9 +1,9 @@
 //! The answer to `edit`.
 ghost use Rattle.std.specs.{Option.{option_copied}, Prelude.{◌≡◌, [], ◌∷◌, IfOk}};
 ghost use Rattle.iref_answers.specs.Lines.{text_and_edits};
-ghost use Rattle.iref_batch.specs.EditFields.{ChecksEdits, EditsBy, LeavesAfter};
-ghost use Rattle.iref_batch.specs.{Fields.{fields_of}, Gathering.{Puts}, Runs.{reply_to}};
 ghost use Rattle.iref.specs.{EditSteps.{edit_step}, References.{reference_buf_value}};
+ghost use Rattle.iref_batch.specs.{EditFields.{ChecksEdits, EditsBy, LeavesAfter}, Fields.{fields_of}};
+ghost use Rattle.iref_batch.specs.{Gathering.{Puts}, Runs.{reply_to}};
 
 use super::{put_answered, put_refused, put_text};
 use crate::edit_fields::{FieldError, read_edit};

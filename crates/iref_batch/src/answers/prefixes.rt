@@ -1,14 +1,11 @@
 //! The answers to `compact` and `expand`, by a table of the entries that the fields name.
-ghost use Rattle.std.specs.Prelude.{◌≡◌, ◌∷◌, Some, true, OnOk, OnErr, IfErr};
-ghost use Rattle.std.specs.Option.{option_copied};
-ghost use Rattle.iref.specs.Characters.{iri_chars};
-ghost use Rattle.iref_answers.specs.Lines.{Answered, answer_text, are_valid_entries, part_field};
-ghost use Rattle.iref_answers.specs.Lines.{read_entry, text_and_entries};
-ghost use Rattle.iref.specs.PrefixTable.{compact_text};
-ghost use Rattle.iref.specs.Prefixes.{compact_value};
-ghost use Rattle.iref_batch.specs.{EditFields.{IsRead}, Fields.{fields_of}, Gathering.{Puts}};
-ghost use Rattle.iref_batch.specs.{Gathering.{PutsReply}, PrefixFields.{entries_read, HasTaken}};
-ghost use Rattle.iref_batch.specs.{PrefixFields.{TakesNot}, Requests.{asked_of}, Runs.{reply_to}};
+ghost use Rattle.std.specs.{Prelude.{◌≡◌, ◌∷◌, Some, true, OnOk, OnErr, IfErr}, Option.{option_copied}};
+ghost use Rattle.iref_answers.specs.Lines.{Answered, answer_text, are_valid_entries, part_field, read_entry};
+ghost use Rattle.iref_answers.specs.Lines.{text_and_entries};
+ghost use Rattle.iref.specs.{Characters.{iri_chars}, PrefixTable.{compact_text}, Prefixes.{compact_value}};
+ghost use Rattle.iref_batch.specs.{EditFields.{IsRead}, Fields.{fields_of}, Gathering.{Puts, PutsReply}};
+ghost use Rattle.iref_batch.specs.{PrefixFields.{entries_read, HasTaken, TakesNot}, Requests.{asked_of}};
+ghost use Rattle.iref_batch.specs.Runs.{reply_to};
 ghost use Rattle.iref_answers.specs.Lines as spec;
 
 use super::{put_answered, put_refused, put_text};

@@ -1,13 +1,10 @@
 //! Authorities that own their text, edited in place (RFC 3986 section 3.2).
-ghost use Rattle.std.specs.Prelude.{◌≡◌, OnOk, OnErr, IsOk, IsNone, length, option_map};
-ghost use Rattle.std.specs.Option.{option_copied};
-ghost use Rattle.iref_component.specs.{Authorities.{EditsOwner}, AuthorityTexts.{IsWhole}};
-ghost use Rattle.iref_component.specs.{AuthorityTexts.{one_whole}, Components.{text_of}};
-ghost use Rattle.iref_component.specs.Tries.{Tests, TestsIfSome};
+ghost use Rattle.std.specs.{Prelude.{◌≡◌, OnOk, OnErr, IsOk, IsNone, length, option_map}, Option.{option_copied}};
 ghost use Rattle.iref_grammar.specs.{IsAuthority, IsHost, IsPort, IsUserInfo};
-ghost use Rattle.iref_model.specs.{port_text};
+ghost use Rattle.iref_model.specs.{port_text, AuthoritySteps.{with_user_info, with_host, with_port}};
 ghost use Rattle.iref_splice.proofs.PartLemmas.{whole_is_within};
-ghost use Rattle.iref_model.specs.AuthoritySteps.{with_user_info, with_host, with_port};
+ghost use Rattle.iref_component.specs.{Authorities.{EditsOwner}, AuthorityTexts.{IsWhole, one_whole}};
+ghost use Rattle.iref_component.specs.{Components.{text_of}, Tries.{Tests, TestsIfSome}};
 
 use crate::authority::{Authority, AuthorityBuf};
 use crate::authority_mut::{AuthorityMut, AuthorityPart};
@@ -44,8 +41,8 @@ impl<C: CharSet> Target<AuthorityPart, C> for AuthorityBuf<C> {
 
 #[tactic(auto, using(crate::proofs::AuthorityEditLemmas::whole_steps))]
 impl<C: CharSet> AuthorityBuf<C> {
-    ghost use Rattle.iref_component.specs.AuthorityEdits.{Borrows, edited_bytes};
-    ghost use Rattle.iref_component.specs.AuthorityEdits.{authority_mut_start, authority_mut_end};
+    ghost use Rattle.iref_component.specs.AuthorityEdits.{Borrows, edited_bytes, authority_mut_start};
+    ghost use Rattle.iref_component.specs.AuthorityEdits.{authority_mut_end};
 
     /// The editor of all of it: with it, `set_port` with `80` turns `h` into `h:80`.
     pub fn as_authority_mut(&mut self) -> AuthorityMut<'_, C, AuthorityBuf<C>>

@@ -1,13 +1,12 @@
 //! Where the parts of an authority stand in its text, each with its delimiter (RFC 3986 section
 //! 3.2).
-ghost use Rattle.std.specs.Prelude.{◌≡◌, true, [], ◌∷◌, Option};
-ghost use Rattle.std.specs.List.{splice};
-ghost use Rattle.iref_grammar.specs.{Rules.{Text}, Grammar.{at_sign, colon}, Texts.{part_then}};
-ghost use Rattle.iref_grammar.specs.{Texts.{then_part}, Tests.{is_user_info, is_host, is_port}};
-ghost use Rattle.iref_grammar.specs.{Tests.{none_or}, Authority.{is_authority, read_authority}};
+ghost use Rattle.std.specs.{Prelude.{◌≡◌, true, [], ◌∷◌, Option}, List.{splice}};
+ghost use Rattle.iref_grammar.specs.{Rules.{Text}, Grammar.{at_sign, colon}, Texts.{part_then, then_part}};
+ghost use Rattle.iref_grammar.specs.Tests.{is_user_info, is_host, is_port, none_or};
+ghost use Rattle.iref_grammar.specs.Authority.{is_authority, read_authority};
 ghost use Rattle.iref_model.specs.AuthoritySteps.{with_user_info, with_host, with_port};
-ghost use Rattle.iref_component.specs.AuthorityTexts.{SpellsAuthority};
 ghost use Rattle.iref_splice.specs.Changes.{IsWithin};
+ghost use Rattle.iref_component.specs.AuthorityTexts.{SpellsAuthority};
 
 use iref_grammar::chars::CharSet;
 use iref_parse::authority::split_parts;

@@ -1,8 +1,8 @@
 //! Authorities edited by texts, each of which is tested before anything grows.
 ghost use Rattle.std.specs.Option.{option_copied};
-ghost use Rattle.iref_component.specs.Tries.{Tests, TestsIfSome};
 ghost use Rattle.iref_grammar.specs.{IsAuthority, IsHost, IsPort, IsUserInfo, read_authority};
 ghost use Rattle.iref_model.specs.AuthoritySteps.{with_user_info, with_host, with_port};
+ghost use Rattle.iref_component.specs.Tries.{Tests, TestsIfSome};
 
 use crate::authority::Authority;
 use crate::authority_mut::{AuthorityMut, AuthorityPart};

@@ -1,9 +1,8 @@
 //! Edits of a path that owns its text by many segments (RFC 3986 section 5.2.4).
 ghost use Rattle.std.specs.{Prelude.{IfOk, map}, Iterator.{IsFiniteIterable}};
-ghost use Rattle.iref_component.specs.Appends.{Appends, TakesAll, following, lazily};
-ghost use Rattle.iref_component.specs.{Components.{text_of}, PathEdits.{EditsOwner, OwnerBecomes}};
-ghost use Rattle.iref_component.specs.{PathEdits.{SpellsPath}, Paths.{path_value}};
 ghost use Rattle.iref_grammar.specs.{alone};
+ghost use Rattle.iref_component.specs.{Appends.{Appends, TakesAll, following, lazily}, Components.{text_of}};
+ghost use Rattle.iref_component.specs.{PathEdits.{EditsOwner, OwnerBecomes, SpellsPath}, Paths.{path_value}};
 ghost use Rattle.iref_model.specs.PathSteps as step;
 
 use crate::named_texts::Segment;

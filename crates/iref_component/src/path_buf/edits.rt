@@ -1,10 +1,9 @@
 //! Edits of a path that owns its text (RFC 3986 sections 3.3 and 5.2.4).
 ghost use Rattle.std.specs.Prelude.{◌≡◌, ◌&&◌, ◌≤◌, not, length, IfOk, IsOk};
-ghost use Rattle.iref_component.specs.{Components.{text_of}, PathEdits.{Borrows, EditsOwner}};
-ghost use Rattle.iref_component.specs.{PathEdits.{IsEditorOf, SpellsPath}, Paths.{path_value}};
-ghost use Rattle.iref_component.specs.WholePaths.{IsWholePath, one_whole_path};
 ghost use Rattle.iref_grammar.specs.{alone, is_empty, spell_path};
 ghost use Rattle.iref_splice.proofs.PartLemmas.{whole_is_within};
+ghost use Rattle.iref_component.specs.{Components.{text_of}, PathEdits.{Borrows, EditsOwner, IsEditorOf, SpellsPath}};
+ghost use Rattle.iref_component.specs.{Paths.{path_value}, WholePaths.{IsWholePath, one_whole_path}};
 ghost use Rattle.iref_model.specs.PathSteps as step;
 
 use crate::named_texts::Segment;

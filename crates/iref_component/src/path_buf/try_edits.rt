@@ -1,8 +1,8 @@
 //! Edits of a path that owns its text by a text that is tested first.
 ghost use Rattle.std.specs.Iterator.{IsFiniteIterable};
-ghost use Rattle.iref_component.specs.Appends.{TriesAppends, following, lazily};
-ghost use Rattle.iref_component.specs.{PathEdits.{EditsOwner, OwnerBecomes}, Tries.{Tests}};
 ghost use Rattle.iref_grammar.specs.{IsPath, IsSegment, alone, read_path};
+ghost use Rattle.iref_component.specs.{Appends.{TriesAppends, following, lazily}, PathEdits.{EditsOwner, OwnerBecomes}};
+ghost use Rattle.iref_component.specs.Tries.{Tests};
 ghost use Rattle.iref_model.specs.PathSteps as step;
 
 use crate::path_buf::PathBuf;

@@ -1,8 +1,7 @@
 //! Edits of a path in place by many segments (RFC 3986 section 5.2.4).
 ghost use Rattle.std.specs.{Iterator.{IsFiniteIterable}, Prelude.{◌≡◌, IfOk}};
-ghost use Rattle.iref_component.specs.Appends.{Appends, following, lazily};
-ghost use Rattle.iref_component.specs.{Components.{text_of}, PathEdits.{Becomes, Edits, EditsBy}};
-ghost use Rattle.iref_component.specs.{PathEdits.{IsSameEditor}, Paths.{path_value}};
+ghost use Rattle.iref_component.specs.{Appends.{Appends, following, lazily}, Components.{text_of}};
+ghost use Rattle.iref_component.specs.{PathEdits.{Becomes, Edits, EditsBy, IsSameEditor}, Paths.{path_value}};
 ghost use Rattle.iref_model.specs.PathSteps as step;
 
 use crate::named_texts::Segment;

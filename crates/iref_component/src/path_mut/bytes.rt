@@ -1,10 +1,8 @@
 //! The editor of a path in a vector of bytes.
-ghost use Rattle.std.specs.Prelude.{◌≡◌, ◌≤◌, true, take, slice_range, vec_len, IfOk};
-ghost use Rattle.std.specs.Borrow.{RestsIfErr, sem};
-ghost use Rattle.iref_grammar.specs.{Contexts.{context_from}, IsPath, is_path};
+ghost use Rattle.std.specs.{Prelude.{◌≡◌, ◌≤◌, true, take, slice_range, vec_len, IfOk}, Borrow.{RestsIfErr, sem}};
+ghost use Rattle.iref_grammar.specs.{IsPath, is_path, Contexts.{context_from}};
 ghost use Rattle.iref_component.specs.{BytePaths.{MayFollow}, Makers.{ParsesUtf8}};
-ghost use Rattle.iref_component.specs.PathEdits.{Borrows, IsEditorOf, borrowed_name};
-ghost use Rattle.iref_component.specs.{PathEdits.{path_mut_text}, Rows.{bytes_row}};
+ghost use Rattle.iref_component.specs.{PathEdits.{Borrows, IsEditorOf, borrowed_name, path_mut_text}, Rows.{bytes_row}};
 
 use crate::path::Path;
 use crate::path_mut::PathMut;

@@ -1,8 +1,7 @@
 //! The normal form of a path in its place (RFC 3986 section 5.2.4).
 ghost use Rattle.std.specs.Prelude.{◌≡◌, ◌≤◌, true, [], length, OnOk, IsOk};
 ghost use Rattle.iref_model.specs.{spell_path, RemovesDotSegments};
-ghost use Rattle.iref_component.specs.PathEdits.{Edits, path_mut_context, path_mut_text};
-ghost use Rattle.iref_component.specs.PathEdits.{path_mut_value};
+ghost use Rattle.iref_component.specs.PathEdits.{Edits, path_mut_context, path_mut_text, path_mut_value};
 ghost use Rattle.iref_model.specs.PathSteps as step;
 
 use crate::path_mut::PathMut;

@@ -1,9 +1,8 @@
 //! Edits of a path in place by a text that is tested first.
 ghost use Rattle.std.specs.Iterator.{IsFiniteIterable};
-ghost use Rattle.iref_component.specs.Appends.{TriesAppends, following, lazily};
-ghost use Rattle.iref_component.specs.PathEdits.{Becomes, Edits, EditsBy, IsSameEditor};
-ghost use Rattle.iref_component.specs.Tries.{Tests};
 ghost use Rattle.iref_grammar.specs.{IsPath, IsSegment, read_path};
+ghost use Rattle.iref_component.specs.Appends.{TriesAppends, following, lazily};
+ghost use Rattle.iref_component.specs.{PathEdits.{Becomes, Edits, EditsBy, IsSameEditor}, Tries.{Tests}};
 ghost use Rattle.iref_model.specs.PathSteps as step;
 
 use crate::component_rules::{PathRule, SegmentRule};

@@ -1,13 +1,11 @@
 //! A normal list on a stack, which one reading of the segments from the back fills (RFC 3986
 //! section 5.2.4).
 
+ghost use Rattle.std.specs.Prelude.{◌≡◌, ◌+◌, ◌<◌, ◌^◌, ◌∷◌, ◌*◌, ◌++◌, List, [], codes, length, replicate, true};
 ghost use Rattle.iref_grammar.specs.Rules.{Text};
 ghost use Rattle.iref_model.specs.NormalList.{normal_segments, without_lone_empty};
 ghost use Rattle.iref_model.specs.NormalReading.{closing, open_before, staying_before};
-ghost use Rattle.iref_path.specs.{Pieces.{pieces_if_some}};
-ghost use Rattle.iref_path.specs.{Spelling.{each_closed}, Stacks.{Completes, path_of}};
-ghost use Rattle.std.specs.Prelude.{◌≡◌, ◌+◌, ◌<◌, ◌^◌, ◌∷◌, ◌*◌, ◌++◌, List, [], codes, length};
-ghost use Rattle.std.specs.Prelude.{replicate, true};
+ghost use Rattle.iref_path.specs.{Pieces.{pieces_if_some}, Spelling.{each_closed}, Stacks.{Completes, path_of}};
 
 use super::{NormalItems, ends_in_dots, leading_parents};
 use smallvec::SmallVec;

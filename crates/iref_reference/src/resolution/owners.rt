@@ -1,11 +1,11 @@
 //! Owned values that become what they resolve to (RFC 3986 section 5.2). The result is written into
 //! a buffer of its own, and only then takes the place of the old text.
+ghost use Rattle.std.specs.Prelude.{◌≡◌, IfErr, IfOk, IsSome, OnErr, OnOk};
 ghost use Rattle.iref_grammar.specs.{Grammar.{IsUri, IsUriReference}, Rules.{InUtf8}};
 ghost use Rattle.iref_error.specs.Tried.{TellsInvalid};
 ghost use Rattle.iref_reference.specs.HandedBack.{TellsInvalidBeside};
-ghost use Rattle.iref_reference.specs.References.{reference_buf_text, reference_buf_value};
-ghost use Rattle.iref_reference.specs.{References.{reference_text}, Resolutions.{IsResolved}};
-ghost use Rattle.std.specs.Prelude.{◌≡◌, IfErr, IfOk, IsSome, OnErr, OnOk};
+ghost use Rattle.iref_reference.specs.References.{reference_buf_text, reference_buf_value, reference_text};
+ghost use Rattle.iref_reference.specs.Resolutions.{IsResolved};
 
 use super::resolved_uri;
 use crate::borrowed::{Uri, UriRef};

@@ -1,11 +1,10 @@
 //! Copies of references, each with one component set (RFC 3986 sections 3 and 4.2).
 ghost use Rattle.std.specs.Prelude.{◌≡◌, Some, IfErr, IfOk, option_map};
-ghost use Rattle.iref_component.specs.{InUtf8, IsScheme, path_value, read_authority, text_of};
-ghost use Rattle.iref_component.specs.{with_authority, with_fragment, with_path, with_query};
-ghost use Rattle.iref_component.specs.{with_scheme};
+ghost use Rattle.iref_component.specs.{InUtf8, IsScheme, path_value, read_authority, text_of, with_authority};
+ghost use Rattle.iref_component.specs.{with_fragment, with_path, with_query, with_scheme};
+ghost use Rattle.iref_reference_text.specs.Steps.{IsStep};
 ghost use Rattle.iref_reference.specs.HandedBack.{TellsInvalidBeside};
 ghost use Rattle.iref_reference.specs.References.{reference_buf_text, reference_text, StepsFrom};
-ghost use Rattle.iref_reference_text.specs.Steps.{IsStep};
 
 use crate::borrowed::{Reference, UriRef};
 use crate::owned::{ReferenceBuf, UriBuf, UriRefBuf};

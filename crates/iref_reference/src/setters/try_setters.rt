@@ -2,8 +2,8 @@
 //! 3).
 ghost use Rattle.std.specs.{Prelude.{option_map}, Option.{option_copied}};
 ghost use Rattle.iref_grammar.specs.Grammar.{IsAuthority, IsFragment, IsPath, IsQuery, IsScheme};
-ghost use Rattle.iref_component.specs.{read_authority, read_path, with_authority, with_fragment};
-ghost use Rattle.iref_component.specs.{with_path, with_query, with_scheme, Tests, TestsIfSome};
+ghost use Rattle.iref_component.specs.{read_authority, read_path, with_authority, with_fragment, with_path, with_query};
+ghost use Rattle.iref_component.specs.{with_scheme, Tests, TestsIfSome};
 ghost use Rattle.iref_reference.specs.References.{Edits};
 
 use crate::owned::{ReferenceBuf, UriRefBuf};

@@ -1,9 +1,8 @@
 //! The text of components that are measured, or of two texts, with the lengths of its components
 //! (RFC 3986 section 5.3).
-ghost use Rattle.iref_reference_text.specs.{HasLengths};
-ghost use Rattle.iref_reference_text.specs.MeasuredReferences.{IsComposed, spell_texts};
-ghost use Rattle.iref_reference_text.specs.MeasuredReferences.{measured_components};
 ghost use Rattle.std.specs.Prelude.{◌≡◌, ◌++◌, IfOk, length};
+ghost use Rattle.iref_reference_text.specs.{HasLengths};
+ghost use Rattle.iref_reference_text.specs.MeasuredReferences.{IsComposed, spell_texts, measured_components};
 
 use super::{HeldRule, ReferenceText};
 use crate::lengths::Lengths;

@@ -1,18 +1,14 @@
 //! Edits of a held text: each is one step of the reference, and keeps the lengths with the text.
-ghost use Rattle.std.specs.Prelude.{◌≡◌, ◌≤◌, ◌<◌, ◌+◌, ◌-◌, ◌^◌, ◌++◌, true, false, [], ◌∷◌};
-ghost use Rattle.std.specs.Prelude.{length, Option, is_some, option_map, codes, OnOk, OnErr, IsOk};
-ghost use Rattle.std.specs.{Prelude.{IsNone}, Option.{option_copied}, List.{splice}};
-ghost use Rattle.std.specs.String.{string_bytes};
-ghost use Rattle.iref_component.specs.{Text, colon, question_mark, hash_sign, AuthorityValue};
-ghost use Rattle.iref_component.specs.{spell_authority, read_authority, is_authority, part_then};
-ghost use Rattle.iref_component.specs.{then_part, none_or, is_scheme, is_path, is_query};
-ghost use Rattle.iref_component.specs.{is_fragment, offsets_of, read_reference, spell};
-ghost use Rattle.iref_component.specs.{PathValue, read_path, spell_path, with_query, with_fragment};
-ghost use Rattle.iref_component.specs.{with_path, with_authority, with_scheme};
-ghost use Rattle.iref_reference_text.specs.PathTexts.{authority_text};
-ghost use Rattle.iref_reference_text.specs.Steps.{StepsOrStays};
-ghost use Rattle.iref_reference_text.specs.ComponentLengths.{HasLengths, lengths_of};
+ghost use Rattle.std.specs.Prelude.{◌≡◌, ◌≤◌, ◌<◌, ◌+◌, ◌-◌, ◌^◌, ◌++◌, true, false, [], ◌∷◌, length, Option, is_some};
+ghost use Rattle.std.specs.{Prelude.{option_map, codes, OnOk, OnErr, IsOk, IsNone}, Option.{option_copied}};
+ghost use Rattle.std.specs.{List.{splice}, String.{string_bytes}};
 ghost use Rattle.iref_splice.specs.Changes.{IsNoLonger, IsWithin, changed, replaced};
+ghost use Rattle.iref_component.specs.{Text, colon, question_mark, hash_sign, AuthorityValue, spell_authority};
+ghost use Rattle.iref_component.specs.{read_authority, is_authority, part_then, then_part, none_or, is_scheme, is_path};
+ghost use Rattle.iref_component.specs.{is_query, is_fragment, offsets_of, read_reference, spell, PathValue, read_path};
+ghost use Rattle.iref_component.specs.{spell_path, with_query, with_fragment, with_path, with_authority, with_scheme};
+ghost use Rattle.iref_reference_text.specs.{PathTexts.{authority_text}, Steps.{StepsOrStays}};
+ghost use Rattle.iref_reference_text.specs.ComponentLengths.{HasLengths, lengths_of};
 
 use super::{HeldRule, ReferenceText};
 use crate::lengths::Lengths;

@@ -1,7 +1,6 @@
 //! What stands before the query and the fragment, which is edited apart from these.
 ghost use Rattle.std.specs.Prelude.{◌≡◌, None, IfOk};
-ghost use Rattle.iref_reference_text.specs.{with_fragment, with_query};
-ghost use Rattle.iref_reference_text.specs.Steps.{IsStep};
+ghost use Rattle.iref_reference_text.specs.{with_fragment, with_query, Steps.{IsStep}};
 
 use super::{HeldRule, ReferenceText};
 use crate::lengths::Lengths;

@@ -1,7 +1,6 @@
 //! ReferenceText texts of IRIs, mapped to those of URIs (RFC 3987 section 3.1).
+ghost use Rattle.std.specs.{Char.{is_ascii}, List.{list_all}, Prelude.{◌≡◌, IfErr, IfOk, IsOk, true}};
 ghost use Rattle.iref_mapping.specs.Mapping.{mapped};
-ghost use Rattle.std.specs.{Char.{is_ascii}, List.{list_all}};
-ghost use Rattle.std.specs.Prelude.{◌≡◌, IfErr, IfOk, IsOk, true};
 
 use super::{HeldRule, ReferenceText};
 use iref_error::Memory;
