@@ -39,12 +39,6 @@ pub none_counted : (bytes : Text) → IsCounted bytes bytes 1
 unfolding sort_text
 none_counted bytes = record { counted = grind (arith, length-append) }
 
-pub more_counted : (bytes rest : Text) (b len more : ℕ) → IsCounted bytes (b ∷ rest) len → more ≡ length (sort_byte b) → IsCounted bytes rest (len + more)
-more_counted bytes rest b len more h e = let c = h.counted in record { counted = grind (arith, length-append) }
-
-pub all_counted : (bytes : Text) (len : ℕ) → IsCounted bytes [] len → len ≡ length (sort_text bytes)
-all_counted bytes len h = let c = h.counted in grind arith
-
 pub counted_within : (bytes left rest : Text) (b len more : ℕ) → IsCounted bytes left len → left ≡ b ∷ rest → more ≡ length (sort_byte b) → len + more ≤ length (sort_text bytes)
 counted_within bytes left rest b len more h e k = let c = h.counted in grind (arith, length-append)
 
@@ -53,13 +47,6 @@ counted_within bytes left rest b len more h e k = let c = h.counted in grind (ar
 pub none_begun : (bytes buffer : Text) → length buffer ≡ length (sort_text bytes) → IsBegun bytes bytes buffer 0
 unfolding sort_text
 none_begun bytes buffer e = record { written = refl; room = grind (arith, length-append) }
-
-pub room_begun : (bytes rest buffer : Text) (b at : ℕ) → IsBegun bytes (b ∷ rest) buffer at → at + length (sort_byte b) ≤ length buffer
-room_begun bytes rest buffer b at h = let c = h.room in grind (arith, length-append)
-
-pub more_begun : (bytes rest old new : Text) (b at end : ℕ) → IsBegun bytes (b ∷ rest) old at → end ≡ at + length (sort_byte b)
-    → take end new ≡ take at old ++ sort_byte b → length new ≡ length old → IsBegun bytes rest new end
-more_begun bytes rest old new b at end h e w l = let c = h.room in let d = h.written in record { written = grind (arith, append_assoc); room = grind (arith, length-append) }
 
 pub ended : (bytes buffer : Text) (at : ℕ) → IsBegun bytes [] buffer at → set buffer at 0 ≡ sort_text bytes
 unfolding sort_text

@@ -5,16 +5,15 @@ use Rattle.std.proofs.lemmas.Grind.{common_steps}
 use Rattle.std.proofs.lemmas.Bool.{and_parts}
 use Rattle.std.proofs.lemmas.List.Sums.{prefix_len-le-length}
 use Rattle.std.specs.Char.{char_set_contains}
-use Rattle.std.specs.List.{onto_first, position_or_len}
+use Rattle.std.specs.List.{position_or_len}
 use Rattle.std.specs.Prelude.{Option, None, Some, ◌==◌}
 use Rattle.iref_grammar.specs.Authority.{after_bracketed, bracketed, read_authority, read_host, read_host_and_port}
 use Rattle.iref_grammar.specs.Grammar.{at_sign, colon, slash}
 use Rattle.iref_grammar.specs.PathValue.{PathValue, read_path, segments_of}
 use Rattle.iref_grammar.specs.Rules.{Text}
-use Rattle.iref_grammar.specs.Texts.{after, before, lacks, pieces_at}
+use Rattle.iref_grammar.specs.Texts.{after, before, lacks}
 use Rattle.iref_grammar.proofs.AuthorityLemmas.{take-host}
 use Rattle.iref_parse.proofs.AuthorityLemmas.{without_marks}
-use Rattle.iref_parse.specs.Dots.{has_dot_segment, is_some_dotted}
 use Rattle.iref_canonical.specs.Padded.{IsPadded, text_in}
 use Rattle.iref_canonical.specs.declared.padded.Padded.{Padded}
 use Rattle.iref_canonical.specs.SortBytes.{is_kept, is_kept_byte, are_kept_parts}
@@ -79,13 +78,6 @@ module _ (t : Text) (some : 0 < length t) (root : (get_or t 0 0 == slash) ≡ tr
       by : (t : Text) → 0 < length t → (get_or t 0 0 == slash) ≡ true → read_path t ≡ record { absolute = true; segments = segments_of (drop 1 t) }
       by [] l h = grind arith
       by (c ∷ cs) l h = ap (λ b. cond {A = PathValue} b (record { absolute = true; segments = segments_of cs }) (record { absolute = false; segments = segments_of (c ∷ cs) })) h
-
-  pub dotless_rooted : has_dot_segment (drop 1 t) ≡ false → has_dot_segment t ≡ false
-  dotless_rooted = by t some root
-    where
-      by : (t : Text) → 0 < length t → (get_or t 0 0 == slash) ≡ true → has_dot_segment (drop 1 t) ≡ false → has_dot_segment t ≡ false
-      by [] l h k = k
-      by (c ∷ cs) l h k = ap (λ b. is_some_dotted (cond b ([] ∷ pieces_at slash cs) (onto_first c (pieces_at slash cs)))) h ∙ k
 
 pub rootless : (t : Text) → (0 < length t → (get_or t 0 0 == slash) ≡ false) → read_path t ≡ record { absolute = false; segments = segments_of t }
 unfolding read_path

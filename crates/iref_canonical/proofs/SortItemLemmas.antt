@@ -18,22 +18,13 @@ use Rattle.iref_path.proofs.DotlessLemmas.{both_size, normal_segments-dotless, w
 use Rattle.iref_path.specs.Written.{WritesBefore}
 use Rattle.iref_canonical.specs.SortKey.{sort_item, sort_list, sort_text}
 use Rattle.iref_canonical.specs.SortBytes.{is_kept_byte, is_kept}
-use Rattle.iref_canonical.specs.SortItems.{AreKept, IsWriting, IsMeasuring}
+use Rattle.iref_canonical.specs.SortItems.{AreKept, IsWriting}
 use Rattle.iref_canonical.proofs.SortByteLemmas.{kept_sorted, kept_decodes}
 
 sorted_last : (rest : List Text) (x : Text) → flat_map sort_item (rest ++ x ∷ []) ≡ flat_map sort_item rest ++ (1 ∷ sort_text x)
 sorted_last rest x = flat_map-append sort_item rest (x ∷ []) ∙ ap (λ t. flat_map sort_item rest ++ t) (append-nil (1 ∷ sort_text x))
 
 -- ---- lengths
-
-pub none_measured : (items : List Text) → IsMeasuring items items 1
-none_measured items = record { counted = grind (arith, length-append) }
-
-pub more_measured : (items left rest : List Text) (x : Text) (len size : ℕ) → IsMeasuring items left len → left ≡ rest ++ x ∷ [] → size ≡ length (sort_text x) → IsMeasuring items rest (len + size + 1)
-more_measured items left rest x len size h e k = let c = h.counted in record { counted = grind (arith, length-append, sorted_last rest x) }
-
-pub all_measured : (items left : List Text) (len : ℕ) → IsMeasuring items left len → left ≡ [] → len ≡ length (sort_list sort_item items)
-all_measured items left len h e = let c = h.counted in grind arith
 
 -- ---- writes
 
@@ -47,14 +38,6 @@ none_written items end start old new h =
 pub room_left : (items left rest : List Text) (x : Text) (end start : ℕ) (old new : Text) → IsWriting items left end start old new → left ≡ rest ++ x ∷ []
     → length (sort_list sort_item items) ≤ end → length (sort_text x) + 1 ≤ start
 room_left items left rest x end start old new h e room = let r = h.range in grind (arith, length-append, sorted_last rest x)
-
-pub within_left : (items left : List Text) (end start : ℕ) (old new : Text) → IsWriting items left end start old new → end ≤ length old
-    → length (sort_list sort_item items) ≤ end → start ≤ length new
-within_left items left end start old new h within room =
-    let r = h.range in
-    let l = h.len in
-    let w = sym (length-append (flat_map sort_item left) (drop start new)) ∙ ap length h.written ∙ length-append (sort_list sort_item items) (drop end old) in
-    omega (arith, length-drop start new, length-drop end old)
 
 pub more_written : (items left rest : List Text) (x : Text) (end start mid first : ℕ) (old new after last : Text) → IsWriting items left end start old new → left ≡ rest ++ x ∷ []
     → WritesBefore start (sort_text x) new after mid → WritesBefore mid (1 ∷ []) after last first → IsWriting items rest end first old last
@@ -73,9 +56,6 @@ more_written items left rest x end start mid first old new after last h e k l =
       range = grind (arith, length-append, sorted_last rest x);
       len = ll ∙ kl ∙ hl;
     }
-
-pub all_written : (items left : List Text) (end start : ℕ) (old new : Text) → IsWriting items left end start old new → left ≡ [] → WritesBefore end (sort_list sort_item items) old new start
-all_written items left end start old new h e = let r = h.range in let w = h.written in record { range = grind arith; written = grind arith; len = h.len }
 
 -- ---- segments whose bytes are written as they are
 

@@ -47,9 +47,6 @@ pub record IsPutting (at : ℕ) (all left old new : Text) (end : ℕ) : Type 0 w
   pub written : take end new ++ left ≡ take at old ++ all
   pub len : length new ≡ length old
 
-pub none_put : (at : ℕ) (all old : Text) → IsPutting at all all old old at
-none_put at all old = record { range = refl; written = refl; len = refl }
-
 pub one_put : (at : ℕ) (all before one left old half new : Text) (mid end : ℕ) → IsPutting at all before old half mid → Puts mid one half new end → before ≡ one ++ left → IsPutting at all left old new end
 one_put at all before one left old half new mid end h k e =
     let r = h.range in let w = h.written in let s = k.range in let v = k.written in record { range = grind (arith, length-append); written = grind (arith, append_assoc); len = k.len ∙ h.len }
