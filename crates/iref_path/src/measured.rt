@@ -48,7 +48,7 @@ fn is_merged_absolute(has_authority: bool, absolute: bool, segments: Option<&str
 }
 
 // Whether a segment of the two texts begins with a dot.
-#[tactic(auto, using(crate::proofs::DotlessLemmas::both_dotted, crate::proofs::DotlessLemmas::both_dotted))]
+#[tactic(auto, using(crate::proofs::DotlessLemmas::both_dotted))]
 fn have_dots(front: Option<&str>, back: &str) -> bool
     ensures { result ≡ has_dot_segment (after_front front.entry back.now) }
 {

@@ -24,8 +24,9 @@ impl<R: HeldRule, C: CharSet> Ord for ReferenceBuf<R, C> {
 
     ghost matches_eq = { λ _ _. refl };
 
+    #[tactic(auto, unfolding(iref_model::specs::Key::key, iref_model::specs::Key::key_cmp))]
     fn cmp(&self, other: &Self) -> Ordering {
-        self.reference_parts().cmp_by_key(&other.reference_parts())
+        self.reference_parts().cmp(&other.reference_parts())
     }
 }
 

@@ -20,7 +20,6 @@ use iref_error::{InvalidUri, InvalidUriRef};
 use iref_grammar::chars::CharSet;
 use iref_parse::split::{ReferenceSlices, parse_bytes, split_reference};
 use std::alloc::AllocError;
-use std::cmp::Ordering;
 use std::hash::{Hash, Hasher};
 
 /// What stands for the scheme among the components: of a URI a scheme, such as `s` of `s:a`, of a
@@ -176,14 +175,6 @@ impl<'a, S: SchemePart<'a>, C: CharSet> Parts<'a, S, C> {
 }
 
 impl<'a, C: CharSet> UriRefParts<'a, C> {
-    // The order of the keys.
-    #[tactic(auto, unfolding(iref_model::specs::Key::key, iref_model::specs::Key::key_cmp))]
-    pub(crate) fn cmp_by_key(&self, other: &Self) -> Ordering
-        ensures { result ≡ key_cmp (uri_ref_parts_key self.now) (uri_ref_parts_key other.now) }
-    {
-        self.cmp(other)
-    }
-
     // Whether the keys are the same.
     pub(crate) fn eq_by_key(&self, other: &Self) -> bool
         ensures { result

@@ -154,8 +154,9 @@ impl Key for ReferenceKey {
 
     ghost has_key = { λ tests text. is_reference tests text ≡ true };
 
+    #[tactic(auto, unfolding(iref_model::specs::Key::key, iref_model::specs::Key::key_cmp))]
     fn compare<C: CharSet>(a: &str, b: &str) -> Ordering {
-        UriRefParts::<C>::of_text(a).cmp_by_key(&UriRefParts::of_text(b))
+        UriRefParts::<C>::of_text(a).cmp(&UriRefParts::of_text(b))
     }
 
     fn is_equal<C: CharSet>(a: &str, b: &str) -> bool {
