@@ -13,8 +13,8 @@ mod tree;
 
 use crate::iri::{Iri, IriBuf};
 use entry::{Entry, Key, add};
-use iref_error::Memory;
 use iref_parse::cut::cut;
+use iref_splice::Memory;
 use std::alloc::Global;
 use std::marker::Model;
 use text::{after_front, iri_of, is_label, joined};

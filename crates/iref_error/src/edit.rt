@@ -1,25 +1,6 @@
-//! Why an edit, or a call that makes a text, is refused.
-use std::alloc::{AllocError, AllocFailed};
+//! Why an edit by a text is refused.
 use std::fmt;
 use thiserror::Error;
-
-/// A growth was refused, or the new length, in bytes, would pass what a buffer can hold:
-/// `set_query` returns it and leaves `http://a` as it was. It is printed as `out of memory`.
-#[derive(Clone, Copy, Debug, PartialEq, Eq, Error)]
-#[error("out of memory")]
-pub struct Memory;
-
-impl From<AllocError> for Memory {
-    fn from(_: AllocError) -> Memory {
-        Memory
-    }
-}
-
-impl<T: Drop> From<AllocFailed<T>> for Memory {
-    fn from(_: AllocFailed<T>) -> Memory {
-        Memory
-    }
-}
 
 /// Why an edit by a text is refused: a port set to `8a` returns `Invalid(InvalidPort("8a"))`.
 #[derive(Clone, Copy, Debug, PartialEq, Eq, Drop, Error)]

@@ -1,4 +1,4 @@
-//! The errors of every call: an input outside its rule, and out of memory.
+//! The errors of calls that take a text: the text is outside its rule, or an edit by it is refused.
 #![tactic(auto)]
 
 pub mod edit;
@@ -6,7 +6,7 @@ pub mod faults;
 pub mod invalid;
 pub mod port;
 
-pub use edit::{Memory, TryError};
+pub use edit::TryError;
 pub use invalid::{
     InvalidAuthority, InvalidFragment, InvalidHost, InvalidPath, InvalidPctStr, InvalidPort,
     InvalidQuery, InvalidScheme, InvalidSegment, InvalidUri, InvalidUri as InvalidIri,

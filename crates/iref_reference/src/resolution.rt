@@ -14,13 +14,14 @@ use crate::borrowed::{Reference, Uri, UriRef};
 use crate::composed::{Composed, ComposedUri};
 use crate::owned::{ReferenceBuf, UriBuf};
 use crate::parts::{Parts, SchemePart, UriParts};
-use iref_error::{InvalidUri, InvalidUriRef, Memory, TryError};
+use iref_error::{InvalidUri, InvalidUriRef, TryError};
 use iref_grammar::chars::CharSet;
 use iref_parse::split::{ReferenceSlices, split_reference};
 use iref_reference_text::forward::resolved_forward;
 use iref_reference_text::fronts::front_kept;
 use iref_reference_text::lengths::Lengths;
 use iref_reference_text::reference_text::{HeldRule, ReferenceText};
+use iref_splice::Memory;
 use std::alloc::Global;
 
 // What a reference resolves to against a base, given the components of both texts. Most often it is

@@ -6,7 +6,7 @@ ghost use Rattle.iref.specs.{PrefixTree.{key_of, keys_of, IsTree}, declared.comp
 
 use super::tree::Tree;
 use crate::iri::Iri;
-use iref_error::Memory;
+use iref_splice::Memory;
 use std::alloc::Global;
 use std::marker::Model;
 

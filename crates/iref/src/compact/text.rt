@@ -8,7 +8,7 @@ ghost use Rattle.iref.specs.Prefixes.{RefusesExpand};
 
 use super::ExpandFault;
 use crate::iri::IriBuf;
-use iref_error::Memory;
+use iref_splice::Memory;
 use std::alloc::{AllocError, Global};
 
 // Whether a label may hold the byte after its first letter.

@@ -9,8 +9,8 @@ ghost use Rattle.iref.specs.PrefixTree.{symbol, bit, place_of, child, spot, with
 ghost use Rattle.iref.specs.PrefixTree.{IsFit, IsNear, IsNew, IsTree, IsWay, SameBits};
 
 use super::entry::{Entry, Key};
-use iref_error::Memory;
 use iref_parse::front::common_front;
+use iref_splice::Memory;
 use std::alloc::Global;
 
 // A bit of a text's symbol at a place. Of a symbol the greater bits come first.

@@ -10,10 +10,11 @@ ghost use Rattle.iref_reference.specs.Resolutions.{IsResolved};
 use super::resolved_uri;
 use crate::borrowed::{Uri, UriRef};
 use crate::owned::{ReferenceBuf, UriBuf, UriRefBuf};
-use iref_error::{InvalidUri, InvalidUriRef, Memory, TryError};
+use iref_error::{InvalidUri, InvalidUriRef, TryError};
 use iref_grammar::chars::CharSet;
 use iref_parse::split::split_reference;
 use iref_reference_text::reference_text::HeldRule;
+use iref_splice::Memory;
 use std::alloc::Global;
 
 impl<R: HeldRule, C: CharSet> ReferenceBuf<R, C> {

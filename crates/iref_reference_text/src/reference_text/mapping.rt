@@ -3,9 +3,9 @@ ghost use Rattle.std.specs.{Char.{is_ascii}, List.{list_all}, Prelude.{◌≡◌
 ghost use Rattle.iref_mapping.specs.Mapping.{mapped};
 
 use super::{HeldRule, ReferenceText};
-use iref_error::Memory;
 use iref_grammar::chars::{CharSet, UriChars};
 use iref_mapping::bytes::{count_escaped, map_in_place, mapped};
+use iref_splice::Memory;
 use std::alloc::Global;
 
 impl<R: HeldRule> ReferenceText<R, UriChars> {
