@@ -43,6 +43,7 @@ pub use Rattle.iref_fault.specs.Cut
 pub use Rattle.iref_fault.specs.Faults
 pub use Rattle.iref_fault.specs.FirstFault
 pub use Rattle.iref_fault.specs.BytePlaces
+pub use Rattle.iref_fault.specs.Tried
 pub use Rattle.iref_mapping.specs.Mapping
 pub use Rattle.iref_mapping.specs.PrefixTable
 pub use Rattle.iref_parse.specs.AuthoritySlices
@@ -57,7 +58,6 @@ pub use Rattle.iref_component.specs.AuthorityParts
 pub use Rattle.iref_component.specs.AuthorityTexts
 pub use Rattle.iref_component.specs.AuthorityEdits
 pub use Rattle.iref_component.specs.Comparisons
-pub use Rattle.iref_error.specs.Tried
 pub use Rattle.iref_component.specs.Paths
 pub use Rattle.iref_component.specs.NormalPaths
 pub use Rattle.iref_component.specs.Appends

@@ -3,7 +3,7 @@
 pub use iref_component::authority_mut::AuthorityPart;
 pub use iref_component::named_texts::{Port, PortBuf, Scheme, SchemeBuf};
 pub use iref_component::path_equality::{Steps, new_steps_have_room, path_eq_counted};
-pub use iref_error::{
+pub use iref_fault::{
     InvalidAuthority, InvalidFragment, InvalidHost, InvalidPath, InvalidPort, InvalidQuery,
     InvalidScheme, InvalidSegment, InvalidUserInfo, PortError, TryError,
 };

@@ -13,7 +13,7 @@ mod try_edits;
 use crate::authority::Authority;
 use crate::borrowed::text_of;
 use crate::named_texts::{Host, Port, UserInfo};
-use iref_error::InvalidAuthority;
+use iref_fault::InvalidAuthority;
 use iref_grammar::chars::CharSet;
 use iref_splice::Memory;
 use iref_splice::change::{Change, Span};

@@ -16,7 +16,7 @@ use iref_component::borrowed::BorrowedText;
 use iref_component::named_texts::{Fragment, Host, Port, Query, UserInfo};
 use iref_component::path::Path;
 use iref_component::rule::{AllowsEmpty, Refuses};
-use iref_error::InvalidUri;
+use iref_fault::InvalidUri;
 use iref_grammar::chars::CharSet;
 use iref_parse::cut::cut;
 use iref_parse::split::{ReferenceSlices, split_reference};

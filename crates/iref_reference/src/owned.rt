@@ -15,7 +15,7 @@ use iref_component::authority::Authority;
 use iref_component::named_texts::{Fragment, Host, Port, Query, SchemeBuf, UserInfo};
 use iref_component::path::Path;
 use iref_component::rule::Refuses;
-use iref_error::InvalidUri;
+use iref_fault::InvalidUri;
 use iref_grammar::chars::CharSet;
 use iref_grammar::offsets::Offsets;
 use iref_reference_text::reference_text::{HeldRule, ReferenceText};

@@ -10,7 +10,7 @@ use crate::authority::{Authority, AuthorityBuf};
 use crate::authority_mut::{AuthorityMut, AuthorityPart};
 use crate::named_texts::{Host, Port, UserInfo};
 use crate::test_before_edit::Tried;
-use iref_error::{InvalidAuthority, InvalidHost, InvalidPort, InvalidUserInfo};
+use iref_fault::{InvalidAuthority, InvalidHost, InvalidPort, InvalidUserInfo};
 use iref_grammar::chars::CharSet;
 use iref_splice::Memory;
 use iref_splice::change::{Change, Span};

@@ -1,4 +1,6 @@
 //! The errors that return a refused input, one for each rule (RFC 3986 section 3).
+mod faults;
+
 use std::fmt;
 use thiserror::Error;
 

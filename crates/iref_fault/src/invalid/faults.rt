@@ -5,11 +5,11 @@ ghost use Rattle.iref_fault.specs.BytePlaces.{fault_value};
 ghost use Rattle.iref_fault.specs.Faults as spec;
 ghost use Rattle.iref_fault.specs.Places as rule;
 
+use crate::fault::{self, Fault};
 use crate::invalid::{
     InvalidAuthority, InvalidFragment, InvalidHost, InvalidPath, InvalidPort, InvalidQuery,
     InvalidScheme, InvalidSegment, InvalidUri, InvalidUriRef, InvalidUserInfo,
 };
-use iref_fault::fault::{self, Fault};
 use iref_grammar::chars::CharSet;
 
 impl InvalidUri<&str> {
