@@ -2,11 +2,11 @@
 use Rattle.std.proofs.Common.{arith, ◌≡◌, List, [], ◌∷◌, ◌++◌, refl, sym, ◌∙◌, ap, append_assoc, append-nil}
 use Rattle.std.proofs.lemmas.Grind.{common_steps}
 use Rattle.std.proofs.lemmas.List.Concat.{flat_map-append}
-use Rattle.iref_grammar.specs.Characters.{CharTests}
-use Rattle.iref_grammar.specs.Rules.{Text}
-use Rattle.iref_grammar.specs.Texts.{pieces_at}
+use Rattle.iref.specs.Characters.{CharTests}
+use Rattle.iref.specs.Rules.{Text}
+use Rattle.iref.specs.Texts.{pieces_at}
 use Rattle.iref_model.proofs.PieceLemmas.{pieces-append, some_piece}
-use Rattle.iref_answers.specs.Lines.{Verbs, newline, without_empty_last, lines_of, output}
+use Rattle.iref_batch.specs.Lines.{Verbs, newline, without_empty_last, lines_of, output}
 
 pub without_empty_last-append : (lines : List Text) (line : Text) (rest : List Text) → without_empty_last (lines ++ line ∷ rest) ≡ lines ++ without_empty_last (line ∷ rest)
 without_empty_last-append [] line rest = refl

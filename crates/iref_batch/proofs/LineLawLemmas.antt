@@ -1,4 +1,4 @@
--- Answers to lines.
+-- Laws of the answers to lines.
 use Rattle.std.proofs.Common.{◌≡◌, ◌≢◌, true, ◌&&◌, List, [], ◌∷◌, refl, sym, ◌∙◌, ap, subst, arith}
 use Rattle.std.proofs.lemmas.Grind.{common_steps}
 use Rattle.std.specs.Prelude.{Option, Some, None, option_map, unwrap_or, is_some}
@@ -6,19 +6,19 @@ use Rattle.std.specs.List.{list_all}
 use Rattle.std.proofs.lemmas.Bool.{and_parts}
 use Rattle.std.proofs.lemmas.Option.{same_Some}
 use mathlib.Core.Bool.{true≢false}
-use Rattle.iref_grammar.specs.Characters.{CharTests, AreAboveAscii, uri_chars, iri_chars, iri_above_ascii}
-use Rattle.iref_grammar.specs.Rules.{Text, InUtf8}
-use Rattle.iref_grammar.specs.Grammar.{IsUriReference}
-use Rattle.iref_grammar.specs.Reference.{read_reference, is_uri}
+use Rattle.iref.specs.Characters.{CharTests, AreAboveAscii, uri_chars, iri_chars, iri_above_ascii}
+use Rattle.iref.specs.Rules.{Text, InUtf8}
+use Rattle.iref.specs.Grammar.{IsUriReference}
+use Rattle.iref.specs.Reference.{read_reference, is_uri}
 use Rattle.iref_grammar.proofs.ReferenceRuleLemmas.{Decides-is_uri_reference}
-use Rattle.iref_model.specs.Key.{key, are_alike}
+use Rattle.iref.specs.Key.{key, are_alike}
 use Rattle.iref_model.proofs.KeyLemmas.{Decides-are_alike}
-use Rattle.iref_mapping.specs.Mapping.{mapped}
-use Rattle.iref_mapping.specs.PrefixTable.{PrefixEntry, PrefixTable, IsPrefixTable, inserted_all, CompactValue, compacted, compact_text, expanded}
+use Rattle.iref.specs.Mapping.{mapped}
+use Rattle.iref.specs.PrefixTable.{PrefixEntry, PrefixTable, IsPrefixTable, inserted_all, CompactValue, compacted, compact_text, expanded}
 use Rattle.iref_mapping.proofs.MappedReferenceLemmas.{reference_is_uri_reference, key-mapped_text}
 use Rattle.iref_mapping.proofs.PrefixLemmas.{table-nil, table-all, expanded-compacted}
-use Rattle.iref_answers.specs.Lines.{Request, ToUri, Compact, Expand, Answered, InvalidText, Verbs, equals_sign, is_valid, part_field, expanded_answer, answer_to, answer_if_valid, answer}
-use Rattle.iref_answers.proofs.WiderLineLemmas.{valid}
+use Rattle.iref_batch.specs.Lines.{Request, ToUri, Compact, Expand, Answered, InvalidText, Verbs, equals_sign, is_valid, part_field, expanded_answer, answer_to, answer_if_valid, answer}
+use Rattle.iref_batch.proofs.WiderLineLemmas.{valid}
 
 module _ (set : CharTests) (above : AreAboveAscii set) where
   same_if_valid : (request : Request) → answer_if_valid uri_chars request ≢ InvalidText → answer_if_valid set request ≡ answer_if_valid uri_chars request

@@ -1,14 +1,13 @@
 //! Laws of the answers to lines: each is the contract of a function that does nothing.
 
 ghost use Rattle.std.specs.Prelude.{◌≡◌, ◌≢◌, [], ◌∷◌, ◌++◌, List, true};
-ghost use Rattle.iref_grammar.specs.{Characters.{uri_chars, iri_chars}, Rules.{Text, InUtf8}};
-ghost use Rattle.iref_grammar.specs.{Grammar.{IsUriReference}, Reference.{read_reference}};
-ghost use Rattle.iref_model.specs.Key.{are_alike};
-ghost use Rattle.iref_mapping.specs.PrefixTable.{PrefixEntry};
-ghost use Rattle.iref_answers.specs.Lines.{Verbs, ToUri, Compact, Expand, Answered, InvalidText};
-ghost use Rattle.iref_answers.specs.Lines.{equals_sign, is_valid, newline, answer_to, answer, output};
+ghost use Rattle.iref.specs.{Characters.{uri_chars, iri_chars}, Rules.{Text, InUtf8}};
+ghost use Rattle.iref.specs.{Grammar.{IsUriReference}, Reference.{read_reference}};
+ghost use Rattle.iref.specs.{Key.{are_alike}, PrefixTable.{PrefixEntry}};
+ghost use Rattle.iref_batch.specs.Lines.{Verbs, ToUri, Compact, Expand, Answered, InvalidText};
+ghost use Rattle.iref_batch.specs.Lines.{equals_sign, is_valid, newline, answer_to, answer, output};
 
-use iref_grammar::chars::CharSet;
+use iref::chars::CharSet;
 
 /// A line whose texts are those of URIs has the same answer over every set of characters.
 pub fn uri_lines_are_answered_equally<S: CharSet>()

@@ -5,26 +5,26 @@ use Rattle.std.specs.Char.{encode_utf8}
 use Rattle.std.specs.Str.{is_utf8, chars}
 use Rattle.std.specs.Fmt.{digits}
 use Rattle.percent_encoding.specs.Percent.{percent_encode_byte, percent_decode}
-use Rattle.iref_grammar.specs.Rules.{Text}
-use Rattle.iref_grammar.specs.Grammar.{is_reg_name_char, is_user_info_char, is_path_char, is_query_char, is_fragment_char}
-use Rattle.iref_grammar.specs.Tests.{is_scheme, is_user_info, is_host, is_ip_literal, is_ipvfuture, is_reg_name, is_port, is_path, is_segment, is_query, is_fragment, owed_after}
-use Rattle.iref_grammar.specs.IpAddresses.{ipv4_value, ipv6_value}
-use Rattle.iref_grammar.specs.Authority.{spell_authority, read_authority, is_authority, has_authority_parts}
-use Rattle.iref_grammar.specs.PathValue.{spell_path, read_path}
-use Rattle.iref_grammar.specs.Reference.{spell, read_reference, is_reference, is_uri, is_readable}
-use Rattle.iref_model.specs.Guard.{guarded, guarded_list}
-use Rattle.iref_model.specs.NormalList.{normal_segments, excess, staying_names}
-use Rattle.iref_model.specs.PathKey.{path_key}
-use Rattle.iref_model.specs.PathSteps.{lazy_pushed, pushed, popped, joined, appended}
-use Rattle.iref_model.specs.ComponentSteps.{with_scheme, with_authority, with_path}
-use Rattle.iref_model.specs.Key.{key, key_cmp}
-use Rattle.iref_model.specs.Relative.{relative_to}
-use Rattle.iref_model.specs.Resolution.{resolved}
-use Rattle.iref_model.specs.Edits.{edited, edited_from}
-use Rattle.iref_grammar.specs.Characters.{uri_chars, iri_chars}
-use Rattle.iref_mapping.specs.Mapping.{mapped}
-use Rattle.iref_mapping.specs.PrefixTable.{is_label, get, inserted, inserted_all, longest_fit, compacted, expanded}
-use Rattle.iref_answers.specs.Lines.{answer, answer_text, answer_to, is_valid, read_line, output, all_verbs}
+use Rattle.iref.specs.Rules.{Text}
+use Rattle.iref.specs.Grammar.{is_reg_name_char, is_user_info_char, is_path_char, is_query_char, is_fragment_char}
+use Rattle.iref.specs.Tests.{is_scheme, is_user_info, is_host, is_ip_literal, is_ipvfuture, is_reg_name, is_port, is_path, is_segment, is_query, is_fragment, owed_after}
+use Rattle.iref.specs.IpAddresses.{ipv4_value, ipv6_value}
+use Rattle.iref.specs.Authority.{spell_authority, read_authority, is_authority, has_authority_parts}
+use Rattle.iref.specs.PathValue.{spell_path, read_path}
+use Rattle.iref.specs.Reference.{spell, read_reference, is_reference, is_uri, is_readable}
+use Rattle.iref.specs.Guard.{guarded, guarded_list}
+use Rattle.iref.specs.NormalList.{normal_segments, excess, staying_names}
+use Rattle.iref.specs.PathKey.{path_key}
+use Rattle.iref.specs.PathSteps.{lazy_pushed, pushed, popped, joined, appended}
+use Rattle.iref.specs.ComponentSteps.{with_scheme, with_authority, with_path}
+use Rattle.iref.specs.Key.{key, key_cmp}
+use Rattle.iref.specs.Relative.{relative_to}
+use Rattle.iref.specs.Resolution.{resolved}
+use Rattle.iref.specs.Edits.{edited, edited_from}
+use Rattle.iref.specs.Characters.{uri_chars, iri_chars}
+use Rattle.iref.specs.Mapping.{mapped}
+use Rattle.iref.specs.PrefixTable.{is_label, get, inserted, inserted_all, longest_fit, compacted, expanded}
+use Rattle.iref_batch.specs.Lines.{answer, answer_text, answer_to, is_valid, read_line, output, all_verbs}
 
 abbrev utf8 : String → Text
 utf8 text = encode_utf8_all (codes text)
