@@ -5,6 +5,7 @@ mod both_families;
 pub mod compact;
 pub mod edits;
 mod errors;
+pub mod prefix_laws;
 
 pub use both_families::{
     InvalidPort, InvalidScheme, Memory, Offsets, PathContext, Port, PortBuf, PortError, Scheme,

@@ -15,8 +15,8 @@ use Rattle.iref.specs.Key.{key, are_alike}
 use Rattle.iref_model.proofs.KeyLemmas.{Decides-are_alike}
 use Rattle.iref.specs.Mapping.{mapped}
 use Rattle.iref.specs.PrefixTable.{PrefixEntry, PrefixTable, IsPrefixTable, inserted_all, CompactValue, compacted, compact_text, expanded}
-use Rattle.iref_mapping.proofs.MappedReferenceLemmas.{reference_is_uri_reference, key-mapped_text}
-use Rattle.iref_mapping.proofs.PrefixLemmas.{table-nil, table-all, expanded-compacted}
+use Rattle.iref_model.proofs.MappedReferenceLemmas.{reference_is_uri_reference, key-mapped_text}
+use Rattle.iref.proofs.PrefixLemmas.{table-nil, table-all, expanded-compacted}
 use Rattle.iref_batch.specs.Lines.{Request, ToUri, Compact, Expand, Answered, InvalidText, Verbs, equals_sign, is_valid, part_field, expanded_answer, answer_to, answer_if_valid, answer}
 use Rattle.iref_batch.proofs.WiderLineLemmas.{valid}
 

@@ -1,6 +1,6 @@
 -- Worked rows of the program's lines, computed.
 use Prim.Native.String.{String}
-use Rattle.std.specs.Prelude.{◌≡◌, List, [], ◌∷◌, ◌++◌, map, codes, encode_utf8_all, refl}
+use Rattle.std.specs.Prelude.{◌≡◌, List, [], ◌∷◌, ◌++◌, map, codes, refl}
 use Rattle.std.specs.Char.{encode_utf8}
 use Rattle.std.specs.Str.{is_utf8, chars}
 use Rattle.std.specs.Fmt.{digits}
@@ -24,10 +24,8 @@ use Rattle.iref.specs.Edits.{edited, edited_from}
 use Rattle.iref.specs.Characters.{uri_chars, iri_chars}
 use Rattle.iref.specs.Mapping.{mapped}
 use Rattle.iref.specs.PrefixTable.{is_label, get, inserted, inserted_all, longest_fit, compacted, expanded}
+use Rattle.iref_model.proofs.Rows.{utf8}
 use Rattle.iref_batch.specs.Lines.{answer, answer_text, answer_to, is_valid, read_line, output, all_verbs}
-
-abbrev utf8 : String → Text
-utf8 text = encode_utf8_all (codes text)
 
 -- the answer to a line, without the newline, of a program over URIs, and of one over IRIs
 abbrev answer_line : String → Text
