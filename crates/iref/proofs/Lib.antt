@@ -8,6 +8,8 @@ pub mod PortTextLemmas
 pub mod PrefixBitLemmas
 pub mod PrefixFindLemmas
 pub mod PrefixInsertLemmas
+pub mod PrefixLemmas
+mod PrefixRows
 pub mod PrefixTextLemmas
 pub mod PrefixTableLemmas
 pub mod PrefixWayLemmas
@@ -22,4 +24,3 @@ pub use Rattle.iref_model.proofs.DirectoryLemmas
 pub use Rattle.iref_model.proofs.KeyOrderLemmas
 pub use Rattle.iref_model.proofs.PartTieLemmas
 pub use Rattle.iref_model.proofs.TieLemmas
-pub use Rattle.iref_mapping.proofs.PrefixLemmas

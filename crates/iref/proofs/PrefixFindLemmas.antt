@@ -7,7 +7,7 @@ use Rattle.std.proofs.lemmas.Bool.{cases_lt, false_from_ne_true}
 use Rattle.std.proofs.lemmas.List.{length-take, length-take-le, length-map}
 use Rattle.std.proofs.lemmas.List.Sums.{common_prefix_len-le}
 use Rattle.iref_grammar.specs.Rules.{Text}
-use Rattle.iref_mapping.specs.PrefixTable.{PrefixEntry, PrefixTable, fits, longest_fit}
+use Rattle.iref.specs.PrefixTable.{PrefixEntry, PrefixTable, fits, longest_fit}
 use Rattle.iref.specs.declared.compact.entry.Key.{Key}
 use Rattle.iref.specs.declared.compact.entry.Key.TheVariants.{Iri}
 use Rattle.iref.specs.declared.compact.tree.Child.TheVariants.{Inner, Leaf}

@@ -8,8 +8,8 @@ use Rattle.iref_grammar.specs.Rules.{Text, InUtf8}
 use Rattle.iref_grammar.specs.Grammar.{colon, IsUri}
 use Rattle.iref_grammar.proofs.ReferenceRuleLemmas.{Decides-is_uri}
 use Rattle.iref_grammar.specs.Texts.{before, after, begins_with}
-use Rattle.iref_mapping.specs.PrefixTable.{PrefixEntry, PrefixTable, is_label, has_label, get, BadLabel, Taken, inserted, longest_fit, IsPrefixTable, compacted, compact_text, NoColon, UnknownLabel, NotAnIri, if_iri, expanded}
-use Rattle.iref_mapping.proofs.PrefixLemmas.{is_taken-get, longest_fit-is, table-new, expanded-compacted}
+use Rattle.iref.specs.PrefixTable.{PrefixEntry, PrefixTable, is_label, has_label, get, BadLabel, Taken, inserted, longest_fit, IsPrefixTable, compacted, compact_text, NoColon, UnknownLabel, NotAnIri, if_iri, expanded}
+use Rattle.iref.proofs.PrefixLemmas.{is_taken-get, longest_fit-is, table-new, expanded-compacted}
 
 -- ---- inserts
 

@@ -2,6 +2,7 @@ pub mod ComponentRules
 pub mod EditAnswers
 pub mod EditSteps
 pub mod Errors
+pub mod PrefixTable
 pub mod PrefixTree
 pub mod Prefixes
 -- the words of contracts, for callers that list this crate alone
@@ -43,8 +44,8 @@ pub use Rattle.iref_fault.specs.Cut
 pub use Rattle.iref_fault.specs.Faults
 pub use Rattle.iref_fault.specs.FirstFault
 pub use Rattle.iref_fault.specs.BytePlaces
-pub use Rattle.iref_mapping.specs.Mapping
-pub use Rattle.iref_mapping.specs.PrefixTable
+pub use Rattle.iref_fault.specs.Tried
+pub use Rattle.iref_model.specs.Mapping
 pub use Rattle.iref_parse.specs.AuthoritySlices
 pub use Rattle.iref_parse.specs.ReferenceSlices
 pub use Rattle.iref_component.specs.Makers
@@ -57,7 +58,6 @@ pub use Rattle.iref_component.specs.AuthorityParts
 pub use Rattle.iref_component.specs.AuthorityTexts
 pub use Rattle.iref_component.specs.AuthorityEdits
 pub use Rattle.iref_component.specs.Comparisons
-pub use Rattle.iref_error.specs.Tried
 pub use Rattle.iref_component.specs.Paths
 pub use Rattle.iref_component.specs.NormalPaths
 pub use Rattle.iref_component.specs.Appends

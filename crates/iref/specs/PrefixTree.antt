@@ -2,7 +2,7 @@
 use Rattle.std.specs.Prelude.{◌≡◌, ◌≢◌, ℕ, ◌+◌, ◌-◌, ◌*◌, ◌/◌, ◌%◌, ◌<◌, ◌≤◌, ◌==◌, ◌⊎◌, Bool, true, false, List, [], ◌∷◌, ◌++◌, length, map, nat_lt, slice_index, slice_index_or, bytes_eq, Option, Some, None, MatchOption, IfSome, if◌then◌else◌}
 use Rattle.std.specs.Int.{bit_at}
 use Rattle.iref_grammar.specs.Rules.{Text}
-use Rattle.iref_mapping.specs.PrefixTable.{PrefixEntry, PrefixTable}
+use Rattle.iref.specs.PrefixTable.{PrefixEntry, PrefixTable}
 use Rattle.iref.specs.declared.compact.entry.Key.{Key}
 use Rattle.iref.specs.declared.compact.entry.Key.TheVariants.{Label, Iri}
 use Rattle.iref.specs.declared.compact.tree.Bit.{Bit}

@@ -1,8 +1,8 @@
 -- What the calls of prefix tables answer.
 use Rattle.std.specs.Prelude.{◌≡◌, ◌≢◌, Result, Err, IsOk}
 use Rattle.iref_grammar.specs.Rules.{Text}
-use Rattle.iref_mapping.specs.PrefixTable as table
-use Rattle.iref_mapping.specs.PrefixTable.{PrefixTable, CompactValue, InsertRefusal, ExpandRefusal}
+use Rattle.iref.specs.PrefixTable as table
+use Rattle.iref.specs.PrefixTable.{PrefixTable, CompactValue, InsertRefusal, ExpandRefusal}
 use Rattle.iref.specs.declared.compact.Compact.{Compact}
 use Rattle.iref.specs.declared.compact.PrefixFault.{PrefixFault}
 use Rattle.iref.specs.declared.compact.PrefixFault.TheVariants as prefix_fault

@@ -2,8 +2,8 @@
 //! `http://example.org/a`.
 ghost use Rattle.std.specs.Prelude.{◌≡◌, [], length, option_map, Ok, IfOk, IfErr, IfSome, OnOk, OnErr};
 ghost use Rattle.std.specs.{String.{string_bytes}, List.{find}, Option.{option_copied}};
-ghost use Rattle.iref_mapping.specs.PrefixTable.{has_label, longest_fit, IsPrefixTable, compact_text, compacted};
-ghost use Rattle.iref_mapping.specs.PrefixTable.{expanded, get, inserted};
+ghost use Rattle.iref.specs.PrefixTable.{has_label, longest_fit, IsPrefixTable, compact_text, compacted};
+ghost use Rattle.iref.specs.PrefixTable.{expanded, get, inserted};
 ghost use Rattle.iref_reference.specs.References.{reference_buf_text, reference_text};
 ghost use Rattle.iref.specs.Prefixes.{compact_value, RefusesExpand, RefusesInsert};
 
@@ -13,8 +13,8 @@ mod tree;
 
 use crate::iri::{Iri, IriBuf};
 use entry::{Entry, Key, add};
-use iref_error::Memory;
 use iref_parse::cut::cut;
+use iref_splice::Memory;
 use std::alloc::Global;
 use std::marker::Model;
 use text::{after_front, iri_of, is_label, joined};
@@ -104,7 +104,7 @@ pub struct Prefixes {
 }
 
 impl Model for Prefixes {
-    ghost use Rattle.iref_mapping.specs.PrefixTable.{PrefixTable, IsPrefixTable};
+    ghost use Rattle.iref.specs.PrefixTable.{PrefixTable, IsPrefixTable};
     ghost use Rattle.iref.specs.{PrefixTree.{keys_of, IsTree}, declared.compact.entry.Key.TheVariants.{Label, Iri}};
 
     ghost Value = { PrefixTable };
@@ -156,7 +156,7 @@ impl Prefixes {
 
     /// The IRI of a label, if the label has an entry: after `insert` of `ex` with `http://ex.org/`,
     /// of `ex` that IRI.
-    #[tactic(auto, unfolding(iref_mapping::specs::PrefixTable::get))]
+    #[tactic(auto, unfolding(crate::specs::PrefixTable::get))]
     pub fn get(&self, label: &str) -> Option<Iri<'_>>
         ensures { option_map reference_text result ≡ get label.now self.now }
     {

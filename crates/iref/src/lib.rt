@@ -5,6 +5,7 @@ mod both_families;
 pub mod compact;
 pub mod edits;
 mod errors;
+pub mod prefix_laws;
 
 pub use both_families::{
     InvalidPort, InvalidScheme, Memory, Offsets, PathContext, Port, PortBuf, PortError, Scheme,
@@ -12,7 +13,7 @@ pub use both_families::{
 };
 pub use iref_canonical::owned::SortKey;
 pub use iref_component::pct;
-pub use iref_error::InvalidPctStr;
+pub use iref_fault::InvalidPctStr;
 pub use iref_fault::component::{Cause, Component};
 pub use iref_fault::fault::Fault;
 pub use iref_grammar::chars;
@@ -41,7 +42,7 @@ pub mod uri {
     };
     pub use crate::edits::{Applied, EditFault, apply_all, apply_all_uri};
     pub use crate::errors::UriError;
-    pub use iref_error::{InvalidUri, InvalidUriRef};
+    pub use iref_fault::{InvalidUri, InvalidUriRef};
     use iref_grammar::chars::UriChars;
 
     /// A URI (RFC 3986 section 3): `http://a/b?q#f` and `urn:isbn:1`, but not `//a/b`, which has no
@@ -147,7 +148,7 @@ pub mod iri {
     };
     pub use crate::edits::{Applied, EditFault, apply_all, apply_all_uri};
     pub use crate::errors::IriError;
-    pub use iref_error::{InvalidIri, InvalidIriRef};
+    pub use iref_fault::{InvalidIri, InvalidIriRef};
     use iref_grammar::chars::IriChars;
 
     /// An IRI (RFC 3987 section 2.2): `http://é/b` and each URI, but not `//é/b`, which has no

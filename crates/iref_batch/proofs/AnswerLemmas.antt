@@ -16,7 +16,7 @@ use Rattle.iref.proofs.TieLemmas.{references_tie}
 use Rattle.iref.specs.Relative.{relative_to}
 use Rattle.iref.specs.Resolution.{resolved}
 use Rattle.iref.specs.Mapping.{mapped}
-use Rattle.iref_answers.specs.Lines.{Request, answer_if_valid, read_line, answer, InvalidText, Answered, Parts, Resolve, Relative, Normal, Equal, ToUri, answer_to, is_valid, part_fields, yes_or_no, all_verbs}
+use Rattle.iref_batch.specs.Lines.{Request, answer_if_valid, read_line, answer, InvalidText, Answered, Parts, Resolve, Relative, Normal, Equal, ToUri, answer_to, is_valid, part_fields, yes_or_no, all_verbs}
 use Rattle.iref_batch.specs.EditFields.{IsRead, IsRefusal}
 use Rattle.iref_batch.specs.Runs.{line_reply, reply_to}
 use Rattle.iref_batch.specs.declared.edit_fields.FieldError.{FieldError}

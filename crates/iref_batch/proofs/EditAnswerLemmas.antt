@@ -7,7 +7,7 @@ use Rattle.iref.specs.Grammar.{IsUriReference}
 use Rattle.iref.specs.Reference.{ReferenceValue, read_reference, spell}
 use Rattle.iref.specs.Rules.{InUtf8, Text}
 use Rattle.iref.specs.Edits.{EditStep, EditRefusal, EditsOutcome, edited, edited_all}
-use Rattle.iref_answers.specs.Lines.{Edit, Answered, InvalidText, RefusedEdit, answer_if_valid, answer_text, answer_to, edits_answer, is_valid, is_valid_edit}
+use Rattle.iref_batch.specs.Lines.{Edit, Answered, InvalidText, RefusedEdit, answer_if_valid, answer_text, answer_to, edits_answer, is_valid, is_valid_edit}
 use Rattle.iref.specs.EditAnswers.{AreDone}
 use Rattle.iref_batch.specs.Runs.{reply_to}
 

@@ -6,7 +6,7 @@ use Rattle.std.proofs.Math.Bool.{and-false, and-true}
 use Rattle.iref.specs.Characters.{iri_chars}
 use Rattle.iref.specs.Rules.{Text}
 use Rattle.iref.specs.Edits.{EditStep}
-use Rattle.iref_answers.specs.Lines.{edit_names, equals_sign, read_edit, is_valid_edit}
+use Rattle.iref_batch.specs.Lines.{edit_names, equals_sign, read_edit, is_valid_edit}
 use Rattle.iref.specs.Texts.{after, before}
 use Rattle.iref_batch.specs.declared.edit_fields.FieldError.{FieldError}
 use Rattle.iref_batch.proofs.FieldListLemmas.{next_read}

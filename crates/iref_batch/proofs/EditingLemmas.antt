@@ -4,7 +4,7 @@ use Rattle.iref.specs.Characters.{iri_chars}
 use Rattle.iref.specs.Rules.{Text}
 use Rattle.iref.specs.Reference.{ReferenceValue}
 use Rattle.iref.specs.Edits.{EditStep, EditRefusal, edited, edited_from}
-use Rattle.iref_answers.specs.Lines.{read_edit, is_valid_edit}
+use Rattle.iref_batch.specs.Lines.{read_edit, is_valid_edit}
 use Rattle.iref_batch.specs.EditFields.{LeavesAfter, edits_read}
 use Rattle.iref_batch.proofs.FieldListLemmas.{next_read}
 use Rattle.iref_batch.proofs.EditFieldLemmas.{Reading, reading_begun, reading_invalid, reading_more}

@@ -7,8 +7,8 @@ use Rattle.std.proofs.lemmas.List.Concat.{flat_map-append}
 use Rattle.std.proofs.lemmas.List.Elements.{AllZip-push}
 use Rattle.iref.specs.Rules.{Text}
 use Rattle.iref.specs.Texts.{is_empty}
-use Rattle.iref_answers.specs.Lines.{newline, lines_of}
-use Rattle.iref_answers.proofs.OutputLemmas.{lines_of-cut}
+use Rattle.iref_batch.specs.Lines.{newline, lines_of}
+use Rattle.iref_batch.proofs.OutputLemmas.{lines_of-cut}
 use Rattle.iref_batch.specs.declared.lines.Lines.{Lines}
 use Rattle.iref_batch.specs.Runs.{IsReply, line_reply, with_newline, with_newlines, AnswersAll, AnswersBegun, EndsEarly}
 use Rattle.iref_batch.specs.Gathering.{IsLine, IsNothing, Holds, Writes, WritesPart, RepliesPart, InRun, BreaksOff}

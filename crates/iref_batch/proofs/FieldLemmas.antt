@@ -9,7 +9,7 @@ use Rattle.std.proofs.lemmas.List.Elements.{All-cons, All-nil}
 use Rattle.iref.specs.Texts.{after, before, lacks, pieces_at, is_empty}
 use Rattle.iref.proofs.CutLemmas.{cut, rest_lacks}
 use Rattle.iref.proofs.SplitLemmas.{lacks-before}
-use Rattle.iref_answers.specs.Lines.{Request, tab, read_line, one_text, all_verbs}
+use Rattle.iref_batch.specs.Lines.{Request, tab, read_line, one_text, all_verbs}
 use Rattle.iref_batch.specs.Gathering.{Lacks}
 use Rattle.iref_batch.specs.Fields.{fields_of}
 

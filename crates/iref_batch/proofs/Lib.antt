@@ -5,10 +5,14 @@ pub mod EditingLemmas
 pub mod EndLemmas
 pub mod FieldLemmas
 pub mod InputLemmas
+pub mod LineLawLemmas
 pub mod LineLemmas
+mod LineRows
 pub mod FieldListLemmas
 pub mod PrefixFieldLemmas
 pub mod PrefixAnswerLemmas
+pub mod OutputLemmas
 pub mod ReplyLemmas
 pub mod RunLemmas
 pub mod Writing
+pub mod WiderLineLemmas

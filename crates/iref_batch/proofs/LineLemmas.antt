@@ -7,8 +7,8 @@ use Rattle.std.proofs.lemmas.List.Splits.{slice_split_at, slice_split_none, leng
 use Rattle.std.proofs.lemmas.List.Elements.{All-head, All-tail, All-push}
 use Rattle.iref.specs.Rules.{Text}
 use Rattle.iref.specs.Texts.{pieces_at, is_empty}
-use Rattle.iref_answers.specs.Lines.{newline, lines_of, without_empty_last}
-use Rattle.iref_answers.proofs.OutputLemmas.{without_empty_last-append}
+use Rattle.iref_batch.specs.Lines.{newline, lines_of, without_empty_last}
+use Rattle.iref_batch.proofs.OutputLemmas.{without_empty_last-append}
 use Rattle.iref_batch.specs.Runs.{with_newlines, ended_lines}
 use Rattle.iref_batch.specs.Gathering.{IsLine}
 use Rattle.iref.proofs.DirectoryLemmas.{all_but_last-snoc}

@@ -7,7 +7,7 @@ use Rattle.iref.specs.Grammar.{IsUri}
 use Rattle.iref.specs.Rules.{InUtf8, Text}
 use Rattle.iref.proofs.ReferenceRuleLemmas.{Decides-is_uri}
 use Rattle.iref.specs.PrefixTable.{PrefixEntry, CompactValue, compacted, compact_text, ExpandRefusal, expanded}
-use Rattle.iref_answers.specs.Lines.{Compact, Expand, Answered, InvalidText, answer_if_valid, answer_to, are_valid_entries, expanded_answer, is_valid, part_field}
+use Rattle.iref_batch.specs.Lines.{Compact, Expand, Answered, InvalidText, answer_if_valid, answer_to, are_valid_entries, expanded_answer, is_valid, part_field}
 use Rattle.iref_batch.specs.Requests.{asked_of}
 use Rattle.iref_batch.specs.declared.request.TableVerb.{TableVerb}
 use Rattle.iref_batch.proofs.PrefixFieldLemmas.{valid_table}

@@ -16,7 +16,7 @@ use Rattle.iref.specs.Reference.{is_uri}
 use Rattle.iref.specs.Rules.{InUtf8, Text}
 use Rattle.iref.specs.PrefixTable.{PrefixEntry, PrefixTable, InsertRefusal, is_label, is_label_char, inserted, inserted_all}
 use Rattle.iref.proofs.PrefixLemmas.{inserted-ok, inserted-bad_label}
-use Rattle.iref_answers.specs.Lines.{equals_sign, are_valid_entries, read_entry, table_of}
+use Rattle.iref_batch.specs.Lines.{equals_sign, are_valid_entries, read_entry, table_of}
 use Rattle.iref_batch.specs.PrefixFields.{can_insert, entries_read, HasTaken}
 use Rattle.iref_batch.proofs.FieldListLemmas.{next_read}
 

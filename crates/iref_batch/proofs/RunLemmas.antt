@@ -5,7 +5,7 @@ use Rattle.std.proofs.lemmas.List.{flat_map_more}
 use Rattle.std.proofs.lemmas.List.Elements.{All-nil, All-append, All-push, AllZip-push}
 use Rattle.iref.specs.Rules.{Text}
 use Rattle.iref.specs.Texts.{is_empty}
-use Rattle.iref_answers.specs.Lines.{newline}
+use Rattle.iref_batch.specs.Lines.{newline}
 use Rattle.iref_batch.specs.declared.lines.Lines.{Lines}
 use Rattle.iref_batch.specs.Runs.{IsReply, with_newline, with_newlines}
 use Rattle.iref_batch.specs.Gathering.{IsLine, IsNothing, Holds, Writes, Replies, InRun, SeesMore}

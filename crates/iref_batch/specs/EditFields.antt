@@ -6,7 +6,7 @@ use Rattle.iref.specs.IpAddresses.{all_some}
 use Rattle.iref.specs.Characters.{iri_chars}
 use Rattle.iref.specs.Reference.{ReferenceValue}
 use Rattle.iref.specs.Edits.{EditStep, EditRefusal, edited_all}
-use Rattle.iref_answers.specs.Lines.{BadCommand, InvalidText, answer_text, edit_names, is_valid_edit, read_edit}
+use Rattle.iref_batch.specs.Lines.{BadCommand, InvalidText, answer_text, edit_names, is_valid_edit, read_edit}
 use Rattle.iref_batch.specs.declared.edit_fields.FieldError.{FieldError}
 use Rattle.iref_batch.specs.declared.edit_fields.FieldError.TheVariants.{Command, Invalid, Memory}
 

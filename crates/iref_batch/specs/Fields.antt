@@ -2,7 +2,7 @@
 use Rattle.std.specs.Prelude.{List, [], Option, Some, None}
 use Rattle.iref.specs.Rules.{Text}
 use Rattle.iref.specs.Texts.{pieces_at}
-use Rattle.iref_answers.specs.Lines.{tab}
+use Rattle.iref_batch.specs.Lines.{tab}
 
 -- the fields of the text, if there is one
 abbrev pub fields_of : Option Text → List Text

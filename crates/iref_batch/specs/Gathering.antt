@@ -4,7 +4,7 @@ use Rattle.std.specs.Borrow.{Bor}
 use Rattle.std.specs.List.{All, AllZip}
 use Rattle.iref.specs.Rules.{Text}
 use Rattle.iref.specs.Texts.{is_empty}
-use Rattle.iref_answers.specs.Lines.{Request, newline, lines_of}
+use Rattle.iref_batch.specs.Lines.{Request, newline, lines_of}
 use Rattle.iref_batch.specs.declared.lines.Begun.{Begun}
 use Rattle.iref_batch.specs.declared.lines.Lines.{Lines}
 use Rattle.iref_batch.specs.Runs.{IsReply, request_reply, with_newline, with_newlines, AnswersBegun}

@@ -1,10 +1,10 @@
 pub mod EditFields
 pub mod Fields
 pub mod Gathering
+pub mod Lines
 pub mod PrefixFields
 pub mod Requests
 pub mod Runs
 pub mod StdStreams
 -- the words of contracts, for callers that list this crate alone
 pub use Rattle.iref.specs.Rules
-pub use Rattle.iref_answers.specs.Lines

@@ -6,7 +6,7 @@ use Rattle.iref.specs.Reference.{is_uri}
 use Rattle.iref.specs.Rules.{Text}
 use Rattle.iref.specs.IpAddresses.{all_some}
 use Rattle.iref.specs.PrefixTable.{PrefixEntry, PrefixTable, inserted}
-use Rattle.iref_answers.specs.Lines.{read_entry}
+use Rattle.iref_batch.specs.Lines.{read_entry}
 use Rattle.iref_batch.specs.declared.edit_fields.FieldError.{FieldError}
 use Rattle.iref_batch.specs.declared.edit_fields.FieldError.TheVariants.{Command, Invalid, Memory}
 

@@ -4,7 +4,7 @@ use Rattle.std.specs.List.{flat_map, AllZip}
 use Rattle.iref.specs.Characters.{iri_chars}
 use Rattle.iref.specs.Rules.{Text}
 use Rattle.iref.specs.Texts.{pieces_at, all_but_last}
-use Rattle.iref_answers.specs.Lines.{Request, BadCommand, newline, answer, answer_if_valid, answer_text, lines_of, all_verbs}
+use Rattle.iref_batch.specs.Lines.{Request, BadCommand, newline, answer, answer_if_valid, answer_text, lines_of, all_verbs}
 
 -- what is written for a request, for what may be one, and for a line
 abbrev pub request_reply : Request → Text

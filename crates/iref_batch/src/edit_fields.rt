@@ -1,15 +1,15 @@
 //! The edits that the fields of a line name, each a name, or a name, `=` and a value.
 ghost use Rattle.std.specs.{Prelude.{◌≡◌, Some, true, option_map}, Option.{option_copied}};
-ghost use Rattle.iref_answers.specs.Lines.{edit_names, is_valid_edit};
+ghost use Rattle.iref_batch.specs.Lines.{edit_names, is_valid_edit};
 ghost use Rattle.iref.specs.{Tests.{none_or}, Characters.{iri_chars}, Components.{text_of}, EditSteps.{edit_step}};
 ghost use Rattle.iref_batch.specs.EditFields.{IsRead, edit_named, path_edit_names};
-ghost use Rattle.iref_answers.specs.Lines as spec;
+ghost use Rattle.iref_batch.specs.Lines as spec;
 
 use super::request::is_name;
 use iref::chars::CharSet;
 use iref::iri::Edit;
 use iref::rules::{BorrowedText, Rule};
-use iref_answers::cut_bytes;
+use iref_parse::cut::cut_bytes;
 use std::str;
 
 /// Why fields cannot be read as edits or as prefix entries: `frobnicate=x` names no edit, and the value

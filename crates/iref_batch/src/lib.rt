@@ -1,4 +1,4 @@
-//! The lines of the program: each line read is answered by a line.
+//! The lines of the program: each line read is answered by a line; with the laws about the answers.
 #![tactic(auto)]
 
 ghost use Rattle.std.specs.Prelude.{◌≡◌, Some, true, false, OnOk, OnErr};
@@ -7,6 +7,7 @@ ghost use Rattle.iref_batch.specs.Runs.{AnswersBegun, EndsWell, EndsEarly};
 
 mod answers;
 mod edit_fields;
+pub mod line_laws;
 mod lines;
 mod request;
 pub mod run_laws;

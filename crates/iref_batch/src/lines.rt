@@ -1,6 +1,6 @@
 //! Lines as their bytes come in, and the replies to them.
 ghost use Rattle.std.specs.Prelude.{◌≡◌, ◌++◌, ◌∷◌, [], true, false, is_err, OnOk, OnErr};
-ghost use Rattle.iref_answers.specs.Lines.{newline};
+ghost use Rattle.iref_batch.specs.Lines.{newline};
 ghost use Rattle.iref.specs.{Rules.{Text}, Texts.{is_empty}};
 ghost use Rattle.iref_batch.specs.{Runs.{memory_refused, with_newline, AnswersAll}, Gathering.{Cuts, Lacks, Writes}};
 ghost use Rattle.iref_batch.specs.Gathering.{WritesPart, Replies, RepliesPart, IsNothing, Holds, InRun, SeesMore};

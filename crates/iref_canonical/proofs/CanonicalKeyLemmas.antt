@@ -28,9 +28,9 @@ use Rattle.iref_model.proofs.NormalGrammarLemmas.{takes_dots}
 use Rattle.iref_model.proofs.ReferenceStepLemmas.{guarded_reference-readable}
 use Rattle.iref_model.proofs.SettledLemmas.{lone-normal}
 use Rattle.iref_model.proofs.StepSegmentLemmas.{normal-in}
-use Rattle.iref_mapping.proofs.MappedCharLemmas.{utf8_bytes}
-use Rattle.iref_mapping.proofs.MappedMarkLemmas.{is_some-map}
-use Rattle.iref_mapping.proofs.MappedRuleLemmas.{IfSome_mapped}
+use Rattle.iref_model.proofs.MappedCharLemmas.{utf8_bytes}
+use Rattle.iref_model.proofs.MappedMarkLemmas.{is_some-map}
+use Rattle.iref_model.proofs.MappedRuleLemmas.{IfSome_mapped}
 use Rattle.iref_canonical.specs.Canonical.{encoded, canonical_authority, canonical_parts, canonical}
 use Rattle.iref_canonical.proofs.EncodedTextLemmas.{encoded-in}
 use Rattle.iref_canonical.proofs.PlainCharacterLemmas.{plain_query, plain_fragment}

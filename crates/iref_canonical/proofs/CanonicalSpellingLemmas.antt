@@ -15,7 +15,7 @@ use Rattle.iref_model.specs.AuthorityKey.{authority_key}
 use Rattle.iref_model.specs.Guard.{guarded}
 use Rattle.iref_model.specs.Key.{key}
 use Rattle.iref_model.specs.PathKey.{path_key}
-use Rattle.iref_mapping.proofs.MappedMarkLemmas.{is_some-map}
+use Rattle.iref_model.proofs.MappedMarkLemmas.{is_some-map}
 use Rattle.iref_canonical.specs.Canonical.{canonical, canonical_authority, canonical_parts, canonical_path, canonical_text, encoded}
 use Rattle.iref_canonical.specs.CanonicalParts.{encoded_authority, encoded_query}
 use Rattle.iref_canonical.proofs.SetLemmas.{encoded-fragment, encoded-query}

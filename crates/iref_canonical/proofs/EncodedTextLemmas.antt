@@ -13,9 +13,9 @@ use Rattle.iref_grammar.specs.Rules.{Text, InUtf8}
 use Rattle.iref_grammar.specs.Grammar.{IsEncoded}
 use Rattle.iref_grammar.specs.Tests.{is_encoded, is_encoded_after}
 use Rattle.iref_grammar.proofs.EncodedLemmas.{by_percent, by_digit, take_char, Decides-is_encoded}
-use Rattle.iref_mapping.proofs.MappedLemmas.{escape_ascii}
-use Rattle.iref_mapping.proofs.MappedMarkLemmas.{glyph_hex}
-use Rattle.iref_mapping.proofs.MappedRuleLemmas.{ascii_in_utf8}
+use Rattle.iref_model.proofs.MappedLemmas.{escape_ascii}
+use Rattle.iref_model.proofs.MappedMarkLemmas.{glyph_hex}
+use Rattle.iref_model.proofs.MappedRuleLemmas.{ascii_in_utf8}
 use Rattle.iref_canonical.specs.Canonical.{encoded}
 
 pub encoded-nil : (test : ℕ → Bool) → encoded test [] ≡ []

@@ -23,7 +23,7 @@ use Rattle.iref_model.specs.NormalList.{is_dot, is_dot_dot, is_name, normal_segm
 use Rattle.iref_model.specs.PathKey.{path_key}
 use Rattle.iref_model.specs.Key.{key}
 use Rattle.iref_parse.specs.Dots.{begins_with_dot, is_some_dotted, has_dot_segment}
-use Rattle.iref_mapping.proofs.AsciiReferenceLemmas.{is_reference-ascii}
+use Rattle.iref_model.proofs.AsciiReferenceLemmas.{is_reference-ascii}
 use Rattle.iref_path.proofs.DotlessLemmas.{dotless_name, normal_segments-dotless}
 use Rattle.iref_path.proofs.GuardTextLemmas.{guarded-same}
 use Rattle.iref_canonical.specs.Canonical.{encoded, canonical_name, canonical_relative, canonical_items, canonical_path, canonical_host, canonical_authority, canonical_parts, canonical, canonical_text}

@@ -6,7 +6,7 @@ ghost use Rattle.iref_canonical.specs.Backward.{compared_after, counted_after, i
 ghost use Rattle.iref_canonical.specs.BackwardLaws.{compared-both, compared-nothing, counted-both, counted-nothing};
 ghost use Rattle.iref_canonical.specs.BackwardLaws.{written-both, written-fits, written-nothing};
 
-use iref_error::Memory;
+use iref_splice::Memory;
 use std::alloc::Global;
 use std::marker::Model;
 

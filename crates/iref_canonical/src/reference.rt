@@ -11,9 +11,9 @@ use crate::authority::put_authority;
 use crate::backward::{Backward, Compared, Count, Written};
 use crate::encoded::{QUERY, put_encoded, put_lower};
 use crate::path::CanonicalPath;
-use iref_error::Memory;
 use iref_grammar::context::PathContext;
 use iref_parse::split::ReferenceSlices;
+use iref_splice::Memory;
 use std::alloc::{AllocError, Global};
 
 /// The canonical text of a reference, not written yet.

@@ -19,10 +19,10 @@ use crate::sort_parts::{
 use crate::sort_path::Items;
 use crate::sort_short::{LONGEST, ROOM, put_short};
 use crate::sort_text::write_byte;
-use iref_error::Memory;
 use iref_parse::authority::{AuthoritySlices, split_parts};
 use iref_parse::split::ReferenceSlices;
 use iref_parse::unescaped::is_kept;
+use iref_splice::Memory;
 use std::alloc::{AllocError, Global};
 
 // The components of a reference as a sort key has them.

@@ -7,9 +7,9 @@ ghost use Rattle.iref_canonical.specs.Canonical.{canonical_text};
 
 use crate::plain::is_plain;
 use crate::reference::CanonicalReference;
-use iref_error::Memory;
 use iref_grammar::chars::CharSet;
 use iref_parse::split::ReferenceSlices;
+use iref_splice::Memory;
 use std::alloc::Global;
 
 /// The canonical text of a reference, written from its components: of `HTTP://a/%7Eb`, `http://a/~b`.

@@ -6,7 +6,7 @@ use Rattle.std.specs.List.{All}
 use Rattle.std.specs.Result.{result_or}
 use Rattle.iref_grammar.specs.Characters.{CharTests}
 use Rattle.iref_grammar.specs.Rules.{Text}
-use Rattle.iref_error.specs.declared.edit.TryError.TheVariants.{Memory}
+use Rattle.iref_fault.specs.declared.edit.TryError.TheVariants.{Memory}
 use Rattle.iref_component.specs.Appends.{IsSegmentText, item_texts, ListEdit, TriesAppends}
 use Rattle.iref_component.specs.PathEdits.{PathStep}
 

@@ -7,8 +7,8 @@ use Rattle.std.proofs.lemmas.Bool.Decides.{nat_tests}
 use Rattle.iref_grammar.specs.Rules.{Text}
 use Rattle.iref_grammar.specs.Tests.{is_port}
 use Rattle.iref_component.specs.Ports.{port_number}
-use Rattle.iref_error.specs.declared.port.PortError.{PortError}
-use Rattle.iref_error.specs.declared.port.PortError.TheVariants.{OutOfRange}
+use Rattle.iref_fault.specs.declared.port.PortError.{PortError}
+use Rattle.iref_fault.specs.declared.port.PortError.TheVariants.{OutOfRange}
 use Rattle.iref_model.proofs.PortNumberLemmas.{digits_of_ports, value_of_digits}
 
 -- the number that is read of digits

@@ -12,10 +12,10 @@ use Rattle.iref_model.specs.NormalList.{ends_in_dots}
 use Rattle.iref_model.specs.PathSteps.{appended, followed, lazy_appended}
 use Rattle.iref_component.specs.declared.rule_text.RuleText.{RuleText}
 use Rattle.iref_component.specs.Components.{text_of}
-use Rattle.iref_error.specs.Tried.{InvalidIfOutside}
-use Rattle.iref_error.specs.declared.edit.TryError.{TryError}
-use Rattle.iref_error.specs.declared.edit.TryError.TheVariants.{Memory}
-use Rattle.iref_error.specs.declared.invalid.InvalidSegment.{InvalidSegment}
+use Rattle.iref_fault.specs.Tried.{InvalidIfOutside}
+use Rattle.iref_fault.specs.declared.edit.TryError.{TryError}
+use Rattle.iref_fault.specs.declared.edit.TryError.TheVariants.{Memory}
+use Rattle.iref_fault.specs.declared.invalid.InvalidSegment.{InvalidSegment}
 use Rattle.iref_component.specs.PathEdits.{PathStep}
 
 -- of the iterator that is made of the source it takes all items, up to the first None, and this is true of them

@@ -3,8 +3,8 @@ use Rattle.std.specs.Prelude.{ℕ, nat_lt, ℤ, pos, Option, None, Some, Result,
 use Rattle.std.specs.Result.{result_map_both}
 use Rattle.iref_grammar.specs.Rules.{Text}
 use Rattle.iref_model.specs.PortNumbers.{port_value}
-use Rattle.iref_error.specs.declared.port.PortError.{PortError}
-use Rattle.iref_error.specs.declared.port.PortError.TheVariants.{Empty, OutOfRange}
+use Rattle.iref_fault.specs.declared.port.PortError.{PortError}
+use Rattle.iref_fault.specs.declared.port.PortError.TheVariants.{Empty, OutOfRange}
 
 -- the number, if there is one and it is below the limit of its type
 abbrev pub fitting : ℕ → Option ℕ → Result ℕ PortError

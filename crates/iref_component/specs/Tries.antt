@@ -3,8 +3,8 @@ use Rattle.std.specs.Borrow.{Bor}
 use Rattle.std.specs.Prelude.{◌≡◌, Option, Some, IfSome, IsNone, IsOk, Result}
 use Rattle.std.specs.Option.{option_copied}
 use Rattle.iref_grammar.specs.Rules.{Text, InUtf8}
-use Rattle.iref_error.specs.declared.edit.TryError.{TryError}
-use Rattle.iref_error.specs.Tried.{TellsInvalid}
+use Rattle.iref_fault.specs.declared.edit.TryError.{TryError}
+use Rattle.iref_fault.specs.Tried.{TellsInvalid}
 
 -- it is refused as invalid exactly where the text is not in its rule, and the error holds the text
 abbrev pub Tests : {V E : Type 0} → (Text → Type 0) → Bor Text → (E → Bor Text) → Result V (TryError E) → Type 0

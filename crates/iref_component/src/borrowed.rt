@@ -6,8 +6,8 @@ ghost use Rattle.iref_component.specs.{Makers.{ParsesUtf8}, Components.{text_of}
 use crate::rule::{AllowsEmpty, Refuses, Rule};
 pub use crate::rule_text::BorrowedText;
 use crate::rule_text::{Borrowed, RuleText, TextBuf};
-use iref_error::Memory;
 use iref_grammar::chars::CharSet;
+use iref_splice::Memory;
 use std::alloc::Global;
 use std::convert::TryFrom;
 use std::marker::PhantomData;

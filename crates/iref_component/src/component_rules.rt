@@ -17,7 +17,7 @@ ghost use Rattle.iref_model.proofs.PathGrammarLemmas.{is_path_empty};
 
 use crate::key::{DecodedBytes, Key, LowerCase, PartsKey, PathKey, SameText};
 use crate::rule::{AllowsEmpty, Escaped, Refuses, Rule};
-use iref_error::{
+use iref_fault::{
     InvalidAuthority, InvalidFragment, InvalidHost, InvalidPath, InvalidPctStr, InvalidPort,
     InvalidQuery, InvalidScheme, InvalidSegment, InvalidUserInfo,
 };

@@ -8,9 +8,9 @@ use crate::component_rules::HostRule;
 use crate::host_numbers::{ipv4_string, ipv6_string};
 use crate::named_texts::HostBuf;
 use crate::rule_text::{RuleText, Storage};
-use iref_error::Memory;
 use iref_grammar::chars::CharSet;
 use iref_parse::{host, ip};
+use iref_splice::Memory;
 use std::alloc::Global;
 
 impl<S: Storage, C: CharSet> RuleText<S, HostRule, C> {

@@ -4,7 +4,7 @@ ghost use Rattle.std.specs.String.{string_bytes};
 ghost use Rattle.iref_model.specs.HostNumbers.{ipv4_text, groups_of, groups_text, longest_run, run_start, ipv6_text};
 ghost use Rattle.iref_model.specs.HostNumbers.{ipv6_host_text};
 
-use iref_error::Memory;
+use iref_splice::Memory;
 use std::alloc::{AllocError, Global};
 use std::fmt::Write;
 

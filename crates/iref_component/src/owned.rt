@@ -6,8 +6,8 @@ ghost use Rattle.iref_component.specs.{Makers.{ParsesUtf8}, Components.{text_of}
 use crate::rule::{AllowsEmpty, Refuses, Rule};
 use crate::rule_text::RuleText;
 pub use crate::rule_text::TextBuf;
-use iref_error::Memory;
 use iref_grammar::chars::CharSet;
+use iref_splice::Memory;
 use iref_splice::change::Change;
 use iref_splice::text::replace;
 use std::alloc::Global;

@@ -17,13 +17,13 @@ use crate::path_buf::PathBuf;
 use crate::rule_text::{RuleText, Storage};
 use crate::scheme_like::looks_like_scheme;
 use crate::segments::Segments;
-use iref_error::Memory;
 use iref_grammar::chars::CharSet;
 use iref_grammar::context::PathContext;
 use iref_path::directory::{directory_text, parent_text};
 use iref_path::segments::split_root;
 use iref_path::spell::{append_normalized, normalized_text};
 use iref_path::suffix::suffix_text;
+use iref_splice::Memory;
 use std::alloc::Global;
 use std::hash::Hash;
 

@@ -7,7 +7,7 @@ use crate::borrowed::BorrowedText;
 use crate::component_rules::PctStrRule;
 use crate::owned::TextBuf;
 use crate::rule::Escaped;
-pub use iref_error::InvalidPctStr;
+pub use iref_fault::InvalidPctStr;
 use iref_grammar::chars::{CharSet, UriChars};
 use percent_encoding::{PercentDecode, percent_decode_str};
 

@@ -7,8 +7,9 @@ ghost use Rattle.iref_component.specs.{Components.{text_of}, Ports.{port_number,
 use crate::component_rules::PortRule;
 use crate::named_texts::{Port, PortBuf};
 use crate::rule_text::{RuleText, Storage};
-use iref_error::{Memory, PortError};
+use iref_fault::PortError;
 use iref_grammar::chars::UriChars;
+use iref_splice::Memory;
 use std::alloc::Global;
 use std::convert::TryFrom;
 

@@ -1,12 +1,12 @@
 //! Texts that are tested before an edit takes memory.
 ghost use Rattle.std.specs.{Prelude.{◌≡◌, true, Some, IfOk, IfSome, OnOk, IsNone, IsOk}, Option.{option_copied}};
 ghost use Rattle.iref_grammar.specs.{InUtf8, none_or};
-ghost use Rattle.iref_error.specs.Tried.{TellsInvalid};
+ghost use Rattle.iref_fault.specs.Tried.{TellsInvalid};
 ghost use Rattle.iref_component.specs.{Components.{text_of}, Tries.{Tests}};
 
 use crate::borrowed::BorrowedText;
 use crate::rule::Refuses;
-use iref_error::TryError;
+use iref_fault::TryError;
 use iref_grammar::chars::CharSet;
 
 /// The result of an edit by a text, where `E` returns one that is outside its rule: an edit by the

@@ -1,4 +1,4 @@
-mod Rows
+pub mod Rows
 mod FunctionRows
 mod StepRows
 mod NormalRows
@@ -36,9 +36,26 @@ pub mod PortNumberLemmas
 pub mod ZeroRunLemmas
 pub mod HostNumberLemmas
 pub mod Ipv6TextLemmas
+pub mod MappedLemmas
+pub mod MappedDecodedLemmas
+pub mod MappedCharLemmas
+pub mod MappedMarkLemmas
+pub mod MappedRuleLemmas
+pub mod MappedSpellingLemmas
+pub mod MappedNormalLemmas
+pub mod MappedKeyLemmas
+pub mod MappedReferenceLemmas
+pub mod AsciiReferenceLemmas
+pub mod KnownCharacterLemmas
+pub mod MappedBackLemmas
+pub mod MappedIndexLemmas
+pub mod MappedResolutionLemmas
+pub mod MappedRelativeLemmas
+pub mod MappingLawLemmas
 mod ResolutionRows
 mod RelativeRows
 mod ReferenceRows
 mod NumberRows
 mod EditRows
 mod OrderRows
+mod MappingRows

@@ -1,14 +1,13 @@
 -- Worked rows of what texts are compared by: which are equal, which comes first, and what is hashed; computed
 -- (RFC 3986 section 6.2.2).
 use Prim.Native.String.{String}
-use Rattle.std.specs.Prelude.{◌≡◌, Bool, true, false, ◌&&◌, List, [], ◌∷◌, map, codes, encode_utf8_all, replicate, refl}
+use Rattle.std.specs.Prelude.{◌≡◌, Bool, true, false, ◌&&◌, List, [], ◌∷◌, map, replicate, refl}
 use Rattle.std.specs.Char.{encode_utf8}
 use Rattle.std.specs.Hash.{HashWrites}
 use Rattle.std.specs.Ordering.{is_eq, is_lt}
 use Rattle.std.specs.declared.cmp.Ordering.{Ordering}
 use Rattle.std.specs.Str.{str_to_ascii_lowercase}
 use Rattle.percent_encoding.specs.Percent.{percent_decode}
-use Rattle.iref_grammar.specs.Rules.{Text}
 use Rattle.iref_grammar.specs.Keys.{fed_after, fed_bytes, text_order}
 use Rattle.iref_grammar.specs.Authority.{read_authority}
 use Rattle.iref_grammar.specs.PathValue.{read_path}
@@ -18,14 +17,12 @@ use Rattle.iref_model.specs.AuthorityKey.{authority_key, authority_key_cmp}
 use Rattle.iref_model.specs.PathHash.{fed_path}
 use Rattle.iref_model.specs.PathKey.{path_key, path_key_cmp}
 use Rattle.iref_model.specs.Key.{key, key_cmp}
+use Rattle.iref_model.proofs.Rows.{utf8}
 
 -- ---- the orders
 
 abbrev TextOrder : Type 0
 TextOrder = String → String → Ordering
-
-abbrev utf8 : String → Text
-utf8 text = encode_utf8_all (codes text)
 
 -- of percent-encoded texts, user infos, hosts, segments, queries and fragments
 abbrev decoded : TextOrder

@@ -52,3 +52,4 @@ pub mod ReferenceSuffix
 pub mod ReferenceParts
 pub mod Readability
 pub mod Edits
+pub mod Mapping

@@ -10,9 +10,9 @@ ghost use Rattle.iref_path.specs.{Forward.{Follows, IsBehindDots, forward, poppe
 ghost use Rattle.iref_path.specs.Spelling.{each_closed};
 
 use crate::segments::{last_slash, split_root};
-use iref_error::Memory;
 use iref_parse::cut::{cut_bytes, strip_mark};
 use iref_parse::dots::position_of_slash_dot;
+use iref_splice::Memory;
 
 // Where the last segment of a text begins.
 #[tactic(auto, using(crate::proofs::ForwardLemmas::closed_if_one, crate::proofs::ForwardLemmas::closed_to_last))]

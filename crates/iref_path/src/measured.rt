@@ -17,10 +17,10 @@ use crate::normal_items::{NormalItems, survey_items};
 use crate::relative_steps::{behind_roots, first_step, items_between, steps_apart};
 use crate::segments::{first_segment, split_root, without_last};
 use crate::spell::{guard_in, measure, write_before};
-use iref_error::Memory;
 use iref_grammar::chars::CharSet;
 use iref_grammar::context::PathContext;
 use iref_parse::dots::has_dots;
+use iref_splice::Memory;
 use std::alloc::Global;
 use std::fmt;
 

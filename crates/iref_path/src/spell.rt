@@ -15,10 +15,10 @@ use crate::measured::MeasuredPath;
 use crate::normal_items::NormalItems;
 use crate::normal_items::stack::Stack;
 use crate::segments::split_root;
-use iref_error::Memory;
 use iref_grammar::chars::CharSet;
 use iref_grammar::context::PathContext;
 use iref_parse::dots::has_dots;
+use iref_splice::Memory;
 use std::alloc::{AllocError, Global};
 
 /// How many bytes the items have with a `/` after each, and the first of them, or nothing.

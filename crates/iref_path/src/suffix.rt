@@ -10,8 +10,8 @@ use crate::compare_lists::compare_lists;
 use crate::measured::MeasuredPath;
 use crate::normal_items::NormalItems;
 use crate::order::is_absolute;
-use iref_error::Memory;
 use iref_grammar::chars::CharSet;
+use iref_splice::Memory;
 use std::alloc::Global;
 
 // The items of the path after those of the prefix, if these are a beginning of them, and both paths

@@ -2,7 +2,7 @@
 use Rattle.std.specs.Prelude.{◌≡◌, Bool}
 use Rattle.iref_grammar.specs.Rules.{Text}
 use Rattle.iref_grammar.specs.Reference.{ReferenceValue, read_reference}
-use Rattle.iref_mapping.specs.Mapping.{mapped, mapped_reference}
+use Rattle.iref_model.specs.Mapping.{mapped, mapped_reference}
 use Rattle.iref_reference.specs.declared.owned.ReferenceBuf.{ReferenceBuf}
 use Rattle.iref_reference.specs.References.{key_of_reference_buf, reference_buf_text}
 

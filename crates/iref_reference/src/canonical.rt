@@ -11,10 +11,10 @@ use crate::borrowed::{Reference, Uri, UriRef};
 use crate::owned::ReferenceBuf;
 use iref_canonical::plain::is_plain;
 use iref_canonical::text::{canonical_text, is_canonical};
-use iref_error::Memory;
 use iref_grammar::chars::{CharSet, UriChars};
 use iref_parse::split::{ReferenceSlices, split_reference};
 use iref_reference_text::reference_text::{HeldRule, ReferenceText};
+use iref_splice::Memory;
 use std::alloc::Global;
 
 impl<R: HeldRule, C: CharSet> Reference<'_, R, C> {

@@ -10,11 +10,11 @@ ghost use Rattle.iref_reference.specs.References.{reference_buf_text};
 
 use crate::owned::ReferenceBuf;
 use crate::rule::{ReferenceRule, UriRule};
-use iref_error::Memory;
 use iref_grammar::chars::CharSet;
 use iref_parse::split::ReferenceSlices;
 use iref_reference_text::measured::{MeasuredReference, count_paths};
 use iref_reference_text::reference_text::{HeldRule, ReferenceText};
+use iref_splice::Memory;
 use std::alloc::{AllocError, Global};
 use std::fmt;
 use std::marker::{Model, PhantomData};

@@ -10,12 +10,12 @@ ghost use Rattle.iref_reference.specs.References.{reference_buf_text, reference_
 use crate::owned::ReferenceBuf;
 use iref_component::authority_mut::{AuthorityMut, AuthorityPart};
 use iref_component::path_mut::PathMut;
-use iref_error::Memory;
 use iref_grammar::chars::CharSet;
 use iref_grammar::context::PathContext;
 use iref_path::path_part::PathPart;
 use iref_path::target::PathTarget;
 use iref_reference_text::reference_text::HeldRule;
+use iref_splice::Memory;
 use iref_splice::change::{Change, Span};
 use iref_splice::target::Target;
 use std::alloc::Global;

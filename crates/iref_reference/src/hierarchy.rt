@@ -5,9 +5,9 @@ ghost use Rattle.iref_reference_text.specs.{with_fragment, with_query};
 ghost use Rattle.iref_reference.specs.References.{reference_buf_text, reference_buf_value};
 
 use crate::owned::ReferenceBuf;
-use iref_error::Memory;
 use iref_grammar::chars::CharSet;
 use iref_reference_text::reference_text::HeldRule;
+use iref_splice::Memory;
 
 /// A copy of a reference up to its query and its fragment, under the same rule, with as much room:
 /// of `s:/a?q`, `s:/a` (RFC 3986 section 3).

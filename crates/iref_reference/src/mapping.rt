@@ -7,9 +7,9 @@ ghost use Rattle.iref_reference.specs.References.{key_of_reference_buf, referenc
 
 use crate::borrowed::{Reference, Uri, UriRef};
 use crate::owned::{ReferenceBuf, UriBuf, UriRefBuf};
-use iref_error::Memory;
 use iref_grammar::chars::{IriChars, UriChars};
 use iref_reference_text::reference_text::{HeldRule, ReferenceText};
+use iref_splice::Memory;
 use std::alloc::Global;
 
 impl<R: HeldRule> Reference<'_, R, IriChars> {

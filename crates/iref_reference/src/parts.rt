@@ -16,7 +16,7 @@ use iref_component::authority_parts::AuthorityParts;
 use iref_component::borrowed::{borrowed_of, text_of};
 use iref_component::named_texts::{Fragment, Query, Scheme};
 use iref_component::path::Path;
-use iref_error::{InvalidUri, InvalidUriRef};
+use iref_fault::{InvalidUri, InvalidUriRef};
 use iref_grammar::chars::CharSet;
 use iref_parse::split::{ReferenceSlices, parse_bytes, split_reference};
 use std::alloc::AllocError;

@@ -11,9 +11,9 @@ use crate::borrowed::{Reference, UriRef};
 use crate::composed::{Composed, ComposedUriRef};
 use crate::owned::{ReferenceBuf, UriRefBuf};
 use crate::parts::{Parts, SchemePart, UriRefParts};
-use iref_error::Memory;
 use iref_grammar::chars::CharSet;
 use iref_reference_text::reference_text::HeldRule;
+use iref_splice::Memory;
 use std::alloc::Global;
 
 impl<'a, S: SchemePart<'a>, C: CharSet> Parts<'a, S, C> {

@@ -2,7 +2,7 @@
 ghost use Rattle.std.specs.Prelude.{◌≡◌, IfOk, true};
 ghost use Rattle.iref_grammar.specs.{Grammar.{IsUri, IsUriReference}, Rules.{InUtf8}};
 ghost use Rattle.iref_model.specs.Resolution.{resolved};
-ghost use Rattle.iref_error.specs.Tried.{TellsInvalid};
+ghost use Rattle.iref_fault.specs.Tried.{TellsInvalid};
 ghost use Rattle.iref_component.specs.{is_reference, is_uri, read_reference};
 ghost use Rattle.iref_reference_text.specs.{is_readable, value_of, Steps.{Spells}};
 ghost use Rattle.iref_reference.specs.Parts.{parts_value, uri_parts_value};
@@ -14,13 +14,14 @@ use crate::borrowed::{Reference, Uri, UriRef};
 use crate::composed::{Composed, ComposedUri};
 use crate::owned::{ReferenceBuf, UriBuf};
 use crate::parts::{Parts, SchemePart, UriParts};
-use iref_error::{InvalidUri, InvalidUriRef, Memory, TryError};
+use iref_fault::{InvalidUri, InvalidUriRef, TryError};
 use iref_grammar::chars::CharSet;
 use iref_parse::split::{ReferenceSlices, split_reference};
 use iref_reference_text::forward::resolved_forward;
 use iref_reference_text::fronts::front_kept;
 use iref_reference_text::lengths::Lengths;
 use iref_reference_text::reference_text::{HeldRule, ReferenceText};
+use iref_splice::Memory;
 use std::alloc::Global;
 
 // What a reference resolves to against a base, given the components of both texts. Most often it is

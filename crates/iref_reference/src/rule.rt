@@ -13,7 +13,7 @@ use crate::parts::{SchemePart, UriRefParts};
 use iref_component::key::Key;
 use iref_component::named_texts::Scheme;
 use iref_component::rule::{AllowsEmpty, Refuses, Rule};
-use iref_error::{InvalidUri, InvalidUriRef};
+use iref_fault::{InvalidUri, InvalidUriRef};
 use iref_grammar::chars::CharSet;
 use iref_parse::split::{self, ReferenceSlices, parse_reference};
 use iref_reference_text::reference_text::HeldRule;

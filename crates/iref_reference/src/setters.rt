@@ -14,9 +14,9 @@ use iref_component::authority::Authority;
 use iref_component::borrowed::text_of;
 use iref_component::named_texts::{Fragment, Query, Scheme};
 use iref_component::path::Path;
-use iref_error::Memory;
 use iref_grammar::chars::CharSet;
 use iref_reference_text::reference_text::HeldRule;
+use iref_splice::Memory;
 
 impl<R: HeldRule, C: CharSet> ReferenceBuf<R, C> {
     /// Replaces, adds or removes the authority (RFC 3986 section 3.2); removing takes no memory.

@@ -8,10 +8,10 @@ use crate::borrowed::{Reference, Uri, UriRef};
 use crate::owned::ReferenceBuf;
 use iref_canonical::owned::SortKey;
 use iref_canonical::sort_key::{append_sort_key, sort_key};
-use iref_error::Memory;
 use iref_grammar::chars::CharSet;
 use iref_parse::split::split_reference;
 use iref_reference_text::reference_text::HeldRule;
+use iref_splice::Memory;
 use std::alloc::Global;
 
 impl<R: HeldRule, C: CharSet> Reference<'_, R, C> {

@@ -10,9 +10,9 @@ use crate::owned::ReferenceBuf;
 use crate::parts::UriRefParts;
 use iref_component::named_texts::{Fragment, Query};
 use iref_component::path_buf::PathBuf;
-use iref_error::Memory;
 use iref_grammar::chars::CharSet;
 use iref_reference_text::reference_text::HeldRule;
+use iref_splice::Memory;
 use std::alloc::Global;
 
 /// What is left of a reference after a prefix, of its path, and its query and fragment: of `/a/b?q`

@@ -11,7 +11,7 @@ ghost use Rattle.iref_reference.specs.References.{ParsesReferenceBuf};
 
 use crate::borrowed::{Reference, Uri, UriRef};
 use crate::owned::{ReferenceBuf, UriBuf, UriRefBuf};
-use iref_error::{InvalidIri, InvalidUri, InvalidUriRef};
+use iref_fault::{InvalidIri, InvalidUri, InvalidUriRef};
 use iref_grammar::chars::{CharSet, IriChars, UriChars};
 use iref_reference_text::reference_text::HeldRule;
 use std::convert::TryFrom;

@@ -5,7 +5,7 @@ ghost use Rattle.iref_reference.specs.References.{reference_buf_value, OwnerNarr
 
 use crate::borrowed::{Uri, UriRef};
 use crate::owned::{UriBuf, UriRefBuf};
-use iref_error::InvalidUri;
+use iref_fault::InvalidUri;
 use iref_grammar::chars::{IriChars, UriChars};
 
 impl<'a> Uri<'a, UriChars> {

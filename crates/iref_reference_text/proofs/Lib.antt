@@ -9,5 +9,6 @@ pub mod MeasuredLemmas
 pub mod RelativeLemmas
 pub mod SchemeLemmas
 pub mod MappingLemmas
+pub mod HalfMappedLemmas
 pub mod AuthorityRangeLemmas
 pub mod FrontLemmas

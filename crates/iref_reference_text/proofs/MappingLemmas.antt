@@ -4,8 +4,8 @@ use Rattle.std.specs.Prelude.{Bool, true, Option}
 use Rattle.iref_grammar.specs.Characters.{CharTests, AreAboveAscii, uri_chars}
 use Rattle.iref_grammar.specs.Rules.{Text}
 use Rattle.iref_grammar.specs.Reference.{read_reference, is_reference}
-use Rattle.iref_mapping.specs.Mapping.{mapped}
-use Rattle.iref_mapping.proofs.AsciiReferenceLemmas.{is_reference-mapped, scheme-tested}
+use Rattle.iref_model.specs.Mapping.{mapped}
+use Rattle.iref_model.proofs.AsciiReferenceLemmas.{is_reference-mapped, scheme-tested}
 
 -- the mapping is in the rule that the text is in, over the characters of URIs
 pub mapping-in_rule : (test : CharTests → Text → Bool) (allows : Option Text → Bool)

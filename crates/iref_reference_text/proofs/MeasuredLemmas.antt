@@ -1,7 +1,7 @@
 -- The components of what a reference resolves to, as texts.
 use Rattle.std.proofs.Common.{arith, ◌≡◌, Bool, true, false, ◌||◌, [], ◌∷◌, length, refl, ◌∙◌, ap}
 use Rattle.std.proofs.lemmas.Grind.{common_steps}
-use Rattle.iref_mapping.proofs.MappedMarkLemmas.{is_some-map}
+use Rattle.iref_model.proofs.MappedMarkLemmas.{is_some-map}
 use Rattle.std.specs.Prelude.{◌≢◌, Option, is_some}
 use Rattle.std.specs.Borrow.{Bor}
 use Rattle.std.specs.Option.{option_copied, option_or}

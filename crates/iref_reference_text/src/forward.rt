@@ -7,9 +7,9 @@ ghost use Rattle.iref_parse.specs.{texts_of, value_of};
 ghost use Rattle.iref_reference_text.specs.{ComponentLengths.{lengths_of_texts}, Fronts.{IsAround, IsSpelled}};
 
 use crate::lengths::Lengths;
-use iref_error::Memory;
 use iref_parse::split::ReferenceSlices;
 use iref_path::forward::append_normal_after;
+use iref_splice::Memory;
 use iref_splice::text::marked_len;
 use std::alloc::{AllocError, Global};
 

@@ -5,6 +5,7 @@ pub mod base;
 pub mod forward;
 pub mod fronts;
 pub mod lengths;
+mod mapped_bytes;
 pub mod measured;
 pub mod reference_text;
 pub mod relative;

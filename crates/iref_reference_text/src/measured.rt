@@ -11,11 +11,11 @@ ghost use Rattle.iref_reference_text.specs.ComponentLengths.{lengths_of_texts, w
 ghost use Rattle.iref_reference_text.specs.MeasuredReferences.{IsReady, spell_texts, measured_components};
 
 use crate::lengths::Lengths;
-use iref_error::Memory;
 use iref_grammar::context::PathContext;
 use iref_parse::split::ReferenceSlices;
 use iref_path::measured::MeasuredPath;
 use iref_path::spell::write_before;
+use iref_splice::Memory;
 use iref_splice::text::marked_len;
 use std::alloc::{AllocError, Global};
 use std::fmt;

@@ -4,8 +4,8 @@ ghost use Rattle.iref_grammar.specs.Rules.{Text};
 ghost use Rattle.iref_splice.specs.{Changes.{IsNoLonger, changed}, Edited.{StandsIn, one_range}};
 
 use crate::change::{Change, Span};
+use crate::out_of_memory::Memory;
 use crate::target::{Part, Target};
-use iref_error::Memory;
 use iref_grammar::chars::CharSet;
 use std::alloc::{AllocError, Global};
 use std::str;

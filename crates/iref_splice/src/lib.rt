@@ -3,5 +3,8 @@
 
 pub mod bytes;
 pub mod change;
+pub mod out_of_memory;
 pub mod target;
 pub mod text;
+
+pub use out_of_memory::Memory;

@@ -4,7 +4,7 @@ ghost use Rattle.iref_grammar.specs.{Characters.{CharTests, AreAboveAscii}, Rule
 ghost use Rattle.iref_splice.specs.Changes.{IsNoLonger, IsWithin, changed_at, changed_part, part_at};
 
 use crate::change::{Change, Span};
-use iref_error::Memory;
+use crate::out_of_memory::Memory;
 use iref_grammar::chars::CharSet;
 use std::alloc::Global;
 

@@ -6,7 +6,7 @@ ghost use Rattle.iref.specs.{PrefixTree.{key_of, keys_of, IsTree}, declared.comp
 
 use super::tree::Tree;
 use crate::iri::Iri;
-use iref_error::Memory;
+use iref_splice::Memory;
 use std::alloc::Global;
 use std::marker::Model;
 
@@ -27,7 +27,7 @@ pub(super) struct Entry {
 impl Model for Entry {
     ghost use Rattle.std.specs.{Prelude.{◌≡◌, true}, String.{string_bytes}};
     ghost use Rattle.iref_grammar.specs.{Characters.{iri_chars}, Reference.{is_uri}};
-    ghost use Rattle.iref_mapping.specs.PrefixTable.{PrefixEntry};
+    ghost use Rattle.iref.specs.PrefixTable.{PrefixEntry};
 
     ghost Value = { PrefixEntry };
 

@@ -2,13 +2,13 @@
 ghost use Rattle.std.specs.{Prelude.{◌≡◌, ◌++◌, length, drop, true, IfOk, IfErr, Ok}, List.{list_all}};
 ghost use Rattle.std.specs.String.{string_bytes};
 ghost use Rattle.iref_grammar.specs.Texts.{begins_with};
-ghost use Rattle.iref_mapping.specs.PrefixTable.{is_label, is_label_char, if_iri};
+ghost use Rattle.iref.specs.PrefixTable.{is_label, is_label_char, if_iri};
 ghost use Rattle.iref_reference.specs.References.{reference_buf_text};
 ghost use Rattle.iref.specs.Prefixes.{RefusesExpand};
 
 use super::ExpandFault;
 use crate::iri::IriBuf;
-use iref_error::Memory;
+use iref_splice::Memory;
 use std::alloc::{AllocError, Global};
 
 // Whether a label may hold the byte after its first letter.
@@ -26,7 +26,7 @@ fn are_label_bytes(bytes: &[u8]) -> bool
 }
 
 // Whether the text is a label.
-#[tactic(auto, unfolding(iref_mapping::specs::PrefixTable::is_label))]
+#[tactic(auto, unfolding(crate::specs::PrefixTable::is_label))]
 pub(super) fn is_label(text: &str) -> bool
     ensures { result ≡ is_label text.now }
 {

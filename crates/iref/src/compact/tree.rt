@@ -3,14 +3,14 @@ ghost use Rattle.std.specs.Prelude.{◌≡◌, ◌≢◌, ℕ, ◌*◌, ◌<◌,
 ghost use Rattle.std.specs.{Prelude.{MatchOption, OnOk, Some}, List.{find}, Option.{option_copied}};
 ghost use Rattle.std.specs.Vec.{vec_len, vec_capacity};
 ghost use Rattle.iref_grammar.specs.Rules.{Text};
-ghost use Rattle.iref_mapping.specs.PrefixTable.{longest_fit};
+ghost use Rattle.iref.specs.PrefixTable.{longest_fit};
 ghost use Rattle.iref.specs.{declared.compact.entry.Key.TheVariants.{Iri}, PrefixTree.{has_key, keys_of, text_at}};
 ghost use Rattle.iref.specs.PrefixTree.{symbol, bit, place_of, child, spot, with_child, IsAdded, IsFirstDifference};
 ghost use Rattle.iref.specs.PrefixTree.{IsFit, IsNear, IsNew, IsTree, IsWay, SameBits};
 
 use super::entry::{Entry, Key};
-use iref_error::Memory;
 use iref_parse::front::common_front;
+use iref_splice::Memory;
 use std::alloc::Global;
 
 // A bit of a text's symbol at a place. Of a symbol the greater bits come first.

@@ -9,10 +9,10 @@ ghost use Rattle.iref.specs.EditSteps.{AppliesList, all_keep_query_and_fragment,
 use crate::edits::parts::{edit_authority, edit_path};
 use crate::edits::schemes::SetsScheme;
 use crate::edits::{Edit, EditFault};
-use iref_error::Memory;
 use iref_grammar::chars::CharSet;
 use iref_reference::hierarchy::{copied_hierarchy, reserve};
 use iref_reference::owned::{ReferenceBuf, UriBuf, UriRefBuf};
+use iref_splice::Memory;
 
 // A copy is taken where this many edits have changed the length, and as many follow that leave the
 // query and the fragment as they are.

@@ -8,11 +8,11 @@ ghost use Rattle.iref_component.specs.AuthorityEdits as authority;
 use crate::edits::Edit;
 use iref_component::authority_mut::{AuthorityMut, AuthorityPart};
 use iref_component::path_mut::PathMut;
-use iref_error::Memory;
 use iref_grammar::chars::CharSet;
 use iref_path::target::PathTarget;
 use iref_reference::owned::ReferenceBuf;
 use iref_reference_text::reference_text::HeldRule;
+use iref_splice::Memory;
 use iref_splice::target::Target;
 
 // Two traits, each for `ReferenceBuf` alone: the kit's borrow checker covers the calls of an editor

@@ -5,7 +5,7 @@ ghost use Rattle.iref.specs.declared.errors.uri.UriError.TheVariants as uri;
 
 use crate::errors::iri::IriError;
 use crate::errors::uri::UriError;
-use iref_error::{
+use iref_fault::{
     InvalidAuthority, InvalidFragment, InvalidHost, InvalidPath, InvalidPort, InvalidQuery,
     InvalidScheme, InvalidSegment, InvalidUri, InvalidUriRef, InvalidUserInfo,
 };

@@ -1,7 +1,7 @@
 //! The errors of all constructors for IRIs (RFC 3987 section 2.2).
 ghost use Rattle.std.specs.Prelude.{◌≡◌, ⊤};
 
-use iref_error::{
+use iref_fault::{
     InvalidAuthority, InvalidFragment, InvalidHost, InvalidPath, InvalidPort, InvalidQuery,
     InvalidScheme, InvalidSegment, InvalidUri, InvalidUriRef, InvalidUserInfo,
 };

@@ -1,7 +1,7 @@
 //! The errors of all constructors for URIs (RFC 3986 section 3).
 ghost use Rattle.std.specs.Prelude.{◌≡◌, ⊤};
 
-use iref_error::{
+use iref_fault::{
     InvalidAuthority, InvalidFragment, InvalidHost, InvalidPath, InvalidPort, InvalidQuery,
     InvalidScheme, InvalidSegment, InvalidUri, InvalidUriRef, InvalidUserInfo,
 };

@@ -1,6 +1,6 @@
 //! The answer to `edit`.
 ghost use Rattle.std.specs.{Option.{option_copied}, Prelude.{◌≡◌, [], ◌∷◌, IfOk}};
-ghost use Rattle.iref_answers.specs.Lines.{text_and_edits};
+ghost use Rattle.iref_batch.specs.Lines.{text_and_edits};
 ghost use Rattle.iref.specs.{EditSteps.{edit_step}, References.{reference_buf_value}};
 ghost use Rattle.iref_batch.specs.{EditFields.{ChecksEdits, EditsBy, LeavesAfter}, Fields.{fields_of}};
 ghost use Rattle.iref_batch.specs.{Gathering.{Puts}, Runs.{reply_to}};

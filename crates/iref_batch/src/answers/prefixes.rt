@@ -1,12 +1,12 @@
 //! The answers to `compact` and `expand`, by a table of the entries that the fields name.
 ghost use Rattle.std.specs.{Prelude.{◌≡◌, ◌∷◌, Some, true, OnOk, OnErr, IfErr}, Option.{option_copied}};
-ghost use Rattle.iref_answers.specs.Lines.{Answered, answer_text, are_valid_entries, part_field, read_entry};
-ghost use Rattle.iref_answers.specs.Lines.{text_and_entries};
+ghost use Rattle.iref_batch.specs.Lines.{Answered, answer_text, are_valid_entries, part_field, read_entry};
+ghost use Rattle.iref_batch.specs.Lines.{text_and_entries};
 ghost use Rattle.iref.specs.{Characters.{iri_chars}, PrefixTable.{compact_text}, Prefixes.{compact_value}};
 ghost use Rattle.iref_batch.specs.{EditFields.{IsRead}, Fields.{fields_of}, Gathering.{Puts, PutsReply}};
 ghost use Rattle.iref_batch.specs.{PrefixFields.{entries_read, HasTaken, TakesNot}, Requests.{asked_of}};
 ghost use Rattle.iref_batch.specs.Runs.{reply_to};
-ghost use Rattle.iref_answers.specs.Lines as spec;
+ghost use Rattle.iref_batch.specs.Lines as spec;
 
 use super::{put_answered, put_refused, put_text};
 use crate::edit_fields::FieldError;
@@ -14,7 +14,7 @@ use crate::request::{TableVerb, next_field};
 use iref::Memory;
 use iref::compact::{Compact, ExpandFault, PrefixFault, Prefixes};
 use iref::iri::Iri;
-use iref_answers::cut_bytes;
+use iref_parse::cut::cut_bytes;
 use std::alloc::Global;
 use std::str;
 

@@ -10,7 +10,7 @@ use crate::borrowed::borrowed_of;
 use crate::component_rules::{AuthorityRule, HostRule, PortRule, UserInfoRule};
 use crate::named_texts::Host;
 use crate::test_before_edit::{Tried, test};
-use iref_error::{InvalidAuthority, InvalidHost, InvalidPort, InvalidUserInfo, TryError};
+use iref_fault::{InvalidAuthority, InvalidHost, InvalidPort, InvalidUserInfo, TryError};
 use iref_grammar::chars::CharSet;
 use iref_splice::target::Target;
 

@@ -8,8 +8,8 @@ ghost use Rattle.iref_model.specs.PathSteps as step;
 use crate::named_texts::Segment;
 use crate::path::Path;
 use crate::path_buf::PathBuf;
-use iref_error::Memory;
 use iref_grammar::chars::CharSet;
+use iref_splice::Memory;
 use std::alloc::Global;
 
 #[tactic(auto, using(crate::proofs::PathEditLemmas::whole_steps))]

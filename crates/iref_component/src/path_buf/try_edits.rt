@@ -7,7 +7,7 @@ ghost use Rattle.iref_model.specs.PathSteps as step;
 
 use crate::path_buf::PathBuf;
 use crate::test_before_edit::Tried;
-use iref_error::{InvalidPath, InvalidSegment};
+use iref_fault::{InvalidPath, InvalidSegment};
 use iref_grammar::chars::CharSet;
 
 #[tactic(auto, using(crate::proofs::PathEditLemmas::whole_steps))]

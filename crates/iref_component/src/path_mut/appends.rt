@@ -7,11 +7,11 @@ ghost use Rattle.iref_model.specs.PathSteps as step;
 use crate::named_texts::Segment;
 use crate::path::Path;
 use crate::path_mut::PathMut;
-use iref_error::Memory;
 use iref_grammar::chars::CharSet;
 use iref_path::path_part::PathPart;
 use iref_path::staying_names::is_name;
 use iref_path::steps;
+use iref_splice::Memory;
 use iref_splice::target::Target;
 use std::alloc::Global;
 

@@ -6,7 +6,7 @@ ghost use Rattle.iref_component.specs.{PathEdits.{Borrows, IsEditorOf, borrowed_
 
 use crate::path::Path;
 use crate::path_mut::PathMut;
-use iref_error::InvalidPath;
+use iref_fault::InvalidPath;
 use iref_grammar::chars::CharSet;
 use iref_grammar::context::PathContext;
 use std::ops::Range;

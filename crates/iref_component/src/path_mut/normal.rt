@@ -5,12 +5,12 @@ ghost use Rattle.iref_component.specs.PathEdits.{Edits, path_mut_context, path_m
 ghost use Rattle.iref_model.specs.PathSteps as step;
 
 use crate::path_mut::PathMut;
-use iref_error::Memory;
 use iref_grammar::chars::CharSet;
 use iref_path::rewriting::normal_guard;
 use iref_path::segments::split_root;
 use iref_path::spell::normalized_text;
 use iref_path::target::PathTarget;
+use iref_splice::Memory;
 
 impl<C: CharSet, T: PathTarget<C>> PathMut<'_, C, T> {
     /// Replaces the path by its normal form, guarded where that is needed (RFC 3986 section 5.2.4).

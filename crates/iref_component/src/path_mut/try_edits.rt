@@ -8,7 +8,7 @@ ghost use Rattle.iref_model.specs.PathSteps as step;
 use crate::component_rules::{PathRule, SegmentRule};
 use crate::path_mut::PathMut;
 use crate::test_before_edit::{Tried, read};
-use iref_error::{InvalidPath, InvalidSegment, TryError};
+use iref_fault::{InvalidPath, InvalidSegment, TryError};
 use iref_grammar::chars::CharSet;
 use iref_path::path_part::PathPart;
 use iref_path::staying_names::is_name;

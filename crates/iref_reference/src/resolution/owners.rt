@@ -2,7 +2,7 @@
 //! a buffer of its own, and only then takes the place of the old text.
 ghost use Rattle.std.specs.Prelude.{◌≡◌, IfErr, IfOk, IsSome, OnErr, OnOk};
 ghost use Rattle.iref_grammar.specs.{Grammar.{IsUri, IsUriReference}, Rules.{InUtf8}};
-ghost use Rattle.iref_error.specs.Tried.{TellsInvalid};
+ghost use Rattle.iref_fault.specs.Tried.{TellsInvalid};
 ghost use Rattle.iref_reference.specs.HandedBack.{TellsInvalidBeside};
 ghost use Rattle.iref_reference.specs.References.{reference_buf_text, reference_buf_value, reference_text};
 ghost use Rattle.iref_reference.specs.Resolutions.{IsResolved};
@@ -10,10 +10,11 @@ ghost use Rattle.iref_reference.specs.Resolutions.{IsResolved};
 use super::resolved_uri;
 use crate::borrowed::{Uri, UriRef};
 use crate::owned::{ReferenceBuf, UriBuf, UriRefBuf};
-use iref_error::{InvalidUri, InvalidUriRef, Memory, TryError};
+use iref_fault::{InvalidUri, InvalidUriRef, TryError};
 use iref_grammar::chars::CharSet;
 use iref_parse::split::split_reference;
 use iref_reference_text::reference_text::HeldRule;
+use iref_splice::Memory;
 use std::alloc::Global;
 
 impl<R: HeldRule, C: CharSet> ReferenceBuf<R, C> {

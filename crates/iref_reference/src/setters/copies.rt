@@ -13,9 +13,10 @@ use iref_component::borrowed::text_of;
 use iref_component::named_texts::{Fragment, Query, Scheme};
 use iref_component::path::Path;
 use iref_component::test_before_edit::read;
-use iref_error::{InvalidScheme, Memory, TryError};
+use iref_fault::{InvalidScheme, TryError};
 use iref_grammar::chars::CharSet;
 use iref_reference_text::reference_text::{HeldRule, ReferenceText};
+use iref_splice::Memory;
 use std::alloc::Global;
 
 /// A copy of a reference, such as `a?x` of `a?q` with the query `x`, or `Memory` where memory runs

@@ -11,7 +11,7 @@ use iref_component::component_rules::{
     AuthorityRule, FragmentRule, PathRule, QueryRule, SchemeRule,
 };
 use iref_component::test_before_edit::{Tried, test};
-use iref_error::{
+use iref_fault::{
     InvalidAuthority, InvalidFragment, InvalidPath, InvalidQuery, InvalidScheme, TryError,
 };
 use iref_grammar::chars::CharSet;

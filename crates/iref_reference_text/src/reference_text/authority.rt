@@ -3,8 +3,8 @@ ghost use Rattle.iref_reference_text.specs.AuthorityRanges.{IsAuthorityOf, one_a
 
 use super::{HeldRule, ReferenceText};
 use iref_component::authority_mut::AuthorityPart;
-use iref_error::Memory;
 use iref_grammar::chars::CharSet;
+use iref_splice::Memory;
 use iref_splice::change::{Change, Span};
 use iref_splice::target::Target;
 use iref_splice::text::replace_part;

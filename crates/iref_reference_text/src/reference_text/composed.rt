@@ -7,8 +7,8 @@ ghost use Rattle.iref_reference_text.specs.MeasuredReferences.{IsComposed, spell
 use super::{HeldRule, ReferenceText};
 use crate::lengths::Lengths;
 use crate::measured::MeasuredReference;
-use iref_error::Memory;
 use iref_grammar::chars::CharSet;
+use iref_splice::Memory;
 use std::alloc::{AllocError, Global};
 use std::marker::PhantomData;
 

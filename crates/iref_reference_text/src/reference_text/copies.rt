@@ -4,8 +4,8 @@ ghost use Rattle.iref_component.specs.{colon, is_scheme, with_scheme};
 ghost use Rattle.iref_reference_text.specs.Steps.{IsStep};
 
 use super::{HeldRule, ReferenceText};
-use iref_error::Memory;
 use iref_grammar::chars::CharSet;
+use iref_splice::Memory;
 use std::alloc::{AllocError, Global};
 
 // Room for the delimiter before a component and for the guard or the root after it.

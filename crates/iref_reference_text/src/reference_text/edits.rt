@@ -12,10 +12,10 @@ ghost use Rattle.iref_reference_text.specs.ComponentLengths.{HasLengths, lengths
 
 use super::{HeldRule, ReferenceText};
 use crate::lengths::Lengths;
-use iref_error::Memory;
 use iref_grammar::chars::CharSet;
 use iref_grammar::context::PathContext;
 use iref_path::guard::{guard_of, root_of};
+use iref_splice::Memory;
 use iref_splice::change::Change;
 use iref_splice::text::{self, marked, marked_after, marked_len};
 use std::alloc::AllocError;

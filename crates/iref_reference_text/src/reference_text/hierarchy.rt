@@ -4,8 +4,8 @@ ghost use Rattle.iref_reference_text.specs.{with_fragment, with_query, Steps.{Is
 
 use super::{HeldRule, ReferenceText};
 use crate::lengths::Lengths;
-use iref_error::Memory;
 use iref_grammar::chars::CharSet;
+use iref_splice::Memory;
 use std::marker::PhantomData;
 
 impl<R: HeldRule, C: CharSet> ReferenceText<R, C> {

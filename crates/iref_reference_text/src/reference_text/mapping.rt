@@ -1,11 +1,11 @@
 //! ReferenceText texts of IRIs, mapped to those of URIs (RFC 3987 section 3.1).
 ghost use Rattle.std.specs.{Char.{is_ascii}, List.{list_all}, Prelude.{◌≡◌, IfErr, IfOk, IsOk, true}};
-ghost use Rattle.iref_mapping.specs.Mapping.{mapped};
+ghost use Rattle.iref_model.specs.Mapping.{mapped};
 
 use super::{HeldRule, ReferenceText};
-use iref_error::Memory;
+use crate::mapped_bytes::{count_escaped, map_in_place, mapped};
 use iref_grammar::chars::{CharSet, UriChars};
-use iref_mapping::bytes::{count_escaped, map_in_place, mapped};
+use iref_splice::Memory;
 use std::alloc::Global;
 
 impl<R: HeldRule> ReferenceText<R, UriChars> {

@@ -7,7 +7,6 @@ ghost use Rattle.iref_reference_text.specs.PathRanges.{IsPathOf, one_path, path_
 
 use super::{HeldRule, ReferenceText};
 use crate::lengths::Lengths;
-use iref_error::Memory;
 use iref_grammar::chars::CharSet;
 use iref_grammar::context::PathContext;
 use iref_path::path_part::PathPart;
@@ -15,6 +14,7 @@ use iref_path::rewriting::rewrite_text;
 use iref_path::segments::split_root;
 use iref_path::spell::normalized_text;
 use iref_path::target::PathTarget;
+use iref_splice::Memory;
 use iref_splice::change::{Change, Span};
 use iref_splice::target::Target;
 use iref_splice::text::replace_part;

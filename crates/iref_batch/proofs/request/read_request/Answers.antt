@@ -1,6 +1,6 @@
 use Rattle.std.proofs.Common.{◌∙◌, refl, rules, codes}
 use Rattle.std.specs.Option.{option_copied}
-use Rattle.iref_answers.specs.Lines.{Parts, Resolve, Relative, Normal, Equal, ToUri, Compact, Expand, one_text, text_and_edits, text_and_entries, two_texts}
+use Rattle.iref_batch.specs.Lines.{Parts, Resolve, Relative, Normal, Equal, ToUri, Compact, Expand, one_text, text_and_edits, text_and_entries, two_texts}
 use Rattle.iref_batch.proofs.FieldLemmas.{verb_read, nothing_read}
 use Rattle.iref_batch.proofs.request.read_request.Goals as goal
 

@@ -1,6 +1,6 @@
 use Rattle.std.proofs.Common.{rules, ◌≡◌}
 use Rattle.std.specs.String.{string_bytes}
-use Rattle.iref_mapping.specs.PrefixTable.{expanded, if_iri}
+use Rattle.iref.specs.PrefixTable.{expanded, if_iri}
 use Rattle.iref.proofs.compact.Prefixes.expand.Goals as goal
 
 pub returns-clause-err : goal.returns-clause-err

@@ -4,7 +4,7 @@ use Rattle.std.specs.List.{list_all}
 use Rattle.iref.specs.Characters.{iri_chars}
 use Rattle.iref.specs.Rules.{Text}
 use Rattle.iref.proofs.ReferenceCutLemmas.{read_reference-spelled}
-use Rattle.iref_answers.specs.Lines.{Edit, is_valid_edit}
+use Rattle.iref_batch.specs.Lines.{Edit, is_valid_edit}
 use Rattle.iref.specs.References.{reference_buf_text, reference_buf_value}
 use Rattle.iref_batch.specs.EditFields.{LeavesAfter, edits_read}
 use Rattle.iref_batch.specs.Fields.{fields_of}

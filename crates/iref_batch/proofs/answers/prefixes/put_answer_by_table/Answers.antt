@@ -1,6 +1,6 @@
 use Rattle.std.specs.Option.{option_copied}
 use Rattle.iref.specs.Characters.{iri_chars}
-use Rattle.iref_answers.specs.Lines.{are_valid_entries}
+use Rattle.iref_batch.specs.Lines.{are_valid_entries}
 use Rattle.iref_batch.specs.Fields.{fields_of}
 use Rattle.iref_batch.specs.PrefixFields.{entries_read}
 use Rattle.iref_batch.specs.Requests.{asked_of}

@@ -1,5 +1,5 @@
 use Rattle.std.proofs.Common.{◌∷◌, ◌++◌, [], refl, append-nil, sym, ap, ◌∙◌}
-use Rattle.iref_answers.specs.Lines.{newline, lines_of}
+use Rattle.iref_batch.specs.Lines.{newline, lines_of}
 use Rattle.iref_batch.proofs.Writing.{on_err}
 use Rattle.iref_batch.proofs.RunLemmas.{no_byte}
 use Rattle.iref_batch.proofs.EndLemmas.{last_line, begun_same}

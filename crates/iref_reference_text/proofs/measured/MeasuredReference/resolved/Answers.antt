@@ -1,6 +1,6 @@
 use Rattle.std.proofs.Common.{arith}
 use Rattle.iref_grammar.proofs.ComponentLemmas.{is_some-copied}
-use Rattle.iref_mapping.proofs.MappedMarkLemmas.{is_some-map}
+use Rattle.iref_model.proofs.MappedMarkLemmas.{is_some-map}
 use Rattle.iref_parse.specs.ReferenceSlices.{texts_of, value_of}
 use Rattle.iref_path.proofs.PathTextLemmas.{nothing, something}
 use Rattle.iref_reference_text.proofs.MeasuredLemmas.{after_resolved, kept_resolved, or-copied, own_resolved}

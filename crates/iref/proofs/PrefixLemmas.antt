@@ -1,0 +1,272 @@
+-- Prefix tables.
+use Rattle.std.proofs.Common.{◌≡◌, ◌≢◌, ◌<◌, ◌≤◌, Bool, true, false, ◌||◌, List, [], ◌∷◌, ◌++◌, length, take, drop, refl, sym, ◌∙◌, ap, subst, arith, ◌⊎◌, inl, inr}
+use Rattle.std.proofs.lemmas.Grind.{common_steps}
+use Rattle.std.proofs.Math.Logic.{◌↔◌}
+use Rattle.std.specs.Prelude.{bytes_eq, Option, Some, None, Result, Ok, Err, option_map, is_some, MatchOption, if◌then◌else◌}
+use Rattle.std.specs.Bool.{IsFalse}
+use Rattle.std.specs.List.{AllByRecursion, find, list_all, list_any}
+use Rattle.std.specs.Cmp.Lexicographic.{bytes_decides}
+use Rattle.std.proofs.lemmas.Bool.{and_from, or_parts, eqb-true}
+use Rattle.std.proofs.lemmas.Option.{same_Some}
+use Rattle.std.proofs.lemmas.List.{take-append-drop}
+use Rattle.std.proofs.lemmas.List.Folds.{list_all-append}
+use Rattle.std.proofs.lemmas.Bool.{not-true}
+use mathlib.Core.Bool.{true≢false}
+use Rattle.iref_grammar.specs.Characters.{iri_chars}
+use Rattle.iref_grammar.specs.Rules.{Text}
+use Rattle.iref_grammar.specs.Grammar.{colon}
+use Rattle.iref_grammar.specs.Texts.{begins_with, lacks}
+use Rattle.iref_grammar.specs.Reference.{is_uri}
+use Rattle.iref_grammar.proofs.TextLemmas.{first_of_both, second_of_both}
+use Rattle.iref_grammar.proofs.CutLemmas.{before-mark, after-part}
+use Rattle.iref_grammar.proofs.LackLemmas.{lacks_more, all_lacks}
+use Rattle.iref.specs.PrefixTable.{PrefixEntry, PrefixTable, is_label, has_label, is_taken, get, InsertRefusal, BadLabel, Taken, inserted, unless_refused, inserted_all, labels_differ, IsPrefixTable, fits, or_longer, longest_fit, IsLongestFit, or_new, CompactValue, IsCompact, compacted, compact_text, NotAnIri, if_iri, expanded_parts, expanded}
+
+-- ---- the longest fit
+
+-- an entry that fits is at least as long as what follows it
+or_longer-case : (e later : PrefixEntry) → ((or_longer e (Some later) ≡ later) × (length e.iri < length later.iri)) ⊎ ((or_longer e (Some later) ≡ e) × (length later.iri ≤ length e.iri))
+or_longer-case e later = grind arith
+
+-- where none fits, each claim about those that fit holds
+none_then : (iri : Text) (P : PrefixEntry → Type 0) (table : PrefixTable) → list_any (fits iri) table ≡ false → AllByRecursion (λ d. fits iri d ≡ true → P d) table
+none_then iri P [] h = tt
+none_then iri P (d ∷ table) h = grind (arith, common_steps, none_then iri P table)
+
+-- where the longest fits, so does each shorter claim
+weaker : (iri : Text) (P Q : PrefixEntry → Type 0) → ((d : PrefixEntry) → P d → Q d) → (table : PrefixTable) → AllByRecursion (λ d. fits iri d ≡ true → P d) table → AllByRecursion (λ d. fits iri d ≡ true → Q d) table
+weaker iri P Q f [] all = tt
+weaker iri P Q f (d ∷ table) all = (λ k. f d (all.0 k), weaker iri P Q f table all.1)
+
+all-append : (P : PrefixEntry → Type 0) (xs ys : PrefixTable) → AllByRecursion P xs → AllByRecursion P ys → AllByRecursion P (xs ++ ys)
+all-append P [] ys h k = k
+all-append P (x ∷ xs) ys h k = (h.0, all-append P xs ys h.1 k)
+
+-- all entries are no longer than the longest fit
+none_longer : (iri : Text) (table : PrefixTable) (e : PrefixEntry) → IsLongestFit iri table e → AllByRecursion (λ d. fits iri d ≡ true → length d.iri ≤ length e.iri) table
+none_longer iri table e m =
+    subst (AllByRecursion (λ (d : PrefixEntry). fits iri d ≡ true → length d.iri ≤ length e.iri)) m.stands
+    (all-append (λ (d : PrefixEntry). fits iri d ≡ true → length d.iri ≤ length e.iri) m.front (e ∷ m.back)
+    (weaker iri (λ (d : PrefixEntry). length d.iri < length e.iri) (λ (d : PrefixEntry). length d.iri ≤ length e.iri) (λ d k. omega arith) m.front m.before) (λ k. omega arith, m.behind))
+
+-- one more entry in front
+fit_behind : (iri : Text) (table : PrefixTable) (e d : PrefixEntry) → (fits iri e ≡ true → length e.iri < length d.iri) → IsLongestFit iri table d → IsLongestFit iri (e ∷ table) d
+fit_behind iri table e d h m = record { front = e ∷ m.front; back = m.back; stands = ap (λ t. e ∷ t) m.stands; fit = m.fit; before = (h, m.before); behind = m.behind }
+
+fit_first : (iri : Text) (table : PrefixTable) (e : PrefixEntry) → fits iri e ≡ true → AllByRecursion (λ (d : PrefixEntry). fits iri d ≡ true → length d.iri ≤ length e.iri) table → IsLongestFit iri (e ∷ table) e
+fit_first iri table e h all = record { front = []; back = table; stands = refl; fit = h; before = tt; behind = all }
+
+pub longest_fit-is : (iri : Text) (table : PrefixTable) → MatchOption (longest_fit iri table) (IsFalse (list_any (fits iri) table)) (IsLongestFit iri table)
+unfolding longest_fit
+longest_fit-is iri [] = refl
+longest_fit-is iri (e ∷ table) = by (fits iri e) refl (longest_fit iri table) (longest_fit-is iri table)
+  where
+    by : (b : Bool) → fits iri e ≡ b → (o : Option PrefixEntry) → MatchOption o (IsFalse (list_any (fits iri) table)) (IsLongestFit iri table)
+        → MatchOption (if b then Some (or_longer e o) else o) (IsFalse (b || list_any (fits iri) table)) (IsLongestFit iri (e ∷ table))
+    by true h None m = fit_first iri table e h (none_then iri (λ (d : PrefixEntry). length d.iri ≤ length e.iri) table m)
+    by true h (Some d) m = elim (or_longer-case e d) [
+      | inl c ↦ subst (IsLongestFit iri (e ∷ table)) (sym c.0) (fit_behind iri table e d (λ k. c.1) m)
+      | inr c ↦ subst (IsLongestFit iri (e ∷ table)) (sym c.0) (fit_first iri table e h (weaker iri (λ (x : PrefixEntry). length x.iri ≤ length d.iri) (λ (x : PrefixEntry). length x.iri ≤ length e.iri) (λ x k. let l = c.1 in omega arith) table (none_longer iri table d m)))
+    ]
+    by false h None m = m
+    by false h (Some d) m = fit_behind iri table e d (λ k. absurd (true≢false (sym k ∙ h))) m
+
+-- ---- no other entry is it
+
+at_place : (P : PrefixEntry → Type 0) (front : PrefixTable) (d : PrefixEntry) (back : PrefixTable) → AllByRecursion P (front ++ d ∷ back) → P d
+at_place P [] d back all = all.0
+at_place P (x ∷ front) d back all = at_place P front d back all.1
+
+-- where the later ones are no longer, the entry is the longest
+or_longer-first : (iri : Text) (table : PrefixTable) (e : PrefixEntry) → AllByRecursion (λ (d : PrefixEntry). fits iri d ≡ true → length d.iri ≤ length e.iri) table → or_longer e (longest_fit iri table) ≡ e
+or_longer-first iri table e all = by (longest_fit iri table) (longest_fit-is iri table)
+  where
+    by : (o : Option PrefixEntry) → MatchOption o (IsFalse (list_any (fits iri) table)) (IsLongestFit iri table) → or_longer e o ≡ e
+    by None m = refl
+    by (Some d) m =
+        let short : length d.iri ≤ length e.iri = at_place (λ (x : PrefixEntry). fits iri x ≡ true → length x.iri ≤ length e.iri) m.front d m.back
+        (subst (AllByRecursion (λ (x : PrefixEntry). fits iri x ≡ true → length x.iri ≤ length e.iri)) (sym m.stands) all) m.fit in
+        elim (or_longer-case e d) [ inl c ↦ absurd (let l = c.1 in omega arith) | inr c ↦ c.0 ]
+
+pub longest_fit-only : (iri : Text) (table : PrefixTable) (e : PrefixEntry) → IsLongestFit iri table e → longest_fit iri table ≡ Some e
+unfolding longest_fit
+longest_fit-only iri table e m = ap (longest_fit iri) (sym m.stands) ∙ by m.front m.before
+  where
+    one : (x : PrefixEntry) → (fits iri x ≡ true → length x.iri < length e.iri) → (b : Bool) → fits iri x ≡ b → (if b then Some (or_longer x (Some e)) else Some e) ≡ Some e
+    one x h false f = refl
+    one x h true f = elim (or_longer-case x e) [ inl c ↦ ap (λ d. Some d) c.0 | inr c ↦ absurd (let short = h f in let l = c.1 in omega arith) ]
+
+    by : (front : PrefixTable) → AllByRecursion (λ (d : PrefixEntry). fits iri d ≡ true → length d.iri < length e.iri) front → longest_fit iri (front ++ e ∷ m.back) ≡ Some e
+    by [] all = ap (λ b. if b then Some (or_longer e (longest_fit iri m.back)) else longest_fit iri m.back) m.fit ∙ ap (λ d. Some d) (or_longer-first iri m.back e m.behind)
+    by (x ∷ front) all = ap (λ o. if fits iri x then Some (or_longer x o) else o) (by front all.1) ∙ one x all.0 (fits iri x) refl
+
+-- ---- a scan from the first entry to the last
+
+or_longer-assoc : (x d e : PrefixEntry) → or_longer x (Some (or_longer d (Some e))) ≡ or_longer (or_longer x (Some d)) (Some e)
+or_longer-assoc x d e = grind arith
+
+pub longest_fit-snoc : (iri : Text) (table : PrefixTable) (e : PrefixEntry) → longest_fit iri (table ++ e ∷ []) ≡ (if fits iri e then Some (or_new (longest_fit iri table) e) else longest_fit iri table)
+unfolding longest_fit
+longest_fit-snoc iri [] e = refl
+longest_fit-snoc iri (x ∷ table) e = ap (λ o. if fits iri x then Some (or_longer x o) else o) (longest_fit-snoc iri table e) ∙ by (fits iri x) (fits iri e) (longest_fit iri table)
+  where
+    by : (fx fe : Bool) (o : Option PrefixEntry) → let new : Option PrefixEntry = if fe then Some (or_new o e) else o in
+        (if fx then Some (or_longer x new) else new) ≡ (if fe then Some (or_new (if fx then Some (or_longer x o) else o) e) else (if fx then Some (or_longer x o) else o))
+    by fx false o = refl
+    by false true o = refl
+    by true true None = refl
+    by true true (Some d) = ap (λ y. Some y) (or_longer-assoc x d e)
+
+-- ---- labels
+
+not_true : (b : Bool) → (b ≡ true → ⊥) → b ≡ false
+not_true true h = absurd (h refl)
+not_true false h = refl
+
+same_label : (a b : Text) → bytes_eq a b ≡ true → a ≡ b
+same_label a b h = (bytes_decides a b).0 h
+
+label_itself : (a : Text) → bytes_eq a a ≡ true
+label_itself a = (bytes_decides a a).1 refl
+
+label_turned : (a b : Text) → bytes_eq a b ≡ false → bytes_eq b a ≡ false
+label_turned a b h = not_true (bytes_eq b a) (λ k. true≢false (sym ((bytes_decides a b).1 (sym (same_label b a k))) ∙ h))
+
+label_lacks : (label : Text) → is_label label ≡ true → lacks colon label ≡ true
+unfolding is_label
+label_lacks [] h = refl
+label_lacks (c ∷ cs) h = grind (arith, common_steps, lacks_more, not_true, first_of_both, eqb-true, all_lacks)
+
+-- a label is taken exactly if it has an entry
+pub is_taken-get : (label : Text) (table : PrefixTable) → is_taken label table ≡ is_some (get label table)
+unfolding get
+is_taken-get label [] = refl
+is_taken-get label (e ∷ table) = grind (arith, common_steps, is_taken-get label table)
+
+-- each entry is found by its label
+pub get-entry : (front : PrefixTable) (e : PrefixEntry) (back : PrefixTable) → labels_differ (front ++ e ∷ back) ≡ true → get e.label (front ++ e ∷ back) ≡ Some e.iri
+unfolding get
+get-entry [] e back h = grind (arith, common_steps, label_itself)
+get-entry (x ∷ front) e back h = grind (arith, common_steps, not-true, first_of_both, label_turned, second_of_both, or_parts, get-entry front e back)
+
+-- ---- shortened and expanded
+
+begins-joins : (front text : Text) → begins_with front text ≡ true → front ++ drop (length front) text ≡ text
+begins-joins front text h = ap (λ t. t ++ drop (length front) text) (same_label front (take (length front) text) h) ∙ take-append-drop (length front) text
+
+label_at : (front : PrefixTable) (e : PrefixEntry) (back : PrefixTable) → list_all (λ (x : PrefixEntry). is_label x.label) (front ++ e ∷ back) ≡ true → is_label e.label ≡ true
+label_at [] e back h = first_of_both (is_label e.label) (list_all (λ (x : PrefixEntry). is_label x.label) back) h
+label_at (x ∷ front) e back h = grind (arith, common_steps)
+
+expanded-fit : (iri : Text) (table : PrefixTable) (e : PrefixEntry) → IsPrefixTable table → is_uri iri_chars iri ≡ true → IsLongestFit iri table e
+    → expanded (e.label ++ colon ∷ drop (length e.iri) iri) table ≡ Ok iri
+unfolding expanded
+expanded-fit iri table e t full m =
+    let rest = drop (length e.iri) iri in
+    let label : lacks colon e.label ≡ true = label_lacks e.label (label_at m.front e m.back (subst (λ x. list_all (λ (y : PrefixEntry). is_label y.label) x ≡ true) (sym m.stands) t.labels)) in
+    let found : get e.label table ≡ Some e.iri = ap (get e.label) (sym m.stands) ∙ get-entry m.front e m.back (subst (λ x. labels_differ x ≡ true) (sym m.stands) t.differ) in
+    (λ i. expanded_parts (get (before-mark colon e.label rest label i) table) (after-part colon e.label (Some rest) label i))
+    ∙ (λ i. expanded_parts (found i) (Some rest)) ∙ ap if_iri (begins-joins e.iri iri m.fit) ∙ ap (λ b. if b then Ok iri else Err NotAnIri) full
+
+pub compacted-is : (iri : Text) (table : PrefixTable) → MatchOption (compacted iri table) (IsFalse (list_any (fits iri) table)) (IsCompact iri table)
+unfolding compacted
+compacted-is iri table = by (longest_fit iri table) (longest_fit-is iri table)
+  where
+    by : (o : Option PrefixEntry) → MatchOption o (IsFalse (list_any (fits iri) table)) (IsLongestFit iri table)
+        → MatchOption (option_map (λ (e : PrefixEntry). record { label = e.label; rest = drop (length e.iri) iri }) o) (IsFalse (list_any (fits iri) table)) (IsCompact iri table)
+    by None m = m
+    by (Some e) m = record { entry = e; longest = m; label = refl; rest = begins-joins e.iri iri m.fit }
+
+-- what was shortened expands to the text that it was
+pub expanded-compacted : (iri : Text) (table : PrefixTable) (c : CompactValue) → IsPrefixTable table → is_uri iri_chars iri ≡ true → compacted iri table ≡ Some c
+    → expanded (compact_text c) table ≡ Ok iri
+unfolding compacted
+expanded-compacted iri table c t full found = by (longest_fit iri table) (longest_fit-is iri table) found
+  where
+    by : (o : Option PrefixEntry) → MatchOption o (IsFalse (list_any (fits iri) table)) (IsLongestFit iri table)
+        → option_map (λ (e : PrefixEntry). record { label = e.label; rest = drop (length e.iri) iri }) o ≡ Some c → expanded (compact_text c) table ≡ Ok iri
+    by None m k = absurd (cc k)
+    by (Some e) m k = ap (λ (d : CompactValue). expanded (compact_text d) table) (sym (same_Some _ c k)) ∙ expanded-fit iri table e t full m
+
+pub expanded_is_iri : (text iri : Text) (table : PrefixTable) → expanded text table ≡ Ok iri → is_uri iri_chars iri ≡ true
+unfolding expanded
+expanded_is_iri text iri table h = grind arith
+
+-- ---- inserts
+
+-- the cases of an insert
+pub record IsInserted (label iri : Text) (table new : PrefixTable) : Type 0 where
+  pub label_in_rule : is_label label ≡ true
+  pub free : is_taken label table ≡ false
+  pub stands : table ++ record { label = label; iri = iri } ∷ [] ≡ new
+
+pub inserted-ok : (label iri : Text) (table new : PrefixTable) → inserted label iri table ≡ Ok new → IsInserted label iri table new
+unfolding inserted
+inserted-ok label iri table new h = grind arith
+
+-- labels are found in the order of the entries
+find-snoc : (label : Text) (table : PrefixTable) (e : PrefixEntry) → find (has_label label) (table ++ e ∷ []) ≡ (if is_taken label table then find (has_label label) table else (if has_label label e then Some e else None))
+find-snoc label [] e = refl
+find-snoc label (x ∷ table) e = grind (arith, common_steps, find-snoc label table e)
+
+pub get-new : (label iri : Text) (table new : PrefixTable) → inserted label iri table ≡ Ok new → get label new ≡ Some iri
+unfolding get
+get-new label iri table new h = grind (arith, common_steps, inserted-ok, find-snoc, label_itself)
+
+none_found : (label : Text) (table : PrefixTable) → is_taken label table ≡ false → find (has_label label) table ≡ None
+none_found label [] h = refl
+none_found label (x ∷ table) h = grind (arith, common_steps, none_found label table)
+
+pub get-others : (label iri other : Text) (table new : PrefixTable) → inserted label iri table ≡ Ok new → other ≢ label → get other new ≡ get other table
+unfolding get
+get-others label iri other table new h ne =
+    let i = inserted-ok label iri table new h in
+    let e : PrefixEntry = record { label = label; iri = iri } in
+    ap (λ t. option_map (λ (x : PrefixEntry). x.iri) (find (has_label other) t)) (sym i.stands)
+    ∙ ap (option_map (λ (x : PrefixEntry). x.iri)) (find-snoc other table e)
+    ∙ ap (λ b. option_map (λ (x : PrefixEntry). x.iri) (if is_taken other table then find (has_label other) table else (if b then Some e else None))) (not_true (bytes_eq label other) (λ k. ne (sym (same_label label other k))))
+    ∙ ap (option_map (λ (x : PrefixEntry). x.iri)) (by (is_taken other table) refl)
+  where
+    by : (b : Bool) → is_taken other table ≡ b → (if b then find (has_label other) table else None) ≡ find (has_label other) table
+    by true k = refl
+    by false k = sym (none_found other table k)
+
+-- an insert keeps a table one
+labels_differ-snoc : (table : PrefixTable) (e : PrefixEntry) → labels_differ table ≡ true → is_taken e.label table ≡ false → labels_differ (table ++ e ∷ []) ≡ true
+labels_differ-snoc [] e h k = refl
+labels_differ-snoc (x ∷ table) e h k = grind (arith, common_steps, or_parts, label_turned, first_of_both, second_of_both, labels_differ-snoc table e)
+
+all_snoc : (test : PrefixEntry → Bool) (table : PrefixTable) (e : PrefixEntry) → list_all test table ≡ true → test e ≡ true → list_all test (table ++ e ∷ []) ≡ true
+all_snoc test table e h k = list_all-append test table (e ∷ []) ∙ and_from _ _ h (and_from _ _ k refl)
+
+pub table-new : (label iri : Text) (table new : PrefixTable) → IsPrefixTable table → is_uri iri_chars iri ≡ true → inserted label iri table ≡ Ok new → IsPrefixTable new
+table-new label iri table new t full h = grind (arith, common_steps, inserted-ok, all_snoc, labels_differ-snoc)
+
+-- and so do inserts in a row
+pub table-all : (entries : List PrefixEntry) (table new : PrefixTable) → IsPrefixTable table → list_all (λ (e : PrefixEntry). is_uri iri_chars e.iri) entries ≡ true
+    → inserted_all entries table ≡ Some new → IsPrefixTable new
+unfolding inserted_all
+table-all [] table new t h k = subst IsPrefixTable (same_Some table new k) t
+table-all (e ∷ entries) table new t h k =
+    by (inserted e.label e.iri table) refl k
+    (λ next f. table-all entries next new (table-new e.label e.iri table next t (first_of_both (is_uri iri_chars e.iri) (list_all (λ (x : PrefixEntry). is_uri iri_chars x.iri) entries) h) f) (second_of_both (is_uri iri_chars e.iri) (list_all (λ (x : PrefixEntry). is_uri iri_chars x.iri) entries) h))
+  where
+    by : (r : Result PrefixTable InsertRefusal) → inserted e.label e.iri table ≡ r → unless_refused (inserted_all entries) r ≡ Some new
+        → ((next : PrefixTable) → inserted e.label e.iri table ≡ Ok next → inserted_all entries next ≡ Some new → IsPrefixTable new) → IsPrefixTable new
+    by (Ok next) f l rest = rest next f l
+    by (Err refusal) f l rest = absurd (cc l)
+
+pub table-nil : IsPrefixTable []
+table-nil = record { labels = refl; differ = refl; iris = refl }
+
+-- why an insert is refused
+pub inserted-bad_label : (label iri : Text) (table : PrefixTable) → (inserted label iri table ≡ Err BadLabel) ↔ IsFalse (is_label label)
+unfolding inserted
+inserted-bad_label label iri table = grind arith
+
+pub inserted-taken : (label iri : Text) (table : PrefixTable) → (inserted label iri table ≡ Err Taken) ↔ ((is_label label ≡ true) × (is_some (get label table) ≡ true))
+unfolding inserted
+inserted-taken label iri table = grind (arith, common_steps, is_taken-get)
+
+-- what are laws of prefix tables
+pub ruleset laws = (expanded-compacted, expanded_is_iri, inserted-ok, get-new, get-others, inserted-bad_label, inserted-taken)

@@ -1,0 +1,72 @@
+//! Laws of prefix tables: each is the contract of a function that does nothing.
+#![tactic(auto, using(crate::proofs::PrefixLemmas::laws))]
+
+ghost use Rattle.std.specs.Prelude.{◌≡◌, ◌≢◌, ◌↔◌, List, [], ◌∷◌, ◌++◌, Some, Ok, Err, true};
+ghost use Rattle.std.specs.{Prelude.{IsFalse, IsSome, MatchOption, if◌then◌else◌}, List.{list_all}};
+ghost use Rattle.std.specs.List.{list_any};
+ghost use Rattle.iref_grammar.specs.{iri_chars, Text, is_uri};
+ghost use Rattle.iref.specs.PrefixTable.{PrefixEntry, PrefixTable, IsPrefixTable};
+ghost use Rattle.iref.specs.PrefixTable.{labels_differ, is_label, get, BadLabel, Taken};
+ghost use Rattle.iref.specs.PrefixTable.{inserted, inserted_all, fits, longest_fit};
+ghost use Rattle.iref.specs.PrefixTable.{IsLongestFit, or_new, CompactValue, IsCompact};
+ghost use Rattle.iref.specs.PrefixTable.{compacted, compact_text, expanded};
+
+/// A table that was made by inserts of IRIs holds labels in their rule, none of them twice, and
+/// IRIs.
+pub fn inserting_keeps_labels_unique()
+    ensures empty { IsPrefixTable [] }
+    ensures new { (label iri : Text) (table new : PrefixTable) → IsPrefixTable table
+        → is_uri iri_chars iri ≡ true
+        → inserted label iri table ≡ Ok new → IsPrefixTable new }
+    ensures all { (entries : List PrefixEntry) (new : PrefixTable)
+        → list_all (λ (e : PrefixEntry). is_uri iri_chars e.iri) entries ≡ true
+        → inserted_all entries [] ≡ Some new → IsPrefixTable new }
+    ensures found { (front : PrefixTable) (e : PrefixEntry) (back : PrefixTable)
+        → labels_differ (front ++ e ∷ back) ≡ true
+        → get e.label (front ++ e ∷ back) ≡ Some e.iri }
+{}
+
+/// An insert adds a last entry: those before it keep their positions and their IRIs.
+pub fn inserting_keeps_the_earlier_entries()
+    ensures order { (label iri : Text) (table new : PrefixTable) → inserted label iri table ≡ Ok new
+        → table ++ record { label = label; iri = iri } ∷ [] ≡ new }
+    ensures new { (label iri : Text) (table new : PrefixTable)
+        → inserted label iri table ≡ Ok new → get label new ≡ Some iri }
+    ensures others { (label iri other : Text) (table new : PrefixTable)
+        → inserted label iri table ≡ Ok new → other ≢ label
+        → get other new ≡ get other table }
+{}
+
+/// An insert is refused where its text is no label, and then where the label has an entry.
+pub fn inserting_refuses_bad_and_taken_labels()
+    ensures bad_label { (label iri : Text) (table : PrefixTable)
+        → (inserted label iri table ≡ Err BadLabel) ↔ IsFalse (is_label label) }
+    ensures taken { (label iri : Text) (table : PrefixTable)
+        → (inserted label iri table ≡ Err Taken)
+        ↔ ((is_label label ≡ true) × IsSome (get label table)) }
+{}
+
+/// An IRI is shortened by the longest entry whose text is a beginning of its text, the first of
+/// them on a tie.
+pub fn compacting_takes_the_longest_fit()
+    ensures fit { (iri : Text) (table : PrefixTable)
+        → MatchOption (longest_fit iri table)
+        (IsFalse (list_any (fits iri) table)) (IsLongestFit iri table) }
+    ensures only { (iri : Text) (table : PrefixTable) (e : PrefixEntry)
+        → IsLongestFit iri table e → longest_fit iri table ≡ Some e }
+    ensures compact { (iri : Text) (table : PrefixTable)
+        → MatchOption (compacted iri table)
+        (IsFalse (list_any (fits iri) table)) (IsCompact iri table) }
+    ensures scan { (iri : Text) (table : PrefixTable) (e : PrefixEntry)
+        → longest_fit iri (table ++ e ∷ [])
+        ≡ (if fits iri e then Some (or_new (longest_fit iri table) e) else longest_fit iri table) }
+{}
+
+/// The text of an IRI that was shortened expands to the IRI, and only IRIs are expanded.
+pub fn expanding_undoes_compacting()
+    ensures text { (iri : Text) (table : PrefixTable) (c : CompactValue) → IsPrefixTable table
+        → is_uri iri_chars iri ≡ true
+        → compacted iri table ≡ Some c → expanded (compact_text c) table ≡ Ok iri }
+    ensures iri { (text iri : Text) (table : PrefixTable) → expanded text table ≡ Ok iri
+        → is_uri iri_chars iri ≡ true }
+{}

@@ -1,0 +1,45 @@
+-- The mapping of a spelling is the spelling of the mapped components.
+use Rattle.std.proofs.Common.{arith, ◌≡◌, ℕ, true, List, [], ◌∷◌, ◌++◌, map, refl, sym, ◌∙◌, ap}
+use Rattle.std.proofs.lemmas.Grind.{common_steps}
+use Rattle.std.specs.Prelude.{Option, Some, None, option_map}
+use Rattle.std.specs.List.{list_all, join_with_byte}
+use Rattle.std.specs.Char.{is_ascii}
+use Rattle.iref_grammar.specs.Rules.{Text}
+use Rattle.iref_grammar.specs.Texts.{part_then, then_part}
+use Rattle.iref_grammar.specs.Authority.{AuthorityValue, spell_authority}
+use Rattle.iref_grammar.specs.PathValue.{PathValue, spell_path}
+use Rattle.iref_grammar.specs.Reference.{ReferenceValue, spell}
+use Rattle.iref_model.specs.Mapping.{mapped, mapped_authority, mapped_path, mapped_reference}
+use Rattle.iref_model.proofs.MappedLemmas.{mapped-nil, mapped-append, mapped-kept, mapped-ascii}
+
+pub part_then-mapped : (mark : Text) → list_all is_ascii mark ≡ true → (o : Option Text) → part_then mark (option_map mapped o) ≡ mapped (part_then mark o)
+part_then-mapped mark a None = sym mapped-nil
+part_then-mapped mark a (Some part) = ap (λ t. mapped part ++ t) (sym (mapped-ascii mark a)) ∙ sym (mapped-append part mark)
+
+pub then_part-mapped : (mark : Text) → list_all is_ascii mark ≡ true → (o : Option Text) → then_part mark (option_map mapped o) ≡ mapped (then_part mark o)
+then_part-mapped mark a None = sym mapped-nil
+then_part-mapped mark a (Some part) = ap (λ t. t ++ mapped part) (sym (mapped-ascii mark a)) ∙ sym (mapped-append mark part)
+
+join-mapped : (mark : ℕ) → is_ascii mark ≡ true → (ss : List Text) → join_with_byte mark (map mapped ss) ≡ mapped (join_with_byte mark ss)
+join-mapped mark a [] = sym mapped-nil
+join-mapped mark a (s ∷ []) = refl
+join-mapped mark a (s ∷ t ∷ ss) = grind (arith, common_steps, mapped-kept, mapped-append, join-mapped mark a (t ∷ ss))
+
+pub spell_path-mapped : (p : PathValue) → spell_path (mapped_path p) ≡ mapped (spell_path p)
+unfolding spell_path
+spell_path-mapped p = grind (arith, common_steps, join-mapped, mapped-kept)
+
+pub spell_authority-mapped : (a : AuthorityValue) → spell_authority (mapped_authority a) ≡ mapped (spell_authority a)
+unfolding spell_authority
+spell_authority-mapped a = grind (arith, common_steps, part_then-mapped, then_part-mapped, mapped-append)
+
+pub authority_text-mapped : (o : Option AuthorityValue) → option_map spell_authority (option_map mapped_authority o) ≡ option_map mapped (option_map spell_authority o)
+authority_text-mapped None = refl
+authority_text-mapped (Some a) = ap (λ t. Some t) (spell_authority-mapped a)
+
+mapped-five : (a b c d e : Text) → mapped (a ++ b ++ c ++ d ++ e) ≡ mapped a ++ mapped b ++ mapped c ++ mapped d ++ mapped e
+mapped-five a b c d e = simp mapped-append
+
+pub spell-mapped : (r : ReferenceValue) → spell (mapped_reference r) ≡ mapped (spell r)
+unfolding spell
+spell-mapped r = grind (arith, common_steps, part_then-mapped, authority_text-mapped, spell_path-mapped, then_part-mapped, mapped-five)
