@@ -5,3 +5,4 @@ pub mod FirstFault
 pub mod Components
 pub mod BytePlaces
 pub mod CutSteps
+pub mod Printed
