@@ -1,11 +1,13 @@
 -- The computed fault of a whole text: there is none exactly in the grammar, and it is that of the first piece outside its rule.
-use Rattle.std.proofs.Common.{arith, ◌≡◌, ℕ, zero, suc, ◌+◌, ◌≤◌, Bool, true, false, List, [], ◌∷◌, ◌++◌, refl, sym, ◌∙◌, ap, subst, length, take, drop, ◌-◌, length-append, length-drop}
+use Rattle.std.proofs.Common.{arith, ◌≡◌, ℕ, zero, suc, ◌+◌, ◌<◌, ◌≤◌, ⊎_elim, Bool, true, false, List, [], ◌∷◌, ◌++◌, refl, sym, ◌∙◌, ap, subst, length, take, drop, ◌-◌, length-append, length-drop}
 use Rattle.std.proofs.Math.Logic.{◌↔◌}
 use Rattle.std.specs.Prelude.{chars, Some, None, if◌then◌else◌, encode_utf8_all}
-use Rattle.std.specs.Str.{IsUtf8, is_utf8}
+use Rattle.std.specs.Str.{IsUtf8, IsValidUpTo, is_utf8}
 use Rattle.std.specs.Str.Lossy.{utf8_valid_len, valid_len_up_to}
 use Rattle.std.specs.List.{AllByRecursion}
 use Rattle.std.proofs.Math.Seq.{take-append_seam, drop-append_seam}
+use Rattle.std.proofs.lemmas.Bool.{cases_lt}
+use Rattle.std.proofs.lemmas.List.{take_all}
 use Rattle.std.proofs.lemmas.Option.{same_Some}
 use Rattle.std.proofs.lemmas.Str.{IsUtf8-nil, IsUtf8-from_is_utf8, is_utf8-from_IsUtf8, IsUtf8-take, IsUtf8-drop, utf8_valid_len_le, encodes-chars, length-encode, len_utf8_bounds}
 use Rattle.std.specs.Char.{encode_utf8}
@@ -32,6 +34,48 @@ ruled_utf8 A text z = is_utf8-from_IsUtf8 text (z.0, (z.1, z.2))
 -- no value
 not_none : {A : Type 0} (x : A) → Some x ≡ None → ⊥
 not_none x e = cc
+
+-- ---- the longest front that is UTF-8
+
+valid_front : (text : Text) (n : ℕ) → is_utf8 (take (valid_len_up_to text n) text) ≡ true
+valid_front text zero = is_utf8-from_IsUtf8 [] IsUtf8-nil
+valid_front text (suc n) = by (is_utf8 (take (suc n) text)) refl (valid_front text n)
+  where
+    by : (b : Bool) → is_utf8 (take (suc n) text) ≡ b → is_utf8 (take (valid_len_up_to text n) text) ≡ true → is_utf8 (take (if b then suc n else valid_len_up_to text n) text) ≡ true
+    by true e h = e
+    by false e h = h
+
+no_longer_front : (text : Text) (n m : ℕ) → valid_len_up_to text n < m → m ≤ n → is_utf8 (take m text) ≡ false
+no_longer_front text zero m low high = absurd (omega arith)
+no_longer_front text (suc n) m low high = by (is_utf8 (take (suc n) text)) refl low (no_longer_front text n m)
+  where
+    by : (b : Bool) → is_utf8 (take (suc n) text) ≡ b → (if b then suc n else valid_len_up_to text n) < m
+        → (valid_len_up_to text n < m → m ≤ n → is_utf8 (take m text) ≡ false) → is_utf8 (take m text) ≡ false
+    by true e low more = absurd (omega arith)
+    by false e low more = ⊎_elim (λ h. let last : m ≡ suc n = omega arith in ap (λ k. is_utf8 (take k text)) last ∙ e) (more low) (cases_lt n m)
+
+-- the fault of bytes that are not UTF-8 stands behind it
+pub invalid_place : (text : Text) → is_utf8 text ≡ false → IsValidUpTo text (not_utf8 text).at
+unfolding utf8_valid_len
+invalid_place text u = record { short = short; front = IsUtf8-from_is_utf8 (take n text) front; longest = longest }
+  where
+    n : ℕ
+    n = valid_len_up_to text (length text)
+
+    front : is_utf8 (take n text) ≡ true
+    front = valid_front text (length text)
+
+    is_whole : (m : ℕ) → length text ≤ m → is_utf8 (take m text) ≡ false
+    is_whole m h = ap is_utf8 (take_all m text h) ∙ u
+
+    short : n < length text
+    short = ⊎_elim (λ h. h) (λ h. absurd (true≢false (sym front ∙ is_whole n h))) (cases_lt n (length text))
+
+    longer : (m : ℕ) → n < m → is_utf8 (take m text) ≡ false
+    longer m low = ⊎_elim (λ h. no_longer_front text (length text) m low (omega arith)) (is_whole m) (cases_lt m (length text))
+
+    longest : (m : ℕ) → n < m → ¬ (IsUtf8 (take m text))
+    longest m low z = true≢false (sym (is_utf8-from_IsUtf8 (take m text) z) ∙ longer m low)
 
 module _ (set : CharTests) (above : AreAboveAscii set) where
   -- ---- pieces of a text
@@ -99,14 +143,6 @@ module _ (set : CharTests) (above : AreAboveAscii set) where
 
   found : (text : Text) (ps : List Piece) (f : FaultValue) → is_utf8 text ≡ true → (IsUtf8 text → AreSound set above text ps) → fault_of_pieces set text ps ≡ Some f → EndsThere text f
   found text ps f u s e = let utf8 = IsUtf8-from_is_utf8 text u in first_found text ps f utf8 (s utf8) ((fault_of text ps f u s).0 e)
-
-  valid_front : (text : Text) (n : ℕ) → is_utf8 (take (valid_len_up_to text n) text) ≡ true
-  valid_front text zero = is_utf8-from_IsUtf8 [] IsUtf8-nil
-  valid_front text (suc n) = by (is_utf8 (take (suc n) text)) refl (valid_front text n)
-    where
-      by : (b : Bool) → is_utf8 (take (suc n) text) ≡ b → is_utf8 (take (valid_len_up_to text n) text) ≡ true → is_utf8 (take (if b then suc n else valid_len_up_to text n) text) ≡ true
-      by true e h = e
-      by false e h = h
 
   invalid_within : (text : Text) → IsWithin text (not_utf8 text)
   unfolding utf8_valid_len
@@ -302,4 +338,4 @@ pub authority_pieces_stand : (text : Text) → is_utf8 text ≡ true → AllByRe
 authority_pieces_stand text u = stand uri_chars uri_above_ascii text (authority_pieces 0 text) (authority_pieces_sound uri_chars uri_above_ascii text (IsUtf8-from_is_utf8 text u))
 
 -- what are laws of faults
-pub ruleset laws = (part_invalid, authority_invalid, reference_invalid, uri_invalid, part_found, authority_found, reference_found, uri_found, pieces_stand, authority_pieces_stand, authority_cut, reference_cut)
+pub ruleset laws = (invalid_place, part_invalid, authority_invalid, reference_invalid, uri_invalid, part_found, authority_found, reference_found, uri_found, pieces_stand, authority_pieces_stand, authority_cut, reference_cut)

@@ -1,6 +1,6 @@
 -- Worked rows of faults: why, where, and what stands there; computed.
 use Prim.Native.String.{String}
-use Rattle.std.specs.Prelude.{codes, encode_utf8_all, ◌≡◌, ℕ, List, [], ◌∷◌, map, Option, Some, None, refl}
+use Rattle.std.specs.Prelude.{codes, encode_utf8_all, ◌≡◌, ℕ, List, [], ◌∷◌, map, Option, Some, None, option_and_then, option_map, refl}
 use Rattle.std.specs.Str.{chars, is_utf8}
 use Rattle.std.specs.Str.Lossy.{utf8_valid_len}
 use Rattle.std.specs.Char.{encode_utf8}
@@ -16,6 +16,8 @@ use Rattle.iref_fault.specs.declared.component.Component.{Component}
 use Rattle.iref_fault.specs.Places as rule
 use Rattle.iref_fault.specs.Places.{PartRule, component_of, place_in}
 use Rattle.iref_fault.specs.Cut.{Piece, authority_pieces, pieces_of}
+use Rattle.std.specs.Fmt.{digits, debug_escape}
+use Rattle.iref_fault.specs.Printed.{fault_text}
 use Rattle.iref_fault.specs.Faults.{FaultValue, fault_of_piece, fault_of_part, fault_of_authority, fault_of_reference, fault_of_uri}
 
 -- the bytes of a quoted text
@@ -81,6 +83,27 @@ bytes =
 bytes_hold : map (λ row. parts_of_fault (fault_of_reference iri_chars row.0)) bytes ≡ map (λ row. row.1) bytes
 unfolding fault_of_reference fault_of_piece pieces_of authority_pieces place_in is_utf8 utf8_valid_len chars encode_utf8 owed_after is_reg_name_char is_user_info_char is_path_char is_fragment_char is_query_char is_ip_literal is_ipvfuture ipv6_value ipv4_value
 bytes_hold = refl
+
+-- bytes; what is printed of the fault that they have as a URI
+abbrev printed : List (Text × Option String)
+printed =
+    (codes "http://h.org:8x0/", Some "invalid port at byte 14: 'x'")
+    ∷ (codes "a:b c", Some "invalid path at byte 3: ' '")
+    ∷ (codes "http:a%4", Some "invalid path at byte 8: the text ends")
+    ∷ (codes "http://u ser@h", Some "invalid user info at byte 8: ' '")
+    ∷ (codes "s:?`", Some "invalid query at byte 3: '`'")
+    ∷ (codes "s:#'\"", Some "invalid fragment at byte 4: '\"'")
+    ∷ (codes "s:\n", Some "invalid path at byte 2: '\\n'")
+    ∷ (codes "1:2", Some "invalid scheme at byte 0: '1'")
+    ∷ (codes "http://[::1", Some "invalid host at byte 7: '['")
+    ∷ (codes "a/b", Some "no scheme")
+    ∷ (0x61 ∷ 0xC3 ∷ [], Some "not UTF-8 at byte 1")
+    ∷ (codes "a:b", None)
+    ∷ []
+
+printed_hold : map (λ row. option_and_then fault_text (fault_of_uri uri_chars row.0)) printed ≡ map (λ row. option_map codes row.1) printed
+unfolding fault_of_uri fault_of_piece pieces_of authority_pieces place_in is_utf8 utf8_valid_len chars encode_utf8 owed_after is_reg_name_char is_user_info_char is_path_char is_fragment_char is_query_char is_ip_literal is_ipvfuture ipv6_value ipv4_value digits debug_escape
+printed_hold = refl
 
 -- ---- single texts and authorities
 

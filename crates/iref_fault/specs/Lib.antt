@@ -6,3 +6,4 @@ pub mod Components
 pub mod BytePlaces
 pub mod CutSteps
 pub mod Tried
+pub mod Printed

@@ -8,6 +8,7 @@ ghost use Rattle.iref_fault.specs.BytePlaces.{fault_value, invalid_component, va
 ghost use Rattle.iref_fault.specs.Faults as spec;
 ghost use Rattle.iref_fault.specs.Faults.{fault_of_part, first_char, not_utf8};
 ghost use Rattle.iref_fault.specs.Places as rule;
+ghost use Rattle.iref_fault.specs.Printed.{component_name, fault_text};
 
 use crate::component::{Cause, Component};
 use crate::pieces::{
@@ -64,7 +65,9 @@ impl Fault {
 }
 
 // What a component is called in print.
-fn name(component: Component) -> &'static str {
+fn name(component: Component) -> &'static str
+    ensures { result.now ≡ component_name component }
+{
     match component {
         Component::Scheme => "scheme",
         Component::UserInfo => "user info",
@@ -76,7 +79,11 @@ fn name(component: Component) -> &'static str {
     }
 }
 
+/// What is wrong, at which byte, and the character there as `{:?}` writes it, such as
+/// `invalid port at byte 10: 'x'`.
 impl fmt::Display for Fault {
+    ghost output = { λ fault. fault_text (fault_value fault) };
+
     fn fmt<W: fmt::Write>(&self, f: &mut fmt::Formatter<W>) -> fmt::Result {
         match self.cause {
             Cause::NoScheme => f.write_str("no scheme"),

@@ -2,7 +2,7 @@
 #![tactic(auto, using(crate::proofs::FaultLemmas::laws))]
 
 ghost use Rattle.std.specs.Prelude.{◌≡◌, ◌↔◌, ℕ, ◌≤◌, length, take, drop, true, false, Some};
-ghost use Rattle.std.specs.{Prelude.{None, map}, Str.{is_utf8}, List.{AllByRecursion}};
+ghost use Rattle.std.specs.{Prelude.{None, map}, Str.{is_utf8, IsValidUpTo}, List.{AllByRecursion}};
 ghost use Rattle.iref_grammar.specs.{Text, InUtf8, IsUri, IsUriReference, IsAuthority};
 ghost use Rattle.iref_grammar.specs.{is_authority, is_reference, read_authority, read_reference};
 ghost use Rattle.iref_fault.specs.Places.{PartRule, is_bare, rule_of, IsPlaceIn};
@@ -57,7 +57,8 @@ pub fn first_fault<S: CharSet>()
         → fault_of_uri S.tests text ≡ Some no_scheme }
 {}
 
-/// Bytes that are not UTF-8 have this fault, whatever else is wrong with them.
+/// Bytes that are not UTF-8 have this fault, whatever else is wrong with them: it stands behind the
+/// longest beginning that is UTF-8.
 pub fn fault_of_bytes<S: CharSet>()
     ensures part { (rule : PartRule) (text : Text) → is_utf8 text ≡ false
         → fault_of_part S.tests rule text ≡ Some (not_utf8 text) }
@@ -67,6 +68,7 @@ pub fn fault_of_bytes<S: CharSet>()
         → fault_of_reference S.tests text ≡ Some (not_utf8 text) }
     ensures uri { (text : Text) → is_utf8 text ≡ false
         → fault_of_uri S.tests text ≡ Some (not_utf8 text) }
+    ensures place { (text : Text) → is_utf8 text ≡ false → IsValidUpTo text (not_utf8 text).at }
 {}
 
 /// A fault is at a place within the text, and what stands before it is UTF-8.
