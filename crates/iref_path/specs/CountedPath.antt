@@ -1,20 +1,24 @@
--- A path that is read from the back, and the count of the segments read.
-use Rattle.std.specs.Prelude.{◌≡◌, ℕ, ◌+◌, ◌<◌, ◌≤◌, ◌^◌, Bool, List, [], ◌∷◌, Option, Some, None, reverse, length}
+-- A path that is read from the back.
+use Rattle.std.specs.Prelude.{◌≡◌, ℕ, ◌+◌, ◌≤◌, Bool, List, [], ◌∷◌, Option, Some, None}
 use Rattle.std.specs.Borrow.{Bor}
-use Rattle.std.specs.Iterator.{YieldsFirstBy}
 use Rattle.iref_grammar.specs.Rules.{Text}
 use Rattle.iref_grammar.specs.PathValue.{PathValue}
-use Rattle.iref_path.specs.Pieces.{pieces_if_some, text_at}
 use Rattle.iref_model.specs.CountedEquality.{ItemRead, Comparison, items_read, all_items_read}
+use Rattle.iref_path.specs.CountedSegments.{HasRoom, segments_counted, segments_left, unread}
 use Rattle.iref_path.specs.declared.counted.CountedPath.{CountedPath}
+use Rattle.iref_path.specs.declared.counted_segments.CountedSegments.{CountedSegments}
 
--- the segments of a text, if it is there, last first
-unfoldable pub unread_in : Option (Bor Text) → List Text
-unread_in rest = reverse (pieces_if_some rest)
+-- the segments of the path
+abbrev pub segments_of : CountedPath → CountedSegments
+segments_of u = u.segments
 
 -- the segments that are left, last first
 abbrev pub segments_unread : CountedPath → List Text
-segments_unread u = unread_in u.rest
+segments_unread u = unread (segments_of u)
+
+-- how many segments of both have been read
+abbrev pub both_counted : CountedPath → CountedPath → ℕ
+both_counted left right = segments_counted (segments_of left) + segments_counted (segments_of right)
 
 -- the items that are left
 unfoldable pub items_unread : CountedPath → List ItemRead
@@ -24,33 +28,19 @@ items_unread u = items_read u.absolute u.open_parents (segments_unread u)
 unfoldable pub all_items_unread : CountedPath → List ItemRead
 all_items_unread u = all_items_read u.absolute (segments_unread u)
 
--- as many segments and open `..` as can be counted
-abbrev pub IsCountable : CountedPath → Type 0
-IsCountable u = u.open_parents + length (segments_unread u) < 2 ^ 64
+-- the segments can be counted, and each open `..` has been
+pub record IsCountable (u : CountedPath) : Type 0 where
+  pub room : HasRoom (segments_of u)
+  pub open_read : u.open_parents ≤ segments_counted (segments_of u)
 
 -- nothing of the path has been read
 pub record IsWhole (u : CountedPath) : Type 0 where
   pub countable : IsCountable u
-  pub none_open : u.open_parents ≡ 0
+  pub none_read : segments_counted (segments_of u) ≡ 0
 
 -- the path of the flag and the segments that are left
 abbrev pub path_unread : CountedPath → PathValue
-path_unread u = record { absolute = u.absolute; segments = pieces_if_some u.rest }
-
--- the count has room for the segments that are left
-abbrev pub HasRoom : ℕ → CountedPath → Type 0
-HasRoom steps u = steps + length (segments_unread u) < 2 ^ 128
-
--- each segment that was read has been counted
-pub record IsCounted (before : ℕ) (unread_before : CountedPath) (after : ℕ) (unread_after : CountedPath) : Type 0 where
-  pub shorter : length (segments_unread unread_after) ≤ length (segments_unread unread_before)
-  pub counted : after + length (segments_unread unread_after) ≡ before + length (segments_unread unread_before)
-
--- the last segment that was left, or none; what is known of the others stays
-pub record GivesSegment (before : CountedPath) (given : Option (Bor Text)) (after : CountedPath) : Type 0 where
-  pub segment : YieldsFirstBy text_at segments_unread before given after
-  pub absolute : after.absolute ≡ before.absolute
-  pub open_parents : after.open_parents ≡ before.open_parents
+path_unread u = record { absolute = u.absolute; segments = segments_left (segments_of u) }
 
 abbrev pub item_given : Bor Text → CountedPath → ItemRead
 item_given item after = record { item = item.now; unread = segments_unread after }
@@ -63,15 +53,3 @@ GivesItem before (Some item) after = items_unread before ≡ item_given item aft
 -- the comparison's answer, and what it leaves of both
 abbrev pub IsAnswer : Comparison → Bool → CountedPath → CountedPath → Type 0
 IsAnswer c equal left right = (equal ≡ c.equal) × (segments_unread left ≡ c.left) × (segments_unread right ≡ c.right)
-
--- the same of two paths and one count
-abbrev pub HaveRoom : ℕ → CountedPath → CountedPath → Type 0
-HaveRoom steps left right =
-    steps + length (segments_unread left) + length (segments_unread right) < 2 ^ 128
-
--- each segment that was read of both has been counted
-pub record AreCounted (before : ℕ) (left_before right_before : CountedPath) (after : ℕ) (left_after right_after : CountedPath) : Type 0 where
-  pub left_shorter : length (segments_unread left_after) ≤ length (segments_unread left_before)
-  pub right_shorter : length (segments_unread right_after) ≤ length (segments_unread right_before)
-  pub counted : after + length (segments_unread left_after) + length (segments_unread right_after)
-      ≡ before + length (segments_unread left_before) + length (segments_unread right_before)

@@ -14,11 +14,11 @@ pub use Rattle.iref_model.specs.PathSteps.{normalized}
 pub use Rattle.iref_path.specs.Pieces.{pieces_if_some, text_at, value_at}
 pub use Rattle.iref_path.specs.NormalItems.{decoded_left, first_or, IsFate, IsSound, KeepsEnds, names_left, normal_left, open_at_start, to_read}
 pub use Rattle.iref_path.specs.Spelling.{each_closed}
-pub use Rattle.iref_path.specs.CountedPath.{all_items_unread, AreCounted, HaveRoom, IsAnswer, IsCountable, IsWhole, items_unread, path_unread}
 pub mod Named
 pub mod Pieces
 pub mod Spelling
 pub mod CountedPath
+pub mod CountedSegments
 pub mod NormalItems
 pub mod PathParts
 pub mod StepTexts

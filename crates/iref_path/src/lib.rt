@@ -5,6 +5,7 @@
 
 pub mod compare_lists;
 pub mod counted;
+mod counted_segments;
 pub mod directory;
 pub mod forward;
 pub mod guard;

@@ -1,6 +1,7 @@
 use Rattle.std.proofs.Common.{◌≡◌, length}
 use Rattle.iref_model.specs.CountedEquality.{items_compared}
-use Rattle.iref_path.specs.CountedPath.{HaveRoom, IsCountable, AreCounted, items_unread}
+use Rattle.iref_path.specs.CountedPath.{IsCountable, items_unread, segments_of}
+use Rattle.iref_path.specs.CountedSegments.{IsCounted}
 use Rattle.iref_path.proofs.counted.items_eq.Given as goal
 
 abbrev pub invariant-loop-item : goal.invariant-loop-item
@@ -8,8 +9,8 @@ invariant-loop-item l = record {
   same : items_compared (items_unread l.left) (items_unread l.right) ≡ items_compared (items_unread l.fn.left) (items_unread l.fn.right);
   left : IsCountable l.left;
   right : IsCountable l.right;
-  room : HaveRoom l.steps l.left l.right;
-  counted : AreCounted l.fn.steps l.fn.left l.fn.right l.steps l.left l.right;
+  left_counted : IsCounted (segments_of l.fn.left) (segments_of l.left);
+  right_counted : IsCounted (segments_of l.fn.right) (segments_of l.right);
 }
 
 abbrev pub decreases-loop-item : goal.decreases-loop-item
