@@ -1,5 +1,3 @@
-pub mod Backward
-pub mod BackwardLaws
 pub mod Canonical
 pub mod CanonicalParts
 pub mod CanonicalReferences

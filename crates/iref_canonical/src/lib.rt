@@ -2,7 +2,6 @@
 #![tactic(auto)]
 
 mod authority;
-pub mod backward;
 pub mod canonical_laws;
 pub mod encoded;
 mod literal;

@@ -8,12 +8,12 @@ ghost use Rattle.iref_canonical.specs.{Canonical.{canonical_text}, CanonicalPart
 ghost use Rattle.iref_canonical.specs.CanonicalReferences.{IsMeasured, measured_canonical};
 
 use crate::authority::put_authority;
-use crate::backward::{Backward, Compared, Count, Written};
 use crate::encoded::{QUERY, put_encoded, put_lower};
 use crate::path::CanonicalPath;
 use iref_grammar::context::PathContext;
 use iref_parse::split::ReferenceSlices;
 use iref_splice::Memory;
+use iref_splice::backward::{Backward, Compared, Count, Written};
 use std::alloc::{AllocError, Global};
 
 /// The canonical text of a reference, not written yet.

@@ -1,12 +1,12 @@
 //! What takes a text from its end, piece by piece: it is counted, written or compared.
-ghost use Rattle.std.specs.Prelude.{◌≡◌, ℕ, ◌≤◌, ◌++◌, Option, Some, [], drop, length, IfOk, ⊤};
+ghost use Rattle.std.specs.Prelude.{◌≡◌, ℕ, ◌≤◌, ◌++◌, Option, Some, [], drop, false, true, length, IfOk, ⊤};
 ghost use Rattle.std.specs.Option.{option_copied};
 ghost use Rattle.iref_grammar.specs.Rules.{Text};
-ghost use Rattle.iref_canonical.specs.Backward.{compared_after, counted_after, is_all, written_after};
-ghost use Rattle.iref_canonical.specs.BackwardLaws.{compared-both, compared-nothing, counted-both, counted-nothing};
-ghost use Rattle.iref_canonical.specs.BackwardLaws.{written-both, written-fits, written-nothing};
+ghost use Rattle.iref_splice.specs.Backward.{compared_after, counted_after, is_all, written_after};
+ghost use Rattle.iref_splice.specs.BackwardLaws.{compared-both, compared-nothing, counted-both, counted-nothing};
+ghost use Rattle.iref_splice.specs.BackwardLaws.{written-both, written-fits, written-nothing};
 
-use iref_splice::Memory;
+use crate::out_of_memory::Memory;
 use std::alloc::Global;
 use std::marker::Model;
 
@@ -22,6 +22,13 @@ pub trait Backward {
     fn put(&mut self, piece: &[u8])
         requires { fits self.old piece.now }
         ensures { self.new ≡ after self.old piece.now };
+
+    /// Takes a text of this length, whatever its bytes, and returns `true` if only the length matters.
+    /// Else nothing changes.
+    fn put_len(&mut self, len: usize) -> bool
+        ensures taken { result ≡ true → (text : Text) → length text ≡ len
+            → self.new ≡ after self.old text }
+        ensures not_taken { result ≡ false → self.new ≡ self.old };
 
     /// Nothing changes it.
     ghost after_nothing: { (out : Self) → after out [] ≡ out };
@@ -74,6 +81,11 @@ impl Backward for Count {
         self.len = self.len.saturating_add(piece.len());
     }
 
+    fn put_len(&mut self, len: usize) -> bool {
+        self.len = self.len.saturating_add(len);
+        true
+    }
+
     ghost after_nothing = { counted-nothing };
 
     ghost after_both = { counted-both };
@@ -123,6 +135,10 @@ impl Backward for Written {
         let start = self.start - piece.len();
         self.bytes[start..self.start].copy_from_slice(piece);
         self.start = start;
+    }
+
+    fn put_len(&mut self, len: usize) -> bool {
+        false
     }
 
     ghost after_nothing = { written-nothing };
@@ -177,9 +193,60 @@ impl Backward for Compared<'_> {
         };
     }
 
+    fn put_len(&mut self, len: usize) -> bool {
+        false
+    }
+
     ghost after_nothing = { compared-nothing };
 
     ghost after_both = { compared-both };
 
     ghost fits_both = { λ _ _ _ _. (tt, tt) };
+}
+
+/// A slice that is filled from its end.
+#[derive(Drop)]
+pub struct Filled<'a> {
+    bytes: &'a mut [u8],
+    // What is written begins there.
+    start: usize,
+}
+
+impl<'a> Filled<'a> {
+    ghost use Rattle.iref_splice.specs.Filled.{IsUnwritten, borrowed_name};
+
+    /// All of the slice is to be written.
+    pub fn new(bytes: &'a mut [u8]) -> Self
+        ensures same_reference { borrowed_name result ≡ bytes.entry.ghost_name }
+        ensures unwritten { IsUnwritten result bytes.old }
+    {
+        let start = bytes.len();
+        Filled { bytes, start }
+    }
+}
+
+impl Backward for Filled<'_> {
+    ghost use Rattle.iref_splice.specs.Filled.{HasRoom, filled_after};
+    ghost use Rattle.iref_splice.specs.FilledLaws.{filled-both, filled-fits, filled-nothing};
+
+    ghost after = { filled_after };
+
+    ghost fits = { HasRoom };
+
+    #[inline(always)]
+    fn put(&mut self, piece: &[u8]) {
+        let start = self.start - piece.len();
+        self.bytes[start..self.start].copy_from_slice(piece);
+        self.start = start;
+    }
+
+    fn put_len(&mut self, len: usize) -> bool {
+        false
+    }
+
+    ghost after_nothing = { filled-nothing };
+
+    ghost after_both = { filled-both };
+
+    ghost fits_both = { filled-fits };
 }

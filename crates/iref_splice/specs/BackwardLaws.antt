@@ -5,7 +5,7 @@ use Rattle.std.specs.Prelude.{Option, Some, None, bytes_eq}
 use Rattle.std.proofs.lemmas.List.{append-nil}
 use Rattle.std.proofs.lemmas.Slice.Eq.{bytes_eq-Decides}
 use Rattle.iref_grammar.specs.Rules.{Text}
-use Rattle.iref_canonical.specs.Backward.{before_end, compared_after, counted_after, is_all, most, written_after}
+use Rattle.iref_splice.specs.Backward.{before_end, compared_after, counted_after, is_all, most, written_after}
 
 -- ---- counted
 
