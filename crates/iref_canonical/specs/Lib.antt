@@ -8,6 +8,6 @@ pub mod SortKey
 pub mod SpelledItems
 pub mod SortBytes
 pub mod SortItems
-pub mod Sortable
+pub mod SortedReferences
 pub mod SortPuts
 pub mod Padded

@@ -10,7 +10,6 @@ mod padded;
 mod path;
 pub mod plain;
 pub mod reference;
-pub mod sort_bytes;
 pub mod sort_key;
 pub mod sort_key_laws;
 pub mod sort_parts;
