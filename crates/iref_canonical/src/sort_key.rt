@@ -1,7 +1,7 @@
 //! The sort key of a reference, from its text and the slices of its components (RFC 3986 section
 //! 6.2.2).
 
-ghost use Rattle.std.specs.Prelude.{◌≡◌, ◌++◌, IfOk, IfSome, OnErr, OnOk, length};
+ghost use Rattle.std.specs.Prelude.{◌≡◌, ◌++◌, IfOk, OnErr, OnOk, length};
 ghost use Rattle.iref_grammar.specs.{ComponentTexts.{spell_components}, Reference.{read_reference}};
 ghost use Rattle.iref_model.specs.Key.{key};
 ghost use Rattle.iref_parse.specs.ReferenceSlices.{texts_of, value_of};
@@ -72,14 +72,13 @@ impl<'a> SortedReference<'a> {
     }
 
     // How many bytes the sort key has, if they can be counted.
-    fn len(&self) -> Option<usize>
+    fn len(&self) -> Result<usize, AllocError>
         requires { IsSorted self.now }
-        ensures { IfSome result (λ len. len ≡ length (sort_key (sorted_key self.now))) }
+        ensures { IfOk result (λ len. len ≡ length (sort_key (sorted_key self.now))) }
     {
         let mut count = Count::new();
         self.put(&mut count);
-        let len = count.len();
-        if len == usize::MAX { None } else { Some(len) }
+        count.len()
     }
 
     // Fills the buffer with the sort key.
@@ -102,7 +101,7 @@ fn append_long(text: &str, slices: ReferenceSlices<'_>, out: &mut Vec<u8>) -> Re
     ensures err { OnErr result (out.new.items ≡ out.old.items) }
 {
     let sorted = SortedReference::new(text, slices);
-    let len = sorted.len().ok_or(AllocError)?;
+    let len = sorted.len()?;
     let start = out.len();
     let end = start.checked_add(len).ok_or(AllocError)?;
     out.resize(end, 0)?;

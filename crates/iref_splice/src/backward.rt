@@ -1,13 +1,11 @@
 //! What takes a text from its end, piece by piece: it is counted, written or compared.
-ghost use Rattle.std.specs.Prelude.{◌≡◌, ℕ, ◌≤◌, ◌++◌, Option, Some, [], drop, false, true, length, IfOk, ⊤};
+ghost use Rattle.std.specs.Prelude.{◌≡◌, ℕ, ◌<◌, ◌++◌, Option, Some, [], IfOk, OnErr, false, length, true, ⊤};
 ghost use Rattle.std.specs.Option.{option_copied};
 ghost use Rattle.iref_grammar.specs.Rules.{Text};
-ghost use Rattle.iref_splice.specs.Backward.{compared_after, counted_after, is_all, written_after};
+ghost use Rattle.iref_splice.specs.Backward.{compared_after, counted_after, is_all, most};
 ghost use Rattle.iref_splice.specs.BackwardLaws.{compared-both, compared-nothing, counted-both, counted-nothing};
-ghost use Rattle.iref_splice.specs.BackwardLaws.{written-both, written-fits, written-nothing};
 
-use crate::out_of_memory::Memory;
-use std::alloc::Global;
+use std::alloc::AllocError;
 use std::marker::Model;
 
 /// What takes a text from its end.
@@ -64,11 +62,17 @@ impl Count {
         Count { len: 0 }
     }
 
-    /// How many bytes were taken.
-    pub fn len(&self) -> usize
-        ensures { result ≡ self.now }
+    /// How many bytes were taken, if they can be counted.
+    pub fn len(&self) -> Result<usize, AllocError>
+        ensures ok { IfOk result (λ len. len ≡ self.now) }
+        ensures exact { IfOk result (λ len. len < most) }
+        ensures err { OnErr result (self.now ≡ most) }
     {
-        self.len
+        if self.len == usize::MAX {
+            Err(AllocError)
+        } else {
+            Ok(self.len)
+        }
     }
 }
 
@@ -91,61 +95,6 @@ impl Backward for Count {
     ghost after_both = { counted-both };
 
     ghost fits_both = { λ _ _ _ _. (tt, tt) };
-}
-
-/// Bytes that are written from their end.
-#[derive(Drop)]
-pub struct Written {
-    bytes: Vec<u8>,
-    start: usize,
-}
-
-impl Model for Written {
-    ghost Value = { ℕ × Text };
-
-    ghost view = { λ w. (w.start, drop w.start w.bytes.items) };
-
-    ghost invariant = { λ w. w.start ≤ length w.bytes.items };
-}
-
-impl Written {
-    /// Room for this many bytes.
-    pub fn new(alloc: Global, len: usize) -> Result<Self, Memory>
-        ensures { IfOk result (λ w. w ≡ (len, [])) }
-    {
-        let bytes = vec![in alloc; 0u8; len]?;
-        Ok(Written { bytes, start: len })
-    }
-
-    /// The bytes, once all are written.
-    pub fn into_bytes(self) -> Vec<u8>
-        requires { self.0 ≡ 0 }
-        ensures { result.items ≡ self.1 }
-    {
-        self.bytes
-    }
-}
-
-impl Backward for Written {
-    ghost after = { written_after };
-
-    ghost fits = { λ w piece. length piece ≤ w.0 };
-
-    fn put(&mut self, piece: &[u8]) {
-        let start = self.start - piece.len();
-        self.bytes[start..self.start].copy_from_slice(piece);
-        self.start = start;
-    }
-
-    fn put_len(&mut self, len: usize) -> bool {
-        false
-    }
-
-    ghost after_nothing = { written-nothing };
-
-    ghost after_both = { written-both };
-
-    ghost fits_both = { written-fits };
 }
 
 /// What is left of a text that is compared from its end, or nothing once it differs.
