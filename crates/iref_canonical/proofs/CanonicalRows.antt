@@ -1,6 +1,6 @@
 -- Worked rows of canonical texts, computed.
 use Prim.Native.String.{String}
-use Rattle.std.specs.Prelude.{◌≡◌, Bool, List, [], ◌∷◌, ◌++◌, map, codes, encode_utf8_all, refl}
+use Rattle.std.specs.Prelude.{◌≡◌, List, [], ◌∷◌, ◌++◌, map, codes, encode_utf8_all, refl}
 use Rattle.std.specs.Char.{encode_utf8}
 use Rattle.percent_encoding.specs.Percent.{percent_encode_byte, percent_decode}
 use Rattle.iref_grammar.specs.Rules.{Text}

@@ -21,7 +21,7 @@ mod SortKeyRows
 pub mod SortKeyLemmas
 pub mod SortByteLemmas
 pub mod SortItemLemmas
-pub mod SortableLemmas
+pub mod KeptPartLemmas
 pub mod SortPutLemmas
 pub mod SortBlockLemmas
 pub mod SortShortLemmas

@@ -1,6 +1,6 @@
 -- The items of a path in sort keys, the last first.
-use Rattle.std.proofs.Common.{arith, ◌≡◌, ℕ, ◌+◌, ◌≤◌, ◌++◌, ◌∷◌, [], List, length, drop, refl, sym, ◌∙◌, ap, subst, true, None, append_assoc, length-append, length-drop}
-use Rattle.std.proofs.lemmas.List.{append-nil}
+use Rattle.std.proofs.Common.{arith, ◌≡◌, ℕ, ◌+◌, ◌++◌, ◌∷◌, [], List, length, refl, sym, ◌∙◌, ap, true, None, length-append}
+use Rattle.std.proofs.lemmas.List.{append-nil, map-append}
 use Rattle.std.proofs.lemmas.Grind.{flat_map-append}
 use Rattle.std.proofs.lemmas.Bool.{and_from, and_parts}
 use Rattle.std.proofs.lemmas.List.Folds.{list_all-append}
@@ -15,69 +15,27 @@ use Rattle.iref_model.specs.PathKey.{path_key}
 use Rattle.iref_parse.specs.Dots.{is_some_dotted, has_dot_segment}
 use Rattle.iref_path.specs.Spelling.{each_closed}
 use Rattle.iref_path.proofs.DotlessLemmas.{both_size, normal_segments-dotless, whole_text}
-use Rattle.iref_path.specs.Written.{WritesBefore}
-use Rattle.iref_canonical.specs.SortKey.{sort_item, sort_list, sort_text}
+use Rattle.iref_canonical.specs.SortKey.{sort_item, sort_text}
 use Rattle.iref_canonical.specs.SortBytes.{is_kept_byte, is_kept}
-use Rattle.iref_canonical.specs.SortItems.{AreKept, IsWriting}
+use Rattle.iref_canonical.specs.SortItems.{AreKept}
 use Rattle.iref_canonical.proofs.SortByteLemmas.{kept_sorted, kept_decodes}
 
 sorted_last : (rest : List Text) (x : Text) → flat_map sort_item (rest ++ x ∷ []) ≡ flat_map sort_item rest ++ (1 ∷ sort_text x)
 sorted_last rest x = flat_map-append sort_item rest (x ∷ []) ∙ ap (λ t. flat_map sort_item rest ++ t) (append-nil (1 ∷ sort_text x))
 
--- ---- lengths
-
--- ---- writes
-
-pub none_written : (items : List Text) (end start : ℕ) (old new : Text) → WritesBefore end (0 ∷ []) old new start → IsWriting items items end start old new
-none_written items end start old new h =
-    let r = h.range in
-    let w = h.written in
-    record { written = grind (arith, append_assoc); range = grind (arith, length-append); len = h.len }
-
--- there is room for one more
-pub room_left : (items left rest : List Text) (x : Text) (end start : ℕ) (old new : Text) → IsWriting items left end start old new → left ≡ rest ++ x ∷ []
-    → length (sort_list sort_item items) ≤ end → length (sort_text x) + 1 ≤ start
-room_left items left rest x end start old new h e room = let r = h.range in grind (arith, length-append, sorted_last rest x)
-
-pub more_written : (items left rest : List Text) (x : Text) (end start mid first : ℕ) (old new after last : Text) → IsWriting items left end start old new → left ≡ rest ++ x ∷ []
-    → WritesBefore start (sort_text x) new after mid → WritesBefore mid (1 ∷ []) after last first → IsWriting items rest end first old last
-more_written items left rest x end start mid first old new after last h e k l =
-    let hr = h.range in
-    let hw = h.written in
-    let hl = h.len in
-    let kr = k.range in
-    let kw = k.written in
-    let kl = k.len in
-    let lr = l.range in
-    let lw = l.written in
-    let ll = l.len in
-    record {
-      written = grind (arith, append_assoc, sorted_last rest x);
-      range = grind (arith, length-append, sorted_last rest x);
-      len = ll ∙ kl ∙ hl;
-    }
+-- what the last item decodes to is put first
+pub decoded_last : (all rest : List Text) (x : Text) → all ≡ rest ++ x ∷ [] → flat_map sort_item (map percent_decode all) ≡ flat_map sort_item (map percent_decode rest) ++ (1 ∷ sort_text (percent_decode x))
+decoded_last all rest x e = ap (λ l. flat_map sort_item (map percent_decode l)) e ∙ ap (flat_map sort_item) (map-append percent_decode rest (x ∷ [])) ∙ sorted_last (map percent_decode rest) (percent_decode x)
 
 -- ---- segments whose bytes are written as they are
 
-last_kept : (left rest : List Text) (x : Text) → AreKept left → left ≡ rest ++ x ∷ [] → (AreKept rest) × (is_kept x ≡ true)
-last_kept left rest x h e =
+pub last_kept : (all rest : List Text) (x : Text) → AreKept all → all ≡ rest ++ x ∷ [] → (AreKept rest) × (is_kept x ≡ true)
+last_kept all rest x h e =
     let both = and_parts (list_all is_kept rest) (list_all is_kept (x ∷ [])) (sym (list_all-append is_kept rest (x ∷ [])) ∙ ap (list_all is_kept) (sym e) ∙ h) in
     (both.0, (and_parts (is_kept x) true both.1).0)
 
-pub kept_room : (items left rest : List Text) (x : Text) (end start : ℕ) (old new : Text) → IsWriting items left end start old new → AreKept left → left ≡ rest ++ x ∷ []
-    → length (sort_list sort_item items) ≤ end → length (x ++ 0 ∷ []) + 1 ≤ start
-kept_room items left rest x end start old new h k e room =
-    let r = room_left items left rest x end start old new h e room in
-    let l = ap length (kept_sorted x (last_kept left rest x k e).1) in
-    omega arith
-
-pub kept_written : (items left rest : List Text) (x : Text) (end start mid first : ℕ) (old new after last : Text) → IsWriting items left end start old new → AreKept left → left ≡ rest ++ x ∷ []
-    → WritesBefore start (x ++ 0 ∷ []) new after mid → WritesBefore mid (1 ∷ []) after last first → (IsWriting items rest end first old last) × AreKept rest
-kept_written items left rest x end start mid first old new after last h k e w v =
-    let kept = last_kept left rest x k e in (
-      more_written items left rest x end start mid first old new after last h e (subst (λ t. WritesBefore start t new after mid) (sym (kept_sorted x kept.1)) w) v,
-      kept.0,
-    )
+pub kept_last : (all rest : List Text) (x : Text) → AreKept all → all ≡ rest ++ x ∷ [] → flat_map sort_item all ≡ flat_map sort_item rest ++ (1 ∷ sort_text (percent_decode x))
+kept_last all rest x h e = ap (flat_map sort_item) e ∙ sorted_last rest x ∙ ap (λ t. flat_map sort_item rest ++ (1 ∷ sort_text t)) (sym (kept_decodes x (last_kept all rest x h e).1))
 
 closed_size : (list : List Text) → AreKept list → length (flat_map sort_item list) ≡ length (each_closed list) + length list
 closed_size [] h = refl
@@ -87,12 +45,11 @@ closed_size (s ∷ list) h =
     let rest = closed_size list both.1 in
     grind (arith, length-append)
 
-pub kept_size : (text : Text) → AreKept (pieces_at slash text) → length (sort_list sort_item (pieces_at slash text)) ≡ length text + length (pieces_at slash text) + 2
+pub kept_size : (text : Text) → AreKept (pieces_at slash text) → length (flat_map sort_item (pieces_at slash text)) ≡ length text + length (pieces_at slash text) + 1
 kept_size text h =
     let list = pieces_at slash text in
     let size = closed_size list h in
     let all = both_size None text in
-    let end = length-append (flat_map sort_item list) (0 ∷ []) in
     omega arith
 
 -- ---- a path without escapes and dot segments
@@ -149,4 +106,4 @@ kept_key path h k =
     let plain = plain_path path h k in
     ap (map percent_decode) (normal_segments-dotless p plain.dotless ∙ ap (λ b. cond b [] p.segments) plain.many) ∙ decoded_items p.segments plain.kept
 
-pub ruleset writing = (none_written, kept_room, kept_written, length-append)
+pub ruleset kept_lasts = (last_kept, kept_last)

@@ -23,7 +23,7 @@ use Rattle.iref_canonical.specs.declared.padded.Padded.{Padded}
 use Rattle.iref_canonical.specs.Padded.{IsPadded, text_in}
 use Rattle.iref_canonical.proofs.SortItemLemmas.{kept_pieces}
 use Rattle.iref_canonical.proofs.SortByteLemmas.{kept_sorted, length-sort_authority, option-lower, sort_text-lower}
-use Rattle.iref_canonical.proofs.SortableLemmas.{length-sort_key}
+use Rattle.iref_canonical.proofs.KeptPartLemmas.{length-sort_key}
 
 pub both_put : (front back : Text) {at mid end : ℕ} {old half new : Text} → Puts at front old half mid → Puts mid back half new end → Puts at (front ++ back) old new end
 both_put front back h k = let r = h.range in let w = h.written in let s = k.range in let v = k.written in record { range = grind (arith, length-append); written = grind (arith, append_assoc); len = k.len ∙ h.len }

@@ -4,6 +4,7 @@ use Rattle.std.proofs.lemmas.Bool.{and_parts}
 use Rattle.std.proofs.lemmas.List.Splits.{length-slice_split}
 use Rattle.std.proofs.lemmas.List.Sums.{count_by-le-length}
 use Rattle.std.proofs.lemmas.List.{take_at}
+use Rattle.std.specs.List.{flat_map}
 use Rattle.std.specs.Option.{option_copied}
 use Rattle.std.specs.Prelude.{IfSome, codes, option_map, Option, None, Some, ◌&&◌, ◌==◌}
 use Rattle.std.specs.Str.{str_to_ascii_lowercase}
@@ -31,7 +32,7 @@ use Rattle.iref_canonical.proofs.SortByteLemmas.{kept_decodes}
 use Rattle.iref_canonical.proofs.SortCutLemmas.{kept_behind}
 use Rattle.iref_canonical.proofs.SortItemLemmas.{kept_key, kept_pieces, kept_size}
 use Rattle.iref_canonical.proofs.SortPutLemmas.{all_size, kept_host, option_size, parts_size}
-use Rattle.iref_canonical.proofs.SortableLemmas.{HasKeptParts, both_kept, parts_kept_in, text_kept}
+use Rattle.iref_canonical.proofs.KeptPartLemmas.{HasKeptParts, both_kept, parts_kept_in, text_kept}
 
 -- ---- the key is the reference with its scheme in lower case
 
@@ -70,7 +71,7 @@ authority_room (Some a) h =
     grind (arith, length-append, parts_size a h, same_size at_sign a.user_info)
 
 pieces_room : (text : Text) → AreKept (pieces_at slash text) → length (sort_list sort_item (pieces_at slash text)) ≤ 2 * length text + 3
-pieces_room text h = omega (arith, kept_size text h, length-slice_split (λ c. c == slash) text, count_by-le-length (λ c. c == slash) text)
+pieces_room text h = omega (arith, kept_size text h, length-append (flat_map sort_item (pieces_at slash text)) (0 ∷ []), length-slice_split (λ c. c == slash) text, count_by-le-length (λ c. c == slash) text)
 
 segments_room : (text : Text) → AreKept (segments_of text) → length (sort_list sort_item (segments_of text)) ≤ 2 * length text + 3
 segments_room [] h = omega arith

@@ -1,5 +1,3 @@
-pub mod Backward
-pub mod BackwardLaws
 pub mod Canonical
 pub mod CanonicalParts
 pub mod CanonicalReferences
@@ -10,6 +8,6 @@ pub mod SortKey
 pub mod SpelledItems
 pub mod SortBytes
 pub mod SortItems
-pub mod Sortable
+pub mod SortedReferences
 pub mod SortPuts
 pub mod Padded

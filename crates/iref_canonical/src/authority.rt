@@ -6,10 +6,10 @@ ghost use Rattle.iref_grammar.specs.{Texts.{part_then, then_part}, Grammar.{at_s
 ghost use Rattle.iref_model.specs.AuthorityKey.{authority_key};
 ghost use Rattle.iref_canonical.specs.Canonical.{canonical_authority, canonical_host, encoded};
 
-use crate::backward::Backward;
 use crate::encoded::{REG_NAME, USER_INFO, put_encoded};
 use crate::literal::decodes_to_ip_literal;
 use iref_parse::authority::split_parts;
+use iref_splice::backward::Backward;
 use percent_encoding::AsciiSet;
 
 /// What is escaped in an IP literal: nothing that it holds.

@@ -3,7 +3,7 @@ ghost use Rattle.std.specs.{Prelude.{◌≡◌, false, map, [], MatchOption}, St
 ghost use Rattle.percent_encoding.specs.Percent.{encode_byte, percent_decode, percent_encode};
 ghost use Rattle.iref_canonical.specs.Decoded.{SplitsLast, ends_in_escape};
 
-use crate::backward::Backward;
+use iref_splice::backward::Backward;
 use percent_encoding::{AsciiSet, NON_ALPHANUMERIC, ascii_set, percent_encode_byte};
 
 /// What is escaped in a registered name (RFC 3986 section 3.2.2).

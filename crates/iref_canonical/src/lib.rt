@@ -2,7 +2,6 @@
 #![tactic(auto)]
 
 mod authority;
-pub mod backward;
 pub mod canonical_laws;
 pub mod encoded;
 mod literal;
@@ -11,7 +10,6 @@ mod padded;
 mod path;
 pub mod plain;
 pub mod reference;
-pub mod sort_bytes;
 pub mod sort_key;
 pub mod sort_key_laws;
 pub mod sort_parts;

@@ -8,13 +8,13 @@ ghost use Rattle.iref_path.specs.{NormalItems.{IsSound, decoded_left, normal_lef
 ghost use Rattle.iref_canonical.specs.{Canonical.{canonical_name, canonical_path}, SpelledItems.{IsCounted}};
 ghost use Rattle.iref_canonical.specs.SpelledItems.{canonical_path_text, spelled_item, spelled_items, standing_of};
 
-use crate::backward::Backward;
 use crate::encoded::{SEGMENT, put_encoded, split_last_decoded};
 use iref_grammar::context::PathContext;
 use iref_parse::decoded::decoded_eq;
 use iref_path::normal_items::{NormalItems, survey_items};
 use iref_path::segments::split_root;
 use iref_path::spell::guard_in;
+use iref_splice::backward::Backward;
 
 /// The canonical path of a reference, not written yet.
 #[derive(Clone, Copy)]

@@ -8,12 +8,12 @@ ghost use Rattle.iref_canonical.specs.{Canonical.{canonical_text}, CanonicalPart
 ghost use Rattle.iref_canonical.specs.CanonicalReferences.{IsMeasured, measured_canonical};
 
 use crate::authority::put_authority;
-use crate::backward::{Backward, Compared, Count, Written};
 use crate::encoded::{QUERY, put_encoded, put_lower};
 use crate::path::CanonicalPath;
 use iref_grammar::context::PathContext;
 use iref_parse::split::ReferenceSlices;
 use iref_splice::Memory;
+use iref_splice::backward::{Backward, Compared, Count, Filled};
 use std::alloc::{AllocError, Global};
 
 /// The canonical text of a reference, not written yet.
@@ -99,12 +99,17 @@ impl<'a> CanonicalReference<'a> {
     {
         let mut count = Count::new();
         self.put(&mut count);
-        let len = count.len();
-        if len == usize::MAX {
-            Err(AllocError)
-        } else {
-            Ok(len)
-        }
+        count.len()
+    }
+
+    // Fills the buffer with the text.
+    fn fill(&self, buffer: &mut [u8])
+        requires measured { IsMeasured self.now }
+        requires len { length buffer.old ≡ length (measured_canonical self.now) }
+        ensures { buffer.new ≡ measured_canonical self.now }
+    {
+        let mut filled = Filled::new(buffer);
+        self.put(&mut filled);
     }
 
     /// The bytes of the text. The room is taken once.
@@ -112,9 +117,9 @@ impl<'a> CanonicalReference<'a> {
         requires { IsMeasured self.now }
         ensures { IfOk result (λ bytes. bytes.items ≡ measured_canonical self.now) }
     {
-        let mut written = Written::new(alloc, self.len()?)?;
-        self.put(&mut written);
-        Ok(written.into_bytes())
+        let mut bytes = vec![in alloc; 0u8; self.len()?]?;
+        self.fill(&mut bytes);
+        Ok(bytes)
     }
 
     /// Whether these are the bytes of the text.

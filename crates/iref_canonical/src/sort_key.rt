@@ -1,155 +1,94 @@
 //! The sort key of a reference, from its text and the slices of its components (RFC 3986 section
 //! 6.2.2).
 
-ghost use Rattle.std.specs.Prelude.{◌≡◌, ◌+◌, ◌≤◌, ◌++◌, IfOk, IfSome, OnErr, OnOk, length, option_map, true};
-ghost use Rattle.std.specs.Option.{option_copied};
-ghost use Rattle.iref_grammar.specs.{Authority.{read_authority}, ComponentTexts.{spell_components}};
-ghost use Rattle.iref_grammar.specs.Reference.{read_reference};
+ghost use Rattle.std.specs.Prelude.{◌≡◌, ◌++◌, IfOk, OnErr, OnOk, length};
+ghost use Rattle.iref_grammar.specs.{ComponentTexts.{spell_components}, Reference.{read_reference}};
 ghost use Rattle.iref_model.specs.Key.{key};
-ghost use Rattle.iref_parse.specs.{AuthoritySlices.{authority_of}, ReferenceSlices.{texts_of, value_of}};
-ghost use Rattle.iref_path.specs.Written.{WritesBefore};
-ghost use Rattle.iref_canonical.specs.SortItems.{AreItems, items_of};
-ghost use Rattle.iref_canonical.specs.SortKey.{sort_authority, sort_item, sort_key, sort_list, sort_option, sort_path};
-ghost use Rattle.iref_canonical.specs.Sortable.{IsSortable, are_kept_slices, key_of_slices, sortable_key};
+ghost use Rattle.iref_parse.specs.ReferenceSlices.{texts_of, value_of};
+ghost use Rattle.iref_canonical.specs.SortKey.{sort_key, sort_path};
+ghost use Rattle.iref_canonical.specs.SortedReferences.{IsSorted, sorted_key};
 
-use crate::sort_parts::{
-    authority_len, raw_option_len, text_option_len, write_authority, write_scheme,
-    write_text_option,
-};
+use crate::sort_parts::{put_authority_option, put_option, put_scheme};
 use crate::sort_path::Items;
 use crate::sort_short::{LONGEST, ROOM, put_short};
-use crate::sort_text::write_byte;
-use iref_parse::authority::{AuthoritySlices, split_parts};
 use iref_parse::split::ReferenceSlices;
 use iref_parse::unescaped::is_kept;
 use iref_splice::Memory;
+use iref_splice::backward::{Backward, Count, Filled};
 use std::alloc::{AllocError, Global};
 
-// The components of a reference as a sort key has them.
+// The sort key of a reference, not written yet.
 #[derive(Clone, Copy)]
-struct Sortable<'a> {
-    scheme: Option<&'a str>,
-    authority: Option<AuthoritySlices<'a>>,
+struct SortedReference<'a> {
+    slices: ReferenceSlices<'a>,
     absolute: bool,
     items: Items<'a>,
-    query: Option<&'a str>,
-    fragment: Option<&'a str>,
-    // Each byte is written as it is.
+    // Each byte stands as it is.
     kept: bool,
 }
 
-// How many bytes a sort key has for an authority that may not be there.
-fn authority_option_len(parts: Option<AuthoritySlices<'_>>, kept: bool) -> Option<usize>
-    requires { kept ≡ true → are_kept_slices parts ≡ true }
-    ensures { IfSome result (λ len.
-        len ≡ length (sort_option sort_authority (option_map key_of_slices parts.entry))) }
-{
-    match parts {
-        Some(parts) => authority_len(&parts, kept)?.checked_add(1),
-        None => Some(1),
-    }
-}
-
-// Writes what a sort key has for an authority that may not be there so that it ends at `end`, and
-// returns where it begins.
-fn write_authority_option(
-    buffer: &mut [u8],
-    end: usize,
-    parts: Option<AuthoritySlices<'_>>,
-    kept: bool,
-) -> usize
-    requires kept { kept ≡ true → are_kept_slices parts ≡ true }
-    requires room { length (sort_option sort_authority (option_map key_of_slices parts)) ≤ end }
-    requires within { end ≤ length buffer.old }
-    ensures { WritesBefore end (sort_option sort_authority (option_map key_of_slices parts.entry))
-        buffer.old buffer.new result }
-{
-    match parts {
-        Some(parts) => {
-            let start = write_authority(buffer, end, &parts, kept);
-            write_byte(buffer, start, 1)
-        }
-        None => write_byte(buffer, end, 0),
-    }
-}
-
-// Writes what a sort key has for a path of these items so that it ends at `end`, and returns where it
-// begins.
-#[tactic(auto, unfolding(crate::specs::SortKey::sort_path))]
-fn write_path(buffer: &mut [u8], end: usize, absolute: bool, items: Items<'_>) -> usize
-    requires items { AreItems items }
-    requires room { 1 + length (sort_list sort_item (items_of items)) ≤ end }
-    requires within { end ≤ length buffer.old }
-    ensures { WritesBefore end
-        (sort_path (record { absolute = absolute; segments = items_of items.entry }))
-        buffer.old buffer.new result }
-{
-    let start = items.write(buffer, end);
-    write_byte(buffer, start, u8::from(absolute))
-}
-
-// The parts of the authority, if there is one.
-fn parts_of(authority: Option<&str>) -> Option<AuthoritySlices<'_>>
-    ensures { option_map authority_of result
-        ≡ option_map read_authority (option_copied authority.entry) }
-{
-    match authority {
-        Some(text) => Some(split_parts(text)),
-        None => None,
-    }
-}
-
-impl<'a> Sortable<'a> {
-    // The components of a reference's text, from its slices.
+impl<'a> SortedReference<'a> {
+    // The sort key of the reference of these components.
     #[tactic(auto, unfolding(iref_model::specs::Key::key, iref_model::specs::PathKey::path_key))]
-    fn new(text: &'a str, slices: ReferenceSlices<'a>) -> Self
+    fn new(text: &str, slices: ReferenceSlices<'a>) -> Self
         requires value { value_of slices ≡ read_reference text.now }
         requires texts { texts_of slices ≡ spell_components (read_reference text.now) }
-        ensures key { sortable_key result ≡ key (read_reference text.now) }
-        ensures sortable { IsSortable result }
+        ensures key { sorted_key result ≡ key (read_reference text.now) }
+        ensures sorted { IsSorted result }
     {
         let kept = is_kept(text.as_bytes());
         let (absolute, items) = Items::of_path(slices.path, kept);
-        Sortable {
-            scheme: slices.scheme,
-            authority: parts_of(slices.authority),
+        SortedReference {
+            slices,
             absolute,
             items,
-            query: slices.query,
-            fragment: slices.fragment,
             kept,
         }
     }
 
-    // How many bytes the sort key has.
-    #[tactic(auto, using(crate::proofs::SortableLemmas::sizes))]
-    fn len(&self) -> Option<usize>
-        requires { IsSortable self.now }
-        ensures { IfSome result (λ len. len ≡ length (sort_key (sortable_key self.now))) }
+    // Puts the path.
+    #[tactic(auto, unfolding(crate::specs::SortKey::sort_path))]
+    fn put_path<O: Backward>(&self, out: &mut O)
+        requires sorted { IsSorted self.now }
+        requires fits { O.fits out.old (sort_path (sorted_key self.now).path) }
+        ensures { out.new ≡ O.after out.old (sort_path (sorted_key self.now).path) }
     {
-        let scheme = raw_option_len(self.scheme, self.kept)?;
-        let authority = authority_option_len(self.authority, self.kept)?;
-        let items = self.items.len()?.checked_add(1)?;
-        let query = text_option_len(self.query, self.kept)?;
-        let fragment = text_option_len(self.fragment, self.kept)?;
-        let front = scheme.checked_add(authority)?.checked_add(items)?;
-        front.checked_add(query)?.checked_add(fragment)
+        self.items.put(out);
+        out.put(&[u8::from(self.absolute)]);
     }
 
-    // Writes the sort key so that it ends at `end`, and returns where it begins.
-    #[tactic(auto, using(crate::proofs::SortableLemmas::sizes), unfolding(crate::specs::SortKey::sort_key))]
-    fn write(&self, buffer: &mut [u8], end: usize) -> usize
-        requires sortable { IsSortable self.now }
-        requires room { length (sort_key (sortable_key self.now)) ≤ end }
-        requires within { end ≤ length buffer.old }
-        ensures { WritesBefore end (sort_key (sortable_key self.now))
-            buffer.old buffer.new result }
+    // Puts the sort key.
+    #[tactic(auto, unfolding(crate::specs::SortKey::sort_key))]
+    fn put<O: Backward>(&self, out: &mut O)
+        requires sorted { IsSorted self.now }
+        requires fits { O.fits out.old (sort_key (sorted_key self.now)) }
+        ensures { out.new ≡ O.after out.old (sort_key (sorted_key self.now)) }
     {
-        let start = write_text_option(buffer, end, self.fragment, self.kept);
-        let start = write_text_option(buffer, start, self.query, self.kept);
-        let start = write_path(buffer, start, self.absolute, self.items);
-        let start = write_authority_option(buffer, start, self.authority, self.kept);
-        write_scheme(buffer, start, self.scheme, self.kept)
+        put_option(out, self.slices.fragment, self.kept);
+        put_option(out, self.slices.query, self.kept);
+        self.put_path(out);
+        put_authority_option(out, self.slices.authority, self.kept);
+        put_scheme(out, self.slices.scheme);
+    }
+
+    // How many bytes the sort key has, if they can be counted.
+    fn len(&self) -> Result<usize, AllocError>
+        requires { IsSorted self.now }
+        ensures { IfOk result (λ len. len ≡ length (sort_key (sorted_key self.now))) }
+    {
+        let mut count = Count::new();
+        self.put(&mut count);
+        count.len()
+    }
+
+    // Fills the buffer with the sort key.
+    fn fill(&self, buffer: &mut [u8])
+        requires sorted { IsSorted self.now }
+        requires len { length buffer.old ≡ length (sort_key (sorted_key self.now)) }
+        ensures { buffer.new ≡ sort_key (sorted_key self.now) }
+    {
+        let mut filled = Filled::new(buffer);
+        self.put(&mut filled);
     }
 }
 
@@ -161,12 +100,12 @@ fn append_long(text: &str, slices: ReferenceSlices<'_>, out: &mut Vec<u8>) -> Re
         ≡ out.old.items ++ sort_key (key (read_reference text.now))) }
     ensures err { OnErr result (out.new.items ≡ out.old.items) }
 {
-    let sortable = Sortable::new(text, slices);
-    let len = sortable.len().ok_or(AllocError)?;
+    let sorted = SortedReference::new(text, slices);
+    let len = sorted.len()?;
     let start = out.len();
     let end = start.checked_add(len).ok_or(AllocError)?;
     out.resize(end, 0)?;
-    sortable.write(&mut out[start..], len);
+    sorted.fill(&mut out[start..]);
     Ok(())
 }
 

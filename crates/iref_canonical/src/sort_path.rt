@@ -1,17 +1,18 @@
-//! Paths in sort keys: how many bytes they have there, and how they are written from the end.
+//! Paths in sort keys, put from the end.
 
-ghost use Rattle.std.specs.Prelude.{◌≡◌, ◌≤◌, IfSome, length, true};
+ghost use Rattle.std.specs.{List.{flat_map}, Prelude.{◌≡◌, IfSome, false, length, true}};
 ghost use Rattle.iref_grammar.specs.PathValue.{read_path};
 ghost use Rattle.iref_model.specs.PathKey.{path_key};
-ghost use Rattle.iref_path.specs.{NormalItems.{IsSound, decoded_left}, Pieces.{pieces_if_some}, Written.{WritesBefore}};
+ghost use Rattle.iref_path.specs.{NormalItems.{IsSound, decoded_left}, Pieces.{pieces_if_some}};
 ghost use Rattle.iref_canonical.specs.{SortItems.{AreItems, AreKept, items_of}, SortKey.{sort_item, sort_list}};
 ghost use Rattle.iref_canonical.specs.SortBytes as bytes;
 
-use crate::sort_text::{text_len, write_byte, write_kept, write_text};
+use crate::sort_text::put_text;
 use iref_parse::dots::has_dots;
 use iref_parse::unescaped::is_kept;
 use iref_path::normal_items::NormalItems;
 use iref_path::segments::{count_segments, last_segment, split_root};
+use iref_splice::backward::Backward;
 
 /// The items of a path's normal list.
 #[derive(Clone, Copy)]
@@ -22,69 +23,60 @@ pub(crate) enum Items<'a> {
     Normal(NormalItems<'a>),
 }
 
-// How many bytes a sort key has for segments, each byte of which is written as it is, and their end.
+// How many bytes a sort key has for segments, each byte of which stands as it is.
 #[tactic(auto, using(crate::proofs::SortItemLemmas::kept_size))]
 fn segments_len(segments: Option<&str>) -> Option<usize>
     requires { AreKept (pieces_if_some segments) }
     ensures { IfSome result (λ len.
-        len ≡ length (sort_list sort_item (pieces_if_some segments.entry))) }
+        len ≡ length (flat_map sort_item (pieces_if_some segments.entry))) }
 {
     match segments {
-        Some(text) => text.len().checked_add(count_segments(text))?.checked_add(2),
-        None => Some(1),
+        Some(text) => text.len().checked_add(count_segments(text))?.checked_add(1),
+        None => Some(0),
     }
 }
 
-// Writes segments, each byte as it is, and their end so that they end at `end`, and returns where
-// they begin.
-#[tactic(auto, using(crate::proofs::SortItemLemmas::writing))]
-fn write_segments(buffer: &mut [u8], end: usize, segments: Option<&str>) -> usize
-    requires kept { AreKept (pieces_if_some segments) }
-    requires room { length (sort_list sort_item (pieces_if_some segments)) ≤ end }
-    requires within { end ≤ length buffer.old }
-    ensures { WritesBefore end (sort_list sort_item (pieces_if_some segments.entry))
-        buffer.old buffer.new result }
+// Puts segments, each byte of which stands as it is, at once, if only their length matters.
+#[inline(always)]
+fn put_size<O: Backward>(out: &mut O, segments: Option<&str>) -> bool
+    requires { AreKept (pieces_if_some segments) }
+    ensures put { result ≡ true → out.new ≡ O.after out.old
+        (flat_map sort_item (pieces_if_some segments.entry)) }
+    ensures not_put { result ≡ false → out.new ≡ out.old }
 {
-    let mut start = write_byte(buffer, end, 0);
+    match segments_len(segments) {
+        Some(len) => out.put_len(len),
+        None => false,
+    }
+}
+
+// Puts segments, each byte of which stands as it is.
+#[tactic(auto, using(crate::proofs::SortItemLemmas::kept_lasts))]
+fn put_segments<O: Backward>(out: &mut O, segments: Option<&str>)
+    requires kept { AreKept (pieces_if_some segments) }
+    requires fits { O.fits out.old (flat_map sort_item (pieces_if_some segments)) }
+    ensures { out.new ≡ O.after out.old (flat_map sort_item (pieces_if_some segments.entry)) }
+{
     let mut left = segments;
     while let Some(text) = left {
         let (front, last) = last_segment(text);
-        start = write_kept(buffer, start, last);
-        start = write_byte(buffer, start, 1);
+        put_text(out, last, true);
+        out.put(&[1]);
         left = front;
     }
-    start
 }
 
-// How many bytes a sort key has for items, and their end.
-fn items_len(mut left: NormalItems<'_>) -> Option<usize>
-    requires { IsSound left }
-    ensures { IfSome result (λ len.
-        len ≡ length (sort_list sort_item (decoded_left left.entry))) }
-{
-    let mut len: usize = 1;
-    while let Some(item) = left.next_back() {
-        let size = text_len(item, is_kept(item.as_bytes()));
-        len = len.checked_add(size)?.checked_add(1)?;
-    }
-    Some(len)
-}
-
-// Writes items and their end so that they end at `end`, and returns where they begin.
-#[tactic(auto, using(crate::proofs::SortItemLemmas::none_written))]
-fn write_items(buffer: &mut [u8], end: usize, mut left: NormalItems<'_>) -> usize
+// Puts items.
+#[tactic(auto, using(crate::proofs::SortItemLemmas::decoded_last))]
+fn put_items<O: Backward>(out: &mut O, mut left: NormalItems<'_>)
     requires sound { IsSound left }
-    requires room { length (sort_list sort_item (decoded_left left)) ≤ end }
-    requires within { end ≤ length buffer.old }
-    ensures { WritesBefore end (sort_list sort_item (decoded_left left.entry))
-        buffer.old buffer.new result }
+    requires fits { O.fits out.old (flat_map sort_item (decoded_left left)) }
+    ensures { out.new ≡ O.after out.old (flat_map sort_item (decoded_left left.entry)) }
 {
-    let mut start = write_byte(buffer, end, 0);
     while let Some(item) = left.next_back() {
-        start = write_text(buffer, start, item, is_kept(item.as_bytes()));
-        start = write_byte(buffer, start, 1);
+        put_text(out, item, is_kept(item.as_bytes()));
+        out.put(&[1]);
     }
-    start
 }
 
 impl<'a> Items<'a> {
@@ -105,28 +97,20 @@ impl<'a> Items<'a> {
         }
     }
 
-    /// How many bytes a sort key has for the items, and their end.
-    pub(crate) fn len(self) -> Option<usize>
-        requires { AreItems self }
-        ensures { IfSome result (λ len. len ≡ length (sort_list sort_item (items_of self.entry))) }
-    {
-        match self {
-            Items::Kept(segments) => segments_len(segments),
-            Items::Normal(left) => items_len(left),
-        }
-    }
-
-    /// Writes the items and their end so that they end at `end`, and returns where they begin.
-    pub(crate) fn write(self, buffer: &mut [u8], end: usize) -> usize
+    /// Puts the items, and their end.
+    pub(crate) fn put<O: Backward>(self, out: &mut O)
         requires sound { AreItems self }
-        requires room { length (sort_list sort_item (items_of self)) ≤ end }
-        requires within { end ≤ length buffer.old }
-        ensures { WritesBefore end (sort_list sort_item (items_of self.entry))
-            buffer.old buffer.new result }
+        requires fits { O.fits out.old (sort_list sort_item (items_of self)) }
+        ensures { out.new ≡ O.after out.old (sort_list sort_item (items_of self.entry)) }
     {
+        out.put(&[0]);
         match self {
-            Items::Kept(segments) => write_segments(buffer, end, segments),
-            Items::Normal(left) => write_items(buffer, end, left),
+            Items::Kept(segments) => {
+                if !put_size(out, segments) {
+                    put_segments(out, segments);
+                }
+            }
+            Items::Normal(left) => put_items(out, left),
         }
     }
 }

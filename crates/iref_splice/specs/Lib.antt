@@ -1,2 +1,6 @@
 pub mod Edited
 pub mod Changes
+pub mod Backward
+pub mod BackwardLaws
+pub mod Filled
+pub mod FilledLaws

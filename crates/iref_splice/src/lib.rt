@@ -1,6 +1,8 @@
-//! A part of a text replaced in place: of a string, of a vector of bytes, or of what else holds it.
+//! A part of a text replaced in place: of a string, of a vector of bytes, or of what else holds it. What
+//! takes a text from its end.
 #![tactic(auto)]
 
+pub mod backward;
 pub mod bytes;
 pub mod change;
 pub mod out_of_memory;

@@ -1,5 +1,5 @@
 -- What takes a text from its end, piece by piece.
-use Rattle.std.specs.Prelude.{ℕ, ◌+◌, ◌-◌, ◌^◌, Bool, false, Option, Some, None, ◌++◌, length, take, drop, min, max, bytes_eq, if◌then◌else◌}
+use Rattle.std.specs.Prelude.{ℕ, ◌+◌, ◌-◌, ◌^◌, Bool, false, Option, Some, None, length, take, drop, min, max, bytes_eq, if◌then◌else◌}
 use Rattle.iref_grammar.specs.Rules.{Text}
 use Rattle.iref_grammar.specs.Texts.{is_empty}
 
@@ -10,10 +10,6 @@ most = 2 ^ 64 - 1
 -- a count and the length of a piece, or the greatest number
 abbrev pub counted_after : ℕ → Text → ℕ
 counted_after n piece = max n (min (n + length piece) most)
-
--- the room that is left, and what is written after it
-abbrev pub written_after : ℕ × Text → Text → ℕ × Text
-written_after w piece = (w.0 - length piece, piece ++ w.1)
 
 -- what stands before the piece that ends the text
 abbrev pub before_end : Text → Text → Option Text

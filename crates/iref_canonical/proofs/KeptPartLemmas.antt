@@ -11,15 +11,6 @@ use Rattle.iref_grammar.specs.Rules.{Text}
 use Rattle.iref_grammar.specs.Tests.{none_or}
 use Rattle.iref_grammar.specs.Texts.{part_then, then_part}
 use Rattle.iref_grammar.proofs.ReferenceCutLemmas.{read_reference-spelled}
-use Rattle.std.proofs.lemmas.List.{length-map}
-use Rattle.std.specs.Char.{to_ascii_lowercase}
-use Rattle.std.specs.Option.{option_copied}
-use Rattle.percent_encoding.specs.Percent.{percent_decode}
-use Rattle.iref_path.proofs.WrittenLemmas.{both_written}
-use Rattle.iref_canonical.specs.declared.sort_key.Sortable.{Sortable}
-use Rattle.iref_canonical.specs.Sortable.{sortable_key, key_of_slices}
-use Rattle.iref_canonical.specs.SortItems.{items_of}
-use Rattle.iref_canonical.proofs.SortByteLemmas.{option-lower}
 use Rattle.iref_canonical.specs.SortBytes.{is_kept_byte, is_kept, are_kept_parts}
 use Rattle.iref_canonical.specs.SortKey.{sort_key, sort_authority, sort_list, sort_item, sort_option, sort_path, sort_text}
 
@@ -77,7 +68,7 @@ pub parts_kept_in : (a : Option AuthorityValue) → none_or is_kept (option_map 
 parts_kept_in None h = refl
 parts_kept_in (Some a) h = parts_kept a h
 
-pub length-sort_path : (absolute : Bool) (items : List Text) → length (sort_path (record { absolute = absolute; segments = items })) ≡ 1 + length (sort_list sort_item items)
+length-sort_path : (absolute : Bool) (items : List Text) → length (sort_path (record { absolute = absolute; segments = items })) ≡ 1 + length (sort_list sort_item items)
 unfolding sort_path
 length-sort_path absolute items = grind (arith, length-append)
 
@@ -88,18 +79,3 @@ pub length-sort_key : (k : ReferenceValue)
     + length (sort_option sort_text k.fragment)
 unfolding sort_key
 length-sort_key k = grind (arith, length-append, length-sort_path k.path.absolute k.path.segments)
-
-pub length-sortable : (s : Sortable)
-    → length (sort_key (sortable_key s))
-    ≡ length (sort_option sort_text (option_copied s.scheme)) + length (sort_option sort_authority (option_map key_of_slices s.authority))
-    + (1 + length (sort_list sort_item (items_of s.items)))
-    + length (sort_option sort_text (option_map percent_decode (option_copied s.query)))
-    + length (sort_option sort_text (option_map percent_decode (option_copied s.fragment)))
-length-sortable s =
-    let scheme = ap length (option-lower (option_copied s.scheme)) ∙ length-map (sort_option sort_text (option_copied s.scheme)) to_ascii_lowercase in
-    length-sort_key (sortable_key s)
-    ∙ ap (λ n. n + length (sort_option sort_authority (option_map key_of_slices s.authority)) + (1 + length (sort_list sort_item (items_of s.items)))
-    + length (sort_option sort_text (option_map percent_decode (option_copied s.query)))
-    + length (sort_option sort_text (option_map percent_decode (option_copied s.fragment)))) scheme
-
-pub ruleset sizes = (both_written, length-sort_path, length-sortable)

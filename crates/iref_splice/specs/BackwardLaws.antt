@@ -1,11 +1,11 @@
 -- What takes a text from its end: nothing changes it, and one piece before another is one piece.
-use Rattle.std.proofs.Common.{◌≡◌, ◌≢◌, ℕ, ◌+◌, ◌≤◌, [], ◌∷◌, ◌++◌, length, refl, sym, ◌∙◌, ap, arith, append_assoc, length-append, take-append-drop}
+use Rattle.std.proofs.Common.{◌≡◌, ℕ, ◌+◌, [], ◌∷◌, ◌++◌, length, refl, sym, ◌∙◌, ap, arith, append_assoc, length-append, take-append-drop}
 use Rattle.std.proofs.lemmas.Grind.{common_steps}
 use Rattle.std.specs.Prelude.{Option, Some, None, bytes_eq}
 use Rattle.std.proofs.lemmas.List.{append-nil}
 use Rattle.std.proofs.lemmas.Slice.Eq.{bytes_eq-Decides}
 use Rattle.iref_grammar.specs.Rules.{Text}
-use Rattle.iref_canonical.specs.Backward.{before_end, compared_after, counted_after, is_all, most, written_after}
+use Rattle.iref_splice.specs.Backward.{before_end, compared_after, counted_after, is_all}
 
 -- ---- counted
 
@@ -14,20 +14,6 @@ counted-nothing n = grind arith
 
 pub counted-both : (n : ℕ) (front back : Text) → counted_after (counted_after n back) front ≡ counted_after n (front ++ back)
 counted-both n front back = grind (arith, length-append)
-
-pub all-counted : (text : Text) (len : ℕ) → len ≡ counted_after 0 text → len ≢ most → len ≡ length text
-all-counted text len e h = grind arith
-
--- ---- written
-
-pub written-nothing : (w : ℕ × Text) → written_after w [] ≡ w
-written-nothing w = grind arith
-
-pub written-both : (w : ℕ × Text) (front back : Text) → written_after (written_after w back) front ≡ written_after w (front ++ back)
-written-both w front back = grind (arith, length-append, append_assoc)
-
-pub written-fits : (w : ℕ × Text) (front back : Text) → length (front ++ back) ≤ w.0 → (length back ≤ w.0) × (length front ≤ (written_after w back).0)
-written-fits w front back h = (omega (arith, simp length-append at h), omega (arith, simp length-append at h))
 
 -- ---- compared
 

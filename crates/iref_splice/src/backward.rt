@@ -1,13 +1,11 @@
 //! What takes a text from its end, piece by piece: it is counted, written or compared.
-ghost use Rattle.std.specs.Prelude.{◌≡◌, ℕ, ◌≤◌, ◌++◌, Option, Some, [], drop, length, IfOk, ⊤};
+ghost use Rattle.std.specs.Prelude.{◌≡◌, ℕ, ◌<◌, ◌++◌, Option, Some, [], IfOk, OnErr, false, length, true, ⊤};
 ghost use Rattle.std.specs.Option.{option_copied};
 ghost use Rattle.iref_grammar.specs.Rules.{Text};
-ghost use Rattle.iref_canonical.specs.Backward.{compared_after, counted_after, is_all, written_after};
-ghost use Rattle.iref_canonical.specs.BackwardLaws.{compared-both, compared-nothing, counted-both, counted-nothing};
-ghost use Rattle.iref_canonical.specs.BackwardLaws.{written-both, written-fits, written-nothing};
+ghost use Rattle.iref_splice.specs.Backward.{compared_after, counted_after, is_all, most};
+ghost use Rattle.iref_splice.specs.BackwardLaws.{compared-both, compared-nothing, counted-both, counted-nothing};
 
-use iref_splice::Memory;
-use std::alloc::Global;
+use std::alloc::AllocError;
 use std::marker::Model;
 
 /// What takes a text from its end.
@@ -22,6 +20,13 @@ pub trait Backward {
     fn put(&mut self, piece: &[u8])
         requires { fits self.old piece.now }
         ensures { self.new ≡ after self.old piece.now };
+
+    /// Takes a text of this length, whatever its bytes, and returns `true` if only the length matters.
+    /// Else nothing changes.
+    fn put_len(&mut self, len: usize) -> bool
+        ensures taken { result ≡ true → (text : Text) → length text ≡ len
+            → self.new ≡ after self.old text }
+        ensures not_taken { result ≡ false → self.new ≡ self.old };
 
     /// Nothing changes it.
     ghost after_nothing: { (out : Self) → after out [] ≡ out };
@@ -57,11 +62,17 @@ impl Count {
         Count { len: 0 }
     }
 
-    /// How many bytes were taken.
-    pub fn len(&self) -> usize
-        ensures { result ≡ self.now }
+    /// How many bytes were taken, if they can be counted.
+    pub fn len(&self) -> Result<usize, AllocError>
+        ensures ok { IfOk result (λ len. len ≡ self.now) }
+        ensures exact { IfOk result (λ len. len < most) }
+        ensures err { OnErr result (self.now ≡ most) }
     {
-        self.len
+        if self.len == usize::MAX {
+            Err(AllocError)
+        } else {
+            Ok(self.len)
+        }
     }
 }
 
@@ -74,62 +85,16 @@ impl Backward for Count {
         self.len = self.len.saturating_add(piece.len());
     }
 
+    fn put_len(&mut self, len: usize) -> bool {
+        self.len = self.len.saturating_add(len);
+        true
+    }
+
     ghost after_nothing = { counted-nothing };
 
     ghost after_both = { counted-both };
 
     ghost fits_both = { λ _ _ _ _. (tt, tt) };
-}
-
-/// Bytes that are written from their end.
-#[derive(Drop)]
-pub struct Written {
-    bytes: Vec<u8>,
-    start: usize,
-}
-
-impl Model for Written {
-    ghost Value = { ℕ × Text };
-
-    ghost view = { λ w. (w.start, drop w.start w.bytes.items) };
-
-    ghost invariant = { λ w. w.start ≤ length w.bytes.items };
-}
-
-impl Written {
-    /// Room for this many bytes.
-    pub fn new(alloc: Global, len: usize) -> Result<Self, Memory>
-        ensures { IfOk result (λ w. w ≡ (len, [])) }
-    {
-        let bytes = vec![in alloc; 0u8; len]?;
-        Ok(Written { bytes, start: len })
-    }
-
-    /// The bytes, once all are written.
-    pub fn into_bytes(self) -> Vec<u8>
-        requires { self.0 ≡ 0 }
-        ensures { result.items ≡ self.1 }
-    {
-        self.bytes
-    }
-}
-
-impl Backward for Written {
-    ghost after = { written_after };
-
-    ghost fits = { λ w piece. length piece ≤ w.0 };
-
-    fn put(&mut self, piece: &[u8]) {
-        let start = self.start - piece.len();
-        self.bytes[start..self.start].copy_from_slice(piece);
-        self.start = start;
-    }
-
-    ghost after_nothing = { written-nothing };
-
-    ghost after_both = { written-both };
-
-    ghost fits_both = { written-fits };
 }
 
 /// What is left of a text that is compared from its end, or nothing once it differs.
@@ -177,9 +142,60 @@ impl Backward for Compared<'_> {
         };
     }
 
+    fn put_len(&mut self, len: usize) -> bool {
+        false
+    }
+
     ghost after_nothing = { compared-nothing };
 
     ghost after_both = { compared-both };
 
     ghost fits_both = { λ _ _ _ _. (tt, tt) };
+}
+
+/// A slice that is filled from its end.
+#[derive(Drop)]
+pub struct Filled<'a> {
+    bytes: &'a mut [u8],
+    // What is written begins there.
+    start: usize,
+}
+
+impl<'a> Filled<'a> {
+    ghost use Rattle.iref_splice.specs.Filled.{IsUnwritten, borrowed_name};
+
+    /// All of the slice is to be written.
+    pub fn new(bytes: &'a mut [u8]) -> Self
+        ensures same_reference { borrowed_name result ≡ bytes.entry.ghost_name }
+        ensures unwritten { IsUnwritten result bytes.old }
+    {
+        let start = bytes.len();
+        Filled { bytes, start }
+    }
+}
+
+impl Backward for Filled<'_> {
+    ghost use Rattle.iref_splice.specs.Filled.{HasRoom, filled_after};
+    ghost use Rattle.iref_splice.specs.FilledLaws.{filled-both, filled-fits, filled-nothing};
+
+    ghost after = { filled_after };
+
+    ghost fits = { HasRoom };
+
+    #[inline(always)]
+    fn put(&mut self, piece: &[u8]) {
+        let start = self.start - piece.len();
+        self.bytes[start..self.start].copy_from_slice(piece);
+        self.start = start;
+    }
+
+    fn put_len(&mut self, len: usize) -> bool {
+        false
+    }
+
+    ghost after_nothing = { filled-nothing };
+
+    ghost after_both = { filled-both };
+
+    ghost fits_both = { filled-fits };
 }

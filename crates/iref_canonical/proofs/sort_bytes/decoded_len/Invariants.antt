@@ -1,7 +1,0 @@
-use Rattle.percent_encoding.specs.Iter.{decoded_bytes}
-use Rattle.percent_encoding.specs.Percent.{percent_decode}
-use Rattle.iref_canonical.proofs.SortByteLemmas.{IsCounted}
-use Rattle.iref_canonical.proofs.sort_bytes.decoded_len.Given as goal
-
-abbrev pub invariant-loop-byte : goal.invariant-loop-byte
-invariant-loop-byte l = IsCounted (percent_decode l.bytes) (decoded_bytes l.byte-iterator) l.len

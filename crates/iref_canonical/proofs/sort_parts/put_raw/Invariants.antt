@@ -1,0 +1,13 @@
+use Rattle.std.proofs.Common.{◌≡◌, length}
+use Rattle.std.specs.List.{flat_map}
+use Rattle.iref_canonical.specs.SortKey.{sort_byte, sort_text}
+use Rattle.iref_canonical.proofs.sort_parts.put_raw.Given as goal
+
+abbrev pub invariant-loop-last : goal.invariant-loop-last
+invariant-loop-last g l = record {
+  same : g.O.Backward.after l.out (flat_map sort_byte l.rest) ≡ g.O.Backward.after l.fn.out (sort_text l.fn.text);
+  fits : g.O.Backward.fits l.out (flat_map sort_byte l.rest);
+}
+
+abbrev pub decreases-loop-last : goal.decreases-loop-last
+decreases-loop-last g l = length l.rest

@@ -1,0 +1,14 @@
+use Rattle.std.proofs.Common.{◌≡◌, length}
+use Rattle.std.specs.List.{flat_map}
+use Rattle.percent_encoding.specs.Percent.{percent_decode}
+use Rattle.iref_canonical.specs.SortKey.{sort_byte}
+use Rattle.iref_canonical.proofs.sort_text.put_decoded.Given as goal
+
+abbrev pub invariant-loop-front : goal.invariant-loop-front
+invariant-loop-front g l = record {
+  same : g.O.Backward.after l.out (flat_map sort_byte (percent_decode l.rest)) ≡ g.O.Backward.after l.fn.out (flat_map sort_byte (percent_decode l.fn.text));
+  fits : g.O.Backward.fits l.out (flat_map sort_byte (percent_decode l.rest));
+}
+
+abbrev pub decreases-loop-front : goal.decreases-loop-front
+decreases-loop-front g l = length l.rest
