@@ -1,0 +1,2 @@
+mod RelativizedRows
+mod ExactLemmas
