@@ -1,2 +1,8 @@
 mod RelativizedRows
 mod ExactLemmas
+mod WalkLemmas
+mod WeightLemmas
+mod StepsLemmas
+mod AddedLemmas
+mod StepsWeightLemmas
+mod DividedLemmas
