@@ -138,7 +138,7 @@ below absolute directory parents s rest are none =
     }
 
 -- the walk climbs above all names of a relative directory
-above_steps : (names : List Text) (n : ℕ) (s : Text) (rest : List Text) → are_names names ≡ true → steps_from names (climbs (suc n) ++ s ∷ rest) ≡ climbs (length names + suc n) ++ s ∷ rest
+pub above_steps : (names : List Text) (n : ℕ) (s : Text) (rest : List Text) → are_names names ≡ true → steps_from names (climbs (suc n) ++ s ∷ rest) ≡ climbs (length names + suc n) ++ s ∷ rest
 above_steps names n s rest are =
     let list = climbs (suc n) ++ s ∷ rest in
     let nothing : common names (all_but_last list) ≡ 0 = ap (common names) (all_but_last-append (climbs (suc n)) s rest) ∙ common-climbs names n (all_but_last (s ∷ rest)) are in

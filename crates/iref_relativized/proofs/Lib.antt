@@ -6,3 +6,6 @@ mod StepsLemmas
 mod AddedLemmas
 mod StepsWeightLemmas
 mod DividedLemmas
+mod NormalWeightLemmas
+mod RelativePathLemmas
+mod ChoiceLemmas

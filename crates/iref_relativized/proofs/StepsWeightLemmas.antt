@@ -25,7 +25,7 @@ use Rattle.iref_relativized.proofs.AddedLemmas.{guard_weighs}
 abbrev pub guarded_weight : List Text → ℕ
 guarded_weight list = weight (guarded alone (record { absolute = false; segments = list })).segments
 
-guarded-climbs : (n : ℕ) (list : List Text) → guarded_weight (climbs (suc n) ++ list) ≡ weight (climbs (suc n) ++ list)
+pub guarded-climbs : (n : ℕ) (list : List Text) → guarded_weight (climbs (suc n) ++ list) ≡ weight (climbs (suc n) ++ list)
 unfolding guarded
 guarded-climbs n list = refl
 
