@@ -9,3 +9,7 @@ mod DividedLemmas
 mod NormalWeightLemmas
 mod RelativePathLemmas
 mod ChoiceLemmas
+mod CandidateLemmas
+mod FullCaseLemmas
+mod PathCaseLemmas
+mod CoveredLemmas

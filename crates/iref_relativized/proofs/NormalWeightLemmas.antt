@@ -44,7 +44,7 @@ normal-none false = refl
 -- ---- behind its guard
 
 -- what a list weighs behind its guard in a context
-abbrev guarded_in : PathContext → Bool → List Text → ℕ
+abbrev pub guarded_in : PathContext → Bool → List Text → ℕ
 guarded_in context absolute list = weight (guarded context (path absolute list)).segments
 
 guarded-none : (context : PathContext) (absolute : Bool) → guarded_in context absolute [] ≡ 0
@@ -67,7 +67,7 @@ climbs_fit : (context : PathContext) (s : Text) (rest : List Text) (n : ℕ) (li
 climbs_fit context s rest n list h = grind arith
 
 -- a lighter list, or some `..` and an empty segment, without which it is lighter
-abbrev IsLight : PathContext → Bool → List Text → List Text → Type 0
+abbrev pub IsLight : PathContext → Bool → List Text → List Text → Type 0
 IsLight context absolute list own = (guarded_in context absolute list ≤ weight own) ⊎ ((is_climb list ≡ true) × (weight (all_but_last list) ≤ weight own))
 
 climbed_light : (context : PathContext) (s : Text) (rest : List Text) (n : ℕ) → fits context (path false (s ∷ rest)) ≡ true → open_parents (s ∷ rest) ≡ suc n → IsLight context false (climbs (suc n) ++ ended (s ∷ rest)) (s ∷ rest)
@@ -94,15 +94,18 @@ rootless_light : (context : PathContext) (s : Text) (rest : List Text) (n : ℕ)
 rootless_light context s rest zero fit opened = inl (without_lone_light context false s rest fit)
 rootless_light context s rest (suc n) fit opened = climbed_light context s rest n fit opened
 
+pub normal_light-none : (context : PathContext) (absolute : Bool) → guarded_in context absolute (normal_segments (path absolute [])) ≤ 0
+normal_light-none context absolute = let none = ap (guarded_in context absolute) (normal-none absolute) ∙ guarded-none context absolute in omega arith
+
 -- the normal list of a path that may stand there
 pub normal_light : (context : PathContext) (absolute : Bool) (segments : List Text) → fits context (path absolute segments) ≡ true → IsLight context absolute (normal_segments (path absolute segments)) segments
-normal_light context absolute [] fit = inl (let none = ap (guarded_in context absolute) (normal-none absolute) ∙ guarded-none context absolute in omega arith)
+normal_light context absolute [] fit = inl (normal_light-none context absolute)
 normal_light context true (s ∷ rest) fit = rw (normal-root s rest) (inl (without_lone_light context true s rest fit))
 normal_light context false (s ∷ rest) fit = rw (normal-rootless s rest) (rootless_light context s rest (open_parents (s ∷ rest)) fit refl)
 
 -- with a root it is never longer
 pub normal_light-root : (context : PathContext) (segments : List Text) → fits context (path true segments) ≡ true → guarded_in context true (normal_segments (path true segments)) ≤ weight segments
-normal_light-root context [] fit = let none = ap (guarded_in context true) (normal-none true) ∙ guarded-none context true in omega arith
+normal_light-root context [] fit = normal_light-none context true
 normal_light-root context (s ∷ rest) fit = rw (normal-root s rest) (without_lone_light context true s rest fit)
 
 -- ---- as texts

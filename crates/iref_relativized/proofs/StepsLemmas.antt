@@ -22,7 +22,7 @@ use Rattle.iref_relativized.specs.Relativized.{steps_by_text}
 abbrev pub common : List Text → List Text → ℕ
 common one other = common_prefix_len bytes_eq one other
 
-same_text : (s : Text) → bytes_eq s s ≡ true
+pub same_text : (s : Text) → bytes_eq s s ≡ true
 same_text s = (bytes_decides s s).1 refl
 
 pub common-append : (front one other : List Text) → common (front ++ one) (front ++ other) ≡ length front + common one other

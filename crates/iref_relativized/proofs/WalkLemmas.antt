@@ -136,7 +136,7 @@ one_empty-is ([] ∷ []) h = refl
 one_empty-is ([] ∷ t ∷ rest) h = absurd (true≢false (sym h))
 one_empty-is ((c ∷ s) ∷ rest) h = absurd (true≢false (sym h))
 
-climb_alike : (list front : List Text) (n : ℕ) → list ≡ climbs (suc n) ++ [] ∷ [] → front ≡ climbs (suc n) → LeadAlike front list
+pub climb_alike : (list front : List Text) (n : ℕ) → list ≡ climbs (suc n) ++ [] ∷ [] → front ≡ climbs (suc n) → LeadAlike front list
 climb_alike list front n e f = rw (e, f) (alike-climb n)
 
 -- it leads where the list does
