@@ -13,3 +13,4 @@ mod CandidateLemmas
 mod FullCaseLemmas
 mod PathCaseLemmas
 mod CoveredLemmas
+mod ReadableAnswerLemmas

@@ -36,7 +36,7 @@ normal-rootless s rest =
     let same : 0 + (open_parents (s ∷ rest) - 0) ≡ open_parents (s ∷ rest) = omega arith in
     normal-walk false [] s rest ∙ (λ i. without_lone_empty (climbs (same i) ++ (take-nil (0 - open_parents (s ∷ rest)) i ++ ended (s ∷ rest))))
 
-normal-none : (absolute : Bool) → normal_segments (path absolute []) ≡ []
+pub normal-none : (absolute : Bool) → normal_segments (path absolute []) ≡ []
 unfolding normal_segments excess staying_names
 normal-none true = refl
 normal-none false = refl
