@@ -1,16 +1,17 @@
 mod RelativizedRows
-mod ExactLemmas
-mod WalkLemmas
-mod WeightLemmas
-mod StepsLemmas
-mod AddedLemmas
-mod StepsWeightLemmas
-mod DividedLemmas
-mod NormalWeightLemmas
-mod RelativePathLemmas
-mod ChoiceLemmas
-mod CandidateLemmas
-mod FullCaseLemmas
-mod PathCaseLemmas
-mod CoveredLemmas
-mod ReadableAnswerLemmas
+pub mod ExactLemmas
+pub mod WalkLemmas
+pub mod WeightLemmas
+pub mod StepsLemmas
+pub mod AddedLemmas
+pub mod StepsWeightLemmas
+pub mod DividedLemmas
+pub mod NormalWeightLemmas
+pub mod RelativePathLemmas
+pub mod ChoiceLemmas
+pub mod CandidateLemmas
+pub mod FullCaseLemmas
+pub mod PathCaseLemmas
+pub mod CoveredLemmas
+pub mod ReadableAnswerLemmas
+pub mod TextLawLemmas
