@@ -1,6 +1,5 @@
 -- Behind its guard, what a walk adds is not longer than the walk.
-use Rattle.std.proofs.Common.{◌≡◌, ℕ, ◌+◌, ◌*◌, ◌≤◌, Bool, true, false, not, cond, ◌&&◌, ◌||◌, List, [], ◌∷◌, length, refl, sym, ◌∙◌, ap, arith, codes, ◌⊎◌, inl, inr}
-use Rattle.std.proofs.lemmas.Grind.{common_steps}
+use Rattle.std.proofs.Common.{◌≡◌, ℕ, ◌+◌, ◌*◌, ◌≤◌, Bool, true, false, ◌&&◌, List, [], ◌∷◌, length, refl, sym, ◌∙◌, ap, arith, ◌⊎◌, inl, inr}
 use Rattle.std.proofs.lemmas.Bool.{and_parts}
 use mathlib.Core.Bool.{true≢false}
 use Rattle.iref_grammar.specs.declared.context.PathContext.{PathContext}
@@ -10,19 +9,20 @@ use Rattle.iref_grammar.specs.Contexts.{follows_authority, reads_as_path, fits}
 use Rattle.iref_model.specs.NormalList.{open_parents}
 use Rattle.iref_model.specs.Guard.{guarded}
 use Rattle.iref_relativized.proofs.WalkLemmas.{ended}
-use Rattle.iref_relativized.proofs.WeightLemmas.{weight, adds_nothing, added_weighs, first_added}
-
-abbrev path : Bool → List Text → PathValue
-path absolute list = record { absolute = absolute; segments = list }
+use Rattle.iref_relativized.proofs.WeightLemmas.{path, weight, adds_nothing, added_weighs, first_added}
 
 -- ---- the guard
 
--- it weighs two
+-- what a list weighs behind its guard in a context
+abbrev pub guarded_in : PathContext → Bool → List Text → ℕ
+guarded_in context absolute list = weight (guarded context (path absolute list)).segments
+
+-- the guard weighs two
 pub guard_weighs : (context : PathContext) (p : PathValue) → weight (guarded context p).segments ≤ weight p.segments + 2
 unfolding guarded
 guard_weighs context p = grind arith
 
--- and is left out of a path that may stand there
+-- a path that may stand in the context gets none
 pub guarded-same : (context : PathContext) (p : PathValue) → fits context p ≡ true → guarded context p ≡ p
 unfolding guarded
 guarded-same context p h = grind arith
@@ -49,7 +49,7 @@ guard_paid context absolute [] rest list lone reads unread (inr more) = absurd (
 guard_paid context absolute (c ∷ s) rest list lone reads unread (inr more) = omega arith
 
 pub added_light : (context : PathContext) (absolute : Bool) (s : Text) (rest : List Text) → fits context (path absolute (s ∷ rest)) ≡ true → adds_nothing (s ∷ rest) ≡ false → (absolute && is_one_empty (ended (s ∷ rest))) ≡ false
-    → weight (guarded context (path absolute (ended (s ∷ rest)))).segments ≤ weight (s ∷ rest)
+    → guarded_in context absolute (ended (s ∷ rest)) ≤ weight (s ∷ rest)
 added_light context absolute s rest fit some lone = by (reads_as_path context (path absolute list)) refl
   where
     list : List Text
@@ -61,6 +61,6 @@ added_light context absolute s rest fit some lone = by (reads_as_path context (p
     weighs : weight list + 3 * open_parents (s ∷ rest) ≤ weight (s ∷ rest)
     weighs = added_weighs (s ∷ rest) some
 
-    by : (reads : Bool) → reads_as_path context (path absolute list) ≡ reads → weight (guarded context (path absolute list)).segments ≤ weight (s ∷ rest)
+    by : (reads : Bool) → reads_as_path context (path absolute list) ≡ reads → guarded_in context absolute list ≤ weight (s ∷ rest)
     by true e = (let same = ap (λ (p : PathValue). weight p.segments) (guarded-same context (path absolute list) (λ i. follows_too context absolute s rest list both.0 i && e i)) in let much = weighs in omega arith)
     by false e = (let most = guard_weighs context (path absolute list) in let paid = guard_paid context absolute s rest list lone both.1 e (first_added s rest some) in omega arith)

@@ -1,5 +1,5 @@
 -- Each candidate, where its condition holds and it serves, is among the candidates.
-use Rattle.std.proofs.Common.{◌≡◌, ℕ, ◌+◌, ◌≤◌, Bool, true, false, not, ◌&&◌, List, ◌++◌, length, refl, is_some, Option, None, arith, length-append}
+use Rattle.std.proofs.Common.{◌≡◌, ◌≤◌, Bool, true, not, ◌&&◌, List, ◌++◌, length, refl, is_some, Option, None, arith, length-append}
 use Rattle.std.specs.List.{list_any}
 use Rattle.iref_grammar.specs.Rules.{Text}
 use Rattle.iref_grammar.specs.Authority.{AuthorityValue}

@@ -1,10 +1,8 @@
 -- A base's directory and a list reached from it begin alike; the steps from the one lead to the other.
-use Rattle.std.proofs.Common.{◌≡◌, ℕ, zero, suc, ◌+◌, ◌-◌, ◌≤◌, ◌<◌, Bool, true, false, cond, List, [], ◌∷◌, ◌++◌, length, take, drop, refl, sym, ◌∙◌, ap, arith, append_assoc, length-append, inl, inr, take-append-drop, length-take-le}
-use Rattle.std.proofs.lemmas.Grind.{common_steps}
+use Rattle.std.proofs.Common.{◌≡◌, ℕ, zero, suc, ◌+◌, ◌-◌, ◌≤◌, Bool, true, false, cond, List, [], ◌∷◌, ◌++◌, length, take, drop, refl, sym, ◌∙◌, ap, arith, append_assoc, length-append, inl, inr, take-append-drop}
 use Rattle.std.specs.Prelude.{bytes_eq}
-use Rattle.std.specs.List.{list_all}
 use Rattle.std.proofs.lemmas.Bool.{cases_lt}
-use Rattle.std.proofs.lemmas.List.{length-drop, length-replicate, replicate-append-replicate, take-append-le}
+use Rattle.std.proofs.lemmas.List.{length-drop, replicate-append-replicate, take-append-le}
 use Rattle.std.proofs.lemmas.List.Sums.{common_prefix_len-le}
 use Rattle.std.proofs.Math.Seq.{take-append-add}
 use mathlib.Core.Bool.{true≢false}
@@ -36,10 +34,10 @@ pub record IsDivided (absolute : Bool) (directory : List Text) (parents : ℕ) (
   pub fewest : length more + higher ≤ parents
   pub some : is_empty (steps_from more (climbs higher ++ s ∷ rest)) ≡ false
   pub leads :
-    reached absolute directory (open_parents (steps_from more (climbs higher ++ s ∷ rest))) (ended (steps_from more (climbs higher ++ s ∷ rest)))
-    ≡ reached absolute directory parents (s ∷ rest)
+      reached absolute directory (open_parents (steps_from more (climbs higher ++ s ∷ rest))) (ended (steps_from more (climbs higher ++ s ∷ rest)))
+      ≡ reached absolute directory parents (s ∷ rest)
 
-is_empty-append : (front : List Text) (s : Text) (rest : List Text) → is_empty (front ++ s ∷ rest) ≡ false
+pub is_empty-append : (front : List Text) (s : Text) (rest : List Text) → is_empty (front ++ s ∷ rest) ≡ false
 is_empty-append [] s rest = refl
 is_empty-append (f ∷ front) s rest = refl
 

@@ -1,5 +1,5 @@
 -- The answer leads to the target's text.
-use Rattle.std.proofs.Common.{arith, ◌≡◌, Bool, true, false, List, [], ◌∷◌, refl, Option, Some, None}
+use Rattle.std.proofs.Common.{arith, ◌≡◌, true, List, [], ◌∷◌, refl, Option, Some, None}
 use Rattle.std.proofs.lemmas.Slice.Eq.{bytes_eq-Decides}
 use Rattle.iref_grammar.specs.Reference.{ReferenceValue, spell}
 use Rattle.iref_model.specs.Resolution.{resolved}

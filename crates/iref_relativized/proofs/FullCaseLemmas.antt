@@ -1,6 +1,5 @@
 -- A reference with a scheme or an authority has a candidate that is not longer.
-use Rattle.std.proofs.Common.{◌≡◌, ℕ, ◌≤◌, Bool, true, false, not, cond, ◌&&◌, ◌||◌, List, [], ◌∷◌, ◌++◌, length, refl, sym, ◌∙◌, ap, arith, ◌⊎◌, inl, inr, Option, Some, None, is_some}
-use Rattle.std.proofs.lemmas.Grind.{common_steps}
+use Rattle.std.proofs.Common.{◌≡◌, ◌≤◌, Bool, true, false, not, ◌&&◌, List, [], ◌∷◌, length, sym, ◌∙◌, ap, inl, inr, Option, Some, None, is_some}
 use Rattle.std.specs.List.{list_any}
 use Rattle.std.proofs.lemmas.Bool.{and_parts}
 use mathlib.Core.Bool.{true≢false}
@@ -9,26 +8,23 @@ use Rattle.iref_grammar.specs.Rules.{Text}
 use Rattle.iref_grammar.specs.Grammar.{colon}
 use Rattle.iref_grammar.specs.Texts.{all_but_last, part_then}
 use Rattle.iref_grammar.specs.Authority.{AuthorityValue}
-use Rattle.iref_grammar.specs.PathValue.{PathValue, spell_path}
-use Rattle.iref_grammar.specs.Contexts.{follows_authority, reads_as_path, fits}
-use Rattle.iref_grammar.specs.Reference.{ReferenceValue, spell, context_of}
+use Rattle.iref_grammar.specs.PathValue.{PathValue}
+use Rattle.iref_grammar.specs.Contexts.{follows_authority, fits}
+use Rattle.iref_grammar.specs.Reference.{ReferenceValue, spell}
 use Rattle.iref_model.specs.Guard.{guarded}
 use Rattle.iref_model.specs.NormalList.{normal, normal_segments}
-use Rattle.iref_model.specs.PathSteps.{normalized}
 use Rattle.iref_model.specs.Resolution.{resolved}
 use Rattle.iref_model.proofs.RelativeLemmas.{parts}
 use Rattle.iref_model.proofs.SettledLemmas.{normal_again}
 use Rattle.iref_model.proofs.NormalPathLemmas.{normal-normalized}
 use Rattle.iref_relativized.specs.Relativized.{is_climb, climb_shortened, candidates}
 use Rattle.iref_relativized.proofs.WalkLemmas.{climb-is, climb_alike, same_normal}
-use Rattle.iref_relativized.proofs.WeightLemmas.{weight, lighter-path}
+use Rattle.iref_relativized.proofs.WeightLemmas.{path, weight, lighter-path}
 use Rattle.iref_relativized.proofs.StepsLemmas.{same_text}
-use Rattle.iref_relativized.proofs.NormalWeightLemmas.{guarded_in, IsLight, normal_light, normal_light-root, normal_light-none, guarded-flag, not_longer}
+use Rattle.iref_relativized.proofs.AddedLemmas.{guarded_in}
+use Rattle.iref_relativized.proofs.NormalWeightLemmas.{IsLight, normal_light, normal_light-root, normal_light-none, not_longer}
 use Rattle.iref_relativized.proofs.ChoiceLemmas.{serves, serves-from}
 use Rattle.iref_relativized.proofs.CandidateLemmas.{spell-lighter, any-authority, any-whole, any-climb}
-
-abbrev path : Bool → List Text → PathValue
-path absolute list = record { absolute = absolute; segments = list }
 
 -- some candidate serves, where the target is what the reference resolves to
 abbrev pub IsServed : ReferenceValue → ReferenceValue → Type 0
@@ -38,9 +34,9 @@ IsServed base s = list_any (serves (resolved base s) base (length (spell s))) (c
 pub normalized_twice : (context : PathContext) (p : PathValue) → follows_authority context p ≡ true → guarded context (normal (guarded context (normal p))) ≡ guarded context (normal p)
 normalized_twice context p h = ap (guarded context) (normal-normalized context p h)
 
-follows-normal : (context : PathContext) (p : PathValue) → follows_authority context p ≡ true → follows_authority context (normal p) ≡ true
-unfolding normal_segments Rattle.iref_model.specs.NormalList.excess Rattle.iref_model.specs.NormalList.staying_names
-follows-normal context p h = grind arith
+-- and the guard of a normal path keeps its flag
+pub flag_kept : (context : PathContext) (p : PathValue) → follows_authority context p ≡ true → (guarded context (normal p)).absolute ≡ p.absolute
+flag_kept context p h = ap (λ (q : PathValue). q.absolute) (normal-normalized context p h)
 
 -- some `..` lead where some `..` and an empty segment do
 climb-normal : (list : List Text) → is_climb list ≡ true → normal_segments (path false (all_but_last list)) ≡ normal_segments (path false list)
@@ -63,7 +59,7 @@ module _ (base : ReferenceValue) (scheme : Text) (authority : Option AuthorityVa
       let target = whole (guarded context (normal p)) in
       any-whole (serves target base (length (spell (whole p)))) target base
       (serves-from target base (length (spell (whole p))) target (ap whole (normalized_twice context p follows))
-      (spell-lighter (Some scheme) authority (guarded context (normal p)) p query fragment (not_longer context absolute (normal_segments p) segments (follows-normal context p follows) light)))
+      (spell-lighter (Some scheme) authority (guarded context (normal p)) p query fragment (not_longer context absolute (normal_segments p) segments (flag_kept context p follows) light)))
 
   -- the target without its last `/`
   climb_serves : (segments : List Text) → follows_authority context (path false segments) ≡ true → is_climb (normal_segments (path false segments)) ≡ true → weight (all_but_last (normal_segments (path false segments))) ≤ weight segments → IsServed base (whole (path false segments))
@@ -72,7 +68,7 @@ module _ (base : ReferenceValue) (scheme : Text) (authority : Option AuthorityVa
       let p = path false segments in
       let target = whole (guarded context (normal p)) in
       let list : normal_segments (guarded context (normal p)) ≡ normal_segments p = ap (λ (q : PathValue). q.segments) (normal-normalized context p follows) in
-      let flag : (guarded context (normal p)).absolute ≡ false = guarded-flag context (normal p) (follows-normal context p follows) in
+      let flag : (guarded context (normal p)).absolute ≡ false = flag_kept context p follows in
       let leads : normal_segments (path false (all_but_last (normal_segments (guarded context (normal p))))) ≡ normal_segments p =
       (λ i. normal_segments (path false (all_but_last (list i)))) ∙ climb-normal (normal_segments p) climb ∙ ap (λ (q : PathValue). q.segments) (normal_again p) in
       any-climb (serves target base (length (spell (whole p)))) target base (λ i. not (flag i) && (ap is_climb list ∙ climb) i)
@@ -111,4 +107,4 @@ module _ (base : ReferenceValue) (authority : AuthorityValue) (query fragment : 
       let target = parts base.scheme (Some authority) (guarded context (normal p)) query fragment in
       any-authority (serves target base (length (spell (after_scheme p)))) target base (λ i. same_text (part_then (colon ∷ []) base.scheme) i && true)
       (serves-from target base (length (spell (after_scheme p))) (after_scheme (guarded context (normal p))) (ap (λ q. parts base.scheme (Some authority) q query fragment) (normalized_twice context p follows))
-      (spell-lighter None (Some authority) (guarded context (normal p)) p query fragment (not_longer context absolute (normal_segments p) segments (follows-normal context p follows) (after_authority (is_some base.scheme) absolute segments fit))))
+      (spell-lighter None (Some authority) (guarded context (normal p)) p query fragment (not_longer context absolute (normal_segments p) segments (flag_kept context p follows) (after_authority (is_some base.scheme) absolute segments fit))))

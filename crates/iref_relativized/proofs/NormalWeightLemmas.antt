@@ -1,24 +1,20 @@
 -- The normal list of a path is not longer than the path, but for a `/` after some `..`.
-use Rattle.std.proofs.Common.{◌≡◌, ℕ, zero, suc, ◌+◌, ◌-◌, ◌*◌, ◌≤◌, Bool, true, false, not, cond, ◌&&◌, ◌||◌, List, [], ◌∷◌, ◌++◌, length, take, refl, sym, ◌∙◌, ap, arith, ◌⊎◌, inl, inr}
-use Rattle.std.proofs.lemmas.Grind.{common_steps}
+use Rattle.std.proofs.Common.{◌≡◌, ℕ, zero, suc, ◌+◌, ◌-◌, ◌*◌, ◌≤◌, Bool, true, false, cond, ◌&&◌, List, [], ◌∷◌, ◌++◌, length, take, refl, sym, ◌∙◌, ap, arith, ◌⊎◌, inl, inr}
 use Rattle.std.proofs.Math.Bool.{and-false}
 use mathlib.Core.Bool.{true≢false}
 use Rattle.iref_grammar.specs.declared.context.PathContext.{PathContext}
 use Rattle.iref_grammar.specs.Rules.{Text}
 use Rattle.iref_grammar.specs.Texts.{all_but_last}
 use Rattle.iref_grammar.specs.PathValue.{PathValue, spell_path, is_one_empty}
-use Rattle.iref_grammar.specs.Contexts.{follows_authority, reads_as_path, fits}
+use Rattle.iref_grammar.specs.Contexts.{fits}
 use Rattle.iref_model.specs.Guard.{guarded}
-use Rattle.iref_model.specs.NormalList.{staying_names, excess, normal, normal_segments, without_lone_empty, open_parents}
+use Rattle.iref_model.specs.NormalList.{staying_names, excess, normal_segments, without_lone_empty, open_parents}
 use Rattle.iref_model.proofs.JoinedLemmas.{climbs}
 use Rattle.iref_relativized.specs.Relativized.{is_climb}
 use Rattle.iref_relativized.proofs.WalkLemmas.{ended, normal-walk}
-use Rattle.iref_relativized.proofs.WeightLemmas.{weight, weight-append, weight-climbs, lighter-path, walk_weighs, adds_nothing, nothing-added, added_weighs}
-use Rattle.iref_relativized.proofs.AddedLemmas.{guarded-same, added_light}
+use Rattle.iref_relativized.proofs.WeightLemmas.{path, weight, weight-append, weight-climbs, lighter-path, walk_weighs, adds_nothing, nothing-added, added_weighs}
+use Rattle.iref_relativized.proofs.AddedLemmas.{guarded_in, guarded-same, added_light}
 use Rattle.iref_relativized.proofs.StepsWeightLemmas.{front-climb, is_climb-climbs}
-
-abbrev path : Bool → List Text → PathValue
-path absolute list = record { absolute = absolute; segments = list }
 
 -- ---- the normal list of a path
 
@@ -43,10 +39,6 @@ normal-none false = refl
 
 -- ---- behind its guard
 
--- what a list weighs behind its guard in a context
-abbrev pub guarded_in : PathContext → Bool → List Text → ℕ
-guarded_in context absolute list = weight (guarded context (path absolute list)).segments
-
 guarded-none : (context : PathContext) (absolute : Bool) → guarded_in context absolute [] ≡ 0
 unfolding guarded
 guarded-none context absolute = grind arith
@@ -62,6 +54,7 @@ without_lone_light context absolute s rest fit = by (adds_nothing (s ∷ rest)) 
     by nothing true e f = (let w = none in omega arith)
     by true false e f = absurd (true≢false (ap is_one_empty (sym (nothing-added (s ∷ rest) e)) ∙ f))
     by false false e f = added_light context absolute s rest fit e ((λ i. absolute && f i) ∙ and-false absolute)
+
 -- `..` needs no guard
 climbs_fit : (context : PathContext) (s : Text) (rest : List Text) (n : ℕ) (list : List Text) → fits context (path false (s ∷ rest)) ≡ true → fits context (path false (climbs (suc n) ++ list)) ≡ true
 climbs_fit context s rest n list h = grind arith
@@ -110,16 +103,11 @@ normal_light-root context (s ∷ rest) fit = rw (normal-root s rest) (without_lo
 
 -- ---- as texts
 
--- the guard keeps the flag
-pub guarded-flag : (context : PathContext) (p : PathValue) → follows_authority context p ≡ true → (guarded context p).absolute ≡ p.absolute
-unfolding guarded
-guarded-flag context p h = grind arith
-
-pub not_longer : (context : PathContext) (absolute : Bool) (list own : List Text) → follows_authority context (path absolute list) ≡ true → guarded_in context absolute list ≤ weight own
+-- where the guard keeps the flag, the text of a lighter list is not longer
+pub not_longer : (context : PathContext) (absolute : Bool) (list own : List Text) → (guarded context (path absolute list)).absolute ≡ absolute → guarded_in context absolute list ≤ weight own
     → length (spell_path (guarded context (path absolute list))) ≤ length (spell_path (path absolute own))
-not_longer context absolute list own follows h =
+not_longer context absolute list own flag h =
     let p = guarded context (path absolute list) in
-    let same : p ≡ path absolute p.segments = (λ i. path (guarded-flag context (path absolute list) follows i) p.segments) in
     let lighter = lighter-path absolute p.segments own h in
-    let text = ap (λ q. length (spell_path q)) same in
-    omega arith
+    let text : length (spell_path p) ≡ length (spell_path (path absolute p.segments)) = (λ i. length (spell_path (path (flag i) p.segments))) in
+    omega (arith, lighter)

@@ -1,41 +1,32 @@
 -- A reference with neither scheme nor authority has a candidate that is not longer.
-use Rattle.std.proofs.Common.{◌≡◌, ℕ, ◌≤◌, Bool, true, false, not, cond, ◌&&◌, ◌||◌, List, [], ◌∷◌, ◌++◌, length, refl, sym, ◌∙◌, ap, arith, Option, Some, None, is_some, codes, subst}
-use Rattle.std.proofs.lemmas.Grind.{common_steps}
-use Rattle.std.specs.Option.{option_or}
+use Rattle.std.proofs.Common.{◌≡◌, ◌≤◌, Bool, true, false, cond, ◌&&◌, List, [], ◌∷◌, ◌++◌, length, refl, sym, ◌∙◌, ap, arith, Option, Some, None, codes, subst}
 use Rattle.std.specs.Prelude.{bytes_eq}
 use Rattle.std.specs.List.{list_any}
-use Rattle.std.proofs.lemmas.Bool.{and_parts}
 use Rattle.std.proofs.lemmas.List.{append-nil}
 use mathlib.Core.Bool.{true≢false}
-use Rattle.iref_grammar.specs.declared.context.PathContext.{PathContext}
 use Rattle.iref_grammar.specs.Rules.{Text}
-use Rattle.iref_grammar.specs.Grammar.{colon, question_mark}
-use Rattle.iref_grammar.specs.Texts.{is_empty, all_but_last, part_then, then_part}
+use Rattle.iref_grammar.specs.Grammar.{colon}
+use Rattle.iref_grammar.specs.Texts.{is_empty, all_but_last, part_then}
 use Rattle.iref_grammar.specs.Authority.{AuthorityValue}
 use Rattle.iref_grammar.specs.PathValue.{PathValue, spell_path}
 use Rattle.iref_grammar.specs.Contexts.{alone, follows_authority, reads_as_path, fits}
 use Rattle.iref_grammar.specs.Reference.{ReferenceValue, spell, context_of}
 use Rattle.iref_model.specs.Guard.{guarded}
-use Rattle.iref_model.specs.NormalList.{normal, normal_segments, kept_segments, staying_names}
+use Rattle.iref_model.specs.NormalList.{normal, normal_segments, kept_segments}
 use Rattle.iref_model.specs.Resolution.{resolved, merged}
-use Rattle.iref_model.specs.Relative.{with_only_path}
-use Rattle.iref_model.proofs.JoinedLemmas.{climbs}
 use Rattle.iref_model.proofs.RelativeLemmas.{parts}
-use Rattle.iref_model.proofs.SettledLemmas.{leading, normal_again, kept-is}
+use Rattle.iref_model.proofs.SettledLemmas.{normal_again, kept-is}
 use Rattle.iref_model.proofs.NormalPathLemmas.{normal-guarded, normal-normalized}
-use Rattle.iref_relativized.specs.Relativized.{authority_text, query_text, same_site, empty_path, base_directory, steps_by_text, shortened, relative_path, fragment_alone, candidates}
+use Rattle.iref_relativized.specs.Relativized.{authority_text, query_text, same_site, empty_path, base_directory, steps_by_text, shortened, candidates}
 use Rattle.iref_relativized.proofs.WalkLemmas.{LeadAlike, alike-refl, alike-dot, same_normal}
-use Rattle.iref_relativized.proofs.WeightLemmas.{weight}
 use Rattle.iref_relativized.proofs.AddedLemmas.{guarded-same}
 use Rattle.iref_relativized.proofs.StepsLemmas.{same_text}
-use Rattle.iref_relativized.proofs.NormalWeightLemmas.{normal_light-root, guarded-flag, not_longer}
+use Rattle.iref_relativized.proofs.WeightLemmas.{path}
+use Rattle.iref_relativized.proofs.NormalWeightLemmas.{normal_light-root, not_longer}
 use Rattle.iref_relativized.proofs.RelativePathLemmas.{IsBestWalk, best_walk}
 use Rattle.iref_relativized.proofs.ChoiceLemmas.{serves, serves-from}
 use Rattle.iref_relativized.proofs.CandidateLemmas.{spell-lighter, any-fragment, any-tail, any-relative, any-absolute}
-use Rattle.iref_relativized.proofs.FullCaseLemmas.{IsServed}
-
-abbrev path : Bool → List Text → PathValue
-path absolute list = record { absolute = absolute; segments = list }
+use Rattle.iref_relativized.proofs.FullCaseLemmas.{IsServed, flag_kept}
 
 -- what is compared of target and base, where the target has the base's own
 site_here : (base : ReferenceValue) (p : PathValue) (query fragment : Option Text) → same_site (parts base.scheme base.authority p query fragment) base ≡ true
@@ -67,12 +58,13 @@ module _ (base : ReferenceValue) (fit : fits (context_of base) base.path ≡ tru
 
 -- ---- a path from the root
 
-under_root : (context : PathContext) (segments : List Text) → follows_authority context (path true segments) ≡ true
-under_root context segments = grind arith
+-- a path alone keeps its flag behind its guard
+flag-alone : (absolute : Bool) (list : List Text) → (guarded alone (path absolute list)).absolute ≡ absolute
+unfolding guarded
+flag-alone absolute list = grind arith
 
--- a guarded path shows its flag
 guarded-as : (absolute : Bool) (list : List Text) → guarded alone (path absolute list) ≡ path absolute (guarded alone (path absolute list)).segments
-guarded-as absolute list = λ i. path (guarded-flag alone (path absolute list) refl i) (guarded alone (path absolute list)).segments
+guarded-as absolute list = λ i. path (flag-alone absolute list i) (guarded alone (path absolute list)).segments
 
 module _ (base : ReferenceValue) (query fragment : Option Text) where
   abbrev only : PathValue → ReferenceValue
@@ -86,13 +78,13 @@ module _ (base : ReferenceValue) (query fragment : Option Text) where
   root_served segments fit =
       let p = path true segments in
       let target = placed (normal p) in
-      let follows = under_root (context_of base) segments in
+      let follows : follows_authority (context_of base) p ≡ true = grind arith in
       let same : normal target.path ≡ normal p = normal-normalized (context_of base) p follows in
-      let flag : target.path.absolute ≡ true = ap (λ (q : PathValue). q.absolute) same in
+      let flag : target.path.absolute ≡ true = flag_kept (context_of base) p follows in
       let answer : guarded alone (normal target.path) ≡ path true (guarded alone (normal p)).segments = ap (guarded alone) same ∙ guarded-as true (normal_segments p) in
       let leads : normal (path true (guarded alone (normal p)).segments) ≡ normal p = ap normal (sym (guarded-as true (normal_segments p))) ∙ normal-guarded alone (normal p) refl ∙ normal_again p in
       let exact : resolved base (only (path true (guarded alone (normal p)).segments)) ≡ target = ap placed leads in
-      let shorter : length (spell (only (guarded alone (normal p)))) ≤ length (spell (only p)) = spell-lighter None None (guarded alone (normal p)) p query fragment (not_longer alone true (normal_segments p) segments refl (normal_light-root alone segments fit)) in
+      let shorter : length (spell (only (guarded alone (normal p)))) ≤ length (spell (only p)) = spell-lighter None None (guarded alone (normal p)) p query fragment (not_longer alone true (normal_segments p) segments (flag-alone true (normal_segments p)) (normal_light-root alone segments fit)) in
       any-absolute (serves target base (length (spell (only p)))) target base (λ i. site_here base target.path query fragment i && flag i)
       (serves-from target base (length (spell (only p))) (only (guarded alone (normal target.path))) ((λ i. resolved base (only (answer i))) ∙ exact) ((rw same shorter)))
 
@@ -177,7 +169,7 @@ module _ (base : ReferenceValue) (follows : follows_authority (context_of base) 
       ∙ ap placed_at (normal-merged (guarded alone (path false list)).segments ∙ (λ i. path flag (leads i)) ∙ sym (normal-merged (s ∷ rest)))
 
   shorter : length (spell (only_path (guarded alone (path false list)))) ≤ length (spell (only_path walk))
-  shorter = spell-lighter None None (guarded alone (path false list)) walk query fragment (not_longer alone false list (s ∷ rest) refl best.light)
+  shorter = spell-lighter None None (guarded alone (path false list)) walk query fragment (not_longer alone false list (s ∷ rest) (flag-alone false list) best.light)
 
   served_target : list_any (serves target base (length (spell (only_path walk)))) (candidates target base) ≡ true
   served_target = any-relative (serves target base (length (spell (only_path walk)))) target base (site_here base target.path query fragment) (serves-from target base (length (spell (only_path walk))) (only_path (guarded alone (path false list))) exact shorter)

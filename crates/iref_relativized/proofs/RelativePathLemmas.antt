@@ -1,24 +1,19 @@
 -- The relative path of the definition leads where a given one does, and is not longer.
-use Rattle.std.proofs.Common.{◌≡◌, ℕ, zero, suc, ◌+◌, ◌-◌, ◌*◌, ◌≤◌, Bool, true, false, cond, List, [], ◌∷◌, ◌++◌, length, drop, refl, sym, ◌∙◌, ap, arith}
-use Rattle.std.proofs.lemmas.Grind.{common_steps}
+use Rattle.std.proofs.Common.{◌≡◌, ℕ, zero, suc, ◌+◌, ◌-◌, ◌*◌, ◌≤◌, Bool, true, false, List, [], ◌∷◌, ◌++◌, length, drop, refl, sym, ◌∙◌, ap, arith}
 use mathlib.Core.Bool.{true≢false}
 use Rattle.iref_grammar.specs.Rules.{Text}
 use Rattle.iref_grammar.specs.Texts.{is_empty}
-use Rattle.iref_grammar.specs.PathValue.{PathValue}
 use Rattle.iref_grammar.specs.Contexts.{alone, fits}
 use Rattle.iref_model.specs.NormalList.{staying_names, normal_segments, without_lone_empty, open_parents}
 use Rattle.iref_model.proofs.JoinedLemmas.{are_names, climbs}
 use Rattle.iref_model.proofs.SettledLemmas.{leading}
 use Rattle.iref_relativized.specs.Relativized.{steps_by_text, shortened}
 use Rattle.iref_relativized.proofs.WalkLemmas.{ended, reached, normal-walk, same_normal, LeadAlike, alike-shortened}
-use Rattle.iref_relativized.proofs.WeightLemmas.{weight, weight-append, weight-climbs, walk_weighs, adds_nothing, nothing-added, added_weighs, added_some, added_names}
+use Rattle.iref_relativized.proofs.WeightLemmas.{path, weight, weight-append, weight-climbs, walk_weighs, adds_nothing, nothing-added, added_weighs, added_some, added_names}
 use Rattle.iref_relativized.proofs.AddedLemmas.{added_light}
 use Rattle.iref_relativized.proofs.StepsLemmas.{common, steps-lone, steps_from, steps-front}
 use Rattle.iref_relativized.proofs.StepsWeightLemmas.{guarded_weight, guarded-climbs, relative_light, climb_light}
-use Rattle.iref_relativized.proofs.DividedLemmas.{normal-some, IsDivided, above_steps, divided}
-
-abbrev path : Bool → List Text → PathValue
-path absolute list = record { absolute = absolute; segments = list }
+use Rattle.iref_relativized.proofs.DividedLemmas.{is_empty-append, normal-some, IsDivided, above_steps, divided}
 
 -- ---- lists that are not empty
 
@@ -33,10 +28,6 @@ steps-front_some front more (s ∷ rest) h = steps-front front more s rest
 relative_light-some : (more list : List Text) (size : ℕ) → is_empty list ≡ false → 2 ≤ size → 3 * length more + weight list ≤ size → guarded_weight list ≤ size → guarded_weight (shortened (steps_from more list)) ≤ size
 relative_light-some more [] size some two h k = absurd (true≢false some)
 relative_light-some more (s ∷ rest) size some two h k = relative_light more s rest size two h k
-
-some-climbs : (n : ℕ) (s : Text) (rest : List Text) → is_empty (climbs n ++ s ∷ rest) ≡ false
-some-climbs zero s rest = refl
-some-climbs (suc n) s rest = refl
 
 -- ---- what a walk weighs that may stand alone
 
@@ -74,7 +65,7 @@ steps_light more n s rest are fewest fit = by (adds_nothing (s ∷ rest)) refl
     two = two_at_least s rest fit
 
     some : is_empty (climbs n ++ ended (s ∷ rest)) ≡ false
-    some = (let list = some_list (ended (s ∷ rest)) (added_some (s ∷ rest) refl) in ap (λ l. is_empty (climbs n ++ l)) list.2 ∙ some-climbs n list.0 list.1)
+    some = (let list = some_list (ended (s ∷ rest)) (added_some (s ∷ rest) refl) in ap (λ l. is_empty (climbs n ++ l)) list.2 ∙ is_empty-append (climbs n) list.0 list.1)
 
     by : (nothing : Bool) → adds_nothing (s ∷ rest) ≡ nothing → guarded_weight (shortened (steps_from more (climbs n ++ ended (s ∷ rest)))) ≤ weight (s ∷ rest)
     by true e =
@@ -108,7 +99,7 @@ module _ (absolute : Bool) (directory : List Text) (s : Text) (rest : List Text)
       ap (steps_by_text (climbs (leading absolute directory) ++ staying_names directory)) normal-here
       ∙ steps-lone (climbs (leading absolute directory) ++ staying_names directory) (reached absolute directory (open_parents (s ∷ rest)) (t ∷ more))
       ∙ (λ i. steps_by_text (parts.directory_is i) (parts.reached_is i))
-      ∙ steps-front_some parts.front parts.more (climbs parts.higher ++ t ∷ more) (some-climbs parts.higher t more)
+      ∙ steps-front_some parts.front parts.more (climbs parts.higher ++ t ∷ more) (is_empty-append (climbs parts.higher) t more)
 
   best_steps : fits alone (path false (s ∷ rest)) ≡ true → IsBestWalk absolute directory (shortened (steps_from parts.more (climbs parts.higher ++ t ∷ more))) (s ∷ rest)
   best_steps fit =

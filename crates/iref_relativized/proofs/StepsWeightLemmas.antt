@@ -1,29 +1,25 @@
 -- How long the steps are: not longer than what leads to the same list.
 use Rattle.std.proofs.Common.{◌≡◌, ℕ, zero, suc, ◌+◌, ◌-◌, ◌*◌, ◌≤◌, Bool, true, false, not, cond, ◌&&◌, List, [], ◌∷◌, ◌++◌, length, drop, refl, sym, ◌∙◌, ap, arith, codes}
-use Rattle.std.proofs.lemmas.Grind.{common_steps}
-use Rattle.std.proofs.lemmas.Bool.{and_from}
 use Rattle.std.proofs.lemmas.List.{append-nil}
 use Rattle.std.specs.Prelude.{bytes_eq}
 use Rattle.std.specs.List.{list_all}
 use Rattle.std.proofs.lemmas.List.Sums.{common_prefix_len-le}
-use mathlib.Core.Bool.{true≢false}
 use Rattle.iref_grammar.specs.Rules.{Text}
 use Rattle.iref_grammar.specs.Texts.{is_empty, all_but_last}
-use Rattle.iref_grammar.specs.PathValue.{PathValue, is_one_empty}
+use Rattle.iref_grammar.specs.PathValue.{is_one_empty}
 use Rattle.iref_grammar.specs.Contexts.{alone}
 use Rattle.iref_model.specs.Guard.{guarded}
 use Rattle.iref_model.specs.NormalList.{is_dot_dot}
-use Rattle.iref_model.specs.Relative.{last_or_empty}
 use Rattle.iref_model.proofs.JoinedLemmas.{climbs}
 use Rattle.iref_relativized.specs.Relativized.{is_climb, shortened}
 use Rattle.iref_relativized.proofs.WalkLemmas.{climb-is}
 use Rattle.iref_relativized.proofs.WeightLemmas.{weight, weight-append, weight-climbs, weight-drop}
 use Rattle.iref_relativized.proofs.StepsLemmas.{common, steps_from, all_but_last-append, last-append, length-front}
-use Rattle.iref_relativized.proofs.AddedLemmas.{guard_weighs}
+use Rattle.iref_relativized.proofs.AddedLemmas.{guarded_in, guard_weighs}
 
 -- what a relative list weighs behind its guard
 abbrev pub guarded_weight : List Text → ℕ
-guarded_weight list = weight (guarded alone (record { absolute = false; segments = list })).segments
+guarded_weight list = guarded_in alone false list
 
 pub guarded-climbs : (n : ℕ) (list : List Text) → guarded_weight (climbs (suc n) ++ list) ≡ weight (climbs (suc n) ++ list)
 unfolding guarded

@@ -1,5 +1,5 @@
 -- The laws of the answer, for references that are read from their texts.
-use Rattle.std.proofs.Common.{◌≡◌, ◌≢◌, ◌≤◌, true, length, sym, ◌∙◌, ap, subst, arith, Some, None}
+use Rattle.std.proofs.Common.{◌≡◌, ◌≢◌, ◌≤◌, true, length, ◌∙◌, subst, Some, None}
 use Rattle.iref_grammar.specs.Characters.{CharTests}
 use Rattle.iref_grammar.specs.Rules.{Text}
 use Rattle.iref_grammar.specs.Reference.{ReferenceValue, spell, read_reference, is_readable, is_reference}

@@ -1,5 +1,5 @@
 -- Where a list of segments leads from a directory: how many `..` it leaves open, and what stays of it.
-use Rattle.std.proofs.Common.{◌≡◌, ℕ, zero, suc, ◌+◌, ◌-◌, ◌≤◌, Bool, true, false, not, cond, ◌&&◌, List, [], ◌∷◌, ◌++◌, length, refl, sym, ◌∙◌, ap, arith, codes, append_assoc}
+use Rattle.std.proofs.Common.{◌≡◌, ℕ, zero, suc, ◌+◌, ◌-◌, Bool, true, false, not, cond, ◌&&◌, List, [], ◌∷◌, ◌++◌, length, refl, sym, ◌∙◌, ap, arith, codes, append_assoc}
 use Rattle.std.proofs.lemmas.Grind.{common_steps}
 use Rattle.std.specs.List.{list_all}
 use Rattle.std.specs.Cmp.Lexicographic.{bytes_decides}
@@ -8,9 +8,9 @@ use mathlib.Core.Bool.{true≢false}
 use Rattle.iref_grammar.specs.Rules.{Text}
 use Rattle.iref_grammar.specs.Texts.{is_empty, all_but_last}
 use Rattle.iref_grammar.specs.PathValue.{PathValue, is_one_empty}
-use Rattle.iref_model.specs.NormalList.{is_name, is_dot_dot, staying_names, ends_in_dots, closed, without_lone_empty, normal_segments, open_parents}
+use Rattle.iref_model.specs.NormalList.{is_dot_dot, staying_names, ends_in_dots, closed, without_lone_empty, normal_segments, open_parents}
 use Rattle.iref_model.specs.Relative.{last_or_empty}
-use Rattle.iref_model.proofs.JoinedLemmas.{without_last, open-append, staying-append, are_names, all_first, climbs, open-climbs, staying-climbs, are_names-staying}
+use Rattle.iref_model.proofs.JoinedLemmas.{without_last, open-append, staying-append, are_names, all_first, climbs, open-climbs, staying-climbs}
 use Rattle.iref_model.proofs.SettledLemmas.{ends-append, last_stays, staying-settled, open-settled, leading, normal-is}
 use Rattle.iref_model.proofs.LeadingLemmas.{divided_last}
 use Rattle.iref_relativized.specs.Relativized.{is_climb, shortened}
@@ -66,9 +66,6 @@ same_normal absolute directory (s ∷ rest) [] alike = absurd (true≢false alik
 same_normal absolute directory (s ∷ rest) (t ∷ more) alike =
     normal-walk absolute directory s rest ∙ (λ i. without_lone_empty (reached absolute directory (alike.opened i) (alike.list i))) ∙ sym (normal-walk absolute directory t more)
 
-pub alike-trans : (a b c : List Text) → LeadAlike a b → LeadAlike b c → LeadAlike a c
-alike-trans a b c p q = record { some = p.some; other_some = q.other_some; opened = p.opened ∙ q.opened; list = p.list ∙ q.list }
-
 pub alike-refl : (a : List Text) → is_empty a ≡ false → LeadAlike a a
 alike-refl a h = record { some = h; other_some = h; opened = refl; list = refl }
 
@@ -85,9 +82,6 @@ alike-here = record { some = refl; other_some = refl; opened = refl; list = refl
 ends-climbs : (n : ℕ) → ends_in_dots (climbs (suc n)) ≡ true
 ends-climbs zero = refl
 ends-climbs (suc n) = ends-climbs n
-
-is_empty-climb : (n : ℕ) (list : List Text) → is_empty (climbs (suc n) ++ list) ≡ false
-is_empty-climb n list = refl
 
 -- what a walk of `..` and names adds
 pub ended-names : (n : ℕ) (s : Text) (names : List Text) → are_names (s ∷ names) ≡ true → ended (climbs n ++ s ∷ names) ≡ s ∷ names
@@ -114,9 +108,9 @@ some_length : (list : List Text) → is_empty list ≡ false → (n : ℕ) × (l
 some_length [] h = absurd (true≢false h)
 some_length (s ∷ list) h = (length list, refl)
 
-no_text : (s : Text) → is_empty s ≡ true → s ≡ []
-no_text [] h = refl
-no_text (c ∷ cs) h = absurd (true≢false (sym h))
+pub nothing-in : {A : Type 0} (list : List A) → is_empty list ≡ true → list ≡ []
+nothing-in [] h = refl
+nothing-in (x ∷ list) h = absurd (true≢false (sym h))
 
 -- a list of `..` and an empty segment, written out
 pub climb-is : (list : List Text) → is_climb list ≡ true → (n : ℕ) × (list ≡ climbs (suc n) ++ [] ∷ []) × (all_but_last list ≡ climbs (suc n))
@@ -128,7 +122,7 @@ climb-is (s ∷ rest) h =
     let some : is_empty (all_but_last list) ≡ false = grind (arith, inner.1) in
     let size = some_length (all_but_last list) some in
     let front : all_but_last list ≡ climbs (suc size.0) = all_climbs (all_but_last list) outer.1 ∙ ap climbs size.1 in
-    (size.0, sym (divided_last s rest) ∙ (λ i. front i ++ no_text (last_or_empty list) inner.0 i ∷ []), front)
+    (size.0, sym (divided_last s rest) ∙ (λ i. front i ++ nothing-in (last_or_empty list) inner.0 i ∷ []), front)
 
 one_empty-is : (list : List Text) → is_one_empty list ≡ true → list ≡ [] ∷ []
 one_empty-is [] h = absurd (true≢false (sym h))

@@ -1,11 +1,11 @@
 -- How long the text of a list of segments is.
-use Rattle.std.proofs.Common.{◌≡◌, ℕ, zero, suc, ◌+◌, ◌-◌, ◌*◌, ◌≤◌, ◌<◌, Bool, true, false, not, cond, ◌&&◌, List, [], ◌∷◌, ◌++◌, length, drop, refl, sym, ◌∙◌, ap, arith, codes, length-append, ◌⊎◌, inl, inr}
+use Rattle.std.proofs.Common.{◌≡◌, ℕ, zero, suc, ◌+◌, ◌-◌, ◌*◌, ◌≤◌, Bool, true, false, not, cond, ◌&&◌, List, [], ◌∷◌, ◌++◌, length, drop, refl, sym, ◌∙◌, ap, arith, codes, length-append, ◌⊎◌, inl, inr}
 use Rattle.std.proofs.lemmas.Grind.{common_steps}
 use Rattle.std.proofs.lemmas.Bool.{and_parts}
 use Rattle.std.proofs.lemmas.Bool.Decides.{nat_tests}
 use Rattle.std.proofs.lemmas.List.Folds.{list_all-append}
 use Rattle.std.specs.Prelude.{◌==◌}
-use Rattle.std.specs.List.{list_all, join_with_byte}
+use Rattle.std.specs.List.{join_with_byte}
 use Rattle.std.specs.Cmp.Lexicographic.{bytes_decides}
 use mathlib.Core.Bool.{true≢false}
 use Rattle.iref_grammar.specs.Rules.{Text}
@@ -16,7 +16,11 @@ use Rattle.iref_model.specs.NormalList.{is_name, is_dot, is_dot_dot, staying_nam
 use Rattle.iref_model.proofs.JoinedLemmas.{staying-cons, climbs, are_names, are_names-staying}
 use Rattle.iref_model.proofs.SettledLemmas.{last_stays}
 use Rattle.iref_model.proofs.FitsLemmas.{is_empty-snoc}
-use Rattle.iref_relativized.proofs.WalkLemmas.{ended}
+use Rattle.iref_relativized.proofs.WalkLemmas.{ended, nothing-in}
+
+-- a path by its flag and its list
+abbrev pub path : Bool → List Text → PathValue
+path absolute list = record { absolute = absolute; segments = list }
 
 -- the bytes of the segments, and one for each
 abbrev pub weight : List Text → ℕ
@@ -47,14 +51,14 @@ length-segments : (list : List Text) → length (join_with_byte slash list) ≡ 
 length-segments [] = refl
 length-segments (s ∷ rest) = let all = length-join s rest in omega arith
 
-pub length-path : (absolute : Bool) (list : List Text) → length (spell_path (record { absolute = absolute; segments = list })) ≡ cond absolute 1 0 + (weight list - 1)
+pub length-path : (absolute : Bool) (list : List Text) → length (spell_path (path absolute list)) ≡ cond absolute 1 0 + (weight list - 1)
 unfolding spell_path
 length-path true list = let all = length-segments list in omega arith
 length-path false list = let all = length-segments list in omega arith
 
 -- of paths with one flag, the one with the lighter list is not longer
 pub lighter-path : (absolute : Bool) (one other : List Text) → weight one ≤ weight other
-    → length (spell_path (record { absolute = absolute; segments = one })) ≤ length (spell_path (record { absolute = absolute; segments = other }))
+    → length (spell_path (path absolute one)) ≤ length (spell_path (path absolute other))
 lighter-path absolute one other h = let a = length-path absolute one in let b = length-path absolute other in omega arith
 
 -- ---- what a walk weighs at least
@@ -86,17 +90,13 @@ dots_weigh ([] ∷ []) h = absurd (true≢false (sym h))
 dots_weigh ((c ∷ s) ∷ []) h = omega arith
 dots_weigh (s ∷ t ∷ rest) h = let later = dots_weigh (t ∷ rest) h in omega arith
 
-no_weight : (list : List Text) → is_empty list ≡ true → weight list ≡ 0
-no_weight [] h = refl
-no_weight (s ∷ list) h = absurd (true≢false (sym h))
-
 -- the only name that stays stands first
 first_stays : (parent dot : Bool) (n size : ℕ) (s : Text) (list : List Text) → is_empty (cond ((not dot && not parent) && (n == 0)) (s ∷ list) list) ≡ false → is_empty list ≡ true → 2 ≤ size
     → weight (cond ((not dot && not parent) && (n == 0)) (s ∷ list) list) + 3 * counted parent (not dot && not parent) n + 2 ≤ length s + 1 + size
 first_stays true true n size s list some none h = absurd (true≢false (sym none ∙ some))
 first_stays true false n size s list some none h = absurd (true≢false (sym none ∙ some))
 first_stays false true n size s list some none h = absurd (true≢false (sym none ∙ some))
-first_stays false false n size s list some none h = let nothing = no_weight list none in grind (arith, nat_tests)
+first_stays false false n size s list some none h = let nothing = ap weight (nothing-in list none) in grind (arith, nat_tests)
 
 only_first : (s : Text) (rest : List Text) → is_empty (staying_names (s ∷ rest)) ≡ false → is_empty (staying_names rest) ≡ true → 2 ≤ weight rest
     → weight (staying_names (s ∷ rest)) + 3 * open_parents (s ∷ rest) + 2 ≤ length s + 1 + weight rest
@@ -121,14 +121,10 @@ ended_walk_weighs (s ∷ t ∷ rest) ends some = by (is_empty (staying_names (t 
 abbrev pub adds_nothing : List Text → Bool
 adds_nothing walk = ends_in_dots walk && is_empty (staying_names walk)
 
-no_segments : (list : List Text) → is_empty list ≡ true → list ≡ []
-no_segments [] h = refl
-no_segments (s ∷ list) h = absurd (true≢false (sym h))
-
 pub nothing-added : (walk : List Text) → adds_nothing walk ≡ true → ended walk ≡ [] ∷ []
 nothing-added walk h =
     let both = and_parts (ends_in_dots walk) (is_empty (staying_names walk)) h in
-    λ i. cond (both.0 i) (no_segments (staying_names walk) both.1 i ++ [] ∷ []) (staying_names walk)
+    λ i. cond (both.0 i) (nothing-in (staying_names walk) both.1 i ++ [] ∷ []) (staying_names walk)
 
 pub added_weighs : (walk : List Text) → adds_nothing walk ≡ false → weight (ended walk) + 3 * open_parents walk ≤ weight walk
 added_weighs walk h = grind (arith, common_steps, weight-append, walk_weighs, ended_walk_weighs)
