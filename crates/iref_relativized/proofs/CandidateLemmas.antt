@@ -10,7 +10,7 @@ use Rattle.iref_model.specs.Guard.{guarded}
 use Rattle.iref_model.specs.NormalList.{normal, normal_segments}
 use Rattle.iref_model.specs.Relative.{with_only_path}
 use Rattle.iref_model.proofs.RelativeLemmas.{parts}
-use Rattle.iref_relativized.specs.Relativized.{same_scheme, same_site, same_document, same_query, empty_path, relative_path, is_climb, only_if, fragment_alone, climb_shortened, candidates}
+use Rattle.iref_relativized.specs.Relativized.{same_scheme_text, same_authority_text, same_path_text, same_query_text, empty_path, relative_path, is_climb, only_if, fragment_alone, climb_shortened, candidates}
 use Rattle.iref_relativized.proofs.ChoiceLemmas.{any_only, any_left, any_right}
 
 -- a shorter path makes a shorter reference
@@ -21,19 +21,19 @@ spell-lighter scheme authority p other query fragment h = simp length-append (om
 
 module _ (test : ReferenceValue → Bool) (target base : ReferenceValue) where
   abbrev fragments : List ReferenceValue
-  fragments = only_if (same_document target base && same_query target base) (fragment_alone target)
+  fragments = only_if (same_path_text target base && same_query_text target base) (fragment_alone target)
 
   abbrev tails : List ReferenceValue
-  tails = only_if (same_document target base && is_some target.query) (with_only_path empty_path target)
+  tails = only_if (same_path_text target base && is_some target.query) (with_only_path empty_path target)
 
   abbrev relatives : List ReferenceValue
-  relatives = only_if (same_site target base) (with_only_path (relative_path target base) target)
+  relatives = only_if (same_authority_text target base) (with_only_path (relative_path target base) target)
 
   abbrev absolutes : List ReferenceValue
-  absolutes = only_if (same_site target base && target.path.absolute) (with_only_path (guarded alone (normal target.path)) target)
+  absolutes = only_if (same_authority_text target base && target.path.absolute) (with_only_path (guarded alone (normal target.path)) target)
 
   abbrev authorities : List ReferenceValue
-  authorities = only_if (same_scheme target base && is_some target.authority) (record target { scheme = None })
+  authorities = only_if (same_scheme_text target base && is_some target.authority) (record target { scheme = None })
 
   abbrev wholes : List ReferenceValue
   wholes = only_if true target
@@ -56,20 +56,20 @@ module _ (test : ReferenceValue → Bool) (target base : ReferenceValue) where
   from_second : list_any test (fragments ++ tails) ≡ true → list_any test (candidates target base) ≡ true
   from_second h = from_third (any_left test (fragments ++ tails) relatives h)
 
-  pub any-fragment : (same_document target base && same_query target base) ≡ true → test (fragment_alone target) ≡ true → list_any test (candidates target base) ≡ true
-  any-fragment h k = from_second (any_left test fragments tails (any_only test (same_document target base && same_query target base) (fragment_alone target) h k))
+  pub any-fragment : (same_path_text target base && same_query_text target base) ≡ true → test (fragment_alone target) ≡ true → list_any test (candidates target base) ≡ true
+  any-fragment h k = from_second (any_left test fragments tails (any_only test (same_path_text target base && same_query_text target base) (fragment_alone target) h k))
 
-  pub any-tail : (same_document target base && is_some target.query) ≡ true → test (with_only_path empty_path target) ≡ true → list_any test (candidates target base) ≡ true
-  any-tail h k = from_second (any_right test fragments tails (any_only test (same_document target base && is_some target.query) (with_only_path empty_path target) h k))
+  pub any-tail : (same_path_text target base && is_some target.query) ≡ true → test (with_only_path empty_path target) ≡ true → list_any test (candidates target base) ≡ true
+  any-tail h k = from_second (any_right test fragments tails (any_only test (same_path_text target base && is_some target.query) (with_only_path empty_path target) h k))
 
-  pub any-relative : same_site target base ≡ true → test (with_only_path (relative_path target base) target) ≡ true → list_any test (candidates target base) ≡ true
-  any-relative h k = from_third (any_right test (fragments ++ tails) relatives (any_only test (same_site target base) (with_only_path (relative_path target base) target) h k))
+  pub any-relative : same_authority_text target base ≡ true → test (with_only_path (relative_path target base) target) ≡ true → list_any test (candidates target base) ≡ true
+  any-relative h k = from_third (any_right test (fragments ++ tails) relatives (any_only test (same_authority_text target base) (with_only_path (relative_path target base) target) h k))
 
-  pub any-absolute : (same_site target base && target.path.absolute) ≡ true → test (with_only_path (guarded alone (normal target.path)) target) ≡ true → list_any test (candidates target base) ≡ true
-  any-absolute h k = from_fourth (any_right test (fragments ++ tails ++ relatives) absolutes (any_only test (same_site target base && target.path.absolute) (with_only_path (guarded alone (normal target.path)) target) h k))
+  pub any-absolute : (same_authority_text target base && target.path.absolute) ≡ true → test (with_only_path (guarded alone (normal target.path)) target) ≡ true → list_any test (candidates target base) ≡ true
+  any-absolute h k = from_fourth (any_right test (fragments ++ tails ++ relatives) absolutes (any_only test (same_authority_text target base && target.path.absolute) (with_only_path (guarded alone (normal target.path)) target) h k))
 
-  pub any-authority : (same_scheme target base && is_some target.authority) ≡ true → test (record target { scheme = None }) ≡ true → list_any test (candidates target base) ≡ true
-  any-authority h k = from_fifth (any_right test (fragments ++ tails ++ relatives ++ absolutes) authorities (any_only test (same_scheme target base && is_some target.authority) (record target { scheme = None }) h k))
+  pub any-authority : (same_scheme_text target base && is_some target.authority) ≡ true → test (record target { scheme = None }) ≡ true → list_any test (candidates target base) ≡ true
+  any-authority h k = from_fifth (any_right test (fragments ++ tails ++ relatives ++ absolutes) authorities (any_only test (same_scheme_text target base && is_some target.authority) (record target { scheme = None }) h k))
 
   pub any-whole : test target ≡ true → list_any test (candidates target base) ≡ true
   any-whole k = from_sixth (any_right test (fragments ++ tails ++ relatives ++ absolutes ++ authorities) wholes (any_only test true target refl k))

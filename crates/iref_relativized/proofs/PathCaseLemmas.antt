@@ -17,7 +17,7 @@ use Rattle.iref_model.specs.Resolution.{resolved, merged}
 use Rattle.iref_model.proofs.RelativeLemmas.{parts}
 use Rattle.iref_model.proofs.SettledLemmas.{normal_again, kept-is}
 use Rattle.iref_model.proofs.NormalPathLemmas.{normal-guarded, normal-normalized}
-use Rattle.iref_relativized.specs.Relativized.{authority_text, query_text, same_site, empty_path, base_directory, steps_by_text, shortened, candidates}
+use Rattle.iref_relativized.specs.Relativized.{authority_text, query_text, same_authority_text, empty_path, base_directory, steps_by_text, shortened, candidates}
 use Rattle.iref_relativized.proofs.WalkLemmas.{LeadAlike, alike-refl, alike-dot, same_normal}
 use Rattle.iref_relativized.proofs.AddedLemmas.{guarded-same}
 use Rattle.iref_relativized.proofs.StepsLemmas.{same_text}
@@ -29,11 +29,11 @@ use Rattle.iref_relativized.proofs.CandidateLemmas.{spell-lighter, any-fragment,
 use Rattle.iref_relativized.proofs.FullCaseLemmas.{IsServed, flag_kept}
 
 -- what is compared of target and base, where the target has the base's own
-site_here : (base : ReferenceValue) (p : PathValue) (query fragment : Option Text) → same_site (parts base.scheme base.authority p query fragment) base ≡ true
-site_here base p query fragment = λ i. same_text (part_then (colon ∷ []) base.scheme) i && same_text (authority_text base) i
+authority_here : (base : ReferenceValue) (p : PathValue) (query fragment : Option Text) → same_authority_text (parts base.scheme base.authority p query fragment) base ≡ true
+authority_here base p query fragment = λ i. same_text (part_then (colon ∷ []) base.scheme) i && same_text (authority_text base) i
 
-document_text : (base : ReferenceValue) (p : PathValue) → p ≡ base.path → bytes_eq (spell_path p) (spell_path base.path) ≡ true
-document_text base p e = (λ i. bytes_eq (spell_path (e i)) (spell_path base.path)) ∙ same_text (spell_path base.path)
+path_here : (base : ReferenceValue) (p : PathValue) → p ≡ base.path → bytes_eq (spell_path p) (spell_path base.path) ≡ true
+path_here base p e = (λ i. bytes_eq (spell_path (e i)) (spell_path base.path)) ∙ same_text (spell_path base.path)
 
 -- ---- the empty path
 
@@ -47,13 +47,13 @@ module _ (base : ReferenceValue) (fit : fits (context_of base) base.path ≡ tru
       let s = parts None None empty_path None fragment in
       let target = parts base.scheme base.authority (guarded (context_of base) base.path) base.query fragment in
       any-fragment (serves target base (length (spell s))) target base
-      (λ i. (site_here base (guarded (context_of base) base.path) base.query fragment i && document_text base (guarded (context_of base) base.path) own_path i) && same_text (query_text base) i)
+      (λ i. (authority_here base (guarded (context_of base) base.path) base.query fragment i && path_here base (guarded (context_of base) base.path) own_path i) && same_text (query_text base) i)
       (serves-from target base (length (spell s)) s refl (omega arith))
   empty_served (Some query) =
       let s = parts None None empty_path (Some query) fragment in
       let target = parts base.scheme base.authority (guarded (context_of base) base.path) (Some query) fragment in
       any-tail (serves target base (length (spell s))) target base
-      (λ i. (site_here base (guarded (context_of base) base.path) (Some query) fragment i && document_text base (guarded (context_of base) base.path) own_path i) && true)
+      (λ i. (authority_here base (guarded (context_of base) base.path) (Some query) fragment i && path_here base (guarded (context_of base) base.path) own_path i) && true)
       (serves-from target base (length (spell s)) s refl (omega arith))
 
 -- ---- a path from the root
@@ -85,7 +85,7 @@ module _ (base : ReferenceValue) (query fragment : Option Text) where
       let leads : normal (path true (guarded alone (normal p)).segments) ≡ normal p = ap normal (sym (guarded-as true (normal_segments p))) ∙ normal-guarded alone (normal p) refl ∙ normal_again p in
       let exact : resolved base (only (path true (guarded alone (normal p)).segments)) ≡ target = ap placed leads in
       let shorter : length (spell (only (guarded alone (normal p)))) ≤ length (spell (only p)) = spell-lighter None None (guarded alone (normal p)) p query fragment (not_longer alone true (normal_segments p) segments (flag-alone true (normal_segments p)) (normal_light-root alone segments fit)) in
-      any-absolute (serves target base (length (spell (only p)))) target base (λ i. site_here base target.path query fragment i && flag i)
+      any-absolute (serves target base (length (spell (only p)))) target base (λ i. authority_here base target.path query fragment i && flag i)
       (serves-from target base (length (spell (only p))) (only (guarded alone (normal target.path))) ((λ i. resolved base (only (answer i))) ∙ exact) ((rw same shorter)))
 
 -- ---- a relative path
@@ -172,7 +172,7 @@ module _ (base : ReferenceValue) (follows : follows_authority (context_of base) 
   shorter = spell-lighter None None (guarded alone (path false list)) walk query fragment (not_longer alone false list (s ∷ rest) (flag-alone false list) best.light)
 
   served_target : list_any (serves target base (length (spell (only_path walk)))) (candidates target base) ≡ true
-  served_target = any-relative (serves target base (length (spell (only_path walk)))) target base (site_here base target.path query fragment) (serves-from target base (length (spell (only_path walk))) (only_path (guarded alone (path false list))) exact shorter)
+  served_target = any-relative (serves target base (length (spell (only_path walk)))) target base (authority_here base target.path query fragment) (serves-from target base (length (spell (only_path walk))) (only_path (guarded alone (path false list))) exact shorter)
 
   pub relative_served : IsServed base (only_path walk)
   unfolding resolved

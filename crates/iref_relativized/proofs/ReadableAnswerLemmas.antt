@@ -22,7 +22,7 @@ use Rattle.iref_model.proofs.JoinedLemmas.{climbs}
 use Rattle.iref_model.proofs.LeadingLemmas.{all_drop, all_last}
 use Rattle.iref_model.proofs.NormalGrammarLemmas.{takes_dots}
 use Rattle.iref_model.proofs.StepSegmentLemmas.{TakesDots, normal-in, guarded-in, in-shortened}
-use Rattle.iref_relativized.specs.Relativized.{same_scheme, same_site, same_document, same_query, empty_path, base_directory, steps_by_text, is_climb, shortened, relative_path, only_if, fragment_alone, climb_shortened, candidates, relativized}
+use Rattle.iref_relativized.specs.Relativized.{same_scheme_text, same_authority_text, same_path_text, same_query_text, empty_path, base_directory, steps_by_text, is_climb, shortened, relative_path, only_if, fragment_alone, climb_shortened, candidates, relativized}
 use Rattle.iref_relativized.proofs.WalkLemmas.{climb-is}
 use Rattle.iref_relativized.proofs.NormalWeightLemmas.{normal-none}
 use Rattle.iref_relativized.proofs.ChoiceLemmas.{answer_passes}
@@ -131,11 +131,11 @@ module _ (set : CharTests) (target base : ReferenceValue) (readable : is_readabl
 
   all_pass : list_all passes (candidates target base) ≡ true
   all_pass =
-      let a = passes_if (same_document target base && same_query target base) (fragment_alone target) (λ h. fragment-passes) in
-      let b = passes_if (same_document target base && is_some target.query) (with_only_path empty_path target) (λ h. only_path-passes empty_path refl refl) in
-      let c = passes_if (same_site target base) (with_only_path (relative_path target base) target) (λ h. relative-passes) in
-      let d = passes_if (same_site target base && target.path.absolute) (with_only_path (guarded alone (normal target.path)) target) (λ h. guarded-passes (normal target.path) normal-passes) in
-      let e = passes_if (same_scheme target base && is_some target.authority) (record target { scheme = None }) (λ h. authority-passes (and_parts _ _ h).1) in
+      let a = passes_if (same_path_text target base && same_query_text target base) (fragment_alone target) (λ h. fragment-passes) in
+      let b = passes_if (same_path_text target base && is_some target.query) (with_only_path empty_path target) (λ h. only_path-passes empty_path refl refl) in
+      let c = passes_if (same_authority_text target base) (with_only_path (relative_path target base) target) (λ h. relative-passes) in
+      let d = passes_if (same_authority_text target base && target.path.absolute) (with_only_path (guarded alone (normal target.path)) target) (λ h. guarded-passes (normal target.path) normal-passes) in
+      let e = passes_if (same_scheme_text target base && is_some target.authority) (record target { scheme = None }) (λ h. authority-passes (and_parts _ _ h).1) in
       let f = passes_if true target (λ h. readable) in
       let g = passes_if (not target.path.absolute && is_climb (normal_segments target.path)) (climb_shortened target) climb-passes in
       simp list_all-append (λ i. (((((a i && b i) && c i) && d i) && e i) && f i) && g i)

@@ -15,25 +15,25 @@ use Rattle.iref_model.specs.Resolution.{resolved, merged}
 
 -- ---- what target and base have in common, by their texts
 
-abbrev pub same_scheme : ReferenceValue → ReferenceValue → Bool
-same_scheme target base = bytes_eq (part_then (colon ∷ []) target.scheme) (part_then (colon ∷ []) base.scheme)
+abbrev pub same_scheme_text : ReferenceValue → ReferenceValue → Bool
+same_scheme_text target base = bytes_eq (part_then (colon ∷ []) target.scheme) (part_then (colon ∷ []) base.scheme)
 
 abbrev pub authority_text : ReferenceValue → Text
 authority_text r = then_part (codes "//") (option_map spell_authority r.authority)
 
 -- the scheme and the authority
-abbrev pub same_site : ReferenceValue → ReferenceValue → Bool
-same_site target base = same_scheme target base && bytes_eq (authority_text target) (authority_text base)
+abbrev pub same_authority_text : ReferenceValue → ReferenceValue → Bool
+same_authority_text target base = same_scheme_text target base && bytes_eq (authority_text target) (authority_text base)
 
 -- the scheme, the authority and the path
-abbrev pub same_document : ReferenceValue → ReferenceValue → Bool
-same_document target base = same_site target base && bytes_eq (spell_path target.path) (spell_path base.path)
+abbrev pub same_path_text : ReferenceValue → ReferenceValue → Bool
+same_path_text target base = same_authority_text target base && bytes_eq (spell_path target.path) (spell_path base.path)
 
 abbrev pub query_text : ReferenceValue → Text
 query_text r = then_part (question_mark ∷ []) r.query
 
-abbrev pub same_query : ReferenceValue → ReferenceValue → Bool
-same_query target base = bytes_eq (query_text target) (query_text base)
+abbrev pub same_query_text : ReferenceValue → ReferenceValue → Bool
+same_query_text target base = bytes_eq (query_text target) (query_text base)
 
 -- ---- the relative path
 
@@ -79,11 +79,11 @@ climb_shortened target = record target { path = record { absolute = false; segme
 -- a shortest reference is among these, if any reference resolves to the target's text
 abbrev pub candidates : ReferenceValue → ReferenceValue → List ReferenceValue
 candidates target base =
-    only_if (same_document target base && same_query target base) (fragment_alone target)
-    ++ only_if (same_document target base && is_some target.query) (with_only_path empty_path target)
-    ++ only_if (same_site target base) (with_only_path (relative_path target base) target)
-    ++ only_if (same_site target base && target.path.absolute) (with_only_path (guarded alone (normal target.path)) target)
-    ++ only_if (same_scheme target base && is_some target.authority) (record target { scheme = None })
+    only_if (same_path_text target base && same_query_text target base) (fragment_alone target)
+    ++ only_if (same_path_text target base && is_some target.query) (with_only_path empty_path target)
+    ++ only_if (same_authority_text target base) (with_only_path (relative_path target base) target)
+    ++ only_if (same_authority_text target base && target.path.absolute) (with_only_path (guarded alone (normal target.path)) target)
+    ++ only_if (same_scheme_text target base && is_some target.authority) (record target { scheme = None })
     ++ only_if true target
     ++ only_if (not target.path.absolute && is_climb (normal_segments target.path)) (climb_shortened target)
 
