@@ -18,7 +18,7 @@ use Rattle.iref_relativized.proofs.ChoiceLemmas.{serves, served-some, served-sho
 use Rattle.iref_relativized.proofs.FullCaseLemmas.{IsServed, scheme_served, authority_served}
 use Rattle.iref_relativized.proofs.PathCaseLemmas.{empty_served, root_served, relative_served}
 
-readable-fits : (set : CharTests) (r : ReferenceValue) → is_readable set r ≡ true → fits (context_of r) r.path ≡ true
+pub readable-fits : (set : CharTests) (r : ReferenceValue) → is_readable set r ≡ true → fits (context_of r) r.path ≡ true
 readable-fits set r readable = let own = readable_parts set r readable in λ i. own.follows i && own.reads i
 
 -- by the row of resolution (section 5.2.2)
@@ -34,7 +34,7 @@ served set base s readable_base readable = by s.scheme s.authority s.path.absolu
     by None None false (t ∷ rest) query fragment fit = relative_served base (readable_parts set base readable_base).follows query fragment t rest fit
 
 -- readable references with one text are one
-one_value : (set : CharTests) → AreAboveAscii set → (r s : ReferenceValue) → is_readable set r ≡ true → is_readable set s ≡ true → spell r ≡ spell s → r ≡ s
+pub one_value : (set : CharTests) → AreAboveAscii set → (r s : ReferenceValue) → is_readable set r ≡ true → is_readable set s ≡ true → spell r ≡ spell s → r ≡ s
 one_value set above r s h k e = sym (readable_read set above r h) ∙ ap read_reference e ∙ readable_read set above s k
 
 -- what leads to the target's text leads to the target

@@ -39,7 +39,7 @@ pub flag_kept : (context : PathContext) (p : PathValue) → follows_authority co
 flag_kept context p h = ap (λ (q : PathValue). q.absolute) (normal-normalized context p h)
 
 -- some `..` lead where some `..` and an empty segment do
-climb-normal : (list : List Text) → is_climb list ≡ true → normal_segments (path false (all_but_last list)) ≡ normal_segments (path false list)
+pub climb-normal : (list : List Text) → is_climb list ≡ true → normal_segments (path false (all_but_last list)) ≡ normal_segments (path false list)
 climb-normal list h = let is = climb-is list h in same_normal false [] (all_but_last list) list (climb_alike list (all_but_last list) is.0 is.1 is.2)
 
 -- ---- a scheme

@@ -11,7 +11,10 @@ pub mod RelativePathLemmas
 pub mod ChoiceLemmas
 pub mod CandidateLemmas
 pub mod FullCaseLemmas
+pub mod PlacedLemmas
 pub mod PathCaseLemmas
 pub mod CoveredLemmas
 pub mod ReadableAnswerLemmas
 pub mod TextLawLemmas
+pub mod ReachableLemmas
+pub mod LeadingCandidateLemmas

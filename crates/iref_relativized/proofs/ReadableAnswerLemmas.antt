@@ -67,7 +67,7 @@ climb_stands has_scheme true false (s ∷ rest) follows relative climb = absurd 
 -- ---- the candidates
 
 module _ (set : CharTests) (target base : ReferenceValue) (readable : is_readable set target ≡ true) where
-  abbrev passes : ReferenceValue → Bool
+  abbrev pub passes : ReferenceValue → Bool
   passes r = is_readable set r
 
   passes_if : (condition : Bool) (r : ReferenceValue) → (condition ≡ true → passes r ≡ true) → list_all passes (only_if condition r) ≡ true
@@ -78,28 +78,28 @@ module _ (set : CharTests) (target base : ReferenceValue) (readable : is_readabl
   segments = (readable_parts set target readable).segments
 
   -- a path alone, with the target's query and fragment
-  only_path-passes : (p : PathValue) → list_all (is_segment set) p.segments ≡ true → fits alone p ≡ true → passes (with_only_path p target) ≡ true
+  pub only_path-passes : (p : PathValue) → list_all (is_segment set) p.segments ≡ true → fits alone p ≡ true → passes (with_only_path p target) ≡ true
   only_path-passes p own fit =
       let both = and_parts (follows_authority alone p) (reads_as_path alone p) fit in
       let has = readable_parts set target readable in
       readable_from set (with_only_path p target) (record { scheme = refl; authority = refl; segments = own; query = has.query; fragment = has.fragment; follows = both.0; reads = both.1 })
 
-  fragment-passes : passes (fragment_alone target) ≡ true
+  pub fragment-passes : passes (fragment_alone target) ≡ true
   fragment-passes = readable_from set (fragment_alone target) (record { scheme = refl; authority = refl; segments = refl; query = refl; fragment = (readable_parts set target readable).fragment; follows = refl; reads = refl })
 
-  normal-passes : list_all (is_segment set) (normal_segments target.path) ≡ true
+  pub normal-passes : list_all (is_segment set) (normal_segments target.path) ≡ true
   normal-passes = normal-in (is_segment set) (takes_dots set) target.path segments
 
-  guarded-passes : (p : PathValue) → list_all (is_segment set) p.segments ≡ true → passes (with_only_path (guarded alone p) target) ≡ true
+  pub guarded-passes : (p : PathValue) → list_all (is_segment set) p.segments ≡ true → passes (with_only_path (guarded alone p) target) ≡ true
   guarded-passes p own = only_path-passes (guarded alone p) (guarded-in (is_segment set) (takes_dots set) alone p own) (guarded-fits alone p)
 
-  relative-passes : passes (with_only_path (relative_path target base) target) ≡ true
+  pub relative-passes : passes (with_only_path (relative_path target base) target) ≡ true
   relative-passes =
       let steps = steps_by_text (kept_segments (base_directory base)) (normal_segments target.path) in
       guarded-passes (record { absolute = false; segments = shortened steps })
       (in-shortened_list (is_segment set) (takes_dots set) steps (in-steps (is_segment set) (takes_dots set) (kept_segments (base_directory base)) (normal_segments target.path) normal-passes))
 
-  authority-passes : is_some target.authority ≡ true → passes (record target { scheme = None }) ≡ true
+  pub authority-passes : is_some target.authority ≡ true → passes (record target { scheme = None }) ≡ true
   authority-passes some =
       let has = readable_parts set target readable in
       readable_from set (record target { scheme = None })
@@ -113,7 +113,7 @@ module _ (set : CharTests) (target base : ReferenceValue) (readable : is_readabl
         reads = reads_after (is_some target.scheme) (is_some target.authority) target.path some has.reads;
       })
 
-  climb-passes : (not target.path.absolute && is_climb (normal_segments target.path)) ≡ true → passes (climb_shortened target) ≡ true
+  pub climb-passes : (not target.path.absolute && is_climb (normal_segments target.path)) ≡ true → passes (climb_shortened target) ≡ true
   climb-passes h =
       let has = readable_parts set target readable in
       let both = and_parts (not target.path.absolute) (is_climb (normal_segments target.path)) h in

@@ -87,38 +87,55 @@ pub record IsBestWalk (absolute : Bool) (directory list walk : List Text) : Type
   pub leads : normal_segments (path absolute (directory ++ list)) ≡ normal_segments (path absolute (directory ++ walk))
   pub light : guarded_weight list ≤ weight walk
 
-module _ (absolute : Bool) (directory : List Text) (s : Text) (rest : List Text) (t : Text) (more : List Text) (adds : ended (s ∷ rest) ≡ t ∷ more) where
-  parts : IsDivided absolute directory (open_parents (s ∷ rest)) t more
-  parts = divided absolute directory (open_parents (s ∷ rest)) t more (ap are_names (sym adds) ∙ added_names (s ∷ rest))
+-- the steps to a list that is reached with some `..` and some names
+module _ (absolute : Bool) (directory : List Text) (parents : ℕ) (t : Text) (more list : List Text) (are : are_names (t ∷ more) ≡ true) (is : list ≡ without_lone_empty (reached absolute directory parents (t ∷ more))) where
+  parts : IsDivided absolute directory parents t more
+  parts = divided absolute directory parents t more are
 
-  normal-here : normal_segments (path absolute (directory ++ s ∷ rest)) ≡ without_lone_empty (reached absolute directory (open_parents (s ∷ rest)) (t ∷ more))
-  normal-here = normal-walk absolute directory s rest ∙ (λ i. without_lone_empty (reached absolute directory (open_parents (s ∷ rest)) (adds i)))
+  abbrev here : List Text
+  here = steps_from parts.more (climbs parts.higher ++ t ∷ more)
 
-  steps-here : steps_by_text (climbs (leading absolute directory) ++ staying_names directory) (normal_segments (path absolute (directory ++ s ∷ rest))) ≡ steps_from parts.more (climbs parts.higher ++ t ∷ more)
+  steps-here : steps_by_text (climbs (leading absolute directory) ++ staying_names directory) list ≡ here
   steps-here =
-      ap (steps_by_text (climbs (leading absolute directory) ++ staying_names directory)) normal-here
-      ∙ steps-lone (climbs (leading absolute directory) ++ staying_names directory) (reached absolute directory (open_parents (s ∷ rest)) (t ∷ more))
+      ap (steps_by_text (climbs (leading absolute directory) ++ staying_names directory)) is
+      ∙ steps-lone (climbs (leading absolute directory) ++ staying_names directory) (reached absolute directory parents (t ∷ more))
       ∙ (λ i. steps_by_text (parts.directory_is i) (parts.reached_is i))
       ∙ steps-front_some parts.front parts.more (climbs parts.higher ++ t ∷ more) (is_empty-append (climbs parts.higher) t more)
 
-  best_steps : fits alone (path false (s ∷ rest)) ≡ true → IsBestWalk absolute directory (shortened (steps_from parts.more (climbs parts.higher ++ t ∷ more))) (s ∷ rest)
-  best_steps fit =
-      let steps = steps_from parts.more (climbs parts.higher ++ t ∷ more) in
-      let alike : LeadAlike (shortened steps) steps = alike-shortened steps parts.some in
-      record {
-        some = alike.some;
-        leads = same_normal absolute directory (shortened steps) steps alike ∙ normal-some absolute directory steps parts.some ∙ ap without_lone_empty parts.leads ∙ sym normal-here;
-        light = (let same : guarded_weight (shortened (steps_from parts.more (climbs parts.higher ++ ended (s ∷ rest)))) ≡ guarded_weight (shortened steps) = ap (λ l. guarded_weight (shortened (steps_from parts.more (climbs parts.higher ++ l)))) adds in
-            let light = steps_light parts.more parts.higher s rest parts.names parts.fewest fit in omega arith);
-      }
+  alike-here : LeadAlike (shortened here) here
+  alike-here = alike-shortened here parts.some
 
-  best_walk_at : fits alone (path false (s ∷ rest)) ≡ true
-      → IsBestWalk absolute directory (shortened (steps_by_text (climbs (leading absolute directory) ++ staying_names directory) (normal_segments (path absolute (directory ++ s ∷ rest))))) (s ∷ rest)
-  best_walk_at fit = rw steps-here (best_steps fit)
+  here_leads : normal_segments (path absolute (directory ++ shortened here)) ≡ list
+  here_leads = same_normal absolute directory (shortened here) here alike-here ∙ normal-some absolute directory here parts.some ∙ ap without_lone_empty parts.leads ∙ sym is
+
+  -- lead there
+  pub steps_lead_there :
+      (is_empty (shortened (steps_by_text (climbs (leading absolute directory) ++ staying_names directory) list)) ≡ false)
+      × (normal_segments (path absolute (directory ++ shortened (steps_by_text (climbs (leading absolute directory) ++ staying_names directory) list))) ≡ list)
+  steps_lead_there = rw steps-here (alike-here.some, here_leads)
+
+  -- and are not longer than a walk that leads there
+  steps_light_there : (s : Text) (rest : List Text) → parents ≡ open_parents (s ∷ rest) → ended (s ∷ rest) ≡ t ∷ more → fits alone (path false (s ∷ rest)) ≡ true
+      → guarded_weight (shortened (steps_by_text (climbs (leading absolute directory) ++ staying_names directory) list)) ≤ weight (s ∷ rest)
+  steps_light_there s rest opened adds fit =
+      let fewest = parts.fewest in
+      let light = steps_light parts.more parts.higher s rest parts.names (omega arith) fit in
+      let same : guarded_weight (shortened (steps_from parts.more (climbs parts.higher ++ ended (s ∷ rest)))) ≡ guarded_weight (shortened here) = ap (λ l. guarded_weight (shortened (steps_from parts.more (climbs parts.higher ++ l)))) adds in
+      let there : guarded_weight (shortened (steps_by_text (climbs (leading absolute directory) ++ staying_names directory) list)) ≡ guarded_weight (shortened here) = ap (λ l. guarded_weight (shortened l)) steps-here in
+      omega arith
 
 -- the steps that the definition takes
 pub best_walk : (absolute : Bool) (directory : List Text) (s : Text) (rest : List Text) → fits alone (path false (s ∷ rest)) ≡ true
     → IsBestWalk absolute directory (shortened (steps_by_text (climbs (leading absolute directory) ++ staying_names directory) (normal_segments (path absolute (directory ++ s ∷ rest))))) (s ∷ rest)
 best_walk absolute directory s rest fit =
-    let list = some_list (ended (s ∷ rest)) (added_some (s ∷ rest) refl) in
-    best_walk_at absolute directory s rest list.0 list.1 list.2 fit
+    let added = some_list (ended (s ∷ rest)) (added_some (s ∷ rest) refl) in
+    let parents = open_parents (s ∷ rest) in
+    let list = normal_segments (path absolute (directory ++ s ∷ rest)) in
+    let are : are_names (added.0 ∷ added.1) ≡ true = ap are_names (sym added.2) ∙ added_names (s ∷ rest) in
+    let is : list ≡ without_lone_empty (reached absolute directory parents (added.0 ∷ added.1)) = normal-walk absolute directory s rest ∙ (λ i. without_lone_empty (reached absolute directory parents (added.2 i))) in
+    let there = steps_lead_there absolute directory parents added.0 added.1 list are is in
+    record {
+      some = there.0;
+      leads = there.1;
+      light = steps_light_there absolute directory parents added.0 added.1 list are is s rest refl added.2 fit;
+    }
