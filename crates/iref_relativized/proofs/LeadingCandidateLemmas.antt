@@ -1,12 +1,9 @@
 -- Tests of both paths tell which candidates lead to the target's text.
-use Rattle.std.proofs.Common.{◌≡◌, ℕ, ◌≤◌, nat_le, Bool, true, false, not, cond, ◌&&◌, List, [], ◌∷◌, ◌++◌, length, refl, sym, ◌∙◌, ap, subst, arith, Option, Some, None, is_some, option_map, codes}
-use Rattle.std.proofs.lemmas.Grind.{common_steps}
+use Rattle.std.proofs.Common.{◌≡◌, ◌≤◌, nat_le, Bool, true, false, not, cond, ◌&&◌, List, [], ◌∷◌, ◌++◌, refl, sym, ◌∙◌, ap, subst, arith, Option, Some, None, is_some, option_map, codes}
 use Rattle.std.proofs.lemmas.Bool.{and_parts, and_from, leb-true, le-leb}
-use Rattle.std.proofs.lemmas.Bool.Decides.{nat_tests}
 use Rattle.std.proofs.lemmas.Slice.Eq.{bytes_eq-Decides}
 use Rattle.std.specs.Prelude.{bytes_eq}
 use mathlib.Core.Bool.{true≢false}
-use Rattle.iref_grammar.specs.declared.context.PathContext.{PathContext}
 use Rattle.iref_grammar.specs.Characters.{CharTests}
 use Rattle.iref_grammar.specs.Rules.{Text}
 use Rattle.iref_grammar.specs.Grammar.{colon, hash_sign, question_mark}
@@ -24,7 +21,6 @@ use Rattle.iref_model.specs.Relative.{with_only_path}
 use Rattle.iref_model.proofs.FitsLemmas.{is_empty-snoc}
 use Rattle.iref_model.proofs.RelativeLemmas.{parts}
 use Rattle.iref_model.proofs.ReferenceStepLemmas.{with_normal_path-readable}
-use Rattle.iref_model.proofs.ResolvedLemmas.{resolved-readable}
 use Rattle.iref_model.proofs.SettledLemmas.{normal_again}
 use Rattle.iref_model.proofs.NormalPathLemmas.{normal-normalized}
 use Rattle.iref_relativized.specs.Relativized.{same_scheme_text, same_authority_text, same_path_text, same_query_text, authority_text, query_text, empty_path, base_directory, steps_by_text, shortened, relative_path, is_climb, fragment_alone, climb_shortened, is_exact}
@@ -35,7 +31,7 @@ use Rattle.iref_relativized.proofs.WeightLemmas.{path}
 use Rattle.iref_relativized.proofs.AddedLemmas.{guarded-same}
 use Rattle.iref_relativized.proofs.FullCaseLemmas.{climb-normal, flag_kept}
 use Rattle.iref_relativized.proofs.PlacedLemmas.{only, placed, merged-is, follows-merged, root_resolved, relative_resolved}
-use Rattle.iref_relativized.proofs.ReadableAnswerLemmas.{normal-passes, guarded-passes, relative-passes, authority-passes, climb-passes, fragment-passes, only_path-passes}
+use Rattle.iref_relativized.proofs.ReadableAnswerLemmas.{normal-passes, guarded-passes, relative-passes, authority-passes, climb-passes}
 use Rattle.iref_relativized.proofs.CoveredLemmas.{readable-fits, one_value, exact_value}
 use Rattle.iref_relativized.proofs.ReachableLemmas.{parents-kept, reached_high, steps_lead}
 

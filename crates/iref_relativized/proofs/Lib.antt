@@ -18,3 +18,4 @@ pub mod ReadableAnswerLemmas
 pub mod TextLawLemmas
 pub mod ReachableLemmas
 pub mod LeadingCandidateLemmas
+pub mod TestedLemmas

@@ -1,25 +1,21 @@
 -- What a path alone resolves to.
-use Rattle.std.proofs.Common.{◌≡◌, ◌≤◌, Bool, true, false, cond, ◌&&◌, List, [], ◌∷◌, ◌++◌, length, refl, sym, ◌∙◌, ap, arith, Option, Some, None, codes, subst}
-use Rattle.std.specs.Prelude.{bytes_eq}
-use Rattle.std.specs.List.{list_any}
+use Rattle.std.proofs.Common.{◌≡◌, Bool, true, false, cond, List, [], ◌∷◌, ◌++◌, refl, sym, ◌∙◌, ap, arith, Option, Some, None, codes}
 use Rattle.std.proofs.lemmas.List.{append-nil}
 use mathlib.Core.Bool.{true≢false}
 use Rattle.iref_grammar.specs.Rules.{Text}
-use Rattle.iref_grammar.specs.Grammar.{colon}
-use Rattle.iref_grammar.specs.Texts.{is_empty, all_but_last, part_then}
+use Rattle.iref_grammar.specs.Texts.{is_empty, all_but_last}
 use Rattle.iref_grammar.specs.Authority.{AuthorityValue}
-use Rattle.iref_grammar.specs.PathValue.{PathValue, spell_path}
-use Rattle.iref_grammar.specs.Contexts.{alone, follows_authority, reads_as_path, fits}
-use Rattle.iref_grammar.specs.Reference.{ReferenceValue, spell, context_of}
+use Rattle.iref_grammar.specs.PathValue.{PathValue}
+use Rattle.iref_grammar.specs.Contexts.{alone, follows_authority, reads_as_path}
+use Rattle.iref_grammar.specs.Reference.{ReferenceValue, context_of}
 use Rattle.iref_model.specs.Guard.{guarded}
-use Rattle.iref_model.specs.NormalList.{normal, normal_segments, kept_segments}
+use Rattle.iref_model.specs.NormalList.{normal, normal_segments}
 use Rattle.iref_model.specs.Resolution.{resolved, merged}
 use Rattle.iref_model.proofs.RelativeLemmas.{parts}
-use Rattle.iref_model.proofs.SettledLemmas.{normal_again, kept-is}
-use Rattle.iref_model.proofs.NormalPathLemmas.{normal-guarded, normal-normalized}
-use Rattle.iref_relativized.specs.Relativized.{authority_text, query_text, same_authority_text, empty_path, base_directory, steps_by_text, shortened, candidates}
+use Rattle.iref_model.proofs.SettledLemmas.{normal_again}
+use Rattle.iref_model.proofs.NormalPathLemmas.{normal-guarded}
+use Rattle.iref_relativized.specs.Relativized.{base_directory}
 use Rattle.iref_relativized.proofs.WalkLemmas.{LeadAlike, alike-refl, alike-dot, same_normal}
-use Rattle.iref_relativized.proofs.AddedLemmas.{guarded-same}
 use Rattle.iref_relativized.proofs.WeightLemmas.{path}
 
 -- a path alone keeps its flag behind its guard

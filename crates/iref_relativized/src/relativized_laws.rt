@@ -5,6 +5,7 @@ ghost use Rattle.iref_grammar.specs.{CharTests, Text, ReferenceValue, is_readabl
 ghost use Rattle.iref_grammar.specs.{read_reference, spell};
 ghost use Rattle.iref_model.specs.{Resolution.{resolved}, Key.{AreAlike}};
 ghost use Rattle.iref_relativized.specs.Relativized.{relativized};
+ghost use Rattle.iref_relativized.specs.RelativizedTests.{leading_candidates, shortest};
 ghost use Rattle.iref_relativized.specs.RelativizedLaws.{AreReadable, LeadsExactly, IsNotLonger};
 
 /// From the base, the answer leads to the target's text, character for character; so does what is
@@ -61,4 +62,12 @@ pub fn some_reference_leads_where_there_is_an_answer()
     ensures itself { (set : CharTests) (target base : ReferenceValue)
         → AreReadable set target base → LeadsExactly base target target
         → is_some (relativized target base) ≡ true }
+{}
+
+/// Tests of both paths tell which candidates lead to the text of a target with a scheme, so the
+/// answer is found without resolution.
+pub fn answer_is_the_shortest_that_passes_tests()
+    ensures { (set : CharTests) (target base : ReferenceValue) → AreReadable set target base
+        → is_some target.scheme ≡ true
+        → relativized target base ≡ shortest (leading_candidates target base) }
 {}
