@@ -209,7 +209,7 @@ module _ (set : CharTests) (target base : ReferenceValue) (are : AreReadable set
   relative-placed same h = settled_test (with_only_path (relative_path target base) target) (relative-passes set target base readable)
       (ap spell (steps_placed ∙ ap (placed base target.query target.fragment) (steps_there h)) ∙ placed-text same (normal target.path))
 
-  -- what is reached from the directory begins at the root where it does, and climbs as high
+  -- what is reached from the directory has its flag, and at least its leading `..`
   reachable_from : is_exact target base (with_only_path (relative_path target base) target) ≡ true → is_reachable target base ≡ true
   reachable_from h =
       let r = with_only_path (relative_path target base) target in

@@ -1,4 +1,4 @@
--- Which normal lists the steps from a directory lead to: those that climb as high as the directory.
+-- Which normal lists the steps from a directory lead to: those that have at least the directory's leading `..`.
 use Rattle.std.proofs.Common.{◌≡◌, ℕ, ◌+◌, ◌-◌, ◌≤◌, Bool, true, false, cond, List, [], ◌∷◌, ◌++◌, length, take, refl, sym, ◌∙◌, ap, arith}
 use Rattle.std.proofs.lemmas.Grind.{common_steps}
 use Rattle.iref_grammar.specs.Rules.{Text}
@@ -29,7 +29,7 @@ parents-lone ((c ∷ s) ∷ rest) = refl
 pub parents-kept : (absolute : Bool) (segments : List Text) → count_parents (kept_segments (path absolute segments)) ≡ leading absolute segments
 parents-kept absolute segments = ap count_parents (kept-is absolute segments) ∙ parents-climbs (leading absolute segments) (staying_names segments) (are_names-staying segments)
 
--- what is reached from a directory climbs as high
+-- what is reached from a directory has at least its leading `..`
 pub reached_high : (absolute : Bool) (directory walk : List Text) → is_empty walk ≡ false → leading absolute directory ≤ count_parents (normal_segments (path absolute (directory ++ walk)))
 reached_high absolute directory walk some =
     let more = cond absolute 0 (open_parents walk - length (staying_names directory)) in
@@ -37,7 +37,7 @@ reached_high absolute directory walk some =
     let front = parents-front (leading absolute directory + more) (without_last (open_parents walk) (staying_names directory) ++ ended walk) in
     omega arith
 
--- ---- lists that climb as high
+-- ---- lists that have at least the directory's leading `..`
 
 -- a list as it is reached from a directory
 record IsReached (absolute : Bool) (directory list : List Text) : Type 0 where

@@ -13,7 +13,7 @@ use Rattle.iref_relativized.specs.Relativized.{same_scheme_text, same_authority_
 abbrev pub is_settled : ReferenceValue → Bool
 is_settled target = bytes_eq (spell_path (with_normal_path target).path) (spell_path target.path)
 
--- both begin at the root; or neither does, and the path climbs as high as the directory
+-- target and base begin at the root; or neither does, and the target's normal path has at least the base's leading `..`
 abbrev pub is_reachable : ReferenceValue → ReferenceValue → Bool
 is_reachable target base =
     let directory = base_directory base in
