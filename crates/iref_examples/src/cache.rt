@@ -10,9 +10,11 @@ use iref::Memory;
 use iref::uri::UriBuf;
 use std::alloc::Global;
 use std::collections::HashMap;
+use std::hash::RandomState;
 
-/// Values, each under a URI.
-pub type Cache = HashMap<UriBuf, String>;
+/// Values, each under a URI. The hasher has random keys: with a fixed seed, whoever chooses the URIs
+/// could choose many that have one hash.
+pub type Cache = HashMap<UriBuf, String, RandomState>;
 
 /// The URI of a text; None exactly where the text is no URI.
 pub fn uri_of(alloc: Global, text: &str) -> Result<Option<UriBuf>, Memory>

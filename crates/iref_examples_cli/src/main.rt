@@ -14,6 +14,7 @@ use iref_examples::mirror::relinked;
 use iref_examples::validator::checked;
 use std::alloc::Global;
 use std::collections::HashMap;
+use std::hash::RandomState;
 use std::io::{self, BufRead, BufReader};
 
 // What lasts from line to line.
@@ -131,7 +132,7 @@ fn answer(alloc: Global, tables: &mut Tables, line: &str) -> Result<String, Memo
 
 fn main(rt: HostRuntime) -> io::Result<()> {
     let mut tables = Tables {
-        cache: HashMap::new(rt.alloc()),
+        cache: HashMap::with_hasher(rt.alloc(), RandomState::new(&rt)?),
         context: Prefixes::new(rt.alloc()),
     };
     // By blocks: `rt.lines` reads what cannot seek, as a pipe, a byte at a time.
