@@ -44,6 +44,7 @@ pub use Rattle.iref_fault.specs.Cut
 pub use Rattle.iref_fault.specs.Faults
 pub use Rattle.iref_fault.specs.FirstFault
 pub use Rattle.iref_fault.specs.BytePlaces
+pub use Rattle.iref_fault.specs.Printed
 pub use Rattle.iref_fault.specs.Tried
 pub use Rattle.iref_model.specs.Mapping
 pub use Rattle.iref_parse.specs.AuthoritySlices

@@ -32,20 +32,17 @@ module _ (set : CharTests) (above : AreAboveAscii set) where
   pub canonical-again : (r : ReferenceValue) → IsReadable set r → canonical (key (canonical (key r))) ≡ canonical (key r)
   canonical-again r v = ap canonical (key_kept r v)
 
-  pub same_texts : (r s : ReferenceValue) → IsReadable set r → IsReadable set s → (canonical_text (key r) ≡ canonical_text (key s)) ↔ AreAlike r s
-  same_texts r s v w = (
-    λ e.
-        let same = one_spelling uri_chars uri_above_ascii (canonical (key r)) (canonical (key s)) (canonical-readable r v) (canonical-readable s w) e in
-        sym (key_kept r v) ∙ ap key same ∙ key_kept s w,
-    λ e. ap canonical_text e,
-  )
+  -- a canonical text is a URI reference
+  text_in_grammar : (r : ReferenceValue) → IsReadable set r → InUtf8 (IsUriReference uri_chars) (canonical_text (key r))
+  text_in_grammar r v = (in_utf8-reference uri_chars uri_above_ascii (canonical_text (key r))).1 (canonical (key r), canonical-readable r v, refl)
+
+  pub text_utf8 : (r : ReferenceValue) → IsReadable set r → IsUtf8 (canonical_text (key r))
+  text_utf8 r v = let z = text_in_grammar r v in (z.0, (z.1, z.2))
 
   -- ---- of texts in the grammar
 
   pub text_is_reference : (bytes : Text) → InUtf8 (IsUriReference set) bytes → InUtf8 (IsUriReference uri_chars) (canonical_text (key (read_reference bytes)))
-  text_is_reference bytes h =
-      let r = read_reference bytes in
-      (in_utf8-reference uri_chars uri_above_ascii (canonical_text (key r))).1 (canonical (key r), canonical-readable r (readable_text set above bytes h), refl)
+  text_is_reference bytes h = text_in_grammar (read_reference bytes) (readable_text set above bytes h)
 
   pub text_is_uri : (bytes : Text) → InUtf8 (IsUri set) bytes → InUtf8 (IsUri uri_chars) (canonical_text (key (read_reference bytes)))
   text_is_uri bytes h =
@@ -79,11 +76,17 @@ module _ (set : CharTests) (above : AreAboveAscii set) where
   pub text_ascii : (r : ReferenceValue) → IsReadable set r → list_all is_ascii (canonical_text (key r)) ≡ true
   text_ascii r v =
       let text = canonical_text (key r) in
-      let taken = (Decides-is_uri_reference uri_chars uri_above_ascii text).1
-      ((in_utf8-reference uri_chars uri_above_ascii text).1 (canonical (key r), canonical-readable r v, refl)) in
+      let taken = (Decides-is_uri_reference uri_chars uri_above_ascii text).1 (text_in_grammar r v) in
       sym (is_reference-ascii uri_chars uri_above_ascii text taken) ∙ taken
 
-  pub text_utf8 : (text : Text) → is_reference set text ≡ true → IsUtf8 (canonical_text (key (read_reference text)))
-  text_utf8 text h = let z = text_is_reference text ((Decides-is_uri_reference set above text).0 h) in (z.0, (z.1, z.2))
+-- of readable references of two sets of characters, such as a URI and an IRI
+pub same_texts : (set other : CharTests) → AreAboveAscii set → AreAboveAscii other → (r s : ReferenceValue) → IsReadable set r → IsReadable other s
+    → (canonical_text (key r) ≡ canonical_text (key s)) ↔ AreAlike r s
+same_texts set other above other_above r s v w = (
+  λ e.
+      let same = one_spelling uri_chars uri_above_ascii (canonical (key r)) (canonical (key s)) (canonical-readable set above r v) (canonical-readable other other_above s w) e in
+      sym (key_kept set above r v) ∙ ap key same ∙ key_kept other other_above s w,
+  λ e. ap canonical_text e,
+)
 
 pub ruleset again = (canonical-again, text_again)

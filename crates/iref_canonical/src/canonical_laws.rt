@@ -47,9 +47,9 @@ pub fn canonical_keeps_the_key<S: CharSet>()
         ≡ key (read_reference bytes) }
 {}
 
-/// Two references have the same canonical text exactly if they are equal.
-pub fn canonical_texts_are_the_same_where_keys_are<S: CharSet>()
-    ensures { (r s : ReferenceValue) → IsReadable S.tests r → IsReadable S.tests s
+/// Two references have the same canonical text exactly if they are equal, also a URI and an IRI.
+pub fn canonical_texts_are_the_same_where_keys_are<S: CharSet, T: CharSet>()
+    ensures { (r s : ReferenceValue) → IsReadable S.tests r → IsReadable T.tests s
         → (canonical_text (key r) ≡ canonical_text (key s)) ↔ AreAlike r s }
 {}
 

@@ -1,6 +1,6 @@
 //! Canonical texts from the texts of references (RFC 3986 section 6.2.2).
 ghost use Rattle.std.specs.{Prelude.{◌≡◌, true, bytes_eq, IfOk}, String.{string_bytes}};
-ghost use Rattle.iref_grammar.specs.Reference.{is_reference, read_reference};
+ghost use Rattle.iref_grammar.specs.Reference.{IsReadable, is_reference, read_reference};
 ghost use Rattle.iref_model.specs.Key.{key};
 ghost use Rattle.iref_parse.specs.ReferenceSlices.{value_of};
 ghost use Rattle.iref_canonical.specs.Canonical.{canonical_text};
@@ -16,13 +16,11 @@ use std::alloc::Global;
 /// The room is taken once.
 pub fn canonical_text<C: CharSet>(
     alloc: Global,
-    text: &str,
     slices: ReferenceSlices<'_>,
 ) -> Result<String, Memory>
-    requires reference { is_reference C.tests text.now ≡ true }
-    requires slices { value_of slices ≡ read_reference text.now }
+    requires { IsReadable C.tests (value_of slices) }
     ensures { IfOk result (λ copy.
-        string_bytes copy ≡ canonical_text (key (read_reference text.now))) }
+        string_bytes copy ≡ canonical_text (key (value_of slices.entry))) }
 {
     let bytes = CanonicalReference::new(slices).bytes(alloc)?;
     // A canonical text is ASCII, so no byte is read again.

@@ -1,6 +1,6 @@
 //! Which lines of a text are no IRI references, and why.
 ghost use Rattle.std.specs.{Prelude.{◌≡◌, IfOk, map}, Str.Lines.{lines}};
-ghost use Rattle.iref_examples.specs.WrongLines.{line_and_fault, wrong_lines};
+ghost use Rattle.iref_examples.specs.WrongLines.{line_and_fault, wrong_line_text, wrong_lines};
 
 use iref::{Fault, IriRef, Memory};
 use std::alloc::Global;
@@ -16,6 +16,8 @@ pub struct WrongLine {
 }
 
 impl fmt::Display for WrongLine {
+    ghost output = { λ wrong. wrong_line_text (line_and_fault wrong) };
+
     fn fmt<W: fmt::Write>(&self, f: &mut fmt::Formatter<W>) -> fmt::Result {
         write!(f, "line {}: {}", self.number, self.fault)
     }

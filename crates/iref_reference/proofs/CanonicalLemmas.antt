@@ -2,6 +2,7 @@
 -- that are not equal.
 use Rattle.std.proofs.Common.{◌≡◌, Bool, true, is_eq, sym, ◌∙◌, ap}
 use Rattle.std.specs.Prelude.{bytes_eq, is_some, Option}
+use Rattle.std.proofs.Math.Logic.{◌↔◌}
 use Rattle.std.proofs.lemmas.Bool.Decides.{same_from_decides}
 use Rattle.std.proofs.lemmas.Slice.Eq.{bytes_eq-Decides}
 use Rattle.iref_grammar.specs.Characters.{AreAboveAscii, CharTests, uri_chars}
@@ -38,10 +39,18 @@ in_rule-canonical test allows references allowed by_scheme by_presence set above
     let reference = references set text h in
     by_scheme uri_chars _ (is_reference-canonical set above text reference) (by_presence _ _ (same_presence set above text reference) (allowed set text h))
 
--- keys tie exactly where their canonical texts are the same bytes
+-- keys are the same exactly where their canonical texts are
+pub same_by_texts : (k l : ReferenceValue) (s t : Text) → IsCanonicalTextOf k s → IsCanonicalTextOf l t → (s ≡ t) ↔ (k ≡ l)
+same_by_texts k l s t one other = (
+  λ e. sym one.1 ∙ ap (λ u. key (read_reference u)) e ∙ other.1,
+  λ e. one.0 ∙ ap canonical_text e ∙ sym other.0,
+)
+
+-- and tie exactly where these are the same bytes
 pub tied_by_texts : (k l : ReferenceValue) (s t : Text) → IsCanonicalTextOf k s → IsCanonicalTextOf l t → is_eq (key_cmp k l) ≡ bytes_eq s t
 tied_by_texts k l s t one other =
-    let same_bytes = bytes_eq-Decides s t in
-    let same_keys : (s ≡ t) → k ≡ l = λ e. sym one.1 ∙ ap (λ u. key (read_reference u)) e ∙ other.1 in
-    let same_texts : k ≡ l → s ≡ t = λ e. one.0 ∙ ap canonical_text e ∙ sym other.0 in
-    same_from_decides (is_eq (key_cmp k l)) (bytes_eq s t) (references_tie k l) (λ e. same_keys (same_bytes.0 e), λ e. same_bytes.1 (same_texts e))
+    let bytes = bytes_eq-Decides s t in
+    let same = same_by_texts k l s t one other in
+    same_from_decides (is_eq (key_cmp k l)) (bytes_eq s t) (references_tie k l) (λ e. same.0 (bytes.0 e), λ e. bytes.1 (same.1 e))
+
+pub ruleset by_texts = (same_by_texts, tied_by_texts)

@@ -1,11 +1,13 @@
 -- Sort keys are compared as the references are.
-use Rattle.std.proofs.Common.{◌≡◌, refl, sym, ◌∙◌, ap}
+use Rattle.std.proofs.Common.{◌≡◌, true, refl, sym, ◌∙◌, ap, subst}
+use Rattle.std.proofs.Math.Logic.{◌↔◌}
 use Rattle.std.specs.Cmp.Lexicographic.{texts_ties}
 use Rattle.std.specs.Ordering.{eq_by_cmp, is_eq}
 use Rattle.iref_grammar.specs.Keys.{is_same_text, text_order}
 use Rattle.iref_grammar.specs.Reference.{ReferenceValue}
 use Rattle.iref_grammar.specs.Rules.{Text}
 use Rattle.iref_model.specs.Key.{key_cmp}
+use Rattle.iref_model.proofs.TieLemmas.{references_tie}
 use Rattle.iref_canonical.specs.SortKey.{sort_key}
 use Rattle.iref_canonical.proofs.SortKeyLemmas.{text_order-sort_key}
 
@@ -17,4 +19,8 @@ text_order-as k l x y p q = ap (λ x. text_order x y) p ∙ ap (text_order (sort
 pub is_same_text-as : (k l : ReferenceValue) (x y : Text) → x ≡ sort_key k → y ≡ sort_key l → is_same_text x y ≡ eq_by_cmp key_cmp k l
 is_same_text-as k l x y p q = texts_ties x y ∙ ap is_eq (text_order-as k l x y p q)
 
-pub ruleset as_references = (is_same_text-as, text_order-as)
+-- and they are the same where the keys are
+pub is_same_text-where : (k l : ReferenceValue) (x y : Text) → x ≡ sort_key k → y ≡ sort_key l → (is_same_text x y ≡ true) ↔ (k ≡ l)
+is_same_text-where k l x y p q = subst (λ b. (b ≡ true) ↔ (k ≡ l)) (sym (is_same_text-as k l x y p q)) (references_tie k l)
+
+pub ruleset as_references = (is_same_text-as, is_same_text-where, text_order-as)

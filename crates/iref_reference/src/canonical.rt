@@ -1,10 +1,10 @@
 //! Canonical texts of references (RFC 3986 section 6.2.2). Two references are equal exactly if their
 //! canonical texts are the same bytes.
-ghost use Rattle.std.specs.Prelude.{◌≡◌, true, bytes_eq, IfOk};
+ghost use Rattle.std.specs.Prelude.{◌≡◌, ◌↔◌, true, bytes_eq, IfOk};
 ghost use Rattle.iref_parse.specs.ReferenceSlices.{texts_of, value_of};
-ghost use Rattle.iref_component.specs.{key, read_reference, spell_components};
+ghost use Rattle.iref_component.specs.{key, read_reference, spell_components, ReferenceValue, Text};
 ghost use Rattle.iref_canonical.specs.Canonical.{canonical_text};
-ghost use Rattle.iref_reference.specs.{CanonicalTexts.{AreEqualByTexts}, References.{key_of_reference}};
+ghost use Rattle.iref_reference.specs.{CanonicalTexts.{AreEqualByTexts, IsCanonicalTextOf}, References.{key_of_reference}};
 ghost use Rattle.iref_reference.specs.References.{key_of_reference_buf, reference_buf_text, reference_text};
 
 use crate::borrowed::{Reference, Uri, UriRef};
@@ -83,18 +83,21 @@ fn canonical_of<R: HeldRule, C: CharSet>(
         let copy = String::from_str(alloc, text)?;
         return Ok(ReferenceBuf::from_inner(ReferenceText::of_slices(copy, slices)));
     }
-    let copy = canonical_text::<C>(alloc, text, slices)?;
+    let copy = canonical_text::<C>(alloc, slices)?;
     Ok(ReferenceBuf::from_inner(ReferenceText::new_unchecked(copy)))
 }
 
 /// Two references are equal exactly if the texts of their canonical references are the same bytes,
 /// by the `==` of each: of these texts it asks for what the calls above say of them (RFC 3986
-/// section 6.2.2).
-#[tactic(auto, using(crate::proofs::CanonicalLemmas::tied_by_texts))]
+/// section 6.2.2). A URI and an IRI, which no `==` compares, have the same text exactly if their
+/// keys are the same.
+#[tactic(auto, using(crate::proofs::CanonicalLemmas::by_texts))]
 pub fn references_are_equal_as_their_canonical_texts<R: HeldRule, C: CharSet>()
     ensures references { AreEqualByTexts key_of_reference
         ⟦<UriRef<'static, C> as PartialEq>⟧.eq }
     ensures uris { AreEqualByTexts key_of_reference ⟦<Uri<'static, C> as PartialEq>⟧.eq }
     ensures owners { AreEqualByTexts key_of_reference_buf
         ⟦<ReferenceBuf<R, C> as PartialEq>⟧.eq }
+    ensures both_families { (k l : ReferenceValue) (s t : Text) → IsCanonicalTextOf k s
+        → IsCanonicalTextOf l t → (s ≡ t) ↔ (k ≡ l) }
 {}

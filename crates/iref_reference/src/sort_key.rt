@@ -2,7 +2,7 @@
 //! 6.2.2).
 ghost use Rattle.std.specs.Prelude.{◌≡◌, ◌++◌, IfOk, OnErr, OnOk};
 ghost use Rattle.iref_canonical.specs.SortKey.{sort_key};
-ghost use Rattle.iref_reference.specs.{References.{key_of_reference, key_of_reference_buf}, SortKeys.{SortsAs}};
+ghost use Rattle.iref_reference.specs.{References.{key_of_reference, key_of_reference_buf}, SortKeys.{SortsAs, SortsAsKeys}};
 
 use crate::borrowed::{Reference, Uri, UriRef};
 use crate::owned::ReferenceBuf;
@@ -60,7 +60,8 @@ impl<R: HeldRule, C: CharSet> ReferenceBuf<R, C> {
 }
 
 /// Sort keys are in order as their references are, and equal exactly where these are, by `cmp` and
-/// `==` of each: of two sort keys it asks for what each call above says of its result.
+/// `==` of each: of two sort keys it asks for what each call above says of its result. Those of a
+/// URI and an IRI, which no `==` compares, are in the order of their keys.
 #[tactic(auto, using(crate::proofs::SortOrderLemmas::as_references))]
 pub fn sort_keys_compare_as_their_references<R: HeldRule, C: CharSet>()
     ensures references { SortsAs key_of_reference
@@ -68,4 +69,5 @@ pub fn sort_keys_compare_as_their_references<R: HeldRule, C: CharSet>()
     ensures uris { SortsAs key_of_reference ⟦<Uri<'static, C> as Ord>⟧ ⟦<SortKey as Ord>⟧ }
     ensures owned_values { SortsAs key_of_reference_buf
         ⟦<ReferenceBuf<R, C> as Ord>⟧ ⟦<SortKey as Ord>⟧ }
+    ensures both_families { SortsAsKeys ⟦<SortKey as Ord>⟧ }
 {}
