@@ -17,9 +17,6 @@ pub use iref_fault::InvalidPctStr;
 pub use iref_fault::component::{Cause, Component};
 pub use iref_fault::fault::Fault;
 pub use iref_grammar::chars;
-pub use iref_parse::authority::{AuthoritySlices, split_parts as split_authority};
-pub use iref_parse::split::{ReferenceSlices, split_reference};
-pub use iref_reference_text::lengths::offsets_of;
 pub use iri::{InvalidIri, InvalidIriRef, Iri, IriBuf, IriError, IriRef, IriRefBuf};
 pub use uri::{InvalidUri, InvalidUriRef, Uri, UriBuf, UriError, UriRef, UriRefBuf};
 

@@ -7,7 +7,9 @@ ghost use Rattle.iref.specs.{AuthoritySlices.{authority_of}, ReferenceSlices.{va
 ghost use Rattle.iref.specs.Reference.{read_reference, spell};
 ghost use Rattle.iref_c.specs.PartRanges.{all_ranges, authority_ranges, range_for_c, ranges_from};
 
-use iref::{AuthoritySlices, ReferenceSlices, offsets_of, split_authority, split_reference};
+use iref_parse::authority::{AuthoritySlices, split_parts};
+use iref_parse::split::{ReferenceSlices, split_reference};
+use iref_reference_text::lengths::offsets_of;
 use std::ops::Range;
 
 /// Where a component stands in its text, in bytes.
@@ -138,7 +140,7 @@ fn ranges_at(range: ByteRange, authority: Option<&str>) -> AuthorityRanges
         (option_map read_authority (option_copied authority.entry)) }
 {
     match authority {
-        Some(authority) => ranges_from(range.start, split_authority(authority)),
+        Some(authority) => ranges_from(range.start, split_parts(authority)),
         None => AuthorityRanges {
             user_info: ABSENT,
             host: ABSENT,

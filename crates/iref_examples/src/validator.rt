@@ -6,7 +6,8 @@ ghost use Rattle.iref.specs.Rules.{InUtf8};
 ghost use Rattle.iref_examples.specs.Components.{IsChecked, IsFirstOutside};
 
 use iref::iri::{Authority, Fragment, Path, Query, Scheme};
-use iref::{Fault, IriRef, split_reference};
+use iref::{Fault, IriRef};
+use iref_parse::split::split_reference;
 use std::convert::TryFrom;
 use std::fmt;
 
