@@ -16,9 +16,12 @@ mod streams;
 use lines::Lines;
 use std::alloc::Global;
 pub use streams::{FromStd, Sink, Source, StreamError};
+use thiserror::Error;
 
-/// A read or a write failed, or `u64::MAX` reads met no end.
-#[derive(Debug, Drop)]
+/// A read or a write failed, or `u64::MAX` reads met no end. It is printed as `a read or a write
+/// failed, or the input has no end`.
+#[derive(Debug, Drop, Error)]
+#[error("a read or a write failed, or the input has no end")]
 pub struct RunError;
 
 impl From<StreamError> for RunError {

@@ -3,9 +3,12 @@ ghost use Rattle.std.specs.Prelude.{◌≡◌, ◌<◌, ◌≤◌, List, ℕ, Op
 ghost use Rattle.std.specs.Io.KnownBytes.{ReadConsumes, WriteAppends};
 
 use std::io::{Read, Write};
+use thiserror::Error;
 
-/// A read or a write failed.
-#[derive(Debug, Drop)]
+/// A read or a write failed: what a `Source` or a `Sink` returns then, whatever the cause. `run` makes
+/// a `RunError` of it. It is printed as `a read or a write failed`.
+#[derive(Debug, Drop, Error)]
+#[error("a read or a write failed")]
 pub struct StreamError;
 
 /// A reader that is not called again once a call has failed, an interrupted one too.
