@@ -3,6 +3,10 @@
 //! `expand<TAB>label:rest` by the context, `check<TAB>text` by the validator. By `iref` alone:
 //! `canonical<TAB>reference` by the canonical text, `key<TAB>reference` by the digits of the sort
 //! key, `fault<TAB>reference` by where a text is wrong.
+//!
+//! Lines are those of `iref_cli`: LF alone ends one, and a last one without it counts unless it is
+//! empty. A line that is not UTF-8 is answered `error invalid`, but one of `fault` with where its
+//! reference is not: `fault<TAB>a` and the byte 255 by `not UTF-8 at byte 1`.
 #![tactic(auto)]
 
 use iref::Memory;
@@ -16,6 +20,7 @@ use std::alloc::Global;
 use std::collections::HashMap;
 use std::hash::RandomState;
 use std::io::{self, BufRead, BufReader};
+use std::str;
 
 // What lasts from line to line.
 #[derive(Drop)]
@@ -104,15 +109,15 @@ fn key(alloc: Global, reference: &str) -> Result<String, Memory> {
     Ok(format!(in alloc; "ok\t{digits}")?)
 }
 
-fn fault(alloc: Global, reference: &str) -> Result<String, Memory> {
-    match IriRef::fault(reference) {
+fn fault(alloc: Global, reference: &[u8]) -> Result<String, Memory> {
+    match IriRef::fault_of_bytes(reference) {
         Some(fault) => Ok(format!(in alloc; "error\t{fault}")?),
         None => owned(alloc, "ok"),
     }
 }
 
-// The answer to a line, whose verb alone is followed by an empty field; `get` alone is no command.
-fn answer(alloc: Global, tables: &mut Tables, line: &str) -> Result<String, Memory> {
+// The answer to a text, whose verb alone is followed by an empty field; `get` alone is no command.
+fn answer_text(alloc: Global, tables: &mut Tables, line: &str) -> Result<String, Memory> {
     let (verb, rest) = line.split_once('\t').unwrap_or((line, ""));
     match (verb, rest.split_once('\t')) {
         ("put", Some((uri, value))) => put(alloc, &mut tables.cache, uri, value),
@@ -125,8 +130,17 @@ fn answer(alloc: Global, tables: &mut Tables, line: &str) -> Result<String, Memo
         ("check", _) => check(alloc, rest),
         ("canonical", _) => canonical(alloc, rest),
         ("key", _) => key(alloc, rest),
-        ("fault", _) => fault(alloc, rest),
+        ("fault", _) => fault(alloc, rest.as_bytes()),
         _ => owned(alloc, "error: no command"),
+    }
+}
+
+// The answer to a line.
+fn answer(alloc: Global, tables: &mut Tables, line: &[u8]) -> Result<String, Memory> {
+    match (str::from_utf8(line), line.strip_prefix(b"fault\t")) {
+        (Ok(text), _) => answer_text(alloc, tables, text),
+        (Err(_), Some(reference)) => fault(alloc, reference),
+        (Err(_), None) => owned(alloc, "error invalid"),
     }
 }
 
@@ -137,8 +151,8 @@ fn main(rt: HostRuntime) -> io::Result<()> {
     };
     // By blocks: `rt.lines` reads what cannot seek, as a pipe, a byte at a time.
     let reader = BufReader::new(rt.alloc(), rt.stdin())?;
-    for line in reader.lines(rt.alloc()) {
-        match answer(rt.alloc(), &mut tables, line?.as_str()) {
+    for line in reader.split(rt.alloc(), b'\n') {
+        match answer(rt.alloc(), &mut tables, line?.as_slice()) {
             Ok(answer) => println!(rt; "{answer}")?,
             Err(Memory) => println!(rt; "error memory")?,
         }
