@@ -47,7 +47,7 @@ impl<R: HeldRule, C: CharSet> PartialEq for ReferenceBuf<R, C> {
         (on_equiv key_of_reference_buf (eq_by_cmp_equiv keys_total)) };
 
     fn eq(&self, other: &Self) -> bool {
-        self.reference_parts() == other.reference_parts()
+        self.reference_parts().eq_by_key(&other.reference_parts())
     }
 }
 

@@ -175,6 +175,14 @@ impl<'a, S: SchemePart<'a>, C: CharSet> Parts<'a, S, C> {
 }
 
 impl<'a, C: CharSet> UriRefParts<'a, C> {
+    // Whether the keys are the same.
+    pub(crate) fn eq_by_key(&self, other: &Self) -> bool
+        ensures { result
+            ≡ eq_by_cmp key_cmp (uri_ref_parts_key self.now) (uri_ref_parts_key other.now) }
+    {
+        self == other
+    }
+
     // The components of a URI, if there is a scheme.
     pub(crate) fn to_uri_parts(&self) -> Option<UriParts<'a, C>>
         ensures texts { IfSome result (λ full.

@@ -160,7 +160,7 @@ impl Key for ReferenceKey {
     }
 
     fn is_equal<C: CharSet>(a: &str, b: &str) -> bool {
-        UriRefParts::<C>::of_text(a) == UriRefParts::of_text(b)
+        UriRefParts::<C>::of_text(a).eq_by_key(&UriRefParts::of_text(b))
     }
 
     fn feed<C: CharSet, H: Hasher>(text: &str, state: &mut H) {

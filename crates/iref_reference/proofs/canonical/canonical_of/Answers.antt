@@ -4,7 +4,7 @@ use Rattle.iref_grammar.specs.Reference.{IsReadable, read_reference}
 use Rattle.iref_grammar.specs.Rules.{Text}
 use Rattle.iref_grammar.proofs.ReferenceRuleLemmas.{Decides-is_uri_reference}
 use Rattle.iref_model.specs.Key.{key}
-use Rattle.iref_mapping.proofs.MappedReferenceLemmas.{readable_text}
+use Rattle.iref_model.proofs.MappedReferenceLemmas.{readable_text}
 use Rattle.iref_canonical.specs.Canonical.{canonical_text}
 use Rattle.iref_reference.proofs.CanonicalLemmas.{in_rule-canonical, key-canonical_text}
 use Rattle.iref_reference.proofs.canonical.canonical_of.Given.{Over}
