@@ -6,10 +6,10 @@ ghost use Rattle.std.specs.{Prelude.{None, map}, Str.{is_utf8, IsValidUpTo}, Lis
 ghost use Rattle.iref_grammar.specs.{Text, InUtf8, IsUri, IsUriReference, IsAuthority};
 ghost use Rattle.iref_grammar.specs.{is_authority, is_reference, read_authority, read_reference};
 ghost use Rattle.iref_fault.specs.Places.{PartRule, is_bare, rule_of, IsPlaceIn};
-ghost use Rattle.iref_fault.specs.Cut.{Piece, authority_pieces, pieces_of, has_cut_scheme};
+ghost use Rattle.iref_fault.specs.Cut.{authority_pieces, pieces_of, has_cut_scheme};
 ghost use Rattle.iref_fault.specs.Faults.{FaultValue, fault_of_part, fault_of_authority};
 ghost use Rattle.iref_fault.specs.Faults.{fault_of_reference, fault_of_uri, not_utf8, no_scheme};
-ghost use Rattle.iref_fault.specs.FirstFault.{IsFirstFault, IsPartFault, AreInRules};
+ghost use Rattle.iref_fault.specs.FirstFault.{IsFirstFault, IsPartFault};
 ghost use Rattle.iref_fault.specs.Components.{component_text, authority_components};
 ghost use Rattle.iref_fault.specs.Components.{components_of};
 

@@ -1,6 +1,6 @@
 //! The cut of any text into components and parts (RFC 3986 appendix B), and the first of them that
 //! is outside its rule.
-ghost use Rattle.std.specs.Prelude.{◌≡◌, ◌+◌, ◌<◌, ◌^◌, [], ◌∷◌, length, IfSome, is_some, ◌||◌};
+ghost use Rattle.std.specs.Prelude.{◌≡◌, ◌+◌, ◌<◌, ◌^◌, length, IfSome, is_some, ◌||◌};
 ghost use Rattle.std.specs.Option.{option_copied};
 ghost use Rattle.iref_grammar.specs.Characters.{CharTests};
 ghost use Rattle.iref_grammar.specs.Grammar.{right_bracket};

@@ -4,10 +4,9 @@ use Rattle.std.proofs.lemmas.Grind.{common_steps}
 use Rattle.std.specs.Prelude.{◌==◌, codes, decimal, Option, Some, None, is_some}
 use Rattle.std.specs.Bool.{Decides}
 use Rattle.std.specs.List.{list_all, join_with_byte}
-use Rattle.std.specs.Char.{is_ascii, is_ascii_alphanumeric, is_ascii_hexdigit, char_set_contains, digit_value}
+use Rattle.std.specs.Char.{is_ascii, is_ascii_hexdigit, char_set_contains, digit_value}
 use Rattle.std.specs.Str.Parse.{AllDigits}
 use Rattle.std.proofs.lemmas.Fmt.{decimal_is_IsNumeral}
-use Rattle.std.specs.Int.{IsInRange}
 use Rattle.std.proofs.lemmas.Bool.Decides.{nat_tests, Decides-like, Decides-or}
 use Rattle.std.proofs.lemmas.Bool.{and_from}
 use native.Mathlib.Nat.{lt_trans}

@@ -5,7 +5,7 @@ use Rattle.iref_grammar.specs.declared.context.PathContext.{PathContext}
 use Rattle.iref_grammar.specs.Rules.{Text}
 use Rattle.iref_grammar.specs.Texts.{is_empty, all_but_last}
 use Rattle.iref_grammar.specs.PathValue.{PathValue}
-use Rattle.iref_model.specs.Guard.{guarded_list, with_dot}
+use Rattle.iref_model.specs.Guard.{guarded_list}
 use Rattle.iref_grammar.specs.Contexts.{fits}
 use Rattle.iref_model.specs.NormalList.{normal}
 use Rattle.iref_model.specs.PathSteps.{lazy_pushed, popped, closed_path, followed, pushed, appended, lazy_appended, replaced, joined, normalized, cleared}

@@ -13,7 +13,7 @@ use Rattle.iref_grammar.specs.Grammar.{slash}
 use Rattle.iref_grammar.specs.Texts.{is_empty, before, pieces_at, begins_with, all_but_last}
 use Rattle.iref_grammar.specs.PathValue.{PathValue, spell_path, is_one_empty}
 use Rattle.iref_model.specs.Guard.{guarded}
-use Rattle.iref_model.specs.NormalList.{is_dot, is_dot_dot, is_name, counted, ends_in_dots, without_lone_empty, normal_segments, normal}
+use Rattle.iref_model.specs.NormalList.{is_name, ends_in_dots, without_lone_empty, normal_segments, normal}
 use Rattle.iref_model.specs.NormalReading.{staying_before, closing, items}
 use Rattle.iref_model.specs.PathSteps.{normalized}
 use Rattle.iref_model.specs.DotSegments.{Buffers, without_last_segment, rewritten_once, rewritten, RemovesDotSegments, dot_segments_removed}

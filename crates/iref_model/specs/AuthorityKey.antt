@@ -1,4 +1,4 @@
--- What authorities are compared by, in their order, and hashed by (RFC 3986 section 6.2.2).
+-- What authorities are compared by, in their order, and hashed by.
 use Rattle.std.specs.Prelude.{◌++◌, option_map}
 use Rattle.std.specs.Option.{option_cmp}
 use Rattle.std.specs.Hash.{HashWrites, option}
@@ -10,7 +10,7 @@ use Rattle.percent_encoding.specs.Percent.{percent_decode}
 use Rattle.iref_grammar.specs.Authority.{AuthorityValue}
 use Rattle.iref_grammar.specs.Keys.{text_order, fed_bytes}
 
--- user info and host as decoded bytes (section 6.2.2.2), the port as text
+-- user info and host as decoded bytes, the port as text
 abbrev pub authority_key : AuthorityValue → AuthorityValue
 authority_key a = record { user_info = option_map percent_decode a.user_info; host = percent_decode a.host; port = a.port }
 

@@ -1,4 +1,5 @@
--- What references are compared by (RFC 3986 section 6.2.2), with no rules of schemes.
+-- What references are compared by, with no rules of schemes. It is wider than RFC 3986 section 6.2.2.2, since each escape is
+-- decoded, and narrower than section 6.2.2.1, since hosts keep their case.
 use Rattle.std.specs.Prelude.{◌≡◌, ◌++◌, Bool, option_map}
 use Rattle.std.specs.Option.{option_cmp}
 use Rattle.std.specs.Str.{str_to_ascii_lowercase}
@@ -12,7 +13,7 @@ use Rattle.iref_model.specs.PathKey.{path_key, path_key_cmp}
 use Rattle.iref_model.specs.PathHash.{fed_path}
 use Rattle.iref_grammar.specs.Reference.{ReferenceValue}
 
--- scheme in lower case (section 6.2.2.1), the normal path; user info, host, segments, query and fragment as decoded bytes
+-- scheme in lower case (section 6.2.2.1), the normal path (6.2.2.3); user info, host, segments, query and fragment as decoded bytes
 unfoldable pub key : ReferenceValue → ReferenceValue
 key r =
     record {

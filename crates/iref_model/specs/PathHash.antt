@@ -1,4 +1,4 @@
--- The bytes of a path that are hashed (RFC 3986 section 6.2.2).
+-- The bytes of a path that are hashed (RFC 3986 section 6.2.2.3).
 use Rattle.std.specs.Prelude.{◌++◌, List, reverse}
 use Rattle.std.specs.List.{flat_map}
 use Rattle.std.specs.Hash.{HashWrites, bool, u8}

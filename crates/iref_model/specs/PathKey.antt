@@ -1,4 +1,4 @@
--- What paths are compared by (RFC 3986 section 6.2.2).
+-- What paths are compared by (RFC 3986 section 6.2.2.3).
 use Rattle.std.specs.Prelude.{map}
 use Rattle.std.specs.declared.cmp.Ordering.{Ordering}
 use Rattle.std.specs.Ordering.{bool_cmp, ordering_then}

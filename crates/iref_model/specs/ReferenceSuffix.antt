@@ -1,4 +1,4 @@
--- What is left of a reference after a prefix, by keys (RFC 3986 section 6.2.2).
+-- What is left of a reference after a prefix, by keys.
 use Rattle.std.specs.Prelude.{◌&&◌, Option, None, if◌then◌else◌, option_map}
 use Rattle.iref_grammar.specs.Rules.{Text}
 use Rattle.iref_grammar.specs.PathValue.{PathValue}

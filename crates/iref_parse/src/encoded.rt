@@ -245,7 +245,8 @@ fn after_wide<C: CharSet, const IS_UTF8: bool>(text: &[u8]) -> Option<&[u8]>
     after_extra::<C>(text)
 }
 
-// What follows the first bytes, if they are plain, an escape or a character of the set.
+// What follows the first piece of the text: a run of plain bytes, one escape, or one character of
+// the set beyond ASCII. `IS_UTF8` says that the text is known to be UTF-8.
 #[inline(always)]
 fn after_front<C: CharSet, const IS_UTF8: bool>(text: &[u8]) -> Option<&[u8]>
     requires not_empty { 0 < length text.now }

@@ -6,8 +6,9 @@ ghost use Rattle.iref_parse.specs.Ipv6Scan as scan;
 
 use crate::ip::ipv6_value;
 
-// Whether the bytes continue an octet, and end an IPv4 address with this number of further octets.
-// The octet has digits if it is begun.
+// Whether the bytes are the rest of an octet of an IPv4 address, and then exactly `room` more
+// octets, each after a `.`. `octet` is the value of the digits that were read of the first one, and
+// `is_begun` says whether there were any.
 fn ends_in_octets(bytes: &[u8], room: u8, is_begun: bool, octet: u16) -> bool
     requires { octet < 256 }
     ensures { result ≡ scan.ends_in_octets room is_begun octet bytes.now }

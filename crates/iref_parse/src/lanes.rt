@@ -6,6 +6,7 @@ ghost use Rattle.iref_parse.specs.Lanes.{HasLanes, DifferFirstAt};
 
 use std::simd::prelude::*;
 
+// The 16 bytes from `at` on, a byte in each lane.
 #[inline(always)]
 pub(crate) fn load(bytes: &[u8], at: usize) -> u8x16
     requires { at + 16 ≤ length bytes.now }
@@ -14,6 +15,7 @@ pub(crate) fn load(bytes: &[u8], at: usize) -> u8x16
     u8x16::from_slice(&bytes[at..])
 }
 
+// The bits that both have, lane by lane.
 #[inline(always)]
 pub(crate) fn both(a: u8x16, b: u8x16) -> u8x16
     ensures { HasLanes result (λ k. bit_and (slice_index a k) (slice_index b k)) }
@@ -21,6 +23,7 @@ pub(crate) fn both(a: u8x16, b: u8x16) -> u8x16
     a & b
 }
 
+// The bits that either has, lane by lane.
 #[inline(always)]
 pub(crate) fn either(a: u8x16, b: u8x16) -> u8x16
     ensures { HasLanes result (λ k. bit_or (slice_index a k) (slice_index b k)) }
@@ -28,6 +31,7 @@ pub(crate) fn either(a: u8x16, b: u8x16) -> u8x16
     a | b
 }
 
+// The lesser byte of the two, lane by lane.
 #[inline(always)]
 pub(crate) fn lesser(a: u8x16, b: u8x16) -> u8x16
     ensures { HasLanes result (λ k. min (slice_index a k) (slice_index b k)) }
