@@ -4,3 +4,5 @@ pub mod Backward
 pub mod BackwardLaws
 pub mod Filled
 pub mod FilledLaws
+pub mod Fed
+pub mod FedLaws
