@@ -107,7 +107,7 @@ decoded_bytes A text z = All-percent_decode text (subst (All IsByte) z.2 (utf8_b
 option_bytes : (A : Rule) (o : Option Text) → IfSome o (InUtf8 A) → IfSome (option_map percent_decode o) (All IsByte)
 option_bytes A = IfSome_mapped (InUtf8 A) (All IsByte) percent_decode (decoded_bytes A)
 
-decoded_items : (A : Rule) (segments : List Text) → AllByRecursion (InUtf8 A) segments → AreBytes (map percent_decode segments)
+pub decoded_items : (A : Rule) (segments : List Text) → AllByRecursion (InUtf8 A) segments → AreBytes (map percent_decode segments)
 decoded_items A [] h = tt
 decoded_items A (s ∷ segments) h = (decoded_bytes A s h.0, decoded_items A segments h.1)
 
@@ -126,7 +126,7 @@ is_lone ([] ∷ []) h = refl
 is_lone ([] ∷ t ∷ list) h = absurd (true≢false (sym h))
 is_lone ((c ∷ s) ∷ list) h = absurd (true≢false (sym h))
 
-decoded_some : (list : List Text) → without_lone_empty list ≡ list → is_one_empty (map percent_decode list) ≡ false
+pub decoded_some : (list : List Text) → without_lone_empty list ≡ list → is_one_empty (map percent_decode list) ≡ false
 unfolding percent_decode
 decoded_some list same = by (is_one_empty (map percent_decode list)) refl
   where

@@ -5,6 +5,7 @@ pub mod CanonicalPathLemmas
 pub mod CanonicalPartLemmas
 pub mod CanonicalKeyLemmas
 pub mod CanonicalTextLemmas
+pub mod CanonicalLengthLemmas
 pub mod DecodedLemmas
 pub mod EncodedLemmas
 pub mod SetLemmas
@@ -18,7 +19,10 @@ pub mod PlainReferenceLemmas
 pub mod ShapeLemmas
 pub mod CanonicalSpellingLemmas
 mod SortKeyRows
+mod SortPrefixRows
 pub mod SortKeyLemmas
+pub mod SortPrefixLemmas
+pub mod SortLengthLemmas
 pub mod SortByteLemmas
 pub mod SortItemLemmas
 pub mod KeptPartLemmas
@@ -27,3 +31,5 @@ pub mod SortBlockLemmas
 pub mod SortShortLemmas
 pub mod PaddedLemmas
 pub mod SortCutLemmas
+pub mod HashedLemmas
+pub mod HashedPartLemmas

@@ -35,7 +35,7 @@ use Rattle.iref_canonical.proofs.PlainTextLemmas.{are_unescaped, unescaped-ascii
 lower_byte : (b : ℕ) → is_lower_byte b ≡ true → to_ascii_lowercase b ≡ b
 lower_byte b h = grind (arith, nat_tests)
 
-lower_same : (text : Text) → is_lower text ≡ true → str_to_ascii_lowercase text ≡ text
+pub lower_same : (text : Text) → is_lower text ≡ true → str_to_ascii_lowercase text ≡ text
 lower_same [] h = refl
 lower_same (c ∷ cs) h =
     let both = and_parts (is_lower_byte c) (is_lower cs) h in

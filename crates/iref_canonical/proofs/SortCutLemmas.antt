@@ -1,5 +1,5 @@
 -- A spelled text cut into its parts, as they are put into a sort key.
-use Rattle.std.proofs.Common.{arith, ◌≡◌, ℕ, zero, suc, ◌+◌, ◌<◌, ◌≤◌, ◌++◌, ◌∷◌, [], true, false, ◌&&◌, length, take, drop, refl, sym, ◌∙◌, ap, subst, append_assoc, length-append, length-take, length-take-le, not, get_or, get_or-take, cond}
+use Rattle.std.proofs.Common.{arith, ◌≡◌, ℕ, zero, suc, ◌+◌, ◌<◌, ◌≤◌, ◌++◌, ◌∷◌, [], true, false, ◌&&◌, length, take, drop, refl, sym, ◌∙◌, ap, append_assoc, length-append, length-take, length-take-le, not, get_or, get_or-take, cond}
 use Rattle.std.proofs.lemmas.Bool.Decides.{nat_tests}
 use Rattle.std.proofs.lemmas.Grind.{common_steps}
 use Rattle.std.proofs.lemmas.Bool.{and_parts}

@@ -36,11 +36,11 @@ then_assoc Equal b c = refl
 then_assoc Greater b c = refl
 
 -- of a field
-on_keeps : {A B : Type 0} {R : A → A → Ordering} {f : A → Text} (part : B → A) → KeepsOrder R f → KeepsOrder (on part R) (λ b. f (part b))
+pub on_keeps : {A B : Type 0} {R : A → A → Ordering} {f : A → Text} (part : B → A) → KeepsOrder R f → KeepsOrder (on part R) (λ b. f (part b))
 on_keeps part k = record { decides = λ a b. k.decides (part a) (part b) }
 
 -- of one and then another
-both_keep : {A : Type 0} {R S : A → A → Ordering} {f g : A → Text} → KeepsOrder R f → KeepsOrder S g → KeepsOrder (then_cmp R S) (λ a. f a ++ g a)
+pub both_keep : {A : Type 0} {R S : A → A → Ordering} {f g : A → Text} → KeepsOrder R f → KeepsOrder S g → KeepsOrder (then_cmp R S) (λ a. f a ++ g a)
 both_keep {A} {R} {S} {f} {g} k l = record { decides = by }
   where
     by : (a b : A) (r s : Text) → text_order ((f a ++ g a) ++ r) ((f b ++ g b) ++ s) ≡ ordering_then (ordering_then (R a b) (S a b)) (text_order r s)
@@ -48,7 +48,7 @@ both_keep {A} {R} {S} {f} {g} k l = record { decides = by }
         (λ i. text_order (append_assoc (f a) (g a) r i) (append_assoc (f b) (g b) s i))
         ∙ k.decides a b (g a ++ r) (g b ++ s) ∙ ap (ordering_then (R a b)) (l.decides a b r s) ∙ then_assoc (R a b) (S a b) (text_order r s)
 
-options_keep : {A : Type 0} {R : A → A → Ordering} {f : A → Text} → KeepsOrder R f → KeepsOrder (option_cmp R) (sort_option f)
+pub options_keep : {A : Type 0} {R : A → A → Ordering} {f : A → Text} → KeepsOrder R f → KeepsOrder (option_cmp R) (sort_option f)
 options_keep {A} {R} {f} k = record { decides = by }
   where
     by : (a b : Option A) (r s : Text) → text_order (sort_option f a ++ r) (sort_option f b ++ s) ≡ ordering_then (option_cmp R a b) (text_order r s)
@@ -86,7 +86,7 @@ bytes_behind = record { less = less; greater = greater }
     greater : (a : ℕ) (r s : Text) → text_order (sort_byte a ++ r) (0 ∷ s) ≡ Greater
     greater a r s = grind (arith, common_steps, nat_tests)
 
-texts_keep : KeepsOrder text_order sort_text
+pub texts_keep : KeepsOrder text_order sort_text
 unfolding sort_text
 texts_keep = lists_keep bytes_behind bytes_keep
 
@@ -96,7 +96,7 @@ texts_keep = lists_keep bytes_behind bytes_keep
 grouped : {A : Type 0} {R S : A → A → Ordering} {f : A → Text} → ((a b : A) → R a b ≡ S a b) → KeepsOrder R f → KeepsOrder S f
 grouped same k = record { decides = λ a b r s. k.decides a b r s ∙ ap (λ o. ordering_then o (text_order r s)) (same a b) }
 
-authorities_keep : KeepsOrder authority_key_cmp sort_authority
+pub authorities_keep : KeepsOrder authority_key_cmp sort_authority
 unfolding sort_authority
 authorities_keep =
     grouped

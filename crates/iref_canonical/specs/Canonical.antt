@@ -1,4 +1,4 @@
--- Canonical texts of references (RFC 3986 sections 2.1 and 6.2.2): a function of the key alone.
+-- Canonical texts of references (RFC 3986 section 2.1): a function of the key alone.
 use Rattle.std.specs.Prelude.{ℕ, Bool, not, ◌&&◌, List, [], ◌∷◌, map, codes, option_map, if◌then◌else◌}
 use Rattle.std.specs.List.{flat_map}
 use Rattle.percent_encoding.specs.Percent.{percent_encode_byte}

@@ -5,9 +5,12 @@ pub mod Decoded
 pub mod Lower
 pub mod FutureLiteral
 pub mod SortKey
+pub mod SortPrefix
 pub mod SpelledItems
 pub mod SortBytes
 pub mod SortItems
 pub mod SortedReferences
 pub mod SortPuts
 pub mod Padded
+pub mod Hashed
+pub mod HashedParts

@@ -1,4 +1,4 @@
--- Sort keys of references (RFC 3986 section 6.2.2): bytes in whose order the keys stand in theirs.
+-- Sort keys of references: bytes in whose order the keys stand in theirs.
 use Rattle.std.specs.Prelude.{ℕ, ◌==◌, List, [], ◌∷◌, ◌++◌, Option, None, Some, if◌then◌else◌}
 use Rattle.std.specs.List.{flat_map}
 use Rattle.iref_grammar.specs.Authority.{AuthorityValue}

@@ -1,4 +1,4 @@
-//! The authority of the canonical text of a reference (RFC 3986 sections 3.2 and 6.2.2).
+//! The authority of the canonical text of a reference (RFC 3986 sections 3.2 and 6.2.2.2).
 ghost use Rattle.std.specs.{Prelude.{◌≡◌, [], ◌∷◌, option_map}, Option.{option_copied}};
 ghost use Rattle.percent_encoding.specs.Percent.{percent_decode};
 ghost use Rattle.iref_grammar.specs.{Authority.{read_authority, spell_authority}, Characters.{uri_chars}};

@@ -1,7 +1,7 @@
 //! The bytes that a text decodes to, encoded anew (RFC 3986 section 2.1).
-ghost use Rattle.std.specs.{Prelude.{◌≡◌, false, map, [], MatchOption}, Str.{str_to_ascii_lowercase}};
+ghost use Rattle.std.specs.{Prelude.{◌≡◌, false, [], MatchOption}, Str.{str_to_ascii_lowercase}};
 ghost use Rattle.percent_encoding.specs.Percent.{encode_byte, percent_decode, percent_encode};
-ghost use Rattle.iref_canonical.specs.Decoded.{SplitsLast, ends_in_escape};
+ghost use Rattle.iref_canonical.specs.Decoded.{SplitsLast, ends_in_escape, is_passed};
 
 use iref_splice::backward::Backward;
 use percent_encoding::{AsciiSet, NON_ALPHANUMERIC, ascii_set, percent_encode_byte};
@@ -54,7 +54,7 @@ fn split_last_escape(text: &[u8]) -> Option<(&[u8], u8)>
 /// The last byte that the text decodes to, and what stands before it.
 #[inline(always)]
 #[tactic(auto, using(crate::proofs::DecodedLemmas::splits))]
-pub(crate) fn split_last_decoded(text: &[u8]) -> Option<(&[u8], u8)>
+pub fn split_last_decoded(text: &[u8]) -> Option<(&[u8], u8)>
     ensures { MatchOption result (text.now ≡ [])
         (λ split. SplitsLast text.now split.0.now split.1) }
 {
@@ -78,12 +78,25 @@ fn put_byte<O: Backward>(out: &mut O, byte: u8, set: AsciiSet)
     }
 }
 
-/// Puts the bytes that the text decodes to, those of the set escaped.
+// Whether no byte of the text is `%` or in the set, so that decoded and encoded anew it stands.
+#[inline(always)]
+fn is_passed(text: &str, set: AsciiSet) -> bool
+    ensures { result ≡ is_passed set text.now }
+{
+    text.bytes()
+        .all(|byte| byte != b'%' && !set.should_percent_encode(byte))
+}
+
+/// Puts the bytes that the text decodes to, those of the set escaped. Most texts stand as they are.
 #[tactic(auto, using(crate::proofs::EncodedLemmas::lasts))]
 pub(crate) fn put_encoded<O: Backward>(out: &mut O, text: &str, set: AsciiSet)
     requires { O.fits out.old (percent_encode set (percent_decode text.now)) }
     ensures { out.new ≡ O.after out.old (percent_encode set (percent_decode text.now)) }
 {
+    if is_passed(text, set) {
+        out.put(text.as_bytes());
+        return;
+    }
     let mut rest = text.as_bytes();
     while let Some((front, byte)) = split_last_decoded(rest) {
         put_byte(out, byte, set);

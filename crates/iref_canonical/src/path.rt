@@ -1,4 +1,5 @@
-//! The path of the canonical text of a reference (RFC 3986 section 6.2.2).
+//! The path of the canonical text of a reference (RFC 3986 sections 6.2.2.2 and
+//! 6.2.2.3).
 ghost use Rattle.std.specs.Prelude.{◌≡◌, ◌-◌, ◌<◌, ◌≤◌, ◌^◌, ◌++◌, ◌∷◌, [], length, if◌then◌else◌};
 ghost use Rattle.std.specs.{Char.{char_set_contains}, List.{join_with_byte}};
 ghost use Rattle.percent_encoding.specs.Percent.{percent_decode};

@@ -1,18 +1,18 @@
-//! Texts that one scan finds to be canonical (RFC 3986 section 6.2.2).
-ghost use Rattle.std.specs.{Prelude.{◌≡◌, true}, List.{list_all}, Option.{option_copied}};
+//! Texts that one scan finds to be canonical.
+ghost use Rattle.std.specs.{Prelude.{◌≡◌, true}, Option.{option_copied}};
 ghost use Rattle.iref_grammar.specs.{Reference.{is_reference, read_reference}, Tests.{none_or}};
 ghost use Rattle.iref_model.specs.Key.{key};
 ghost use Rattle.iref_parse.specs.ReferenceSlices.{value_of};
-ghost use Rattle.iref_canonical.specs.{Canonical.{canonical_text}, Lower.{is_lower, is_lower_byte}};
+ghost use Rattle.iref_canonical.specs.{Canonical.{canonical_text}, Lower.{is_lower}};
 
 use iref_grammar::chars::CharSet;
 use iref_parse::dots::has_dots;
 use iref_parse::split::ReferenceSlices;
 use iref_parse::unescaped::is_unescaped;
 
-// Whether the text has no upper-case letter.
+/// Whether the text has no upper-case letter.
 #[inline(always)]
-fn is_lower(text: &str) -> bool
+pub fn is_lower(text: &str) -> bool
     ensures { result ≡ is_lower text.now }
 {
     text.bytes().all(|byte| !byte.is_ascii_uppercase())

@@ -1,11 +1,12 @@
-//! The canonical text of a reference, from the components of its text (RFC 3986 section 6.2.2).
-ghost use Rattle.std.specs.Prelude.{◌≡◌, ◌++◌, ◌∷◌, [], codes, bytes_eq, length, option_map, IfOk};
+//! The canonical text of a reference, from the components of its text (RFC 3986 section 5.3).
+ghost use Rattle.std.specs.Prelude.{◌≡◌, ◌∷◌, [], codes, bytes_eq, fold, length, option_map, IfOk};
 ghost use Rattle.std.specs.{Option.{option_copied}, Str.{str_to_ascii_lowercase}};
-ghost use Rattle.iref_grammar.specs.{Grammar.{colon}, Rules.{Text}, Texts.{part_then, then_part}};
+ghost use Rattle.iref_grammar.specs.{Grammar.{colon}, Texts.{part_then, then_part}};
 ghost use Rattle.iref_model.specs.Key.{key};
 ghost use Rattle.iref_parse.specs.ReferenceSlices.{value_of};
 ghost use Rattle.iref_canonical.specs.{Canonical.{canonical_text}, CanonicalParts.{encoded_authority, encoded_query}};
 ghost use Rattle.iref_canonical.specs.CanonicalReferences.{IsMeasured, measured_canonical};
+ghost use Rattle.iref_splice.specs.Fed.{fed_text};
 
 use crate::authority::put_authority;
 use crate::encoded::{QUERY, put_encoded, put_lower};
@@ -14,7 +15,9 @@ use iref_grammar::context::PathContext;
 use iref_parse::split::ReferenceSlices;
 use iref_splice::Memory;
 use iref_splice::backward::{Backward, Compared, Count, Filled};
+use iref_splice::fed::Fed;
 use std::alloc::{AllocError, Global};
+use std::hash::Hasher;
 
 /// The canonical text of a reference, not written yet.
 #[derive(Clone, Copy)]
@@ -120,6 +123,17 @@ impl<'a> CanonicalReference<'a> {
         let mut bytes = vec![in alloc; 0u8; self.len()?]?;
         self.fill(&mut bytes);
         Ok(bytes)
+    }
+
+    /// Feeds the text to a hasher.
+    #[tactic(auto, unfolding(iref_splice::specs::Fed::fed_text))]
+    pub fn feed<H: Hasher>(&self, state: &mut H)
+        requires { IsMeasured self.now }
+        ensures { state.new ≡ fold H.write state.old (fed_text (measured_canonical self.now)) }
+    {
+        let mut fed = Fed::new(state);
+        self.put(&mut fed);
+        fed.end();
     }
 
     /// Whether these are the bytes of the text.

@@ -1,5 +1,4 @@
-//! The sort key of a reference, from its text and the slices of its components (RFC 3986 section
-//! 6.2.2).
+//! The sort key of a reference, from its text and the slices of its components.
 
 ghost use Rattle.std.specs.Prelude.{◌≡◌, ◌++◌, IfOk, OnErr, OnOk, length};
 ghost use Rattle.iref_grammar.specs.{ComponentTexts.{spell_components}, Reference.{read_reference}};
@@ -17,20 +16,23 @@ use iref_splice::Memory;
 use iref_splice::backward::{Backward, Count, Filled};
 use std::alloc::{AllocError, Global};
 
-// The sort key of a reference, not written yet.
+/// The sort key of a reference, not written yet.
 #[derive(Clone, Copy)]
-struct SortedReference<'a> {
-    slices: ReferenceSlices<'a>,
-    absolute: bool,
-    items: Items<'a>,
-    // Each byte stands as it is.
-    kept: bool,
+pub(crate) struct SortedReference<'a> {
+    /// The slices of its components.
+    pub(crate) slices: ReferenceSlices<'a>,
+    /// Whether its path is absolute.
+    pub(crate) absolute: bool,
+    /// The items of its path.
+    pub(crate) items: Items<'a>,
+    /// Each byte stands as it is.
+    pub(crate) kept: bool,
 }
 
 impl<'a> SortedReference<'a> {
-    // The sort key of the reference of these components.
+    /// The sort key of the reference of these components.
     #[tactic(auto, unfolding(iref_model::specs::Key::key, iref_model::specs::PathKey::path_key))]
-    fn new(text: &str, slices: ReferenceSlices<'a>) -> Self
+    pub(crate) fn new(text: &str, slices: ReferenceSlices<'a>) -> Self
         requires value { value_of slices ≡ read_reference text.now }
         requires texts { texts_of slices ≡ spell_components (read_reference text.now) }
         ensures key { sorted_key result ≡ key (read_reference text.now) }

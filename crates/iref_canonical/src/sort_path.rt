@@ -104,6 +104,16 @@ impl<'a> Items<'a> {
         ensures { out.new ≡ O.after out.old (sort_list sort_item (items_of self.entry)) }
     {
         out.put(&[0]);
+        self.put_open(out);
+    }
+
+    /// Puts the items, which more can follow.
+    #[inline(always)]
+    pub(crate) fn put_open<O: Backward>(self, out: &mut O)
+        requires sound { AreItems self }
+        requires fits { O.fits out.old (flat_map sort_item (items_of self)) }
+        ensures { out.new ≡ O.after out.old (flat_map sort_item (items_of self.entry)) }
+    {
         match self {
             Items::Kept(segments) => {
                 if !put_size(out, segments) {

@@ -10,7 +10,7 @@ ghost use Rattle.iref_grammar.specs.Reference.{read_reference};
 ghost use Rattle.iref_model.specs.Key.{key};
 ghost use Rattle.iref_parse.specs.{Dots.{has_dot_segment}, ReferenceSlices.{texts_of, value_of}};
 ghost use Rattle.iref_canonical.specs.{Padded.{IsPadded, text_in}, SortBytes.{is_kept, are_kept_parts}};
-ghost use Rattle.iref_canonical.specs.{SortItems.{AreKept}, SortKey.{sort_authority, sort_item, sort_key, sort_list}};
+ghost use Rattle.iref_canonical.specs.{SortKey.{sort_authority, sort_item, sort_key, sort_list}};
 ghost use Rattle.iref_canonical.specs.{SortKey.{sort_option, sort_path, sort_text}, SortPuts.{AreKeptSlices, Puts}};
 ghost use Rattle.iref_canonical.specs.SortPuts.{segment_bytes, sorted_from_authority, sorted_slices, sorted_tail};
 ghost use Rattle.iref_canonical.specs.SortPuts.{spelled_from_authority, spelled_slices, spelled_tail};

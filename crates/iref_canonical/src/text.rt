@@ -1,16 +1,18 @@
-//! Canonical texts from the texts of references (RFC 3986 section 6.2.2).
-ghost use Rattle.std.specs.{Prelude.{◌≡◌, true, bytes_eq, IfOk}, String.{string_bytes}};
+//! Canonical texts from the texts of references: those with one key have one text.
+ghost use Rattle.std.specs.{Prelude.{◌≡◌, true, bytes_eq, fold, IfOk}, String.{string_bytes}};
 ghost use Rattle.iref_grammar.specs.Reference.{IsReadable, is_reference, read_reference};
 ghost use Rattle.iref_model.specs.Key.{key};
 ghost use Rattle.iref_parse.specs.ReferenceSlices.{value_of};
-ghost use Rattle.iref_canonical.specs.Canonical.{canonical_text};
+ghost use Rattle.iref_canonical.specs.{Canonical.{canonical_text}, Hashed.{fed_reference}};
 
 use crate::plain::is_plain;
 use crate::reference::CanonicalReference;
 use iref_grammar::chars::CharSet;
 use iref_parse::split::ReferenceSlices;
 use iref_splice::Memory;
+use iref_splice::fed::feed_text;
 use std::alloc::Global;
+use std::hash::Hasher;
 
 /// The canonical text of a reference, written from its components: of `HTTP://a/%7Eb`, `http://a/~b`.
 /// The room is taken once.
@@ -35,4 +37,27 @@ pub fn is_canonical<C: CharSet>(text: &str, slices: ReferenceSlices<'_>) -> bool
     ensures { result ≡ bytes_eq text.now (canonical_text (key (read_reference text.now))) }
 {
     is_plain::<C>(text, slices) || CanonicalReference::new(slices).is(text.as_bytes())
+}
+
+/// Feeds the canonical text of a reference, of which text and components are given, to a hasher. A
+/// text that one scan finds to be canonical is read as it stands.
+#[tactic(auto, unfolding(crate::specs::Hashed::fed_reference))]
+pub fn feed_canonical<C: CharSet, H: Hasher>(text: &str, slices: ReferenceSlices<'_>, state: &mut H)
+    requires reference { is_reference C.tests text.now ≡ true }
+    requires slices { value_of slices ≡ read_reference text.now }
+    ensures { state.new ≡ fold H.write state.old (fed_reference (key (read_reference text.now))) }
+{
+    if is_plain::<C>(text, slices) {
+        feed_text(text.as_bytes(), state);
+    } else {
+        feed_slices(slices, state);
+    }
+}
+
+/// Feeds the canonical text of the reference of these components to a hasher.
+#[tactic(auto, unfolding(crate::specs::Hashed::fed_reference))]
+pub fn feed_slices<H: Hasher>(slices: ReferenceSlices<'_>, state: &mut H)
+    ensures { state.new ≡ fold H.write state.old (fed_reference (key (value_of slices.entry))) }
+{
+    CanonicalReference::new(slices).feed(state);
 }

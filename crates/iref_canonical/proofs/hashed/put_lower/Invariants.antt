@@ -1,0 +1,13 @@
+use Rattle.std.proofs.Common.{◌≡◌, length}
+use Rattle.std.specs.Str.{str_to_ascii_lowercase}
+use Rattle.iref_canonical.specs.HashedParts.{hashed_bytes}
+use Rattle.iref_canonical.proofs.hashed.put_lower.Given as goal
+
+abbrev pub invariant-loop-last : goal.invariant-loop-last
+invariant-loop-last g l = record {
+  same : g.O.Backward.after l.out (hashed_bytes (str_to_ascii_lowercase l.rest)) ≡ g.O.Backward.after l.fn.out (hashed_bytes (str_to_ascii_lowercase l.fn.text));
+  fits : g.O.Backward.fits l.out (hashed_bytes (str_to_ascii_lowercase l.rest));
+}
+
+abbrev pub decreases-loop-last : goal.decreases-loop-last
+decreases-loop-last g l = length l.rest

@@ -1,0 +1,109 @@
+//! The sort prefix of a reference, with which the sort keys of all below it begin, from its text and the
+//! slices of its components.
+
+ghost use Rattle.std.specs.{BTreeMap.Range.{IsLeBy}, Prelude.{◌≡◌, ◌++◌, IfOk, OnErr, OnOk, length}};
+ghost use Rattle.iref_grammar.specs.{ComponentTexts.{spell_components}, Keys.{text_order}, Reference.{read_reference}};
+ghost use Rattle.iref_model.specs.Key.{key};
+ghost use Rattle.iref_parse.specs.ReferenceSlices.{texts_of, value_of};
+ghost use Rattle.iref_canonical.specs.SortPrefix.{sort_path_prefix, sort_prefix, sort_prefix_end};
+ghost use Rattle.iref_canonical.specs.SortedReferences.{IsSorted, sorted_key};
+
+use crate::owned::SortKey;
+use crate::sort_key::SortedReference;
+use crate::sort_parts::{put_authority_option, put_scheme};
+use iref_parse::split::ReferenceSlices;
+use iref_splice::Memory;
+use iref_splice::backward::{Backward, Count, Filled};
+use std::alloc::{AllocError, Global};
+use std::ops::Range;
+
+impl SortedReference<'_> {
+    // Puts the path, which more items can follow.
+    #[tactic(auto, unfolding(crate::specs::SortPrefix::sort_path_prefix))]
+    fn put_path_prefix<O: Backward>(&self, out: &mut O)
+        requires sorted { IsSorted self.now }
+        requires fits { O.fits out.old (sort_path_prefix (sorted_key self.now).path) }
+        ensures { out.new ≡ O.after out.old (sort_path_prefix (sorted_key self.now).path) }
+    {
+        self.items.put_open(out);
+        out.put(&[u8::from(self.absolute)]);
+    }
+
+    // Puts the sort prefix.
+    #[tactic(auto, unfolding(crate::specs::SortPrefix::sort_prefix))]
+    fn put_prefix<O: Backward>(&self, out: &mut O)
+        requires sorted { IsSorted self.now }
+        requires fits { O.fits out.old (sort_prefix (sorted_key self.now)) }
+        ensures { out.new ≡ O.after out.old (sort_prefix (sorted_key self.now)) }
+    {
+        self.put_path_prefix(out);
+        put_authority_option(out, self.slices.authority, self.kept);
+        put_scheme(out, self.slices.scheme);
+    }
+
+    // How many bytes the sort prefix has, if they can be counted.
+    fn prefix_len(&self) -> Result<usize, AllocError>
+        requires { IsSorted self.now }
+        ensures { IfOk result (λ len. len ≡ length (sort_prefix (sorted_key self.now))) }
+    {
+        let mut count = Count::new();
+        self.put_prefix(&mut count);
+        count.len()
+    }
+
+    // Fills the buffer with the sort prefix.
+    fn fill_prefix(&self, buffer: &mut [u8])
+        requires sorted { IsSorted self.now }
+        requires len { length buffer.old ≡ length (sort_prefix (sorted_key self.now)) }
+        ensures { buffer.new ≡ sort_prefix (sorted_key self.now) }
+    {
+        let mut filled = Filled::new(buffer);
+        self.put_prefix(&mut filled);
+    }
+}
+
+/// Appends the sort prefix of a reference to a vector, from the reference's text and the slices of
+/// its components. The room is taken once.
+pub fn append_sort_prefix(
+    text: &str,
+    slices: ReferenceSlices<'_>,
+    out: &mut Vec<u8>,
+) -> Result<(), Memory>
+    requires value { value_of slices ≡ read_reference text.now }
+    requires texts { texts_of slices ≡ spell_components (read_reference text.now) }
+    ensures ok { OnOk result (out.new.items
+        ≡ out.old.items ++ sort_prefix (key (read_reference text.now))) }
+    ensures err { OnErr result (out.new.items ≡ out.old.items) }
+{
+    let sorted = SortedReference::new(text, slices);
+    let len = sorted.prefix_len()?;
+    let start = out.len();
+    let end = start.checked_add(len).ok_or(AllocError)?;
+    out.resize(end, 0)?;
+    sorted.fill_prefix(&mut out[start..]);
+    Ok(())
+}
+
+/// The range of the sort keys of a reference and of all below it, from the reference's text and the
+/// slices of its components. The room of each end is taken once.
+#[tactic(auto, using(crate::proofs::SortPrefixLemmas::ends))]
+pub fn sort_range(
+    alloc: Global,
+    text: &str,
+    slices: ReferenceSlices<'_>,
+) -> Result<Range<SortKey>, Memory>
+    requires value { value_of slices ≡ read_reference text.now }
+    requires texts { texts_of slices ≡ spell_components (read_reference text.now) }
+    ensures start { IfOk result
+        (λ range. range.start ≡ sort_prefix (key (read_reference text.now))) }
+    ensures end { IfOk result
+        (λ range. range.end ≡ sort_prefix_end (key (read_reference text.now))) }
+    ensures forward { IfOk result (λ range. IsLeBy text_order range.start range.end) }
+{
+    let mut start = Vec::new(alloc);
+    append_sort_prefix(text, slices, &mut start)?;
+    let mut end = Vec::with_capacity(alloc, start.len() + 1)?;
+    end.extend_from_slice(start.as_slice())?;
+    end.push(2)?;
+    Ok(SortKey::of_bytes(start)..SortKey::of_bytes(end))
+}
