@@ -1,5 +1,5 @@
 -- Two lists that are read from the back, and compared.
-use Rattle.std.proofs.Common.{◌≡◌, ℕ, ◌+◌, Bool, true, cond, List, [], ◌∷◌, ◌++◌, length, take, arith, length-append, nat_lt, Ordering, Equal}
+use Rattle.std.proofs.Common.{◌≡◌, ◌∙◌, ap, ℕ, ◌+◌, ◌-◌, Bool, true, false, cond, List, [], ◌∷◌, ◌++◌, length, take, arith, length-append, nat_lt, Ordering, Equal}
 use Rattle.std.proofs.lemmas.Grind.{common_steps}
 use Rattle.std.specs.List.{common_prefix_len}
 use Rattle.std.specs.Cmp.Lexicographic.{slice_cmp}
@@ -30,6 +30,24 @@ module _ {A : Type 0} (E : A → A → Bool) where
   pub common-cut : (xs ys : List A) → common_prefix_len E xs ys ≡ common_prefix_len E (take (length ys) xs) (take (length xs) ys)
   common-cut [] ys = grind (arith, common_steps)
   common-cut (x ∷ xs) ys = grind (arith, common_steps, common-cut xs)
+
+  -- nothing is read yet
+  pub common-unread : (xs ys : List A) (n : ℕ) → length xs ≡ n → common_prefix_len E xs ys ≡ or_else (common_prefix_len E xs ys) (length xs) n
+  common-unread xs ys n h = grind (arith, common_prefix_len-le)
+
+  -- a last pair is read, which is the same, or is not
+  module _ (xs ys us vs : List A) (s t : A) (common n : ℕ) (left : length xs ≡ n) (right : length ys ≡ n) (e : xs ≡ us ++ s ∷ []) (f : ys ≡ vs ++ t ∷ []) where
+    pub sizes-before : (length us + 1 ≡ n) × (length vs + 1 ≡ n)
+    sizes-before = (omega (arith, ap length e, length-append us (s ∷ [])), omega (arith, ap length f, length-append vs (t ∷ [])))
+
+    joined-before : common_prefix_len E xs ys ≡ or_else (common_prefix_len E us vs) (length us) (cond (E s t) (length us + 1) (length us))
+    joined-before = (λ i. common_prefix_len E (e i) (f i)) ∙ common-last us vs s t (omega (arith, sizes-before))
+
+    pub common-agrees : E s t ≡ true → or_else (common_prefix_len E xs ys) (length xs) common ≡ or_else (common_prefix_len E us vs) (length us) common
+    common-agrees h = grind (arith, nat_tests, joined-before, sizes-before, common_prefix_len-le E us vs)
+
+    pub common-differs : E s t ≡ false → or_else (common_prefix_len E xs ys) (length xs) common ≡ or_else (common_prefix_len E us vs) (length us) (n - 1)
+    common-differs h = grind (arith, nat_tests, joined-before, sizes-before, common_prefix_len-le E us vs)
 
 -- ---- two items
 

@@ -35,11 +35,11 @@ use Rattle.std.proofs.lemmas.Str.Pattern.{strip_prefix_char}
 pub dotless_name : (s : Text) → begins_with_dot s ≡ false → is_name s ≡ true
 dotless_name s h = grind (arith, bytes_eq-Decides)
 
-none_open : (list : List Text) → is_some_dotted list ≡ false → open_before list 0 ≡ 0
+pub none_open : (list : List Text) → is_some_dotted list ≡ false → open_before list 0 ≡ 0
 none_open [] h = refl
 none_open (s ∷ rest) h = grind (arith, dotless_name, name_no_parent, none_open rest)
 
-all_stay : (list : List Text) → is_some_dotted list ≡ false → staying_before list 0 ≡ list
+pub all_stay : (list : List Text) → is_some_dotted list ≡ false → staying_before list 0 ≡ list
 all_stay [] h = refl
 all_stay (s ∷ rest) h = grind (arith, dotless_name, none_open, all_stay rest)
 
@@ -95,7 +95,7 @@ first_of_both_texts front back = grind (arith, some_piece slash (unwrap_or front
 -- ---- the steps from a directory
 
 -- what holds of no item holds of none before the last
-none_in_front : (test : Text → Bool) (list : List Text) → list_any test list ≡ false → list_any test (all_but_last list) ≡ false
+pub none_in_front : (test : Text → Bool) (list : List Text) → list_any test list ≡ false → list_any test (all_but_last list) ≡ false
 none_in_front test [] h = refl
 none_in_front test (s ∷ rest) h = grind (arith, none_in_front test rest)
 

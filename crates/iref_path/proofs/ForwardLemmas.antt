@@ -1,5 +1,5 @@
 -- The normal list of segments, written forward.
-use Rattle.std.proofs.Common.{add-one, ◌||◌, length-take, eqb, get_or, get_or-take, ◌<◌, ⊎_elim, ◌≡◌, ℕ, ◌+◌, ◌-◌, Bool, true, false, cond, List, [], ◌∷◌, ◌++◌, length, take, drop, refl, sym, ◌∙◌, ap, append_assoc, length-append, arith}
+use Rattle.std.proofs.Common.{add-one, ◌||◌, length-take, eqb, get_or, get_or-take, ◌<◌, ⊎_elim, ◌≡◌, ℕ, ◌+◌, ◌-◌, true, false, cond, List, [], ◌∷◌, ◌++◌, length, take, drop, refl, sym, ◌∙◌, ap, append_assoc, length-append, arith}
 use Rattle.std.proofs.lemmas.Bool.Decides.{nat_tests}
 use Rattle.std.proofs.lemmas.Grind.{common_steps}
 use Rattle.std.proofs.lemmas.List.{append-nil, drop_all, get_or_past, take_all, take_at, drop_at}

@@ -22,4 +22,7 @@ pub mod RewritingLemmas
 pub mod WrittenLemmas
 pub mod DotlessLemmas
 pub mod RelativeStepLemmas
+pub mod ClimbLemmas
+pub mod TextStepLemmas
+pub mod SettledTextLemmas
 pub mod ForwardLemmas

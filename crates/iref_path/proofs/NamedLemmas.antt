@@ -29,7 +29,7 @@ use Rattle.iref_path.proofs.OrderLemmas.{decoded, flags_decide, lists_decide}
 
 -- ---- the list
 
-none_open : (list : List Text) → list_any is_dot_dot list ≡ false → open_before list 0 ≡ 0
+pub none_open : (list : List Text) → list_any is_dot_dot list ≡ false → open_before list 0 ≡ 0
 none_open [] h = refl
 none_open (s ∷ rest) h = grind (arith, none_open rest)
 

@@ -1,7 +1,7 @@
 -- The steps from one text of segments to another: what both begin with does not count.
 use Rattle.std.proofs.Common.{length-append, ◌≡◌, ℕ, ◌+◌, ◌*◌, ◌<◌, true, false, List, [], ◌∷◌, ◌++◌, length, refl, arith, append_assoc}
 use Rattle.std.proofs.lemmas.Bool.Decides.{nat_tests}
-use Rattle.std.specs.Prelude.{◌==◌, codes, count_by, replicate}
+use Rattle.std.specs.Prelude.{◌==◌, Bool, bytes_eq, codes, count_by, replicate}
 use Rattle.std.specs.List.{common_prefix_len, join_with_byte}
 use Rattle.std.proofs.lemmas.List.Splits.{length-slice_split}
 use Rattle.iref_grammar.specs.Rules.{Text}
@@ -9,39 +9,39 @@ use Rattle.iref_grammar.specs.Grammar.{slash}
 use Rattle.iref_grammar.specs.Texts.{all_but_last, pieces_at}
 use Rattle.iref_grammar.proofs.TextLemmas.{join-pieces_at}
 use Rattle.iref_model.specs.PathSuffix.{same_decoded}
-use Rattle.iref_model.specs.Relative.{steps_between}
 use Rattle.iref_model.proofs.LeadingLemmas.{divided_last}
 use Rattle.iref_model.proofs.PieceLemmas.{some_piece}
 use Rattle.iref_path.specs.Bodies.{parents_then}
 use Rattle.iref_path.specs.Spelling.{each_closed}
-use Rattle.iref_path.specs.StepsBetween.{text_steps}
+use Rattle.iref_path.specs.StepsBetween.{steps_with, text_steps, text_steps_by_text, text_steps_with}
 use Rattle.iref_path.proofs.SpellLemmas.{length-joined, size-append, size-parents, length-join}
 
--- equal first segments do not count
-steps-behind : (s t p : Text) (d ps : List Text) → same_decoded s t ≡ true → steps_between (s ∷ d) (t ∷ p ∷ ps) ≡ steps_between d (p ∷ ps)
-steps-behind s t p d ps h = grind arith
+module _ (same : Text → Text → Bool) where
+  -- equal first segments do not count
+  steps-behind : (s t p : Text) (d ps : List Text) → same s t ≡ true → steps_with same (s ∷ d) (t ∷ p ∷ ps) ≡ steps_with same d (p ∷ ps)
+  steps-behind s t p d ps h = grind arith
 
--- ---- the texts
+  -- ---- the texts
 
-module _ (base path : Text) where
-  abbrev pub climbed : Type 0
-  climbed = text_steps base path ≡ replicate (length (all_but_last (pieces_at slash base))) (codes "..") ++ pieces_at slash path
+  module _ (base path : Text) where
+    abbrev pub climbed : Type 0
+    climbed = text_steps_with same base path ≡ replicate (length (all_but_last (pieces_at slash base))) (codes "..") ++ pieces_at slash path
 
-  apart_by : (p : Text) (ps : List Text) → pieces_at slash path ≡ p ∷ ps → common_prefix_len same_decoded (all_but_last (pieces_at slash base)) (all_but_last (p ∷ ps)) ≡ 0 → climbed
-  apart_by p ps k h = grind (arith, append_assoc, divided_last p ps)
+    apart_by : (p : Text) (ps : List Text) → pieces_at slash path ≡ p ∷ ps → common_prefix_len same (all_but_last (pieces_at slash base)) (all_but_last (p ∷ ps)) ≡ 0 → climbed
+    apart_by p ps k h = grind (arith, append_assoc, divided_last p ps)
 
-  -- the base is one segment
-  pub apart-base : (s : Text) → pieces_at slash base ≡ s ∷ [] → climbed
-  apart-base s h = let some = some_piece slash path in grind (arith, apart_by some.0 some.1)
+    -- the base is one segment
+    pub apart-base : (s : Text) → pieces_at slash base ≡ s ∷ [] → climbed
+    apart-base s h = let some = some_piece slash path in grind (arith, apart_by some.0 some.1)
 
-  module _ (s t below rest : Text) (h : pieces_at slash base ≡ s ∷ pieces_at slash below) (k : pieces_at slash path ≡ t ∷ pieces_at slash rest) where
-    -- the first segments decode to the same bytes
-    pub behind : same_decoded s t ≡ true → text_steps below rest ≡ text_steps base path
-    behind same = grind (arith, some_piece slash below, some_piece slash rest, steps-behind)
+    module _ (s t below rest : Text) (h : pieces_at slash base ≡ s ∷ pieces_at slash below) (k : pieces_at slash path ≡ t ∷ pieces_at slash rest) where
+      -- the first segments are the same
+      pub behind : same s t ≡ true → text_steps_with same below rest ≡ text_steps_with same base path
+      behind equal = grind (arith, some_piece slash below, some_piece slash rest, steps-behind)
 
-    -- they do not
-    pub apart-first : same_decoded s t ≡ false → climbed
-    apart-first other = grind (arith, some_piece slash below, some_piece slash rest, apart_by)
+      -- they are not
+      pub apart-first : same s t ≡ false → climbed
+      apart-first other = grind (arith, some_piece slash below, some_piece slash rest, apart_by)
 
 -- what follows the first segment is shorter
 pub shorter : (text s rest : Text) → pieces_at slash text ≡ s ∷ pieces_at slash rest → length rest < length text
@@ -73,4 +73,28 @@ up-size up path = grind (arith, up_length, size-append, size-parents, some_piece
 
 pub ruleset sizes = (length-join, up_length)
 
-pub ruleset apart = (apart-base, apart-first, behind, shorter)
+-- ---- both ways to compare
+
+module _ (base path : Text) where
+  pub base-decoded : (s : Text) → pieces_at slash base ≡ s ∷ [] → climbed same_decoded base path
+  base-decoded = apart-base same_decoded base path
+
+  pub base-text : (s : Text) → pieces_at slash base ≡ s ∷ [] → climbed bytes_eq base path
+  base-text = apart-base bytes_eq base path
+
+  module _ (s t below rest : Text) (h : pieces_at slash base ≡ s ∷ pieces_at slash below) (k : pieces_at slash path ≡ t ∷ pieces_at slash rest) where
+    pub behind-decoded : same_decoded s t ≡ true → text_steps below rest ≡ text_steps base path
+    behind-decoded = behind same_decoded base path s t below rest h k
+
+    pub first-decoded : same_decoded s t ≡ false → climbed same_decoded base path
+    first-decoded = apart-first same_decoded base path s t below rest h k
+
+    pub behind-text : bytes_eq s t ≡ true → text_steps_by_text below rest ≡ text_steps_by_text base path
+    behind-text = behind bytes_eq base path s t below rest h k
+
+    pub first-text : bytes_eq s t ≡ false → climbed bytes_eq base path
+    first-text = apart-first bytes_eq base path s t below rest h k
+
+pub ruleset apart = (base-decoded, first-decoded, behind-decoded, shorter)
+
+pub ruleset apart_by_text = (base-text, first-text, behind-text, shorter)

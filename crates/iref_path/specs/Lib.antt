@@ -12,7 +12,7 @@ pub use Rattle.iref_model.specs.PathHash.{fed_from_the_back, fed_path}
 pub use Rattle.iref_model.specs.PathKey.{path_key, path_key_cmp}
 pub use Rattle.iref_model.specs.PathSteps.{normalized}
 pub use Rattle.iref_path.specs.Pieces.{pieces_if_some, text_at, value_at}
-pub use Rattle.iref_path.specs.NormalItems.{decoded_left, first_or, IsFate, IsSound, KeepsEnds, names_left, normal_left, open_at_start, to_read}
+pub use Rattle.iref_path.specs.NormalItems.{decoded_left, first_or, IsSound, KeepsEnds, names_left, normal_left, open_at_start, to_read}
 pub use Rattle.iref_path.specs.Spelling.{each_closed}
 pub mod Named
 pub mod Pieces
@@ -24,6 +24,7 @@ pub mod PathParts
 pub mod StepTexts
 pub mod MergedPaths
 pub mod StepsBetween
+pub mod ShortestPaths
 pub mod Bodies
 pub mod MeasuredPaths
 pub mod Suffixes

@@ -1,8 +1,8 @@
 -- What is left of a normal list that is read from both ends of a path's text.
-use Rattle.std.specs.Prelude.{◌≡◌, ◌≢◌, ℕ, ◌+◌, ◌<◌, ◌≤◌, ◌^◌, Bool, true, false, not, ◌&&◌, ◌||◌, ◌==◌, List, [], ◌∷◌, ◌++◌, Option, Some, None, codes, length, map, replicate}
+use Rattle.std.specs.Prelude.{◌≡◌, ℕ, ◌+◌, ◌<◌, ◌≤◌, ◌^◌, Bool, false, List, [], ◌∷◌, ◌++◌, Option, Some, None, codes, length, map, replicate}
 use Rattle.std.specs.Prelude.{if◌then◌else◌}
 use Rattle.std.specs.Borrow.{Bor}
-use Rattle.std.specs.List.{list_all}
+use Rattle.std.specs.List.{list_any}
 use Rattle.percent_encoding.specs.Percent.{percent_decode}
 use Rattle.iref_grammar.specs.Rules.{Text}
 use Rattle.iref_grammar.specs.PathValue.{PathValue, read_path}
@@ -20,7 +20,7 @@ flagged_path absolute text = record (read_path text) { absolute = absolute }
 -- this number of `..`, of names among the segments of both texts, and of closing segments, of which none has been given
 abbrev pub unread_items : ℕ → ℕ → Option (Bor Text) → Option (Bor Text) → Bool → NormalItems
 unread_items parents names front back closes =
-    record { parents = parents; names_left = names; closes = closes; front = front; back = back; open_parents = 0; settled = false }
+    record { parents = parents; names_left = names; closes = closes; front = front; back = back; open_parents = 0 }
 
 -- ---- the segments that are left of both texts
 
@@ -47,13 +47,10 @@ names_behind n = staying_before (pieces_if_some n.back) n.open_parents
 abbrev pub open_behind : NormalItems → ℕ
 open_behind n = open_before (pieces_if_some n.back) n.open_parents
 
--- no segment is `..`
-abbrev pub are_no_parents : List Text → Bool
-are_no_parents segments = list_all (λ s. not (is_dot_dot s)) segments
-
--- where names are known to stay, no `..` follows them
-abbrev pub is_settled : NormalItems → Bool
-is_settled n = not n.settled || (n.open_parents == 0) && are_no_parents (pieces_if_some n.back)
+-- these are the last segments of the list
+pub record IsEnd (end list : List Text) : Type 0 where
+  pub within : length end ≤ length list
+  pub last : end ≡ last_ones (length end) list
 
 -- ---- the items
 
@@ -64,10 +61,9 @@ names_left n = last_ones n.names_left (names_staying n)
 unfoldable pub normal_left : NormalItems → List Text
 normal_left n = replicate n.parents (codes "..") ++ (names_left n ++ closing n.closes)
 
--- the segments and open `..` can be counted, and no name is known to stay that does not
-pub record IsReadable (n : NormalItems) : Type 0 where
-  pub countable : to_read n < 2 ^ 64
-  pub settled : is_settled n ≡ true
+-- the segments and open `..` can be counted
+abbrev pub IsReadable : NormalItems → Type 0
+IsReadable n = to_read n < 2 ^ 64
 
 -- so many names stay, and the items can be counted
 pub record IsSound (n : NormalItems) : Type 0 where
@@ -75,14 +71,23 @@ pub record IsSound (n : NormalItems) : Type 0 where
   pub names : n.names_left ≤ length (names_staying n)
   pub items : n.parents + n.names_left + (if n.closes then 1 else 0) < 2 ^ 64
 
--- no segments stand in front
-abbrev pub IsBehind : NormalItems → Type 0
-IsBehind n = n.front ≡ None
-
--- all names are left, of one text: so they can be read from the front
+-- all names of one text are left, and none has been read
 pub record IsWhole (n : NormalItems) : Type 0 where
   pub sound : IsSound n
-  pub behind : IsBehind n
+  pub behind : n.front ≡ None
+  pub closed : n.open_parents ≡ 0
+  pub names : n.names_left ≡ length (names_behind n)
+
+-- no segments stand in front, and no `..` behind: so each name stays
+pub record IsSettled (n : NormalItems) : Type 0 where
+  pub behind : n.front ≡ None
+  pub closed : n.open_parents ≡ 0
+  pub no_parents : list_any is_dot_dot (pieces_if_some n.back) ≡ false
+
+-- all names are left, of one text in which each stays: so they can be read from the front
+pub record IsPlain (n : NormalItems) : Type 0 where
+  pub sound : IsSound n
+  pub settled : IsSettled n
   pub names : n.names_left ≡ length (names_behind n)
 
 -- the `..` that are left, the number of names and the closing segment stay
@@ -90,13 +95,6 @@ pub record KeepsEnds (before after : NormalItems) : Type 0 where
   pub parents : after.parents ≡ before.parents
   pub names : after.names_left ≡ before.names_left
   pub closes : after.closes ≡ before.closes
-
--- Whether a name right before the text behind stays. If not, what follows the `..` that takes it has the names of the text.
-abbrev pub IsFate : NormalItems → Option (Option (Bor Text)) → Type 0
-IsFate n None = open_behind n ≡ 0
-IsFate n (Some rest) =
-    (open_behind n ≢ 0) × (names_behind n ≡ staying_before (pieces_if_some rest) n.open_parents)
-    × (length (pieces_if_some rest) ≤ length (pieces_if_some n.back))
 
 -- the first text of a list, or else this one
 abbrev pub first_or : Text → List Text → Text

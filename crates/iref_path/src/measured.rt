@@ -185,7 +185,7 @@ impl<'a> MeasuredPath<'a> {
     // The text of a relative path of a number of `..` and the segments of a text, which stands
     // alone.
     #[tactic(auto, using(crate::proofs::StepsBetweenLemmas::steps_up), unfolding(crate::specs::MeasuredPaths::measured_text))]
-    fn up(up: usize, path: &'a str) -> Self
+    pub(crate) fn up(up: usize, path: &'a str) -> Self
         requires { length (parents_then up path.now) + 4 < 2 ^ 64 }
         ensures text { measured_text result ≡ spell_path (guarded alone (record {
           absolute = false;

@@ -7,20 +7,24 @@ ghost use Rattle.std.specs.Prelude.{if◌then◌else◌};
 ghost use Rattle.iref_grammar.specs.{is_empty, read_path};
 ghost use Rattle.iref_model.specs.{normal_segments, open_before, staying_before};
 ghost use Rattle.iref_path.specs.{MergedPaths.{both_names, merged_list, merged_path}, Pieces.{pieces_if_some, text_at}};
-ghost use Rattle.iref_path.specs.{Spelling.{each_closed}, NormalItems.{IsBehind, IsFate, IsReadable, IsSound, IsWhole}};
-ghost use Rattle.iref_path.specs.NormalItems.{KeepsEnds, both_left, first_or, names_behind, names_staying, normal_left};
+ghost use Rattle.iref_path.specs.{Spelling.{each_closed}, NormalItems.{IsEnd, IsPlain, IsReadable, IsSettled, IsSound}};
+ghost use Rattle.iref_path.specs.NormalItems.{IsWhole, KeepsEnds, both_left, first_or, names_behind, names_staying, normal_left};
 ghost use Rattle.iref_path.specs.NormalItems.{open_at_start, open_behind, to_read, unread_items};
 ghost use Rattle.iref_path.specs.StepsBetween.{last_ones};
 ghost use Rattle.iref_model.specs.NormalList as list;
+ghost use Rattle.iref_model.specs.NormalList.{is_dot_dot};
+ghost use Rattle.std.specs.List.{list_any};
 
+mod climbs;
 pub mod stack;
 
 use crate::segments::{first_segment, last_segment, split_root};
 use crate::staying_names::{is_name, name_stays};
+use iref_parse::dots::has_dot_pair;
 
 /// The items that are left: first the `..`, then the names that stay, then the empty segment that
 /// closes the list. The segments stand in one text, or in two that are read as one.
-#[derive(Clone, Copy)]
+#[derive(Clone, Copy, Default)]
 pub struct NormalItems<'a> {
     parents: usize,
     // How many names are left: the last of those that stay.
@@ -32,8 +36,6 @@ pub struct NormalItems<'a> {
     back: Option<&'a str>,
     // How many `..` are open behind them.
     open_parents: usize,
-    // No `..` is among those behind, and none is open behind them: so their names stay.
-    settled: bool,
 }
 
 /// All items of a list, and what was found of them.
@@ -82,6 +84,41 @@ fn first_item(parents: usize, name: &str) -> &str
     ensures { result.now ≡ (if parents == 0 then name.now else codes "..") }
 {
     if parents == 0 { name } else { ".." }
+}
+
+// Whether a segment may be `..`.
+#[tactic(auto, using(crate::proofs::NamedLemmas::without_parents))]
+fn may_have_parents(segments: Option<&str>) -> bool
+    ensures { result ≡ false → list_any is_dot_dot (pieces_if_some segments.entry) ≡ false }
+{
+    match segments {
+        Some(text) => has_dot_pair(text.as_bytes()),
+        None => false,
+    }
+}
+
+// How many names follow the last `..` among the segments, and the text of those behind it.
+#[tactic(auto, using(crate::proofs::NormalItemsLemmas::scanned))]
+fn behind_parents(segments: Option<&str>) -> (usize, Option<&str>)
+    requires { length (pieces_if_some segments) < 2 ^ 64 }
+    ensures end { IsEnd (pieces_if_some result.1) (pieces_if_some segments.entry) }
+    ensures settled { list_any is_dot_dot (pieces_if_some result.1) ≡ false }
+    ensures names { result.0 ≡ length (staying_before (pieces_if_some result.1) 0) }
+{
+    let mut names: usize = 0;
+    let mut behind = segments;
+    let mut left = segments;
+    while let Some(text) = left {
+        let (segment, rest) = first_segment(text);
+        left = rest;
+        if is_name(segment) {
+            names += 1;
+        } else if segment == ".." {
+            names = 0;
+            behind = rest;
+        }
+    }
+    (names, behind)
 }
 
 // Finds the names that stay of the segments of both texts, and the `..` that are open before them.
@@ -190,7 +227,6 @@ impl<'a> NormalItems<'a> {
             front,
             back,
             open_parents: 0,
-            settled: false,
         }
     }
 
@@ -206,7 +242,7 @@ impl<'a> NormalItems<'a> {
 
     /// A number of `..`, and after them the last items, this many.
     #[tactic(auto, using(crate::proofs::MergedPathLemmas::last_parts), unfolding(crate::specs::NormalItems::normal_left))]
-    pub(crate) fn last_after(self, up: usize, count: usize) -> Self
+    pub fn last_after(self, up: usize, count: usize) -> Self
         requires sound { IsSound self }
         requires within { count ≤ length (normal_left self) }
         requires countable { up + count < 2 ^ 64 }
@@ -228,7 +264,7 @@ impl<'a> NormalItems<'a> {
     /// The items without this many of the last.
     #[tactic(auto, using(crate::proofs::ShownLemmas::none_less, crate::proofs::ShownLemmas::one_less))]
     #[inline(always)]
-    pub(crate) fn without_last(self, count: usize) -> Self
+    pub fn without_last(self, count: usize) -> Self
         requires { IsSound self }
         ensures items { normal_left result
             ≡ take (length (normal_left self.entry) - count) (normal_left self.entry) }
@@ -241,12 +277,29 @@ impl<'a> NormalItems<'a> {
         left
     }
 
-    /// The first item that is left.
+    /// The items behind the last `..` of the text: the last of all, which can be read from the front
+    /// too.
+    #[tactic(auto, unfolding(crate::specs::NormalItems::normal_left))]
+    pub fn settled_end(&self) -> Self
+        requires { IsWhole self.now }
+        ensures items { normal_left result
+            ≡ last_ones (length (normal_left result)) (normal_left self.now) }
+        ensures within { length (normal_left result) ≤ length (normal_left self.now) }
+        ensures plain { IsPlain result }
+    {
+        if !may_have_parents(self.back) {
+            return *self;
+        }
+        let (names, behind) = behind_parents(self.back);
+        NormalItems::unread(0, names, None, behind, self.closes)
+    }
+
+    /// The first item that is left of those that no `..` follows.
     #[tactic(auto, unfolding(crate::specs::NormalItems::normal_left))]
     pub fn next(&mut self) -> Option<&'a str>
-        requires { IsWhole self.old }
+        requires { IsPlain self.old }
         ensures item { YieldsFirstBy text_at normal_left self.old result self.new }
-        ensures whole { IsWhole self.new }
+        ensures plain { IsPlain self.new }
     {
         if self.parents > 0 {
             self.parents -= 1;
@@ -270,7 +323,7 @@ impl<'a> NormalItems<'a> {
         requires { IsSound self.old }
         ensures item { YieldsLastBy text_at normal_left self.old result self.new }
         ensures sound { IsSound self.new }
-        ensures whole { IsWhole self.old → IsWhole self.new }
+        ensures plain { IsPlain self.old → IsPlain self.new }
     {
         if self.closes {
             self.closes = false;
@@ -284,64 +337,22 @@ impl<'a> NormalItems<'a> {
         Some("..")
     }
 
-    // The first name that stays. What takes a name is read once, and then passed over.
+    // The first name, in a text without a `..`, where each name stays.
+    #[tactic(auto, using(crate::proofs::NamedLemmas::none_open))]
     fn next_name(&mut self) -> Option<&'a str>
-        requires readable { IsReadable self.old }
-        requires behind { IsBehind self.old }
+        requires { IsSettled self.old }
         ensures name { YieldsFirstBy text_at names_behind self.old result self.new }
         ensures ends { KeepsEnds self.old self.new }
-        ensures behind { IsBehind self.new }
-        ensures readable { IsReadable self.new }
+        ensures settled { IsSettled self.new }
+        ensures no_more { to_read self.new ≤ to_read self.old }
     {
         while let Some(text) = self.back {
             let (segment, rest) = first_segment(text);
             self.back = rest;
             if is_name(segment) {
-                match self.fate() {
-                    Some(after) => self.back = after,
-                    None => return Some(segment),
-                }
+                return Some(segment);
             }
         }
-        None
-    }
-
-    // Of a name right before the text behind: what follows the `..` that takes it, if one does.
-    #[tactic(auto, using(crate::proofs::NormalItemsLemmas::none_open))]
-    fn fate(&mut self) -> Option<Option<&'a str>>
-        requires readable { IsReadable self.old }
-        requires behind { IsBehind self.old }
-        ensures fate { IsFate self.old result }
-        ensures readable { IfNone result (IsReadable self.new) }
-        ensures unsettled { IfSome result (λ rest. self.new.settled ≡ false) }
-        ensures back { self.new.back ≡ self.old.back }
-        ensures open_parents { self.new.open_parents ≡ self.old.open_parents }
-        ensures ends { KeepsEnds self.old self.new }
-        ensures behind { IsBehind self.new }
-    {
-        if self.settled {
-            return None;
-        }
-        let mut rest = self.back;
-        let mut names: usize = 0;
-        let mut settled = self.open_parents == 0;
-        while let Some(text) = rest {
-            let (segment, after) = first_segment(text);
-            rest = after;
-            if is_name(segment) {
-                names += 1;
-            } else if segment == ".." {
-                if names == 0 {
-                    return Some(rest);
-                }
-                names -= 1;
-                settled = false;
-            }
-        }
-        if names < self.open_parents {
-            return Some(None);
-        }
-        self.settled = settled;
         None
     }
 
@@ -354,7 +365,7 @@ impl<'a> NormalItems<'a> {
         ensures name { YieldsLastBy text_at names_staying self.old result self.new }
         ensures start { open_at_start self.new ≡ open_at_start self.old }
         ensures ends { KeepsEnds self.old self.new }
-        ensures behind { IsBehind self.old → IsBehind self.new }
+        ensures settled { IsSettled self.old → IsSettled self.new }
         ensures readable { IsReadable self.new }
         ensures done { IfNone result (both_left self.new ≡ []) }
         ensures no_more { to_read self.new ≤ to_read self.old }
@@ -364,7 +375,6 @@ impl<'a> NormalItems<'a> {
             return Some(name);
         }
         self.back = self.front;
-        self.settled = false;
         self.front = None;
         self.next_back_name_behind()
     }
@@ -378,6 +388,7 @@ impl<'a> NormalItems<'a> {
         ensures start { open_behind self.new ≡ open_behind self.old }
         ensures ends { KeepsEnds self.old self.new }
         ensures front { self.new.front ≡ self.old.front }
+        ensures settled { IsSettled self.old → IsSettled self.new }
         ensures readable { IsReadable self.new }
         ensures done { IfNone result (pieces_if_some self.new.back ≡ []) }
         ensures no_more { to_read self.new ≤ to_read self.old }

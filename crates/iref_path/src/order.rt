@@ -97,8 +97,8 @@ fn compare_names(mut left: Option<&str>, mut right: Option<&str>) -> Ordering
     }
 }
 
-// Of what follows the bytes that two texts have in common before any `%`: how it counts in the
-// order of their segments, unless it begins with an escape. The end of a text is least, then a `/`.
+// How a text counts in the order of segments, from its first difference from another on: the end of
+// a text is least, then a `/`, then other bytes. None for an escape, which is not decoded here.
 #[inline(always)]
 fn rank(rest: &[u8]) -> Option<u16>
     ensures { result ≡ rank rest.now }
@@ -111,8 +111,8 @@ fn rank(rest: &[u8]) -> Option<u16>
     }
 }
 
-// The order of the segments of two texts, unless an escape stands before their first difference, or
-// there.
+// The order of the segments of two texts by their first difference. None where an escape stands
+// before it or there, since segments are compared decoded.
 #[tactic(auto, using(std::proofs::lemmas::Slice::between_to_end, crate::proofs::DifferenceLemmas::order_at_difference))]
 fn compare_at_difference(left: &[u8], right: &[u8]) -> Option<Ordering>
     ensures { IfSome result (λ order. order ≡ slice_cmp text_order

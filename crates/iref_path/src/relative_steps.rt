@@ -93,7 +93,7 @@ fn directory_names(path: &str) -> NormalItems<'_>
 
 // The items of a path, or an empty one where there are none.
 #[tactic(auto, using(std::proofs::lemmas::Bool::Decides::nat_tests, crate::proofs::StepsBetweenLemmas::whole_divided))]
-fn some_items(path: &str) -> NormalItems<'_>
+pub(crate) fn some_items(path: &str) -> NormalItems<'_>
     ensures items { normal_left result ≡ with_last (normal_segments (read_path path.now)) }
     ensures some { 0 < length (normal_left result) }
     ensures sound { IsSound result }

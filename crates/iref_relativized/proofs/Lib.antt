@@ -19,3 +19,4 @@ pub mod TextLawLemmas
 pub mod ReachableLemmas
 pub mod LeadingCandidateLemmas
 pub mod TestedLemmas
+pub mod ChosenLemmas

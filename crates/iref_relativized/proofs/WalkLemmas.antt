@@ -11,7 +11,7 @@ use Rattle.iref_grammar.specs.PathValue.{PathValue, is_one_empty}
 use Rattle.iref_model.specs.NormalList.{is_dot_dot, staying_names, ends_in_dots, closed, without_lone_empty, normal_segments, open_parents}
 use Rattle.iref_model.specs.Relative.{last_or_empty}
 use Rattle.iref_model.proofs.JoinedLemmas.{without_last, open-append, staying-append, are_names, all_first, climbs, open-climbs, staying-climbs}
-use Rattle.iref_model.proofs.SettledLemmas.{ends-append, last_stays, staying-settled, open-settled, leading, normal-is}
+use Rattle.iref_model.proofs.SettledLemmas.{ends-append, staying-settled, open-settled, leading, normal-is}
 use Rattle.iref_model.proofs.LeadingLemmas.{divided_last}
 use Rattle.iref_relativized.specs.Relativized.{is_climb, shortened}
 

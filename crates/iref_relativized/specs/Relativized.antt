@@ -58,10 +58,13 @@ is_climb list = is_empty (last_or_empty list) && not (is_empty (all_but_last lis
 abbrev pub shortened : List Text → List Text
 shortened list = if is_climb list then all_but_last list else (if is_one_empty list then codes "." ∷ [] else list)
 
+-- the relative path from a directory to a path
+abbrev pub path_from : PathValue → PathValue → PathValue
+path_from directory p =
+    guarded alone (record { absolute = false; segments = shortened (steps_by_text (kept_segments directory) (normal_segments p)) })
+
 abbrev pub relative_path : ReferenceValue → ReferenceValue → PathValue
-relative_path target base =
-    guarded alone
-    (record { absolute = false; segments = shortened (steps_by_text (kept_segments (base_directory base)) (normal_segments target.path)) })
+relative_path target base = path_from (base_directory base) target.path
 
 -- ---- the candidates
 

@@ -1,6 +1,6 @@
 -- The shortest reference again, without resolution: tests of both paths tell which candidates lead to the target's text.
 use Rattle.std.specs.Prelude.{nat_le, Bool, not, ◌&&◌, List, [], ◌∷◌, ◌++◌, Option, None, is_some, if◌then◌else◌, bytes_eq}
-use Rattle.iref_grammar.specs.PathValue.{spell_path}
+use Rattle.iref_grammar.specs.PathValue.{PathValue, spell_path}
 use Rattle.iref_grammar.specs.Contexts.{alone}
 use Rattle.iref_grammar.specs.Reference.{ReferenceValue}
 use Rattle.iref_model.specs.Guard.{guarded}
@@ -13,12 +13,15 @@ use Rattle.iref_relativized.specs.Relativized.{same_scheme_text, same_authority_
 abbrev pub is_settled : ReferenceValue → Bool
 is_settled target = bytes_eq (spell_path (with_normal_path target).path) (spell_path target.path)
 
--- target and base begin at the root; or neither does, and the target's normal path has at least the base's leading `..`
+-- directory and path begin at the root; or neither does, and the normal path has at least the directory's leading `..`
+abbrev pub is_reachable_from : PathValue → PathValue → Bool
+is_reachable_from directory p =
+    (if directory.absolute then p.absolute else not p.absolute)
+    && nat_le (count_parents (kept_segments directory)) (count_parents (normal_segments p))
+
+-- a relative path leads from the base's directory to the target's path
 abbrev pub is_reachable : ReferenceValue → ReferenceValue → Bool
-is_reachable target base =
-    let directory = base_directory base in
-    (if directory.absolute then target.path.absolute else not target.path.absolute)
-    && nat_le (count_parents (kept_segments directory)) (count_parents (normal_segments target.path))
+is_reachable target base = is_reachable_from (base_directory base) target.path
 
 -- the candidates that lead to the text of a target with a scheme
 abbrev pub leading_candidates : ReferenceValue → ReferenceValue → List ReferenceValue

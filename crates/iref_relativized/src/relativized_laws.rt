@@ -6,6 +6,7 @@ ghost use Rattle.iref_grammar.specs.{read_reference, spell};
 ghost use Rattle.iref_model.specs.{Resolution.{resolved}, Key.{AreAlike}};
 ghost use Rattle.iref_relativized.specs.Relativized.{relativized};
 ghost use Rattle.iref_relativized.specs.RelativizedTests.{leading_candidates, shortest};
+ghost use Rattle.iref_relativized.specs.RelativizedChoice.{chosen};
 ghost use Rattle.iref_relativized.specs.RelativizedLaws.{AreReadable, LeadsExactly, IsNotLonger};
 
 /// From the base, the answer leads to the target's text, character for character; so does what is
@@ -70,4 +71,10 @@ pub fn answer_is_the_shortest_that_passes_tests()
     ensures { (set : CharTests) (target base : ReferenceValue) → AreReadable set target base
         → is_some target.scheme ≡ true
         → relativized target base ≡ shortest (leading_candidates target base) }
+{}
+
+/// Of most candidates it is known which is the shorter, so few are compared.
+pub fn answer_is_chosen_by_tests()
+    ensures { (set : CharTests) (target base : ReferenceValue) → AreReadable set target base
+        → is_some target.scheme ≡ true → relativized target base ≡ chosen target base }
 {}

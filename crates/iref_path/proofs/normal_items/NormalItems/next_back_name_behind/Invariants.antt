@@ -1,6 +1,6 @@
 use Rattle.std.proofs.Common.{◌≡◌, ◌≤◌, length}
 use Rattle.iref_path.specs.Pieces.{pieces_if_some}
-use Rattle.iref_path.specs.NormalItems.{IsReadable, KeepsEnds, names_behind, open_behind, to_read}
+use Rattle.iref_path.specs.NormalItems.{IsReadable, IsSettled, KeepsEnds, names_behind, open_behind, to_read}
 use Rattle.iref_path.proofs.normal_items.NormalItems.next_back_name_behind.Given as goal
 
 abbrev pub invariant-loop-self : goal.invariant-loop-self
@@ -9,6 +9,7 @@ invariant-loop-self l = record {
   start : open_behind l.self ≡ open_behind l.fn.self;
   ends : KeepsEnds l.fn.self l.self;
   front : l.self.front ≡ l.fn.self.front;
+  settled : IsSettled l.fn.self → IsSettled l.self;
   readable : IsReadable l.self;
   no_more : to_read l.self ≤ to_read l.fn.self;
 }

@@ -1,0 +1,19 @@
+use Rattle.std.proofs.Common.{◌≡◌, ◌≤◌, false, length}
+use Rattle.iref_parse.specs.Dots.{has_dot_segment}
+use denote.Shadow.{shadow}
+use denote.Text.{Utf8}
+use Rattle.iref_path.specs.StepsBetween.{text_steps_by_text}
+use Rattle.iref_path.proofs.relativized.steps_in_text.Given as goal
+
+abbrev pub invariant-loop-below : goal.invariant-loop-below
+invariant-loop-below l = record {
+  steps : text_steps_by_text l.base l.path ≡ text_steps_by_text l.fn.base l.fn.path;
+  dotless : has_dot_segment l.fn.path ≡ false → has_dot_segment l.path ≡ false;
+  base_size : length l.base ≤ length l.fn.base;
+  path_size : length l.path ≤ length l.fn.path;
+  base_utf8 : shadow (Utf8 l.base);
+  path_utf8 : shadow (Utf8 l.path);
+}
+
+abbrev pub decreases-loop-below : goal.decreases-loop-below
+decreases-loop-below l = length l.base

@@ -1,0 +1,16 @@
+-- The directory from which a relative path leads, and a list of `..`.
+use Rattle.std.specs.Prelude.{Bool, false, not, ◌&&◌, List, []}
+use Rattle.std.specs.List.{list_all}
+use Rattle.iref_grammar.specs.Rules.{Text}
+use Rattle.iref_grammar.specs.Texts.{is_empty}
+use Rattle.iref_grammar.specs.PathValue.{PathValue}
+use Rattle.iref_model.specs.NormalList.{is_dot_dot}
+use Rattle.iref_path.specs.MergedPaths.{path_after}
+
+-- the base's path without its last segment, as it is merged with a relative path (section 5.2.3)
+abbrev pub directory_of : Bool → PathValue → PathValue
+directory_of has_authority base = path_after has_authority base (record { absolute = false; segments = [] })
+
+-- one `..` or more, and nothing else
+abbrev pub are_some_parents : List Text → Bool
+are_some_parents list = not (is_empty list) && list_all is_dot_dot list

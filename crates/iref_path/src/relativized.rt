@@ -1,0 +1,284 @@
+//! The shortest relative path that leads to a path, whose names are compared as they stand (RFC 3986
+//! sections 4.2 and 5.2.3).
+
+ghost use Rattle.std.specs.Prelude.{◌≡◌, ◌+◌, ◌*◌, ◌^◌, ◌<◌, ◌≤◌, ◌++◌, ◌&&◌, ◌||◌, not, IfNone, IfSome, codes};
+ghost use Rattle.std.specs.{List.{common_prefix_len}, Prelude.{bytes_eq, false, is_some, length, nat_le, replicate}};
+ghost use Rattle.iref_grammar.specs.{slash, alone, read_path, spell_path, segments_of};
+ghost use Rattle.iref_grammar.specs.Texts.{all_but_last, is_empty, pieces_at};
+ghost use Rattle.iref_model.specs.{Guard.{guarded}, normal_segments, NormalList.{count_parents, kept_segments}};
+ghost use Rattle.iref_parse.specs.Dots.{has_dot_segment};
+ghost use Rattle.iref_path.specs.{Bodies.{parents_then}, MeasuredPaths.{IsMeasured, measured_text}};
+ghost use Rattle.iref_path.specs.{NormalItems.{IsSound, normal_left}, Spelling.{each_closed}};
+ghost use Rattle.iref_path.specs.{ShortestPaths.{directory_of}, StepsBetween.{text_steps_by_text}};
+ghost use Rattle.iref_relativized.specs.Relativized.{is_climb, path_from, shortened, steps_by_text};
+ghost use Rattle.iref_relativized.specs.RelativizedTests.{is_reachable_from};
+
+use crate::measured::MeasuredPath;
+use crate::normal_items::NormalItems;
+use crate::relative_steps::some_items;
+use crate::segments::{first_segment, slash_count, split_root, without_last};
+use iref_parse::cut::strip_mark;
+use iref_parse::dots::has_dots;
+
+// What follows the first segments of both, where these have the same text and neither is the last.
+#[tactic(auto, using(crate::proofs::RelativeStepLemmas::apart_by_text))]
+fn behind_same<'a>(base: &'a str, path: &'a str) -> Option<(&'a str, &'a str)>
+    ensures steps { IfSome result (λ left.
+        text_steps_by_text left.0.now left.1.now ≡ text_steps_by_text base.now path.now) }
+    ensures dotless { IfSome result (λ left.
+        has_dot_segment path.now ≡ false → has_dot_segment left.1.now ≡ false) }
+    ensures base { IfSome result (λ left. length left.0.now < length base.now) }
+    ensures path { IfSome result (λ left. length left.1.now ≤ length path.now) }
+    ensures apart { IfNone result (text_steps_by_text base.now path.now
+        ≡ replicate (length (all_but_last (pieces_at slash base.now))) (codes "..")
+        ++ pieces_at slash path.now) }
+{
+    let (name, below) = first_segment(base);
+    let Some(below) = below else {
+        return None;
+    };
+    let (other, rest) = first_segment(path);
+    let Some(rest) = rest else {
+        return None;
+    };
+    if name == other {
+        Some((below, rest))
+    } else {
+        None
+    }
+}
+
+// The steps from the directory of `base` to `path`: how many `..`, and the text of the segments after
+// them.
+#[tactic(auto, using(crate::proofs::RelativeStepLemmas::climbs))]
+fn steps_in_text<'a>(mut base: &'a str, mut path: &'a str) -> (usize, &'a str)
+    ensures steps { text_steps_by_text base.entry.now path.entry.now
+        ≡ replicate result.0 (codes "..") ++ pieces_at slash result.1.now }
+    ensures dotless { has_dot_segment path.entry.now ≡ false
+        → has_dot_segment result.1.now ≡ false }
+    ensures up { result.0 ≤ length base.entry.now }
+    ensures down { length result.1.now ≤ length path.entry.now }
+{
+    while let Some((below, rest)) = behind_same(base, path) {
+        base = below;
+        path = rest;
+    }
+    (slash_count(base), path)
+}
+
+// How many items two lists of this number of items each have in common from the front.
+fn common_of_same_length(mut left: NormalItems<'_>, mut right: NormalItems<'_>, len: usize) -> usize
+    requires left { IsSound left }
+    requires right { IsSound right }
+    requires left_len { length (normal_left left) ≡ len }
+    requires right_len { length (normal_left right) ≡ len }
+    ensures { result
+        ≡ common_prefix_len bytes_eq (normal_left left.entry) (normal_left right.entry) }
+{
+    let mut common = len;
+    let mut index = len;
+    while let Some(item) = left.next_back() {
+        let Some(other) = right.next_back() else {
+            return common;
+        };
+        index -= 1;
+        if item != other {
+            common = index;
+        }
+    }
+    common
+}
+
+// How many items two lists have in common from the front, each pair the same text.
+fn common_items(left: NormalItems<'_>, right: NormalItems<'_>) -> usize
+    requires left { IsSound left }
+    requires right { IsSound right }
+    ensures { result
+        ≡ common_prefix_len bytes_eq (normal_left left.entry) (normal_left right.entry) }
+{
+    let left_len = left.len();
+    let right_len = right.len();
+    let left = left.without_last(left_len.saturating_sub(right_len));
+    let right = right.without_last(right_len.saturating_sub(left_len));
+    common_of_same_length(left, right, left_len.min(right_len))
+}
+
+// The text of a number of `..` and the segments of a text, of which none begins with a dot. It is
+// shortened: `..` stands for `../`, and `.` for the empty segment alone.
+#[tactic(auto, using(crate::proofs::TextStepLemmas::ends))]
+fn of_text_steps(up: usize, path: &str) -> MeasuredPath<'_>
+    requires dotless { has_dot_segment path.now ≡ false }
+    requires room { 3 * up + length path.now + 8 < 2 ^ 64 }
+    ensures text { measured_text result ≡ spell_path (guarded alone (record {
+      absolute = false;
+      segments = shortened (replicate up (codes "..") ++ pieces_at slash path.now);
+    })) }
+    ensures measured { IsMeasured result }
+{
+    if !path.is_empty() {
+        return MeasuredPath::up(up, path);
+    }
+    match up.checked_sub(1) {
+        Some(up) => MeasuredPath::up(up, ".."),
+        None => MeasuredPath::up(0, "."),
+    }
+}
+
+// The text of a relative path of these items, shortened so.
+fn of_item_steps(items: NormalItems<'_>) -> MeasuredPath<'_>
+    requires sound { IsSound items }
+    requires room { length (each_closed (normal_left items)) + 4 < 2 ^ 64 }
+    ensures text { measured_text result ≡ spell_path (guarded alone (record {
+      absolute = false;
+      segments = shortened (normal_left items.entry);
+    })) }
+    ensures measured { IsMeasured result }
+{
+    if items.is_climb() {
+        return MeasuredPath::relative(items.without_last(1));
+    }
+    if items.is_one_empty() {
+        return MeasuredPath::up(0, ".");
+    }
+    MeasuredPath::relative(items)
+}
+
+// What is kept of a base's path without its last segment, with a flag of its own.
+fn kept_directory(absolute: bool, base: &str) -> NormalItems<'_>
+    ensures items { normal_left result ≡ kept_segments (record {
+      absolute = absolute;
+      segments = all_but_last (read_path base.now).segments;
+    }) }
+    ensures fewer { length (normal_left result) ≤ length base.now + 1 }
+    ensures sound { IsSound result }
+{
+    NormalItems::kept(absolute, without_last(split_root(base).1))
+}
+
+// The steps from a base's directory to a path: up to their common beginning, and down. There are none
+// where the directory has more leading `..`.
+#[tactic(auto, using(std::proofs::lemmas::Grind::common_steps, crate::proofs::StepsBetweenLemmas::between))]
+fn item_steps<'a>(absolute: bool, base: &str, path: &'a str) -> Option<NormalItems<'a>>
+    requires { 3 * length base.now + length path.now + 16 < 2 ^ 64 }
+    ensures some { is_some result ≡ nat_le
+        (count_parents (kept_segments (record {
+          absolute = absolute;
+          segments = all_but_last (read_path base.now).segments;
+        })))
+        (count_parents (normal_segments (read_path path.now))) }
+    ensures items { IfSome result (λ items. normal_left items ≡ steps_by_text
+        (kept_segments (record {
+          absolute = absolute;
+          segments = all_but_last (read_path base.now).segments;
+        }))
+        (normal_segments (read_path path.now))) }
+    ensures room { IfSome result (λ items. length (each_closed (normal_left items)) + 4 < 2 ^ 64) }
+    ensures sound { IfSome result IsSound }
+{
+    let directory = kept_directory(absolute, base);
+    let items = some_items(path);
+    if directory.parents() > items.parents() {
+        return None;
+    }
+    let common = common_items(directory, items.without_last(1));
+    Some(items.last_after(directory.len() - common, items.len() - common))
+}
+
+// Whether the path is absolute, and the text of its segments, which is empty where there are none.
+fn behind_root(path: &str) -> (bool, &str)
+    ensures path { read_path path.now
+        ≡ record { absolute = result.0; segments = segments_of result.1.now } }
+    ensures shorter { length result.1.now ≤ length path.now }
+{
+    match strip_mark(path, '/') {
+        Some(rest) => (true, rest),
+        None => (false, path),
+    }
+}
+
+// Whether a base's directory begins at the root, given the base's flag and its text behind the root.
+fn is_rooted(has_authority: bool, absolute: bool, below: &str) -> bool
+    ensures { result ≡ absolute || has_authority && is_empty below.now }
+{
+    absolute | has_authority & below.is_empty()
+}
+
+// The path from a base's directory to a path, where segments may begin with a dot.
+fn by_items<'a>(absolute: bool, base: &str, path: &'a str) -> Option<MeasuredPath<'a>>
+    requires { 3 * length base.now + length path.now + 16 < 2 ^ 64 }
+    ensures some { is_some result ≡ nat_le
+        (count_parents (kept_segments (record {
+          absolute = absolute;
+          segments = all_but_last (read_path base.now).segments;
+        })))
+        (count_parents (normal_segments (read_path path.now))) }
+    ensures text { IfSome result (λ steps. measured_text steps ≡ spell_path (path_from
+        (record { absolute = absolute; segments = all_but_last (read_path base.now).segments })
+        (read_path path.now))) }
+    ensures measured { IfSome result IsMeasured }
+{
+    let items = item_steps(absolute, base, path)?;
+    Some(of_item_steps(items))
+}
+
+// The path from the directory of a text of segments to another text, where none begins with a dot.
+fn by_texts<'a>(below: &'a str, rest: &'a str) -> MeasuredPath<'a>
+    requires dotless { has_dot_segment rest.now ≡ false }
+    requires room { 3 * length below.now + length rest.now + 8 < 2 ^ 64 }
+    ensures text { measured_text result ≡ spell_path (guarded alone (record {
+      absolute = false;
+      segments = shortened (text_steps_by_text below.now rest.now);
+    })) }
+    ensures measured { IsMeasured result }
+{
+    let (up, rest) = steps_in_text(below, rest);
+    of_text_steps(up, rest)
+}
+
+impl<'a> MeasuredPath<'a> {
+    /// The text of the shortest relative path that leads from the base's directory to the normal path,
+    /// after an authority or without one: from `/b/c/d` to `/b/c/` it is `.`, and to `/b/` it is `..`.
+    /// There is none where one of both begins at the root and the other does not, or where the
+    /// directory has more leading `..`.
+    pub fn relativized(has_authority: bool, base: &'a str, path: &'a str) -> Option<Self>
+        requires { 3 * length base.now + length path.now + 16 < 2 ^ 64 }
+        ensures some { is_some result ≡ is_reachable_from
+            (directory_of has_authority (read_path base.now)) (read_path path.now) }
+        ensures text { IfSome result (λ steps. measured_text steps ≡ spell_path (path_from
+            (directory_of has_authority (read_path base.now)) (read_path path.now))) }
+        ensures measured { IfSome result IsMeasured }
+    {
+        let (absolute, below) = behind_root(base);
+        let (rooted, rest) = behind_root(path);
+        let absolute = is_rooted(has_authority, absolute, below);
+        if absolute != rooted {
+            return None;
+        }
+        if has_dots(below.as_bytes()) | has_dots(rest.as_bytes()) {
+            return by_items(absolute, base, path);
+        }
+        Some(by_texts(below, rest))
+    }
+    /// The text of a relative path whose normal list is some `..` and an empty segment, without its last
+    /// `/`: of `../` it is `..`.
+    pub fn climb(path: &'a str) -> Option<Self>
+        requires { length path.now + 16 < 2 ^ 64 }
+        ensures some { is_some result ≡ not (read_path path.now).absolute
+            && is_climb (normal_segments (read_path path.now)) }
+        ensures text { IfSome result (λ climb. measured_text climb ≡ spell_path (record {
+          absolute = false;
+          segments = all_but_last (normal_segments (read_path path.now));
+        })) }
+        ensures measured { IfSome result IsMeasured }
+    {
+        if split_root(path).0 {
+            return None;
+        }
+        let items = NormalItems::new(path);
+        if items.is_climb() {
+            Some(MeasuredPath::relative(items.without_last(1)))
+        } else {
+            None
+        }
+    }
+}
