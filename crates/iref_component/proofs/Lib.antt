@@ -1,5 +1,6 @@
 pub mod AuthorityEditLemmas
 pub mod AuthorityPartLemmas
+pub mod LongListLemmas
 pub mod ManyLemmas
 pub mod PathEditLemmas
 pub mod PathTryLemmas

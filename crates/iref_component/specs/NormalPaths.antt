@@ -6,4 +6,4 @@ use Rattle.iref_component.specs.declared.normal.NormalizedSegments.{NormalizedSe
 
 -- the texts of the normal segments that are left
 abbrev pub normal_segments_left : {C : _} {c : _} → NormalizedSegments C c → List Text
-normal_segments_left s = left_of s.items s.rest
+normal_segments_left s = left_of s.left

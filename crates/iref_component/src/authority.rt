@@ -91,7 +91,8 @@ impl<C: CharSet> AuthorityBuf<C> {
     }
 }
 
-/// Authorities are equal, in order and hashed by the keys of their parts (RFC 3986 section 6.2.2).
+/// Authorities are equal, in order and hashed by the keys of their parts: user info and host
+/// decoded, and the port as text. Hosts keep their case, which RFC 3986 section 6.2.2.1 ignores.
 pub fn authorities_compare_by_key<S: Storage, C: CharSet>()
     ensures { ComparesBy (λ a. authority_key (read_authority (text_of a))) authority_key_cmp
         fed_authority ⟦<RuleText<S, AuthorityRule, C> as Ord>⟧

@@ -47,7 +47,7 @@ pub fn parts_of<C: CharSet>(text: &str) -> AuthorityParts<'_, C>
     }
 }
 
-/// The parts of authorities are equal, in order and hashed by their keys (RFC 3986 section 6.2.2).
+/// The parts of authorities are equal, in order and hashed by their keys.
 pub fn authority_parts_compare_by_key<C: CharSet>()
     ensures { ComparesBy parts_key authority_key_cmp fed_authority
         ⟦<AuthorityParts<'static, C> as Ord>⟧ ⟦<AuthorityParts<'static, C> as Hash>⟧ }

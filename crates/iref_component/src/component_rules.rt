@@ -374,9 +374,9 @@ impl Escaped for PctStrRule {
     ghost escaped = { λ _ _ in_rule. in_rule };
 }
 
-/// The texts of a rule compare by the bytes that they decode to (RFC 3986 section 6.2.2.2), but
-/// schemes by their text in lower case (section 6.2.2.1), and ports by their text: `80` is not
-/// `080`.
+/// The texts of a rule compare by the bytes that they decode to: `%41` is `A`, and `%26` is `&`
+/// too, though RFC 3986 section 6.2.2.2 decodes unreserved characters alone. Schemes compare by
+/// their text in lower case (section 6.2.2.1), and ports by their text: `80` is not `080`.
 pub fn rules_have_their_keys()
     ensures scheme { ⟦<<SchemeRule as Rule>::Key as Key>⟧.comparison.key ≡ str_to_ascii_lowercase }
     ensures user_info { ⟦<<UserInfoRule as Rule>::Key as Key>⟧.comparison.key ≡ percent_decode }

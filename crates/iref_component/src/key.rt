@@ -1,4 +1,4 @@
-//! What texts are compared by, in their order, and hashed by (RFC 3986 section 6.2.2).
+//! What texts are compared by, in their order, and hashed by.
 ghost use Rattle.std.specs.{Prelude.{◌≡◌, ◌<◌, fold, length, true}, Ordering.{eq_by_cmp}, Str.{str_to_ascii_lowercase}};
 ghost use Rattle.percent_encoding.specs.Percent.{percent_decode};
 ghost use Rattle.iref_grammar.specs.{CharTests, Text, fed_bytes, text_order, Authority.{is_authority}};
@@ -13,8 +13,8 @@ use iref_path::order::{hash_path_text, path_texts_cmp};
 use std::cmp::Ordering;
 use std::hash::{Hash, Hasher};
 
-/// What texts are compared by (RFC 3986 section 6.2.2): of schemes their lower case, so that `HTTP`
-/// and `http` have one key.
+/// What texts are compared by: of schemes their lower case (RFC 3986 section 6.2.2.1), so that
+/// `HTTP` and `http` have one key.
 pub trait Key {
     /// The key of a text, the order of keys, and how a key is hashed.
     ghost comparison: { Comparison };

@@ -152,8 +152,8 @@ impl<'a, C: CharSet> Path<'a, C> {
     ///
     /// This reads the path from its end, to count them. Up to sixteen normal segments are then read
     /// once more, and kept in the value. Where there are more, the back reads each segment once
-    /// more; the front looks ahead from each name for the `..` that takes it, as far as all that is
-    /// left where none does: so `a/x/../` repeated costs the square of its length from the front.
+    /// more, and so does the front behind the last `..`. What stands before that `..` the front
+    /// reads two to five times for each doubling of the number of segments there.
     pub fn normalized_segments(&self) -> NormalizedSegments<'a, C>
         ensures { normal_segments_left result ≡ normal_segments (path_value self.now) }
     {
@@ -226,8 +226,9 @@ impl<'a, C: CharSet> IntoIterator for Path<'a, C> {
     }
 }
 
-/// Paths are equal where their flags and their normal segments, decoded, are the same; they are in
-/// the order of these, and they are hashed (RFC 3986 section 6.2.2).
+/// Paths are equal where both are absolute or both relative, and their segments are the same once
+/// dot segments are removed (RFC 3986 section 6.2.2.3) and escapes are decoded. Order and hash go
+/// by the same.
 pub fn paths_compare_by_key<S: Storage, C: CharSet>()
     ensures { ComparesBy (λ p. path_key (path_value p)) path_key_cmp fed_path
         ⟦<RuleText<S, PathRule, C> as Ord>⟧ ⟦<RuleText<S, PathRule, C> as Hash>⟧ }

@@ -121,7 +121,7 @@ impl<S: Storage, R: Rule, C: CharSet> fmt::Debug for RuleText<S, R, C> {
 }
 
 /// The texts of a rule, borrowed or owned, compare by its key: in `==`, in order and in what a
-/// hasher reads (RFC 3986 section 6.2.2).
+/// hasher reads.
 pub fn texts_compare_by_key<S: Storage, R: Rule, C: CharSet>()
     ensures { ComparesBy (λ v. R.Key.comparison.key (text_of v)) R.Key.comparison.order
         R.Key.comparison.fed ⟦<RuleText<S, R, C> as Ord>⟧ ⟦<RuleText<S, R, C> as Hash>⟧ }

@@ -1,7 +1,7 @@
 use Rattle.std.proofs.Common.{◌≡◌, ◌+◌, ◌≤◌, ◌++◌, length}
 use Rattle.iref_path.specs.NormalItems.{IsSound, normal_left}
 use Rattle.iref_path.specs.Stacks.{in_order}
-use Rattle.iref_component.proofs.normal.stacked.Given as goal
+use Rattle.iref_component.proofs.normal.left.stacked.Given as goal
 
 abbrev pub invariant-loop-item : goal.invariant-loop-item
 invariant-loop-item l = record {

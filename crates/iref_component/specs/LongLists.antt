@@ -1,0 +1,27 @@
+-- What is left of a long normal list that is found in its text.
+use Rattle.std.specs.Prelude.{◌<◌, ◌≤◌, List, [], ◌∷◌, ◌++◌, length}
+use Rattle.std.specs.List.{All}
+use Rattle.iref_grammar.specs.Rules.{Text}
+use Rattle.iref_path.specs.NormalItems.{IsPlain, IsSound, normal_left}
+use Rattle.iref_path.specs.declared.normal_items.NormalItems.{NormalItems}
+use Rattle.iref_component.specs.declared.normal.long_list.LongList.{LongList}
+
+-- the items of the parts of a list, of which the last stands first
+abbrev pub parts_left : List NormalItems → List Text
+parts_left [] = []
+parts_left (part ∷ parts) = parts_left parts ++ normal_left part
+
+-- those of the parts, and those behind them
+unfoldable pub long_left : LongList → List Text
+long_left list = parts_left list.parts.items ++ normal_left list.rest
+
+-- a part can be read from its back, and has items
+pub record IsPart (part : NormalItems) : Type 0 where
+  pub sound : IsSound part
+  pub some : 0 < length (normal_left part)
+
+-- so it is with each part, of which there are at most eight, and what is behind them can be read from the front too
+pub record IsLongList (list : LongList) : Type 0 where
+  pub room : length list.parts.items ≤ 8
+  pub parts : All IsPart list.parts.items
+  pub rest : IsPlain list.rest
