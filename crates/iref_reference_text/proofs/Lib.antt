@@ -11,4 +11,5 @@ pub mod SchemeLemmas
 pub mod MappingLemmas
 pub mod HalfMappedLemmas
 pub mod AuthorityRangeLemmas
+pub mod RowLemmas
 pub mod FrontLemmas

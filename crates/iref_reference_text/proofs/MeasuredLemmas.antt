@@ -34,13 +34,11 @@ or-copied first second = grind arith
 
 -- ---- a reference with a scheme or an authority
 
-pub own_spelled : (scheme : Option Text) (t : ComponentTexts) (path : Text) → path ≡ spell_path (normalized (record { has_scheme = is_some scheme; has_authority = is_some t.authority }) (read_path t.path))
-    → record t { scheme = scheme; path = path } ≡ spell_components (guarded_reference (record (read_components t) { scheme = scheme; path = normal (read_path t.path) }))
-own_spelled scheme t path e = grind (arith, authority_spelled, is_some-map)
-
-pub own_resolved : (base r : ReferenceValue) → (is_some r.scheme || is_some r.authority) ≡ true → guarded_reference (record r { scheme = option_or r.scheme base.scheme; path = normal r.path }) ≡ resolved base r
+pub own_resolved : (b t : ComponentTexts) → (is_some t.scheme || is_some t.authority) ≡ true → (path : Text)
+    → path ≡ spell_path (normalized (record { has_scheme = is_some (option_or t.scheme b.scheme); has_authority = is_some t.authority }) (read_path t.path))
+    → record t { scheme = option_or t.scheme b.scheme; path = path } ≡ spell_components (resolved (read_components b) (read_components t))
 unfolding resolved
-own_resolved base r h = grind arith
+own_resolved b t h path e = grind (arith, h, authority_spelled, is_some-map)
 
 -- ---- a reference with neither
 

@@ -32,6 +32,10 @@ lengths_of_texts t = record {
   fragment = with_mark 1 t.fragment;
 }
 
+-- these, with a path of this length, and the query and the fragment of texts of components
+abbrev pub lengths_before : Lengths → ℕ → ComponentTexts → Lengths
+lengths_before l path t = record l { path = path; query = with_mark 1 t.query; fragment = with_mark 1 t.fragment }
+
 -- what stands before the path
 abbrev pub context_by : Lengths → PathContext
 context_by l = record { has_scheme = not (nat_eq l.scheme 0); has_authority = not (nat_eq l.authority 0) }

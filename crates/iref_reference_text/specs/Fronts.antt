@@ -1,6 +1,5 @@
 -- The front part of a base's text that stays before a reference's text (RFC 3986 sections 5.2.3 and 5.3).
 use Rattle.std.specs.Prelude.{◌≡◌, ℕ, true, [], ◌∷◌, ◌++◌, codes, is_some, length}
-use Rattle.std.specs.Borrow.{Bor}
 use Rattle.iref_grammar.specs.declared.context.PathContext.{PathContext}
 use Rattle.iref_grammar.specs.Rules.{Text}
 use Rattle.iref_grammar.specs.Grammar.{colon}
@@ -9,7 +8,6 @@ use Rattle.iref_grammar.specs.ComponentTexts.{ComponentTexts}
 use Rattle.iref_grammar.specs.PathValue.{read_path, spell_path}
 use Rattle.iref_grammar.specs.Reference.{ReferenceValue, spell}
 use Rattle.iref_model.specs.PathSteps.{normalized}
-use Rattle.iref_model.specs.Resolution.{resolved}
 use Rattle.iref_path.specs.MergedPaths.{path_after}
 use Rattle.iref_reference_text.specs.ComponentLengths.{lengths_of}
 use Rattle.iref_reference_text.specs.declared.lengths.Lengths.{Lengths}
@@ -23,11 +21,6 @@ resolved_path t path =
 -- this text and the path spell the scheme, the authority and that path
 abbrev pub StaysBefore : ComponentTexts → Text → Text → Type 0
 StaysBefore t path front = front ++ path ≡ part_then (colon ∷ []) t.scheme ++ then_part (codes "//") t.authority ++ resolved_path t path
-
--- this text and the reference's spell what it resolves to, of which the components are this long
-pub record IsFront (base reference : ReferenceValue) (front : Bor Text × Lengths) : Type 0 where
-  pub text : front.0.now ++ spell reference ≡ spell (resolved base reference)
-  pub lengths : front.1 ≡ lengths_of (resolved base reference)
 
 -- the text spells the reference, of which the components are this long
 pub record IsSpelled (r : ReferenceValue) (whole : Text) (l : Lengths) : Type 0 where

@@ -29,3 +29,4 @@ pub mod Relatives
 pub mod AuthorityRanges
 pub mod Steps
 pub mod Fronts
+pub mod Rows

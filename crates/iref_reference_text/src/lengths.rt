@@ -3,9 +3,9 @@
 ghost use Rattle.std.specs.Prelude.{◌≡◌, ◌+◌, ◌<◌, ◌^◌, length};
 ghost use Rattle.iref_grammar.specs.{offsets_in, spell};
 ghost use Rattle.iref_parse.specs.{texts_of, value_of};
-ghost use Rattle.iref_reference_text.specs.ComponentLengths.{context_by, fragment_after, lengths_of_texts, path_after};
-ghost use Rattle.iref_reference_text.specs.ComponentLengths.{placed, query_after, range_after, range_before};
-ghost use Rattle.iref_reference_text.specs.ComponentLengths.{total_length};
+ghost use Rattle.iref_reference_text.specs.ComponentLengths.{context_by, fragment_after, lengths_before};
+ghost use Rattle.iref_reference_text.specs.ComponentLengths.{lengths_of_texts, path_after, placed, query_after};
+ghost use Rattle.iref_reference_text.specs.ComponentLengths.{range_after, range_before, total_length};
 
 use iref_grammar::context::PathContext;
 use iref_grammar::offsets::Offsets;
@@ -40,6 +40,19 @@ impl Lengths {
             path: slices.path.len(),
             query: marked_len(1, slices.query),
             fragment: marked_len(1, slices.fragment),
+        }
+    }
+
+    /// With a path of this length, and the query and the fragment of a reference.
+    #[inline(always)]
+    pub fn before(self, path: usize, reference: ReferenceSlices<'_>) -> Lengths
+        ensures { result ≡ lengths_before self path (texts_of reference.entry) }
+    {
+        Lengths {
+            path,
+            query: marked_len(1, reference.query),
+            fragment: marked_len(1, reference.fragment),
+            ..self
         }
     }
 

@@ -1,11 +1,11 @@
 //! Texts of references, with the lengths of their components beside them.
 #![tactic(auto)]
 
+pub mod after_authority;
 pub mod base;
-pub mod forward;
-pub mod fronts;
 pub mod lengths;
 mod mapped_bytes;
 pub mod measured;
 pub mod reference_text;
 pub mod relative;
+mod row;

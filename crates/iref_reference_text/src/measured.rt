@@ -4,13 +4,14 @@ ghost use Rattle.std.specs.{Fmt.{WritesOnOk}, Option.{option_copied}};
 ghost use Rattle.std.specs.Prelude.{◌≡◌, ◌+◌, ◌*◌, ◌<◌, ◌≤◌, ◌^◌, [], ◌∷◌, IfOk, is_some, length, true};
 ghost use Rattle.iref_grammar.specs.{ComponentTexts.{spell_components}, Reference.{context_of}, Grammar.{colon}};
 ghost use Rattle.iref_grammar.specs.Texts.{part_then, then_part};
-ghost use Rattle.iref_model.specs.{fits, normal, resolved, ComponentSteps.{guarded_reference}};
+ghost use Rattle.iref_model.specs.{fits, resolved};
 ghost use Rattle.iref_parse.specs.ReferenceSlices.{value_of};
 ghost use Rattle.iref_path.specs.Written.{WritesBefore};
 ghost use Rattle.iref_reference_text.specs.ComponentLengths.{lengths_of_texts, with_mark};
 ghost use Rattle.iref_reference_text.specs.MeasuredReferences.{IsReady, spell_texts, measured_components};
 
 use crate::lengths::Lengths;
+use crate::row::Row;
 use iref_grammar::context::PathContext;
 use iref_parse::split::ReferenceSlices;
 use iref_path::measured::MeasuredPath;
@@ -136,27 +137,8 @@ fn show_scheme<W: fmt::Write>(scheme: Option<&str>, f: &mut fmt::Formatter<W>) -
 }
 
 impl<'a> MeasuredReference<'a> {
-    // A reference under a scheme, its path made normal.
-    fn with_own_path(scheme: Option<&'a str>, reference: ReferenceSlices<'a>) -> Self
-        ensures texts { measured_components result ≡ spell_components (guarded_reference
-            (record (value_of reference.entry) {
-              scheme = option_copied scheme.entry;
-              path = normal (value_of reference.entry).path;
-            })) }
-        ensures ready { IsReady result }
-    {
-        let context = context_after(scheme, reference.authority);
-        MeasuredReference {
-            scheme,
-            authority: reference.authority,
-            path: MeasuredPath::normalized(context, reference.path),
-            query: reference.query,
-            fragment: reference.fragment,
-        }
-    }
-
-    /// The components of what the reference resolves to. A reference without a path keeps the
-    /// base's as it stands, and its query where it has none.
+    /// The components of what the reference resolves to, by its row of the table. A reference without a
+    /// path keeps the base's as it stands, and its query where it has none.
     pub fn resolved(base: ReferenceSlices<'a>, reference: ReferenceSlices<'a>) -> Self
         requires fits { fits (context_of (value_of base)) (value_of base).path ≡ true }
         requires room { length base.path.now + length reference.path.now + 6 < 2 ^ 64 }
@@ -164,32 +146,35 @@ impl<'a> MeasuredReference<'a> {
             (resolved (value_of base.entry) (value_of reference.entry)) }
         ensures ready { IsReady result }
     {
-        let is_own = reference.scheme.is_some() | reference.authority.is_some();
-        if is_own {
-            return MeasuredReference::with_own_path(reference.scheme.or(base.scheme), reference);
-        }
-        let ReferenceSlices {
+        let (scheme, fragment) = (reference.scheme.or(base.scheme), reference.fragment);
+        let path = reference.path;
+        let context = context_after(scheme, base.authority);
+        let kept = MeasuredReference {
             scheme,
-            authority,
-            ..
-        } = base;
-        let fragment = reference.fragment;
-        if reference.path.is_empty() {
-            return MeasuredReference {
-                scheme,
-                authority,
-                path: MeasuredPath::kept(base.path),
-                query: reference.query.or(base.query),
-                fragment,
-            };
-        }
-        let context = context_after(scheme, authority);
-        MeasuredReference {
-            scheme,
-            authority,
-            path: MeasuredPath::normalized_after(context, base.path, reference.path),
+            authority: base.authority,
+            path: MeasuredPath::kept(base.path),
             query: reference.query,
             fragment,
+        };
+        let row = Row::of(reference);
+        match row {
+            Row::Own => MeasuredReference {
+                authority: reference.authority,
+                path: MeasuredPath::normalized(context_after(scheme, reference.authority), path),
+                ..kept
+            },
+            Row::Base => MeasuredReference {
+                query: reference.query.or(base.query),
+                ..kept
+            },
+            Row::Rooted => MeasuredReference {
+                path: MeasuredPath::normalized(context, path),
+                ..kept
+            },
+            Row::Merged => MeasuredReference {
+                path: MeasuredPath::normalized_after(context, base.path, path),
+                ..kept
+            },
         }
     }
 
@@ -242,6 +227,7 @@ impl<'a> MeasuredReference<'a> {
         let end = write_marked(buffer, end, "//", self.authority);
         write_scheme(buffer, end, self.scheme);
     }
+
     /// Writes the text to a formatter, from the front.
     #[tactic(auto, unfolding(crate::specs::MeasuredReferences::spell_texts))]
     pub fn show<W: fmt::Write>(&self, f: &mut fmt::Formatter<W>) -> fmt::Result

@@ -1,4 +1,4 @@
-//! The authority of a held reference as a part that is edited in place (RFC 3986 section 3.2).
+//! The authority of a reference's text as a part that is edited in place (RFC 3986 section 3.2).
 ghost use Rattle.iref_reference_text.specs.AuthorityRanges.{IsAuthorityOf, one_authority, authority_is_within};
 
 use super::{HeldRule, ReferenceText};

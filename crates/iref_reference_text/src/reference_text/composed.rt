@@ -1,6 +1,6 @@
-//! The text of components that are measured, or of two texts, with the lengths of its components
-//! (RFC 3986 section 5.3).
-ghost use Rattle.std.specs.Prelude.{◌≡◌, ◌++◌, IfOk, length};
+//! The text of components that are measured, or of bytes, with the lengths of its components (RFC 3986
+//! section 5.3).
+ghost use Rattle.std.specs.Prelude.{◌≡◌, IfOk, length};
 ghost use Rattle.iref_reference_text.specs.{HasLengths};
 ghost use Rattle.iref_reference_text.specs.MeasuredReferences.{IsComposed, spell_texts, measured_components};
 
@@ -9,7 +9,7 @@ use crate::lengths::Lengths;
 use crate::measured::MeasuredReference;
 use iref_grammar::chars::CharSet;
 use iref_splice::Memory;
-use std::alloc::{AllocError, Global};
+use std::alloc::Global;
 use std::marker::PhantomData;
 
 impl<R: HeldRule, C: CharSet> ReferenceText<R, C> {
@@ -31,30 +31,6 @@ impl<R: HeldRule, C: CharSet> ReferenceText<R, C> {
             text,
             lengths: components.lengths(),
             rule: PhantomData,
-        })
-    }
-
-    /// The text of these two, one after the other, which is in the rule and has components of
-    /// these lengths. The room is taken once.
-    #[inline(always)]
-    pub fn of_texts(
-        alloc: Global,
-        front: &str,
-        back: &str,
-        lengths: Lengths,
-    ) -> Result<Self, Memory>
-        requires { HasLengths (R.test C.tests) lengths (front.now ++ back.now) }
-        ensures { IfOk result (λ inner. inner ≡ front.now ++ back.now) }
-    {
-        let len = front.len().checked_add(back.len()).ok_or(AllocError)?;
-        let mut text = String::with_capacity(alloc, len)?;
-        text.push_str(front)?;
-        text.push_str(back)?;
-        let rule = PhantomData;
-        Ok(ReferenceText {
-            text,
-            lengths,
-            rule,
         })
     }
 

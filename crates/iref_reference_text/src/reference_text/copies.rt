@@ -1,4 +1,4 @@
-//! ReferenceText texts that are made from others: a copy, a scheme alone, a reference under a scheme.
+//! Texts of references that are made from others: a copy, a scheme alone, a reference under a scheme.
 ghost use Rattle.std.specs.{Prelude.{◌≡◌, ◌++◌, true, [], ◌∷◌, Some, IfOk, IfErr}, String.{string_bytes}};
 ghost use Rattle.iref_component.specs.{colon, is_scheme, with_scheme};
 ghost use Rattle.iref_reference_text.specs.Steps.{IsStep};

@@ -1,4 +1,4 @@
-//! Edits of a held text: each is one step of the reference, and keeps the lengths with the text.
+//! Edits of a reference's text: each is one step of the reference, and keeps the lengths with the text.
 ghost use Rattle.std.specs.Prelude.{◌≡◌, ◌≤◌, ◌<◌, ◌+◌, ◌-◌, ◌^◌, ◌++◌, true, false, [], ◌∷◌, length, Option, is_some};
 ghost use Rattle.std.specs.{Prelude.{option_map, codes, OnOk, OnErr, IsOk, IsNone}, Option.{option_copied}};
 ghost use Rattle.std.specs.{List.{splice}, String.{string_bytes}};

@@ -1,4 +1,4 @@
-//! ReferenceText texts of IRIs, mapped to those of URIs (RFC 3987 section 3.1).
+//! Texts of IRIs and their references, mapped to those of URIs (RFC 3987 section 3.1).
 ghost use Rattle.std.specs.{Char.{is_ascii}, List.{list_all}, Prelude.{◌≡◌, IfErr, IfOk, IsOk, true}};
 ghost use Rattle.iref_model.specs.Mapping.{mapped};
 

@@ -1,4 +1,4 @@
-//! The path of a held reference as a part that is edited in place, and as a normal one (RFC 3986
+//! The path of a reference's text as a part that is edited in place, and as a normal one (RFC 3986
 //! sections 3.3 and 5.2.4).
 ghost use Rattle.std.specs.Prelude.{◌≡◌, ◌||◌, ◌&&◌, not, true, OnErr, OnOk};
 ghost use Rattle.iref_model.specs.ComponentSteps.{with_new_normal_path};

@@ -1,6 +1,6 @@
 use Rattle.std.proofs.Common.{true, false, refl, length-append, arith}
 use Rattle.iref_grammar.specs.declared.context.PathContext.{PathContext}
-use Rattle.iref_reference_text.proofs.forward.path_between.Goals as goal
+use Rattle.iref_reference_text.proofs.after_authority.path_between.Goals as goal
 
 some_authority : PathContext
 some_authority = record { has_scheme = false; has_authority = true }
