@@ -1,12 +1,42 @@
--- Components that were read from bytes: of a reference, and of a URI, which is a reference with a scheme.
-use Rattle.std.proofs.Common.{◌≡◌, true}
-use Rattle.std.specs.Prelude.{is_some}
+-- Components of a reference, as they are compared, and as they were read from bytes: a URI is a reference with a scheme.
+use Rattle.std.proofs.Common.{◌≡◌, true, ◌&&◌, is_eq}
+use Rattle.std.proofs.lemmas.Bool.Decides.{same_from_decides}
+use Rattle.std.specs.Option.{option_eq}
+use Rattle.std.specs.Ordering.{eq_by_cmp}
+use Rattle.std.specs.Prelude.{Option, is_some}
+use Rattle.std.specs.Str.{str_to_ascii_lowercase}
+use Rattle.percent_encoding.specs.Percent.{percent_decode}
+use Rattle.iref_grammar.specs.Authority.{read_authority}
 use Rattle.iref_grammar.specs.Characters.{AreAboveAscii, CharTests}
 use Rattle.iref_grammar.specs.Grammar.{IsUri, IsUriReference}
+use Rattle.iref_grammar.specs.Keys.{text_order}
+use Rattle.iref_grammar.specs.PathValue.{read_path}
 use Rattle.iref_grammar.specs.Reference.{read_reference}
 use Rattle.iref_grammar.specs.Rules.{InUtf8, Text}
 use Rattle.iref_grammar.proofs.ComponentLemmas.{uri_if_scheme, scheme_if_uri}
 use Rattle.iref_grammar.proofs.ReferenceRuleLemmas.{Decides-is_uri, Decides-is_uri_reference}
+use Rattle.iref_model.specs.AuthorityKey.{authority_key, authority_key_cmp}
+use Rattle.iref_model.specs.Key.{key_cmp}
+use Rattle.iref_model.specs.PathKey.{path_key, path_key_cmp}
+use Rattle.iref_model.proofs.PartTieLemmas.{lower_case_tie, parts_tie}
+use Rattle.iref_model.proofs.TieLemmas.{references_tie}
+use Rattle.iref_component.specs.Components.{text_of}
+use Rattle.iref_component.specs.declared.rule_text.RuleText.{RuleText}
+use Rattle.iref_reference.specs.declared.parts.Parts.{Parts}
+use Rattle.iref_reference.specs.Parts.{uri_ref_parts_key}
+
+-- they are equal, each by its own key, exactly where the keys of their references tie
+pub parts_equal : {T R U K t r k u C c : _} (a b : Parts (Option (RuleText T R U K t r k u)) C c)
+    → (option_eq (λ x y. is_eq (text_order (str_to_ascii_lowercase (text_of x)) (str_to_ascii_lowercase (text_of y)))) a.scheme b.scheme
+    && (option_eq (λ x y. is_eq (authority_key_cmp (authority_key (read_authority (text_of x))) (authority_key (read_authority (text_of y))))) a.authority b.authority
+    && (is_eq (path_key_cmp (path_key (read_path (text_of a.path))) (path_key (read_path (text_of b.path))))
+    && (option_eq (λ x y. is_eq (text_order (percent_decode (text_of x)) (percent_decode (text_of y)))) a.query b.query
+    && option_eq (λ x y. is_eq (text_order (percent_decode (text_of x)) (percent_decode (text_of y)))) a.fragment b.fragment))))
+    ≡ eq_by_cmp key_cmp (uri_ref_parts_key a) (uri_ref_parts_key b)
+parts_equal a b =
+    let keys = parts_tie text_of text_of text_of _ _ _ (lower_case_tie text_of a.scheme b.scheme)
+    a.authority b.authority (text_of a.path) (text_of b.path) a.query b.query a.fragment b.fragment in
+    same_from_decides _ _ keys (references_tie _ _)
 
 module _ (set : CharTests) (above : AreAboveAscii set) (text : Text) where
   pub uri_with_scheme : InUtf8 (IsUriReference set) text → is_some (read_reference text).scheme ≡ true → InUtf8 (IsUri set) text

@@ -1,7 +1,6 @@
 -- What a reference resolves to against a URI is a URI.
 use Rattle.std.proofs.Common.{◌≡◌, true, ◌++◌, arith}
 use Rattle.std.specs.Prelude.{is_some}
-use Rattle.std.specs.Borrow.{Bor}
 use Rattle.std.proofs.lemmas.Result.{IfOk-weaker}
 use Rattle.iref_grammar.specs.Characters.{AreAboveAscii, CharTests}
 use Rattle.iref_grammar.specs.Rules.{Text}
@@ -11,7 +10,7 @@ use Rattle.iref_grammar.proofs.ReferenceCutLemmas.{read_reference-spelled}
 use Rattle.iref_model.specs.Resolution.{resolved}
 use Rattle.iref_model.proofs.ResolvedLemmas.{resolved-readable}
 use Rattle.iref_reference_text.specs.ComponentLengths.{HasLengths}
-use Rattle.iref_reference_text.specs.Fronts.{IsFront, IsSpelled}
+use Rattle.iref_reference_text.specs.Fronts.{IsSpelled}
 use Rattle.iref_reference_text.specs.declared.lengths.Lengths.{Lengths}
 use Rattle.iref_reference_text.proofs.EditLemmas.{IsStep, is_step}
 use Rattle.iref_reference.specs.Resolutions.{IsResolved}
@@ -44,16 +43,5 @@ module _ (set : CharTests) (above : AreAboveAscii set) (base text : Text) (b r :
     -- and is what the reference resolves to
     pub whole-resolved : IsResolved base text whole
     whole-resolved = grind (arith, read_reference-spelled, whole_step)
-
-  -- a front part of the base's text, and the reference's text
-  module _ (front : Bor Text × Lengths) (kept : IsFront b r front) where
-    front_spelled : IsSpelled (resolved b r) (front.0.now ++ text) front.1
-    front_spelled = record { text = grind (arith, read_reference-spelled); lengths = kept.lengths }
-
-    pub front-leaves : HasLengths (is_uri set) front.1 (front.0.now ++ text)
-    front-leaves = whole-leaves (front.0.now ++ text) front.1 front_spelled
-
-    pub front-resolved : IsResolved base text (front.0.now ++ text)
-    front-resolved = whole-resolved (front.0.now ++ text) front.1 front_spelled
 
 pub ruleset anew = (IfOk-weaker, resolved-scheme)

@@ -1,5 +1,5 @@
 -- Sort keys are compared as the references are.
-use Rattle.std.proofs.Common.{◌≡◌, true, refl, sym, ◌∙◌, ap, subst}
+use Rattle.std.proofs.Common.{◌≡◌, true, sym, ◌∙◌, ap, subst}
 use Rattle.std.proofs.Math.Logic.{◌↔◌}
 use Rattle.std.specs.Cmp.Lexicographic.{texts_ties}
 use Rattle.std.specs.Ordering.{eq_by_cmp, is_eq}

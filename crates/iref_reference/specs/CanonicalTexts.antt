@@ -1,4 +1,4 @@
--- Texts of canonical references (RFC 3986 section 6.2.2).
+-- Texts of canonical references.
 use Rattle.std.specs.Prelude.{◌≡◌, Bool, bytes_eq}
 use Rattle.iref_grammar.specs.Reference.{ReferenceValue, read_reference}
 use Rattle.iref_grammar.specs.Rules.{Text}

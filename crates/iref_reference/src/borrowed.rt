@@ -30,6 +30,11 @@ use std::fmt;
 /// A reference of a rule: of all references, or of URIs. `//h/a` and `s:a` are references, `s:a`
 /// alone is a URI too; `new` with a text outside the rule returns an error that holds it (RFC 3986
 /// sections 3 and 4.1).
+///
+/// `==`, order and hash do not compare characters: `HTTP://a/%7Eb/./c` equals `http://a/~b/c`. They
+/// ignore the case of the scheme (section 6.2.2.1), dot segments (6.2.2.3), and whether a character
+/// is escaped, `%26` and `&` too, which section 2.2 keeps apart. Hosts keep their case, which
+/// section 6.2.2.1 ignores. `as_str` gives the characters.
 #[derive_where(Clone, Copy, PartialEq, Eq, PartialOrd, Ord, Hash)]
 pub struct Reference<'a, R: HeldRule, C: CharSet> {
     text: BorrowedText<'a, R, C>,

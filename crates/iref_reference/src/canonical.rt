@@ -1,11 +1,12 @@
-//! Canonical texts of references (RFC 3986 section 6.2.2). Two references are equal exactly if their
-//! canonical texts are the same bytes.
+//! Canonical texts of references. Two references are equal exactly if their canonical texts are the
+//! same bytes.
 ghost use Rattle.std.specs.Prelude.{◌≡◌, ◌↔◌, true, bytes_eq, IfOk};
 ghost use Rattle.iref_parse.specs.ReferenceSlices.{texts_of, value_of};
 ghost use Rattle.iref_component.specs.{key, read_reference, spell_components, ReferenceValue, Text};
 ghost use Rattle.iref_canonical.specs.Canonical.{canonical_text};
-ghost use Rattle.iref_reference.specs.{CanonicalTexts.{AreEqualByTexts, IsCanonicalTextOf}, References.{key_of_reference}};
-ghost use Rattle.iref_reference.specs.References.{key_of_reference_buf, reference_buf_text, reference_text};
+ghost use Rattle.iref_reference.specs.CanonicalTexts.{AreEqualByTexts, IsCanonicalTextOf};
+ghost use Rattle.iref_reference.specs.References.{key_of_reference, key_of_reference_buf};
+ghost use Rattle.iref_reference.specs.References.{reference_buf_text, reference_text};
 
 use crate::borrowed::{Reference, Uri, UriRef};
 use crate::owned::ReferenceBuf;
@@ -19,9 +20,15 @@ use std::alloc::Global;
 
 impl<R: HeldRule, C: CharSet> Reference<'_, R, C> {
     /// The reference of the canonical text, which a text comparison finds equal where `==` does: of
-    /// `HTTP://a/%7Eb/./c`, `http://a/~b/c`. It equals this one, and of an IRI it is a URI (RFC 3986
-    /// section 6.2.2). The room is taken once. `Memory` says that it was refused, or that the length
-    /// cannot be counted.
+    /// `HTTP://a/%7Eb/./c`, `http://a/~b/c`. It equals this one, and of an IRI it is a URI. The
+    /// scheme is in lower case (RFC 3986 section 6.2.2.1), dot segments are removed (6.2.2.3), and
+    /// each escape is decoded where its component may hold the character. Hosts keep their case.
+    ///
+    /// It is for comparison. Resolve first, and take the canonical text of the result: of `.` it is
+    /// the empty text and of `%2E%2E/x` it is `../x`, which resolve to other URIs.
+    ///
+    /// The room is taken once. `Memory` says that it was refused, or that the length cannot be
+    /// counted.
     pub fn canonical(&self, alloc: Global) -> Result<ReferenceBuf<R, UriChars>, Memory>
         ensures text { IfOk result (λ copy.
             reference_buf_text copy ≡ canonical_text (key_of_reference self.now)) }
@@ -32,8 +39,8 @@ impl<R: HeldRule, C: CharSet> Reference<'_, R, C> {
         canonical_of::<R, C>(alloc, text, split_reference(text))
     }
 
-    /// Whether the text is canonical, as `http://a/~b/c` is and `http://a/%7Eb/c` is not (RFC 3986
-    /// section 6.2.2). It takes no memory.
+    /// Whether the text is canonical, as `http://a/~b/c` is and `http://a/%7Eb/c` is not. It takes no
+    /// memory.
     pub fn is_canonical(&self) -> bool
         ensures { result ≡ bytes_eq (reference_text self.now)
             (canonical_text (key_of_reference self.now)) }
@@ -45,8 +52,8 @@ impl<R: HeldRule, C: CharSet> Reference<'_, R, C> {
 
 impl<R: HeldRule, C: CharSet> ReferenceBuf<R, C> {
     /// The reference of the canonical text, as of the borrowed value: of `HTTP://a/%7Eb/./c`,
-    /// `http://a/~b/c` (RFC 3986 section 6.2.2). The room is taken once. `Memory` says that it was
-    /// refused, or that the length cannot be counted.
+    /// `http://a/~b/c`. The room is taken once. `Memory` says that it was refused, or that the length
+    /// cannot be counted.
     pub fn canonical(&self, alloc: Global) -> Result<ReferenceBuf<R, UriChars>, Memory>
         ensures text { IfOk result (λ copy.
             reference_buf_text copy ≡ canonical_text (key_of_reference_buf self.now)) }
@@ -56,8 +63,8 @@ impl<R: HeldRule, C: CharSet> ReferenceBuf<R, C> {
         canonical_of::<R, C>(alloc, self.as_str(), self.inner.slices())
     }
 
-    /// Whether the text is canonical, as `http://a/~b/c` is and `http://a/%7Eb/c` is not (RFC 3986
-    /// section 6.2.2). It takes no memory.
+    /// Whether the text is canonical, as `http://a/~b/c` is and `http://a/%7Eb/c` is not. It takes no
+    /// memory.
     pub fn is_canonical(&self) -> bool
         ensures { result ≡ bytes_eq (reference_buf_text self.now)
             (canonical_text (key_of_reference_buf self.now)) }
@@ -88,9 +95,8 @@ fn canonical_of<R: HeldRule, C: CharSet>(
 }
 
 /// Two references are equal exactly if the texts of their canonical references are the same bytes,
-/// by the `==` of each: of these texts it asks for what the calls above say of them (RFC 3986
-/// section 6.2.2). A URI and an IRI, which no `==` compares, have the same text exactly if their
-/// keys are the same.
+/// by the `==` of each: of these texts it asks for what the calls above say of them. A URI and an IRI,
+/// which no `==` compares, have the same text exactly if their keys are the same.
 #[tactic(auto, using(crate::proofs::CanonicalLemmas::by_texts))]
 pub fn references_are_equal_as_their_canonical_texts<R: HeldRule, C: CharSet>()
     ensures references { AreEqualByTexts key_of_reference

@@ -1,4 +1,4 @@
-//! References and URIs, borrowed and owned, are compared by their keys (RFC 3986 section 6.2.2).
+//! References and URIs, borrowed and owned, are compared by their keys.
 ghost use Rattle.std.specs.Cmp.{on_total, on_equiv, po, partial_equiv_from_equiv, eq_by_cmp_equiv};
 ghost use Rattle.std.specs.{Ordering.{on, as_partial_cmp, eq_by_cmp}, Cmp.Rules.{comparing}};
 ghost use Rattle.std.proofs.Common.{rules, refl};
@@ -47,7 +47,7 @@ impl<R: HeldRule, C: CharSet> PartialEq for ReferenceBuf<R, C> {
         (on_equiv key_of_reference_buf (eq_by_cmp_equiv keys_total)) };
 
     fn eq(&self, other: &Self) -> bool {
-        self.reference_parts().eq_by_key(&other.reference_parts())
+        self.reference_parts() == other.reference_parts()
     }
 }
 
@@ -66,7 +66,7 @@ impl<R: HeldRule, C: CharSet> Hash for ReferenceBuf<R, C> {
 }
 
 /// References and URIs are equal, in order and hashed by the key of the reference, so a URI as its
-/// reference (RFC 3986 section 6.2.2).
+/// reference.
 #[tactic(auto, using(iref_model::proofs::FeedLemmas::compared))]
 pub fn references_compare_by_key<C: CharSet>()
     ensures references { ComparesBy key_of_reference key_cmp fed_reference
@@ -84,7 +84,7 @@ pub fn owners_compare_by_key<R: HeldRule, C: CharSet>()
 {}
 
 /// The components of references and of URIs are equal, in order and hashed by the key of the
-/// reference (RFC 3986 section 6.2.2).
+/// reference.
 pub fn parts_compare_by_key<C: CharSet>()
     ensures references { ComparesBy uri_ref_parts_key key_cmp fed_reference
         ⟦<UriRefParts<'static, C> as Ord>⟧ ⟦<UriRefParts<'static, C> as Hash>⟧ }

@@ -16,6 +16,7 @@ pub mod resolution;
 pub mod rule;
 pub mod setters;
 pub mod sort_key;
+pub mod sort_range;
 pub mod suffix;
 pub mod uri_or_iri;
 pub mod uri_or_reference;

@@ -1,14 +1,14 @@
 //! The components of references and of URIs.
 ghost use Rattle.std.specs.Prelude.{MatchResult, ◌≡◌, ◌↔◌, ⊤, true, Option, Some, option_map, IfOk, IfSome, is_some};
-ghost use Rattle.std.specs.{Str.{str_to_ascii_lowercase}, Ordering.{eq_by_cmp}, Option.{option_copied}};
+ghost use Rattle.std.specs.{Str.{str_to_ascii_lowercase}, Option.{option_copied}};
 ghost use Rattle.std.proofs.{Common.{ap}, lemmas.Option.{same_Some}};
 ghost use Rattle.iref_model.proofs.{PartTieLemmas.{lower_case_tie, parts_tie}, TieLemmas.{texts_tie}};
-ghost use Rattle.iref_component.specs.{IsUri, IsUriReference, key_cmp, fed_reference, text_of};
+ghost use Rattle.iref_component.specs.{IsUri, IsUriReference, fed_reference, text_of};
 ghost use Rattle.iref_component.specs.{parts_value as authority_parts_value};
 ghost use Rattle.iref_reference_text.specs.{texts_of, AreComponents, spell_components, is_scheme, none_or, is_readable};
 ghost use Rattle.iref_reference_text.specs.{is_reference, read_reference, Text, InUtf8};
 ghost use Rattle.iref_reference.specs.Parts.{part_texts, parts_value, uri_ref_part_texts, key_of_parts};
-ghost use Rattle.iref_reference.specs.Parts.{uri_ref_parts_key, scheme_key, uri_part_texts, uri_parts_value};
+ghost use Rattle.iref_reference.specs.Parts.{scheme_key, uri_part_texts, uri_parts_value};
 ghost use Rattle.iref_reference.specs.Parts.{uri_ref_parts_value};
 
 use iref_component::authority::Authority;
@@ -175,14 +175,6 @@ impl<'a, S: SchemePart<'a>, C: CharSet> Parts<'a, S, C> {
 }
 
 impl<'a, C: CharSet> UriRefParts<'a, C> {
-    // Whether the keys are the same.
-    pub(crate) fn eq_by_key(&self, other: &Self) -> bool
-        ensures { result
-            ≡ eq_by_cmp key_cmp (uri_ref_parts_key self.now) (uri_ref_parts_key other.now) }
-    {
-        self == other
-    }
-
     // The components of a URI, if there is a scheme.
     pub(crate) fn to_uri_parts(&self) -> Option<UriParts<'a, C>>
         ensures texts { IfSome result (λ full.

@@ -32,6 +32,11 @@ impl<'a, S: SchemePart<'a>, C: CharSet> Parts<'a, S, C> {
 impl<'a, R: HeldRule, C: CharSet> Reference<'a, R, C> {
     /// A reference that leads from a base to this one: from `http://a/b/c/d` to `http://a/b` it is
     /// `../../b`. What differs in scheme or authority is given whole.
+    ///
+    /// Against the base it resolves to a reference that equals this one by `==`, perhaps in other
+    /// characters: from `http://a/~b/d` to `http://a/%7Eb/c` it is `c`, which resolves to
+    /// `http://a/~b/c` (RFC 3986 section 5.2). Its path has the fewest `..`; its text need not be
+    /// the shortest. Out of memory, it returns `Memory`.
     pub fn relative_to(&self, alloc: Global, base: UriRef<'_, C>) -> Result<UriRefBuf<C>, Memory>
         ensures text { IfOk result (λ answer. IsRelative (reference_text self.now)
             (reference_text base.entry) (reference_buf_text answer)) }

@@ -17,16 +17,13 @@ use crate::parts::{Parts, SchemePart, UriParts};
 use iref_fault::{InvalidUri, InvalidUriRef, TryError};
 use iref_grammar::chars::CharSet;
 use iref_parse::split::{ReferenceSlices, split_reference};
-use iref_reference_text::forward::resolved_forward;
-use iref_reference_text::fronts::front_kept;
-use iref_reference_text::lengths::Lengths;
+use iref_reference_text::after_authority::resolved_after_authority;
 use iref_reference_text::reference_text::{HeldRule, ReferenceText};
 use iref_splice::Memory;
 use std::alloc::Global;
 
-// What a reference resolves to against a base, given the components of both texts. Most often it is
-// a front part of the base's text and then the reference's text. Else it is written forward, after
-// an authority and where there is room for both paths, or it is measured first.
+// What a reference resolves to against a base, given the components of both texts. It is written from
+// the front, after an authority and where there is room for both paths, or it is measured first.
 fn resolved_uri<C: CharSet>(
     alloc: Global,
     base_text: &str,
@@ -40,15 +37,10 @@ fn resolved_uri<C: CharSet>(
     requires reference { value_of reference ≡ read_reference text.now }
     ensures { IfOk result (λ uri. IsResolved base_text.now text.now (reference_buf_text uri)) }
 {
-    let lengths = Lengths::of(base);
-    if let Some((front, joined)) = front_kept::<C>(base_text, base, lengths, reference) {
-        let inner = ReferenceText::of_texts(alloc, front, text, joined)?;
-        return Ok(ReferenceBuf::from_inner(inner));
-    }
-    if let Some((bytes, joined)) = resolved_forward(
-        alloc, base_text, base, lengths, text, reference,
-    ) {
-        return Ok(ReferenceBuf::from_inner(ReferenceText::of_bytes(bytes, joined)));
+    if let Some((bytes, lengths)) = resolved_after_authority::<C>(
+        alloc, base_text, base, text, reference,
+    )? {
+        return Ok(ReferenceBuf::from_inner(ReferenceText::of_bytes(bytes, lengths)));
     }
     Composed::resolved(base, reference)?.to_owned(alloc)
 }

@@ -1,5 +1,4 @@
-//! The rules of references and of URIs, and what both are compared by (RFC 3986 sections 3, 4.1
-//! and 6.2.2).
+//! The rules of references and of URIs (RFC 3986 sections 3 and 4.1), and what both are compared by.
 ghost use Rattle.std.specs.Prelude.{◌≡◌, true, refl, is_some};
 ghost use Rattle.std.proofs.Common.{sym, ◌∙◌};
 ghost use Rattle.iref_grammar.proofs.EmptyLemmas.{is_reference_empty};
@@ -145,8 +144,7 @@ impl<'a> HasScheme<'a> for UriRule {
     ghost allowed = { scheme_if_uri };
 }
 
-/// The components, each as it is compared by itself: `HTTP://%61` and `http://a` have one key
-/// (RFC 3986 section 6.2.2).
+/// The components, each as it is compared by itself: `HTTP://%61` and `http://a` have one key.
 pub struct ReferenceKey;
 
 impl Key for ReferenceKey {
@@ -160,7 +158,7 @@ impl Key for ReferenceKey {
     }
 
     fn is_equal<C: CharSet>(a: &str, b: &str) -> bool {
-        UriRefParts::<C>::of_text(a).eq_by_key(&UriRefParts::of_text(b))
+        UriRefParts::<C>::of_text(a) == UriRefParts::of_text(b)
     }
 
     fn feed<C: CharSet, H: Hasher>(text: &str, state: &mut H) {

@@ -1,8 +1,8 @@
-//! Sort keys of references: bytes that stand in the order of the references (RFC 3986 section
-//! 6.2.2).
+//! Sort keys of references: bytes that stand in the order of the references.
 ghost use Rattle.std.specs.Prelude.{◌≡◌, ◌++◌, IfOk, OnErr, OnOk};
 ghost use Rattle.iref_canonical.specs.SortKey.{sort_key};
-ghost use Rattle.iref_reference.specs.{References.{key_of_reference, key_of_reference_buf}, SortKeys.{SortsAs, SortsAsKeys}};
+ghost use Rattle.iref_reference.specs.References.{key_of_reference, key_of_reference_buf};
+ghost use Rattle.iref_reference.specs.SortKeys.{SortsAs, SortsAsKeys};
 
 use crate::borrowed::{Reference, Uri, UriRef};
 use crate::owned::ReferenceBuf;
@@ -16,8 +16,8 @@ use std::alloc::Global;
 
 impl<R: HeldRule, C: CharSet> Reference<'_, R, C> {
     /// The sort key: sort keys stand, byte by byte and the shorter first, in the order of the
-    /// references, and are the same exactly where these are equal (RFC 3986 section 6.2.2). `a/./b`
-    /// and `%61/b` have one. Out of memory, it returns `Memory`.
+    /// references, and are the same exactly where these are equal by `==`. `a/./b` and `%61/b` have
+    /// one. Out of memory, it returns `Memory`.
     pub fn sort_key(&self, alloc: Global) -> Result<SortKey, Memory>
         ensures { IfOk result (λ bytes. bytes ≡ sort_key (key_of_reference self.now)) }
     {
@@ -39,8 +39,8 @@ impl<R: HeldRule, C: CharSet> Reference<'_, R, C> {
 }
 
 impl<R: HeldRule, C: CharSet> ReferenceBuf<R, C> {
-    /// The sort key, as of the borrowed value: `a/./b` and `%61/b` have one (RFC 3986 section
-    /// 6.2.2). Out of memory, it returns `Memory`.
+    /// The sort key, as of the borrowed value: `a/./b` and `%61/b` have one. Out of memory, it returns
+    /// `Memory`.
     pub fn sort_key(&self, alloc: Global) -> Result<SortKey, Memory>
         ensures { IfOk result (λ bytes. bytes ≡ sort_key (key_of_reference_buf self.now)) }
     {

@@ -1,4 +1,4 @@
-//! What is left of a reference after a prefix (RFC 3986 section 6.2.2).
+//! What is left of a reference after a prefix, both by their keys.
 ghost use Rattle.std.specs.Prelude.{◌≡◌, ◌&&◌, IfOk, IsNone, IsOk};
 ghost use Rattle.iref_model.specs.ReferenceSuffix.{reference_suffix};
 ghost use Rattle.iref_model.specs.Relative.{have_same_authority, have_same_scheme};
@@ -16,7 +16,7 @@ use iref_splice::Memory;
 use std::alloc::Global;
 
 /// What is left of a reference after a prefix, of its path, and its query and fragment: of `/a/b?q`
-/// after `/a` the path `b` and the query `q` (RFC 3986 section 6.2.2).
+/// after `/a` the path `b` and the query `q`.
 pub type Suffix<'a, C> = (PathBuf<C>, Option<Query<'a, C>>, Option<Fragment<'a, C>>);
 
 // Whether the schemes are equal, and the authorities.
