@@ -4,10 +4,12 @@ pub mod EditLemmas
 pub mod EditListLemmas
 pub mod EditCopyLemmas
 pub mod EditRunLemmas
+pub mod NormalEditLemmas
 pub mod PortTextLemmas
 pub mod PrefixBitLemmas
 pub mod PrefixFindLemmas
 pub mod PrefixInsertLemmas
+pub mod PrefixLabelLemmas
 pub mod PrefixLemmas
 mod PrefixRows
 pub mod PrefixTextLemmas

@@ -6,7 +6,7 @@ use Rattle.std.specs.Prelude.{bytes_eq, Option, Some, None, Result, Ok, Err, opt
 use Rattle.std.specs.Bool.{IsFalse}
 use Rattle.std.specs.List.{AllByRecursion, find, list_all, list_any}
 use Rattle.std.specs.Cmp.Lexicographic.{bytes_decides}
-use Rattle.std.proofs.lemmas.Bool.{and_from, or_parts, eqb-true}
+use Rattle.std.proofs.lemmas.Bool.{and_from, or_parts}
 use Rattle.std.proofs.lemmas.Option.{same_Some}
 use Rattle.std.proofs.lemmas.List.{take-append-drop}
 use Rattle.std.proofs.lemmas.List.Folds.{list_all-append}
@@ -19,8 +19,10 @@ use Rattle.iref_grammar.specs.Texts.{begins_with, lacks}
 use Rattle.iref_grammar.specs.Reference.{is_uri}
 use Rattle.iref_grammar.proofs.TextLemmas.{first_of_both, second_of_both}
 use Rattle.iref_grammar.proofs.CutLemmas.{before-mark, after-part}
-use Rattle.iref_grammar.proofs.LackLemmas.{lacks_more, all_lacks}
-use Rattle.iref.specs.PrefixTable.{PrefixEntry, PrefixTable, is_label, has_label, is_taken, get, InsertRefusal, BadLabel, Taken, inserted, unless_refused, inserted_all, labels_differ, IsPrefixTable, fits, or_longer, longest_fit, IsLongestFit, or_new, CompactValue, IsCompact, compacted, compact_text, NotAnIri, if_iri, expanded_parts, expanded}
+use Rattle.iref.specs.PrefixLabels.{is_label}
+use Rattle.iref.specs.declared.compact.label.Labels.{Labels}
+use Rattle.iref.proofs.PrefixLabelLemmas.{label_lacks}
+use Rattle.iref.specs.PrefixTable.{PrefixEntry, PrefixTable, PrefixesValue, has_label, is_taken, get, InsertRefusal, BadLabel, Taken, inserted, unless_refused, inserted_all, labels_differ, IsPrefixTable, fits, or_longer, longest_fit, IsLongestFit, or_new, CompactValue, IsCompact, compacted, compact_text, NotAnIri, if_iri, expanded_parts, expanded}
 
 -- ---- the longest fit
 
@@ -132,11 +134,6 @@ label_itself a = (bytes_decides a a).1 refl
 label_turned : (a b : Text) → bytes_eq a b ≡ false → bytes_eq b a ≡ false
 label_turned a b h = not_true (bytes_eq b a) (λ k. true≢false (sym ((bytes_decides a b).1 (sym (same_label b a k))) ∙ h))
 
-label_lacks : (label : Text) → is_label label ≡ true → lacks colon label ≡ true
-unfolding is_label
-label_lacks [] h = refl
-label_lacks (c ∷ cs) h = grind (arith, common_steps, lacks_more, not_true, first_of_both, eqb-true, all_lacks)
-
 -- a label is taken exactly if it has an entry
 pub is_taken-get : (label : Text) (table : PrefixTable) → is_taken label table ≡ is_some (get label table)
 unfolding get
@@ -154,18 +151,18 @@ get-entry (x ∷ front) e back h = grind (arith, common_steps, not-true, first_o
 begins-joins : (front text : Text) → begins_with front text ≡ true → front ++ drop (length front) text ≡ text
 begins-joins front text h = ap (λ t. t ++ drop (length front) text) (same_label front (take (length front) text) h) ∙ take-append-drop (length front) text
 
-label_at : (front : PrefixTable) (e : PrefixEntry) (back : PrefixTable) → list_all (λ (x : PrefixEntry). is_label x.label) (front ++ e ∷ back) ≡ true → is_label e.label ≡ true
-label_at [] e back h = first_of_both (is_label e.label) (list_all (λ (x : PrefixEntry). is_label x.label) back) h
-label_at (x ∷ front) e back h = grind (arith, common_steps)
+label_at : (labels : Labels) (front : PrefixTable) (e : PrefixEntry) (back : PrefixTable) → list_all (λ (x : PrefixEntry). is_label labels x.label) (front ++ e ∷ back) ≡ true → is_label labels e.label ≡ true
+label_at labels [] e back h = first_of_both (is_label labels e.label) (list_all (λ (x : PrefixEntry). is_label labels x.label) back) h
+label_at labels (x ∷ front) e back h = label_at labels front e back (second_of_both (is_label labels x.label) (list_all (λ (y : PrefixEntry). is_label labels y.label) (front ++ e ∷ back)) h)
 
-expanded-fit : (iri : Text) (table : PrefixTable) (e : PrefixEntry) → IsPrefixTable table → is_uri iri_chars iri ≡ true → IsLongestFit iri table e
-    → expanded (e.label ++ colon ∷ drop (length e.iri) iri) table ≡ Ok iri
+expanded-fit : (iri : Text) (table : PrefixesValue) (e : PrefixEntry) → IsPrefixTable table → is_uri iri_chars iri ≡ true → IsLongestFit iri table.entries e
+    → expanded (e.label ++ colon ∷ drop (length e.iri) iri) table.entries ≡ Ok iri
 unfolding expanded
 expanded-fit iri table e t full m =
     let rest = drop (length e.iri) iri in
-    let label : lacks colon e.label ≡ true = label_lacks e.label (label_at m.front e m.back (subst (λ x. list_all (λ (y : PrefixEntry). is_label y.label) x ≡ true) (sym m.stands) t.labels)) in
-    let found : get e.label table ≡ Some e.iri = ap (get e.label) (sym m.stands) ∙ get-entry m.front e m.back (subst (λ x. labels_differ x ≡ true) (sym m.stands) t.differ) in
-    (λ i. expanded_parts (get (before-mark colon e.label rest label i) table) (after-part colon e.label (Some rest) label i))
+    let label : lacks colon e.label ≡ true = label_lacks table.labels e.label (label_at table.labels m.front e m.back (subst (λ x. list_all (λ (y : PrefixEntry). is_label table.labels y.label) x ≡ true) (sym m.stands) t.labels)) in
+    let found : get e.label table.entries ≡ Some e.iri = ap (get e.label) (sym m.stands) ∙ get-entry m.front e m.back (subst (λ x. labels_differ x ≡ true) (sym m.stands) t.differ) in
+    (λ i. expanded_parts (get (before-mark colon e.label rest label i) table.entries) (after-part colon e.label (Some rest) label i))
     ∙ (λ i. expanded_parts (found i) (Some rest)) ∙ ap if_iri (begins-joins e.iri iri m.fit) ∙ ap (λ b. if b then Ok iri else Err NotAnIri) full
 
 pub compacted-is : (iri : Text) (table : PrefixTable) → MatchOption (compacted iri table) (IsFalse (list_any (fits iri) table)) (IsCompact iri table)
@@ -178,15 +175,15 @@ compacted-is iri table = by (longest_fit iri table) (longest_fit-is iri table)
     by (Some e) m = record { entry = e; longest = m; label = refl; rest = begins-joins e.iri iri m.fit }
 
 -- what was shortened expands to the text that it was
-pub expanded-compacted : (iri : Text) (table : PrefixTable) (c : CompactValue) → IsPrefixTable table → is_uri iri_chars iri ≡ true → compacted iri table ≡ Some c
-    → expanded (compact_text c) table ≡ Ok iri
+pub expanded-compacted : (iri : Text) (table : PrefixesValue) (c : CompactValue) → IsPrefixTable table → is_uri iri_chars iri ≡ true → compacted iri table.entries ≡ Some c
+    → expanded (compact_text c) table.entries ≡ Ok iri
 unfolding compacted
-expanded-compacted iri table c t full found = by (longest_fit iri table) (longest_fit-is iri table) found
+expanded-compacted iri table c t full found = by (longest_fit iri table.entries) (longest_fit-is iri table.entries) found
   where
-    by : (o : Option PrefixEntry) → MatchOption o (IsFalse (list_any (fits iri) table)) (IsLongestFit iri table)
-        → option_map (λ (e : PrefixEntry). record { label = e.label; rest = drop (length e.iri) iri }) o ≡ Some c → expanded (compact_text c) table ≡ Ok iri
+    by : (o : Option PrefixEntry) → MatchOption o (IsFalse (list_any (fits iri) table.entries)) (IsLongestFit iri table.entries)
+        → option_map (λ (e : PrefixEntry). record { label = e.label; rest = drop (length e.iri) iri }) o ≡ Some c → expanded (compact_text c) table.entries ≡ Ok iri
     by None m k = absurd (cc k)
-    by (Some e) m k = ap (λ (d : CompactValue). expanded (compact_text d) table) (sym (same_Some _ c k)) ∙ expanded-fit iri table e t full m
+    by (Some e) m k = ap (λ (d : CompactValue). expanded (compact_text d) table.entries) (sym (same_Some _ c k)) ∙ expanded-fit iri table e t full m
 
 pub expanded_is_iri : (text iri : Text) (table : PrefixTable) → expanded text table ≡ Ok iri → is_uri iri_chars iri ≡ true
 unfolding expanded
@@ -195,12 +192,13 @@ expanded_is_iri text iri table h = grind arith
 -- ---- inserts
 
 -- the cases of an insert
-pub record IsInserted (label iri : Text) (table new : PrefixTable) : Type 0 where
-  pub label_in_rule : is_label label ≡ true
-  pub free : is_taken label table ≡ false
-  pub stands : table ++ record { label = label; iri = iri } ∷ [] ≡ new
+pub record IsInserted (label iri : Text) (table new : PrefixesValue) : Type 0 where
+  pub label_in_rule : is_label table.labels label ≡ true
+  pub free : is_taken label table.entries ≡ false
+  pub labels : table.labels ≡ new.labels
+  pub stands : table.entries ++ record { label = label; iri = iri } ∷ [] ≡ new.entries
 
-pub inserted-ok : (label iri : Text) (table new : PrefixTable) → inserted label iri table ≡ Ok new → IsInserted label iri table new
+pub inserted-ok : (label iri : Text) (table new : PrefixesValue) → inserted label iri table ≡ Ok new → IsInserted label iri table new
 unfolding inserted
 inserted-ok label iri table new h = grind arith
 
@@ -209,7 +207,7 @@ find-snoc : (label : Text) (table : PrefixTable) (e : PrefixEntry) → find (has
 find-snoc label [] e = refl
 find-snoc label (x ∷ table) e = grind (arith, common_steps, find-snoc label table e)
 
-pub get-new : (label iri : Text) (table new : PrefixTable) → inserted label iri table ≡ Ok new → get label new ≡ Some iri
+pub get-new : (label iri : Text) (table new : PrefixesValue) → inserted label iri table ≡ Ok new → get label new.entries ≡ Some iri
 unfolding get
 get-new label iri table new h = grind (arith, common_steps, inserted-ok, find-snoc, label_itself)
 
@@ -217,19 +215,19 @@ none_found : (label : Text) (table : PrefixTable) → is_taken label table ≡ f
 none_found label [] h = refl
 none_found label (x ∷ table) h = grind (arith, common_steps, none_found label table)
 
-pub get-others : (label iri other : Text) (table new : PrefixTable) → inserted label iri table ≡ Ok new → other ≢ label → get other new ≡ get other table
+pub get-others : (label iri other : Text) (table new : PrefixesValue) → inserted label iri table ≡ Ok new → other ≢ label → get other new.entries ≡ get other table.entries
 unfolding get
 get-others label iri other table new h ne =
     let i = inserted-ok label iri table new h in
     let e : PrefixEntry = record { label = label; iri = iri } in
     ap (λ t. option_map (λ (x : PrefixEntry). x.iri) (find (has_label other) t)) (sym i.stands)
-    ∙ ap (option_map (λ (x : PrefixEntry). x.iri)) (find-snoc other table e)
-    ∙ ap (λ b. option_map (λ (x : PrefixEntry). x.iri) (if is_taken other table then find (has_label other) table else (if b then Some e else None))) (not_true (bytes_eq label other) (λ k. ne (sym (same_label label other k))))
-    ∙ ap (option_map (λ (x : PrefixEntry). x.iri)) (by (is_taken other table) refl)
+    ∙ ap (option_map (λ (x : PrefixEntry). x.iri)) (find-snoc other table.entries e)
+    ∙ ap (λ b. option_map (λ (x : PrefixEntry). x.iri) (if is_taken other table.entries then find (has_label other) table.entries else (if b then Some e else None))) (not_true (bytes_eq label other) (λ k. ne (sym (same_label label other k))))
+    ∙ ap (option_map (λ (x : PrefixEntry). x.iri)) (by (is_taken other table.entries) refl)
   where
-    by : (b : Bool) → is_taken other table ≡ b → (if b then find (has_label other) table else None) ≡ find (has_label other) table
+    by : (b : Bool) → is_taken other table.entries ≡ b → (if b then find (has_label other) table.entries else None) ≡ find (has_label other) table.entries
     by true k = refl
-    by false k = sym (none_found other table k)
+    by false k = sym (none_found other table.entries k)
 
 -- an insert keeps a table one
 labels_differ-snoc : (table : PrefixTable) (e : PrefixEntry) → labels_differ table ≡ true → is_taken e.label table ≡ false → labels_differ (table ++ e ∷ []) ≡ true
@@ -239,11 +237,11 @@ labels_differ-snoc (x ∷ table) e h k = grind (arith, common_steps, or_parts, l
 all_snoc : (test : PrefixEntry → Bool) (table : PrefixTable) (e : PrefixEntry) → list_all test table ≡ true → test e ≡ true → list_all test (table ++ e ∷ []) ≡ true
 all_snoc test table e h k = list_all-append test table (e ∷ []) ∙ and_from _ _ h (and_from _ _ k refl)
 
-pub table-new : (label iri : Text) (table new : PrefixTable) → IsPrefixTable table → is_uri iri_chars iri ≡ true → inserted label iri table ≡ Ok new → IsPrefixTable new
+pub table-new : (label iri : Text) (table new : PrefixesValue) → IsPrefixTable table → is_uri iri_chars iri ≡ true → inserted label iri table ≡ Ok new → IsPrefixTable new
 table-new label iri table new t full h = grind (arith, common_steps, inserted-ok, all_snoc, labels_differ-snoc)
 
 -- and so do inserts in a row
-pub table-all : (entries : List PrefixEntry) (table new : PrefixTable) → IsPrefixTable table → list_all (λ (e : PrefixEntry). is_uri iri_chars e.iri) entries ≡ true
+pub table-all : (entries : List PrefixEntry) (table new : PrefixesValue) → IsPrefixTable table → list_all (λ (e : PrefixEntry). is_uri iri_chars e.iri) entries ≡ true
     → inserted_all entries table ≡ Some new → IsPrefixTable new
 unfolding inserted_all
 table-all [] table new t h k = subst IsPrefixTable (same_Some table new k) t
@@ -251,20 +249,20 @@ table-all (e ∷ entries) table new t h k =
     by (inserted e.label e.iri table) refl k
     (λ next f. table-all entries next new (table-new e.label e.iri table next t (first_of_both (is_uri iri_chars e.iri) (list_all (λ (x : PrefixEntry). is_uri iri_chars x.iri) entries) h) f) (second_of_both (is_uri iri_chars e.iri) (list_all (λ (x : PrefixEntry). is_uri iri_chars x.iri) entries) h))
   where
-    by : (r : Result PrefixTable InsertRefusal) → inserted e.label e.iri table ≡ r → unless_refused (inserted_all entries) r ≡ Some new
-        → ((next : PrefixTable) → inserted e.label e.iri table ≡ Ok next → inserted_all entries next ≡ Some new → IsPrefixTable new) → IsPrefixTable new
+    by : (r : Result PrefixesValue InsertRefusal) → inserted e.label e.iri table ≡ r → unless_refused (inserted_all entries) r ≡ Some new
+        → ((next : PrefixesValue) → inserted e.label e.iri table ≡ Ok next → inserted_all entries next ≡ Some new → IsPrefixTable new) → IsPrefixTable new
     by (Ok next) f l rest = rest next f l
     by (Err refusal) f l rest = absurd (cc l)
 
-pub table-nil : IsPrefixTable []
-table-nil = record { labels = refl; differ = refl; iris = refl }
+pub table-nil : (labels : Labels) → IsPrefixTable (record { labels = labels; entries = [] })
+table-nil labels = record { labels = refl; differ = refl; iris = refl }
 
 -- why an insert is refused
-pub inserted-bad_label : (label iri : Text) (table : PrefixTable) → (inserted label iri table ≡ Err BadLabel) ↔ IsFalse (is_label label)
+pub inserted-bad_label : (label iri : Text) (table : PrefixesValue) → (inserted label iri table ≡ Err (BadLabel table.labels)) ↔ IsFalse (is_label table.labels label)
 unfolding inserted
 inserted-bad_label label iri table = grind arith
 
-pub inserted-taken : (label iri : Text) (table : PrefixTable) → (inserted label iri table ≡ Err Taken) ↔ ((is_label label ≡ true) × (is_some (get label table) ≡ true))
+pub inserted-taken : (label iri : Text) (table : PrefixesValue) → (inserted label iri table ≡ Err Taken) ↔ ((is_label table.labels label ≡ true) × (is_some (get label table.entries) ≡ true))
 unfolding inserted
 inserted-taken label iri table = grind (arith, common_steps, is_taken-get)
 

@@ -8,27 +8,28 @@ use Rattle.iref_grammar.specs.Rules.{Text, InUtf8}
 use Rattle.iref_grammar.specs.Grammar.{colon, IsUri}
 use Rattle.iref_grammar.proofs.ReferenceRuleLemmas.{Decides-is_uri}
 use Rattle.iref_grammar.specs.Texts.{before, after, begins_with}
-use Rattle.iref.specs.PrefixTable.{PrefixEntry, PrefixTable, is_label, has_label, get, BadLabel, Taken, inserted, longest_fit, IsPrefixTable, compacted, compact_text, NoColon, UnknownLabel, NotAnIri, if_iri, expanded}
+use Rattle.iref.specs.PrefixLabels.{is_label}
+use Rattle.iref.specs.PrefixTable.{PrefixEntry, PrefixTable, PrefixesValue, has_label, get, BadLabel, Taken, inserted, longest_fit, IsPrefixTable, compacted, compact_text, NoColon, UnknownLabel, NotAnIri, if_iri, expanded}
 use Rattle.iref.proofs.PrefixLemmas.{is_taken-get, longest_fit-is, table-new, expanded-compacted}
 
 -- ---- inserts
 
-pub no_label : (label iri : Text) (table : PrefixTable) → is_label label ≡ false → inserted label iri table ≡ Err BadLabel
+pub no_label : (label iri : Text) (table : PrefixesValue) → is_label table.labels label ≡ false → inserted label iri table ≡ Err (BadLabel table.labels)
 unfolding inserted
 no_label label iri table h = grind arith
 
-pub taken : (label iri : Text) (table : PrefixTable) → is_label label ≡ true → is_some (find (has_label label) table) ≡ true → inserted label iri table ≡ Err Taken
+pub taken : (label iri : Text) (table : PrefixesValue) → is_label table.labels label ≡ true → is_some (find (has_label label) table.entries) ≡ true → inserted label iri table ≡ Err Taken
 unfolding inserted get
 taken label iri table h k = grind (arith, is_taken-get)
 
-pub fresh : (label iri : Text) (table : PrefixTable) → is_label label ≡ true → is_some (find (has_label label) table) ≡ false
-    → inserted label iri table ≡ Ok (table ++ record { label = label; iri = iri } ∷ [])
+pub fresh : (label iri : Text) (table : PrefixesValue) → is_label table.labels label ≡ true → is_some (find (has_label label) table.entries) ≡ false
+    → inserted label iri table ≡ Ok (record table { entries = table.entries ++ record { label = label; iri = iri } ∷ [] })
 unfolding inserted get
 fresh label iri table h k = grind (arith, is_taken-get)
 
-pub stays_table : (label iri : Text) (table : PrefixTable) → IsPrefixTable table → is_uri iri_chars iri ≡ true → is_label label ≡ true → is_some (find (has_label label) table) ≡ false
-    → IsPrefixTable (table ++ record { label = label; iri = iri } ∷ [])
-stays_table label iri table t full h k = table-new label iri table (table ++ record { label = label; iri = iri } ∷ []) t full (fresh label iri table h k)
+pub stays_table : (label iri : Text) (table : PrefixesValue) → IsPrefixTable table → is_uri iri_chars iri ≡ true → is_label table.labels label ≡ true → is_some (find (has_label label) table.entries) ≡ false
+    → IsPrefixTable (record table { entries = table.entries ++ record { label = label; iri = iri } ∷ [] })
+stays_table label iri table t full h k = table-new label iri table (record table { entries = table.entries ++ record { label = label; iri = iri } ∷ [] }) t full (fresh label iri table h k)
 
 -- ---- shortened
 
@@ -40,9 +41,9 @@ pub compacted_by : (iri : Text) (table : PrefixTable) (o : Option PrefixEntry) �
 unfolding compacted
 compacted_by iri table o h = grind arith
 
-pub expands : (iri : Text) (table : PrefixTable) (e : PrefixEntry) → IsPrefixTable table → is_uri iri_chars iri ≡ true → longest_fit iri table ≡ Some e
-    → expanded (compact_text (record { label = e.label; rest = drop (length e.iri) iri })) table ≡ Ok iri
-expands iri table e t full h = expanded-compacted iri table (record { label = e.label; rest = drop (length e.iri) iri }) t full (compacted_by iri table (Some e) h)
+pub expands : (iri : Text) (table : PrefixesValue) (e : PrefixEntry) → IsPrefixTable table → is_uri iri_chars iri ≡ true → longest_fit iri table.entries ≡ Some e
+    → expanded (compact_text (record { label = e.label; rest = drop (length e.iri) iri })) table.entries ≡ Ok iri
+expands iri table e t full h = expanded-compacted iri table (record { label = e.label; rest = drop (length e.iri) iri }) t full (compacted_by iri table.entries (Some e) h)
 
 -- ---- expanded
 

@@ -1,9 +1,10 @@
 -- What a list of edits leaves, and where it stops.
 use Rattle.std.specs.Prelude.{◌≡◌, ℕ, Bool, true, false, List, take, slice_get, Option, None, is_some, Result, MatchResult, Ok, Err, IsOk, OnOk, OnErr, IsSomeAnd, if◌then◌else◌}
 use Rattle.iref_grammar.specs.Rules.{Text}
-use Rattle.iref_grammar.specs.Reference.{ReferenceValue, read_reference, spell}
+use Rattle.iref_grammar.specs.Reference.{ReferenceValue, context_of, read_reference, spell}
 use Rattle.iref_model.specs.Edits as model
-use Rattle.iref_model.specs.Edits.{EditStep, SetScheme, SetAuthority, ReplaceAuthority, SetUserInfo, SetHost, SetPort, SetPortU32, SetQuery, SetFragment, LazyPush, Push, JoinPath, Pop, Clear, Normalize, Edited, edited, edited_uri, edited_from}
+use Rattle.iref_model.specs.Edits.{EditStep, SetScheme, SetAuthority, ReplaceAuthority, SetUserInfo, SetHost, SetPort, SetPortU32, SetAndNormalizePath, SetQuery, SetFragment, LazyPush, Push, JoinPath, Pop, Clear, Normalize, Edited, edited, edited_uri, edited_from}
+use Rattle.iref_model.specs.PathSteps.{normalized}
 use Rattle.iref_reference.specs.declared.owned.ReferenceBuf.{ReferenceBuf}
 use Rattle.iref_reference.specs.References.{reference_buf_text, reference_buf_value}
 use Rattle.iref.specs.declared.edits.EditFault.{EditFault}
@@ -85,3 +86,20 @@ abbrev pub keeps_query_and_fragment : EditStep → Bool
 keeps_query_and_fragment (SetQuery query) = false
 keeps_query_and_fragment (SetFragment fragment) = false
 keeps_query_and_fragment edit = true
+
+-- the path is normal where it stands: to normalize it changes nothing
+abbrev pub HasNormalPath : ReferenceValue → Type 0
+HasNormalPath r = normalized (context_of r) r.path ≡ r.path
+
+-- whether the path is known to be normal after an edit, and was or was not before it
+abbrev pub is_normal_after : EditStep → Bool → Bool
+is_normal_after (SetAndNormalizePath p) was = true
+is_normal_after Normalize was = true
+is_normal_after (ReplaceAuthority authority) was = was
+is_normal_after (SetUserInfo user_info) was = was
+is_normal_after (SetHost host) was = was
+is_normal_after (SetPort port) was = was
+is_normal_after (SetPortU32 number) was = was
+is_normal_after (SetQuery query) was = was
+is_normal_after (SetFragment fragment) was = was
+is_normal_after edit was = false

@@ -2,6 +2,7 @@ pub mod ComponentRules
 pub mod EditAnswers
 pub mod EditSteps
 pub mod Errors
+pub mod PrefixLabels
 pub mod PrefixTable
 pub mod PrefixTree
 pub mod Prefixes
@@ -66,6 +67,7 @@ pub use Rattle.iref_component.specs.PathEdits
 pub use Rattle.iref_component.specs.Suffixes
 pub use Rattle.iref_canonical.specs.Canonical
 pub use Rattle.iref_canonical.specs.SortKey
+pub use Rattle.iref_canonical.specs.SortPrefix
 pub use Rattle.iref_reference.specs.CanonicalTexts
 pub use Rattle.iref_reference.specs.Conversions
 pub use Rattle.iref_reference.specs.HandedBack

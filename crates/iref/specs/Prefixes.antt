@@ -2,7 +2,7 @@
 use Rattle.std.specs.Prelude.{◌≡◌, ◌≢◌, Result, Err, IsOk}
 use Rattle.iref_grammar.specs.Rules.{Text}
 use Rattle.iref.specs.PrefixTable as table
-use Rattle.iref.specs.PrefixTable.{PrefixTable, CompactValue, InsertRefusal, ExpandRefusal}
+use Rattle.iref.specs.PrefixTable.{PrefixesValue, CompactValue, InsertRefusal, ExpandRefusal}
 use Rattle.iref.specs.declared.compact.Compact.{Compact}
 use Rattle.iref.specs.declared.compact.PrefixFault.{PrefixFault}
 use Rattle.iref.specs.declared.compact.PrefixFault.TheVariants as prefix_fault
@@ -15,8 +15,8 @@ abbrev pub compact_value : Compact → CompactValue
 compact_value c = record { label = c.label.now; rest = c.rest.now }
 
 -- an insert is refused for this reason, or is out of memory
-abbrev pub RefusesInsert : Result PrefixTable InsertRefusal → PrefixFault → Type 0
-RefusesInsert answer BadLabel = answer ≡ Err table.BadLabel
+abbrev pub RefusesInsert : Result PrefixesValue InsertRefusal → PrefixFault → Type 0
+RefusesInsert answer (BadLabel labels) = answer ≡ Err (table.BadLabel labels)
 RefusesInsert answer Taken = answer ≡ Err table.Taken
 RefusesInsert answer prefix_fault.Memory = IsOk answer
 

@@ -3,11 +3,12 @@
 ghost use Rattle.std.specs.Prelude.{◌≡◌, [], length, option_map, Ok, IfOk, IfErr, IfSome, OnOk, OnErr};
 ghost use Rattle.std.specs.{String.{string_bytes}, List.{find}, Option.{option_copied}};
 ghost use Rattle.iref.specs.PrefixTable.{has_label, longest_fit, IsPrefixTable, compact_text, compacted};
-ghost use Rattle.iref.specs.PrefixTable.{expanded, get, inserted};
+ghost use Rattle.iref.specs.PrefixTable.{ascii_table, expanded, get, inserted};
 ghost use Rattle.iref_reference.specs.References.{reference_buf_text, reference_text};
 ghost use Rattle.iref.specs.Prefixes.{compact_value, RefusesExpand, RefusesInsert};
 
 mod entry;
+mod label;
 mod text;
 mod tree;
 
@@ -15,18 +16,19 @@ use crate::iri::{Iri, IriBuf};
 use entry::{Entry, Key, add};
 use iref_parse::cut::cut;
 use iref_splice::Memory;
+pub use label::Labels;
 use std::alloc::Global;
 use std::marker::Model;
-use text::{after_front, iri_of, is_label, joined};
+use text::{after_front, iri_of, joined};
 use thiserror::Error;
 use tree::Tree;
 
 /// Why an entry cannot be inserted, as one under the label `1x`.
 #[derive(Clone, Copy, Debug, PartialEq, Eq, Error)]
 pub enum PrefixFault {
-    /// The label is not an ASCII letter followed by ASCII letters, digits, `-` and `_`.
-    #[error("not a label")]
-    BadLabel,
+    /// The label is outside the rule of the table's labels, which is this one.
+    #[error("{0}")]
+    BadLabel(Labels),
     /// The label has an entry.
     #[error("the label is taken")]
     Taken,
@@ -39,16 +41,16 @@ pub enum PrefixFault {
 #[derive(Clone, Copy, Debug, PartialEq, Eq, Error)]
 pub enum ExpandFault {
     /// The text holds no `:`.
-    #[error("no colon")]
+    #[error("no colon ends a label")]
     NoColon,
     /// What stands before the first `:` is no label of the table.
-    #[error("unknown label")]
+    #[error("the label before the first colon has no entry")]
     UnknownLabel,
     /// A growth was refused, or the new length would pass what a buffer can hold.
     #[error("out of memory")]
     Memory,
     /// The label's IRI followed by what stands after the `:` is no IRI.
-    #[error("not an IRI")]
+    #[error("the label's IRI and the rest are not an IRI")]
     NotAnIri,
 }
 
@@ -96,6 +98,7 @@ impl Compact<'_> {
 /// `expand` of `ex:a` returns that IRI.
 #[derive(Drop)]
 pub struct Prefixes {
+    rule: Labels,
     entries: Vec<Entry>,
     // the entries by their labels
     labels: Tree,
@@ -104,27 +107,37 @@ pub struct Prefixes {
 }
 
 impl Model for Prefixes {
-    ghost use Rattle.iref.specs.PrefixTable.{PrefixTable, IsPrefixTable};
+    ghost use Rattle.iref.specs.PrefixTable.{PrefixesValue, IsPrefixTable};
     ghost use Rattle.iref.specs.{PrefixTree.{keys_of, IsTree}, declared.compact.entry.Key.TheVariants.{Label, Iri}};
 
-    ghost Value = { PrefixTable };
+    ghost Value = { PrefixesValue };
 
-    ghost view = { λ p. p.entries.items };
+    ghost view = { λ p. record { labels = p.rule; entries = p.entries.items } };
 
-    ghost invariant = { λ p. IsPrefixTable p.entries.items
+    ghost invariant = { λ p. IsPrefixTable (record { labels = p.rule; entries = p.entries.items })
         × IsTree (keys_of Label p.entries.items) p.labels
         × IsTree (keys_of Iri p.entries.items) p.texts };
 }
 
 impl Prefixes {
-    /// The empty table: `compact` finds nothing in it.
+    /// The empty table, whose labels are those of `Labels::Ascii`: `compact` finds nothing in it.
     pub fn new(alloc: Global) -> Self
-        ensures { result ≡ [] }
+        ensures { result ≡ ascii_table [] }
     {
+        Self::with_labels(alloc, Labels::Ascii)
+    }
+
+    /// The empty table whose labels are these: with `Labels::Turtle` it takes `schema.org`, `größe`
+    /// and the empty label, with `Labels::Any` every text without `:`.
+    pub fn with_labels(alloc: Global, labels: Labels) -> Self
+        ensures { result ≡ record { labels = labels; entries = [] } }
+    {
+        let rule = labels;
         let entries = Vec::new(alloc);
         let labels = Tree::new(alloc);
         let texts = Tree::new(alloc);
         Prefixes {
+            rule,
             entries,
             labels,
             texts,
@@ -133,14 +146,14 @@ impl Prefixes {
 
     /// How many entries the table has: after one `insert`, 1.
     pub fn len(&self) -> usize
-        ensures { result ≡ length self.now }
+        ensures { result ≡ length self.now.entries }
     {
         self.entries.len()
     }
 
     // The entry of a label.
     fn find(&self, label: &str) -> Option<&Entry>
-        ensures { option_copied result ≡ find (has_label label.now) self.now }
+        ensures { option_copied result ≡ find (has_label label.now) self.now.entries }
     {
         self.labels
             .entry_of(&self.entries, Key::Label, label.as_bytes())
@@ -148,7 +161,7 @@ impl Prefixes {
 
     // The first of the longest entries whose text is a beginning of the IRI's.
     fn longest_fit(&self, iri: &str) -> Option<&Entry>
-        ensures entry { option_copied result ≡ longest_fit iri.now self.now }
+        ensures entry { option_copied result ≡ longest_fit iri.now self.now.entries }
         ensures table { IsPrefixTable self.now }
     {
         self.texts.longest_fit(&self.entries, iri.as_bytes())
@@ -158,14 +171,14 @@ impl Prefixes {
     /// of `ex` that IRI.
     #[tactic(auto, unfolding(crate::specs::PrefixTable::get))]
     pub fn get(&self, label: &str) -> Option<Iri<'_>>
-        ensures { option_map reference_text result ≡ get label.now self.now }
+        ensures { option_map reference_text result ≡ get label.now self.now.entries }
     {
         Some(self.find(label)?.iri())
     }
 
-    /// Adds a last entry. A label is an ASCII letter, then ASCII letters, digits, `-` and `_`; it
-    /// differs from all labels that are there, by its text. The table keeps one copy of the label
-    /// and of the IRI. It finds their places by their bits, however many entries it has.
+    /// Adds a last entry. The label is in the rule of the table's labels, and differs from all
+    /// labels that are there, by its text. The table keeps one copy of the label and of the IRI. It
+    /// finds their places by their bits, however many entries it has.
     ///
     /// # Errors
     ///
@@ -178,8 +191,8 @@ impl Prefixes {
             (RefusesInsert (inserted label.now (reference_text iri.entry) self.old)) }
         ensures unchanged { OnErr result (self.new ≡ self.old) }
     {
-        if !is_label(label) {
-            return Err(PrefixFault::BadLabel);
+        if !self.rule.allow(label) {
+            return Err(PrefixFault::BadLabel(self.rule));
         }
         if self.find(label).is_some() {
             return Err(PrefixFault::Taken);
@@ -201,9 +214,10 @@ impl Prefixes {
     #[tactic(auto, using(crate::proofs::PrefixTableLemmas::compacts))]
     pub fn compact<'a>(&'a self, iri: Iri<'a>) -> Option<Compact<'a>>
         ensures compacted { option_map compact_value result
-            ≡ compacted (reference_text iri.entry) self.now }
+            ≡ compacted (reference_text iri.entry) self.now.entries }
         ensures expands { IfSome result (λ compact. expanded
-            (compact_text (compact_value compact)) self.now ≡ Ok (reference_text iri.entry)) }
+            (compact_text (compact_value compact)) self.now.entries
+            ≡ Ok (reference_text iri.entry)) }
     {
         let text = iri.as_str();
         let entry = self.longest_fit(text)?;
@@ -220,8 +234,9 @@ impl Prefixes {
     /// `NoColon`, then `UnknownLabel`, then `Memory`, then `NotAnIri`.
     #[tactic(auto, using(crate::proofs::PrefixTableLemmas::expanding))]
     pub fn expand(&self, alloc: Global, text: &str) -> Result<IriBuf, ExpandFault>
-        ensures ok { IfOk result (λ iri. expanded text.now self.now ≡ Ok (reference_buf_text iri)) }
-        ensures err { IfErr result (RefusesExpand (expanded text.now self.now)) }
+        ensures ok { IfOk result (λ iri. expanded text.now self.now.entries
+            ≡ Ok (reference_buf_text iri)) }
+        ensures err { IfErr result (RefusesExpand (expanded text.now self.now.entries)) }
     {
         let (label, rest) = cut(text, ':');
         let rest = rest.ok_or(ExpandFault::NoColon)?;

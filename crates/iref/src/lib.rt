@@ -1,4 +1,11 @@
 //! URIs and IRIs (RFC 3986, RFC 3987).
+//!
+//! [`uri`] and [`iri`] have the same types: `Uri` and `UriRef` borrow a text, `UriBuf` and
+//! `UriRefBuf` own one and are edited. A `Uri` has a scheme, a `UriRef` may be relative.
+//!
+//! `==`, order and hash do not compare characters: `HTTP://a/%7Eb/./c` equals `http://a/~b/c`. They
+//! ignore the case of the scheme, dot segments, and whether a character is escaped, even `%26` and
+//! `&`. Hosts keep their case. Where characters count, as in RDF, compare `as_str()`.
 #![tactic(auto)]
 
 mod both_families;
@@ -43,10 +50,12 @@ pub mod uri {
     use iref_grammar::chars::UriChars;
 
     /// A URI (RFC 3986 section 3): `http://a/b?q#f` and `urn:isbn:1`, but not `//a/b`, which has no
-    /// scheme.
+    /// scheme. `==` ignores the scheme's case, dot segments and escapes; `as_str` gives the
+    /// characters.
     pub type Uri<'a> = iref_reference::borrowed::Uri<'a, UriChars>;
     /// A reference of URIs (RFC 3986 section 4.1): any URI, and what is relative to one, such as
-    /// `//a/b`, `../b`, `?q` and the empty text.
+    /// `//a/b`, `../b`, `?q` and the empty text. `==` is that of `Uri`; it takes `a/..` for the
+    /// empty text, though the two may resolve to different URIs.
     pub type UriRef<'a> = iref_reference::borrowed::UriRef<'a, UriChars>;
     /// A URI that owns its text (RFC 3986 section 3), and is edited in place: `set_query` with `q`
     /// turns `http://a/b` into `http://a/b?q`. It never loses its scheme.

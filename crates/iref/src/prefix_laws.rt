@@ -4,23 +4,27 @@
 ghost use Rattle.std.specs.Prelude.{◌≡◌, ◌≢◌, ◌↔◌, List, [], ◌∷◌, ◌++◌, Some, Ok, Err, true};
 ghost use Rattle.std.specs.{Prelude.{IsFalse, IsSome, MatchOption, if◌then◌else◌}, List.{list_all}};
 ghost use Rattle.std.specs.List.{list_any};
-ghost use Rattle.iref_grammar.specs.{iri_chars, Text, is_uri};
-ghost use Rattle.iref.specs.PrefixTable.{PrefixEntry, PrefixTable, IsPrefixTable};
-ghost use Rattle.iref.specs.PrefixTable.{labels_differ, is_label, get, BadLabel, Taken};
+ghost use Rattle.iref_grammar.specs.{iri_chars, Text, is_uri, Grammar.{colon}, Texts.{lacks}};
+ghost use Rattle.iref_grammar.specs.Rules.{AcceptsExactly, Optional};
+ghost use Rattle.iref.specs.PrefixTable.{PrefixEntry, PrefixTable, PrefixesValue};
+ghost use Rattle.iref.specs.PrefixTable.{IsPrefixTable, labels_differ, get, BadLabel, Taken};
+ghost use Rattle.iref.specs.{PrefixLabels.{is_label, IsPnPrefix}, declared.compact.label.Labels.{Labels}};
+ghost use Rattle.iref.specs.declared.compact.label.Labels.TheVariants.{Turtle};
 ghost use Rattle.iref.specs.PrefixTable.{inserted, inserted_all, fits, longest_fit};
 ghost use Rattle.iref.specs.PrefixTable.{IsLongestFit, or_new, CompactValue, IsCompact};
 ghost use Rattle.iref.specs.PrefixTable.{compacted, compact_text, expanded};
 
-/// A table that was made by inserts of IRIs holds labels in their rule, none of them twice, and
-/// IRIs.
+/// A table that was made by inserts of IRIs holds labels in its rule, none of them twice, and IRIs.
 pub fn inserting_keeps_labels_unique()
-    ensures empty { IsPrefixTable [] }
-    ensures new { (label iri : Text) (table new : PrefixTable) → IsPrefixTable table
+    ensures empty { (labels : Labels)
+        → IsPrefixTable (record { labels = labels; entries = [] }) }
+    ensures new { (label iri : Text) (table new : PrefixesValue) → IsPrefixTable table
         → is_uri iri_chars iri ≡ true
         → inserted label iri table ≡ Ok new → IsPrefixTable new }
-    ensures all { (entries : List PrefixEntry) (new : PrefixTable)
+    ensures all { (labels : Labels) (entries : List PrefixEntry) (new : PrefixesValue)
         → list_all (λ (e : PrefixEntry). is_uri iri_chars e.iri) entries ≡ true
-        → inserted_all entries [] ≡ Some new → IsPrefixTable new }
+        → inserted_all entries (record { labels = labels; entries = [] }) ≡ Some new
+        → IsPrefixTable new }
     ensures found { (front : PrefixTable) (e : PrefixEntry) (back : PrefixTable)
         → labels_differ (front ++ e ∷ back) ≡ true
         → get e.label (front ++ e ∷ back) ≡ Some e.iri }
@@ -28,22 +32,27 @@ pub fn inserting_keeps_labels_unique()
 
 /// An insert adds a last entry: those before it keep their positions and their IRIs.
 pub fn inserting_keeps_the_earlier_entries()
-    ensures order { (label iri : Text) (table new : PrefixTable) → inserted label iri table ≡ Ok new
-        → table ++ record { label = label; iri = iri } ∷ [] ≡ new }
-    ensures new { (label iri : Text) (table new : PrefixTable)
-        → inserted label iri table ≡ Ok new → get label new ≡ Some iri }
-    ensures others { (label iri other : Text) (table new : PrefixTable)
+    ensures order { (label iri : Text) (table new : PrefixesValue)
+        → inserted label iri table ≡ Ok new
+        → table.entries ++ record { label = label; iri = iri } ∷ [] ≡ new.entries }
+    ensures labels { (label iri : Text) (table new : PrefixesValue)
+        → inserted label iri table ≡ Ok new → table.labels ≡ new.labels }
+    ensures new { (label iri : Text) (table new : PrefixesValue)
+        → inserted label iri table ≡ Ok new → get label new.entries ≡ Some iri }
+    ensures others { (label iri other : Text) (table new : PrefixesValue)
         → inserted label iri table ≡ Ok new → other ≢ label
-        → get other new ≡ get other table }
+        → get other new.entries ≡ get other table.entries }
 {}
 
-/// An insert is refused where its text is no label, and then where the label has an entry.
+/// An insert is refused where its text is outside the rule of the table's labels, and then where
+/// the label has an entry.
 pub fn inserting_refuses_bad_and_taken_labels()
-    ensures bad_label { (label iri : Text) (table : PrefixTable)
-        → (inserted label iri table ≡ Err BadLabel) ↔ IsFalse (is_label label) }
-    ensures taken { (label iri : Text) (table : PrefixTable)
+    ensures bad_label { (label iri : Text) (table : PrefixesValue)
+        → (inserted label iri table ≡ Err (BadLabel table.labels))
+        ↔ IsFalse (is_label table.labels label) }
+    ensures taken { (label iri : Text) (table : PrefixesValue)
         → (inserted label iri table ≡ Err Taken)
-        ↔ ((is_label label ≡ true) × IsSome (get label table)) }
+        ↔ ((is_label table.labels label ≡ true) × IsSome (get label table.entries)) }
 {}
 
 /// An IRI is shortened by the longest entry whose text is a beginning of its text, the first of
@@ -64,9 +73,17 @@ pub fn compacting_takes_the_longest_fit()
 
 /// The text of an IRI that was shortened expands to the IRI, and only IRIs are expanded.
 pub fn expanding_undoes_compacting()
-    ensures text { (iri : Text) (table : PrefixTable) (c : CompactValue) → IsPrefixTable table
-        → is_uri iri_chars iri ≡ true
-        → compacted iri table ≡ Some c → expanded (compact_text c) table ≡ Ok iri }
+    ensures text { (iri : Text) (table : PrefixesValue) (c : CompactValue) → IsPrefixTable table
+        → is_uri iri_chars iri ≡ true → compacted iri table.entries ≡ Some c
+        → expanded (compact_text c) table.entries ≡ Ok iri }
     ensures iri { (text iri : Text) (table : PrefixTable) → expanded text table ≡ Ok iri
         → is_uri iri_chars iri ≡ true }
+{}
+
+/// `Labels::Turtle` allows the texts that are empty or in `PN_PREFIX` of the Turtle grammar, and no
+/// others. No label holds a `:`.
+pub fn labels_are_those_of_the_rule()
+    ensures turtle { AcceptsExactly (is_label Turtle) (Optional IsPnPrefix) }
+    ensures colon { (labels : Labels) (label : Text) → is_label labels label ≡ true
+        → lacks colon label ≡ true }
 {}

@@ -1,7 +1,6 @@
 pub mod AnswerLemmas
 pub mod EditAnswerLemmas
 pub mod EditFieldLemmas
-pub mod EditingLemmas
 pub mod EndLemmas
 pub mod FieldLemmas
 pub mod InputLemmas

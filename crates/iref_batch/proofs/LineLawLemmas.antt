@@ -14,7 +14,8 @@ use Rattle.iref_grammar.proofs.ReferenceRuleLemmas.{Decides-is_uri_reference}
 use Rattle.iref.specs.Key.{key, are_alike}
 use Rattle.iref_model.proofs.KeyLemmas.{Decides-are_alike}
 use Rattle.iref.specs.Mapping.{mapped}
-use Rattle.iref.specs.PrefixTable.{PrefixEntry, PrefixTable, IsPrefixTable, inserted_all, CompactValue, compacted, compact_text, expanded}
+use Rattle.iref.specs.declared.compact.label.Labels.TheVariants.{Ascii}
+use Rattle.iref.specs.PrefixTable.{PrefixEntry, PrefixesValue, IsPrefixTable, ascii_table, inserted_all, CompactValue, compacted, compact_text, expanded}
 use Rattle.iref_model.proofs.MappedReferenceLemmas.{reference_is_uri_reference, key-mapped_text}
 use Rattle.iref.proofs.PrefixLemmas.{table-nil, table-all, expanded-compacted}
 use Rattle.iref_batch.specs.Lines.{Request, ToUri, Compact, Expand, Answered, InvalidText, Verbs, equals_sign, is_valid, part_field, expanded_answer, answer_to, answer_if_valid, answer}
@@ -57,18 +58,18 @@ module _ (iri text : Text) (entries : List PrefixEntry) where
   pub expand_compact : is_valid iri_chars (Compact iri entries) ≡ true → answer_to (Compact iri entries) ≡ Answered (equals_sign ∷ text) → answer_to (Expand text entries) ≡ Answered iri
   unfolding is_valid answer_to
   expand_compact h k =
-      let valid_texts = and_parts (is_uri iri_chars iri) (list_all (λ (e : PrefixEntry). is_uri iri_chars e.iri) entries && is_some (inserted_all entries [])) h in
-      let valid_entries = and_parts (list_all (λ (e : PrefixEntry). is_uri iri_chars e.iri) entries) (is_some (inserted_all entries [])) valid_texts.1 in
-      by (inserted_all entries []) refl valid_entries.1 k valid_texts.0 valid_entries.0
+      let valid_texts = and_parts (is_uri iri_chars iri) (list_all (λ (e : PrefixEntry). is_uri iri_chars e.iri) entries && is_some (inserted_all entries (ascii_table []))) h in
+      let valid_entries = and_parts (list_all (λ (e : PrefixEntry). is_uri iri_chars e.iri) entries) (is_some (inserted_all entries (ascii_table []))) valid_texts.1 in
+      by (inserted_all entries (ascii_table [])) refl valid_entries.1 k valid_texts.0 valid_entries.0
     where
-      answered : (table : PrefixTable) → IsPrefixTable table → is_uri iri_chars iri ≡ true → (o : Option CompactValue) → compacted iri table ≡ o
-          → option_map compact_text o ≡ Some text → expanded_answer (expanded text table) ≡ Answered iri
+      answered : (table : PrefixesValue) → IsPrefixTable table → is_uri iri_chars iri ≡ true → (o : Option CompactValue) → compacted iri table.entries ≡ o
+          → option_map compact_text o ≡ Some text → expanded_answer (expanded text table.entries) ≡ Answered iri
       answered table t full None e f = absurd (cc f)
-      answered table t full (Some c) e f = ap (λ x. expanded_answer (expanded x table)) (sym (same_Some (compact_text c) text f)) ∙ ap expanded_answer (expanded-compacted iri table c t full e)
+      answered table t full (Some c) e f = ap (λ x. expanded_answer (expanded x table.entries)) (sym (same_Some (compact_text c) text f)) ∙ ap expanded_answer (expanded-compacted iri table c t full e)
 
-      by : (o : Option PrefixTable) → inserted_all entries [] ≡ o → is_some o ≡ true → Answered (part_field (option_map compact_text (compacted iri (unwrap_or o [])))) ≡ Answered (equals_sign ∷ text)
-          → is_uri iri_chars iri ≡ true → list_all (λ (e : PrefixEntry). is_uri iri_chars e.iri) entries ≡ true → expanded_answer (expanded text (unwrap_or o [])) ≡ Answered iri
+      by : (o : Option PrefixesValue) → inserted_all entries (ascii_table []) ≡ o → is_some o ≡ true → Answered (part_field (option_map compact_text (compacted iri (unwrap_or o (ascii_table [])).entries))) ≡ Answered (equals_sign ∷ text)
+          → is_uri iri_chars iri ≡ true → list_all (λ (e : PrefixEntry). is_uri iri_chars e.iri) entries ≡ true → expanded_answer (expanded text (unwrap_or o (ascii_table [])).entries) ≡ Answered iri
       by None e s f full irises = absurd (true≢false (sym s))
       by (Some table) e s f full irises =
-          let field : part_field (option_map compact_text (compacted iri table)) ≡ equals_sign ∷ text = cc in
-          answered table (table-all entries [] table table-nil irises e) full (compacted iri table) refl (part_there (option_map compact_text (compacted iri table)) text field)
+          let field : part_field (option_map compact_text (compacted iri table.entries)) ≡ equals_sign ∷ text = cc in
+          answered table (table-all entries (ascii_table []) table (table-nil Ascii) irises e) full (compacted iri table.entries) refl (part_there (option_map compact_text (compacted iri table.entries)) text field)

@@ -23,7 +23,8 @@ use Rattle.iref.specs.Resolution.{resolved}
 use Rattle.iref.specs.Edits.{edited, edited_from}
 use Rattle.iref.specs.Characters.{uri_chars, iri_chars}
 use Rattle.iref.specs.Mapping.{mapped}
-use Rattle.iref.specs.PrefixTable.{is_label, get, inserted, inserted_all, longest_fit, compacted, expanded}
+use Rattle.iref.specs.PrefixLabels.{is_ascii_label}
+use Rattle.iref.specs.PrefixTable.{get, inserted, inserted_all, longest_fit, compacted, expanded}
 use Rattle.iref_model.proofs.Rows.{utf8}
 use Rattle.iref_batch.specs.Lines.{answer, answer_text, answer_to, is_valid, read_line, output, all_verbs}
 
@@ -182,5 +183,5 @@ table_lines =
     ∷ []
 
 table_lines_hold : map (λ row. iri_answer row.0) table_lines ≡ map (λ row. row.1) table_lines
-unfolding is_label get inserted inserted_all longest_fit compacted expanded answer read_line is_valid answer_to output edited edited_from is_reference is_uri is_authority is_readable has_authority_parts is_scheme is_user_info is_host is_ip_literal is_ipvfuture is_reg_name is_port is_path is_segment is_query is_fragment ipv4_value ipv6_value owed_after is_reg_name_char is_user_info_char is_path_char is_query_char is_fragment_char is_utf8 chars encode_utf8 digits percent_decode spell read_reference spell_authority read_authority spell_path read_path guarded guarded_list normal_segments excess staying_names lazy_pushed pushed popped joined appended with_scheme with_authority with_path path_key key key_cmp relative_to resolved
+unfolding is_ascii_label get inserted inserted_all longest_fit compacted expanded answer read_line is_valid answer_to output edited edited_from is_reference is_uri is_authority is_readable has_authority_parts is_scheme is_user_info is_host is_ip_literal is_ipvfuture is_reg_name is_port is_path is_segment is_query is_fragment ipv4_value ipv6_value owed_after is_reg_name_char is_user_info_char is_path_char is_query_char is_fragment_char is_utf8 chars encode_utf8 digits percent_decode spell read_reference spell_authority read_authority spell_path read_path guarded guarded_list normal_segments excess staying_names lazy_pushed pushed popped joined appended with_scheme with_authority with_path path_key key key_cmp relative_to resolved
 table_lines_hold = refl

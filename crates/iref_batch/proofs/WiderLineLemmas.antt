@@ -17,7 +17,7 @@ use Rattle.iref_grammar.proofs.HostRuleLemmas.{Decides-is_host}
 use Rattle.iref_grammar.proofs.AuthorityRuleLemmas.{Decides-has_authority_parts}
 use Rattle.iref_grammar.proofs.PathTestLemmas.{is_path-segments}
 use Rattle.iref_grammar.proofs.WiderLemmas.{wider_than_uri, encoded_wider, user_info_wider, path_wider, query_wider, fragment_wider, host_wider, authority_wider, uri_reference}
-use Rattle.iref.specs.PrefixTable.{PrefixEntry, inserted_all}
+use Rattle.iref.specs.PrefixTable.{PrefixEntry, ascii_table, inserted_all}
 use Rattle.iref.specs.Edits.{EditStep, SetScheme, SetAuthority, ReplaceAuthority, SetUserInfo, SetHost, SetPort, SetPortU32, SetPath, SetAndNormalizePath, SetQuery, SetFragment, LazyPush, Push, JoinPath, Pop, Clear, Normalize}
 use Rattle.iref_batch.specs.Lines.{Request, Parts, Resolve, Relative, Normal, Equal, Edit, ToUri, Compact, Expand, is_valid_edit, is_valid}
 
@@ -83,8 +83,8 @@ module _ (set : CharTests) (above : AreAboveAscii set) where
   edit Clear h = h
   edit Normalize h = h
 
-  entries : (es : List PrefixEntry) → (list_all (λ (e : PrefixEntry). is_uri uri_chars e.iri) es && is_some (inserted_all es [])) ≡ true
-      → (list_all (λ (e : PrefixEntry). is_uri set e.iri) es && is_some (inserted_all es [])) ≡ true
+  entries : (es : List PrefixEntry) → (list_all (λ (e : PrefixEntry). is_uri uri_chars e.iri) es && is_some (inserted_all es (ascii_table []))) ≡ true
+      → (list_all (λ (e : PrefixEntry). is_uri set e.iri) es && is_some (inserted_all es (ascii_table []))) ≡ true
   entries es = grind (arith, common_steps, takes_both, takes_all, full)
 
   pub valid : (request : Request) → is_valid uri_chars request ≡ true → is_valid set request ≡ true

@@ -18,7 +18,7 @@ use Rattle.iref.specs.Resolution.{resolved}
 use Rattle.iref.specs.Key.{are_alike}
 use Rattle.iref.specs.Relative.{relative_to}
 use Rattle.iref.specs.Mapping.{mapped}
-use Rattle.iref.specs.PrefixTable.{PrefixEntry, PrefixTable, inserted_all, compacted, compact_text, ExpandRefusal, expanded}
+use Rattle.iref.specs.PrefixTable.{PrefixEntry, PrefixTable, ascii_table, inserted_all, compacted, compact_text, ExpandRefusal, expanded}
 use Rattle.iref.specs.Edits.{EditStep, SetScheme, SetAuthority, ReplaceAuthority, SetUserInfo, SetHost, SetPort, SetPortU32, SetPath, SetAndNormalizePath, SetQuery, SetFragment, LazyPush, Push, JoinPath, Pop, Clear, Normalize, EditsOutcome, edited_all}
 
 abbrev pub tab : ℕ
@@ -127,7 +127,7 @@ is_valid_edit set Clear = true
 is_valid_edit set Normalize = true
 
 abbrev pub are_valid_entries : CharTests → List PrefixEntry → Bool
-are_valid_entries set entries = list_all (λ (e : PrefixEntry). is_uri set e.iri) entries && is_some (inserted_all entries [])
+are_valid_entries set entries = list_all (λ (e : PrefixEntry). is_uri set e.iri) entries && is_some (inserted_all entries (ascii_table []))
 
 unfoldable pub is_valid : CharTests → Request → Bool
 is_valid set (Parts r) = is_reference set r
@@ -159,7 +159,7 @@ yes_or_no equal = if equal then codes "yes" else codes "no"
 
 -- the table of entries that can be inserted
 abbrev pub table_of : List PrefixEntry → PrefixTable
-table_of entries = unwrap_or (inserted_all entries []) []
+table_of entries = (unwrap_or (inserted_all entries (ascii_table [])) (ascii_table [])).entries
 
 abbrev pub expanded_answer : Result Text ExpandRefusal → LineAnswer
 expanded_answer (Ok iri) = Answered iri

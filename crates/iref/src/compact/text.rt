@@ -1,8 +1,8 @@
-//! Texts of prefix tables: labels, and texts that are joined.
-ghost use Rattle.std.specs.{Prelude.{◌≡◌, ◌++◌, length, drop, true, IfOk, IfErr, Ok}, List.{list_all}};
+//! Texts of prefix tables: those that are joined, and what follows a beginning.
+ghost use Rattle.std.specs.Prelude.{◌≡◌, ◌++◌, length, drop, true, IfOk, IfErr, Ok};
 ghost use Rattle.std.specs.String.{string_bytes};
 ghost use Rattle.iref_grammar.specs.Texts.{begins_with};
-ghost use Rattle.iref.specs.PrefixTable.{is_label, is_label_char, if_iri};
+ghost use Rattle.iref.specs.PrefixTable.{if_iri};
 ghost use Rattle.iref_reference.specs.References.{reference_buf_text};
 ghost use Rattle.iref.specs.Prefixes.{RefusesExpand};
 
@@ -10,31 +10,6 @@ use super::ExpandFault;
 use crate::iri::IriBuf;
 use iref_splice::Memory;
 use std::alloc::{AllocError, Global};
-
-// Whether a label may hold the byte after its first letter.
-fn is_label_byte(byte: u8) -> bool
-    ensures { result ≡ is_label_char byte }
-{
-    byte.is_ascii_alphanumeric() || matches!(byte, b'-' | b'_')
-}
-
-// Whether a label may hold the bytes after its first letter.
-fn are_label_bytes(bytes: &[u8]) -> bool
-    ensures { result ≡ list_all is_label_char bytes.now }
-{
-    bytes.iter().all(|byte| is_label_byte(*byte))
-}
-
-// Whether the text is a label.
-#[tactic(auto, unfolding(crate::specs::PrefixTable::is_label))]
-pub(super) fn is_label(text: &str) -> bool
-    ensures { result ≡ is_label text.now }
-{
-    let Some((first, others)) = text.as_bytes().split_first() else {
-        return false;
-    };
-    first.is_ascii_alphabetic() && are_label_bytes(others)
-}
 
 // What follows this beginning of the text.
 pub(super) fn after_front<'a>(text: &'a str, front: &str) -> &'a str

@@ -1,9 +1,10 @@
 //! Edits of a list, one after the other, up to the first that cannot be done.
-ghost use Rattle.std.specs.Prelude.{◌≡◌, ◌≤◌, ◌<◌, ◌∷◌, [], true, length, map, take, IfNone, IfOk, IfSome};
+ghost use Rattle.std.specs.Prelude.{◌≡◌, ◌≤◌, ◌<◌, ◌∷◌, [], true, length, map, take, IfNone, IfOk, IfSome, OnOk};
 ghost use Rattle.iref_model.specs.Edits.{edited, edited_uri};
 ghost use Rattle.iref_component.specs.{with_fragment, with_query};
 ghost use Rattle.iref_reference.specs.References.{reference_buf_text, reference_buf_value};
-ghost use Rattle.iref.specs.EditAnswers.{AppliesEdit, AppliesTo, AreDone, StopsAt, edited_in, keeps_query_and_fragment};
+ghost use Rattle.iref.specs.EditAnswers.{AppliesEdit, AppliesTo, AreDone, HasNormalPath, StopsAt, edited_in};
+ghost use Rattle.iref.specs.EditAnswers.{is_normal_after, keeps_query_and_fragment};
 ghost use Rattle.iref.specs.EditSteps.{AppliesList, all_keep_query_and_fragment, edit_step};
 
 use crate::edits::parts::{edit_authority, edit_path};
@@ -59,6 +60,43 @@ fn apply<R: SetsScheme, C: CharSet>(
     }
 }
 
+// Whether the path is known to be normal after an edit that was done, and was or was not before it.
+fn is_normal_after<C: CharSet>(edit: Edit<'_, C>, was: bool) -> bool
+    ensures { result ≡ is_normal_after (edit_step edit.entry) was }
+{
+    match edit {
+        Edit::SetAndNormalizePath(_) | Edit::Normalize => true,
+        Edit::ReplaceAuthority(_)
+        | Edit::SetUserInfo(_)
+        | Edit::SetHost(_)
+        | Edit::SetPort(_)
+        | Edit::SetPortU32(_)
+        | Edit::SetQuery(_)
+        | Edit::SetFragment(_) => was,
+        _ => false,
+    }
+}
+
+// Does one edit, or changes nothing. A path that is known to be normal is not normalized again.
+fn apply_next<R: SetsScheme, C: CharSet>(
+    reference: &mut ReferenceBuf<R, C>,
+    edit: Edit<'_, C>,
+    is_normal: &mut bool,
+) -> Result<(), EditFault>
+    requires { is_normal.old ≡ true → HasNormalPath (reference_buf_value reference.old) }
+    ensures edit { AppliesEdit (edited_in R.allows_scheme) (edit_step edit.entry)
+        (reference_buf_text reference.old) (reference_buf_text reference.new) result }
+    ensures normal { OnOk result (is_normal.new ≡ true
+        → HasNormalPath (reference_buf_value reference.new)) }
+{
+    if *is_normal && matches!(edit, Edit::Normalize) {
+        return Ok(());
+    }
+    apply(reference, edit)?;
+    *is_normal = is_normal_after(edit, *is_normal);
+    Ok(())
+}
+
 // What was done of some edits: how many, and why the next one cannot be done, if it cannot.
 #[derive(Drop)]
 struct Run {
@@ -86,8 +124,9 @@ fn apply_each<R: SetsScheme, C: CharSet>(
     // The next edit that changes the length is the first one.
     let mut moves = 1;
     let mut len = reference.as_str().len();
+    let mut is_normal = false;
     for (i, edit) in edits.iter().enumerate() {
-        if let Err(fault) = apply(reference, *edit) {
+        if let Err(fault) = apply_next(reference, *edit, &mut is_normal) {
             let fault = Some(fault);
             return Run { done: i, fault };
         }

@@ -1,8 +1,9 @@
 //! The answer to `edit`.
-ghost use Rattle.std.specs.{Option.{option_copied}, Prelude.{◌≡◌, [], ◌∷◌, IfOk}};
-ghost use Rattle.iref_batch.specs.Lines.{text_and_edits};
-ghost use Rattle.iref.specs.{EditSteps.{edit_step}, References.{reference_buf_value}};
-ghost use Rattle.iref_batch.specs.{EditFields.{ChecksEdits, EditsBy, LeavesAfter}, Fields.{fields_of}};
+ghost use Rattle.std.specs.Prelude.{◌≡◌, ◌∷◌, map, IfOk};
+ghost use Rattle.std.specs.{List.{list_all}, Option.{option_copied}};
+ghost use Rattle.iref_batch.specs.Lines.{is_valid_edit, text_and_edits};
+ghost use Rattle.iref.specs.{Characters.{iri_chars}, EditSteps.{edit_step}};
+ghost use Rattle.iref_batch.specs.{EditFields.{IsRead, edits_read}, Fields.{fields_of}};
 ghost use Rattle.iref_batch.specs.{Gathering.{Puts}, Runs.{reply_to}};
 
 use super::{put_answered, put_refused, put_text};
@@ -10,58 +11,42 @@ use crate::edit_fields::{FieldError, read_edit};
 use crate::request::next_field;
 use iref::Memory;
 use iref::iri::{Edit, EditFault, IriRefBuf, apply_all};
+use memchr::memchr_iter;
 use std::alloc::Global;
 
-// Why the fields name no edits, if they do not. Their values may be outside their grammar.
-fn check_edits(fields: Option<&[u8]>) -> Result<(), FieldError>
-    ensures { ChecksEdits (fields_of (option_copied fields.entry)) result }
-{
-    let mut left = fields;
-    while let Some(field) = next_field(&mut left) {
-        match read_edit(field) {
-            Ok(_) => {}
-            Err(FieldError::Invalid) => {}
-            Err(error) => return Err(error),
-        }
-    }
-    Ok(())
-}
-
-// Does the edit, and returns whether it is not refused.
-fn edit_once(reference: &mut IriRefBuf, edit: Edit<'_>) -> Result<bool, Memory>
-    ensures { IfOk result (λ done. LeavesAfter done (edit_step edit.entry ∷ [])
-        (reference_buf_value reference.old) (reference_buf_value reference.new)) }
-{
-    match apply_all(reference, &[edit]) {
-        Ok(()) => Ok(true),
-        Err((_, EditFault::NoAuthority)) => Ok(false),
-        Err((_, EditFault::SchemeNeeded)) => Ok(false),
-        Err((_, EditFault::Memory)) => Err(Memory),
+// How many edits the fields name at most. A field that names one has three bytes at least.
+fn most_edits(fields: Option<&[u8]>) -> usize {
+    match fields {
+        Some(text) => memchr_iter(b'\t', text).count().min(text.len() / 4) + 1,
+        None => 0,
     }
 }
 
-// Does the edits that the fields name, up to the first that is refused, and returns whether none
-// is. All fields are read, since one that is no edit at all goes before values outside their
-// grammar, and these go before a refused edit.
-fn edit_by(reference: &mut IriRefBuf, fields: Option<&[u8]>) -> Result<bool, FieldError>
-    ensures { EditsBy (fields_of (option_copied fields.entry))
-        (reference_buf_value reference.old) (reference_buf_value reference.new) result }
+// The edits that the fields name. All fields are read, since one that is no edit at all goes before
+// values outside their grammar.
+fn read_edits(alloc: Global, fields: Option<&[u8]>) -> Result<Vec<Edit<'_>>, FieldError>
+    ensures { IsRead (λ edits. map edit_step edits.items) (list_all (is_valid_edit iri_chars))
+        (edits_read (fields_of (option_copied fields.entry))) result }
 {
+    let mut edits = Vec::with_capacity(alloc, most_edits(fields)).or(Err(FieldError::Memory))?;
     let mut are_valid = true;
-    let mut are_done = true;
     let mut left = fields;
     while let Some(field) = next_field(&mut left) {
         match read_edit(field) {
             Ok(edit) => {
-                if are_done {
-                    are_done = edit_once(reference, edit).or(Err(FieldError::Memory))?;
+                if edits.push(edit).is_err() {
+                    return Err(FieldError::Memory);
                 }
             }
             Err(FieldError::Invalid) => are_valid = false,
             Err(error) => return Err(error),
         }
     }
-    are_valid.then_some(are_done).ok_or(FieldError::Invalid)
+    if are_valid {
+        Ok(edits)
+    } else {
+        Err(FieldError::Invalid)
+    }
 }
 
 // A copy of the text, with room for more bytes.
@@ -73,7 +58,8 @@ fn copied(alloc: Global, text: &[u8], more: usize) -> Result<Vec<u8>, Memory>
     Ok(bytes)
 }
 
-/// Puts the answer to `edit`.
+/// Puts the answer to `edit`. The fields are read first, since one that is no edit at all goes
+/// before a text that is no reference, and values outside their grammar before a refused edit.
 pub fn put_answer_to_edit(
     text: &[u8],
     fields: Option<&[u8]>,
@@ -82,17 +68,19 @@ pub fn put_answer_to_edit(
     ensures { Puts (reply_to (text_and_edits (text.now ∷ fields_of (option_copied fields.entry))))
         out.old.items out.new.items result }
 {
+    let edits = match read_edits(*out.allocator(), fields) {
+        Ok(edits) => edits,
+        Err(error) => return put_refused(error, out),
+    };
     let more = fields.map_or(0, |fields| fields.len());
     let bytes = copied(*out.allocator(), text, more)?;
     let Ok(mut reference) = IriRefBuf::from_bytes(bytes) else {
-        return match check_edits(fields) {
-            Ok(()) => put_text(b"error invalid", out),
-            Err(error) => put_refused(error, out),
-        };
+        return put_text(b"error invalid", out);
     };
-    match edit_by(&mut reference, fields) {
-        Ok(true) => put_answered(reference.as_bytes(), out),
-        Ok(false) => put_text(b"error edit", out),
-        Err(error) => put_refused(error, out),
+    match apply_all(&mut reference, edits.as_slice()) {
+        Ok(()) => put_answered(reference.as_bytes(), out),
+        Err((_, EditFault::NoAuthority)) => put_text(b"error edit", out),
+        Err((_, EditFault::SchemeNeeded)) => put_text(b"error edit", out),
+        Err((_, EditFault::Memory)) => Err(Memory),
     }
 }

@@ -2,11 +2,12 @@
 ghost use Rattle.std.specs.{Prelude.{◌≡◌, ◌∷◌, Some, true, OnOk, OnErr, IfErr}, Option.{option_copied}};
 ghost use Rattle.iref_batch.specs.Lines.{Answered, answer_text, are_valid_entries, part_field, read_entry};
 ghost use Rattle.iref_batch.specs.Lines.{text_and_entries};
-ghost use Rattle.iref.specs.{Characters.{iri_chars}, PrefixTable.{compact_text}, Prefixes.{compact_value}};
+ghost use Rattle.iref.specs.{Characters.{iri_chars}, PrefixTable.{compact_text, PrefixesValue}, Prefixes.{compact_value}};
 ghost use Rattle.iref_batch.specs.{EditFields.{IsRead}, Fields.{fields_of}, Gathering.{Puts, PutsReply}};
 ghost use Rattle.iref_batch.specs.{PrefixFields.{entries_read, HasTaken, TakesNot}, Requests.{asked_of}};
 ghost use Rattle.iref_batch.specs.Runs.{reply_to};
 ghost use Rattle.iref_batch.specs.Lines as spec;
+ghost use Rattle.iref.specs.declared.compact.label.Labels.TheVariants.{Ascii};
 
 use super::{put_answered, put_refused, put_text};
 use crate::edit_fields::FieldError;
@@ -20,6 +21,7 @@ use std::str;
 
 // Adds the entry of a field, `label=IRI`, to the table.
 fn insert_field(table: &mut Prefixes, field: &[u8]) -> Result<(), FieldError>
+    requires { table.old.labels ≡ Ascii }
     ensures ok { OnOk result (HasTaken (read_entry field.now) table.old table.new) }
     ensures err { IfErr result (TakesNot (read_entry field.now) table.old) }
     ensures unchanged { OnErr result (table.new ≡ table.old) }
@@ -36,7 +38,7 @@ fn insert_field(table: &mut Prefixes, field: &[u8]) -> Result<(), FieldError>
     };
     match table.insert(label, iri) {
         Ok(()) => Ok(()),
-        Err(PrefixFault::BadLabel) => Err(FieldError::Invalid),
+        Err(PrefixFault::BadLabel(_)) => Err(FieldError::Invalid),
         Err(PrefixFault::Taken) => Err(FieldError::Invalid),
         Err(PrefixFault::Memory) => Err(FieldError::Memory),
     }
@@ -45,7 +47,7 @@ fn insert_field(table: &mut Prefixes, field: &[u8]) -> Result<(), FieldError>
 // The table of the entries that the fields name. All fields are read, since one without `=` goes
 // before entries that no table takes.
 fn read_table(alloc: Global, fields: Option<&[u8]>) -> Result<Prefixes, FieldError>
-    ensures { IsRead (λ table. table) (are_valid_entries iri_chars)
+    ensures { IsRead (λ (table : PrefixesValue). table.entries) (are_valid_entries iri_chars)
         (entries_read (fields_of (option_copied fields.entry))) result }
 {
     let mut table = Prefixes::new(alloc);
@@ -79,8 +81,8 @@ fn put_short(short: Compact<'_>, out: &mut Vec<u8>) -> Result<(), Memory>
 
 // Puts the answer of what a table makes of an IRI.
 fn put_compact(table: &Prefixes, text: &[u8], out: &mut Vec<u8>) -> Result<(), Memory>
-    requires { are_valid_entries iri_chars table.now ≡ true }
-    ensures { PutsReply (spec.Compact text.now table.now) out.old.items out.new.items result }
+    requires { are_valid_entries iri_chars table.now.entries ≡ true }
+    ensures { PutsReply (spec.Compact text.now table.now.entries) out.old.items out.new.items result }
 {
     let Ok(iri) = Iri::from_bytes(text) else {
         return put_text(b"error invalid", out);
@@ -93,8 +95,8 @@ fn put_compact(table: &Prefixes, text: &[u8], out: &mut Vec<u8>) -> Result<(), M
 
 // Puts the answer of the IRI that a text stands for in a table.
 fn put_expanded(table: &Prefixes, text: &[u8], out: &mut Vec<u8>) -> Result<(), Memory>
-    requires { are_valid_entries iri_chars table.now ≡ true }
-    ensures { PutsReply (spec.Expand text.now table.now) out.old.items out.new.items result }
+    requires { are_valid_entries iri_chars table.now.entries ≡ true }
+    ensures { PutsReply (spec.Expand text.now table.now.entries) out.old.items out.new.items result }
 {
     let Ok(text) = str::from_utf8(text) else {
         return put_text(b"error invalid", out);

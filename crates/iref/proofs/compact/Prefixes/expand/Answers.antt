@@ -6,11 +6,11 @@ use Rattle.iref.proofs.compact.Prefixes.expand.Goals as goal
 pub returns-clause-err : goal.returns-clause-err
 unfolding expanded
 returns-clause-err c =
-    let e : expanded c.args.text.now c.args.self.now ≡ if_iri (string_bytes c.in_ok-text.text) = search rules in
+    let e : expanded c.args.text.now c.args.self.now.entries ≡ if_iri (string_bytes c.in_ok-text.text) = search rules in
     rw e c.iri_of.ensures.err
 
 pub returns-clause-ok : goal.returns-clause-ok
 unfolding expanded
 returns-clause-ok c =
-    let e : expanded c.args.text.now c.args.self.now ≡ if_iri (string_bytes c.in_ok-text.text) = search rules in
+    let e : expanded c.args.text.now c.args.self.now.entries ≡ if_iri (string_bytes c.in_ok-text.text) = search rules in
     rw e c.iri_of.ensures.ok

@@ -5,7 +5,7 @@ use Rattle.iref.proofs.compact.Prefixes.insert.Goals as goal
 
 pub invariant_of-self-2 : goal.invariant_of-self-2
 invariant_of-self-2 c = (
-  subst IsPrefixTable (sym c.in_ok-add.ensures.ok) (stays_table c.args.label.now c.as_str.result.now c.self.inside.entries.items c.self.invariant.0 c.as_str.ensures.in_rule (search rules) (search rules)),
+  subst (λ es. IsPrefixTable (record { labels = c.self.inside.rule; entries = es })) (sym c.in_ok-add.ensures.ok) (stays_table c.args.label.now c.as_str.result.now (record { labels = c.self.inside.rule; entries = c.self.inside.entries.items }) c.self.invariant.0 c.as_str.ensures.in_rule (search rules) (search rules)),
   c.in_ok-add.ensures.labels,
   c.in_ok-add.ensures.texts,
 )

@@ -1,31 +1,32 @@
-use Rattle.std.proofs.Common.{◌+◌, map, take, arith}
+use Rattle.std.proofs.Common.{◌≡◌, ◌+◌, true, map, take, arith}
 use Rattle.iref_grammar.specs.Reference.{read_reference}
 use Rattle.iref_reference.specs.References.{reference_buf_text, reference_buf_value}
-use Rattle.iref.specs.EditAnswers.{AreDone, edited_in}
+use Rattle.iref.specs.EditAnswers.{AreDone, HasNormalPath, edited_in}
 use Rattle.iref.specs.EditSteps.{edit_step}
 use Rattle.iref.proofs.EditListLemmas.{none_done, done_at, stops_at}
 use Rattle.iref.proofs.edits.lists.apply_each.Goals as goal
 use Rattle.iref.proofs.edits.lists.apply_each.Goals.{then-as_str-len, else-as_str-len, then-rest-gt0, else-rest-gt0+else-moves-eq-MOVES}
 
 pub loop-i-init : goal.loop-i-init
-loop-i-init g c = record { done = none_done (edited_in g.R.HeldRule.allows_scheme) (map edit_step c.args.edits.now) (reference_buf_value c.args.reference.now); moves = omega arith }
+loop-i-init g c = record { done = none_done (edited_in g.R.HeldRule.allows_scheme) (map edit_step c.args.edits.now) (reference_buf_value c.args.reference.now); moves = omega arith; normal = λ known. absurd (cc) }
 
 pub returns-in-Err-clause-fault : goal.returns-in-Err-clause-fault
 returns-in-Err-clause-fault g c =
-    stops_at (edited_in g.R.HeldRule.allows_scheme) edit_step c.args.edits.now c.loop-i.i c.index-edits-i.result (reference_buf_value c.args.reference.now) (reference_buf_text c.loop-i.reference) (reference_buf_text c.apply.new.reference)
-    c.loop-i-test.true c.index-edits-i.is c.loop-i.invariant.done c.in-Err.fault (rw c.in-Err.is at c.apply.ensures)
+    stops_at (edited_in g.R.HeldRule.allows_scheme) edit_step c.args.edits.now c.loop-i.i c.index-edits-i.result (reference_buf_value c.args.reference.now) (reference_buf_text c.loop-i.reference) (reference_buf_text c.apply_next.new.reference)
+    c.loop-i-test.true c.index-edits-i.is c.loop-i.invariant.done c.in-Err.fault (rw c.in-Err.is at c.apply_next.ensures.edit)
 
 pub returns-then-moves-eq-MOVES-clause-done : goal.returns-then-moves-eq-MOVES-clause-done
 returns-then-moves-eq-MOVES-clause-done g c =
-    done_at (edited_in g.R.HeldRule.allows_scheme) edit_step c.args.edits.now c.loop-i.i c.index-edits-i.result (reference_buf_value c.args.reference.now) (reference_buf_text c.loop-i.reference) (reference_buf_text c.apply.new.reference)
-    c.loop-i-test.true c.index-edits-i.is c.loop-i.invariant.done (rw c.in_default.is at c.apply.ensures)
+    done_at (edited_in g.R.HeldRule.allows_scheme) edit_step c.args.edits.now c.loop-i.i c.index-edits-i.result (reference_buf_value c.args.reference.now) (reference_buf_text c.loop-i.reference) (reference_buf_text c.apply_next.new.reference)
+    c.loop-i-test.true c.index-edits-i.is c.loop-i.invariant.done (rw c.in_default.is at c.apply_next.ensures.edit)
 
 pub loop-i-preserved : goal.loop-i-preserved
 loop-i-preserved g c =
     let step = edited_in g.R.HeldRule.allows_scheme in
-    let done : AreDone step (take (c.loop-i.i + 1) (map edit_step c.args.edits.now)) (reference_buf_value c.args.reference.now) (read_reference (reference_buf_text c.apply.new.reference)) =
-    done_at step edit_step c.args.edits.now c.loop-i.i c.index-edits-i.result (reference_buf_value c.args.reference.now) (reference_buf_text c.loop-i.reference) (reference_buf_text c.apply.new.reference)
-    c.loop-i-test.true c.index-edits-i.is c.loop-i.invariant.done (rw c.in_default.is at c.apply.ensures) in
+    let done : AreDone step (take (c.loop-i.i + 1) (map edit_step c.args.edits.now)) (reference_buf_value c.args.reference.now) (read_reference (reference_buf_text c.apply_next.new.reference)) =
+    done_at step edit_step c.args.edits.now c.loop-i.i c.index-edits-i.result (reference_buf_value c.args.reference.now) (reference_buf_text c.loop-i.reference) (reference_buf_text c.apply_next.new.reference)
+    c.loop-i-test.true c.index-edits-i.is c.loop-i.invariant.done (rw c.in_default.is at c.apply_next.ensures.edit) in
+    let normal : c.apply_next.new.is_normal ≡ true → HasNormalPath (read_reference (reference_buf_text c.apply_next.new.reference)) = rw c.in_default.is at c.apply_next.ensures.normal in
     elim c.if-as_str-len.branch [
       | then-as_str-len w ↦ record {
         done = elim w.if-rest-gt0.branch [
@@ -33,6 +34,10 @@ loop-i-preserved g c =
           | else-rest-gt0+else-moves-eq-MOVES v ↦ rw (w.reference-is, v.reference-is) done
         ];
         moves = grind (arith, w.moves-is, c.loop-i.invariant.moves);
+        normal = elim w.if-rest-gt0.branch [
+          | then-rest-gt0 v ↦ rw (w.reference-is, v.reference-is, v.reserve-full.ensures) normal
+          | else-rest-gt0+else-moves-eq-MOVES v ↦ rw (w.reference-is, v.reference-is) normal
+        ];
       }
-      | else-as_str-len w ↦ record { done = rw w.reference-is done; moves = grind (arith, w.moves-is, c.loop-i.invariant.moves) }
+      | else-as_str-len w ↦ record { done = rw w.reference-is done; moves = grind (arith, w.moves-is, c.loop-i.invariant.moves); normal = rw w.reference-is normal }
     ]
