@@ -100,9 +100,10 @@ struct iref_place {
  * IREF_OK, whatever the bytes are. */
 uint32_t iref_fault(const char *text, size_t length, struct iref_place *place);
 
-/* Comparison of references of IRIs (RFC 3986 section 6.2.2): schemes without regard to case, paths with their dots
- * removed, and escapes as the bytes that they stand for; no rule of a scheme is used. The three agree: two references are
- * equal exactly where their order is 0, and equal ones have one hash. Each answers IREF_OK, IREF_INVALID or
+/* Comparison of references of IRIs: schemes without regard to case (RFC 3986 section 6.2.2.1), paths with their dot
+ * segments removed (6.2.2.3), and every escape as the byte that it stands for, so `?a%26b` equals `?a&b`, which section 2.2
+ * keeps apart. Hosts keep their case, which section 6.2.2.1 ignores, and no rule of a scheme is used. The three agree: two
+ * references are equal exactly where their order is 0, and equal ones have one hash. Each answers IREF_OK, IREF_INVALID or
  * IREF_SECOND_INVALID. */
 
 /* *equal becomes 1 where the references are equal, else 0: it is 1 of `HTTP://a/%7Eb/./c` and `http://a/~b/c`. */

@@ -1,4 +1,4 @@
-//! Equality, order and hash of references, which agree (RFC 3986 section 6.2.2).
+//! Equality, order and hash of references, by one key.
 ghost use Rattle.std.specs.Prelude.{◌≡◌, ◌↔◌, ℕ, pos};
 ghost use Rattle.iref.specs.{Characters.{iri_chars}, Grammar.{IsUriReference}, Reference.{ReferenceValue}};
 ghost use Rattle.iref_c.specs.{Answers.{StoresOf, StoresOfTwo}, Comparison.{equal_number, hash_from, hash_number}};

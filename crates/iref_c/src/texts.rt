@@ -1,6 +1,5 @@
 //! Texts that are written into the caller's buffer: normal paths, resolution, relative references,
-//! the mapping to URIs, canonical texts and sort keys (RFC 3986 sections 5.2 and 6.2.2, RFC 3987
-//! section 3.1).
+//! the mapping to URIs, canonical texts and sort keys (RFC 3986 section 5.2, RFC 3987 section 3.1).
 ghost use Rattle.std.specs.Prelude.{⊤};
 ghost use Rattle.iref.specs.{Canonical.{canonical_text}, Key.{key}, SortKey.{sort_key}, Mapping.{mapped}};
 ghost use Rattle.iref.specs.{Relative.{relative_to}, Resolution.{resolved}, Characters.{iri_chars}, Contexts.{alone}};

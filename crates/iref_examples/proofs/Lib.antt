@@ -1,4 +1,5 @@
 pub mod CheckLemmas
+pub mod ContextLemmas
 pub mod FirstLemmas
 pub mod LinkLemmas
 pub mod WrongLineLemmas

@@ -1,5 +1,6 @@
 pub mod Caches
 pub mod Components
+pub mod ContextTexts
 pub mod Firsts
 pub mod Links
 pub mod WrongLines
