@@ -1,7 +1,7 @@
 pub mod AuthorityEditLemmas
 pub mod AuthorityPartLemmas
-pub mod LongListLemmas
 pub mod ManyLemmas
+pub mod NormalLeftLemmas
 pub mod PathEditLemmas
 pub mod PathTryLemmas
 pub mod PortLemmas

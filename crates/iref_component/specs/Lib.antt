@@ -46,7 +46,6 @@ pub mod BytePaths
 pub mod Comparisons
 pub mod Components
 pub mod CountedPath
-pub mod LongLists
 pub mod Makers
 pub mod NormalLeft
 pub mod NormalPaths

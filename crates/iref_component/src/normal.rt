@@ -8,7 +8,6 @@ ghost use Rattle.iref_model.specs.{normal_segments};
 ghost use Rattle.iref_component.specs.{Components.{text_of}, NormalLeft.{IsLeft, left_of}};
 
 mod left;
-mod long_list;
 
 use crate::named_texts::Segment;
 use iref_grammar::chars::CharSet;

@@ -150,10 +150,9 @@ impl<'a, C: CharSet> Path<'a, C> {
     /// The normal segments: of `a/../b/./c` they are `b` and `c`. The `..` that nothing cancels
     /// stand first where the path is relative.
     ///
-    /// This reads the path from its end, to count them. Up to sixteen normal segments are then read
-    /// once more, and kept in the value. Where there are more, the back reads each segment once
-    /// more, and so does the front behind the last `..`. What stands before that `..` the front
-    /// reads two to five times for each doubling of the number of segments there.
+    /// This reads the path from its end, to count them. The back then reads each segment once more,
+    /// and so does the front behind the last `..`. What stands before that `..` the front reads two
+    /// to five times for each doubling of the number of segments there. No segment is copied.
     pub fn normalized_segments(&self) -> NormalizedSegments<'a, C>
         ensures { normal_segments_left result ≡ normal_segments (path_value self.now) }
     {

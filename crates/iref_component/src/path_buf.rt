@@ -41,8 +41,8 @@ impl<C: CharSet> PathBuf<C> {
     /// stand first where the path is relative.
     ///
     /// This reads the path from its end, and the iterator then reads each segment once more. But
-    /// where there are more than sixteen, the front reads what stands before the last `..` two to
-    /// five times for each doubling of the number of segments there.
+    /// what stands before the last `..` the front reads two to five times for each doubling of the
+    /// number of segments there.
     pub fn normalized_segments(&self) -> NormalizedSegments<'_, C>
         ensures { normal_segments_left result ≡ normal_segments (path_value self.now) }
     {

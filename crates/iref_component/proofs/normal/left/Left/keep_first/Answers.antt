@@ -1,11 +1,11 @@
 use Rattle.std.proofs.Common.{◌-◌}
 use Rattle.iref_path.specs.NormalItems.{normal_left}
-use Rattle.iref_component.specs.LongLists.{long_left}
-use Rattle.iref_component.proofs.LongListLemmas.{cut_off}
-use Rattle.iref_component.proofs.normal.long_list.LongList.keep_first.Goals as goal
+use Rattle.iref_component.specs.NormalLeft.{left_of}
+use Rattle.iref_component.proofs.NormalLeftLemmas.{cut_off}
+use Rattle.iref_component.proofs.normal.left.Left.keep_first.Goals as goal
 
 pub returns-clause-items : goal.returns-clause-items
-unfolding long_left
+unfolding left_of
 returns-clause-items c =
     let list = c.args.self.now in
     rw c.push.ensures.items

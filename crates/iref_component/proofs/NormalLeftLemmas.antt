@@ -1,4 +1,4 @@
--- The parts of a long normal list.
+-- The parts of what is left of a normal list.
 use Rattle.std.proofs.Common.{◌≡◌, ℕ, ◌-◌, ◌≤◌, List, [], ◌∷◌, ◌++◌, ap, append_assoc, arith, length, length-append, Option, None, Some, sym, take, ◌∙◌}
 use Rattle.std.specs.Borrow.{Bor}
 use Rattle.std.specs.Iterator.{YieldsFirstBy, YieldsLastBy}
@@ -8,8 +8,8 @@ use Rattle.iref_grammar.specs.Rules.{Text}
 use Rattle.iref_path.specs.NormalItems.{normal_left}
 use Rattle.iref_path.specs.StepsBetween.{last_ones}
 use Rattle.iref_path.specs.declared.normal_items.NormalItems.{NormalItems}
-use Rattle.iref_component.specs.LongLists.{IsPart, long_left, parts_left}
-use Rattle.iref_component.specs.declared.normal.long_list.LongList.{LongList}
+use Rattle.iref_component.specs.NormalLeft.{IsPart, left_of, parts_left}
+use Rattle.iref_component.specs.declared.normal.left.Left.{Left}
 
 -- a part is put before the others
 parts_left-push : (parts : List NormalItems) (part : NormalItems) → parts_left (parts ++ part ∷ []) ≡ normal_left part ++ parts_left parts
@@ -32,10 +32,10 @@ first_item [] one left behind s all parts part g few e f =
 first_item (x ∷ none) one left behind s all parts part g few e f = absurd (omega (arith, ap length g, length-append none (s ∷ [])))
 
 -- so it is given
-pub first_given : (popped : List NormalItems) (part first none : NormalItems) (before after : LongList) (item : Option (Bor Text)) → before.parts.items ≡ popped ++ part ∷ []
-    → normal_left first ++ long_left after ≡ normal_left part ++ (parts_left popped ++ normal_left before.rest) → IsPart first → length (normal_left first) ≤ 1
-    → YieldsLastBy text_at normal_left first item none → YieldsFirstBy text_at long_left before item after
-unfolding long_left
+pub first_given : (popped : List NormalItems) (part first none : NormalItems) (before after : Left) (item : Option (Bor Text)) → before.parts.items ≡ popped ++ part ∷ []
+    → normal_left first ++ left_of after ≡ normal_left part ++ (parts_left popped ++ normal_left before.rest) → IsPart first → length (normal_left first) ≤ 1
+    → YieldsLastBy text_at normal_left first item none → YieldsFirstBy text_at left_of before item after
+unfolding left_of
 first_given popped part first none before after None e f some few given = absurd (omega (arith, some.some, ap length given.0))
 first_given popped part first none before after (Some item) e f some few given =
-    first_item (normal_left none) (normal_left first) (long_left after) (normal_left before.rest) (text_at item) before.parts.items popped part given few e f
+    first_item (normal_left none) (normal_left first) (left_of after) (normal_left before.rest) (text_at item) before.parts.items popped part given few e f

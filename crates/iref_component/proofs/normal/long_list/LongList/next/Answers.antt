@@ -1,9 +1,0 @@
-use Rattle.iref_component.specs.LongLists.{long_left}
-use Rattle.iref_component.proofs.LongListLemmas.{first_given}
-use Rattle.iref_component.proofs.normal.long_list.LongList.next.Goals as goal
-
-pub returns-clause-item : goal.returns-clause-item
-unfolding long_left
-returns-clause-item c =
-    first_given c.pop.new.self.items c.in-Some.part c.first_of-first.result c.next_back.new.self c.args.self.now c.first_of-first.new.self c.next_back.result
-    c.in-Some.ensures.items c.first_of-first.ensures.items c.first_of-first.ensures.first c.first_of-first.ensures.one c.next_back.ensures.item
