@@ -1,10 +1,9 @@
 -- What is hashed of a reference, and of a path alone, determines its key.
-use Rattle.std.proofs.Common.{◌≡◌, ℕ, ◌<◌, Bool, true, not, ◌==◌, [], ◌∷◌, refl, sym, ◌∙◌, ap, subst, arith}
+use Rattle.std.proofs.Common.{◌≡◌, ℕ, true, not, ◌==◌, [], ◌∷◌, refl, sym, ◌∙◌, ap, subst, arith}
 use Rattle.std.proofs.lemmas.Bool.{and_from, and_parts}
 use Rattle.std.proofs.lemmas.Bool.Decides.{nat_tests}
 use Rattle.std.specs.Char.{is_ascii}
 use Rattle.std.specs.List.{list_all}
-use Rattle.std.specs.Prelude.{None}
 use Rattle.iref_grammar.specs.Characters.{CharTests, AreAboveAscii, uri_chars, uri_above_ascii}
 use Rattle.iref_grammar.specs.Grammar.{IsSegment}
 use Rattle.iref_grammar.specs.PathValue.{PathValue}
@@ -21,7 +20,7 @@ use Rattle.iref_model.proofs.AsciiReferenceLemmas.{uri_reference_ascii}
 use Rattle.iref_model.proofs.NormalGrammarLemmas.{takes_dots}
 use Rattle.iref_model.proofs.SettledLemmas.{lone-normal}
 use Rattle.iref_model.proofs.StepSegmentLemmas.{normal-in}
-use Rattle.iref_splice.specs.Fed.{fed_text, is_unended, IsSelfDelimiting}
+use Rattle.iref_splice.specs.Fed.{is_unended, IsSelfDelimiting}
 use Rattle.iref_splice.proofs.DelimitLemmas.{text-delimits}
 use Rattle.iref_canonical.specs.Canonical.{canonical, canonical_text}
 use Rattle.iref_canonical.specs.Hashed.{fed_lone_path, fed_reference, IsPathKey, IsReadableKey, path_alone}

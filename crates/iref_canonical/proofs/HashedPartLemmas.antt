@@ -1,5 +1,5 @@
 -- What is hashed of a component, of an authority's parts and of components determines its key.
-use Rattle.std.proofs.Common.{◌≡◌, ℕ, ◌<◌, Bool, true, false, not, ◌||◌, ◌==◌, cond, List, [], ◌∷◌, ◌++◌, refl, sym, ◌∙◌, ap, arith, append_assoc}
+use Rattle.std.proofs.Common.{◌≡◌, ℕ, Bool, true, false, not, ◌||◌, ◌==◌, cond, List, [], ◌∷◌, ◌++◌, refl, sym, ◌∙◌, ap, arith, append_assoc}
 use Rattle.std.proofs.lemmas.Bool.{and_from, and_parts}
 use Rattle.std.proofs.lemmas.Bool.Decides.{nat_tests}
 use Rattle.std.proofs.lemmas.Grind.{flat_map-append}
@@ -17,7 +17,7 @@ use Rattle.iref_grammar.specs.Reference.{ReferenceValue}
 use Rattle.iref_grammar.specs.Rules.{Text}
 use Rattle.iref_model.proofs.MappedLemmas.{escape_ascii}
 use Rattle.iref_parse.specs.Plain.{is_unescaped_byte}
-use Rattle.iref_splice.specs.Fed.{fed_text, is_unended, IsSelfDelimiting}
+use Rattle.iref_splice.specs.Fed.{is_unended, IsSelfDelimiting}
 use Rattle.iref_splice.proofs.DelimitLemmas.{text-delimits}
 use Rattle.iref_canonical.specs.Decoded.{SplitsLast}
 use Rattle.iref_canonical.specs.Lower.{is_lower}

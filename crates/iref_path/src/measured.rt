@@ -260,6 +260,7 @@ impl<'a> MeasuredPath<'a> {
         let start = self.body.write_before(buffer, end);
         write_guard(buffer, start, self.guard)
     }
+
     /// Writes the text to a formatter, from the front. Items that are read from the back are read once
     /// for each halving of their number.
     #[tactic(auto, unfolding(crate::specs::MeasuredPaths::measured_text))]

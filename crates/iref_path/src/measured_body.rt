@@ -104,6 +104,7 @@ impl<'a> Body<'a> {
             Body::Items(items, _) => write_items(items, buffer, end),
         }
     }
+
     /// Writes the text to a formatter.
     pub fn show<W: fmt::Write>(self, f: &mut fmt::Formatter<W>) -> fmt::Result
         requires { IsBody self }

@@ -7,7 +7,7 @@ ghost use Rattle.iref_grammar.specs.{slash, alone, read_path, spell_path, segmen
 ghost use Rattle.iref_grammar.specs.Texts.{all_but_last, is_empty, pieces_at};
 ghost use Rattle.iref_model.specs.{Guard.{guarded}, normal_segments, NormalList.{count_parents, kept_segments}};
 ghost use Rattle.iref_parse.specs.Dots.{has_dot_segment};
-ghost use Rattle.iref_path.specs.{Bodies.{parents_then}, MeasuredPaths.{IsMeasured, measured_text}};
+ghost use Rattle.iref_path.specs.MeasuredPaths.{IsMeasured, measured_text};
 ghost use Rattle.iref_path.specs.{NormalItems.{IsSound, normal_left}, Spelling.{each_closed}};
 ghost use Rattle.iref_path.specs.{ShortestPaths.{directory_of}, StepsBetween.{text_steps_by_text}};
 ghost use Rattle.iref_relativized.specs.Relativized.{is_climb, path_from, shortened, steps_by_text};
@@ -259,6 +259,7 @@ impl<'a> MeasuredPath<'a> {
         }
         Some(by_texts(below, rest))
     }
+
     /// The text of a relative path whose normal list is some `..` and an empty segment, without its last
     /// `/`: of `../` it is `..`.
     pub fn climb(path: &'a str) -> Option<Self>

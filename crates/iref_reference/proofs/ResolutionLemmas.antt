@@ -1,5 +1,5 @@
 -- What a reference resolves to against a URI is a URI.
-use Rattle.std.proofs.Common.{◌≡◌, true, ◌++◌, arith}
+use Rattle.std.proofs.Common.{◌≡◌, true, arith}
 use Rattle.std.specs.Prelude.{is_some}
 use Rattle.std.proofs.lemmas.Result.{IfOk-weaker}
 use Rattle.iref_grammar.specs.Characters.{AreAboveAscii, CharTests}

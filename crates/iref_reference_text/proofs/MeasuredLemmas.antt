@@ -13,8 +13,6 @@ use Rattle.iref_grammar.specs.Reference.{ReferenceValue, context_of, is_readable
 use Rattle.iref_grammar.specs.ComponentTexts.{ComponentTexts, read_components, spell_components}
 use Rattle.iref_grammar.proofs.PathLemmas.{read_path-reads}
 use Rattle.iref_grammar.proofs.ComponentLemmas.{authority_spelled}
-use Rattle.iref_model.specs.ComponentSteps.{guarded_reference}
-use Rattle.iref_model.specs.NormalList.{normal}
 use Rattle.iref_model.specs.PathSteps.{normalized}
 use Rattle.iref_model.specs.Resolution.{is_no_path, resolved}
 use Rattle.iref_model.proofs.PieceLemmas.{some_piece}

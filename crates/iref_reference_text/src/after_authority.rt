@@ -102,7 +102,8 @@ fn path_between(
 
 /// The bytes of what a reference resolves to against a base, and the lengths of its components, given
 /// both texts and their components. None where the reference's row has no path of its own after the
-/// base's authority, where the base has none, and where there is no room for both paths. The room that a normal path does not need stays in the vector.
+/// base's authority, where the base has none, and where there is no room for both paths. The room
+/// that a normal path does not need stays in the vector.
 #[inline(always)]
 #[tactic(auto, using(crate::proofs::LengthLemmas::totals))]
 pub fn resolved_after_authority<C: CharSet>(

@@ -1,5 +1,5 @@
 //! Edits of a list, one after the other, up to the first that cannot be done.
-ghost use Rattle.std.specs.Prelude.{◌≡◌, ◌≤◌, ◌<◌, ◌∷◌, [], true, length, map, take, IfNone, IfOk, IfSome, OnOk};
+ghost use Rattle.std.specs.Prelude.{◌≡◌, ◌≤◌, ◌<◌, true, length, map, take, IfNone, IfOk, IfSome, OnOk};
 ghost use Rattle.iref_model.specs.Edits.{edited, edited_uri};
 ghost use Rattle.iref_component.specs.{with_fragment, with_query};
 ghost use Rattle.iref_reference.specs.References.{reference_buf_text, reference_buf_value};

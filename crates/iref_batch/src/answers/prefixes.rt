@@ -2,7 +2,8 @@
 ghost use Rattle.std.specs.{Prelude.{◌≡◌, ◌∷◌, Some, true, OnOk, OnErr, IfErr}, Option.{option_copied}};
 ghost use Rattle.iref_batch.specs.Lines.{Answered, answer_text, are_valid_entries, part_field, read_entry};
 ghost use Rattle.iref_batch.specs.Lines.{text_and_entries};
-ghost use Rattle.iref.specs.{Characters.{iri_chars}, PrefixTable.{compact_text, PrefixesValue}, Prefixes.{compact_value}};
+ghost use Rattle.iref.specs.{Characters.{iri_chars}, PrefixTable.{compact_text, PrefixesValue}};
+ghost use Rattle.iref.specs.Prefixes.{compact_value};
 ghost use Rattle.iref_batch.specs.{EditFields.{IsRead}, Fields.{fields_of}, Gathering.{Puts, PutsReply}};
 ghost use Rattle.iref_batch.specs.{PrefixFields.{entries_read, HasTaken, TakesNot}, Requests.{asked_of}};
 ghost use Rattle.iref_batch.specs.Runs.{reply_to};
