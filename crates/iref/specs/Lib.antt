@@ -65,7 +65,10 @@ pub use Rattle.iref_component.specs.NormalPaths
 pub use Rattle.iref_component.specs.Appends
 pub use Rattle.iref_component.specs.PathEdits
 pub use Rattle.iref_component.specs.Suffixes
+pub use Rattle.iref_splice.specs.Fed
 pub use Rattle.iref_canonical.specs.Canonical
+pub use Rattle.iref_canonical.specs.Hashed
+pub use Rattle.iref_canonical.specs.HashedParts
 pub use Rattle.iref_canonical.specs.SortKey
 pub use Rattle.iref_canonical.specs.SortPrefix
 pub use Rattle.iref_reference.specs.CanonicalTexts

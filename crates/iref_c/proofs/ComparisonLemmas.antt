@@ -8,7 +8,8 @@ use Rattle.std.specs.declared.cmp.Ordering.{Ordering}
 use Rattle.std.specs.declared.cmp.Ordering.TheVariants.{Less, Equal, Greater}
 use Rattle.iref.specs.Key.{are_alike, key, key_cmp}
 use Rattle.iref.specs.Reference.{ReferenceValue}
-use Rattle.iref.proofs.KeyOrderLemmas.{fed_where_tied}
+use Rattle.iref.specs.Hashed.{fed_reference}
+use Rattle.iref.proofs.KeyOrderLemmas.{keys_separate}
 use Rattle.iref_c.specs.Comparison.{equal_number, hash_from, number_of_equality, number_of_order, order_number}
 
 true_if_one : (b : Bool) → number_of_equality b ≡ 1 → b ≡ true
@@ -26,4 +27,4 @@ equal-order r s = one_where_zero (key_cmp (key r) (key s))
 
 -- and equal ones have one hash, by each hasher
 pub equal-hash : (hasher : DefaultHasher) (r s : ReferenceValue) → equal_number r s ≡ 1 → hash_from hasher r ≡ hash_from hasher s
-equal-hash hasher r s e = ap (λ fed. finish (fold write hasher fed)) (fed_where_tied (key r) (key s) (true_if_one (are_alike r s) e))
+equal-hash hasher r s e = ap (λ k. finish (fold write hasher (fed_reference k))) (keys_separate (key r) (key s) (true_if_one (are_alike r s) e))

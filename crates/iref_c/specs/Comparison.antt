@@ -4,7 +4,8 @@ use Rattle.std.specs.declared.cmp.Ordering.{Ordering}
 use Rattle.std.specs.declared.cmp.Ordering.TheVariants.{Less, Equal, Greater}
 use Rattle.std.specs.declared.hash.DefaultHasher.{DefaultHasher}
 use Rattle.std.specs.Hash.DefaultHasher.{initial, with_keys, write, finish}
-use Rattle.iref.specs.Key.{are_alike, fed_reference, key, key_cmp}
+use Rattle.iref.specs.Hashed.{fed_reference}
+use Rattle.iref.specs.Key.{are_alike, key, key_cmp}
 use Rattle.iref.specs.Reference.{ReferenceValue}
 
 abbrev pub number_of_equality : Bool → ℕ

@@ -8,44 +8,47 @@ use Rattle.std.specs.HashMap.Lent.{HashMembers}
 use Rattle.std.specs.Ordering.{is_eq}
 use Rattle.std.specs.declared.cmp.Ordering.{Ordering}
 use Rattle.iref_grammar.specs.Authority.{AuthorityValue, read_authority}
-use Rattle.iref_grammar.specs.Keys.{fed_bytes, IsSelfDelimiting, text_order}
+use Rattle.iref_grammar.specs.Keys.{text_order}
 use Rattle.iref_grammar.specs.PathValue.{PathValue, read_path}
 use Rattle.iref_grammar.specs.Rules.{Text}
-use Rattle.iref_model.specs.AuthorityKey.{authority_key, authority_key_cmp, authority_keys_total, fed_authority}
-use Rattle.iref_model.specs.PathHash.{fed_path}
+use Rattle.iref_model.specs.AuthorityKey.{authority_key, authority_key_cmp, authority_keys_total}
 use Rattle.iref_model.specs.PathKey.{path_key, path_key_cmp, path_keys_total}
-use Rattle.iref_grammar.proofs.FeedLemmas.{text_feed_delimits}
-use Rattle.iref_model.proofs.FeedLemmas.{authority_feed_delimits, path_feed_delimits}
 use Rattle.iref_model.proofs.KeyOrderLemmas.{authority_keys_separate, path_keys_separate, texts_separate}
+use Rattle.iref_splice.specs.Fed.{IsSelfDelimiting}
+use Rattle.iref_canonical.specs.Hashed.{fed_lone_path, IsPathKey}
+use Rattle.iref_canonical.specs.HashedParts.{fed_authority, fed_part, IsAny}
+use Rattle.iref_canonical.proofs.HashedLemmas.{path-delimits}
+use Rattle.iref_canonical.proofs.HashedPartLemmas.{authority-delimits, part-delimits}
 
--- the key of a text, the order of keys, and the bytes that are hashed of a key; the order is total, and keys that differ differ in
--- the order and in the bytes that are hashed
+-- the key of a text, the order of keys, and what is hashed of a key; the order is total, keys that differ differ in the order, and
+-- keys of readable texts that differ differ in the bytes that are hashed
 pub record Comparison : Type 1 where
   pub Kept : Type 0
   pub key : Text → Kept
   pub order : Kept → Kept → Ordering
   pub fed : Kept → HashWrites
+  pub Known : Kept → Type 0
   pub total : IsTotalOrder order
   pub separates : (k l : Kept) → is_eq (order k l) ≡ true → k ≡ l
-  pub delimits : IsSelfDelimiting fed
+  pub delimits : IsSelfDelimiting Known fed
 
 -- by a key that is a text: by its bytes
 abbrev pub by_text : (Text → Text) → Comparison
-by_text key = record { Kept = Text; key = key; order = text_order; fed = fed_bytes; total = nat_list_cmp_total; separates = texts_separate; delimits = text_feed_delimits }
+by_text key = record { Kept = Text; key = key; order = text_order; fed = fed_part; Known = IsAny; total = nat_list_cmp_total; separates = texts_separate; delimits = part-delimits }
 
 -- Values are equal exactly where their keys are the same, and in the order of the keys. The key is hashed, in bytes that
--- determine it: values that are not equal feed different bytes.
-abbrev pub ComparesBy : {V K : Type 0} → (V → K) → (K → K → Ordering) → (K → HashWrites) → OrdMembers V → HashMembers V → Type 0
-ComparesBy {V} key order fed ord hash =
+-- determine it, of the keys that are said: values with such keys that are not equal feed different bytes.
+abbrev pub ComparesBy : {V K : Type 0} → (V → K) → (K → K → Ordering) → (K → Type 0) → (K → HashWrites) → OrdMembers V → HashMembers V → Type 0
+ComparesBy {V} key order known fed ord hash =
     ((a b : V) → (ord.eq a b ≡ true) ↔ (key a ≡ key b))
     × ((a b : V) → ord.cmp a b ≡ order (key a) (key b))
     × ((v : V) → hash.hash_input v ≡ fed (key v))
-    × IsSelfDelimiting fed
+    × IsSelfDelimiting known fed
 
 -- authorities: user info and host as decoded bytes, the port as text
 abbrev pub by_parts : Comparison
-by_parts = record { Kept = AuthorityValue; key = λ text. authority_key (read_authority text); order = authority_key_cmp; fed = fed_authority; total = authority_keys_total; separates = authority_keys_separate; delimits = authority_feed_delimits }
+by_parts = record { Kept = AuthorityValue; key = λ text. authority_key (read_authority text); order = authority_key_cmp; fed = fed_authority; Known = IsAny; total = authority_keys_total; separates = authority_keys_separate; delimits = authority-delimits }
 
 -- paths: whether they are absolute, and their normal segments as decoded bytes
 abbrev pub by_segments : Comparison
-by_segments = record { Kept = PathValue; key = λ text. path_key (read_path text); order = path_key_cmp; fed = fed_path; total = path_keys_total; separates = path_keys_separate; delimits = path_feed_delimits }
+by_segments = record { Kept = PathValue; key = λ text. path_key (read_path text); order = path_key_cmp; fed = fed_lone_path; Known = IsPathKey; total = path_keys_total; separates = path_keys_separate; delimits = path-delimits }

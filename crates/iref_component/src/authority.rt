@@ -1,7 +1,8 @@
 //! Authorities, borrowed and owned (RFC 3986 section 3.2).
 ghost use Rattle.std.specs.Prelude.{◌≡◌, option_map};
 ghost use Rattle.iref_grammar.specs.{read_authority};
-ghost use Rattle.iref_model.specs.{authority_key, authority_key_cmp, fed_authority};
+ghost use Rattle.iref_model.specs.{authority_key, authority_key_cmp};
+ghost use Rattle.iref_canonical.specs.HashedParts.{IsAny, fed_authority};
 ghost use Rattle.iref_component.specs.{AuthorityParts.{parts_value}, Comparisons.{ComparesBy}, Components.{text_of}};
 
 mod edits;
@@ -95,6 +96,6 @@ impl<C: CharSet> AuthorityBuf<C> {
 /// decoded, and the port as text. Hosts keep their case, which RFC 3986 section 6.2.2.1 ignores.
 pub fn authorities_compare_by_key<S: Storage, C: CharSet>()
     ensures { ComparesBy (λ a. authority_key (read_authority (text_of a))) authority_key_cmp
-        fed_authority ⟦<RuleText<S, AuthorityRule, C> as Ord>⟧
+        IsAny fed_authority ⟦<RuleText<S, AuthorityRule, C> as Ord>⟧
         ⟦<RuleText<S, AuthorityRule, C> as Hash>⟧ }
 {}

@@ -1,7 +1,8 @@
 //! The parts of an authority (RFC 3986 section 3.2).
 ghost use Rattle.std.specs.Prelude.{◌≡◌, true, ⊤};
 ghost use Rattle.iref_grammar.specs.{is_authority, read_authority};
-ghost use Rattle.iref_model.specs.{authority_key_cmp, fed_authority};
+ghost use Rattle.iref_model.specs.{authority_key_cmp};
+ghost use Rattle.iref_canonical.specs.HashedParts.{IsAny, fed_authority};
 ghost use Rattle.iref_component.specs.{AuthorityParts.{parts_key, parts_value}, Comparisons.{ComparesBy}};
 
 use crate::borrowed::borrowed_of;
@@ -49,6 +50,6 @@ pub fn parts_of<C: CharSet>(text: &str) -> AuthorityParts<'_, C>
 
 /// The parts of authorities are equal, in order and hashed by their keys.
 pub fn authority_parts_compare_by_key<C: CharSet>()
-    ensures { ComparesBy parts_key authority_key_cmp fed_authority
+    ensures { ComparesBy parts_key authority_key_cmp IsAny fed_authority
         ⟦<AuthorityParts<'static, C> as Ord>⟧ ⟦<AuthorityParts<'static, C> as Hash>⟧ }
 {}

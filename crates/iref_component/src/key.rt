@@ -1,15 +1,16 @@
 //! What texts are compared by, in their order, and hashed by.
-ghost use Rattle.std.specs.{Prelude.{◌≡◌, ◌<◌, fold, length, true}, Ordering.{eq_by_cmp}, Str.{str_to_ascii_lowercase}};
+ghost use Rattle.std.specs.{Prelude.{◌≡◌, fold, true}, Ordering.{eq_by_cmp}, Str.{str_to_ascii_lowercase}};
 ghost use Rattle.percent_encoding.specs.Percent.{percent_decode};
-ghost use Rattle.iref_grammar.specs.{CharTests, Text, fed_bytes, text_order, Authority.{is_authority}};
+ghost use Rattle.iref_grammar.specs.{CharTests, Text, text_order, Authority.{is_authority}};
+ghost use Rattle.iref_canonical.specs.HashedParts.{fed_part};
 ghost use Rattle.iref_component.specs.Comparisons.{Comparison, by_parts, by_segments, by_text};
 
 use crate::authority_parts::parts_of;
+use iref_canonical::hashed::{feed_decoded, feed_lower, feed_path, feed_same};
 use iref_grammar::chars::CharSet;
-use iref_parse::chunk::{Chunk, hash_held};
-use iref_parse::decoded::{decoded_cmp, hash_decoded};
+use iref_parse::decoded::decoded_cmp;
 use iref_path::counted::path_texts_eq;
-use iref_path::order::{hash_path_text, path_texts_cmp};
+use iref_path::order::path_texts_cmp;
 use std::cmp::Ordering;
 use std::hash::{Hash, Hasher};
 
@@ -56,23 +57,8 @@ impl Key for DecodedBytes {
     }
 
     fn feed<C: CharSet, H: Hasher>(text: &str, state: &mut H) {
-        hash_decoded(text, state);
+        feed_decoded(text, state);
     }
-}
-
-// Feeds the hasher a text of at most seven bytes with its ASCII letters in lower case.
-#[inline(always)]
-fn hash_few_in_lower_case<H: Hasher>(bytes: &[u8], state: &mut H)
-    requires { length bytes.now < 8 }
-    ensures { state.new ≡ fold H.write state.old (fed_bytes (str_to_ascii_lowercase bytes.now)) }
-{
-    let mut buffer = [0; 8];
-    let mut at = 0;
-    while at < bytes.len() {
-        buffer[at + 1] = bytes[at].to_ascii_lowercase();
-        at += 1;
-    }
-    hash_held(&mut buffer, at, state);
 }
 
 /// The text with its ASCII letters in lower case (RFC 3986 section 6.2.2.1): `HTTP` has `http`.
@@ -90,15 +76,7 @@ impl Key for LowerCase {
     }
 
     fn feed<C: CharSet, H: Hasher>(text: &str, state: &mut H) {
-        if text.len() < 8 {
-            hash_few_in_lower_case(text.as_bytes(), state);
-            return;
-        }
-        let mut chunk = Chunk::new();
-        for byte in text.bytes() {
-            chunk.add(byte.to_ascii_lowercase(), state);
-        }
-        chunk.end(state);
+        feed_lower(text, state);
     }
 }
 
@@ -113,11 +91,7 @@ impl Key for SameText {
     }
 
     fn feed<C: CharSet, H: Hasher>(text: &str, state: &mut H) {
-        let mut chunk = Chunk::new();
-        for byte in text.bytes() {
-            chunk.add(byte, state);
-        }
-        chunk.end(state);
+        feed_same(text, state);
     }
 }
 
@@ -159,7 +133,7 @@ impl Key for PathKey {
     }
 
     fn feed<C: CharSet, H: Hasher>(text: &str, state: &mut H) {
-        hash_path_text(text, state);
+        feed_path(text, state);
     }
 }
 
@@ -167,5 +141,5 @@ impl Key for PathKey {
 pub fn decoded_bytes_are_a_key()
     ensures key { ⟦<DecodedBytes as Key>⟧.comparison.key ≡ percent_decode }
     ensures order { ⟦<DecodedBytes as Key>⟧.comparison.order ≡ text_order }
-    ensures fed { ⟦<DecodedBytes as Key>⟧.comparison.fed ≡ fed_bytes }
+    ensures fed { ⟦<DecodedBytes as Key>⟧.comparison.fed ≡ fed_part }
 {}

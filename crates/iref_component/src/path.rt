@@ -2,7 +2,8 @@
 ghost use Rattle.std.specs.Prelude.{◌≡◌, ◌<◌, ◌^◌, ◌++◌, not, [], IfOk, IsNone, IsOk, length, OnErr, OnOk, codes};
 ghost use Rattle.std.specs.Prelude.{option_map};
 ghost use Rattle.iref_grammar.specs.{alone, is_empty, spell_path};
-ghost use Rattle.iref_model.specs.{fed_path, normal_segments, path_key, path_key_cmp, PathSuffix.{path_suffix}};
+ghost use Rattle.iref_canonical.specs.Hashed.{IsPathKey, fed_lone_path};
+ghost use Rattle.iref_model.specs.{normal_segments, path_key, path_key_cmp, PathSuffix.{path_suffix}};
 ghost use Rattle.iref_component.specs.{Comparisons.{ComparesBy}, Components.{text_of}};
 ghost use Rattle.iref_component.specs.{NormalPaths.{normal_segments_left}, Paths.{path_value, segments_left}};
 ghost use Rattle.iref_component.specs.Suffixes.{SpellsSuffix};
@@ -229,6 +230,6 @@ impl<'a, C: CharSet> IntoIterator for Path<'a, C> {
 /// dot segments are removed (RFC 3986 section 6.2.2.3) and escapes are decoded. Order and hash go
 /// by the same.
 pub fn paths_compare_by_key<S: Storage, C: CharSet>()
-    ensures { ComparesBy (λ p. path_key (path_value p)) path_key_cmp fed_path
+    ensures { ComparesBy (λ p. path_key (path_value p)) path_key_cmp IsPathKey fed_lone_path
         ⟦<RuleText<S, PathRule, C> as Ord>⟧ ⟦<RuleText<S, PathRule, C> as Hash>⟧ }
 {}

@@ -124,5 +124,6 @@ impl<S: Storage, R: Rule, C: CharSet> fmt::Debug for RuleText<S, R, C> {
 /// hasher reads.
 pub fn texts_compare_by_key<S: Storage, R: Rule, C: CharSet>()
     ensures { ComparesBy (λ v. R.Key.comparison.key (text_of v)) R.Key.comparison.order
-        R.Key.comparison.fed ⟦<RuleText<S, R, C> as Ord>⟧ ⟦<RuleText<S, R, C> as Hash>⟧ }
+        R.Key.comparison.Known R.Key.comparison.fed
+        ⟦<RuleText<S, R, C> as Ord>⟧ ⟦<RuleText<S, R, C> as Hash>⟧ }
 {}

@@ -1,9 +1,10 @@
 -- What references are compared by: their components, each as it is compared by itself.
 use Rattle.iref_component.specs.Comparisons.{Comparison}
 use Rattle.iref_grammar.specs.Reference.{ReferenceValue, read_reference}
-use Rattle.iref_model.specs.Key.{fed_reference, key, key_cmp}
-use Rattle.iref_model.proofs.FeedLemmas.{reference_feed_delimits}
+use Rattle.iref_model.specs.Key.{key, key_cmp}
 use Rattle.iref_model.proofs.KeyOrderLemmas.{keys_separate, keys_total}
+use Rattle.iref_canonical.specs.Hashed.{fed_reference, IsReadableKey}
+use Rattle.iref_canonical.proofs.HashedLemmas.{reference-delimits}
 
 abbrev pub by_components : Comparison
-by_components = record { Kept = ReferenceValue; key = λ text. key (read_reference text); order = key_cmp; fed = fed_reference; total = keys_total; separates = keys_separate; delimits = reference_feed_delimits }
+by_components = record { Kept = ReferenceValue; key = λ text. key (read_reference text); order = key_cmp; fed = fed_reference; Known = IsReadableKey; total = keys_total; separates = keys_separate; delimits = reference-delimits }

@@ -1,15 +1,17 @@
 //! References and URIs, borrowed and owned, are compared by their keys.
 ghost use Rattle.std.specs.Cmp.{on_total, on_equiv, po, partial_equiv_from_equiv, eq_by_cmp_equiv};
 ghost use Rattle.std.specs.{Ordering.{on, as_partial_cmp, eq_by_cmp}, Cmp.Rules.{comparing}};
-ghost use Rattle.std.proofs.Common.{rules, refl};
-ghost use Rattle.iref_model.proofs.KeyOrderLemmas.{keys_total, fed_where_tied};
-ghost use Rattle.iref_component.specs.{key_cmp, fed_reference, Comparisons.{ComparesBy}};
+ghost use Rattle.std.proofs.Common.{rules, refl, ap};
+ghost use Rattle.iref_model.proofs.KeyOrderLemmas.{keys_separate, keys_total};
+ghost use Rattle.iref_canonical.specs.{Hashed.{IsReadableKey}, HashedParts.{HasPathKey}};
+ghost use Rattle.iref_component.specs.{key_cmp, fed_components, fed_reference, Comparisons.{ComparesBy}};
 ghost use Rattle.iref_reference.specs.Parts.{uri_ref_parts_key, uri_parts_key};
 ghost use Rattle.iref_reference.specs.References.{key_of_reference, key_of_reference_buf};
 
 use crate::borrowed::{Uri, UriRef};
 use crate::owned::ReferenceBuf;
 use crate::parts::{UriParts, UriRefParts};
+use iref_canonical::text::feed_canonical;
 use iref_grammar::chars::CharSet;
 use iref_reference_text::reference_text::HeldRule;
 use std::cmp::Ordering;
@@ -58,36 +60,34 @@ impl<R: HeldRule, C: CharSet> Eq for ReferenceBuf<R, C> {
 impl<R: HeldRule, C: CharSet> Hash for ReferenceBuf<R, C> {
     ghost hash_input = { λ v. fed_reference (key_of_reference_buf v) };
 
-    ghost respects_eq = { λ a b. fed_where_tied (key_of_reference_buf a) (key_of_reference_buf b) };
+    ghost respects_eq = { λ _ _ same. ap fed_reference (keys_separate _ _ same) };
 
     fn hash<H: Hasher>(&self, state: &mut H) {
-        self.reference_parts().hash(state);
+        feed_canonical::<C, H>(self.as_str(), self.inner.slices(), state);
     }
 }
 
 /// References and URIs are equal, in order and hashed by the key of the reference, so a URI as its
 /// reference.
-#[tactic(auto, using(iref_model::proofs::FeedLemmas::compared))]
 pub fn references_compare_by_key<C: CharSet>()
-    ensures references { ComparesBy key_of_reference key_cmp fed_reference
+    ensures references { ComparesBy key_of_reference key_cmp IsReadableKey fed_reference
         ⟦<UriRef<'static, C> as Ord>⟧ ⟦<UriRef<'static, C> as Hash>⟧ }
-    ensures uris { ComparesBy key_of_reference key_cmp fed_reference
+    ensures uris { ComparesBy key_of_reference key_cmp IsReadableKey fed_reference
         ⟦<Uri<'static, C> as Ord>⟧ ⟦<Uri<'static, C> as Hash>⟧ }
 {}
 
 /// Owned values of any rule are equal, in order and hashed by the key of the reference, as borrowed
 /// ones are.
-#[tactic(auto, using(iref_model::proofs::FeedLemmas::compared))]
 pub fn owners_compare_by_key<R: HeldRule, C: CharSet>()
-    ensures { ComparesBy key_of_reference_buf key_cmp fed_reference
+    ensures { ComparesBy key_of_reference_buf key_cmp IsReadableKey fed_reference
         ⟦<ReferenceBuf<R, C> as Ord>⟧ ⟦<ReferenceBuf<R, C> as Hash>⟧ }
 {}
 
 /// The components of references and of URIs are equal, in order and hashed by the key of the
 /// reference.
 pub fn parts_compare_by_key<C: CharSet>()
-    ensures references { ComparesBy uri_ref_parts_key key_cmp fed_reference
+    ensures references { ComparesBy uri_ref_parts_key key_cmp HasPathKey fed_components
         ⟦<UriRefParts<'static, C> as Ord>⟧ ⟦<UriRefParts<'static, C> as Hash>⟧ }
-    ensures uris { ComparesBy uri_parts_key key_cmp fed_reference
+    ensures uris { ComparesBy uri_parts_key key_cmp HasPathKey fed_components
         ⟦<UriParts<'static, C> as Ord>⟧ ⟦<UriParts<'static, C> as Hash>⟧ }
 {}

@@ -3,7 +3,7 @@ ghost use Rattle.std.specs.Prelude.{MatchResult, ◌≡◌, ◌↔◌, ⊤, true
 ghost use Rattle.std.specs.{Str.{str_to_ascii_lowercase}, Option.{option_copied}};
 ghost use Rattle.std.proofs.{Common.{ap}, lemmas.Option.{same_Some}};
 ghost use Rattle.iref_model.proofs.{PartTieLemmas.{lower_case_tie, parts_tie}, TieLemmas.{texts_tie}};
-ghost use Rattle.iref_component.specs.{IsUri, IsUriReference, fed_reference, text_of};
+ghost use Rattle.iref_component.specs.{IsUri, IsUriReference, fed_components, text_of};
 ghost use Rattle.iref_component.specs.{parts_value as authority_parts_value};
 ghost use Rattle.iref_reference_text.specs.{texts_of, AreComponents, spell_components, is_scheme, none_or, is_readable};
 ghost use Rattle.iref_reference_text.specs.{is_reference, read_reference, Text, InUtf8};
@@ -236,11 +236,11 @@ impl<'a, C: CharSet> UriParts<'a, C> {
     }
 }
 
-#[tactic(auto, unfolding(iref_model::specs::Key::key, iref_model::specs::Key::fed_reference))]
+#[tactic(auto, unfolding(iref_model::specs::Key::key, iref_canonical::specs::HashedParts::fed_components))]
 impl<'a, S: SchemePart<'a>, C: CharSet> Hash for Parts<'a, S, C> {
-    ghost hash_input = { λ parts. fed_reference (key_of_parts S.text parts) };
+    ghost hash_input = { λ parts. fed_components (key_of_parts S.text parts) };
 
-    ghost respects_eq = { λ a b same. ap fed_reference
+    ghost respects_eq = { λ a b same. ap fed_components
         ((parts_tie text_of text_of text_of _ (S.text a.scheme) (S.text b.scheme)
         (S.tie a.scheme b.scheme) a.authority b.authority (text_of a.path) (text_of b.path)
         a.query b.query a.fragment b.fragment).0 same) };

@@ -9,15 +9,16 @@ ghost use Rattle.iref_reference_text.proofs.BaseLemmas.{base_of_in_rule, base_of
 ghost use Rattle.iref_reference.specs.Comparisons.{by_components};
 
 use crate::parts::{SchemePart, UriRefParts};
+use iref_canonical::text::feed_canonical;
 use iref_component::key::Key;
 use iref_component::named_texts::Scheme;
 use iref_component::rule::{AllowsEmpty, Refuses, Rule};
 use iref_fault::{InvalidUri, InvalidUriRef};
 use iref_grammar::chars::CharSet;
-use iref_parse::split::{self, ReferenceSlices, parse_reference};
+use iref_parse::split::{self, ReferenceSlices, parse_reference, split_reference};
 use iref_reference_text::reference_text::HeldRule;
 use std::cmp::Ordering;
-use std::hash::{Hash, Hasher};
+use std::hash::Hasher;
 
 /// A rule of references, with what stands for the scheme among their components: of URIs a scheme,
 /// of references one that may be absent (RFC 3986 section 3.1).
@@ -162,6 +163,6 @@ impl Key for ReferenceKey {
     }
 
     fn feed<C: CharSet, H: Hasher>(text: &str, state: &mut H) {
-        UriRefParts::<C>::of_text(text).hash(state);
+        feed_canonical::<C, H>(text, split_reference(text), state);
     }
 }

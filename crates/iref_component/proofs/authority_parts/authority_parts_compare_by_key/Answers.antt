@@ -2,10 +2,10 @@ use Rattle.std.proofs.Common.{ap, sym, ◌∙◌, ◌++◌, rules}
 use Rattle.std.proofs.lemmas.List.{append_assoc}
 use Rattle.std.specs.Cmp.Rules.{comparing}
 use Rattle.percent_encoding.specs.Percent.{percent_decode}
-use Rattle.iref_grammar.specs.Keys.{fed_bytes}
 use Rattle.iref_component.specs.Components.{text_of}
-use Rattle.iref_model.proofs.FeedLemmas.{authority_feed_delimits}
 use Rattle.iref_model.proofs.TieLemmas.{texts_tie, options_tie_by, options_tie_through, both_tie_by, feeds_by, feeds_through}
+use Rattle.iref_canonical.specs.HashedParts.{fed_part}
+use Rattle.iref_canonical.proofs.HashedPartLemmas.{authority-delimits}
 use Rattle.iref_component.proofs.authority_parts.authority_parts_compare_by_key.Goals as goal
 
 pub returns : goal.returns
@@ -20,9 +20,9 @@ returns g c = (
       )),
   (λ a b. search (comparing, rules)),
   (λ v.
-      let host = fed_bytes (percent_decode (text_of v.host)) in
-      let user_info = feeds_through fed_bytes text_of percent_decode v.user_info in
-      let port = feeds_by fed_bytes text_of v.port in
+      let host = fed_part (percent_decode (text_of v.host)) in
+      let user_info = feeds_through fed_part text_of percent_decode v.user_info in
+      let port = feeds_by fed_part text_of v.port in
       (λ i. user_info i ++ (host ++ port i)) ∙ sym (append_assoc _ host _)),
-  authority_feed_delimits,
+  authority-delimits,
 )

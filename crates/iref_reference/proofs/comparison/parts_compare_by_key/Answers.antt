@@ -3,9 +3,9 @@ use Rattle.std.proofs.lemmas.Option.{same_Some}
 use Rattle.std.specs.Str.{str_to_ascii_lowercase}
 use Rattle.std.specs.Cmp.Rules.{comparing}
 use Rattle.iref_model.specs.Key.{key, key_cmp}
-use Rattle.iref_model.proofs.FeedLemmas.{reference_feed_delimits}
 use Rattle.iref_model.proofs.TieLemmas.{texts_tie}
 use Rattle.iref_model.proofs.PartTieLemmas.{lower_case_tie, parts_tie}
+use Rattle.iref_canonical.proofs.HashedPartLemmas.{components-delimit}
 use Rattle.iref_component.specs.Components.{text_of}
 use Rattle.iref_reference.proofs.comparison.parts_compare_by_key.Goals as goal
 
@@ -17,7 +17,7 @@ returns-clause-references g c = (
       a.authority b.authority (text_of a.path) (text_of b.path) a.query b.query a.fragment b.fragment),
   (λ a b. search (comparing, rules)),
   (λ v. search rules),
-  reference_feed_delimits,
+  components-delimit,
 )
 
 pub returns-clause-uris : goal.returns-clause-uris
@@ -29,5 +29,5 @@ returns-clause-uris g c = (
       a.authority b.authority (text_of a.path) (text_of b.path) a.query b.query a.fragment b.fragment),
   (λ a b. search (comparing, rules)),
   (λ v. search rules),
-  reference_feed_delimits,
+  components-delimit,
 )
