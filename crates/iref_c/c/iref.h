@@ -11,9 +11,9 @@
  * What the caller owes. No pointer is NULL, not even one of length 0. What is passed as a text holds that many bytes that
  * can be read, and does not change during the call. What is passed as a buffer holds that many bytes that can be read and
  * written, and the memory for each result is aligned as its type is. No buffer and no such memory overlaps anything else
- * that is passed. malloc, realloc and free are of one allocator, and iref_normalize_path, iref_to_uri, iref_canonical and
- * iref_sort_key, which alone take memory, are not called from a signal handler, nor in the forked child of a process with
- * threads. Nothing checks any of this.
+ * that is passed. malloc, realloc and free are of one allocator, and iref_normalize_path, iref_to_uri, iref_canonical,
+ * iref_sort_key and iref_sort_range, which alone take memory, are not called from a signal handler, nor in the forked child
+ * of a process with threads. Nothing checks any of this.
  *
  * Results. A call answers a status, one of those below. Where it is not IREF_OK, nothing is written, but that *needed is
  * written at IREF_SHORT too.
@@ -152,6 +152,15 @@ uint32_t iref_canonical(const char *reference, size_t reference_length, char *ou
 /* The sort key of a reference of IRIs: bytes, of which any may be 0, that memcmp puts in the order of iref_compare, the
  * shorter of two first where it begins the longer. Two are the same exactly where the references are equal. */
 uint32_t iref_sort_key(const char *reference, size_t reference_length, char *out, size_t out_length, size_t *needed);
+
+/* The range of the sort keys of a reference of IRIs and of all below it: of those that have its scheme and its authority,
+ * and whose normal path begins with all segments of its own. They stand from the first *needed - 1 bytes that are written
+ * up to, and without, all *needed of them, of which the last is 2; no other sort keys do. So they are those that begin with
+ * these *needed - 1 bytes, and `key >= ? AND key < ?` in an index. Below `http://h/docs` are it itself, `http://h/docs/a`,
+ * `http://h/docs?q` and `HTTP://h/x/../docs/`, not `http://h/docsx`. Below `http://h/` is all of this authority with an
+ * absolute path, below `http://h` only it itself with or without a query and a fragment, and below `http://h/docs/`, which
+ * ends in an empty segment, not `http://h/docs/a`. */
+uint32_t iref_sort_range(const char *reference, size_t reference_length, char *out, size_t out_length, size_t *needed);
 
 #ifdef __cplusplus
 }

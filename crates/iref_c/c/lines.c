@@ -2,7 +2,7 @@
  * Answers lines by the calls of iref.h, as the program iref_cli does: fields between TABs, of the verbs parts, normal,
  * equal, resolve, relative and to-uri. With the argument `check` it looks at the calls themselves instead of answering,
  * over the same lines, and says what is wrong: buffers too short by one, bytes that are not UTF-8, lengths of zero, and
- * whether equality, order, hash, canonical texts and sort keys agree, and faults with the rules.
+ * whether equality, order, hash, canonical texts, sort keys and ranges of them agree, and faults with the rules.
  */
 #define _POSIX_C_SOURCE 200809L
 #include "iref.h"
@@ -48,6 +48,10 @@ static uint32_t sort_key(const struct text *texts, char *out, size_t out_length,
     return iref_sort_key(texts[0].at, texts[0].length, out, out_length, needed);
 }
 
+static uint32_t sort_range(const struct text *texts, char *out, size_t out_length, size_t *needed) {
+    return iref_sort_range(texts[0].at, texts[0].length, out, out_length, needed);
+}
+
 /* A verb that writes a text, and how many texts it takes. */
 struct verb {
     const char *name;
@@ -56,8 +60,8 @@ struct verb {
 };
 
 static const struct verb VERBS[] = {
-    {"normal", 1, normal}, {"resolve", 2, resolve},     {"relative", 2, relative},
-    {"to-uri", 1, to_uri}, {"canonical", 1, canonical}, {"key", 1, sort_key}};
+    {"normal", 1, normal},       {"resolve", 2, resolve}, {"relative", 2, relative}, {"to-uri", 1, to_uri},
+    {"canonical", 1, canonical}, {"key", 1, sort_key},    {"range", 1, sort_range}};
 
 #define VERB_COUNT (sizeof VERBS / sizeof *VERBS)
 
@@ -348,6 +352,35 @@ static void check_long(void) {
     check(&text, 1);
 }
 
+/* Whether the sort key of a reference stands in the range of another. */
+static int is_below(struct text reference, struct text other) {
+    char key[64], range[64];
+    size_t length = 0, end = 0;
+    expect(sort_key(&reference, key, sizeof key, &length) == IREF_OK, "a sort key is not written", reference);
+    expect(sort_range(&other, range, sizeof range, &end) == IREF_OK, "a range is not written", other);
+    struct text sorted = {key, length};
+    int is_in = order_of(sorted, (struct text){range, end - 1}) >= 0 && order_of(sorted, (struct text){range, end}) < 0;
+    expect(is_in == (length >= end - 1 && memcmp(key, range, end - 1) == 0), "a key in a range begins otherwise", reference);
+    return is_in;
+}
+
+/* What is below a reference and what is not. */
+static void check_below(void) {
+    static const char *const BELOW[] = {"http://h/docs", "http://h/docs/a", "http://h/docs?q", "HTTP://h/x/../docs/"};
+    static const char *const OTHERS[] = {"http://h/docsx", "http://h/doc", "http://h/", "http://i/docs/a", "/docs/a", ""};
+    struct text docs = {"http://h/docs", 13};
+    for (size_t i = 0; i < sizeof BELOW / sizeof *BELOW; i++) {
+        struct text text = {BELOW[i], strlen(BELOW[i])};
+        expect(is_below(text, docs), "it is below http://h/docs", text);
+    }
+    for (size_t i = 0; i < sizeof OTHERS / sizeof *OTHERS; i++) {
+        struct text text = {OTHERS[i], strlen(OTHERS[i])};
+        expect(!is_below(text, docs), "it is not below http://h/docs", text);
+    }
+    struct text host = {"http://h", 8}, root = {"http://h/", 9};
+    expect(is_below(docs, root) && !is_below(docs, host), "all with an absolute path is below the root alone", docs);
+}
+
 /* A canonical text, a sort key and two places that are known. */
 static void check_known(void) {
     static const char KEY[] = "\1http\0\1\0a\0\0\1\1~b\0\1c\0\0\0";
@@ -384,6 +417,7 @@ static void check_bytes(void) {
         expect(status == IREF_INVALID && hash == 7, "bytes that are not UTF-8 are hashed under keys", texts[0]);
     }
     check_known();
+    check_below();
     check(&empty, 1);
     expect(iref_hash(empty.at, empty.length, &hash) == IREF_OK, "the empty text is no reference", empty);
 }

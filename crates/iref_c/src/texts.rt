@@ -1,7 +1,9 @@
 //! Texts that are written into the caller's buffer: normal paths, resolution, relative references,
-//! the mapping to URIs, canonical texts and sort keys (RFC 3986 section 5.2, RFC 3987 section 3.1).
+//! the mapping to URIs, canonical texts, sort keys and their ranges (RFC 3986 section 5.2, RFC 3987
+//! section 3.1).
 ghost use Rattle.std.specs.Prelude.{⊤};
 ghost use Rattle.iref.specs.{Canonical.{canonical_text}, Key.{key}, SortKey.{sort_key}, Mapping.{mapped}};
+ghost use Rattle.iref.specs.SortPrefix.{sort_prefix_end};
 ghost use Rattle.iref.specs.{Relative.{relative_to}, Resolution.{resolved}, Characters.{iri_chars}, Contexts.{alone}};
 ghost use Rattle.iref.specs.{Grammar.{IsPath, IsUri}, PathValue.{read_path, spell_path}};
 ghost use Rattle.iref.specs.{Reference.{read_reference, spell}, Rules.{InUtf8}};
@@ -139,6 +141,27 @@ pub extern "C" fn iref_sort_key(
     };
     match reference.sort_key(alloc) {
         Ok(key) => write_text(key.as_bytes(), out, needed),
+        Err(_) => MEMORY,
+    }
+}
+
+/// Writes where the sort keys of all below a reference end: they begin with these bytes but the last.
+#[unsafe(no_mangle)]
+pub extern "C" fn iref_sort_range(
+    alloc: Global,
+    reference: &[u8],
+    out: &mut [u8],
+    needed: &mut usize,
+) -> u32
+    ensures { Writes (IsReference reference.now) ⊤
+        (sort_prefix_end (key (read_reference reference.now)))
+        out.old out.new needed.old needed.new result }
+{
+    let Ok(reference) = IriRef::from_bytes(reference) else {
+        return INVALID;
+    };
+    match reference.sort_range(alloc) {
+        Ok(range) => write_text(range.end.as_bytes(), out, needed),
         Err(_) => MEMORY,
     }
 }
