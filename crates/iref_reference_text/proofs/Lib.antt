@@ -7,6 +7,7 @@ pub mod LeadLemmas
 pub mod PathRangeLemmas
 pub mod MeasuredLemmas
 pub mod RelativeLemmas
+pub mod ShortestTextLemmas
 pub mod SchemeLemmas
 pub mod MappingLemmas
 pub mod HalfMappedLemmas

@@ -26,6 +26,7 @@ pub mod PathTexts
 pub mod PathRanges
 pub mod MeasuredReferences
 pub mod Relatives
+pub mod ShortestTexts
 pub mod AuthorityRanges
 pub mod Steps
 pub mod Fronts

@@ -8,4 +8,5 @@ mod mapped_bytes;
 pub mod measured;
 pub mod reference_text;
 pub mod relative;
+mod relativized;
 mod row;

@@ -56,7 +56,7 @@ fn add_part(len: usize, mark: usize, part: Option<&str>) -> Result<usize, AllocE
 }
 
 // What stands before a path after these components.
-fn context_after(scheme: Option<&str>, authority: Option<&str>) -> PathContext
+pub(crate) fn context_after(scheme: Option<&str>, authority: Option<&str>) -> PathContext
     ensures { result ≡ record {
       has_scheme = is_some (option_copied scheme.entry);
       has_authority = is_some (option_copied authority.entry);

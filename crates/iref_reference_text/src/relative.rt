@@ -83,7 +83,7 @@ impl<'a> MeasuredReference<'a> {
     }
 
     // The reference as it stands.
-    fn whole(reference: ReferenceSlices<'a>) -> Self
+    pub(crate) fn whole(reference: ReferenceSlices<'a>) -> Self
         ensures texts { measured_components result ≡ spell_components (value_of reference.entry) }
         ensures ready { IsReady result }
     {
@@ -97,7 +97,7 @@ impl<'a> MeasuredReference<'a> {
     }
 
     // A path, and the query and the fragment of a reference.
-    fn with_only_path(path: MeasuredPath<'a>, reference: ReferenceSlices<'a>) -> Self
+    pub(crate) fn with_only_path(path: MeasuredPath<'a>, reference: ReferenceSlices<'a>) -> Self
         requires { IsMeasured path }
         ensures texts { measured_components result
             ≡ after_path (measured_text path.entry) (texts_of reference.entry) }
