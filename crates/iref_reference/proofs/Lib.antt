@@ -4,6 +4,7 @@ pub mod AuthorityStepLemmas
 pub mod ResolutionLemmas
 pub mod SuffixLemmas
 pub mod RelativeLemmas
+pub mod ShortestLemmas
 pub mod MappingLemmas
 pub mod PartLemmas
 pub mod CanonicalLemmas

@@ -30,6 +30,7 @@ pub mod Mappings
 pub mod Parts
 pub mod References
 pub mod Relatives
+pub mod Shortest
 pub mod Resolutions
 pub mod ReferenceSuffixes
 pub mod SortKeys

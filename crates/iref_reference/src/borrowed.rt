@@ -104,6 +104,7 @@ impl<'a, R: HeldRule, C: CharSet> Reference<'a, R, C> {
         ensures value { value_of result ≡ reference_value self.now }
         ensures components { AreComponents C.tests (texts_of result) }
         ensures readable { is_readable C.tests (reference_value self.now) ≡ true }
+        ensures allowed { R.allows_scheme (reference_value self.now).scheme ≡ true }
     {
         split_reference(self.as_str())
     }

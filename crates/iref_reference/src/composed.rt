@@ -1,12 +1,12 @@
 //! References that are composed of the components of others, and not written yet (RFC 3986 sections
 //! 5.2 and 5.3).
-ghost use Rattle.std.specs.Prelude.{◌≡◌, ◌≤◌, ◌++◌, drop, IfOk, length, OnErr, OnOk, Some, true};
+ghost use Rattle.std.specs.Prelude.{◌≡◌, ◌≤◌, ◌++◌, drop, IfOk, is_some, length, OnErr, OnOk, Option, Some, true};
 ghost use Rattle.iref_grammar.specs.{Rules.{Text}, Texts.{is_empty}};
 ghost use Rattle.iref_model.specs.{Relative.{relative_to}, Resolution.{resolved}};
 ghost use Rattle.iref_reference_text.specs.{AreComponents, is_readable, texts_of, value_of};
 ghost use Rattle.iref_reference_text.specs.MeasuredReferences.{IsComposed, measured_components, spell_texts};
 ghost use Rattle.iref_reference_text.specs.Steps.{Spells};
-ghost use Rattle.iref_reference.specs.References.{reference_buf_text};
+ghost use Rattle.iref_reference.specs.{References.{reference_buf_text}, Shortest.{IsRelativized}};
 
 use crate::owned::ReferenceBuf;
 use crate::rule::{ReferenceRule, UriRule};
@@ -89,6 +89,24 @@ impl<'a, R: HeldRule, C: CharSet> Composed<'a, R, C> {
     {
         count_paths(base.path, target.path)?;
         Composed::of_components(MeasuredReference::relative_to::<C>(target, base))
+    }
+
+    // The shortest reference that leads from a base to the target's very text, if one does.
+    pub(crate) fn relativized(
+        target: ReferenceSlices<'a>,
+        base: ReferenceSlices<'a>,
+    ) -> Result<Option<Self>, Memory>
+        requires target { is_readable C.tests (value_of target) ≡ true }
+        requires base { is_readable C.tests (value_of base) ≡ true }
+        requires full { is_some (value_of target).scheme ≡ true }
+        requires allowed { (scheme : Option Text) → R.allows_scheme scheme ≡ true }
+        ensures { IfOk result (IsRelativized (value_of target.entry) (value_of base.entry)) }
+    {
+        count_paths(base.path, target.path)?;
+        match MeasuredReference::relativized(target, base)? {
+            Some(components) => Ok(Some(Composed::of_components(components)?)),
+            None => Ok(None),
+        }
     }
 
     /// How many bytes the text has: `http://a/g` has 10.

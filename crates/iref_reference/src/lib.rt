@@ -12,6 +12,7 @@ pub mod mapping;
 pub mod owned;
 pub mod parts;
 pub mod relative;
+pub mod relativized;
 pub mod resolution;
 pub mod rule;
 pub mod setters;

@@ -1,5 +1,5 @@
 -- What a target and a base have in common, and the shortest reference by that.
-use Rattle.std.proofs.Common.{◌≡◌, ℕ, Bool, true, false, ◌&&◌, not, List, [], ◌∷◌, ◌++◌, length, ap, arith, refl, sym, ◌∙◌}
+use Rattle.std.proofs.Common.{◌≡◌, ℕ, Bool, true, false, ◌&&◌, [], ◌∷◌, ◌++◌, length, ap, refl, sym, ◌∙◌}
 use Rattle.std.proofs.lemmas.Bool.Decides.{same_from_decides}
 use Rattle.std.proofs.lemmas.List.{append_cancel_left, append_cancel_right}
 use Rattle.std.proofs.lemmas.Slice.Eq.{bytes_eq-Decides}
@@ -66,14 +66,14 @@ abbrev by_parts : Bool → Bool → Bool → Bool → Shared
 by_parts s a p q = if s then (if s && a then (if (s && a) && p then (if q then Query else Path) else Authority) else Scheme) else Nothing
 
 -- by the texts of the components
-pub shared-texts : (t b : ComponentTexts)
+pub shared_by_texts : (t b : ComponentTexts)
     → shared_of (read_components t) (read_components b)
     ≡ (if same_part t.scheme b.scheme
     then (if same_part t.authority b.authority
     then (if bytes_eq t.path b.path then (if same_part t.query b.query then Query else Path) else Authority)
     else Scheme)
     else Nothing)
-shared-texts t b =
+shared_by_texts t b =
     (λ i. by_parts (scheme_tie t.scheme b.scheme i) (authority_tie t.authority b.authority i) (path_tie t.path b.path i) (part_tie question_mark [] t.query b.query i))
     ∙ by (same_part t.scheme b.scheme) (same_part t.authority b.authority) (bytes_eq t.path b.path) (same_part t.query b.query)
   where

@@ -1,16 +1,17 @@
 //! The shortest reference that resolves against a base to a target's very text (RFC 3986 sections
 //! 4.2 and 5.2).
-ghost use Rattle.std.specs.{Option.{option_copied}};
-ghost use Rattle.std.specs.Prelude.{◌≡◌, ◌+◌, ◌*◌, ◌<◌, ◌^◌, IfOk, IfSome, is_some, length, option_map, true};
-ghost use Rattle.std.specs.Prelude.{◌&&◌};
-ghost use Rattle.iref_grammar.specs.{Contexts.{fits}, Reference.{ReferenceValue, context_of}, spell_components, spell_path};
-ghost use Rattle.iref_parse.specs.{texts_of, value_of};
+ghost use Rattle.std.specs.Option.{option_copied};
+ghost use Rattle.std.specs.Prelude.{◌≡◌, ◌+◌, ◌*◌, ◌<◌, ◌^◌, ◌&&◌, IfOk, IfSome, is_some, length, option_map};
+ghost use Rattle.std.specs.Prelude.{true};
+ghost use Rattle.iref_grammar.specs.{Contexts.{fits}, Reference.{ReferenceValue, context_of}};
+ghost use Rattle.iref_grammar.specs.{spell_components, spell_path};
+ghost use Rattle.iref_parse.specs.{value_of};
 ghost use Rattle.iref_path.specs.MeasuredPaths.{IsMeasured, measured_text};
 ghost use Rattle.iref_relativized.specs.Relativized.{fragment_alone, relative_path};
 ghost use Rattle.iref_relativized.specs.RelativizedChoice.{chosen, with_a_path, with_own_scheme, with_whole_path};
 ghost use Rattle.iref_relativized.specs.RelativizedTests.{is_reachable, is_settled};
 ghost use Rattle.iref_reference_text.specs.MeasuredReferences.{IsReady, measured_components};
-ghost use Rattle.iref_reference_text.specs.ShortestTexts.{shared_of, shares_authority, shares_path};
+ghost use Rattle.iref_reference_text.specs.ShortestTexts.{same_part, shared_of, shares_authority, shares_path};
 ghost use Rattle.iref_reference_text.specs.ShortestTexts.{shares_query, shares_scheme, shorter_texts};
 
 use crate::measured::{MeasuredReference, context_after};
@@ -26,6 +27,13 @@ const ALONE: PathContext = PathContext {
     has_scheme: false,
     has_authority: false,
 };
+
+// Whether two parts have the same text, or both are absent.
+fn same_part(part: Option<&str>, other: Option<&str>) -> bool
+    ensures { result ≡ same_part (option_copied part.entry) (option_copied other.entry) }
+{
+    part == other
+}
 
 // The last of the leading components whose texts a target has in common with its base.
 #[derive(Clone, Copy)]
@@ -43,13 +51,13 @@ impl Shared {
     fn of(target: ReferenceSlices<'_>, base: ReferenceSlices<'_>) -> Shared
         ensures { result ≡ shared_of (value_of target.entry) (value_of base.entry) }
     {
-        if target.scheme != base.scheme {
+        if !same_part(target.scheme, base.scheme) {
             Shared::Nothing
-        } else if target.authority != base.authority {
+        } else if !same_part(target.authority, base.authority) {
             Shared::Scheme
         } else if target.path != base.path {
             Shared::Authority
-        } else if target.query != base.query {
+        } else if !same_part(target.query, base.query) {
             Shared::Path
         } else {
             Shared::Query
