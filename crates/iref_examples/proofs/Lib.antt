@@ -1,3 +1,4 @@
+pub mod BelowLemmas
 pub mod CheckLemmas
 pub mod ContextLemmas
 pub mod FirstLemmas

@@ -1,3 +1,4 @@
+pub mod Below
 pub mod Caches
 pub mod Components
 pub mod ContextTexts

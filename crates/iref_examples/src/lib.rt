@@ -8,6 +8,7 @@ ghost use Rattle.iref.specs.{Reference.{read_reference}, Rules.{InUtf8}, Parts.{
 ghost use Rattle.iref.specs.{NormalList.{normal_segments}, Components.{text_of}, Paths.{path_value}, Key.{are_alike}};
 ghost use Rattle.iref.specs.{References.{reference_value}, CountedEquality.{IsCountedAnswer}, PathKey.{path_key}};
 
+pub mod below;
 pub mod cache;
 pub mod context;
 pub mod editors;
