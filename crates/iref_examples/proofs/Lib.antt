@@ -3,4 +3,5 @@ pub mod CheckLemmas
 pub mod ContextLemmas
 pub mod FirstLemmas
 pub mod LinkLemmas
+pub mod SortedLemmas
 pub mod WrongLineLemmas

@@ -4,4 +4,5 @@ pub mod Components
 pub mod ContextTexts
 pub mod Firsts
 pub mod Links
+pub mod SortedTexts
 pub mod WrongLines
