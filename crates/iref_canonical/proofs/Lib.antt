@@ -31,5 +31,6 @@ pub mod SortBlockLemmas
 pub mod SortShortLemmas
 pub mod PaddedLemmas
 pub mod SortCutLemmas
+pub mod LongNameLemmas
 pub mod HashedLemmas
 pub mod HashedPartLemmas

@@ -104,13 +104,15 @@ fn sample(item: &str) -> &'static str
     }
 }
 
-// Puts an item that does not stand.
-#[tactic(auto, using(crate::proofs::SetLemmas::sets))]
+// Puts an item that does not stand. One of more than six bytes does not decode to dots.
+#[tactic(auto, using(crate::proofs::SetLemmas::sets, crate::proofs::LongNameLemmas::long_name))]
 fn put_name<O: Backward>(out: &mut O, item: &str)
     requires { O.fits out.old (canonical_name (percent_decode item.now)) }
     ensures { out.new ≡ O.after out.old (canonical_name (percent_decode item.now)) }
 {
-    if decodes_to_dot(item) {
+    if item.len() > 6 {
+        put_encoded(out, item, SEGMENT);
+    } else if decodes_to_dot(item) {
         out.put(b"%2E");
     } else if decodes_to_dots(item) {
         out.put(b"%2E%2E");

@@ -1,10 +1,11 @@
 -- Components of a reference, as they are compared, and as they were read from bytes: a URI is a reference with a scheme.
-use Rattle.std.proofs.Common.{◌≡◌, true, ◌&&◌, is_eq}
+use Rattle.std.proofs.Common.{◌≡◌, true, ◌&&◌, ap, is_eq}
 use Rattle.std.proofs.lemmas.Bool.Decides.{same_from_decides}
+use Rattle.std.proofs.lemmas.Slice.Eq.{bytes_eq-Decides}
 use Rattle.std.specs.Option.{option_eq}
 use Rattle.std.specs.Ordering.{eq_by_cmp}
 use Rattle.std.specs.Prelude.{Option, is_some}
-use Rattle.std.specs.Str.{str_to_ascii_lowercase}
+use Rattle.std.specs.Str.{bytes_eq, str_to_ascii_lowercase}
 use Rattle.percent_encoding.specs.Percent.{percent_decode}
 use Rattle.iref_grammar.specs.Authority.{read_authority}
 use Rattle.iref_grammar.specs.Characters.{AreAboveAscii, CharTests}
@@ -16,7 +17,7 @@ use Rattle.iref_grammar.specs.Rules.{InUtf8, Text}
 use Rattle.iref_grammar.proofs.ComponentLemmas.{uri_if_scheme, scheme_if_uri}
 use Rattle.iref_grammar.proofs.ReferenceRuleLemmas.{Decides-is_uri, Decides-is_uri_reference}
 use Rattle.iref_model.specs.AuthorityKey.{authority_key, authority_key_cmp}
-use Rattle.iref_model.specs.Key.{key_cmp}
+use Rattle.iref_model.specs.Key.{key, key_cmp}
 use Rattle.iref_model.specs.PathKey.{path_key, path_key_cmp}
 use Rattle.iref_model.proofs.PartTieLemmas.{lower_case_tie, parts_tie}
 use Rattle.iref_model.proofs.TieLemmas.{references_tie}
@@ -37,6 +38,10 @@ parts_equal a b =
     let keys = parts_tie text_of text_of text_of _ _ _ (lower_case_tie text_of a.scheme b.scheme)
     a.authority b.authority (text_of a.path) (text_of b.path) a.query b.query a.fragment b.fragment in
     same_from_decides _ _ keys (references_tie _ _)
+
+-- references of one text are equal
+pub same_texts : (a b : Text) → bytes_eq a b ≡ true → eq_by_cmp key_cmp (key (read_reference a)) (key (read_reference b)) ≡ true
+same_texts a b same = (references_tie _ _).1 (ap (λ text. key (read_reference text)) ((bytes_eq-Decides a b).0 same))
 
 module _ (set : CharTests) (above : AreAboveAscii set) (text : Text) where
   pub uri_with_scheme : InUtf8 (IsUriReference set) text → is_some (read_reference text).scheme ≡ true → InUtf8 (IsUri set) text

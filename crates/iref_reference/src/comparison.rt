@@ -1,6 +1,6 @@
 //! References and URIs, borrowed and owned, are compared by their keys.
 ghost use Rattle.std.specs.Cmp.{on_total, on_equiv, po, partial_equiv_from_equiv, eq_by_cmp_equiv};
-ghost use Rattle.std.specs.{Ordering.{on, as_partial_cmp, eq_by_cmp}, Cmp.Rules.{comparing}};
+ghost use Rattle.std.specs.{Prelude.{◌≡◌}, Ordering.{on, as_partial_cmp, eq_by_cmp}, Cmp.Rules.{comparing}};
 ghost use Rattle.std.proofs.Common.{rules, refl, ap};
 ghost use Rattle.iref_model.proofs.KeyOrderLemmas.{keys_separate, keys_total};
 ghost use Rattle.iref_canonical.specs.{Hashed.{IsReadableKey}, HashedParts.{HasPathKey}};
@@ -42,14 +42,23 @@ impl<R: HeldRule, C: CharSet> PartialOrd for ReferenceBuf<R, C> {
     }
 }
 
+// Whether the components of both are equal.
+fn have_equal_parts<R: HeldRule, C: CharSet>(a: &ReferenceBuf<R, C>, b: &ReferenceBuf<R, C>) -> bool
+    ensures { result
+        ≡ eq_by_cmp key_cmp (key_of_reference_buf a.now) (key_of_reference_buf b.now) }
+{
+    a.reference_parts() == b.reference_parts()
+}
+
 impl<R: HeldRule, C: CharSet> PartialEq for ReferenceBuf<R, C> {
     ghost eq = { on key_of_reference_buf (eq_by_cmp key_cmp) };
 
     ghost laws = { partial_equiv_from_equiv
         (on_equiv key_of_reference_buf (eq_by_cmp_equiv keys_total)) };
 
+    #[tactic(auto, using(crate::proofs::PartLemmas::same_texts))]
     fn eq(&self, other: &Self) -> bool {
-        self.reference_parts() == other.reference_parts()
+        self.as_str() == other.as_str() || have_equal_parts(self, other)
     }
 }
 

@@ -72,14 +72,19 @@ impl Waiting {
         self.start
     }
 
-    // Puts bytes before those that wait.
+    // Puts bytes before those that wait. Three, as an escape has, are copied with no call.
     #[inline(always)]
+    #[tactic(auto, using(std::proofs::lemmas::List::take_all))]
     fn put_fitting(&mut self, bytes: &[u8])
         requires { length bytes.now + length self.old ≤ 256 }
         ensures { self.new ≡ bytes.now ++ self.old }
     {
         let start = self.start - bytes.len();
-        self.bytes[start..self.start].copy_from_slice(bytes);
+        if bytes.len() == 3 {
+            self.bytes[start..start + 3].copy_from_slice(&bytes[..3]);
+        } else {
+            self.bytes[start..self.start].copy_from_slice(bytes);
+        }
         self.start = start;
     }
 

@@ -2,7 +2,7 @@ use Rattle.std.proofs.Common.{◌∙◌}
 use Rattle.std.specs.Ordering.{eq_by_cmp}
 use Rattle.iref_model.specs.Key.{key, key_cmp}
 use Rattle.iref_reference.proofs.PartLemmas.{parts_equal}
-use Rattle.iref_reference.proofs.comparison.ReferenceBufPartialEq.eq.Goals as goal
+use Rattle.iref_reference.proofs.comparison.have_equal_parts.Goals as goal
 
 pub returns : goal.returns
 returns g c =
