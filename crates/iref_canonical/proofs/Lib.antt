@@ -34,3 +34,4 @@ pub mod SortCutLemmas
 pub mod LongNameLemmas
 pub mod HashedLemmas
 pub mod HashedPartLemmas
+mod HashedRows

@@ -36,8 +36,8 @@ pub record Comparison : Type 1 where
 abbrev pub by_text : (Text → Text) → Comparison
 by_text key = record { Kept = Text; key = key; order = text_order; fed = fed_part; Known = IsAny; total = nat_list_cmp_total; separates = texts_separate; delimits = part-delimits }
 
--- Values are equal exactly where their keys are the same, and in the order of the keys. The key is hashed, in bytes that
--- determine it, of the keys that are said: values with such keys that are not equal feed different bytes.
+-- Values are equal exactly where their keys are the same, and in the order of the keys. The key is hashed, and of known keys, as
+-- those of readable texts are, the bytes determine the key: values that are not equal feed different bytes.
 abbrev pub ComparesBy : {V K : Type 0} → (V → K) → (K → K → Ordering) → (K → Type 0) → (K → HashWrites) → OrdMembers V → HashMembers V → Type 0
 ComparesBy {V} key order known fed ord hash =
     ((a b : V) → (ord.eq a b ≡ true) ↔ (key a ≡ key b))

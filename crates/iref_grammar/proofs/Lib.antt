@@ -42,4 +42,3 @@ pub mod FrontLemmas
 pub mod PctLemmas
 pub mod EmptyLemmas
 pub mod MarkLemmas
-pub mod FeedLemmas

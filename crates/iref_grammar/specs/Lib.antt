@@ -5,7 +5,7 @@ pub use Rattle.iref_grammar.specs.ComponentTexts.{AreComponents, read_components
 pub use Rattle.iref_grammar.specs.Contexts.{alone, fits, follows_authority, is_path_in, is_readable_path}
 pub use Rattle.iref_grammar.specs.Grammar.{colon, hash_sign, is_not_percent, IsAbEmptyPath, IsAbsolutePath, IsAuthority, IsFragment, IsHost, IsIpLiteral, IsIpv4Address, IsIpv6Address, IsIpvFuture, IsNoSchemePath, IsPath, IsPctStr, IsPort, IsQuery, IsRegName, IsRootlessPath, IsScheme, IsSegment, IsUri, IsUriReference, IsUserInfo, question_mark, slash}
 pub use Rattle.iref_grammar.specs.IpAddresses.{ipv4_value, ipv6_value, IsIpv4, IsIpv6}
-pub use Rattle.iref_grammar.specs.Keys.{fed_after, fed_bytes, IsSelfDelimiting, is_same_text, text_order}
+pub use Rattle.iref_grammar.specs.Keys.{is_same_text, text_order}
 pub use Rattle.iref_grammar.specs.PathValue.{IsReadAs, read_path, segments_of, shows_its_list, spell_path}
 pub use Rattle.iref_grammar.specs.ComponentOffsets.{range_from, offsets_in, offsets_of, text_at}
 pub use Rattle.iref_grammar.specs.Reference.{context_of, hierarchy, is_uri, is_readable, is_reference, IsReadable, IsReadAsReference, read_reference, ReferenceValue, spell}

@@ -11,7 +11,7 @@ use Rattle.iref_grammar.specs.Reference.{ReferenceValue}
 use Rattle.iref_grammar.specs.Keys.{text_order}
 use Rattle.iref_model.specs.AuthorityKey.{authority_key_cmp}
 use Rattle.iref_model.specs.PathKey.{path_key_cmp}
-use Rattle.iref_model.specs.Key.{key_cmp, fed_reference}
+use Rattle.iref_model.specs.Key.{key_cmp}
 pub use Rattle.iref_model.specs.AuthorityKey.{authority_keys_total}
 pub use Rattle.iref_model.specs.PathKey.{path_keys_total}
 
@@ -84,7 +84,3 @@ keys_separate r s h =
 -- in a total order whose ties are equal, to tie is to be the same
 pub tied_exactly : {K : Type 0} {order : K → K → Ordering} → IsTotalOrder order → Separates order → (a b : K) → (is_eq (order a b) ≡ true) ↔ (a ≡ b)
 tied_exactly {order = order} total separate a b = (separate a b, λ same. (λ i. is_eq (order a (sym same i))) ∙ ap is_eq (tied_itself total a))
-
--- and what is the same is hashed by the same bytes
-pub fed_where_tied : (k l : ReferenceValue) → is_eq (key_cmp k l) ≡ true → fed_reference k ≡ fed_reference l
-fed_where_tied k l h = ap fed_reference (keys_separate k l h)

@@ -23,7 +23,6 @@ pub mod PathGrammarLemmas
 pub mod NormalGrammarLemmas
 pub mod LeadingLemmas
 pub mod KeyOrderLemmas
-pub mod FeedLemmas
 pub mod PathKeyLemmas
 pub mod TieLemmas
 pub mod KeyLemmas

@@ -1,20 +1,17 @@
--- Worked rows of what texts are compared by: which are equal, which comes first, and what is hashed; computed
--- (RFC 3986 section 6.2.2).
+-- Worked rows of what texts are compared by: which are equal, and which comes first; computed (RFC 3986 section 6.2.2).
 use Prim.Native.String.{String}
-use Rattle.std.specs.Prelude.{◌≡◌, Bool, true, false, ◌&&◌, List, [], ◌∷◌, map, replicate, refl}
+use Rattle.std.specs.Prelude.{◌≡◌, Bool, true, false, ◌&&◌, List, [], ◌∷◌, map, refl}
 use Rattle.std.specs.Char.{encode_utf8}
-use Rattle.std.specs.Hash.{HashWrites}
 use Rattle.std.specs.Ordering.{is_eq, is_lt}
 use Rattle.std.specs.declared.cmp.Ordering.{Ordering}
 use Rattle.std.specs.Str.{str_to_ascii_lowercase}
 use Rattle.percent_encoding.specs.Percent.{percent_decode}
-use Rattle.iref_grammar.specs.Keys.{fed_after, fed_bytes, text_order}
+use Rattle.iref_grammar.specs.Keys.{text_order}
 use Rattle.iref_grammar.specs.Authority.{read_authority}
 use Rattle.iref_grammar.specs.PathValue.{read_path}
 use Rattle.iref_grammar.specs.Reference.{read_reference}
 use Rattle.iref_model.specs.NormalList.{normal_segments, excess, staying_names}
 use Rattle.iref_model.specs.AuthorityKey.{authority_key, authority_key_cmp}
-use Rattle.iref_model.specs.PathHash.{fed_path}
 use Rattle.iref_model.specs.PathKey.{path_key, path_key_cmp}
 use Rattle.iref_model.specs.Key.{key, key_cmp}
 use Rattle.iref_model.proofs.Rows.{utf8}
@@ -137,32 +134,3 @@ ascending =
 ascending_hold : map (λ row. ascends row.0 row.1) ascending ≡ map (λ row. true) ascending
 unfolding read_reference read_authority read_path normal_segments excess staying_names path_key key key_cmp percent_decode encode_utf8
 ascending_hold = refl
-
--- ---- what is hashed: a list of writes, each a list of bytes
-
-abbrev fed_decoded : String → HashWrites
-fed_decoded text = fed_bytes (percent_decode (utf8 text))
-
-fed_texts : map fed_decoded ("" ∷ "ab" ∷ "a%FF" ∷ [])
-    ≡ ((0 ∷ []) ∷ []) ∷ ((2 ∷ 97 ∷ 98 ∷ []) ∷ []) ∷ ((2 ∷ 97 ∷ 255 ∷ []) ∷ []) ∷ []
-unfolding fed_after percent_decode encode_utf8
-fed_texts = refl
-
--- 64 bytes are a piece of 63 and one of 1, and 63 bytes a piece of 63 and an empty one
-fed_long_texts : map (λ n. fed_bytes (replicate n 97)) (64 ∷ 63 ∷ [])
-    ≡ ((63 ∷ replicate 63 97) ∷ (1 ∷ 97 ∷ []) ∷ []) ∷ ((63 ∷ replicate 63 97) ∷ (0 ∷ []) ∷ []) ∷ []
-unfolding fed_after
-fed_long_texts = refl
-
-abbrev fed_of_path : String → HashWrites
-fed_of_path text = fed_path (path_key (read_path (utf8 text)))
-
--- the flag, the segments from the last to the first, and 255
-fed_paths : map fed_of_path ("/%FF/" ∷ "//%FF" ∷ "a" ∷ "" ∷ [])
-    ≡ ((1 ∷ []) ∷ (0 ∷ []) ∷ (1 ∷ 255 ∷ []) ∷ (255 ∷ []) ∷ [])
-    ∷ ((1 ∷ []) ∷ (1 ∷ 255 ∷ []) ∷ (0 ∷ []) ∷ (255 ∷ []) ∷ [])
-    ∷ ((0 ∷ []) ∷ (1 ∷ 97 ∷ []) ∷ (255 ∷ []) ∷ [])
-    ∷ ((0 ∷ []) ∷ (255 ∷ []) ∷ [])
-    ∷ []
-unfolding fed_path fed_after read_path normal_segments excess staying_names path_key percent_decode encode_utf8
-fed_paths = refl

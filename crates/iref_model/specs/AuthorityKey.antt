@@ -1,14 +1,13 @@
--- What authorities are compared by, in their order, and hashed by.
-use Rattle.std.specs.Prelude.{◌++◌, option_map}
+-- What authorities are compared by, also in their order.
+use Rattle.std.specs.Prelude.{option_map}
 use Rattle.std.specs.Option.{option_cmp}
-use Rattle.std.specs.Hash.{HashWrites, option}
 use Rattle.std.specs.Ordering.{ordering_then}
 use Rattle.std.specs.Cmp.{IsTotalOrder, then_total, on_total}
 use Rattle.std.specs.Cmp.Lexicographic.{nat_list_cmp_total, options_total, on_texts}
 use Rattle.std.specs.declared.cmp.Ordering.{Ordering}
 use Rattle.percent_encoding.specs.Percent.{percent_decode}
 use Rattle.iref_grammar.specs.Authority.{AuthorityValue}
-use Rattle.iref_grammar.specs.Keys.{text_order, fed_bytes}
+use Rattle.iref_grammar.specs.Keys.{text_order}
 
 -- user info and host as decoded bytes, the port as text
 abbrev pub authority_key : AuthorityValue → AuthorityValue
@@ -18,10 +17,6 @@ authority_key a = record { user_info = option_map percent_decode a.user_info; ho
 abbrev pub authority_key_cmp : AuthorityValue → AuthorityValue → Ordering
 authority_key_cmp a b =
     ordering_then (option_cmp text_order a.user_info b.user_info) (ordering_then (text_order a.host b.host) (option_cmp text_order a.port b.port))
-
--- the bytes that are hashed: whether there is a user info, and then it; the host; the port as the user info
-abbrev pub fed_authority : AuthorityValue → HashWrites
-fed_authority a = option fed_bytes a.user_info ++ fed_bytes a.host ++ option fed_bytes a.port
 
 -- keys are in a total order
 pub authority_keys_total : IsTotalOrder authority_key_cmp

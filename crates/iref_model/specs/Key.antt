@@ -1,16 +1,14 @@
 -- What references are compared by, with no rules of schemes. It is wider than RFC 3986 section 6.2.2.2, since each escape is
 -- decoded, and narrower than section 6.2.2.1, since hosts keep their case.
-use Rattle.std.specs.Prelude.{◌≡◌, ◌++◌, Bool, option_map}
+use Rattle.std.specs.Prelude.{◌≡◌, Bool, option_map}
 use Rattle.std.specs.Option.{option_cmp}
 use Rattle.std.specs.Str.{str_to_ascii_lowercase}
 use Rattle.std.specs.declared.cmp.Ordering.{Ordering}
 use Rattle.std.specs.Ordering.{ordering_then, is_eq}
-use Rattle.std.specs.Hash.{HashWrites, option}
 use Rattle.percent_encoding.specs.Percent.{percent_decode}
-use Rattle.iref_grammar.specs.Keys.{fed_bytes, text_order}
-use Rattle.iref_model.specs.AuthorityKey.{authority_key, authority_key_cmp, fed_authority}
+use Rattle.iref_grammar.specs.Keys.{text_order}
+use Rattle.iref_model.specs.AuthorityKey.{authority_key, authority_key_cmp}
 use Rattle.iref_model.specs.PathKey.{path_key, path_key_cmp}
-use Rattle.iref_model.specs.PathHash.{fed_path}
 use Rattle.iref_grammar.specs.Reference.{ReferenceValue}
 
 -- scheme in lower case (section 6.2.2.1), the normal path (6.2.2.3); user info, host, segments, query and fragment as decoded bytes
@@ -38,8 +36,3 @@ AreAlike r s = key r ≡ key s
 
 abbrev pub are_alike : ReferenceValue → ReferenceValue → Bool
 are_alike r s = is_eq (key_cmp (key r) (key s))
-
--- the bytes of a key that are hashed: component by component, and of one that may be absent whether it is there
-unfoldable pub fed_reference : ReferenceValue → HashWrites
-fed_reference k =
-    option fed_bytes k.scheme ++ option fed_authority k.authority ++ fed_path k.path ++ option fed_bytes k.query ++ option fed_bytes k.fragment

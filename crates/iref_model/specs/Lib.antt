@@ -9,18 +9,17 @@ pub use Rattle.iref_grammar.specs.Reference.{is_readable, IsReadable, read_refer
 pub use Rattle.iref_grammar.specs.Rules.{Text}
 pub use Rattle.iref_grammar.specs.Tests.{is_fragment, is_host, is_port, is_query, is_scheme, is_segment, is_user_info, none_or}
 pub use Rattle.iref_grammar.specs.Texts.{lacks}
-pub use Rattle.iref_model.specs.AuthorityKey.{authority_key, authority_key_cmp, authority_keys_total, fed_authority}
+pub use Rattle.iref_model.specs.AuthorityKey.{authority_key, authority_key_cmp, authority_keys_total}
 pub use Rattle.iref_model.specs.AuthoritySteps.{with_host, with_port, with_user_info}
 pub use Rattle.iref_model.specs.ComponentSteps.{with_authority, with_authority_step, with_fragment, with_new_normal_path, with_normal_path, with_path, with_path_step, with_query, with_scheme}
 pub use Rattle.iref_model.specs.CountedEquality.{IsCountedAnswer, items_compared, paths_compared, segments_read}
 pub use Rattle.iref_model.specs.DotSegments.{dot_segments_removed, RemovesDotSegments}
 pub use Rattle.iref_model.specs.Guard.{guarded, guarded_list}
 pub use Rattle.iref_model.specs.HostNumbers.{groups_of, groups_text, ipv4_text, ipv6_host_text, ipv6_text, literal_value, longest_run, run_start}
-pub use Rattle.iref_model.specs.Key.{are_alike, AreAlike, fed_reference, key, key_cmp}
+pub use Rattle.iref_model.specs.Key.{are_alike, AreAlike, key, key_cmp}
 pub use Rattle.iref_model.specs.NormalList.{counted, excess, is_dot_dot, is_name, normal, normal_segments, open_parents, stays_before}
 pub use Rattle.iref_model.specs.NormalReading.{first_left, GivesFirst, GivesLast, items_left, last_left, NormalRest, open_before, staying_before, whole_rest}
 pub use Rattle.iref_model.specs.PathFunctions.{directory, directory_text, segment_count}
-pub use Rattle.iref_model.specs.PathHash.{fed_from_the_back, fed_path}
 pub use Rattle.iref_model.specs.PathKey.{path_key, path_key_cmp, path_keys_total}
 pub use Rattle.iref_model.specs.PathSteps.{appended, cleared, joined, lazy_appended, lazy_pushed, normalized, popped, pushed, replaced}
 pub use Rattle.iref_model.specs.PortNumbers.{port_text, port_value}
@@ -38,7 +37,6 @@ pub mod PathSuffix
 pub mod DotSegments
 pub mod CountedEquality
 pub mod PathKey
-pub mod PathHash
 pub mod AuthoritySteps
 pub mod AuthorityKey
 pub mod HostNumbers

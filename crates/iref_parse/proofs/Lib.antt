@@ -1,6 +1,4 @@
 pub mod AsciiLemmas
-pub mod BufferLemmas
-pub mod PieceLemmas
 pub mod DecodedLemmas
 pub mod ScanLemmas
 pub mod DigitLemmas

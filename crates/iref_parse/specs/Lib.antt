@@ -2,7 +2,7 @@
 pub use Rattle.iref_grammar.specs.Authority.{after_bracketed, bracketed, read_authority, read_host_and_port}
 pub use Rattle.iref_grammar.specs.ComponentTexts.{AreComponents, spell_components}
 pub use Rattle.iref_grammar.specs.Grammar.{colon, hash_sign, is_not_percent, question_mark, slash}
-pub use Rattle.iref_grammar.specs.Keys.{fed_bytes, is_same_text, text_order}
+pub use Rattle.iref_grammar.specs.Keys.{is_same_text, text_order}
 pub use Rattle.iref_grammar.specs.ComponentOffsets.{range_from, offsets_in}
 pub use Rattle.iref_grammar.specs.Reference.{hierarchy, is_reference, read_reference, spell}
 pub use Rattle.iref_grammar.specs.Rules.{Text}

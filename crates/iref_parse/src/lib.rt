@@ -3,7 +3,6 @@
 
 pub mod ascii;
 pub mod authority;
-pub mod chunk;
 pub mod cut;
 pub mod decoded;
 pub mod dots;

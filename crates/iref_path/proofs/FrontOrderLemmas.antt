@@ -1,5 +1,5 @@
 -- Lists of segments that are compared from the front.
-use Rattle.std.proofs.Common.{◌≡◌, false, List, [], ◌∷◌, ◌++◌, refl, sym, ap, ◌∙◌, arith, Equal}
+use Rattle.std.proofs.Common.{◌≡◌, List, [], ◌∷◌, ◌++◌, refl, sym, ap, ◌∙◌, arith, Equal}
 use Rattle.std.proofs.lemmas.List.{map-append}
 use Rattle.std.specs.Ordering.{ordering_then}
 use Rattle.percent_encoding.specs.Percent.{percent_decode}
@@ -7,13 +7,9 @@ use Rattle.std.proofs.lemmas.Map.Text.{is_eq-slice_cmp}
 use Rattle.std.proofs.lemmas.Slice.Eq.{bytes_eq-Decides}
 use Rattle.std.specs.Cmp.Lexicographic.{slice_cmp}
 use Rattle.iref_grammar.specs.Keys.{text_order}
-use Rattle.iref_grammar.specs.PathValue.{read_path, is_one_empty}
 use Rattle.iref_grammar.specs.Rules.{Text}
-use Rattle.iref_model.specs.NormalList.{normal_segments}
-use Rattle.iref_parse.specs.Dots.{is_some_dotted}
 use Rattle.iref_path.specs.Pieces.{ShareFront}
 use Rattle.iref_path.proofs.OrderLemmas.{decoded}
-use Rattle.iref_path.proofs.DotlessLemmas.{normal_segments-dotless, whole_text}
 
 -- ---- what both begin with does not count
 
@@ -32,15 +28,3 @@ order_behind_first s t names others below rest same shared =
     sym (same_order front (decoded below) (decoded rest))
     ∙ sym (λ i. slice_cmp text_order ((ap decoded shared.first ∙ map-append percent_decode shared.front below) i) ((ap decoded shared.second ∙ map-append percent_decode shared.front rest) i))
     ∙ sym (ap (λ o. ordering_then o (slice_cmp text_order (decoded names) (decoded others))) same)
-
--- ---- paths without dots
-
--- the segments of a text are not one empty segment
-pub several : (path : Text) → is_one_empty (read_path path).segments ≡ false
-unfolding read_path
-several [] = refl
-several (c ∷ []) = grind arith
-several (c ∷ d ∷ cs) = grind (arith, whole_text)
-
-pub dotless_list : (path : Text) → is_some_dotted (read_path path).segments ≡ false → normal_segments (read_path path) ≡ (read_path path).segments
-dotless_list path h = grind (arith, normal_segments-dotless, several)

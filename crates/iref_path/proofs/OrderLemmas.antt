@@ -1,14 +1,11 @@
 -- Lists that are compared from the back.
-use Rattle.std.proofs.Common.{length-append, ◌≡◌, ℕ, ◌-◌, List, [], ◌∷◌, ◌++◌, length, take, map, fold, arith, true, false, Ordering}
-use Rattle.std.proofs.lemmas.List.{reverse-append, map-append, take_min, length-map, take-map}
+use Rattle.std.proofs.Common.{length-append, ◌≡◌, ℕ, ◌-◌, List, [], ◌∷◌, ◌++◌, length, take, map, arith, true, false, Ordering}
+use Rattle.std.proofs.lemmas.List.{map-append, take_min, length-map, take-map}
 use Rattle.std.proofs.lemmas.Bool.Decides.{nat_tests}
 use Rattle.std.proofs.lemmas.Grind.{common_steps}
 use Rattle.std.specs.Ordering.{bool_cmp, is_ne, nat_cmp, ordering_then}
 use Rattle.std.specs.Cmp.Lexicographic.{slice_cmp}
-use Rattle.std.proofs.lemmas.List.Concat.{flat_map-cons}
-use Rattle.std.specs.Hash.{bool, fed_then, u8}
-use Rattle.iref_grammar.specs.Keys.{fed_bytes, text_order}
-use Rattle.iref_model.specs.PathHash.{fed_from_the_back, fed_path}
+use Rattle.iref_grammar.specs.Keys.{text_order}
 use Rattle.percent_encoding.specs.Percent.{percent_decode}
 use Rattle.iref_grammar.specs.Rules.{Text}
 use Rattle.iref_grammar.specs.PathValue.{PathValue}
@@ -55,12 +52,6 @@ order-cut xs ys us vs n m h k e f =
       ),
     )
 
--- ---- what is hashed from the back
-
-pub fed_before : {S : Type 0} (write : S → List ℕ → S) (s t : S) (xs us : List Text) (x : Text) → xs ≡ us ++ x ∷ [] → t ≡ fold write s (fed_bytes (percent_decode x))
-    → fold write t (fed_from_the_back (decoded us)) ≡ fold write s (fed_from_the_back (decoded xs))
-fed_before write s t xs us x e h = grind (arith, map-append, reverse-append, decoded, fed_then, flat_map-cons)
-
 -- ---- keys
 
 module _ (p q : PathValue) (flags : Ordering) (flags_are : flags ≡ bool_cmp p.absolute q.absolute) where
@@ -71,8 +62,3 @@ module _ (p q : PathValue) (flags : Ordering) (flags_are : flags ≡ bool_cmp p.
   pub lists_decide : (lists : Ordering) → is_ne flags ≡ false → lists ≡ slice_cmp text_order (decoded (normal_segments p)) (decoded (normal_segments q)) → lists ≡ path_key_cmp (path_key p) (path_key q)
   unfolding path_key
   lists_decide lists h e = grind arith
-
-pub fed_key : {S : Type 0} (write : S → List ℕ → S) (s t u v : S) (p : PathValue) (items : List Text) → items ≡ normal_segments p
-    → t ≡ fold write s (bool p.absolute) → u ≡ fold write t (fed_from_the_back (decoded items)) → v ≡ fold write u (u8 255) → v ≡ fold write s (fed_path (path_key p))
-unfolding path_key fed_path
-fed_key write s t u v p items h flag listed ended = grind (arith, fed_then)

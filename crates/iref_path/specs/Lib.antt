@@ -8,7 +8,6 @@ pub use Rattle.iref_grammar.specs.Texts.{is_empty, pieces_at}
 pub use Rattle.iref_model.specs.CountedEquality.{IsCountedAnswer, items_compared}
 pub use Rattle.iref_model.specs.NormalList.{is_dot_dot, is_name, normal_segments}
 pub use Rattle.iref_model.specs.NormalReading.{open_before, staying_before}
-pub use Rattle.iref_model.specs.PathHash.{fed_from_the_back, fed_path}
 pub use Rattle.iref_model.specs.PathKey.{path_key, path_key_cmp}
 pub use Rattle.iref_model.specs.PathSteps.{normalized}
 pub use Rattle.iref_path.specs.Pieces.{pieces_if_some, text_at, value_at}

@@ -1,5 +1,5 @@
 //! What is read from the text of a path (RFC 3986 sections 3.3 and 5.2.4): its ends, its normal
-//! segments from both ends, its comparison and hash by these, and the text of the normalized path;
+//! segments from both ends, its comparison by these, and the text of the normalized path;
 //! and what edits make of such a text.
 #![tactic(auto)]
 

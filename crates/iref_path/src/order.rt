@@ -1,27 +1,24 @@
-//! Order and hash of paths, by their keys. Both take no memory.
+//! The order of paths, by their keys. It takes no memory.
 //!
 //! What two paths have in common up to their last common `/` does not count in their order, if no
 //! `..` follows it. So where no two dots stand side by side behind it, or no segment there begins
 //! with a dot, what follows is compared from the front. Else both normal lists are read from the
-//! back. So is that of a path for its hash, unless no segment begins with a dot.
+//! back.
 
 ghost use Rattle.std.specs.{Cmp.Lexicographic.{slice_cmp}, List.{list_any}};
-ghost use Rattle.std.specs.Prelude.{◌≡◌, ◌∷◌, ◌<◌, ◌≤◌, IfSome, MatchOption, false, fold, length, map};
+ghost use Rattle.std.specs.Prelude.{◌≡◌, ◌∷◌, ◌<◌, ◌≤◌, IfSome, MatchOption, false, length, map};
 ghost use Rattle.percent_encoding.specs.Percent.{percent_decode};
 ghost use Rattle.iref_grammar.specs.{read_path, slash, text_order, Texts.{pieces_at}};
-ghost use Rattle.iref_model.specs.{is_dot_dot, normal_segments, path_key, path_key_cmp, fed_from_the_back, fed_path};
-ghost use Rattle.iref_parse.specs.Dots.{is_some_dotted};
+ghost use Rattle.iref_model.specs.{is_dot_dot, normal_segments, path_key, path_key_cmp};
 ghost use Rattle.iref_path.specs.{Named.{begins_with_dot_slash, named, rank}, Pieces.{pieces_if_some}};
-ghost use Rattle.iref_path.specs.NormalItems.{IsSound, decoded_left};
 
 use crate::compare_lists::{compare_lists, items_cmp};
 use crate::normal_items::NormalItems;
-use crate::segments::{behind_directory, first_segment, last_segment, split_root};
+use crate::segments::{behind_directory, first_segment, split_root};
 use iref_parse::cut::strip_mark;
-use iref_parse::decoded::{hash_decoded, kept_front};
+use iref_parse::decoded::kept_front;
 use iref_parse::dots::{has_dot_pair, has_dots};
 use std::cmp::Ordering;
-use std::hash::{Hash, Hasher};
 
 /// Whether the path is absolute.
 pub(crate) fn is_absolute(path: &str) -> bool
@@ -198,62 +195,4 @@ pub fn path_texts_cmp(a: &str, b: &str) -> Ordering
         }
     }
     compare_normal(a, b)
-}
-
-// Feeds the hasher the segments, from the last to the first.
-fn hash_segments<H: Hasher>(segments: Option<&str>, state: &mut H)
-    ensures { state.new ≡ fold H.write state.old
-        (fed_from_the_back (map percent_decode (pieces_if_some segments.entry))) }
-{
-    let mut rest = segments;
-    while let Some(text) = rest {
-        let (front, segment) = last_segment(text);
-        hash_decoded(segment, state);
-        rest = front;
-    }
-}
-
-// Feeds the hasher the items that are left, from the last to the first.
-#[tactic(auto, using(crate::proofs::OrderLemmas::fed_before))]
-fn hash_left<H: Hasher>(left: &mut NormalItems<'_>, state: &mut H)
-    requires { IsSound left.old }
-    ensures { state.new ≡ fold H.write state.old (fed_from_the_back (decoded_left left.old)) }
-{
-    while let Some(item) = left.next_back() {
-        hash_decoded(item, state);
-    }
-}
-
-// Whether one of the segments begins with a dot.
-fn is_dotted(segments: Option<&str>) -> bool
-    ensures { result ≡ is_some_dotted (pieces_if_some segments.entry) }
-{
-    match segments {
-        Some(text) => has_dots(text.as_bytes()),
-        None => false,
-    }
-}
-
-// Feeds the hasher the normal list of a path, from the last item to the first.
-#[tactic(auto, using(crate::proofs::FrontOrderLemmas::dotless_list))]
-fn hash_items<H: Hasher>(path: &str, state: &mut H)
-    ensures { state.new ≡ fold H.write state.old
-        (fed_from_the_back (map percent_decode (normal_segments (read_path path.now)))) }
-{
-    let segments = split_root(path).1;
-    if is_dotted(segments) {
-        hash_left(&mut NormalItems::new(path), state);
-    } else {
-        hash_segments(segments, state);
-    }
-}
-
-/// Feeds the hasher the key of the path of a text.
-#[tactic(auto, using(crate::proofs::OrderLemmas::fed_key))]
-pub fn hash_path_text<H: Hasher>(path: &str, state: &mut H)
-    ensures { state.new ≡ fold H.write state.old (fed_path (path_key (read_path path.now))) }
-{
-    is_absolute(path).hash(state);
-    hash_items(path, state);
-    state.write_u8(0xff);
 }
