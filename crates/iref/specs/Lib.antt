@@ -48,6 +48,7 @@ pub use Rattle.iref_fault.specs.BytePlaces
 pub use Rattle.iref_fault.specs.Printed
 pub use Rattle.iref_fault.specs.Tried
 pub use Rattle.iref_model.specs.Mapping
+pub use Rattle.iref_relativized.specs.Relativized
 pub use Rattle.iref_parse.specs.AuthoritySlices
 pub use Rattle.iref_parse.specs.ReferenceSlices
 pub use Rattle.iref_component.specs.Makers
@@ -80,3 +81,4 @@ pub use Rattle.iref_reference.specs.References
 pub use Rattle.iref_reference.specs.Relatives
 pub use Rattle.iref_reference.specs.Resolutions
 pub use Rattle.iref_reference.specs.ReferenceSuffixes
+pub use Rattle.iref_reference.specs.Shortest

@@ -16,7 +16,7 @@ use Rattle.iref_model.specs.NormalList.{normal_segments, excess, staying_names}
 use Rattle.iref_model.specs.PathKey.{path_key}
 use Rattle.iref_model.proofs.Rows.{utf8}
 use Rattle.iref_splice.specs.Fed.{fed_text, waiting_after, written_after}
-use Rattle.iref_canonical.specs.Canonical.{encoded, canonical_relative, canonical, canonical_text}
+use Rattle.iref_canonical.specs.Canonical.{encoded, canonical_relative, canonical}
 use Rattle.iref_canonical.specs.Hashed.{fed_lone_path, fed_reference}
 use Rattle.iref_canonical.specs.HashedParts.{fed_part}
 
