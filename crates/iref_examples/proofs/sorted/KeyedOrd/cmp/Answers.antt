@@ -1,4 +1,4 @@
-use Rattle.std.proofs.Common.{◌≡◌, arith}
+use Rattle.std.proofs.Common.{◌≡◌, ap, arith, ◌∙◌}
 use Rattle.iref.specs.Key.{key_cmp}
 use Rattle.iref.specs.Keys.{text_order}
 use Rattle.iref.specs.References.{key_of_reference}
@@ -10,5 +10,6 @@ pub returns : goal.returns
 returns g c =
     let a = key_of_reference c.self.inside.reference in
     let b = key_of_reference c.other.inside.reference in
-    let same : text_order (sort_key a) (sort_key b) ≡ key_cmp a b = text_order-sort_key a b in
-    grind (arith, same, c.cmp.ensures, c.self.invariant, c.other.invariant, c.self.view_is, c.other.view_is)
+    let by_keys : c.cmp.result ≡ key_cmp a b =
+    c.cmp.ensures ∙ ap (λ k. text_order k c.other.inside.key.now) c.self.invariant ∙ ap (text_order (sort_key a)) c.other.invariant ∙ text_order-sort_key a b in
+    grind (arith, by_keys, c.self.view_is, c.other.view_is)
