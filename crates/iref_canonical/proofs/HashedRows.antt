@@ -43,7 +43,7 @@ fed_references = refl
 
 fed_paths : map fed_as_path ("/a/../b" ∷ "1%3A2" ∷ ".." ∷ "" ∷ []) ≡ map ended ("/b" ∷ "./1:2" ∷ "../" ∷ "" ∷ [])
 unfolding read_path path_key normal_segments excess staying_names percent_decode encode_utf8 canonical encoded canonical_relative percent_encode_byte
-    is_path_char guarded spell spell_path fed_reference fed_text waiting_after written_after
+    is_path_char is_user_info_char is_reg_name_char guarded spell spell_path fed_reference fed_text waiting_after written_after
 fed_paths = refl
 
 fed_parts : map fed_as_part ("ab" ∷ "a%62" ∷ "%25%FF" ∷ "" ∷ []) ≡ map ended ("ab" ∷ "ab" ∷ "%25%FF" ∷ "" ∷ [])
