@@ -47,6 +47,7 @@ impl<'a, R: HeldRule, C: CharSet> Model for Composed<'a, R, C> {
 
 impl<'a, R: HeldRule, C: CharSet> Composed<'a, R, C> {
     // What these components spell, if its length can be counted.
+    #[inline(always)]
     fn of_components(components: MeasuredReference<'a>) -> Result<Self, Memory>
         requires { IsComposed (R.test C.tests) components }
         ensures { IfOk result (λ composed.
@@ -147,6 +148,7 @@ impl<'a, R: HeldRule, C: CharSet> Composed<'a, R, C> {
 
     /// An owned value of the text, such as `s:g`. The room is taken once. Out of memory, it returns
     /// `Memory`.
+    #[inline(always)]
     pub fn to_owned(&self, alloc: Global) -> Result<ReferenceBuf<R, C>, Memory>
         ensures { IfOk result (λ owner. reference_buf_text owner ≡ self.now) }
     {
