@@ -42,6 +42,7 @@ extern "C" {
 #define IREF_SECOND_INVALID 2 /* the first of two texts is in its rule, and the second is not in its own */
 #define IREF_SHORT 3          /* the buffer is too short: *needed is the length that serves */
 #define IREF_MEMORY 4         /* memory was refused, or a length cannot be counted */
+#define IREF_NONE 5           /* nothing is as the call asks: iref_relativized alone answers this */
 
 /* Where a component stands in its text. */
 struct iref_range {
@@ -139,6 +140,13 @@ uint32_t iref_resolve(const char *reference, size_t reference_length, const char
  * `http://a/b/c/d` to `http://a/b` it is `../../b`. What differs in scheme or authority is given whole. */
 uint32_t iref_relative(const char *target, size_t target_length, const char *base, size_t base_length, char *out,
                        size_t out_length, size_t *needed);
+
+/* The shortest reference that resolves against a base to the target, character for character, both IRIs (RFC 3986 sections
+ * 4.2 and 5.2). From `http://a/b/c/d` to `http://a/b/` it is `..`, to `http://a/` it is `/`, and to `http://g/x` it is
+ * `//g/x`. IREF_NONE where no reference does: from `http://a/c` none leads to `http://a/x/../b`, since resolution removes
+ * the segments `.` and `..`. */
+uint32_t iref_relativized(const char *target, size_t target_length, const char *base, size_t base_length, char *out,
+                          size_t out_length, size_t *needed);
 
 /* The reference of URIs that a reference of IRIs maps to (RFC 3987 section 3.1): each byte beyond ASCII becomes its escape.
  * `http://a/\u00E9` gives `http://a/%C3%A9`. It equals the one that it maps. */

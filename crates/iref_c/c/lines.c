@@ -36,6 +36,10 @@ static uint32_t relative(const struct text *texts, char *out, size_t out_length,
     return iref_relative(texts[0].at, texts[0].length, texts[1].at, texts[1].length, out, out_length, needed);
 }
 
+static uint32_t shortest(const struct text *texts, char *out, size_t out_length, size_t *needed) {
+    return iref_relativized(texts[0].at, texts[0].length, texts[1].at, texts[1].length, out, out_length, needed);
+}
+
 static uint32_t to_uri(const struct text *texts, char *out, size_t out_length, size_t *needed) {
     return iref_to_uri(texts[0].at, texts[0].length, out, out_length, needed);
 }
@@ -60,8 +64,8 @@ struct verb {
 };
 
 static const struct verb VERBS[] = {
-    {"normal", 1, normal},       {"resolve", 2, resolve}, {"relative", 2, relative}, {"to-uri", 1, to_uri},
-    {"canonical", 1, canonical}, {"key", 1, sort_key},    {"range", 1, sort_range}};
+    {"normal", 1, normal},       {"resolve", 2, resolve}, {"relative", 2, relative},   {"to-uri", 1, to_uri},
+    {"canonical", 1, canonical}, {"key", 1, sort_key},    {"range", 1, sort_range},    {"relativized", 2, shortest}};
 
 #define VERB_COUNT (sizeof VERBS / sizeof *VERBS)
 
@@ -179,7 +183,8 @@ static void check_written(const struct verb *verb, const struct text *texts) {
         status = check_length(verb, texts, needed, &again);
     }
     if (status != IREF_OK) {
-        expect(status == IREF_INVALID || (status == IREF_SECOND_INVALID && verb->texts == 2), verb->name, texts[0]);
+        int of_two = status == IREF_SECOND_INVALID && verb->texts == 2, is_none = status == IREF_NONE && verb->call == shortest;
+        expect(status == IREF_INVALID || of_two || is_none, verb->name, texts[0]);
         return;
     }
     for (size_t less = 0; less <= 2 && less <= needed; less++) {
@@ -364,6 +369,29 @@ static int is_below(struct text reference, struct text other) {
     return is_in;
 }
 
+/* The shortest references that resolve to a text: target, base, reference, which is NULL where there is none. */
+static void check_shortest(void) {
+    static const char *const ROWS[][3] = {{"http://a/b/c/g", "http://a/b/c/d;p?q", "g"},
+                                          {"http://a/b/c/d;p?q", "http://a/b/c/d;p?q", ""},
+                                          {"http://a/b/c/d;p?y", "http://a/b/c/d;p?q", "?y"},
+                                          {"http://a/", "http://a/b/c/d;p?q", "/"},
+                                          {"http://g/x", "http://a/b/c/d;p?q", "//g/x"},
+                                          {"http://a/%7Eb/c", "http://a/~b/d", "/%7Eb/c"},
+                                          {"http://a/x/../b?r", "http://a/x/../b?q", "?r"},
+                                          {"http://a/x/../b", "http://a/c", NULL},
+                                          {"http://h/a/..", "http://h/b", NULL}};
+    for (size_t i = 0; i < sizeof ROWS / sizeof *ROWS; i++) {
+        struct text texts[] = {{ROWS[i][0], strlen(ROWS[i][0])}, {ROWS[i][1], strlen(ROWS[i][1])}};
+        char out[64];
+        size_t needed = 0;
+        uint32_t status = shortest(texts, out, sizeof out, &needed);
+        if (ROWS[i][2])
+            expect(status == IREF_OK && is_text((struct text){out, needed}, ROWS[i][2]), "another reference", texts[0]);
+        else
+            expect(status == IREF_NONE && needed == 0, "a reference where there is none", texts[0]);
+    }
+}
+
 /* What is below a reference and what is not. */
 static void check_below(void) {
     static const char *const BELOW[] = {"http://h/docs", "http://h/docs/a", "http://h/docs?q", "HTTP://h/x/../docs/"};
@@ -418,6 +446,7 @@ static void check_bytes(void) {
     }
     check_known();
     check_below();
+    check_shortest();
     check(&empty, 1);
     expect(iref_hash(empty.at, empty.length, &hash) == IREF_OK, "the empty text is no reference", empty);
 }

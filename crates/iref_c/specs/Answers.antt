@@ -1,10 +1,10 @@
 -- What the calls answer: a status, and what they leave in what the caller lends them.
-use Rattle.std.specs.Prelude.{◌≡◌, ℕ, ⊤, ◌<◌, ◌≤◌, ◌++◌, ◌⊎◌, length, drop}
+use Rattle.std.specs.Prelude.{◌≡◌, ℕ, ⊤, ◌<◌, ◌≤◌, ◌++◌, ◌⊎◌, Option, None, Some, length, drop}
 use Rattle.iref.specs.Characters.{iri_chars}
 use Rattle.iref.specs.Grammar.{IsUriReference}
 use Rattle.iref.specs.Reference.{ReferenceValue, read_reference}
 use Rattle.iref.specs.Rules.{InUtf8, Rule, Text}
-use Rattle.iref_c.specs.declared.status.TheConstants.{OK, INVALID, SECOND_INVALID, SHORT, MEMORY}
+use Rattle.iref_c.specs.declared.status.TheConstants.{OK, INVALID, SECOND_INVALID, SHORT, MEMORY, NONE}
 
 -- A call on two texts, of which each is in its rule or not: where both are, it is done. Else its status says which is the
 -- first that is not, and all stays as it was. A call on one text has a second that always is.
@@ -48,4 +48,15 @@ IsRefused before after needed_before needed status = (status ≡ MEMORY) × (aft
 abbrev pub Writes : Type 0 → Type 0 → Text → Text → Text → ℕ → ℕ → ℕ → Type 0
 Writes valid other_valid text before after needed_before needed status =
     Answers valid other_valid (IsWritten text before after needed status ⊎ IsRefused before after needed_before needed status)
+    ((after ≡ before) × (needed ≡ needed_before)) status
+
+-- the text is written, if there is one, and else nothing
+abbrev pub IsWrittenIfSome : Option Text → Text → Text → ℕ → ℕ → ℕ → Type 0
+IsWrittenIfSome None before after needed_before needed status = (status ≡ NONE) × (after ≡ before) × (needed ≡ needed_before)
+IsWrittenIfSome (Some text) before after needed_before needed status = IsWritten text before after needed status
+
+-- a call that writes a text, if there is one
+abbrev pub WritesIfSome : Type 0 → Type 0 → Option Text → Text → Text → ℕ → ℕ → ℕ → Type 0
+WritesIfSome valid other_valid found before after needed_before needed status =
+    Answers valid other_valid (IsWrittenIfSome found before after needed_before needed status ⊎ IsRefused before after needed_before needed status)
     ((after ≡ before) × (needed ≡ needed_before)) status

@@ -10,3 +10,5 @@ pub const SECOND_INVALID: u32 = 2;
 pub const SHORT: u32 = 3;
 /// Memory is wanted.
 pub const MEMORY: u32 = 4;
+/// There is nothing that can be written.
+pub const NONE: u32 = 5;

@@ -1,16 +1,16 @@
 //! Texts that are written into the caller's buffer: normal paths, resolution, relative references,
 //! the mapping to URIs, canonical texts, sort keys and their ranges (RFC 3986 section 5.2, RFC 3987
 //! section 3.1).
-ghost use Rattle.std.specs.Prelude.{⊤};
+ghost use Rattle.std.specs.Prelude.{⊤, option_map};
 ghost use Rattle.iref.specs.{Canonical.{canonical_text}, Key.{key}, SortKey.{sort_key}, Mapping.{mapped}};
-ghost use Rattle.iref.specs.SortPrefix.{sort_prefix_end};
+ghost use Rattle.iref.specs.{Relativized.{relativized}, SortPrefix.{sort_prefix_end}};
 ghost use Rattle.iref.specs.{Relative.{relative_to}, Resolution.{resolved}, Characters.{iri_chars}, Contexts.{alone}};
 ghost use Rattle.iref.specs.{Grammar.{IsPath, IsUri}, PathValue.{read_path, spell_path}};
 ghost use Rattle.iref.specs.{Reference.{read_reference, spell}, Rules.{InUtf8}};
-ghost use Rattle.iref_c.specs.Answers.{IsReference, Writes};
+ghost use Rattle.iref_c.specs.Answers.{IsReference, Writes, WritesIfSome};
 ghost use Rattle.iref.specs.PathSteps as step;
 
-use crate::status::{INVALID, MEMORY, SECOND_INVALID};
+use crate::status::{INVALID, MEMORY, NONE, SECOND_INVALID};
 use crate::write::{write_composed, write_text};
 use iref::iri::{IriParts, IriRef, IriRefParts, Path};
 use std::alloc::Global;
@@ -80,6 +80,31 @@ pub extern "C" fn iref_relative(
     };
     match target.relative_to(&base) {
         Ok(reference) => write_composed(&reference, out, needed),
+        Err(_) => MEMORY,
+    }
+}
+
+/// Writes the shortest reference that resolves against a base to a target's very text.
+#[unsafe(no_mangle)]
+pub extern "C" fn iref_relativized(
+    target: &[u8],
+    base: &[u8],
+    out: &mut [u8],
+    needed: &mut usize,
+) -> u32
+    ensures { WritesIfSome (InUtf8 (IsUri iri_chars) target.now) (InUtf8 (IsUri iri_chars) base.now)
+        (option_map spell (relativized (read_reference target.now) (read_reference base.now)))
+        out.old out.new needed.old needed.new result }
+{
+    let Ok(target) = IriParts::from_bytes(target) else {
+        return INVALID;
+    };
+    let Ok(base) = IriParts::from_bytes(base) else {
+        return SECOND_INVALID;
+    };
+    match target.relativized(&base) {
+        Ok(Some(reference)) => write_composed(&reference, out, needed),
+        Ok(None) => NONE,
         Err(_) => MEMORY,
     }
 }
