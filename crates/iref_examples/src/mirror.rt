@@ -1,10 +1,12 @@
-//! Links rewritten relative to their page (RFC 3986 section 5.2).
+//! Links rewritten relative to their page, and the shortest to a text (RFC 3986 section 5.2).
 ghost use Rattle.std.specs.Prelude.{IfOk, MatchOption};
 ghost use Rattle.iref.specs.{Characters.{uri_chars}, Grammar.{IsUri, IsUriReference}, Reference.{read_reference}};
 ghost use Rattle.iref.specs.{Rules.{InUtf8}, References.{reference_buf_value, reference_value}};
-ghost use Rattle.iref_examples.specs.Links.{IsRelinked};
+ghost use Rattle.iref.specs.References.{reference_buf_text, reference_text};
+ghost use Rattle.iref_examples.specs.Links.{IsExactLink, IsRelinked};
 
 use iref::Memory;
+use iref::iri::{Iri, IriRefBuf};
 use iref::uri::{Uri, UriRef, UriRefBuf};
 use std::alloc::Global;
 
@@ -30,4 +32,16 @@ pub fn relinked(alloc: Global, page: &str, link: &str) -> Result<Option<UriRefBu
         return Ok(None);
     };
     Ok(Some(from_page(alloc, page, link)?))
+}
+
+/// The link from a page to the very text of a target, as in RDF: on `http://a/~b/d`,
+/// `http://a/%7Eb/c` becomes `/%7Eb/c`. The target stays whole where no reference leads to it.
+pub fn exact_link(alloc: Global, page: Iri<'_>, target: Iri<'_>) -> Result<IriRefBuf, Memory>
+    ensures { IfOk result (λ link. IsExactLink (reference_text page.entry)
+        (reference_text target.entry) (reference_buf_text link)) }
+{
+    match target.relativized(alloc, page)? {
+        Some(link) => Ok(link),
+        None => target.as_iri_ref().to_owned(alloc),
+    }
 }

@@ -2,7 +2,9 @@
 //! `relink<TAB>page<TAB>link` by the mirror, `prefix<TAB>label<TAB>IRI`, `shorten<TAB>IRI` and
 //! `expand<TAB>label:rest` by the context, `check<TAB>text` by the validator. By `iref` alone:
 //! `canonical<TAB>reference` by the canonical text, `key<TAB>reference` by the digits of the sort
-//! key, `fault<TAB>reference` by where a text is wrong.
+//! key, `fault<TAB>reference` by where a text is wrong, `relativized<TAB>target<TAB>base` of two
+//! IRIs by `=` and the shortest reference from the base to the very target, or `-` where there is
+//! none.
 //!
 //! Lines are those of `iref_cli`: LF alone ends one, and a last one without it counts unless it is
 //! empty. A line that is not UTF-8 is answered `error invalid`, but one of `fault` with where its
@@ -109,6 +111,16 @@ fn key(alloc: Global, reference: &str) -> Result<String, Memory> {
     Ok(format!(in alloc; "ok\t{digits}")?)
 }
 
+fn relativized(alloc: Global, target: &str, base: &str) -> Result<String, Memory> {
+    let (Ok(target), Ok(base)) = (Iri::new(target), Iri::new(base)) else {
+        return owned(alloc, "error invalid");
+    };
+    match target.relativized(alloc, base)? {
+        Some(reference) => Ok(format!(in alloc; "ok\t={reference}")?),
+        None => owned(alloc, "ok\t-"),
+    }
+}
+
 fn fault(alloc: Global, reference: &[u8]) -> Result<String, Memory> {
     match IriRef::fault_of_bytes(reference) {
         Some(fault) => Ok(format!(in alloc; "error\t{fault}")?),
@@ -123,7 +135,8 @@ fn answer_text(alloc: Global, tables: &mut Tables, line: &str) -> Result<String,
         ("put", Some((uri, value))) => put(alloc, &mut tables.cache, uri, value),
         ("get", None) if verb.len() < line.len() => get(alloc, &tables.cache, rest),
         ("relink", Some((page, link))) => relink(alloc, page, link),
-        ("put" | "get" | "relink", _) => owned(alloc, "error command"),
+        ("relativized", Some((target, base))) => relativized(alloc, target, base),
+        ("put" | "get" | "relink" | "relativized", _) => owned(alloc, "error command"),
         ("prefix", Some((label, iri))) => prefix(alloc, &mut tables.context, label, iri),
         ("shorten", None) => shorten(alloc, &tables.context, rest),
         ("expand", None) => expand(alloc, &tables.context, rest),
