@@ -10,7 +10,12 @@ use std::collections::BTreeMap;
 fn main(rt: HostRuntime) -> anyhow::Result<()> {
     let alloc = rt.alloc();
     let mut index = BTreeMap::new(alloc);
-    for text in ["http://h/docsx", "http://h/docs/a", "http://h/docs?q", "http://h/"] {
+    for text in [
+        "http://h/docsx",
+        "http://h/docs/a",
+        "http://h/docs?q",
+        "http://h/",
+    ] {
         let page = Uri::new(text)?;
         index.insert(page.sort_key(alloc)?, page)?;
     }

@@ -11,10 +11,14 @@ fn main(rt: HostRuntime) -> anyhow::Result<()> {
     let authority = uri.authority().map_or("-", |it| it.as_str());
     let query = uri.query().map_or("-", |it| it.as_str());
     let fragment = uri.fragment().map_or("-", |it| it.as_str());
-    println!(rt; "{}, {authority}, {}, {query}, {fragment}", uri.scheme(), uri.path())?;
+    println!(rt;
+        "{}, {authority}, {}, {query}, {fragment}",
+        uri.scheme(),
+        uri.path()
+    )?;
     let user_info = uri.user_info().map_or("-", |it| it.as_str());
     let host = uri.host().map_or("-", |it| it.as_str());
-    let port = uri.port().and_then(|it| it.as_u16()).unwrap_or(80);
+    let port = uri.port().map_or("-", |it| it.as_str());
     println!(rt; "{user_info}, {host}, {port}")?;
     Ok(())
 }

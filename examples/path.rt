@@ -5,7 +5,7 @@
 //!     http://h/c?q
 #![tactic(auto)]
 
-use iref::uri::{Path, Segment, UriBuf};
+use iref::uri::{Segment, UriBuf};
 
 fn main(rt: HostRuntime) -> anyhow::Result<()> {
     let mut uri = UriBuf::new(String::from_str(rt.alloc(), "http://h/a?q")?)?;

@@ -14,8 +14,8 @@ fn main(rt: HostRuntime) -> anyhow::Result<()> {
     let page = Uri::new("http://a/~b/d")?;
     let target = Uri::new("http://a/%7Eb/c")?;
     println!(rt; "{}", target.relative_to(alloc, page.as_uri_ref())?)?;
-    let link = target.relativized(alloc, page)?.context("no reference resolves to it")?;
-    println!(rt; "{link}")?;
+    let link = target.relativized(alloc, page)?;
+    println!(rt; "{}", link.context("no reference resolves to it")?)?;
     let below = UriRef::new("http://a/~b/d/e/f?q")?.suffix(alloc, page.as_uri_ref())?;
     if let Some((path, Some(query), _)) = below {
         println!(rt; "{path}?{query}")?;
