@@ -1,7 +1,13 @@
-//! URIs and IRIs (RFC 3986, RFC 3987).
+//! URIs and IRIs (RFC 3986, RFC 3987): parsed or refused, kept as they are written, compared,
+//! edited, resolved and made relative.
 //!
-//! [`uri`] and [`iri`] have the same types: `Uri` and `UriRef` borrow a text, `UriBuf` and
-//! `UriRefBuf` own one and are edited. A `Uri` has a scheme, a `UriRef` may be relative.
+//! - [`uri`] has [`Uri`] and [`UriRef`], which borrow a text, [`UriBuf`] and [`UriRefBuf`], which own
+//!   one and are edited, and their components, such as `Path`. A `Uri` has a scheme, a `UriRef` may
+//!   be relative.
+//! - [`iri`] has the same types, where characters beyond ASCII are allowed: [`Iri`], [`IriRef`],
+//!   [`IriBuf`] and [`IriRefBuf`].
+//! - [`Fault`] says where a text is wrong, and [`Memory`] that an allocation failed.
+//! - [`SortKey`] is for indexes, [`edits`] for lists of edits, [`compact`] for tables of prefixes.
 //!
 //! `==`, order and hash do not compare characters: `HTTP://a/%7Eb/./c` equals `http://a/~b/c`. They
 //! ignore the case of the scheme, dot segments, and whether a character is escaped, even `%26` and
