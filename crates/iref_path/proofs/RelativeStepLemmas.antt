@@ -1,19 +1,18 @@
 -- The steps from one text of segments to another: what both begin with does not count.
 use Rattle.std.proofs.Common.{length-append, ◌≡◌, ℕ, ◌+◌, ◌*◌, ◌<◌, true, false, List, [], ◌∷◌, ◌++◌, length, refl, arith, append_assoc}
 use Rattle.std.proofs.lemmas.Bool.Decides.{nat_tests}
-use Rattle.std.specs.Prelude.{◌==◌, Bool, bytes_eq, codes, count_by, replicate}
+use Rattle.std.specs.Prelude.{◌==◌, Bool, codes, count_by, replicate}
 use Rattle.std.specs.List.{common_prefix_len, join_with_byte}
 use Rattle.std.proofs.lemmas.List.Splits.{length-slice_split}
 use Rattle.iref_grammar.specs.Rules.{Text}
 use Rattle.iref_grammar.specs.Grammar.{slash}
 use Rattle.iref_grammar.specs.Texts.{all_but_last, pieces_at}
 use Rattle.iref_grammar.proofs.TextLemmas.{join-pieces_at}
-use Rattle.iref_model.specs.PathSuffix.{same_decoded}
 use Rattle.iref_model.proofs.LeadingLemmas.{divided_last}
 use Rattle.iref_model.proofs.PieceLemmas.{some_piece}
 use Rattle.iref_path.specs.Bodies.{parents_then}
 use Rattle.iref_path.specs.Spelling.{each_closed}
-use Rattle.iref_path.specs.StepsBetween.{steps_with, text_steps, text_steps_by_text, text_steps_with}
+use Rattle.iref_path.specs.StepsBetween.{steps_with, text_steps_with}
 use Rattle.iref_path.proofs.SpellLemmas.{length-joined, size-append, size-parents, length-join}
 
 module _ (same : Text → Text → Bool) where
@@ -73,28 +72,4 @@ up-size up path = grind (arith, up_length, size-append, size-parents, some_piece
 
 pub ruleset sizes = (length-join, up_length)
 
--- ---- both ways to compare
-
-module _ (base path : Text) where
-  pub base-decoded : (s : Text) → pieces_at slash base ≡ s ∷ [] → climbed same_decoded base path
-  base-decoded = apart-base same_decoded base path
-
-  pub base-text : (s : Text) → pieces_at slash base ≡ s ∷ [] → climbed bytes_eq base path
-  base-text = apart-base bytes_eq base path
-
-  module _ (s t below rest : Text) (h : pieces_at slash base ≡ s ∷ pieces_at slash below) (k : pieces_at slash path ≡ t ∷ pieces_at slash rest) where
-    pub behind-decoded : same_decoded s t ≡ true → text_steps below rest ≡ text_steps base path
-    behind-decoded = behind same_decoded base path s t below rest h k
-
-    pub first-decoded : same_decoded s t ≡ false → climbed same_decoded base path
-    first-decoded = apart-first same_decoded base path s t below rest h k
-
-    pub behind-text : bytes_eq s t ≡ true → text_steps_by_text below rest ≡ text_steps_by_text base path
-    behind-text = behind bytes_eq base path s t below rest h k
-
-    pub first-text : bytes_eq s t ≡ false → climbed bytes_eq base path
-    first-text = apart-first bytes_eq base path s t below rest h k
-
-pub ruleset apart = (base-decoded, first-decoded, behind-decoded, shorter)
-
-pub ruleset apart_by_text = (base-text, first-text, behind-text, shorter)
+pub ruleset apart = (apart-base, apart-first, behind, shorter)

@@ -14,7 +14,7 @@ ghost use Rattle.iref_path.specs.Spelling as spelling;
 
 use crate::measured_body::Body;
 use crate::normal_items::{NormalItems, survey_items};
-use crate::relative_steps::{behind_roots, first_step, items_between, steps_apart};
+use crate::relative_steps::{Decoded, behind_roots, first_step, items_between, steps_apart};
 use crate::segments::{first_segment, split_root, without_last};
 use crate::spell::{guard_in, measure, write_before};
 use iref_grammar::chars::CharSet;
@@ -210,7 +210,7 @@ impl<'a> MeasuredPath<'a> {
             return MeasuredPath::normalized(ALONE, path);
         }
         if let Some((base, path)) = behind_roots(base, path) {
-            let (up, path) = steps_apart(base, path);
+            let (up, path) = steps_apart::<Decoded>(base, path);
             return MeasuredPath::up(up, path);
         }
         MeasuredPath::relative(items_between(base, path))

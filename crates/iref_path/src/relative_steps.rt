@@ -2,9 +2,13 @@
 //! with is passed over.
 
 ghost use Rattle.std.specs.Prelude.{◌≡◌, ◌+◌, ◌*◌, ◌^◌, ◌<◌, ◌≤◌, ◌++◌, IfNone, IfSome, [], codes, length, replicate};
-ghost use Rattle.iref_grammar.specs.{slash, Texts.{all_but_last, pieces_at}};
+ghost use Rattle.std.specs.Prelude.{Bool, bytes_eq, false};
+ghost use Rattle.iref_grammar.specs.{slash, Rules.{Text}, Texts.{all_but_last, pieces_at}};
 ghost use Rattle.iref_model.specs.{normal_segments, read_path, Relative.{directory_names, steps_between}};
-ghost use Rattle.iref_path.specs.{NormalItems.{IsSound, first_or, normal_left}, StepsBetween.{text_steps, with_last}};
+ghost use Rattle.iref_model.specs.PathSuffix.{same_decoded};
+ghost use Rattle.iref_parse.specs.Dots.{has_dot_segment};
+ghost use Rattle.iref_path.specs.NormalItems.{IsSound, first_or, normal_left};
+ghost use Rattle.iref_path.specs.StepsBetween.{text_steps, text_steps_with, with_last};
 
 use crate::compare_lists::compare_lists;
 use crate::normal_items::NormalItems;
@@ -12,15 +16,48 @@ use crate::segments::{first_segment, slash_count, split_root, without_last};
 use iref_parse::decoded::decoded_eq;
 use iref_parse::dots::has_dots;
 
-// What follows the first segments of both, where these decode to the same bytes and neither is the
-// last.
+/// When two names are the same.
+pub(crate) trait Sameness {
+    /// The test.
+    ghost same: { Text → Text → Bool };
+
+    /// Whether two names are the same.
+    fn are_same(name: &str, other: &str) -> bool
+        ensures { result ≡ same name.now other.now };
+}
+
+/// Names that decode to the same bytes.
+pub(crate) struct Decoded;
+
+/// Names of the same characters.
+pub(crate) struct ByText;
+
+impl Sameness for Decoded {
+    ghost same = { same_decoded };
+
+    fn are_same(name: &str, other: &str) -> bool {
+        decoded_eq(name, other)
+    }
+}
+
+impl Sameness for ByText {
+    ghost same = { bytes_eq };
+
+    fn are_same(name: &str, other: &str) -> bool {
+        name == other
+    }
+}
+
+// What follows the first segments of both, where these are the same and neither is the last.
 #[tactic(auto, using(crate::proofs::RelativeStepLemmas::apart))]
-fn behind_first<'a>(base: &'a str, path: &'a str) -> Option<(&'a str, &'a str)>
-    ensures steps { IfSome result (λ left.
-        text_steps left.0.now left.1.now ≡ text_steps base.now path.now) }
+fn behind_first<'a, S: Sameness>(base: &'a str, path: &'a str) -> Option<(&'a str, &'a str)>
+    ensures steps { IfSome result (λ left. text_steps_with S.same left.0.now left.1.now
+        ≡ text_steps_with S.same base.now path.now) }
+    ensures dotless { IfSome result (λ left.
+        has_dot_segment path.now ≡ false → has_dot_segment left.1.now ≡ false) }
     ensures base { IfSome result (λ left. length left.0.now < length base.now) }
     ensures path { IfSome result (λ left. length left.1.now ≤ length path.now) }
-    ensures apart { IfNone result (text_steps base.now path.now
+    ensures apart { IfNone result (text_steps_with S.same base.now path.now
         ≡ replicate (length (all_but_last (pieces_at slash base.now))) (codes "..")
         ++ pieces_at slash path.now) }
 {
@@ -32,7 +69,7 @@ fn behind_first<'a>(base: &'a str, path: &'a str) -> Option<(&'a str, &'a str)>
     let Some(rest) = rest else {
         return None;
     };
-    if decoded_eq(name, other) {
+    if S::are_same(name, other) {
         Some((below, rest))
     } else {
         None
@@ -42,13 +79,18 @@ fn behind_first<'a>(base: &'a str, path: &'a str) -> Option<(&'a str, &'a str)>
 /// The steps from the directory of `base` to `path`: how many `..`, and the text of the segments
 /// after them. From `a/b/c` to `a/d` they are one `..` and `d`.
 #[tactic(auto, using(crate::proofs::RelativeStepLemmas::climbs))]
-pub(crate) fn steps_apart<'a>(mut base: &'a str, mut path: &'a str) -> (usize, &'a str)
-    ensures steps { text_steps base.entry.now path.entry.now
+pub(crate) fn steps_apart<'a, S: Sameness>(
+    mut base: &'a str,
+    mut path: &'a str,
+) -> (usize, &'a str)
+    ensures steps { text_steps_with S.same base.entry.now path.entry.now
         ≡ replicate result.0 (codes "..") ++ pieces_at slash result.1.now }
+    ensures dotless { has_dot_segment path.entry.now ≡ false
+        → has_dot_segment result.1.now ≡ false }
     ensures up { result.0 ≤ length base.entry.now }
     ensures down { length result.1.now ≤ length path.entry.now }
 {
-    while let Some((below, rest)) = behind_first(base, path) {
+    while let Some((below, rest)) = behind_first::<S>(base, path) {
         base = below;
         path = rest;
     }

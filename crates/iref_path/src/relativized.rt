@@ -1,7 +1,7 @@
 //! The shortest relative path that leads to a path, whose names are compared as they stand (RFC 3986
 //! sections 4.2 and 5.2.3).
 
-ghost use Rattle.std.specs.Prelude.{◌≡◌, ◌+◌, ◌*◌, ◌^◌, ◌<◌, ◌≤◌, ◌++◌, ◌&&◌, ◌||◌, not, IfNone, IfSome, codes};
+ghost use Rattle.std.specs.Prelude.{◌≡◌, ◌+◌, ◌*◌, ◌^◌, ◌<◌, ◌≤◌, ◌++◌, ◌&&◌, ◌||◌, not, IfSome, codes};
 ghost use Rattle.std.specs.{List.{common_prefix_len}, Prelude.{bytes_eq, false, is_some, length, nat_le, replicate}};
 ghost use Rattle.iref_grammar.specs.{slash, alone, read_path, spell_path, segments_of};
 ghost use Rattle.iref_grammar.specs.Texts.{all_but_last, is_empty, pieces_at};
@@ -15,56 +15,10 @@ ghost use Rattle.iref_relativized.specs.RelativizedTests.{is_reachable_from};
 
 use crate::measured::MeasuredPath;
 use crate::normal_items::NormalItems;
-use crate::relative_steps::some_items;
-use crate::segments::{first_segment, slash_count, split_root, without_last};
+use crate::relative_steps::{ByText, some_items, steps_apart};
+use crate::segments::{split_root, without_last};
 use iref_parse::cut::strip_mark;
 use iref_parse::dots::has_dots;
-
-// What follows the first segments of both, where these have the same text and neither is the last.
-#[tactic(auto, using(crate::proofs::RelativeStepLemmas::apart_by_text))]
-fn behind_same<'a>(base: &'a str, path: &'a str) -> Option<(&'a str, &'a str)>
-    ensures steps { IfSome result (λ left.
-        text_steps_by_text left.0.now left.1.now ≡ text_steps_by_text base.now path.now) }
-    ensures dotless { IfSome result (λ left.
-        has_dot_segment path.now ≡ false → has_dot_segment left.1.now ≡ false) }
-    ensures base { IfSome result (λ left. length left.0.now < length base.now) }
-    ensures path { IfSome result (λ left. length left.1.now ≤ length path.now) }
-    ensures apart { IfNone result (text_steps_by_text base.now path.now
-        ≡ replicate (length (all_but_last (pieces_at slash base.now))) (codes "..")
-        ++ pieces_at slash path.now) }
-{
-    let (name, below) = first_segment(base);
-    let Some(below) = below else {
-        return None;
-    };
-    let (other, rest) = first_segment(path);
-    let Some(rest) = rest else {
-        return None;
-    };
-    if name == other {
-        Some((below, rest))
-    } else {
-        None
-    }
-}
-
-// The steps from the directory of `base` to `path`: how many `..`, and the text of the segments after
-// them.
-#[tactic(auto, using(crate::proofs::RelativeStepLemmas::climbs))]
-fn steps_in_text<'a>(mut base: &'a str, mut path: &'a str) -> (usize, &'a str)
-    ensures steps { text_steps_by_text base.entry.now path.entry.now
-        ≡ replicate result.0 (codes "..") ++ pieces_at slash result.1.now }
-    ensures dotless { has_dot_segment path.entry.now ≡ false
-        → has_dot_segment result.1.now ≡ false }
-    ensures up { result.0 ≤ length base.entry.now }
-    ensures down { length result.1.now ≤ length path.entry.now }
-{
-    while let Some((below, rest)) = behind_same(base, path) {
-        base = below;
-        path = rest;
-    }
-    (slash_count(base), path)
-}
 
 // How many items two lists of this number of items each have in common from the front.
 fn common_of_same_length(mut left: NormalItems<'_>, mut right: NormalItems<'_>, len: usize) -> usize
@@ -231,7 +185,7 @@ fn by_texts<'a>(below: &'a str, rest: &'a str) -> MeasuredPath<'a>
     })) }
     ensures measured { IsMeasured result }
 {
-    let (up, rest) = steps_in_text(below, rest);
+    let (up, rest) = steps_apart::<ByText>(below, rest);
     of_text_steps(up, rest)
 }
 

@@ -1,12 +1,14 @@
-use Rattle.std.proofs.Common.{◌≡◌, ◌≤◌, length}
+use Rattle.std.proofs.Common.{◌≡◌, ◌≤◌, false, length}
+use Rattle.iref_parse.specs.Dots.{has_dot_segment}
 use denote.Shadow.{shadow}
 use denote.Text.{Utf8}
-use Rattle.iref_path.specs.StepsBetween.{text_steps}
+use Rattle.iref_path.specs.StepsBetween.{text_steps_with}
 use Rattle.iref_path.proofs.relative_steps.steps_apart.Given as goal
 
 abbrev pub invariant-loop-below : goal.invariant-loop-below
-invariant-loop-below l = record {
-  steps : text_steps l.base l.path ≡ text_steps l.fn.base l.fn.path;
+invariant-loop-below g l = record {
+  steps : text_steps_with g.S.Sameness.same l.base l.path ≡ text_steps_with g.S.Sameness.same l.fn.base l.fn.path;
+  dotless : has_dot_segment l.fn.path ≡ false → has_dot_segment l.path ≡ false;
   base_size : length l.base ≤ length l.fn.base;
   path_size : length l.path ≤ length l.fn.path;
   base_utf8 : shadow (Utf8 l.base);
@@ -14,4 +16,4 @@ invariant-loop-below l = record {
 }
 
 abbrev pub decreases-loop-below : goal.decreases-loop-below
-decreases-loop-below l = length l.base
+decreases-loop-below g l = length l.base
