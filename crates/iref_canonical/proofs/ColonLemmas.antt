@@ -14,9 +14,9 @@ pub contains-last : (front : Text) (last mark : ℕ) → char_set_contains (fron
 contains-last [] last mark = grind (arith, nat_tests)
 contains-last (c ∷ front) last mark = grind (arith, nat_tests, contains-last front last mark)
 
-pub decoded-contains : (text front : Text) (byte mark : ℕ) → SplitsLast text front byte
+pub decoded-contains : (text front : Text) (byte mark : ℕ) → SplitsLast percent_decode text front byte
     → char_set_contains (percent_decode text) mark ≡ (char_set_contains (percent_decode front) mark || byte == mark)
-decoded-contains text front byte mark h = ap (λ t. char_set_contains t mark) h.decoded ∙ contains-last (percent_decode front) byte mark
+decoded-contains text front byte mark h = ap (λ t. char_set_contains t mark) h.split ∙ contains-last (percent_decode front) byte mark
 
 pub nothing-contains : (text : Text) (mark : ℕ) → text ≡ [] → char_set_contains (percent_decode text) mark ≡ false
 nothing-contains text mark e = ap (λ t. char_set_contains (percent_decode t) mark) e ∙ ap (λ t. char_set_contains t mark) percent_decode-nil

@@ -64,20 +64,20 @@ pub ends-at : (text : Text) (at : ℕ) → at + 3 ≡ length text → ends_in_es
 ends-at text at e = ap ends_in_escape (three text at e) ∙ ends-by_places (take at text) _ _ _
 
 pub splits-escape : (text : Text) (at : ℕ) → at + 3 ≡ length text → get_or text at 0 ≡ 37 → digit_value (get_or text (at + 1) 0) < 16 → digit_value (get_or text (at + 2) 0) < 16
-    → SplitsLast text (take at text) (16 * digit_value (get_or text (at + 1) 0) + digit_value (get_or text (at + 2) 0))
+    → SplitsLast percent_decode text (take at text) (16 * digit_value (get_or text (at + 1) 0) + digit_value (get_or text (at + 2) 0))
 splits-escape text at e percent high low =
     let h = get_or text (at + 1) 0 in
     let l = get_or text (at + 2) 0 in
     let escape : is_escape 37 h l ≡ true = grind (arith, nat_tests) in
     record {
-      decoded = ap percent_decode (three text at e ∙ ap (λ b. take at text ++ b ∷ h ∷ l ∷ []) percent) ∙ decode_last_escape (take at text) h l escape;
+      split = ap percent_decode (three text at e ∙ ap (λ b. take at text ++ b ∷ h ∷ l ∷ []) percent) ∙ decode_last_escape (take at text) h l escape;
       shorter = grind (arith, common_steps);
     }
 
-pub splits-byte : (text front : Text) (last : ℕ) → text ≡ front ++ last ∷ [] → ends_in_escape text ≡ false → SplitsLast text front last
+pub splits-byte : (text front : Text) (last : ℕ) → text ≡ front ++ last ∷ [] → ends_in_escape text ≡ false → SplitsLast percent_decode text front last
 splits-byte text front last e h =
     record {
-      decoded = ap percent_decode e ∙ decode_last_byte front last (ap ends_in_escape (sym e) ∙ h);
+      split = ap percent_decode e ∙ decode_last_byte front last (ap ends_in_escape (sym e) ∙ h);
       shorter = grind (arith, common_steps);
     }
 

@@ -16,10 +16,10 @@ unfolding percent_encode
 encode-one set b = append-nil (encode_byte set b)
 
 -- the last byte is encoded last
-pub encoded-last : (set : AsciiSet) (text front : Text) (byte : ℕ) → SplitsLast text front byte
+pub encoded-last : (set : AsciiSet) (text front : Text) (byte : ℕ) → SplitsLast percent_decode text front byte
     → percent_encode set (percent_decode text) ≡ percent_encode set (percent_decode front) ++ encode_byte set byte
 encoded-last set text front byte h =
-    ap (percent_encode set) h.decoded ∙ percent_encode-append set (percent_decode front) (byte ∷ []) ∙ ap (λ t. percent_encode set (percent_decode front) ++ t) (encode-one set byte)
+    ap (percent_encode set) h.split ∙ percent_encode-append set (percent_decode front) (byte ∷ []) ∙ ap (λ t. percent_encode set (percent_decode front) ++ t) (encode-one set byte)
 
 pub encoded-nothing : (set : AsciiSet) (text : Text) → text ≡ [] → percent_encode set (percent_decode text) ≡ []
 encoded-nothing set text e = ap (λ t. percent_encode set (percent_decode t)) e ∙ ap (percent_encode set) percent_decode-nil ∙ percent_encode-nil set

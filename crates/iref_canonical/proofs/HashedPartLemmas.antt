@@ -131,19 +131,13 @@ components-delimit a b h k r s e =
 
 -- ---- from the last byte
 
-pub last-hashed : (front : Text) (byte : ℕ) → hashed_bytes (front ++ byte ∷ []) ≡ hashed_bytes front ++ hashed_byte byte
+last-hashed : (front : Text) (byte : ℕ) → hashed_bytes (front ++ byte ∷ []) ≡ hashed_bytes front ++ hashed_byte byte
 last-hashed front byte = flat_map-append hashed_byte front (byte ∷ []) ∙ ap (λ t. hashed_bytes front ++ t) (append-nil (hashed_byte byte))
 
-pub decoded-last : (text front : Text) (byte : ℕ) → SplitsLast text front byte → hashed_bytes (percent_decode text) ≡ hashed_bytes (percent_decode front) ++ hashed_byte byte
-decoded-last text front byte h = ap hashed_bytes h.decoded ∙ last-hashed (percent_decode front) byte
+pub last-split : (bytes : Text → Text) (text front : Text) (byte : ℕ) → SplitsLast bytes text front byte → hashed_bytes (bytes text) ≡ hashed_bytes (bytes front) ++ hashed_byte byte
+last-split bytes text front byte h = ap hashed_bytes h.split ∙ last-hashed (bytes front) byte
 
-pub decoded-none : (text : Text) → text ≡ [] → hashed_bytes (percent_decode text) ≡ []
-decoded-none text e = ap (λ t. hashed_bytes (percent_decode t)) e ∙ ap hashed_bytes percent_decode-nil
-
-pub lower-last : (front : Text) (byte : ℕ) → hashed_bytes (str_to_ascii_lowercase (front ++ byte ∷ [])) ≡ hashed_bytes (str_to_ascii_lowercase front) ++ hashed_byte (to_ascii_lowercase byte)
-lower-last front byte = ap hashed_bytes (map-append to_ascii_lowercase front (byte ∷ [])) ∙ last-hashed (str_to_ascii_lowercase front) (to_ascii_lowercase byte)
-
-pub ruleset lasts = (last-hashed, decoded-last, lower-last, decoded-none)
+pub ruleset last = (last-split)
 
 -- ---- of a text that stands
 

@@ -11,6 +11,7 @@ pub mod EncodedLemmas
 pub mod SetLemmas
 pub mod PutAuthorityLemmas
 pub mod FutureLiteralLemmas
+pub mod KeyByteLemmas
 pub mod LiteralLengthLemmas
 pub mod SpelledItemLemmas
 pub mod ColonLemmas

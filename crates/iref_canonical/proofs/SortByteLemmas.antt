@@ -16,17 +16,11 @@ use Rattle.iref_canonical.specs.SortBytes.{is_kept}
 
 -- ---- the last byte is put first
 
-pub sorted_last : (front : Text) (last : ℕ) → flat_map sort_byte (front ++ last ∷ []) ≡ flat_map sort_byte front ++ sort_byte last
+sorted_last : (front : Text) (last : ℕ) → flat_map sort_byte (front ++ last ∷ []) ≡ flat_map sort_byte front ++ sort_byte last
 sorted_last front last = flat_map-append sort_byte front (last ∷ []) ∙ ap (λ t. flat_map sort_byte front ++ t) (append-nil (sort_byte last))
 
-pub lower_last : (front : Text) (last : ℕ) → flat_map sort_byte (map to_ascii_lowercase (front ++ last ∷ [])) ≡ flat_map sort_byte (map to_ascii_lowercase front) ++ sort_byte (to_ascii_lowercase last)
-lower_last front last = ap (flat_map sort_byte) (map-append to_ascii_lowercase front (last ∷ [])) ∙ sorted_last (map to_ascii_lowercase front) (to_ascii_lowercase last)
-
-pub decoded_last : (text front : Text) (byte : ℕ) → SplitsLast text front byte → flat_map sort_byte (percent_decode text) ≡ flat_map sort_byte (percent_decode front) ++ sort_byte byte
-decoded_last text front byte h = ap (flat_map sort_byte) h.decoded ∙ sorted_last (percent_decode front) byte
-
-pub decoded_nothing : (text : Text) → text ≡ [] → flat_map sort_byte (percent_decode text) ≡ []
-decoded_nothing text e = ap (λ t. flat_map sort_byte (percent_decode t)) e ∙ ap (flat_map sort_byte) percent_decode-nil
+pub last_split : (bytes : Text → Text) (text front : Text) (byte : ℕ) → SplitsLast bytes text front byte → flat_map sort_byte (bytes text) ≡ flat_map sort_byte (bytes front) ++ sort_byte byte
+last_split bytes text front byte h = ap (flat_map sort_byte) h.split ∙ sorted_last (bytes front) byte
 
 pub sort_text-is : (bytes : Text) → sort_text bytes ≡ flat_map sort_byte bytes ++ 0 ∷ []
 unfolding sort_text
@@ -74,4 +68,4 @@ pub option-lower : (scheme : Option Text) → sort_option sort_text (option_map 
 option-lower None = refl
 option-lower (Some text) = ap (λ t. 1 ∷ t) (sort_text-lower text)
 
-pub ruleset lasts = (sort_text-is, sorted_last, lower_last, decoded_last, decoded_nothing)
+pub ruleset last = (sort_text-is, last_split)

@@ -15,9 +15,9 @@ ends_in_escape (b ∷ c ∷ []) = false
 ends_in_escape (b ∷ c ∷ d ∷ []) = is_escape b c d
 ends_in_escape (b ∷ c ∷ d ∷ e ∷ rest) = ends_in_escape (c ∷ d ∷ e ∷ rest)
 
--- the text decodes to what this shorter front decodes to, and then to this byte
-pub record SplitsLast (text front : Text) (byte : ℕ) : Type 0 where
-  pub decoded : percent_decode text ≡ percent_decode front ++ byte ∷ []
+-- of the bytes of a text, those of this shorter front, and then this byte
+pub record SplitsLast (bytes : Text → Text) (text front : Text) (byte : ℕ) : Type 0 where
+  pub split : bytes text ≡ bytes front ++ byte ∷ []
   pub shorter : length front < length text
 
 -- neither `%` nor a byte that is escaped under the set

@@ -40,7 +40,7 @@ pub const QUERY: AsciiSet = ascii_set!(SEGMENT.remove(b'/').remove(b'?'));
 #[tactic(auto, using(crate::proofs::DecodedLemmas::splits, std::proofs::lemmas::Grind::common_steps))]
 fn split_last_escape(text: &[u8]) -> Option<(&[u8], u8)>
     ensures { MatchOption result (ends_in_escape text.now ≡ false)
-        (λ split. SplitsLast text.now split.0.now split.1) }
+        (λ split. SplitsLast percent_decode text.now split.0.now split.1) }
 {
     let at = text.len().checked_sub(3)?;
     if text[at] != b'%' {
@@ -56,7 +56,7 @@ fn split_last_escape(text: &[u8]) -> Option<(&[u8], u8)>
 #[tactic(auto, using(crate::proofs::DecodedLemmas::splits))]
 pub fn split_last_decoded(text: &[u8]) -> Option<(&[u8], u8)>
     ensures { MatchOption result (text.now ≡ [])
-        (λ split. SplitsLast text.now split.0.now split.1) }
+        (λ split. SplitsLast percent_decode text.now split.0.now split.1) }
 {
     let (last, front) = text.split_last()?;
     match split_last_escape(text) {

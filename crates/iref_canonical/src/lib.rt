@@ -7,6 +7,7 @@ pub mod canonical_laws;
 pub mod encoded;
 pub mod hashed;
 pub mod hashed_laws;
+pub mod key_bytes;
 pub mod length_laws;
 mod literal;
 pub mod owned;

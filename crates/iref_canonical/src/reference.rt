@@ -1,23 +1,19 @@
 //! The canonical text of a reference, from the components of its text (RFC 3986 section 5.3).
-ghost use Rattle.std.specs.Prelude.{◌≡◌, ◌∷◌, [], codes, bytes_eq, fold, length, option_map, IfOk};
+ghost use Rattle.std.specs.Prelude.{◌≡◌, ◌∷◌, [], codes, option_map};
 ghost use Rattle.std.specs.{Option.{option_copied}, Str.{str_to_ascii_lowercase}};
 ghost use Rattle.iref_grammar.specs.{Grammar.{colon}, Texts.{part_then, then_part}};
 ghost use Rattle.iref_model.specs.Key.{key};
 ghost use Rattle.iref_parse.specs.ReferenceSlices.{value_of};
 ghost use Rattle.iref_canonical.specs.{Canonical.{canonical_text}, CanonicalParts.{encoded_authority, encoded_query}};
 ghost use Rattle.iref_canonical.specs.CanonicalReferences.{IsMeasured, measured_canonical};
-ghost use Rattle.iref_splice.specs.Fed.{fed_text};
 
 use crate::authority::put_authority;
 use crate::encoded::{QUERY, put_encoded, put_lower};
 use crate::path::CanonicalPath;
 use iref_grammar::context::PathContext;
 use iref_parse::split::ReferenceSlices;
-use iref_splice::Memory;
-use iref_splice::backward::{Backward, Compared, Count, Filled};
-use iref_splice::fed::Fed;
-use std::alloc::{AllocError, Global};
-use std::hash::Hasher;
+use iref_splice::backward::Backward;
+use iref_splice::unwritten::Unwritten;
 
 /// The canonical text of a reference, not written yet.
 #[derive(Clone, Copy)]
@@ -80,70 +76,19 @@ impl<'a> CanonicalReference<'a> {
             path: CanonicalPath::new(context, slices.path),
         }
     }
+}
 
-    // Puts the text.
+impl Unwritten for CanonicalReference<'_> {
+    ghost text = { measured_canonical };
+
+    ghost is_sound = { IsMeasured };
+
     #[tactic(auto, unfolding(crate::specs::CanonicalReferences::measured_canonical))]
-    fn put<O: Backward>(&self, out: &mut O)
-        requires measured { IsMeasured self.now }
-        requires fits { O.fits out.old (measured_canonical self.now) }
-        ensures { out.new ≡ O.after out.old (measured_canonical self.now) }
-    {
+    fn put<O: Backward>(&self, out: &mut O) {
         put_marked(out, b"#", self.slices.fragment);
         put_marked(out, b"?", self.slices.query);
         self.path.put(out);
         put_marked_authority(out, self.slices.authority);
         put_scheme(out, self.slices.scheme);
-    }
-
-    /// How many bytes the text has, if they can be counted.
-    pub fn len(&self) -> Result<usize, AllocError>
-        requires { IsMeasured self.now }
-        ensures { IfOk result (λ len. len ≡ length (measured_canonical self.now)) }
-    {
-        let mut count = Count::new();
-        self.put(&mut count);
-        count.len()
-    }
-
-    // Fills the buffer with the text.
-    fn fill(&self, buffer: &mut [u8])
-        requires measured { IsMeasured self.now }
-        requires len { length buffer.old ≡ length (measured_canonical self.now) }
-        ensures { buffer.new ≡ measured_canonical self.now }
-    {
-        let mut filled = Filled::new(buffer);
-        self.put(&mut filled);
-    }
-
-    /// The bytes of the text. The room is taken once.
-    pub fn bytes(&self, alloc: Global) -> Result<Vec<u8>, Memory>
-        requires { IsMeasured self.now }
-        ensures { IfOk result (λ bytes. bytes.items ≡ measured_canonical self.now) }
-    {
-        let mut bytes = vec![in alloc; 0u8; self.len()?]?;
-        self.fill(&mut bytes);
-        Ok(bytes)
-    }
-
-    /// Feeds the text to a hasher.
-    #[tactic(auto, unfolding(iref_splice::specs::Fed::fed_text))]
-    pub fn feed<H: Hasher>(&self, state: &mut H)
-        requires { IsMeasured self.now }
-        ensures { state.new ≡ fold H.write state.old (fed_text (measured_canonical self.now)) }
-    {
-        let mut fed = Fed::new(state);
-        self.put(&mut fed);
-        fed.end();
-    }
-
-    /// Whether these are the bytes of the text.
-    #[tactic(auto, unfolding(crate::specs::CanonicalReferences::measured_canonical))]
-    pub fn is(&self, bytes: &[u8]) -> bool
-        requires { IsMeasured self.now }
-        ensures { result ≡ bytes_eq bytes.now (measured_canonical self.now) }
-    {
-        let mut compared = Compared::new(bytes);
-        self.put(&mut compared);
-        compared.is_whole()
     }
 }

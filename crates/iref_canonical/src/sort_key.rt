@@ -1,6 +1,6 @@
 //! The sort key of a reference, from its text and the slices of its components.
 
-ghost use Rattle.std.specs.Prelude.{◌≡◌, ◌++◌, IfOk, OnErr, OnOk, length};
+ghost use Rattle.std.specs.Prelude.{◌≡◌, ◌++◌, IfOk, OnErr, OnOk};
 ghost use Rattle.iref_grammar.specs.{ComponentTexts.{spell_components}, Reference.{read_reference}};
 ghost use Rattle.iref_model.specs.Key.{key};
 ghost use Rattle.iref_parse.specs.ReferenceSlices.{texts_of, value_of};
@@ -13,8 +13,9 @@ use crate::sort_short::{LONGEST, ROOM, put_short};
 use iref_parse::split::ReferenceSlices;
 use iref_parse::unescaped::is_kept;
 use iref_splice::Memory;
-use iref_splice::backward::{Backward, Count, Filled};
-use std::alloc::{AllocError, Global};
+use iref_splice::backward::Backward;
+use iref_splice::unwritten::Unwritten;
+use std::alloc::Global;
 
 /// The sort key of a reference, not written yet.
 #[derive(Clone, Copy)]
@@ -58,57 +59,21 @@ impl<'a> SortedReference<'a> {
         self.items.put(out);
         out.put(&[u8::from(self.absolute)]);
     }
+}
 
-    // Puts the sort key.
+impl Unwritten for SortedReference<'_> {
+    ghost text = { λ r. sort_key (sorted_key r) };
+
+    ghost is_sound = { IsSorted };
+
     #[tactic(auto, unfolding(crate::specs::SortKey::sort_key))]
-    fn put<O: Backward>(&self, out: &mut O)
-        requires sorted { IsSorted self.now }
-        requires fits { O.fits out.old (sort_key (sorted_key self.now)) }
-        ensures { out.new ≡ O.after out.old (sort_key (sorted_key self.now)) }
-    {
+    fn put<O: Backward>(&self, out: &mut O) {
         put_option(out, self.slices.fragment, self.kept);
         put_option(out, self.slices.query, self.kept);
         self.put_path(out);
         put_authority_option(out, self.slices.authority, self.kept);
         put_scheme(out, self.slices.scheme);
     }
-
-    // How many bytes the sort key has, if they can be counted.
-    fn len(&self) -> Result<usize, AllocError>
-        requires { IsSorted self.now }
-        ensures { IfOk result (λ len. len ≡ length (sort_key (sorted_key self.now))) }
-    {
-        let mut count = Count::new();
-        self.put(&mut count);
-        count.len()
-    }
-
-    // Fills the buffer with the sort key.
-    fn fill(&self, buffer: &mut [u8])
-        requires sorted { IsSorted self.now }
-        requires len { length buffer.old ≡ length (sort_key (sorted_key self.now)) }
-        ensures { buffer.new ≡ sort_key (sorted_key self.now) }
-    {
-        let mut filled = Filled::new(buffer);
-        self.put(&mut filled);
-    }
-}
-
-// Appends the sort key of a reference to a vector, component by component. The room is taken once.
-fn append_long(text: &str, slices: ReferenceSlices<'_>, out: &mut Vec<u8>) -> Result<(), Memory>
-    requires value { value_of slices ≡ read_reference text.now }
-    requires texts { texts_of slices ≡ spell_components (read_reference text.now) }
-    ensures ok { OnOk result (out.new.items
-        ≡ out.old.items ++ sort_key (key (read_reference text.now))) }
-    ensures err { OnErr result (out.new.items ≡ out.old.items) }
-{
-    let sorted = SortedReference::new(text, slices);
-    let len = sorted.len()?;
-    let start = out.len();
-    let end = start.checked_add(len).ok_or(AllocError)?;
-    out.resize(end, 0)?;
-    sorted.fill(&mut out[start..]);
-    Ok(())
 }
 
 /// Appends the sort key of a reference to a vector, from the reference's text and the slices of its
@@ -131,7 +96,7 @@ pub fn append_sort_key(
             return Ok(());
         }
     }
-    append_long(text, slices, out)
+    SortedReference::new(text, slices).append_to(out)
 }
 
 /// The sort key of a reference, from the reference's text and the slices of its components. The room
@@ -147,7 +112,5 @@ pub fn sort_key(alloc: Global, text: &str, slices: ReferenceSlices<'_>) -> Resul
             return Ok(Vec::from_slice(alloc, &buffer[..end])?);
         }
     }
-    let mut bytes = Vec::new(alloc);
-    append_long(text, slices, &mut bytes)?;
-    Ok(bytes)
+    SortedReference::new(text, slices).to_bytes(alloc)
 }

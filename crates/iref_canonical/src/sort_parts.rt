@@ -9,37 +9,10 @@ ghost use Rattle.iref_canonical.specs.SortBytes.{is_kept, are_kept_parts};
 ghost use Rattle.iref_canonical.specs.SortKey.{sort_authority, sort_option, sort_text};
 ghost use Rattle.iref_canonical.specs.SortedReferences.{key_of_authority};
 
-use crate::sort_text::{put_byte, put_text};
+use crate::key_bytes::{Lower, Same};
+use crate::sort_text::{put_bytes, put_text};
 use iref_parse::authority::split_parts;
 use iref_splice::backward::Backward;
-
-// Puts a text as it stands, byte by byte, and its end.
-#[tactic(auto, using(crate::proofs::SortByteLemmas::lasts))]
-fn put_raw<O: Backward>(out: &mut O, text: &str)
-    requires { O.fits out.old (sort_text text.now) }
-    ensures { out.new ≡ O.after out.old (sort_text text.now) }
-{
-    out.put(&[0]);
-    let mut rest = text.as_bytes();
-    while let Some((last, front)) = rest.split_last() {
-        put_byte(out, *last);
-        rest = front;
-    }
-}
-
-// Puts a text in lower case, byte by byte, and its end.
-#[tactic(auto, using(crate::proofs::SortByteLemmas::lasts))]
-fn put_lower<O: Backward>(out: &mut O, text: &str)
-    requires { O.fits out.old (sort_text (str_to_ascii_lowercase text.now)) }
-    ensures { out.new ≡ O.after out.old (sort_text (str_to_ascii_lowercase text.now)) }
-{
-    out.put(&[0]);
-    let mut rest = text.as_bytes();
-    while let Some((last, front)) = rest.split_last() {
-        put_byte(out, last.to_ascii_lowercase());
-        rest = front;
-    }
-}
 
 /// Puts a scheme in lower case, which may not be there.
 pub(crate) fn put_scheme<O: Backward>(out: &mut O, scheme: Option<&str>)
@@ -50,7 +23,7 @@ pub(crate) fn put_scheme<O: Backward>(out: &mut O, scheme: Option<&str>)
 {
     match scheme {
         Some(scheme) => {
-            put_lower(out, scheme);
+            put_bytes::<Lower, _>(out, scheme);
             out.put(&[1]);
         }
         None => out.put(&[0]),
@@ -64,7 +37,7 @@ fn put_port<O: Backward>(out: &mut O, port: Option<&str>)
 {
     match port {
         Some(port) => {
-            put_raw(out, port);
+            put_bytes::<Same, _>(out, port);
             out.put(&[1]);
         }
         None => out.put(&[0]),

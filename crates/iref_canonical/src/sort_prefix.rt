@@ -1,7 +1,7 @@
 //! The sort prefix of a reference, with which the sort keys of all below it begin, from its text and the
 //! slices of its components.
 
-ghost use Rattle.std.specs.{BTreeMap.Range.{IsLeBy}, Prelude.{◌≡◌, ◌++◌, IfOk, OnErr, OnOk, length}};
+ghost use Rattle.std.specs.{BTreeMap.Range.{IsLeBy}, Prelude.{◌≡◌, ◌++◌, IfOk, OnErr, OnOk}};
 ghost use Rattle.iref_grammar.specs.{ComponentTexts.{spell_components}, Keys.{text_order}, Reference.{read_reference}};
 ghost use Rattle.iref_model.specs.Key.{key};
 ghost use Rattle.iref_parse.specs.ReferenceSlices.{texts_of, value_of};
@@ -13,8 +13,9 @@ use crate::sort_key::SortedReference;
 use crate::sort_parts::{put_authority_option, put_scheme};
 use iref_parse::split::ReferenceSlices;
 use iref_splice::Memory;
-use iref_splice::backward::{Backward, Count, Filled};
-use std::alloc::{AllocError, Global};
+use iref_splice::backward::Backward;
+use iref_splice::unwritten::Unwritten;
+use std::alloc::Global;
 use std::ops::Range;
 
 impl SortedReference<'_> {
@@ -28,37 +29,25 @@ impl SortedReference<'_> {
         self.items.put_open(out);
         out.put(&[u8::from(self.absolute)]);
     }
+}
 
-    // Puts the sort prefix.
+// The sort prefix of a reference, not written yet.
+#[derive(Clone, Copy)]
+struct SortPrefix<'a> {
+    reference: SortedReference<'a>,
+}
+
+impl Unwritten for SortPrefix<'_> {
+    ghost text = { λ p. sort_prefix (sorted_key p.reference) };
+
+    ghost is_sound = { λ p. IsSorted p.reference };
+
     #[tactic(auto, unfolding(crate::specs::SortPrefix::sort_prefix))]
-    fn put_prefix<O: Backward>(&self, out: &mut O)
-        requires sorted { IsSorted self.now }
-        requires fits { O.fits out.old (sort_prefix (sorted_key self.now)) }
-        ensures { out.new ≡ O.after out.old (sort_prefix (sorted_key self.now)) }
-    {
-        self.put_path_prefix(out);
-        put_authority_option(out, self.slices.authority, self.kept);
-        put_scheme(out, self.slices.scheme);
-    }
-
-    // How many bytes the sort prefix has, if they can be counted.
-    fn prefix_len(&self) -> Result<usize, AllocError>
-        requires { IsSorted self.now }
-        ensures { IfOk result (λ len. len ≡ length (sort_prefix (sorted_key self.now))) }
-    {
-        let mut count = Count::new();
-        self.put_prefix(&mut count);
-        count.len()
-    }
-
-    // Fills the buffer with the sort prefix.
-    fn fill_prefix(&self, buffer: &mut [u8])
-        requires sorted { IsSorted self.now }
-        requires len { length buffer.old ≡ length (sort_prefix (sorted_key self.now)) }
-        ensures { buffer.new ≡ sort_prefix (sorted_key self.now) }
-    {
-        let mut filled = Filled::new(buffer);
-        self.put_prefix(&mut filled);
+    fn put<O: Backward>(&self, out: &mut O) {
+        let SortedReference { slices, kept, .. } = self.reference;
+        self.reference.put_path_prefix(out);
+        put_authority_option(out, slices.authority, kept);
+        put_scheme(out, slices.scheme);
     }
 }
 
@@ -75,13 +64,8 @@ pub fn append_sort_prefix(
         ≡ out.old.items ++ sort_prefix (key (read_reference text.now))) }
     ensures err { OnErr result (out.new.items ≡ out.old.items) }
 {
-    let sorted = SortedReference::new(text, slices);
-    let len = sorted.prefix_len()?;
-    let start = out.len();
-    let end = start.checked_add(len).ok_or(AllocError)?;
-    out.resize(end, 0)?;
-    sorted.fill_prefix(&mut out[start..]);
-    Ok(())
+    let reference = SortedReference::new(text, slices);
+    SortPrefix { reference }.append_to(out)
 }
 
 /// The range of the sort keys of a reference and of all below it, from the reference's text and the

@@ -11,6 +11,7 @@ use iref_grammar::chars::CharSet;
 use iref_parse::split::ReferenceSlices;
 use iref_splice::Memory;
 use iref_splice::fed::feed_text;
+use iref_splice::unwritten::Unwritten;
 use std::alloc::Global;
 use std::hash::Hasher;
 
@@ -24,7 +25,7 @@ pub fn canonical_text<C: CharSet>(
     ensures { IfOk result (λ copy.
         string_bytes copy ≡ canonical_text (key (value_of slices.entry))) }
 {
-    let bytes = CanonicalReference::new(slices).bytes(alloc)?;
+    let bytes = CanonicalReference::new(slices).to_bytes(alloc)?;
     // A canonical text is ASCII, so no byte is read again.
     Ok(unsafe { String::from_utf8_unchecked(bytes) })
 }

@@ -6,7 +6,8 @@ ghost use Rattle.iref_canonical.specs.HashedParts.{fed_part};
 ghost use Rattle.iref_component.specs.Comparisons.{Comparison, by_parts, by_segments, by_text};
 
 use crate::authority_parts::parts_of;
-use iref_canonical::hashed::{feed_decoded, feed_lower, feed_path, feed_same};
+use iref_canonical::hashed::{feed, feed_path};
+use iref_canonical::key_bytes::{Decoded, Lower, Same};
 use iref_grammar::chars::CharSet;
 use iref_parse::decoded::decoded_cmp;
 use iref_path::counted::path_texts_eq;
@@ -57,7 +58,7 @@ impl Key for DecodedBytes {
     }
 
     fn feed<C: CharSet, H: Hasher>(text: &str, state: &mut H) {
-        feed_decoded(text, state);
+        feed::<Decoded, H>(text, state);
     }
 }
 
@@ -76,7 +77,7 @@ impl Key for LowerCase {
     }
 
     fn feed<C: CharSet, H: Hasher>(text: &str, state: &mut H) {
-        feed_lower(text, state);
+        feed::<Lower, H>(text, state);
     }
 }
 
@@ -91,7 +92,7 @@ impl Key for SameText {
     }
 
     fn feed<C: CharSet, H: Hasher>(text: &str, state: &mut H) {
-        feed_same(text, state);
+        feed::<Same, H>(text, state);
     }
 }
 

@@ -9,5 +9,6 @@ pub mod fed;
 pub mod out_of_memory;
 pub mod target;
 pub mod text;
+pub mod unwritten;
 
 pub use out_of_memory::Memory;

@@ -1,0 +1,90 @@
+//! Texts that are not written yet: they are counted, written, hashed or compared.
+ghost use Rattle.std.specs.Prelude.{◌≡◌, ◌++◌, IfOk, OnErr, OnOk, bytes_eq, fold, length};
+ghost use Rattle.iref_grammar.specs.Rules.{Text};
+ghost use Rattle.iref_splice.specs.Fed.{fed_text};
+
+use crate::backward::{Backward, Compared, Count, Filled};
+use crate::fed::Fed;
+use crate::out_of_memory::Memory;
+use std::alloc::{AllocError, Global};
+use std::hash::Hasher;
+
+/// A text that is not written yet.
+pub trait Unwritten {
+    /// The text.
+    ghost text: { Self → Text };
+
+    /// What has been found of it is right.
+    ghost is_sound: { Self → Type 0 };
+
+    /// Puts the text.
+    fn put<O: Backward>(&self, out: &mut O)
+        requires sound { is_sound self.now }
+        requires fits { O.fits out.old (text self.now) }
+        ensures { out.new ≡ O.after out.old (text self.now) };
+
+    /// How many bytes the text has, if they can be counted.
+    fn count(&self) -> Result<usize, AllocError>
+        requires { is_sound self.now }
+        ensures { IfOk result (λ len. len ≡ length (text self.now)) }
+    {
+        let mut count = Count::new();
+        self.put(&mut count);
+        count.len()
+    }
+
+    /// Fills the buffer with the text.
+    fn fill(&self, buffer: &mut [u8])
+        requires sound { is_sound self.now }
+        requires len { length buffer.old ≡ length (text self.now) }
+        ensures { buffer.new ≡ text self.now }
+    {
+        let mut filled = Filled::new(buffer);
+        self.put(&mut filled);
+    }
+
+    /// The bytes of the text. The room is taken once.
+    fn to_bytes(&self, alloc: Global) -> Result<Vec<u8>, Memory>
+        requires { is_sound self.now }
+        ensures { IfOk result (λ bytes. bytes.items ≡ text self.now) }
+    {
+        let mut bytes = vec![in alloc; 0u8; self.count()?]?;
+        self.fill(&mut bytes);
+        Ok(bytes)
+    }
+
+    /// Appends the text to a vector. The room is taken once.
+    fn append_to(&self, out: &mut Vec<u8>) -> Result<(), Memory>
+        requires { is_sound self.now }
+        ensures ok { OnOk result (out.new.items ≡ out.old.items ++ text self.now) }
+        ensures err { OnErr result (out.new.items ≡ out.old.items) }
+    {
+        let len = self.count()?;
+        let start = out.len();
+        let end = start.checked_add(len).ok_or(AllocError)?;
+        out.resize(end, 0)?;
+        self.fill(&mut out[start..]);
+        Ok(())
+    }
+
+    /// Feeds the text to a hasher.
+    #[tactic(auto, unfolding(crate::specs::Fed::fed_text))]
+    fn feed<H: Hasher>(&self, state: &mut H)
+        requires { is_sound self.now }
+        ensures { state.new ≡ fold H.write state.old (fed_text (text self.now)) }
+    {
+        let mut fed = Fed::new(state);
+        self.put(&mut fed);
+        fed.end();
+    }
+
+    /// Whether these are the bytes of the text.
+    fn is(&self, bytes: &[u8]) -> bool
+        requires { is_sound self.now }
+        ensures { result ≡ bytes_eq bytes.now (text self.now) }
+    {
+        let mut compared = Compared::new(bytes);
+        self.put(&mut compared);
+        compared.is_whole()
+    }
+}
