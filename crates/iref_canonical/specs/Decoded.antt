@@ -3,7 +3,7 @@ use Rattle.std.specs.Prelude.{◌≡◌, ℕ, ◌<◌, Bool, false, not, ◌&&�
 use Rattle.std.specs.List.{list_all}
 use Rattle.percent_encoding.specs.declared.ascii_set.AsciiSet.{AsciiSet}
 use Rattle.percent_encoding.specs.AsciiSet.{should_percent_encode}
-use Rattle.percent_encoding.specs.Percent.{is_escape, percent_decode}
+use Rattle.percent_encoding.specs.Percent.{is_escape}
 use Rattle.iref_grammar.specs.Grammar.{is_not_percent}
 use Rattle.iref_grammar.specs.Rules.{Text}
 
