@@ -1,5 +1,5 @@
 //! Canonical texts from the texts of references: those with one key have one text.
-ghost use Rattle.std.specs.{Prelude.{◌≡◌, true, bytes_eq, fold, IfOk}, String.{string_bytes}};
+ghost use Rattle.std.specs.{Prelude.{◌≡◌, true, bytes_eq, fold, IfOk, OnErr, OnOk}, String.{string_bytes}};
 ghost use Rattle.iref_grammar.specs.Reference.{IsReadable, is_reference, read_reference};
 ghost use Rattle.iref_model.specs.Key.{key};
 ghost use Rattle.iref_parse.specs.ReferenceSlices.{value_of};
@@ -14,6 +14,7 @@ use iref_splice::fed::feed_text;
 use iref_splice::unwritten::Unwritten;
 use std::alloc::Global;
 use std::hash::Hasher;
+use std::mem;
 
 /// The canonical text of a reference, written from its components: of `HTTP://a/%7Eb`, `http://a/~b`.
 /// The room is taken once.
@@ -28,6 +29,25 @@ pub fn canonical_text<C: CharSet>(
     let bytes = CanonicalReference::new(slices).to_bytes(alloc)?;
     // A canonical text is ASCII, so no byte is read again.
     Ok(unsafe { String::from_utf8_unchecked(bytes) })
+}
+
+/// Writes the canonical text of a reference over a text, from the reference's components: of
+/// `HTTP://a/%7Eb`, `http://a/~b`. The room is taken first: an `Err` changes nothing.
+pub fn write_canonical_text<C: CharSet>(
+    slices: ReferenceSlices<'_>,
+    over: &mut String,
+) -> Result<(), Memory>
+    requires { IsReadable C.tests (value_of slices) }
+    ensures ok { OnOk result (string_bytes over.new
+        ≡ canonical_text (key (value_of slices.entry))) }
+    ensures err { OnErr result (string_bytes over.new ≡ string_bytes over.old) }
+{
+    let empty = String::new(*over.allocator());
+    let mut bytes = mem::replace(over, empty).into_bytes();
+    let written = CanonicalReference::new(slices).write_over(&mut bytes);
+    // A canonical text is ASCII, and what stood there was a text, so no byte is read again.
+    *over = unsafe { String::from_utf8_unchecked(bytes) };
+    written
 }
 
 /// Whether the text of a reference, of which the components are given too, is its canonical text, as

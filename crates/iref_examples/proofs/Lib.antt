@@ -1,4 +1,5 @@
 pub mod BelowLemmas
+pub mod CacheLemmas
 pub mod CheckLemmas
 pub mod ContextLemmas
 pub mod FirstLemmas

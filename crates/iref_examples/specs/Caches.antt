@@ -1,15 +1,17 @@
--- What a map over URIs has for each of them; `value` is what a key of the map is read as.
-use Rattle.std.specs.Prelude.{◌≡◌, Option, Some, if◌then◌else◌}
-use Rattle.std.specs.HashMap.{HashMap}
-use Rattle.std.specs.Map.{lookup}
-use Rattle.iref.specs.Key.{are_alike}
-use Rattle.iref.specs.Reference.{ReferenceValue}
+-- What a map over the canonical texts of URIs has for each URI.
+use Rattle.std.specs.Prelude.{◌≡◌, Option, Some, String, if◌then◌else◌}
+use Rattle.std.specs.HashMap.{HashMap, get_by_text}
+use Rattle.iref.specs.Canonical.{canonical_text}
+use Rattle.iref.specs.Characters.{uri_chars}
+use Rattle.iref.specs.Key.{are_alike, key}
+use Rattle.iref.specs.Reference.{IsReadable, ReferenceValue}
 
-module _ {U V S : Type 0} (value : U → ReferenceValue) where
-  -- what stands under the URI that has the key of this one
-  abbrev pub found : HashMap U V S → U → Option V
-  found cache uri = lookup (λ held. are_alike (value uri) (value held)) cache.entries
+module _ {A V S : Type 0} where
+  -- what stands under the canonical text of the URI that is read as this
+  abbrev pub found : HashMap (String A) V S → ReferenceValue → Option V
+  found cache uri = get_by_text cache (canonical_text (key uri))
 
   -- each spelling of the URI finds what was put, and any other URI what it found before
-  abbrev pub HasPut : HashMap U V S → HashMap U V S → U → V → Type 0
-  HasPut old new uri put = (other : U) → found new other ≡ (if are_alike (value uri) (value other) then Some put else found old other)
+  abbrev pub HasPut : HashMap (String A) V S → HashMap (String A) V S → ReferenceValue → V → Type 0
+  HasPut old new uri put =
+      (other : ReferenceValue) → IsReadable uri_chars other → found new other ≡ (if are_alike uri other then Some put else found old other)

@@ -1,44 +1,44 @@
-//! A map of std over URIs: two spellings of one URI find one entry, such as `HTTP://a/%7Eb/./c` and
-//! `http://a/~b/c`.
-ghost use Rattle.std.specs.{Prelude.{◌≡◌, IfOk, MatchOption, OnErr, OnOk}, Option.{option_copied}};
-ghost use Rattle.std.specs.HashMap.{IsUnchanged};
-ghost use Rattle.iref.specs.{Characters.{uri_chars}, Grammar.{IsUri}, Rules.{InUtf8}};
-ghost use Rattle.iref.specs.References.{reference_buf_text, reference_buf_value};
+//! A map of std over URIs, by their canonical texts: two spellings of one URI find one entry, such as
+//! `HTTP://a/%7Eb/./c` and `http://a/~b/c`.
+ghost use Rattle.std.specs.Prelude.{◌≡◌, IfOk, IsOk, OnErr, OnOk};
+ghost use Rattle.std.specs.{HashMap.{IsUnchanged}, Option.{option_copied}};
+ghost use Rattle.iref.specs.{Canonical.{canonical_text}, Key.{key}};
+ghost use Rattle.iref.specs.References.{reference_text, reference_value};
 ghost use Rattle.iref_examples.specs.Caches.{HasPut, found};
 
 use iref::Memory;
-use iref::uri::UriBuf;
+use iref::uri::Uri;
 use std::alloc::Global;
 use std::collections::HashMap;
 use std::hash::RandomState;
 
-/// Values, each under a URI. The hasher has random keys: with a fixed seed, whoever chooses the URIs
-/// could choose many that have one hash.
-pub type Cache = HashMap<UriBuf, String, RandomState>;
-
-/// The URI of a text; None exactly where the text is no URI.
-pub fn uri_of(alloc: Global, text: &str) -> Result<Option<UriBuf>, Memory>
-    ensures { IfOk result (λ uri. MatchOption uri (¬ (InUtf8 (IsUri uri_chars) text.now))
-        (λ uri. InUtf8 (IsUri uri_chars) text.now × (reference_buf_text uri ≡ text.now))) }
-{
-    match UriBuf::new(String::from_str(alloc, text)?) {
-        Ok(uri) => Ok(Some(uri)),
-        Err(_) => Ok(None),
-    }
-}
+/// Values, each under the canonical text of a URI. The hasher has random keys: with a fixed seed,
+/// whoever chooses the URIs could choose many that have one hash.
+pub type Cache = HashMap<String, String, RandomState>;
 
 /// Puts a value: each spelling of the URI finds it then, and any other URI what it found before.
-pub fn put(cache: &mut Cache, uri: UriBuf, value: String) -> Result<(), Memory>
-    ensures ok { OnOk result (HasPut reference_buf_value cache.old cache.new uri value) }
+pub fn put(alloc: Global, cache: &mut Cache, uri: Uri<'_>, value: String) -> Result<(), Memory>
+    ensures ok { OnOk result (HasPut cache.old cache.new (reference_value uri.entry) value) }
     ensures err { OnErr result (IsUnchanged cache.old cache.new) }
 {
-    cache.insert(uri, value)?;
+    let canonical = uri.canonical(alloc)?;
+    cache.insert(canonical.into_string(), value)?;
     Ok(())
 }
 
-/// The value that was last put under a spelling of the URI.
-pub fn get<'a>(cache: &'a Cache, uri: &UriBuf) -> Option<&'a String>
-    ensures { option_copied result ≡ found reference_buf_value cache.now uri.now }
+/// The value that was last put under a spelling of the URI. The look-up of a URI whose text is
+/// canonical takes no memory; the canonical text of another is written into the buffer, which is used
+/// again.
+pub fn get<'a>(
+    cache: &'a Cache,
+    uri: Uri<'_>,
+    buffer: &mut String,
+) -> Result<Option<&'a String>, Memory>
+    ensures found { IfOk result (λ value.
+        option_copied value ≡ found cache.now (reference_value uri.entry)) }
+    ensures canonical { reference_text uri.entry
+        ≡ canonical_text (key (reference_value uri.entry)) → IsOk result }
 {
-    cache.get(uri)
+    let text = uri.canonical_in(buffer)?;
+    Ok(cache.get(text))
 }

@@ -14,7 +14,8 @@
 use iref::Memory;
 use iref::compact::Prefixes;
 use iref::iri::{Iri, IriRef};
-use iref_examples::cache::{self, Cache, uri_of};
+use iref::uri::Uri;
+use iref_examples::cache::{self, Cache};
 use iref_examples::context::shortened;
 use iref_examples::mirror::relinked;
 use iref_examples::validator::checked;
@@ -28,6 +29,7 @@ use std::str;
 #[derive(Drop)]
 struct Tables {
     cache: Cache,
+    buffer: String,
     context: Prefixes,
 }
 
@@ -36,18 +38,18 @@ fn owned(alloc: Global, text: &str) -> Result<String, Memory> {
 }
 
 fn put(alloc: Global, cache: &mut Cache, uri: &str, value: &str) -> Result<String, Memory> {
-    let Some(uri) = uri_of(alloc, uri)? else {
+    let Ok(uri) = Uri::new(uri) else {
         return owned(alloc, "error invalid");
     };
-    cache::put(cache, uri, owned(alloc, value)?)?;
+    cache::put(alloc, cache, uri, owned(alloc, value)?)?;
     owned(alloc, "ok")
 }
 
-fn get(alloc: Global, cache: &Cache, uri: &str) -> Result<String, Memory> {
-    let Some(uri) = uri_of(alloc, uri)? else {
+fn get(alloc: Global, tables: &mut Tables, uri: &str) -> Result<String, Memory> {
+    let Ok(uri) = Uri::new(uri) else {
         return owned(alloc, "error invalid");
     };
-    match cache::get(cache, &uri) {
+    match cache::get(&tables.cache, uri, &mut tables.buffer)? {
         Some(value) => Ok(format!(in alloc; "={value}")?),
         None => owned(alloc, "-"),
     }
@@ -133,7 +135,7 @@ fn answer_text(alloc: Global, tables: &mut Tables, line: &str) -> Result<String,
     let (verb, rest) = line.split_once('\t').unwrap_or((line, ""));
     match (verb, rest.split_once('\t')) {
         ("put", Some((uri, value))) => put(alloc, &mut tables.cache, uri, value),
-        ("get", None) if verb.len() < line.len() => get(alloc, &tables.cache, rest),
+        ("get", None) if verb.len() < line.len() => get(alloc, tables, rest),
         ("relink", Some((page, link))) => relink(alloc, page, link),
         ("relativized", Some((target, base))) => relativized(alloc, target, base),
         ("put" | "get" | "relink" | "relativized", _) => owned(alloc, "error command"),
@@ -160,6 +162,7 @@ fn answer(alloc: Global, tables: &mut Tables, line: &[u8]) -> Result<String, Mem
 fn main(rt: HostRuntime) -> io::Result<()> {
     let mut tables = Tables {
         cache: HashMap::with_hasher(rt.alloc(), RandomState::new(&rt)?),
+        buffer: String::new(rt.alloc()),
         context: Prefixes::new(rt.alloc()),
     };
     // By blocks: `rt.lines` reads what cannot seek, as a pipe, a byte at a time.

@@ -7,9 +7,10 @@ use Rattle.std.proofs.lemmas.Bool.Decides.{same_from_decides}
 use Rattle.std.proofs.lemmas.Slice.Eq.{bytes_eq-Decides}
 use Rattle.iref_grammar.specs.Characters.{AreAboveAscii, CharTests, uri_chars}
 use Rattle.iref_grammar.specs.Rules.{Text}
-use Rattle.iref_grammar.specs.Reference.{ReferenceValue, is_reference, read_reference}
+use Rattle.iref_grammar.specs.Reference.{IsReadable, ReferenceValue, is_reference, read_reference}
 use Rattle.iref_grammar.proofs.ReferenceRuleLemmas.{Decides-is_uri_reference}
 use Rattle.iref_model.specs.Key.{key, key_cmp}
+use Rattle.iref_model.proofs.MappedReferenceLemmas.{readable_text}
 use Rattle.iref_model.proofs.TieLemmas.{references_tie}
 use Rattle.iref_canonical.specs.Canonical.{canonical_text}
 use Rattle.iref_canonical.proofs.CanonicalKeyLemmas.{scheme-canonical}
@@ -20,6 +21,10 @@ use Rattle.iref_reference.specs.CanonicalTexts.{IsCanonicalTextOf}
 pub key-canonical_text : (set : CharTests) → AreAboveAscii set → (text : Text) → is_reference set text ≡ true
     → key (read_reference (canonical_text (key (read_reference text)))) ≡ key (read_reference text)
 key-canonical_text set above text h = text_keeps_key set above text ((Decides-is_uri_reference set above text).0 h)
+
+-- what is read from the text of a reference is readable
+pub readable-reference : (set : CharTests) → AreAboveAscii set → (text : Text) → is_reference set text ≡ true → IsReadable set (read_reference text)
+readable-reference set above text h = readable_text set above text ((Decides-is_uri_reference set above text).0 h)
 
 -- a canonical text has a scheme exactly if the text has one
 same_presence : (set : CharTests) → AreAboveAscii set → (text : Text) → is_reference set text ≡ true

@@ -1,6 +1,7 @@
 //! Canonical texts of references. Two references are equal exactly if their canonical texts are the
 //! same bytes.
-ghost use Rattle.std.specs.Prelude.{◌≡◌, ◌↔◌, true, bytes_eq, IfOk};
+ghost use Rattle.std.specs.Prelude.{◌≡◌, ◌↔◌, true, bytes_eq, IfOk, IsOk};
+ghost use Rattle.iref_grammar.specs.Reference.{is_reference};
 ghost use Rattle.iref_parse.specs.ReferenceSlices.{texts_of, value_of};
 ghost use Rattle.iref_component.specs.{key, read_reference, spell_components, ReferenceValue, Text};
 ghost use Rattle.iref_canonical.specs.Canonical.{canonical_text};
@@ -11,14 +12,14 @@ ghost use Rattle.iref_reference.specs.References.{reference_buf_text, reference_
 use crate::borrowed::{Reference, Uri, UriRef};
 use crate::owned::ReferenceBuf;
 use iref_canonical::plain::is_plain;
-use iref_canonical::text::{canonical_text, is_canonical};
+use iref_canonical::text::{canonical_text, is_canonical, write_canonical_text};
 use iref_grammar::chars::{CharSet, UriChars};
 use iref_parse::split::{ReferenceSlices, split_reference};
 use iref_reference_text::reference_text::{HeldRule, ReferenceText};
 use iref_splice::Memory;
 use std::alloc::Global;
 
-impl<R: HeldRule, C: CharSet> Reference<'_, R, C> {
+impl<'a, R: HeldRule, C: CharSet> Reference<'a, R, C> {
     /// The reference of the canonical text, which a text comparison finds equal where `==` does: of
     /// `HTTP://a/%7Eb/./c`, `http://a/~b/c`. It equals this one, and of an IRI it is a URI. The
     /// scheme is in lower case (RFC 3986 section 6.2.2.1), dot segments are removed (6.2.2.3), and
@@ -37,6 +38,21 @@ impl<R: HeldRule, C: CharSet> Reference<'_, R, C> {
     {
         let text = self.as_str();
         canonical_of::<R, C>(alloc, text, split_reference(text))
+    }
+
+    /// The canonical text: the text itself where it is canonical, which takes no memory and leaves the
+    /// buffer as it was; else it is written into the buffer in place of what stood there. Of
+    /// `HTTP://a/%7Eb/./c` it is `http://a/~b/c`. A buffer that is used again takes memory only for a
+    /// text that is longer than its room. `Memory` says that this was refused, or that the length
+    /// cannot be counted; the buffer is as it was.
+    pub fn canonical_in(&self, buffer: &'a mut String) -> Result<&'a str, Memory>
+        ensures text { IfOk result (λ text.
+            text.now ≡ canonical_text (key_of_reference self.now)) }
+        ensures canonical { reference_text self.now ≡ canonical_text (key_of_reference self.now)
+            → IsOk result }
+    {
+        let text = self.as_str();
+        canonical_in::<C>(text, split_reference(text), buffer)
     }
 
     /// Whether the text is canonical, as `http://a/~b/c` is and `http://a/%7Eb/c` is not. It takes no
@@ -61,6 +77,19 @@ impl<R: HeldRule, C: CharSet> ReferenceBuf<R, C> {
             key_of_reference_buf copy ≡ key_of_reference_buf self.now) }
     {
         canonical_of::<R, C>(alloc, self.as_str(), self.inner.slices())
+    }
+
+    /// The canonical text, as of the borrowed value: the text itself where it is canonical, else
+    /// written into the buffer in place of what stood there. Of `HTTP://a/%7Eb/./c` it is
+    /// `http://a/~b/c`. `Memory` says that room for it was refused, or that the length cannot be
+    /// counted; the buffer is as it was.
+    pub fn canonical_in<'t>(&'t self, buffer: &'t mut String) -> Result<&'t str, Memory>
+        ensures text { IfOk result (λ text.
+            text.now ≡ canonical_text (key_of_reference_buf self.now)) }
+        ensures canonical { reference_buf_text self.now
+            ≡ canonical_text (key_of_reference_buf self.now) → IsOk result }
+    {
+        canonical_in::<C>(self.as_str(), self.inner.slices(), buffer)
     }
 
     /// Whether the text is canonical, as `http://a/~b/c` is and `http://a/%7Eb/c` is not. It takes no
@@ -92,6 +121,26 @@ fn canonical_of<R: HeldRule, C: CharSet>(
     }
     let copy = canonical_text::<C>(alloc, slices)?;
     Ok(ReferenceBuf::from_inner(ReferenceText::new_unchecked(copy)))
+}
+
+// The canonical text of the text of a reference, of which the components are given too: the text
+// itself where it is canonical, else written into the buffer.
+fn canonical_in<'t, C: CharSet>(
+    text: &'t str,
+    slices: ReferenceSlices<'_>,
+    buffer: &'t mut String,
+) -> Result<&'t str, Memory>
+    requires reference { is_reference C.tests text.now ≡ true }
+    requires slices { value_of slices ≡ read_reference text.now }
+    ensures text { IfOk result (λ canonical.
+        canonical.now ≡ canonical_text (key (read_reference text.now))) }
+    ensures canonical { text.now ≡ canonical_text (key (read_reference text.now)) → IsOk result }
+{
+    if is_canonical::<C>(text, slices) {
+        return Ok(text);
+    }
+    write_canonical_text::<C>(slices, buffer)?;
+    Ok(buffer.as_str())
 }
 
 /// Two references are equal exactly if the texts of their canonical references are the same bytes,

@@ -13,7 +13,7 @@ changed_is_text text change within u first middle close =
     IsUtf8-append (take change.within.start text) (pieces change ++ drop change.within.end text) (IsUtf8-take text change.within.start u within.start)
     (IsUtf8-append (pieces change) (drop change.within.end text) put (IsUtf8-drop text change.within.end u within.end))
 
--- and so is what a change leaves that may be refused
-pub left_is_text : {V E : Type 0} (result : Result V E) (old new : Text) (change : Change) → OnOk result (new ≡ changed old change) → OnErr result (new ≡ old) → IsUtf8 old → IsUtf8 (changed old change) → IsUtf8 new
-left_is_text (Ok v) old new change ok err before after = subst IsUtf8 (sym ok) after
-left_is_text (Err e) old new change ok err before after = subst IsUtf8 (sym err) before
+-- and so is what is left by a step that may be refused
+pub left_is_text : {V E : Type 0} (result : Result V E) (old new made : Text) → OnOk result (new ≡ made) → OnErr result (new ≡ old) → IsUtf8 old → IsUtf8 made → IsUtf8 new
+left_is_text (Ok v) old new made ok err before after = subst IsUtf8 (sym ok) after
+left_is_text (Err e) old new made ok err before after = subst IsUtf8 (sym err) before

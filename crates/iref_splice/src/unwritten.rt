@@ -67,6 +67,17 @@ pub trait Unwritten {
         Ok(())
     }
 
+    /// Writes the text over the bytes of a vector. The room is taken first: an `Err` changes nothing.
+    fn write_over(&self, bytes: &mut Vec<u8>) -> Result<(), Memory>
+        requires { is_sound self.now }
+        ensures ok { OnOk result (bytes.new.items ≡ text self.now) }
+        ensures err { OnErr result (bytes.new.items ≡ bytes.old.items) }
+    {
+        bytes.resize(self.count()?, 0)?;
+        self.fill(bytes.as_mut_slice());
+        Ok(())
+    }
+
     /// Feeds the text to a hasher.
     #[tactic(auto, unfolding(crate::specs::Fed::fed_text))]
     fn feed<H: Hasher>(&self, state: &mut H)

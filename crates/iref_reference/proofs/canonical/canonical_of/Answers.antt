@@ -2,11 +2,9 @@ use Rattle.std.proofs.Common.{◌≡◌, true, ap, sym, subst, ◌∙◌}
 use Rattle.iref_grammar.specs.Characters.{uri_chars}
 use Rattle.iref_grammar.specs.Reference.{IsReadable, read_reference}
 use Rattle.iref_grammar.specs.Rules.{Text}
-use Rattle.iref_grammar.proofs.ReferenceRuleLemmas.{Decides-is_uri_reference}
 use Rattle.iref_model.specs.Key.{key}
-use Rattle.iref_model.proofs.MappedReferenceLemmas.{readable_text}
 use Rattle.iref_canonical.specs.Canonical.{canonical_text}
-use Rattle.iref_reference.proofs.CanonicalLemmas.{in_rule-canonical, key-canonical_text}
+use Rattle.iref_reference.proofs.CanonicalLemmas.{in_rule-canonical, key-canonical_text, readable-reference}
 use Rattle.iref_reference.proofs.canonical.canonical_of.Given.{Over}
 use Rattle.iref_reference.proofs.canonical.canonical_of.Goals as goal
 
@@ -26,7 +24,7 @@ canonical_text-requires g c =
     let above = g.met.C.CharSet.above_ascii in
     let text = c.args.text.now in
     let reference = g.met.R.HeldRule.references set text c.requires.in_rule in
-    subst (IsReadable set) (sym c.requires.slices) (readable_text set above text ((Decides-is_uri_reference set above text).0 reference))
+    subst (IsReadable set) (sym c.requires.slices) (readable-reference set above text reference)
 
 pub new_unchecked-requires : goal.new_unchecked-requires
 new_unchecked-requires g c =
