@@ -1,4 +1,4 @@
-//! Answers lines by the examples: `put<TAB>URI<TAB>value` and `get<TAB>URI` by the cache,
+//! The lines that the examples answer: `put<TAB>URI<TAB>value` and `get<TAB>URI` by the cache,
 //! `relink<TAB>page<TAB>link` by the mirror, `prefix<TAB>label<TAB>IRI`, `shorten<TAB>IRI` and
 //! `expand<TAB>label:rest` by the context, `check<TAB>text` by the validator. By `iref` alone:
 //! `canonical<TAB>reference` by the canonical text, `key<TAB>reference` by the digits of the sort
@@ -6,10 +6,8 @@
 //! IRIs by `=` and the shortest reference from the base to the very target, or `-` where there is
 //! none.
 //!
-//! Lines are those of `iref_cli`: LF alone ends one, and a last one without it counts unless it is
-//! empty. A line that is not UTF-8 is answered `error invalid`, but one of `fault` with where its
-//! reference is not: `fault<TAB>a` and the byte 255 by `not UTF-8 at byte 1`.
-#![tactic(auto)]
+//! A line that is not UTF-8 is answered `error invalid`, but one of `fault` with where its reference
+//! is not: `fault<TAB>a` and the byte 255 by `not UTF-8 at byte 1`.
 
 use iref::Memory;
 use iref::compact::Prefixes;
@@ -19,18 +17,29 @@ use iref_examples::cache::{self, Cache};
 use iref_examples::context::shortened;
 use iref_examples::mirror::relinked;
 use iref_examples::validator::checked;
+use iref_parse::cut::cut_bytes;
 use std::alloc::Global;
 use std::collections::HashMap;
 use std::hash::RandomState;
-use std::io::{self, BufRead, BufReader};
 use std::str;
 
-// What lasts from line to line.
+/// What lasts from line to line.
 #[derive(Drop)]
-struct Tables {
+pub struct Tables {
     cache: Cache,
     buffer: String,
     context: Prefixes,
+}
+
+impl Tables {
+    /// No entries, and a seed for hashes.
+    pub fn new(alloc: Global, seed: RandomState) -> Self {
+        Tables {
+            cache: HashMap::with_hasher(alloc, seed),
+            buffer: String::new(alloc),
+            context: Prefixes::new(alloc),
+        }
+    }
 }
 
 fn owned(alloc: Global, text: &str) -> Result<String, Memory> {
@@ -138,7 +147,6 @@ fn answer_text(alloc: Global, tables: &mut Tables, line: &str) -> Result<String,
         ("get", None) if verb.len() < line.len() => get(alloc, tables, rest),
         ("relink", Some((page, link))) => relink(alloc, page, link),
         ("relativized", Some((target, base))) => relativized(alloc, target, base),
-        ("put" | "get" | "relink" | "relativized", _) => owned(alloc, "error command"),
         ("prefix", Some((label, iri))) => prefix(alloc, &mut tables.context, label, iri),
         ("shorten", None) => shorten(alloc, &tables.context, rest),
         ("expand", None) => expand(alloc, &tables.context, rest),
@@ -146,32 +154,30 @@ fn answer_text(alloc: Global, tables: &mut Tables, line: &str) -> Result<String,
         ("canonical", _) => canonical(alloc, rest),
         ("key", _) => key(alloc, rest),
         ("fault", _) => fault(alloc, rest.as_bytes()),
-        _ => owned(alloc, "error: no command"),
+        _ => owned(alloc, "error command"),
     }
 }
 
-// The answer to a line.
-fn answer(alloc: Global, tables: &mut Tables, line: &[u8]) -> Result<String, Memory> {
+/// Whether the line has a verb of the examples: `expand` has it with one field, and with more that
+/// of `iref_cli`.
+pub fn is_of_examples(line: &[u8]) -> bool {
+    let (verb, fields) = cut_bytes(line, b'\t');
+    let Ok(verb) = str::from_utf8(verb) else {
+        return false;
+    };
+    match (verb, fields) {
+        ("expand", Some(fields)) => !fields.contains(&b'\t'),
+        ("put" | "get" | "relink" | "relativized" | "prefix" | "shorten", _) => true,
+        ("check" | "canonical" | "key" | "fault", _) => true,
+        _ => false,
+    }
+}
+
+/// The answer to a line with a verb of the examples.
+pub fn answer(alloc: Global, tables: &mut Tables, line: &[u8]) -> Result<String, Memory> {
     match (str::from_utf8(line), line.strip_prefix(b"fault\t")) {
         (Ok(text), _) => answer_text(alloc, tables, text),
         (Err(_), Some(reference)) => fault(alloc, reference),
         (Err(_), None) => owned(alloc, "error invalid"),
     }
-}
-
-fn main(rt: HostRuntime) -> io::Result<()> {
-    let mut tables = Tables {
-        cache: HashMap::with_hasher(rt.alloc(), RandomState::new(&rt)?),
-        buffer: String::new(rt.alloc()),
-        context: Prefixes::new(rt.alloc()),
-    };
-    // By blocks: `rt.lines` reads what cannot seek, as a pipe, a byte at a time.
-    let reader = BufReader::new(rt.alloc(), rt.stdin())?;
-    for line in reader.split(rt.alloc(), b'\n') {
-        match answer(rt.alloc(), &mut tables, line?.as_slice()) {
-            Ok(answer) => println!(rt; "{answer}")?,
-            Err(Memory) => println!(rt; "error memory")?,
-        }
-    }
-    Ok(())
 }

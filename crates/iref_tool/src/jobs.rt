@@ -1,0 +1,278 @@
+//! What is done with each line of an input that is one text.
+
+use crate::buffer::push_line;
+use hex::encode;
+use iref::iri::{Iri, IriRef};
+use iref::uri::{Uri, UriRef};
+use iref::{Fault, Memory, SortKey};
+use iref_examples::sorted::sorted;
+use iref_fault::fault::text_of_bytes;
+use std::alloc::Global;
+use std::collections::BTreeSet;
+
+/// Why a line has no answer.
+#[derive(Clone, Copy)]
+pub enum LineFault {
+    /// It is outside its rule.
+    Invalid(Fault),
+    /// No reference resolves to it.
+    NoReference,
+    /// Memory was refused.
+    Memory,
+}
+
+impl From<Memory> for LineFault {
+    fn from(_error: Memory) -> Self {
+        LineFault::Memory
+    }
+}
+
+/// A job that is done with each line.
+pub trait Job {
+    /// Adds what is written for the line.
+    fn answer(&mut self, line: &[u8], out: &mut Vec<u8>) -> Result<(), LineFault>;
+
+    /// Whether what is wrong is the answer, and goes where answers go.
+    fn is_report(&self) -> bool;
+}
+
+impl From<Fault> for LineFault {
+    fn from(fault: Fault) -> Self {
+        LineFault::Invalid(fault)
+    }
+}
+
+// The line as a reference of IRIs.
+fn reference(line: &[u8]) -> Result<IriRef<'_>, Fault> {
+    let text = text_of_bytes(line)?;
+    match IriRef::fault(text) {
+        None => Ok(IriRef::new_unchecked(text)),
+        Some(fault) => Err(fault),
+    }
+}
+
+// The line as an IRI.
+fn iri(line: &[u8]) -> Result<Iri<'_>, Fault> {
+    let text = text_of_bytes(line)?;
+    match Iri::fault(text) {
+        None => Ok(Iri::new_unchecked(text)),
+        Some(fault) => Err(fault),
+    }
+}
+
+/// Whether the line follows its answer, behind a TAB.
+#[derive(Clone, Copy)]
+pub struct Keep(pub bool);
+
+impl Keep {
+    // Adds an answer.
+    fn push(self, answer: &[u8], line: &[u8], out: &mut Vec<u8>) -> Result<(), Memory> {
+        if !self.0 {
+            return push_line(out, answer);
+        }
+        out.extend_from_slice(answer)?;
+        out.push(b'\t')?;
+        push_line(out, line)
+    }
+}
+
+/// What lines are to be.
+#[derive(Clone, Copy)]
+pub enum Rule {
+    /// References of IRIs.
+    IriRef,
+    /// IRIs.
+    Iri,
+    /// References of URIs.
+    UriRef,
+    /// URIs.
+    Uri,
+}
+
+/// Finds the lines that are outside a rule.
+#[derive(Clone, Copy)]
+pub struct Check(pub Rule);
+
+impl Job for Check {
+    fn answer(&mut self, line: &[u8], _out: &mut Vec<u8>) -> Result<(), LineFault> {
+        let fault = match self.0 {
+            Rule::IriRef => IriRef::fault_of_bytes(line),
+            Rule::Iri => Iri::fault_of_bytes(line),
+            Rule::UriRef => UriRef::fault_of_bytes(line),
+            Rule::Uri => Uri::fault_of_bytes(line),
+        };
+        match fault {
+            None => Ok(()),
+            Some(fault) => Err(LineFault::Invalid(fault)),
+        }
+    }
+
+    fn is_report(&self) -> bool {
+        true
+    }
+}
+
+/// Writes canonical texts.
+#[derive(Clone, Copy)]
+pub struct Canonical(pub Keep);
+
+impl Job for Canonical {
+    fn answer(&mut self, line: &[u8], out: &mut Vec<u8>) -> Result<(), LineFault> {
+        let canonical = reference(line)?.canonical(*out.allocator())?;
+        Ok(self.0.push(canonical.as_bytes(), line, out)?)
+    }
+
+    fn is_report(&self) -> bool {
+        false
+    }
+}
+
+/// Writes sort keys, in hexadecimal digits.
+#[derive(Clone, Copy)]
+pub struct Key(pub Keep);
+
+impl Job for Key {
+    fn answer(&mut self, line: &[u8], out: &mut Vec<u8>) -> Result<(), LineFault> {
+        let key = reference(line)?.sort_key(*out.allocator())?;
+        let digits = encode(*out.allocator(), key.as_bytes()).or(Err(Memory))?;
+        Ok(self.0.push(digits.as_bytes(), line, out)?)
+    }
+
+    fn is_report(&self) -> bool {
+        false
+    }
+}
+
+/// Resolves references against a base.
+#[derive(Clone, Copy)]
+pub struct Resolve<'a>(pub Iri<'a>, pub Keep);
+
+impl Job for Resolve<'_> {
+    fn answer(&mut self, line: &[u8], out: &mut Vec<u8>) -> Result<(), LineFault> {
+        let uri = reference(line)?.resolved(*out.allocator(), self.0)?;
+        Ok(self.1.push(uri.as_bytes(), line, out)?)
+    }
+
+    fn is_report(&self) -> bool {
+        false
+    }
+}
+
+/// Writes the shortest references from a base to targets.
+#[derive(Clone, Copy)]
+pub struct Relativize<'a>(pub Iri<'a>, pub Keep);
+
+impl Job for Relativize<'_> {
+    fn answer(&mut self, line: &[u8], out: &mut Vec<u8>) -> Result<(), LineFault> {
+        let Some(reference) = iri(line)?.relativized(*out.allocator(), self.0)? else {
+            return Err(LineFault::NoReference);
+        };
+        Ok(self.1.push(reference.as_bytes(), line, out)?)
+    }
+
+    fn is_report(&self) -> bool {
+        false
+    }
+}
+
+/// Writes the lines below a reference, of which it has the sort prefix.
+#[derive(Drop)]
+pub struct Below {
+    prefix: Vec<u8>,
+    key: Vec<u8>,
+}
+
+impl Below {
+    /// Below this reference.
+    pub fn new(alloc: Global, reference: IriRef<'_>) -> Result<Self, Memory> {
+        let mut prefix = Vec::new(alloc);
+        reference.append_sort_prefix_to(&mut prefix)?;
+        Ok(Below {
+            prefix,
+            key: Vec::new(alloc),
+        })
+    }
+}
+
+impl Job for Below {
+    fn answer(&mut self, line: &[u8], out: &mut Vec<u8>) -> Result<(), LineFault> {
+        let reference = reference(line)?;
+        self.key.clear();
+        reference.append_sort_key_to(&mut self.key)?;
+        if self.key.starts_with(self.prefix.as_slice()) {
+            push_line(out, line)?;
+        }
+        Ok(())
+    }
+
+    fn is_report(&self) -> bool {
+        false
+    }
+}
+
+/// Writes the lines that are equal to none before them.
+#[derive(Drop)]
+pub struct Unique {
+    seen: BTreeSet<SortKey>,
+}
+
+impl Unique {
+    /// Before the first line.
+    pub fn new(alloc: Global) -> Self {
+        Unique {
+            seen: BTreeSet::new(alloc),
+        }
+    }
+}
+
+impl Job for Unique {
+    fn answer(&mut self, line: &[u8], out: &mut Vec<u8>) -> Result<(), LineFault> {
+        let key = reference(line)?.sort_key(*out.allocator())?;
+        if self.seen.insert(key).or(Err(Memory))? {
+            push_line(out, line)?;
+        }
+        Ok(())
+    }
+
+    fn is_report(&self) -> bool {
+        false
+    }
+}
+
+/// Gathers the lines, to be sorted.
+#[derive(Drop)]
+pub struct Sort {
+    text: Vec<u8>,
+}
+
+impl Sort {
+    /// Before the first line.
+    pub fn new(alloc: Global) -> Self {
+        Sort {
+            text: Vec::new(alloc),
+        }
+    }
+
+    /// The lines in order of their keys, those that are equal in the order in which they came.
+    pub fn sorted(&self) -> Result<Vec<IriRef<'_>>, Memory> {
+        let alloc = *self.text.allocator();
+        let mut references = Vec::new(alloc);
+        for line in self.text.split_inclusive(|byte| *byte == b'\n') {
+            if let Ok(reference) = reference(line.strip_suffix(b"\n").unwrap_or(line)) {
+                references.push(reference)?;
+            }
+        }
+        sorted(alloc, references.as_slice())
+    }
+}
+
+impl Job for Sort {
+    fn answer(&mut self, line: &[u8], _out: &mut Vec<u8>) -> Result<(), LineFault> {
+        reference(line)?;
+        Ok(push_line(&mut self.text, line)?)
+    }
+
+    fn is_report(&self) -> bool {
+        false
+    }
+}

@@ -1,0 +1,97 @@
+//! The lines of `iref_cli` and those of the examples, each answered by a line.
+ghost use Rattle.std.specs.Prelude.{◌≡◌};
+
+use crate::buffer::{GATHERED, empty, push_line};
+use crate::examples::{Tables, answer, is_of_examples};
+use crate::input::TakesLines;
+use crate::output::{Output, WriteFailed};
+use iref::Memory;
+use iref_batch::{FromStd, run};
+use std::alloc::Global;
+use std::io::Write;
+
+/// A run as far as it has come.
+#[derive(Drop)]
+pub struct Lines<W> {
+    /// Where answers go.
+    pub out: Output<W>,
+    alloc: Global,
+    tables: Tables,
+    // What is not written yet, and the lines after that which `iref_cli` answers.
+    answers: Vec<u8>,
+    asked: Vec<u8>,
+}
+
+impl<W: Write> Lines<W> {
+    /// Before the first line.
+    pub fn new(alloc: Global, tables: Tables, out: W) -> Self {
+        Lines {
+            out: Output::new(out),
+            alloc,
+            tables,
+            answers: Vec::new(alloc),
+            asked: Vec::new(alloc),
+        }
+    }
+
+    // Writes the answers, and answers the lines that are asked.
+    fn settle(&mut self) -> Result<(), WriteFailed> {
+        self.out.put(self.answers.as_slice())?;
+        empty(&mut self.answers);
+        if self.asked.is_empty() {
+            return Ok(());
+        }
+        if self.out.has_failed() {
+            return Err(WriteFailed);
+        }
+        let mut asked = FromStd::new(self.asked.as_slice());
+        if run(self.alloc, &mut asked, &mut self.out).is_err() {
+            return Err(WriteFailed);
+        }
+        empty(&mut self.asked);
+        Ok(())
+    }
+
+    // Answers at once.
+    fn put_line(&mut self, line: &[u8]) -> Result<(), WriteFailed> {
+        self.settle()?;
+        self.out.put(line)?;
+        self.out.put(b"\n")
+    }
+
+    // Answers a line of the examples.
+    fn take_example(&mut self, line: &[u8]) -> Result<(), WriteFailed> {
+        if !self.asked.is_empty() {
+            self.settle()?;
+        }
+        let Ok(answer) = answer(self.alloc, &mut self.tables, line) else {
+            return self.put_line(b"error memory");
+        };
+        match push_line(&mut self.answers, answer.as_bytes()) {
+            Ok(()) => Ok(()),
+            Err(Memory) => self.put_line(answer.as_bytes()),
+        }
+    }
+}
+
+impl<W: Write> TakesLines for Lines<W> {
+    fn take(&mut self, line: &[u8]) -> Result<(), WriteFailed> {
+        if is_of_examples(line) {
+            self.take_example(line)?;
+        } else if push_line(&mut self.asked, line).is_err() {
+            self.put_line(b"error memory")?;
+        }
+        if self.answers.len().max(self.asked.len()) >= GATHERED {
+            self.settle()?;
+        }
+        Ok(())
+    }
+
+    fn refuse(&mut self) -> Result<(), WriteFailed> {
+        self.put_line(b"error memory")
+    }
+
+    fn pause(&mut self) -> Result<(), WriteFailed> {
+        self.settle()
+    }
+}

@@ -1,0 +1,92 @@
+//! Where answers go, and the status of the program.
+ghost use Rattle.std.specs.Prelude.{is_some};
+
+use iref_batch::{Sink, StreamError};
+use std::io::{self, ErrorKind, Write};
+use std::process::ExitCode;
+
+/// How the program ends; the greatest of all that it met counts.
+#[derive(Clone, Copy, PartialEq, Eq, PartialOrd, Ord)]
+pub enum Status {
+    /// All went well.
+    Well,
+    /// A text or a line is wrong, memory was refused, or a write failed.
+    Wrong,
+    /// The words are wrong, or a file cannot be read.
+    Misused,
+}
+
+impl From<Status> for ExitCode {
+    fn from(status: Status) -> ExitCode {
+        ExitCode::from(match status {
+            Status::Well => 0u8,
+            Status::Wrong => 1,
+            Status::Misused => 2,
+        })
+    }
+}
+
+/// A write failed. The `Output` knows why.
+#[derive(Clone, Copy)]
+pub struct WriteFailed;
+
+/// A writer, and why a write to it has failed.
+#[derive(Drop)]
+pub struct Output<W> {
+    inner: W,
+    failure: Option<io::Error>,
+}
+
+impl<W: Write> Output<W> {
+    /// The writer, before any write.
+    pub fn new(inner: W) -> Self {
+        Output {
+            inner,
+            failure: None,
+        }
+    }
+
+    /// Whether a write has failed.
+    pub fn has_failed(&self) -> bool
+        ensures { result ≡ is_some self.now.failure }
+    {
+        self.failure.is_some()
+    }
+
+    /// Why a write has failed.
+    pub fn failure(&self) -> Option<&io::Error> {
+        self.failure.as_ref()
+    }
+
+    /// Writes all of the bytes.
+    pub fn put(&mut self, bytes: &[u8]) -> Result<(), WriteFailed> {
+        match self.inner.write_all(bytes) {
+            Ok(()) => Ok(()),
+            Err(error) => {
+                self.failure = Some(error);
+                Err(WriteFailed)
+            }
+        }
+    }
+}
+
+impl<W: Write> Sink for Output<W> {
+    ghost contents = { λ s. W.contents s.inner };
+
+    ghost has_failed = { λ s. is_some s.failure };
+
+    /// A write that takes no byte of some has failed.
+    fn write(&mut self, bytes: &[u8]) -> Result<usize, StreamError> {
+        match self.inner.write(bytes) {
+            Ok(n) if n > 0 || bytes.is_empty() => Ok(n),
+            Ok(_) => {
+                self.failure = Some(io::Error::from(ErrorKind::WriteZero));
+                Err(StreamError)
+            }
+            Err(error) => {
+                self.failure = Some(error);
+                Err(StreamError)
+            }
+        }
+    }
+}

@@ -1,0 +1,56 @@
+//! Where a text is wrong, and why, as a person reads it.
+ghost use Rattle.std.specs.Prelude.{◌≡◌};
+
+use iref::{Cause, Component, Fault};
+use std::fmt;
+
+// What a component is called in print.
+fn name(component: Component) -> &'static str {
+    match component {
+        Component::Scheme => "scheme",
+        Component::UserInfo => "user info",
+        Component::Host => "host",
+        Component::Port => "port",
+        Component::Path => "path",
+        Component::Query => "query",
+        Component::Fragment => "fragment",
+    }
+}
+
+/// Why a text is refused, without the place: `invalid host: ' '`, `no scheme`, `not UTF-8`.
+#[derive(Clone, Copy)]
+pub struct Why(pub Fault);
+
+impl fmt::Display for Why {
+    fn fmt<W: fmt::Write>(&self, f: &mut fmt::Formatter<W>) -> fmt::Result {
+        match self.0.cause() {
+            Cause::NoScheme => f.write_str("no scheme"),
+            Cause::NotUtf8 => f.write_str("not UTF-8"),
+            Cause::Invalid(component) => {
+                write!(f, "invalid {}: ", name(component))?;
+                match self.0.found() {
+                    Some(found) => write!(f, "{found:?}"),
+                    None => f.write_str("the text ends"),
+                }
+            }
+        }
+    }
+}
+
+// Whether a character of UTF-8 begins with this byte.
+fn begins_char(byte: u8) -> bool {
+    byte & 0xC0 != 0x80
+}
+
+/// How many characters stand before a byte of a text: of `é b` two before the byte 3.
+pub fn chars_before(text: &[u8], at: usize) -> usize {
+    text.iter()
+        .take(at)
+        .filter(|byte| begins_char(**byte))
+        .count()
+}
+
+/// The column of a byte of a text, counted in characters from 1: of `é b` that of the byte 3 is 3.
+pub fn column(text: &[u8], at: usize) -> usize {
+    chars_before(text, at).saturating_add(1)
+}

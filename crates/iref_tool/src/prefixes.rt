@@ -1,0 +1,67 @@
+//! IRIs made short, and texts expanded, by entries: words `LABEL=IRI`.
+
+use crate::refusal::{Reason, Refusal};
+use iref::compact::{ExpandFault, PrefixFault, Prefixes};
+use iref::iri::Iri;
+use std::alloc::Global;
+
+/// What usage calls an entry.
+const ENTRY: &str = "LABEL=IRI";
+
+// Adds the entry of a word to the table.
+fn insert<'a>(table: &mut Prefixes, word: &'a str) -> Result<(), Refusal<'a>> {
+    let Some((label, text)) = word.split_once('=') else {
+        return Err(Refusal::new(ENTRY, word, Reason::NoEntry));
+    };
+    let iri = match Iri::fault(text) {
+        None => Iri::new_unchecked(text),
+        Some(fault) => {
+            let (kind, start) = ("IRI", word.len().saturating_sub(text.len()));
+            return Err(Refusal::new(ENTRY, word, Reason::Text { kind, start, fault }));
+        }
+    };
+    match table.insert(label, iri) {
+        Ok(()) => Ok(()),
+        Err(PrefixFault::BadLabel(labels)) => Err(Refusal::new(ENTRY, word, Reason::Label(labels))),
+        Err(PrefixFault::Taken) => Err(Refusal::new(ENTRY, word, Reason::Taken)),
+        Err(PrefixFault::Memory) => Err(Refusal::Memory),
+    }
+}
+
+// The table of the entries.
+fn table_of<'a>(alloc: Global, entries: &[&'a str]) -> Result<Prefixes, Refusal<'a>> {
+    let mut table = Prefixes::new(alloc);
+    for entry in entries {
+        insert(&mut table, *entry)?;
+    }
+    Ok(table)
+}
+
+/// The IRI made short by the entry with the longest IRI that fits.
+pub fn compacted<'a>(
+    alloc: Global,
+    iri: Iri<'a>,
+    entries: &[&'a str],
+) -> Result<String, Refusal<'a>> {
+    let table = table_of(alloc, entries)?;
+    match table.compact(iri) {
+        Some(short) => Ok(short.to_text(alloc)?),
+        None => Err(Refusal::new("IRI", iri.as_str(), Reason::NoPrefix)),
+    }
+}
+
+/// The IRI that the text stands for.
+pub fn expanded<'a>(
+    alloc: Global,
+    text: &'a str,
+    entries: &[&'a str],
+) -> Result<String, Refusal<'a>> {
+    let table = table_of(alloc, entries)?;
+    match table.expand(alloc, text) {
+        Ok(iri) => Ok(iri.into_string()),
+        Err(ExpandFault::Memory) => Err(Refusal::Memory),
+        Err(ExpandFault::NoColon) => Err(Refusal::new("TEXT", text, Reason::NoColon)),
+        Err(ExpandFault::UnknownLabel) => Err(Refusal::new("TEXT", text, Reason::UnknownLabel)),
+        Err(ExpandFault::NotAnIri) => Err(Refusal::new("TEXT", text, Reason::NotAnIri)),
+    }
+}

@@ -1,0 +1,141 @@
+//! Words that have no answer, and why.
+
+use crate::output::Status;
+use crate::place::{Why, chars_before};
+use iref::compact::Labels;
+use iref::{Fault, Memory};
+use std::fmt;
+
+/// What is wrong with a word.
+#[derive(Clone, Copy)]
+pub enum Reason {
+    /// It, or what follows its first bytes of this number, is not of this kind.
+    Text {
+        kind: &'static str,
+        start: usize,
+        fault: Fault,
+    },
+    /// It names no edit.
+    NoEdit,
+    /// It names an edit that needs a value.
+    NoValue,
+    /// It names an edit that takes no value.
+    Value,
+    /// It edits a part of an authority, and there is none.
+    NoAuthority,
+    /// It has no `=` after a label.
+    NoEntry,
+    /// Its label is outside this rule.
+    Label(Labels),
+    /// Its label was given before.
+    Taken,
+    /// It has no `:` after a label.
+    NoColon,
+    /// Its label is none of those that were given.
+    UnknownLabel,
+    /// It expands to a text that is no IRI.
+    NotAnIri,
+    /// No prefix fits it.
+    NoPrefix,
+    /// No reference resolves to it.
+    NoReference,
+}
+
+impl fmt::Display for Reason {
+    fn fmt<W: fmt::Write>(&self, f: &mut fmt::Formatter<W>) -> fmt::Result {
+        match self {
+            Reason::Text { kind, fault, .. } => write!(f, "is no {kind}: {}", Why(*fault)),
+            Reason::NoEdit => f.write_str("names no edit"),
+            Reason::NoValue => f.write_str("names an edit that needs =VALUE"),
+            Reason::Value => f.write_str("names an edit that takes no value"),
+            Reason::NoAuthority => f.write_str("edits a part of an authority, and there is none"),
+            Reason::NoEntry => f.write_str("has no ="),
+            Reason::Label(labels) => write!(f, "has a wrong label: {labels}"),
+            Reason::Taken => f.write_str("has a label that was given before"),
+            Reason::NoColon => f.write_str("has no : after a label"),
+            Reason::UnknownLabel => f.write_str("has a label that no LABEL=IRI gives"),
+            Reason::NotAnIri => f.write_str("expands to a text that is no IRI"),
+            Reason::NoPrefix => f.write_str("begins with none of the IRIs of the labels"),
+            Reason::NoReference => f.write_str("is what no reference resolves to"),
+        }
+    }
+}
+
+/// Why there is no answer.
+#[derive(Clone, Copy)]
+pub enum Refusal<'a> {
+    /// This word is wrong, which stands for this argument.
+    Word {
+        argument: &'static str,
+        word: &'a str,
+        reason: Reason,
+    },
+    /// Memory was refused.
+    Memory,
+}
+
+impl From<Memory> for Refusal<'_> {
+    fn from(_error: Memory) -> Self {
+        Refusal::Memory
+    }
+}
+
+impl<'a> Refusal<'a> {
+    /// The word that stands for this argument is wrong.
+    pub fn new(argument: &'static str, word: &'a str, reason: Reason) -> Self {
+        Refusal::Word {
+            argument,
+            word,
+            reason,
+        }
+    }
+
+    /// The status of the program.
+    pub fn status(&self) -> Status {
+        match self {
+            Refusal::Word {
+                reason: Reason::NoEdit | Reason::NoValue | Reason::Value | Reason::NoEntry,
+                ..
+            } => Status::Misused,
+            _ => Status::Wrong,
+        }
+    }
+}
+
+// Writes a word with each control character as U+FFFD, so that none acts on a terminal and each
+// takes a column.
+fn write_word<W: fmt::Write>(f: &mut fmt::Formatter<W>, word: &str) -> fmt::Result {
+    for c in word.chars() {
+        f.write_char(if c.is_control() { '\u{FFFD}' } else { c })?;
+    }
+    Ok(())
+}
+
+/// Two lines, and a third with a caret below the place where there is one: `iref: BASE is no IRI:
+/// invalid host: ' '`, the place in characters, and the word.
+impl fmt::Display for Refusal<'_> {
+    fn fmt<W: fmt::Write>(&self, f: &mut fmt::Formatter<W>) -> fmt::Result {
+        let Refusal::Word {
+            argument,
+            word,
+            reason,
+        } = self
+        else {
+            return f.write_str("iref: out of memory\n");
+        };
+        write!(f, "iref: {argument} {reason}")?;
+        let Reason::Text { start, fault, .. } = reason else {
+            f.write_str("\n    ")?;
+            write_word(f, word)?;
+            return f.write_str("\n");
+        };
+        let before = chars_before(word.as_bytes(), start.saturating_add(fault.at()));
+        write!(f, ", at character {}\n    ", before.saturating_add(1))?;
+        write_word(f, word)?;
+        f.write_str("\n    ")?;
+        for _ in 0..before {
+            f.write_char(' ')?;
+        }
+        f.write_str("^\n")
+    }
+}

@@ -1,0 +1,193 @@
+//! What the words ask for, done.
+
+use crate::examples::Tables;
+use crate::input::{Failure, TakesLines, each_line};
+use crate::jobs::{
+    Below, Canonical, Check, Job, Keep, Key, Relativize, Resolve, Rule, Sort, Unique,
+};
+use crate::lines::Lines;
+use crate::output::{Output, Status};
+use crate::question::{Question, answer, iri, reference};
+use crate::refusal::Refusal;
+use crate::texts::Texts;
+use crate::words::{LineTask, Task};
+use iref::Memory;
+use std::fs;
+use std::hash::RandomState;
+use std::io::{self, ErrorKind, Write};
+use std::process::ExitCode;
+
+/// The status where an output has failed. Nothing is said where nobody reads it any more.
+pub fn output_failed(rt: &HostRuntime, error: &io::Error, status: Status) -> Status {
+    if error.kind() == ErrorKind::BrokenPipe {
+        return status;
+    }
+    let _ = eprintln!(rt; "iref: standard output: {error}");
+    status.max(Status::Wrong)
+}
+
+// The status of a run, whose output may have failed.
+fn ended<W: Write>(rt: &HostRuntime, out: &Output<W>, status: Status) -> Status {
+    match out.failure() {
+        None => status,
+        Some(error) => output_failed(rt, error, status),
+    }
+}
+
+// Prints what is wrong with a word.
+fn refused(rt: &HostRuntime, refusal: &Refusal<'_>) -> Status {
+    let _ = rt.eprint(refusal);
+    refusal.status()
+}
+
+// Prints one answer.
+fn answer_one(rt: &HostRuntime, question: Question<'_>) -> Status {
+    let answer = match answer(rt.alloc(), question) {
+        Ok(answer) => answer,
+        Err(refusal) => return refused(rt, &refusal),
+    };
+    let mut out = Output::new(rt.stdout());
+    if out.put(answer.as_bytes()).is_ok() {
+        let _ = out.put(b"\n");
+    }
+    ended(rt, &out, Status::Well)
+}
+
+// Gives each line of a file away; `-` is standard input.
+fn each_line_of<T: TakesLines>(rt: &HostRuntime, file: &str, to: &mut T) -> Result<(), Failure> {
+    if file == "-" {
+        return each_line(rt.alloc(), &mut rt.stdin(), to);
+    }
+    each_line(rt.alloc(), &mut fs::open(rt, file)?, to)
+}
+
+// Gives each line of a file away, and says why it cannot be read.
+fn read_file<T: TakesLines>(rt: &HostRuntime, file: &str, to: &mut T) -> Option<Status> {
+    match each_line_of(rt, file, to) {
+        Ok(()) => Some(Status::Well),
+        Err(Failure::Write) => None,
+        Err(Failure::Read(error)) => {
+            let _ = eprintln!(rt; "iref: {file}: {error}");
+            Some(Status::Misused)
+        }
+    }
+}
+
+// Does a job with each line of the files: the status, unless a write failed.
+fn each_text<'a, J: Job, W: Write, E: Write>(
+    rt: &HostRuntime,
+    files: &[&'a str],
+    texts: &mut Texts<'a, J, W, E>,
+) -> Option<Status> {
+    if files.is_empty() {
+        return read_file(rt, "-", texts);
+    }
+    let mut status = Status::Well;
+    for file in files {
+        texts.begin(*file);
+        status = status.max(read_file(rt, *file, texts)?);
+    }
+    Some(status)
+}
+
+// Does a job with each line of the files.
+fn do_each<J: Job + Drop>(rt: &HostRuntime, job: J, files: &[&str]) -> Status {
+    let mut texts = Texts::new(rt.alloc(), job, rt.stdout(), rt.stderr());
+    let status = each_text(rt, files, &mut texts).unwrap_or(Status::Well);
+    ended(rt, &texts.out, status.max(texts.status))
+}
+
+// Sorts the lines of the files.
+fn sort(rt: &HostRuntime, files: &[&str]) -> Status {
+    let job = Sort::new(rt.alloc());
+    let mut texts = Texts::new(rt.alloc(), job, rt.stdout(), rt.stderr());
+    let status = each_text(rt, files, &mut texts).unwrap_or(Status::Well);
+    let status = status.max(texts.status);
+    match texts.job.sorted() {
+        Ok(sorted) => {
+            for line in &sorted {
+                if texts.out.put(line.as_bytes()).is_err() || texts.out.put(b"\n").is_err() {
+                    break;
+                }
+            }
+            ended(rt, &texts.out, status)
+        }
+        Err(Memory) => {
+            refused(rt, &Refusal::Memory);
+            status.max(Status::Wrong)
+        }
+    }
+}
+
+// Answers the lines of the files.
+fn answer_lines(rt: &HostRuntime, files: &[&str]) -> io::Result<Status> {
+    let tables = Tables::new(rt.alloc(), RandomState::new(rt)?);
+    let mut lines = Lines::new(rt.alloc(), tables, rt.stdout());
+    if files.is_empty() {
+        let status = read_file(rt, "-", &mut lines).unwrap_or(Status::Well);
+        return Ok(ended(rt, &lines.out, status));
+    }
+    let mut status = Status::Well;
+    for file in files {
+        match read_file(rt, *file, &mut lines) {
+            Some(of_file) => status = status.max(of_file),
+            None => break,
+        }
+    }
+    Ok(ended(rt, &lines.out, status))
+}
+
+// Does a job with each line of the files; else a word of the job is wrong.
+fn run_lines<'a>(
+    rt: &HostRuntime,
+    task: LineTask<'a>,
+    files: &[&'a str],
+) -> Result<Status, Refusal<'a>> {
+    Ok(match task {
+        LineTask::Check { uri, absolute } => {
+            let rule = match (uri, absolute) {
+                (false, false) => Rule::IriRef,
+                (false, true) => Rule::Iri,
+                (true, false) => Rule::UriRef,
+                (true, true) => Rule::Uri,
+            };
+            do_each(rt, Check(rule), files)
+        }
+        LineTask::Canonical { keep } => do_each(rt, Canonical(Keep(keep)), files),
+        LineTask::Key { keep } => do_each(rt, Key(Keep(keep)), files),
+        LineTask::Resolve { base, keep } => {
+            do_each(rt, Resolve(iri("BASE", base)?, Keep(keep)), files)
+        }
+        LineTask::Relativize { base, keep } => {
+            do_each(rt, Relativize(iri("BASE", base)?, Keep(keep)), files)
+        }
+        LineTask::Sort => sort(rt, files),
+        LineTask::Unique => do_each(rt, Unique::new(rt.alloc()), files),
+        LineTask::Below(prefix) => {
+            do_each(
+                rt,
+                Below::new(rt.alloc(), reference("PREFIX", prefix)?)?,
+                files,
+            )
+        }
+        LineTask::Lines => match answer_lines(rt, files) {
+            Ok(status) => status,
+            Err(error) => {
+                let _ = eprintln!(rt; "iref: {error}");
+                Status::Wrong
+            }
+        },
+    })
+}
+
+/// Does what the words ask for.
+pub fn run_task(rt: &HostRuntime, task: Task<'_>) -> ExitCode {
+    let status = match task {
+        Task::One(question) => answer_one(rt, question),
+        Task::Each(task, files) => match run_lines(rt, task, files) {
+            Ok(status) => status,
+            Err(refusal) => refused(rt, &refusal),
+        },
+    };
+    ExitCode::from(status)
+}

@@ -1,0 +1,142 @@
+//! A job done with each line of inputs: what is answered, and what is said of wrong lines.
+
+use crate::buffer::{GATHERED, empty};
+use crate::input::TakesLines;
+use crate::jobs::{Job, LineFault};
+use crate::output::{Output, Status, WriteFailed};
+use crate::place::{Why, column};
+use iref::Memory;
+use std::alloc::Global;
+use std::fmt;
+use std::io::Write;
+
+/// A job as far as it has come.
+#[derive(Drop)]
+pub struct Texts<'a, J, W, E> {
+    /// What is done with each line.
+    pub job: J,
+    /// Where answers go.
+    pub out: Output<W>,
+    /// The status of the program.
+    pub status: Status,
+    err: E,
+    answers: Vec<u8>,
+    notes: Vec<u8>,
+    file: &'a str,
+    number: u64,
+}
+
+// What is said of a wrong line.
+#[derive(Clone, Copy)]
+struct Note<'a> {
+    file: &'a str,
+    number: u64,
+    line: &'a [u8],
+    fault: LineFault,
+}
+
+impl fmt::Display for Note<'_> {
+    fn fmt<W: fmt::Write>(&self, f: &mut fmt::Formatter<W>) -> fmt::Result {
+        write!(f, "{}:{}:", self.file, self.number)?;
+        match self.fault {
+            LineFault::Invalid(fault) => {
+                write!(f, "{}: {}", column(self.line, fault.at()), Why(fault))
+            }
+            LineFault::NoReference => f.write_str(" no reference resolves to this text"),
+            LineFault::Memory => f.write_str(" out of memory"),
+        }
+    }
+}
+
+// Adds a line for what is wrong.
+fn push_note(notes: &mut Vec<u8>, note: &Note<'_>) -> Result<(), Memory> {
+    match writeln!(notes, "{note}") {
+        Ok(()) => Ok(()),
+        Err(_) => Err(Memory),
+    }
+}
+
+impl<'a, J: Job, W: Write, E: Write> Texts<'a, J, W, E> {
+    /// The job, before the first line.
+    pub fn new(alloc: Global, job: J, out: W, err: E) -> Self {
+        Texts {
+            job,
+            out: Output::new(out),
+            status: Status::Well,
+            err,
+            answers: Vec::new(alloc),
+            notes: Vec::new(alloc),
+            file: "-",
+            number: 0,
+        }
+    }
+
+    /// Begins a file.
+    pub fn begin(&mut self, file: &'a str) {
+        self.file = file;
+        self.number = 0;
+    }
+
+    // Says on standard error what is wrong, if that can be written.
+    fn say(&mut self, note: &Note<'_>) {
+        let _ = writeln!(self.err, "{note}");
+    }
+
+    // Notes that a line is wrong.
+    fn note(&mut self, line: &[u8], fault: LineFault) {
+        self.status = self.status.max(Status::Wrong);
+        let note = Note {
+            file: self.file,
+            number: self.number,
+            line,
+            fault,
+        };
+        let notes = if self.job.is_report() {
+            &mut self.answers
+        } else {
+            &mut self.notes
+        };
+        let before = notes.len();
+        if push_note(notes, &note).is_err() {
+            notes.truncate(before);
+            self.say(&note);
+        }
+    }
+
+    // Writes what is gathered.
+    fn flush(&mut self) -> Result<(), WriteFailed> {
+        self.out.put(self.answers.as_slice())?;
+        empty(&mut self.answers);
+        let _ = self.err.write_all(self.notes.as_slice());
+        empty(&mut self.notes);
+        Ok(())
+    }
+}
+
+impl<J: Job, W: Write, E: Write> TakesLines for Texts<'_, J, W, E> {
+    fn take(&mut self, line: &[u8]) -> Result<(), WriteFailed> {
+        self.number = self.number.saturating_add(1);
+        let before = self.answers.len();
+        match self.job.answer(line, &mut self.answers) {
+            Ok(()) => {}
+            Err(fault) => {
+                self.answers.truncate(before);
+                self.note(line, fault);
+            }
+        }
+        if self.answers.len().max(self.notes.len()) >= GATHERED {
+            self.flush()?;
+        }
+        Ok(())
+    }
+
+    fn refuse(&mut self) -> Result<(), WriteFailed> {
+        self.number = self.number.saturating_add(1);
+        self.note(&[], LineFault::Memory);
+        Ok(())
+    }
+
+    fn pause(&mut self) -> Result<(), WriteFailed> {
+        self.flush()
+    }
+}
