@@ -1,5 +1,4 @@
 //! The lines of `iref_cli` and those of the examples, each answered by a line.
-ghost use Rattle.std.specs.Prelude.{◌≡◌};
 
 use crate::buffer::{GATHERED, empty, push_line};
 use crate::examples::{Tables, answer, is_of_examples};

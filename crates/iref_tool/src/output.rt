@@ -2,6 +2,7 @@
 ghost use Rattle.std.specs.Prelude.{is_some};
 
 use iref_batch::{Sink, StreamError};
+use std::fmt::Display;
 use std::io::{self, ErrorKind, Write};
 use std::process::ExitCode;
 
@@ -56,6 +57,17 @@ impl<W: Write> Output<W> {
     /// Why a write has failed.
     pub fn failure(&self) -> Option<&io::Error> {
         self.failure.as_ref()
+    }
+
+    /// Writes a line at once.
+    pub fn print<T: Display>(&mut self, line: &T) -> Result<(), WriteFailed> {
+        match writeln!(self.inner, "{line}") {
+            Ok(()) => Ok(()),
+            Err(error) => {
+                self.failure = Some(error);
+                Err(WriteFailed)
+            }
+        }
     }
 
     /// Writes all of the bytes.

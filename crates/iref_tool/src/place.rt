@@ -1,5 +1,4 @@
 //! Where a text is wrong, and why, as a person reads it.
-ghost use Rattle.std.specs.Prelude.{◌≡◌};
 
 use iref::{Cause, Component, Fault};
 use std::fmt;

@@ -48,11 +48,15 @@ impl fmt::Display for Note<'_> {
     }
 }
 
-// Adds a line for what is wrong.
+// Adds a line for what is wrong. Out of memory, it returns `Memory` and adds nothing.
 fn push_note(notes: &mut Vec<u8>, note: &Note<'_>) -> Result<(), Memory> {
+    let before = notes.len();
     match writeln!(notes, "{note}") {
         Ok(()) => Ok(()),
-        Err(_) => Err(Memory),
+        Err(_) => {
+            notes.truncate(before);
+            Err(Memory)
+        }
     }
 }
 
@@ -77,13 +81,8 @@ impl<'a, J: Job, W: Write, E: Write> Texts<'a, J, W, E> {
         self.number = 0;
     }
 
-    // Says on standard error what is wrong, if that can be written.
-    fn say(&mut self, note: &Note<'_>) {
-        let _ = writeln!(self.err, "{note}");
-    }
-
-    // Notes that a line is wrong.
-    fn note(&mut self, line: &[u8], fault: LineFault) {
+    // Notes that a line is wrong. Where there is no memory for that, it is said at once.
+    fn note(&mut self, line: &[u8], fault: LineFault) -> Result<(), WriteFailed> {
         self.status = self.status.max(Status::Wrong);
         let note = Note {
             file: self.file,
@@ -91,16 +90,16 @@ impl<'a, J: Job, W: Write, E: Write> Texts<'a, J, W, E> {
             line,
             fault,
         };
-        let notes = if self.job.is_report() {
-            &mut self.answers
-        } else {
-            &mut self.notes
-        };
-        let before = notes.len();
-        if push_note(notes, &note).is_err() {
-            notes.truncate(before);
-            self.say(&note);
+        if self.job.is_report() {
+            if push_note(&mut self.answers, &note).is_err() {
+                self.flush()?;
+                self.out.print(&note)?;
+            }
+        } else if push_note(&mut self.notes, &note).is_err() {
+            self.flush()?;
+            let _ = writeln!(self.err, "{note}");
         }
+        Ok(())
     }
 
     // Writes what is gathered.
@@ -121,7 +120,7 @@ impl<J: Job, W: Write, E: Write> TakesLines for Texts<'_, J, W, E> {
             Ok(()) => {}
             Err(fault) => {
                 self.answers.truncate(before);
-                self.note(line, fault);
+                self.note(line, fault)?;
             }
         }
         if self.answers.len().max(self.notes.len()) >= GATHERED {
@@ -132,8 +131,7 @@ impl<J: Job, W: Write, E: Write> TakesLines for Texts<'_, J, W, E> {
 
     fn refuse(&mut self) -> Result<(), WriteFailed> {
         self.number = self.number.saturating_add(1);
-        self.note(&[], LineFault::Memory);
-        Ok(())
+        self.note(&[], LineFault::Memory)
     }
 
     fn pause(&mut self) -> Result<(), WriteFailed> {
