@@ -1,5 +1,5 @@
 //! Where answers go, and the status of the program.
-ghost use Rattle.std.specs.Prelude.{is_some};
+ghost use Rattle.std.specs.Prelude.{◌≡◌, is_some};
 
 use iref_batch::{Sink, StreamError};
 use std::fmt::Display;
