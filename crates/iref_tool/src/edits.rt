@@ -1,5 +1,6 @@
 //! The edits that words name: each a name, or a name, `=` and a value.
 
+use crate::read::component;
 use crate::refusal::{Reason, Refusal};
 use iref::chars::CharSet;
 use iref::iri::{Edit, EditFault, IriRef, apply_all};
@@ -43,13 +44,7 @@ impl<'a> Field<'a> {
         let Some(value) = self.value else {
             return Ok(None);
         };
-        match BorrowedText::<R, C>::fault(value) {
-            None => Ok(Some(BorrowedText::new_unchecked(value))),
-            Some(fault) => {
-                let start = self.word.len().saturating_sub(value.len());
-                Err(self.refused(Reason::Text { kind, start, fault }))
-            }
-        }
+        Ok(Some(component("EDIT", kind, self.word, value)?))
     }
 
     // The value, which has to be there.

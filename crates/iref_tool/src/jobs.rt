@@ -2,11 +2,15 @@
 
 use crate::buffer::push_line;
 use hex::encode;
+use iref::chars::IriChars;
 use iref::iri::{Iri, IriRef};
+use iref::rules::HeldRule;
 use iref::uri::{Uri, UriRef};
 use iref::{Fault, Memory, SortKey};
+use iref_component::faults::HasFault;
 use iref_examples::sorted::sorted;
 use iref_fault::fault::text_of_bytes;
+use iref_reference::borrowed::Reference;
 use std::alloc::Global;
 use std::collections::BTreeSet;
 
@@ -42,22 +46,23 @@ impl From<Fault> for LineFault {
     }
 }
 
-// The line as a reference of IRIs.
-fn reference(line: &[u8]) -> Result<IriRef<'_>, Fault> {
+// The line as a reference of the rule: of all references of IRIs, or of IRIs.
+fn read<R: HeldRule + HasFault>(line: &[u8]) -> Result<Reference<'_, R, IriChars>, Fault> {
     let text = text_of_bytes(line)?;
-    match IriRef::fault(text) {
-        None => Ok(IriRef::new_unchecked(text)),
+    match Reference::<R, IriChars>::fault(text) {
+        None => Ok(Reference::new_unchecked(text)),
         Some(fault) => Err(fault),
     }
 }
 
+// The line as a reference of IRIs.
+fn reference(line: &[u8]) -> Result<IriRef<'_>, Fault> {
+    read(line)
+}
+
 // The line as an IRI.
 fn iri(line: &[u8]) -> Result<Iri<'_>, Fault> {
-    let text = text_of_bytes(line)?;
-    match Iri::fault(text) {
-        None => Ok(Iri::new_unchecked(text)),
-        Some(fault) => Err(fault),
-    }
+    read(line)
 }
 
 /// Whether the line follows its answer, behind a TAB.

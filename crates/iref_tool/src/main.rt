@@ -15,6 +15,7 @@ mod output;
 mod place;
 mod prefixes;
 mod question;
+mod read;
 mod refusal;
 mod run;
 mod texts;

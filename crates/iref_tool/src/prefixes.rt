@@ -1,5 +1,6 @@
 //! IRIs made short, and texts expanded, by entries: words `LABEL=IRI`.
 
+use crate::read::iri_at_end;
 use crate::refusal::{Reason, Refusal};
 use iref::compact::{ExpandFault, PrefixFault, Prefixes};
 use iref::iri::Iri;
@@ -13,13 +14,7 @@ fn insert<'a>(table: &mut Prefixes, word: &'a str) -> Result<(), Refusal<'a>> {
     let Some((label, text)) = word.split_once('=') else {
         return Err(Refusal::new(ENTRY, word, Reason::NoEntry));
     };
-    let iri = match Iri::fault(text) {
-        None => Iri::new_unchecked(text),
-        Some(fault) => {
-            let (kind, start) = ("IRI", word.len().saturating_sub(text.len()));
-            return Err(Refusal::new(ENTRY, word, Reason::Text { kind, start, fault }));
-        }
-    };
+    let iri = iri_at_end(ENTRY, word, text)?;
     match table.insert(label, iri) {
         Ok(()) => Ok(()),
         Err(PrefixFault::BadLabel(labels)) => Err(Refusal::new(ENTRY, word, Reason::Label(labels))),

@@ -2,9 +2,10 @@
 
 use crate::edits::edited;
 use crate::prefixes::{compacted, expanded};
+use crate::read::{component, iri, reference};
 use crate::refusal::{Reason, Refusal};
-use iref::iri::{Iri, IriRef, Path};
-use iref::{Fault, Memory};
+use iref::Memory;
+use iref::iri::{IriRef, Path};
 use std::alloc::Global;
 
 /// What is asked.
@@ -30,41 +31,6 @@ pub enum Question<'a> {
     Compact(&'a str, &'a [&'a str]),
     /// The IRI that a text stands for by entries.
     Expand(&'a str, &'a [&'a str]),
-}
-
-// What is wrong with a whole word.
-fn refused<'a>(
-    argument: &'static str,
-    kind: &'static str,
-    word: &'a str,
-    fault: Fault,
-) -> Refusal<'a> {
-    let start = 0;
-    Refusal::new(argument, word, Reason::Text { kind, start, fault })
-}
-
-/// The word as an IRI.
-pub fn iri<'a>(argument: &'static str, word: &'a str) -> Result<Iri<'a>, Refusal<'a>> {
-    match Iri::fault(word) {
-        None => Ok(Iri::new_unchecked(word)),
-        Some(fault) => Err(refused(argument, "IRI", word, fault)),
-    }
-}
-
-/// The word as a reference of IRIs.
-pub fn reference<'a>(argument: &'static str, word: &'a str) -> Result<IriRef<'a>, Refusal<'a>> {
-    match IriRef::fault(word) {
-        None => Ok(IriRef::new_unchecked(word)),
-        Some(fault) => Err(refused(argument, "IRI reference", word, fault)),
-    }
-}
-
-// The word as a path.
-fn path<'a>(argument: &'static str, word: &'a str) -> Result<Path<'a>, Refusal<'a>> {
-    match Path::fault(word) {
-        None => Ok(Path::new_unchecked(word)),
-        Some(fault) => Err(refused(argument, "path", word, fault)),
-    }
 }
 
 // Adds a line for a component, if it is there.
@@ -120,7 +86,10 @@ fn relativized<'a>(alloc: Global, target: &'a str, base: &'a str) -> Result<Stri
 pub fn answer<'a>(alloc: Global, question: Question<'a>) -> Result<String, Refusal<'a>> {
     match question {
         Question::Parts(word) => Ok(parts(alloc, reference("URI", word)?)?),
-        Question::Normal(word) => Ok(path("PATH", word)?.normalized(alloc)?.into_string()),
+        Question::Normal(word) => {
+            let path: Path<'_> = component("PATH", "path", word, word)?;
+            Ok(path.normalized(alloc)?.into_string())
+        }
         Question::Equal(first, second) => {
             let equal = reference("FIRST", first)? == reference("SECOND", second)?;
             Ok(String::from_str(alloc, if equal { "yes" } else { "no" }).or(Err(Memory))?)

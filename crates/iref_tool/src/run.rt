@@ -7,7 +7,8 @@ use crate::jobs::{
 };
 use crate::lines::Lines;
 use crate::output::{Output, Status};
-use crate::question::{Question, answer, iri, reference};
+use crate::question::{Question, answer};
+use crate::read::{iri, reference};
 use crate::refusal::Refusal;
 use crate::texts::Texts;
 use crate::words::{LineTask, Task};
