@@ -1,0 +1,75 @@
+//! An index of URIs in a table of SQLite: `iref_index FILE` makes some thousand URIs, puts them into a
+//! table of the file, each under its sort key, and closes the file. It opens the file again, and
+//! answers each line, a URI: how many URIs of the table are below it, the first and the last of them.
+//! One range of the keys finds them, and is compared with what a scan of all URIs by `suffix` finds.
+#![tactic(auto)]
+
+mod made;
+mod table;
+
+use anyhow::{Context, Result, ensure};
+use iref::Memory;
+use iref::uri::{Uri, UriBuf};
+use std::alloc::Global;
+use std::env;
+use table::Table;
+
+// The URIs that have a suffix after this one, in their order, one for each key.
+fn scanned<'a>(alloc: Global, uris: &'a [UriBuf], above: Uri<'_>) -> Result<Vec<Uri<'a>>, Memory> {
+    let mut found: Vec<Uri<'a>> = Vec::new(alloc);
+    for uri in uris {
+        if uri.suffix(alloc, above.as_uri_ref())?.is_some() {
+            found.push(uri.as_uri())?;
+        }
+    }
+    found.sort()?;
+    found.dedup();
+    Ok(found)
+}
+
+fn are_same(texts: &[String], uris: &[Uri<'_>]) -> bool {
+    let mut same = texts.len() == uris.len();
+    for (text, uri) in texts.iter().zip(uris) {
+        same = same && Uri::new(text.as_str()).is_ok_and(|one| one == *uri);
+    }
+    same
+}
+
+fn answer(alloc: Global, table: &mut Table, uris: &[UriBuf], line: &str) -> Result<String> {
+    let Ok(above) = Uri::new(line) else {
+        return Ok(format!(in alloc; "error invalid")?);
+    };
+    let found = table.below(alloc, above)?;
+    let scanned = scanned(alloc, uris, above)?;
+    ensure!(
+        are_same(found.as_slice(), scanned.as_slice()),
+        "the table differs from a scan"
+    );
+    let ends = (found.as_slice().first(), found.as_slice().last());
+    match ends {
+        (Some(first), Some(last)) => Ok(format!(in alloc; "{}\t{first}\t{last}", found.len())?),
+        _ => Ok(format!(in alloc; "0")?),
+    }
+}
+
+fn main(rt: HostRuntime) -> Result<()> {
+    let alloc = rt.alloc();
+    let mut words = env::args(&rt)?;
+    let _program = words.next();
+    let path = words.next().context("no file is named")?;
+    let mut table = Table::open(&rt, path.as_str())?;
+    let uris = made::uris(alloc)?;
+    table.begin()?;
+    for uri in &uris {
+        table.put(alloc, uri.as_uri())?;
+    }
+    table.commit()?;
+    table.close()?;
+    let mut table = Table::open(&rt, path.as_str())?;
+    for line in rt.lines(alloc) {
+        let line = line?;
+        let answer = answer(alloc, &mut table, uris.as_slice(), line.as_str())?;
+        println!(rt; "{answer}")?;
+    }
+    table.close()
+}
