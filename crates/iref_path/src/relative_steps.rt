@@ -79,10 +79,7 @@ fn behind_first<'a, S: Sameness>(base: &'a str, path: &'a str) -> Option<(&'a st
 /// The steps from the directory of `base` to `path`: how many `..`, and the text of the segments
 /// after them. From `a/b/c` to `a/d` they are one `..` and `d`.
 #[tactic(auto, using(crate::proofs::RelativeStepLemmas::climbs))]
-pub(crate) fn steps_apart<'a, S: Sameness>(
-    mut base: &'a str,
-    mut path: &'a str,
-) -> (usize, &'a str)
+pub(crate) fn steps_apart<'a, S: Sameness>(mut base: &'a str, mut path: &'a str) -> (usize, &'a str)
     ensures steps { text_steps_with S.same base.entry.now path.entry.now
         ≡ replicate result.0 (codes "..") ++ pieces_at slash result.1.now }
     ensures dotless { has_dot_segment path.entry.now ≡ false
