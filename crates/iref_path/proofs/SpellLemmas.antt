@@ -1,5 +1,5 @@
 -- The text of a normal path: what it is made of, and how long it is.
-use Rattle.std.proofs.Common.{append_assoc, length-append, ◌≡◌, ℕ, zero, suc, ◌+◌, ◌-◌, ◌≤◌, Bool, true, false, ◌||◌, List, [], ◌∷◌, ◌++◌, length, refl, ap, arith}
+use Rattle.std.proofs.Common.{append_assoc, length-append, ◌≡◌, ℕ, zero, suc, ◌+◌, ◌-◌, ◌<◌, ◌≤◌, Bool, true, false, ◌||◌, List, [], ◌∷◌, ◌++◌, length, refl, sym, ◌∙◌, ap, arith}
 use Rattle.std.proofs.lemmas.Grind.{flat_map-append}
 use Rattle.std.specs.Prelude.{◌==◌, replicate, codes, IsUtf8}
 use Rattle.std.specs.Char.{char_set_contains}
@@ -44,6 +44,27 @@ pub joined_before : (front : List Text) (s : Text) → each_closed front ++ s �
 joined_before [] s = refl
 joined_before (t ∷ []) s = grind (arith, append_assoc)
 joined_before (t ∷ u ∷ front) s = grind (arith, append_assoc, joined_before (u ∷ front) s)
+
+-- a list from its end
+pub closed_last : (list front : List Text) (s : Text) → list ≡ front ++ s ∷ [] → each_closed list ≡ each_closed front ++ (s ++ slash ∷ [])
+closed_last list front s e = grind (arith, e, append-nil, each_closed-append front (s ∷ []))
+
+pub joined_last : (list front : List Text) (s : Text) → list ≡ front ++ s ∷ [] → join_with_byte slash list ≡ each_closed front ++ s
+joined_last list front s e = ap (join_with_byte slash) e ∙ sym (joined_before front s)
+
+-- a text with a `/` after it, and then another one
+pub closed_then : (front back : Text) → front ++ slash ∷ back ≡ (front ++ slash ∷ []) ++ back
+closed_then front back = sym (append_assoc front (slash ∷ []) back)
+
+parents_last : (n : ℕ) → each_closed (replicate (suc n) (codes "..")) ≡ each_closed (replicate n (codes "..")) ++ codes "../"
+parents_last zero = refl
+parents_last (suc n) = ap (λ text. codes "../" ++ text) (parents_last n)
+
+-- one of those that are left is the last
+pub parents_left : (n i : ℕ) → i < n → each_closed (replicate (n - i) (codes "..")) ≡ each_closed (replicate (n - (i + 1)) (codes "..")) ++ codes "../"
+parents_left n i h =
+    let e : n - i ≡ suc (n - (i + 1)) = omega arith in
+    ap (λ k. each_closed (replicate k (codes ".."))) e ∙ parents_last (n - (i + 1))
 
 pub length-joined : (s : Text) (rest : List Text) → length (each_closed (s ∷ rest)) ≡ length (join_with_byte slash (s ∷ rest)) + 1
 length-joined s [] = grind (arith, append_assoc, length-append, nat_tests)
@@ -171,6 +192,10 @@ pub ruleset in_utf8 = (path-utf8)
 
 pub ruleset joined = (length-join)
 
+pub ruleset stacked_sizes = (length-guard)
+
 pub ruleset guarded_sizes = (length-guard, normalized-spelled)
+
+pub ruleset lasts = (closed_last, joined_last)
 
 pub ruleset parent_sizes = (size-parents)

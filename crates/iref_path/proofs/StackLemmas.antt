@@ -1,8 +1,10 @@
 -- A normal list that is put on a stack from its end.
-use Rattle.std.proofs.Common.{◌≡◌, ℕ, ◌+◌, ◌<◌, ◌≤◌, Bool, List, [], ◌∷◌, ◌++◌, length, map, reverse, take, drop, get_or, ◌∙◌, ap, append_assoc, arith}
+use Rattle.std.proofs.Common.{◌≡◌, ℕ, ◌+◌, ◌<◌, Bool, List, [], ◌∷◌, ◌++◌, length, map, reverse, drop, get_or, ◌∙◌, ap, append_assoc}
 use Rattle.std.specs.Prelude.{replicate, codes}
 use Rattle.std.specs.Borrow.{Bor}
-use Rattle.std.proofs.lemmas.List.{map-append, reverse-append, take-append-drop, take_more}
+use Rattle.std.specs.List.{join_with_byte}
+use Rattle.std.proofs.lemmas.List.{at_drop_more, map-append, reverse-append}
+use Rattle.iref_grammar.specs.Grammar.{slash}
 use Rattle.iref_grammar.specs.Rules.{Text}
 use Rattle.iref_model.specs.NormalReading.{closing}
 use Rattle.iref_path.specs.Spelling.{each_closed}
@@ -10,7 +12,7 @@ use Rattle.iref_path.specs.Pieces.{text_at}
 use Rattle.iref_path.specs.Stacks.{Completes, in_order}
 use Rattle.iref_path.specs.declared.normal_items.stack.Stack.{Stack}
 use Rattle.iref_path.proofs.NormalItemsLemmas.{parts_left}
-use Rattle.iref_path.proofs.SpellLemmas.{size-append, size-cons}
+use Rattle.iref_path.proofs.SpellLemmas.{closed_last, joined_last}
 
 -- the three parts, one after the other
 pub parts_put : (none closed named all : Stack) (parents : ℕ) (names : List Text) (closes : Bool)
@@ -34,10 +36,14 @@ in_order-append front back = ap reverse (map-append text_at front back) ∙ reve
 -- one item more at either end
 pub ruleset ends = (in_order-cons, in_order-append)
 
--- what has been written of them leaves room for the next
-pub stacked_room : (items : List (Bor Text)) (i : ℕ) (d : Bor Text) → i < length items
-    → length (text_at (get_or items i d)) + 1 + length (each_closed (in_order (take i items))) ≤ length (each_closed (in_order items))
-stacked_room items i d h =
-    let next = in_order-append (take i items) (get_or items i d ∷ []) in
-    let all = in_order-append (take (i + 1) items) (drop (i + 1) items) in
-    grind (arith, take_more items i d h, take-append-drop (i + 1) items, size-append, size-cons)
+-- the first on the stack comes last
+pub stacked_last : (items : List (Bor Text)) (i : ℕ) (d : Bor Text) → i < length items
+    → each_closed (in_order (drop i items)) ≡ each_closed (in_order (drop (i + 1) items)) ++ (text_at (get_or items i d) ++ slash ∷ [])
+stacked_last items i d h =
+    let rest = drop (i + 1) items in
+    at_drop_more (λ list. each_closed (in_order list)) items i d h ∙ closed_last _ (in_order rest) (text_at (get_or items i d)) (in_order-cons (get_or items i d) rest)
+
+pub stacked_joined : (item : Bor Text) (items : List (Bor Text)) → join_with_byte slash (in_order (item ∷ items)) ≡ each_closed (in_order items) ++ text_at item
+stacked_joined item items = joined_last _ (in_order items) (text_at item) (in_order-cons item items)
+
+pub ruleset stacked_lasts = (stacked_last, stacked_joined)

@@ -1,5 +1,5 @@
 -- The items of a normal list that are kept on a stack, the last first.
-use Rattle.std.specs.Prelude.{◌≡◌, ◌+◌, Bool, true, List, [], ◌++◌, Option, length, map, reverse}
+use Rattle.std.specs.Prelude.{◌≡◌, ◌+◌, ◌<◌, ◌^◌, Bool, true, List, [], ◌++◌, Option, length, map, reverse}
 use Rattle.std.specs.Borrow.{Bor}
 use Rattle.std.specs.List.{join_with_byte}
 use Rattle.iref_grammar.specs.Grammar.{slash}
@@ -9,14 +9,20 @@ use Rattle.iref_path.specs.Pieces.{pieces_if_some, text_at}
 use Rattle.iref_path.specs.NormalItems.{first_or}
 use Rattle.iref_path.specs.Spelling.{each_closed}
 use Rattle.iref_path.specs.declared.normal_items.stack.Stack.{Stack}
+use Rattle.iref_path.specs.declared.spell.StackedPath.{StackedPath}
 
 -- these items, which were put the last first, in their order
 abbrev pub in_order : List (Bor Text) → List Text
 in_order items = reverse (map text_at items)
 
--- what stands first, and these items with `/` between
-unfoldable pub stacked_text : Text → List (Bor Text) → Text
-stacked_text guard items = guard ++ join_with_byte slash (in_order items)
+-- what stands first, and the items with `/` between
+unfoldable pub stacked_text : StackedPath → Text
+stacked_text t = t.guard.now ++ join_with_byte slash (in_order t.items.now)
+
+-- the size is that of the items, and can be counted with what stands first
+pub record IsStacked (t : StackedPath) : Type 0 where
+  pub size : t.size ≡ length (each_closed (in_order t.items.now))
+  pub countable : length t.guard.now + t.size < 2 ^ 64
 
 -- The stack has what follows these items in a whole list: their size, the first of them, and the items themselves
 -- where each found room.

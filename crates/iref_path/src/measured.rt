@@ -1,6 +1,6 @@
 //! The text of a path, which is measured before it is written (RFC 3986 sections 5.2.3 and 5.2.4).
 
-ghost use Rattle.std.specs.Prelude.{◌||◌, ◌&&◌, ◌≡◌, ◌+◌, ◌*◌, ◌<◌, ◌≤◌, ◌^◌, ◌++◌, IfOk, Bool, Some, [], codes, false};
+ghost use Rattle.std.specs.Prelude.{◌||◌, ◌&&◌, ◌≡◌, ◌+◌, ◌*◌, ◌<◌, ◌^◌, ◌++◌, IfOk, Bool, Some, [], codes, false};
 ghost use Rattle.std.specs.{Prelude.{length, replicate, true, ℕ}, Fmt.{WritesOnOk}, String.{string_bytes}};
 ghost use Rattle.iref_grammar.specs.{alone, slash, read_path, spell_path, is_path, is_empty, Texts.{pieces_at}};
 ghost use Rattle.iref_model.specs.{Guard.{guarded}, PathSteps.{normalized}};
@@ -9,18 +9,20 @@ ghost use Rattle.iref_path.specs.Bodies.{after_front, parents_then};
 ghost use Rattle.iref_path.specs.MergedPaths.{merged_list, merged_path, path_after};
 ghost use Rattle.iref_path.specs.{MeasuredPaths.{IsMeasured, measured_text}, Pieces.{pieces_if_some}};
 ghost use Rattle.iref_path.specs.{Spelling.{each_closed}, NormalItems.{IsSound, normal_left, first_or}};
-ghost use Rattle.iref_path.specs.{StepsBetween.{path_between}, Written.{WritesBefore}};
+ghost use Rattle.iref_path.specs.StepsBetween.{path_between};
 ghost use Rattle.iref_path.specs.Spelling as spelling;
 
 use crate::measured_body::Body;
 use crate::normal_items::{NormalItems, survey_items};
 use crate::relative_steps::{Decoded, behind_roots, first_step, items_between, steps_apart};
 use crate::segments::{first_segment, split_root, without_last};
-use crate::spell::{guard_in, measure, write_before};
+use crate::spell::{guard_in, measure};
 use iref_grammar::chars::CharSet;
 use iref_grammar::context::PathContext;
 use iref_parse::dots::has_dots;
 use iref_splice::Memory;
+use iref_splice::backward::Backward;
+use iref_splice::unwritten::Unwritten;
 use std::alloc::Global;
 use std::fmt;
 
@@ -72,17 +74,16 @@ fn first_to_guard(context: PathContext, text: &str) -> &str
     first_segment(text).0
 }
 
-// Writes the guard as `write_before` does. Mostly it is the root alone.
+// Puts the guard. Mostly it is the root alone.
 #[inline(always)]
-fn write_guard(buffer: &mut [u8], end: usize, guard: &str) -> usize
-    requires room { length guard.now ≤ end }
-    requires within { end ≤ length buffer.old }
-    ensures { WritesBefore end guard.now buffer.old buffer.new result }
+fn put_guard<O: Backward>(out: &mut O, guard: &str)
+    requires { O.fits out.old guard.now }
+    ensures { out.new ≡ O.after out.old guard.now }
 {
     if guard == "/" {
-        write_before(buffer, end, "/")
+        out.put(b"/");
     } else {
-        write_before(buffer, end, guard)
+        out.put(guard.as_bytes());
     }
 }
 
@@ -232,33 +233,10 @@ impl<'a> MeasuredPath<'a> {
         requires path { is_path C.tests (measured_text self) ≡ true }
         ensures { IfOk result (λ text. string_bytes text ≡ measured_text self.entry) }
     {
-        let bytes = self.bytes(alloc)?;
+        let bytes = self.to_bytes(alloc)?;
         // What spells a path is text, so no byte is read again.
         let text = unsafe { String::from_utf8_unchecked(bytes) };
         Ok(text)
-    }
-
-    // The bytes of the text.
-    pub(crate) fn bytes(self, alloc: Global) -> Result<Vec<u8>, Memory>
-        requires { IsMeasured self }
-        ensures { IfOk result (λ bytes. bytes.items ≡ measured_text self.entry) }
-    {
-        let len = self.len();
-        let mut bytes = vec![in alloc; 0u8; len]?;
-        self.write_before(&mut bytes, len);
-        Ok(bytes)
-    }
-
-    /// Writes the text so that it ends at `end`, and returns where it begins.
-    #[tactic(auto, using(crate::proofs::WrittenLemmas::both), unfolding(crate::specs::MeasuredPaths::measured_text))]
-    pub fn write_before(self, buffer: &mut [u8], end: usize) -> usize
-        requires measured { IsMeasured self }
-        requires room { length (measured_text self) ≤ end }
-        requires within { end ≤ length buffer.old }
-        ensures { WritesBefore end (measured_text self.entry) buffer.old buffer.new result }
-    {
-        let start = self.body.write_before(buffer, end);
-        write_guard(buffer, start, self.guard)
     }
 
     /// Writes the text to a formatter, from the front. Items that are read from the back are read once
@@ -270,5 +248,19 @@ impl<'a> MeasuredPath<'a> {
     {
         f.write_str(self.guard)?;
         self.body.show(f)
+    }
+}
+
+impl Unwritten for MeasuredPath<'_> {
+    ghost text = { measured_text };
+
+    ghost is_sound = { IsMeasured };
+
+    #[tactic(auto, unfolding(crate::specs::MeasuredPaths::measured_text))]
+    fn put<O: Backward>(&self, out: &mut O) {
+        if !out.put_len(self.len()) {
+            self.body.put(out);
+            put_guard(out, self.guard);
+        }
     }
 }

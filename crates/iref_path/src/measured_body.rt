@@ -1,11 +1,12 @@
 //! What follows the root and the guard in the text of a path.
 
-ghost use Rattle.std.specs.{Fmt.{WritesOnOk}, Prelude.{◌≡◌, ◌<◌, ◌≤◌, ◌^◌, length}};
-ghost use Rattle.iref_path.specs.{Bodies.{IsBody, after_front, body_text, parents_then}, Written.{WritesBefore}};
+ghost use Rattle.std.specs.{Fmt.{WritesOnOk}, Prelude.{◌≡◌, ◌<◌, ◌^◌, length}};
+ghost use Rattle.iref_path.specs.Bodies.{IsBody, after_front, body_text, parents_then};
 
 use crate::normal_items::NormalItems;
 use crate::shown::{show_items, show_parents};
-use crate::spell::{write_before, write_items, write_parents};
+use crate::spell::{put_items, put_parents, put_segment};
+use iref_splice::backward::Backward;
 use std::fmt;
 
 /// What follows the root and the guard.
@@ -30,20 +31,18 @@ fn joined_len(front: Option<&str>, back: &str) -> usize
     }
 }
 
-// Writes a text, and before it another one with a `/` after it, so that they end at `end`, and
-// returns where they begin.
-fn write_joined(front: Option<&str>, back: &str, buffer: &mut [u8], end: usize) -> usize
-    requires room { length (after_front front back.now) ≤ end }
-    requires within { end ≤ length buffer.old }
-    ensures { WritesBefore end (after_front front.entry back.now) buffer.old buffer.new result }
+// Puts a text, and before it another one with a `/` after it.
+#[tactic(auto, using(crate::proofs::SpellLemmas::closed_then))]
+fn put_joined<O: Backward>(out: &mut O, front: Option<&str>, back: &str)
+    requires { O.fits out.old (after_front front back.now) }
+    ensures { out.new ≡ O.after out.old (after_front front.entry back.now) }
 {
     match front {
         Some(front) => {
-            let start = write_before(buffer, end, back);
-            let start = write_before(buffer, start, "/");
-            write_before(buffer, start, front)
+            out.put(back.as_bytes());
+            put_segment(out, front);
         }
-        None => write_before(buffer, end, back),
+        None => out.put(back.as_bytes()),
     }
 }
 
@@ -87,21 +86,19 @@ impl<'a> Body<'a> {
         }
     }
 
-    /// Writes the text so that it ends at `end`, and returns where it begins.
-    #[tactic(auto, using(crate::proofs::SpellLemmas::joined))]
-    pub fn write_before(self, buffer: &mut [u8], end: usize) -> usize
-        requires body { IsBody self }
-        requires room { length (body_text self) ≤ end }
-        requires within { end ≤ length buffer.old }
-        ensures { WritesBefore end (body_text self.entry) buffer.old buffer.new result }
+    /// Puts the text.
+    pub fn put<O: Backward>(&self, out: &mut O)
+        requires body { IsBody self.now }
+        requires fits { O.fits out.old (body_text self.now) }
+        ensures { out.new ≡ O.after out.old (body_text self.now) }
     {
-        match self {
-            Body::Kept(front, back) => write_joined(front, back, buffer, end),
+        match *self {
+            Body::Kept(front, back) => put_joined(out, front, back),
             Body::Up(up, text) => {
-                let start = write_before(buffer, end, text);
-                write_parents(buffer, up, start)
+                out.put(text.as_bytes());
+                put_parents(out, up);
             }
-            Body::Items(items, _) => write_items(items, buffer, end),
+            Body::Items(items, _) => put_items(out, items),
         }
     }
 

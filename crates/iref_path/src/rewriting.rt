@@ -2,7 +2,7 @@
 //! never passes what is not yet read.
 
 ghost use Rattle.std.specs.Prelude.{◌≡◌, ◌+◌, ◌-◌, ◌<◌, ◌≤◌, ◌^◌, ◌∷◌, ◌++◌, [], false, length, slice_range, take};
-ghost use Rattle.std.specs.{Prelude.{vec_len}, List.{splice}, Str.{IsUtf8}, String.{string_bytes, string_len}};
+ghost use Rattle.std.specs.{Prelude.{codes, replicate, vec_len}, List.{splice}, Str.{IsUtf8}, String.{string_bytes, string_len}};
 ghost use Rattle.iref_model.specs.{read_path, spell_path, open_before, staying_before, normalized};
 ghost use Rattle.iref_splice.specs.Changes.{part_at};
 ghost use Rattle.iref_path.specs.Rewriting.{items_text, pieces_before, rewritten, rewritten_at};
@@ -10,7 +10,7 @@ ghost use Rattle.iref_path.specs.{Spelling.{each_closed}, Written.{WritesBefore}
 
 use crate::normal_items::{leading_parents, survey_items};
 use crate::segments::split_root;
-use crate::spell::{guard_in, write_before, write_parents};
+use crate::spell::guard_in;
 use crate::staying_names::bytes_stay;
 use iref_grammar::context::PathContext;
 use iref_splice::bytes::replace;
@@ -88,6 +88,34 @@ fn move_names(
         unread = segment;
     }
     (start, open_parents)
+}
+
+// Writes a text so that it ends at `end`, and returns where it begins.
+#[inline(always)]
+fn write_before(bytes: &mut [u8], end: usize, text: &str) -> usize
+    requires room { length text.now ≤ end }
+    requires within { end ≤ length bytes.old }
+    ensures { WritesBefore end text.now bytes.old bytes.new result }
+{
+    let start = end - text.len();
+    bytes[start..end].copy_from_slice(text.as_bytes());
+    start
+}
+
+// Writes `..` this many times, with a `/` after each, so that they end at a position, and returns
+// where they begin.
+#[tactic(auto, using(crate::proofs::SpellLemmas::parent_sizes))]
+fn write_parents(bytes: &mut [u8], count: usize, end: usize) -> usize
+    requires room { length (each_closed (replicate count (codes ".."))) ≤ end }
+    requires within { end ≤ length bytes.old }
+    ensures { WritesBefore end (each_closed (replicate count (codes "..")))
+        bytes.old bytes.new result }
+{
+    let mut start = end;
+    for _ in 0..count {
+        start = write_before(bytes, start, "../");
+    }
+    start
 }
 
 // Writes the normal list of the segments over them, with `/` between, so that it ends where they

@@ -1,14 +1,13 @@
 //! The text of a normalized path, which is measured and written from its end (RFC 3986 section
 //! 5.2.4).
 
-ghost use Rattle.std.specs.Prelude.{◌≡◌, ◌+◌, ◌-◌, ◌<◌, ◌≤◌, ◌^◌, ◌||◌, ◌&&◌, ◌==◌, ◌++◌, true, [], codes, length};
+ghost use Rattle.std.specs.Prelude.{◌≡◌, ◌+◌, ◌-◌, ◌<◌, ◌≤◌, ◌^◌, ◌||◌, ◌&&◌, ◌==◌, ◌++◌, ◌∷◌, true, [], codes, length};
 ghost use Rattle.std.specs.{Prelude.{replicate, IfOk, OnErr, OnOk}, List.{join_with_byte, list_any}};
 ghost use Rattle.std.specs.String.{string_bytes};
 ghost use Rattle.iref_grammar.specs.{is_path_in, colon, slash, read_path, spell_path, is_path};
 ghost use Rattle.iref_model.specs.PathSteps.{normalized};
 ghost use Rattle.iref_path.specs.{PathParts.{is_path_after}, NormalItems.{first_or, IsSound, normal_left}};
-ghost use Rattle.iref_path.specs.{Spelling.{each_closed, normal_in}, Stacks.{in_order, stacked_text}};
-ghost use Rattle.iref_path.specs.Written.{WritesBefore};
+ghost use Rattle.iref_path.specs.{Spelling.{each_closed, normal_in}, Stacks.{IsStacked, in_order, stacked_text}};
 ghost use Rattle.iref_path.specs.Spelling as spelling;
 
 use crate::measured::MeasuredPath;
@@ -19,7 +18,9 @@ use iref_grammar::chars::CharSet;
 use iref_grammar::context::PathContext;
 use iref_parse::dots::has_dots;
 use iref_splice::Memory;
-use std::alloc::{AllocError, Global};
+use iref_splice::backward::Backward;
+use iref_splice::unwritten::Unwritten;
+use std::alloc::Global;
 
 /// How many bytes the items have with a `/` after each, and the first of them, or nothing.
 pub(crate) fn measure(mut left: NormalItems<'_>) -> (usize, &str)
@@ -37,63 +38,50 @@ pub(crate) fn measure(mut left: NormalItems<'_>) -> (usize, &str)
     (size, first)
 }
 
-/// Writes the text so that it ends at `end`, and returns where it begins.
+/// Puts a segment and a `/` after it.
 #[inline(always)]
-pub fn write_before(buffer: &mut [u8], end: usize, text: &str) -> usize
-    requires room { length text.now ≤ end }
-    requires within { end ≤ length buffer.old }
-    ensures { WritesBefore end text.now buffer.old buffer.new result }
+pub(crate) fn put_segment<O: Backward>(out: &mut O, segment: &str)
+    requires { O.fits out.old (segment.now ++ slash ∷ []) }
+    ensures { out.new ≡ O.after out.old (segment.now ++ slash ∷ []) }
 {
-    let start = end - text.len();
-    buffer[start..end].copy_from_slice(text.as_bytes());
-    start
+    out.put(b"/");
+    out.put(segment.as_bytes());
 }
 
-/// Writes `..` this many times, with a `/` after each, so that they end at a position, and returns
-/// where they begin.
-#[tactic(auto, using(crate::proofs::SpellLemmas::parent_sizes))]
-pub(crate) fn write_parents(buffer: &mut [u8], count: usize, end: usize) -> usize
-    requires room { length (each_closed (replicate count (codes ".."))) ≤ end }
-    requires within { end ≤ length buffer.old }
-    ensures { WritesBefore end (each_closed (replicate count (codes "..")))
-        buffer.old buffer.new result }
+/// Puts `..` this many times, with a `/` after each.
+#[tactic(auto, using(crate::proofs::SpellLemmas::parents_left))]
+pub(crate) fn put_parents<O: Backward>(out: &mut O, count: usize)
+    requires { O.fits out.old (each_closed (replicate count (codes ".."))) }
+    ensures { out.new ≡ O.after out.old (each_closed (replicate count (codes ".."))) }
 {
-    let mut start = end;
     for _ in 0..count {
-        start = write_before(buffer, start, "../");
+        out.put(b"../");
     }
-    start
 }
 
-/// Writes the items, each with a `/` after it, so that they end at `end`, and returns where they
-/// begin.
-fn write_closed(mut left: NormalItems<'_>, buffer: &mut [u8], end: usize) -> usize
+// Puts the items, each with a `/` after it.
+#[tactic(auto, using(crate::proofs::SpellLemmas::lasts))]
+fn put_closed<O: Backward>(out: &mut O, mut left: NormalItems<'_>)
     requires sound { IsSound left }
-    requires room { length (each_closed (normal_left left)) ≤ end }
-    requires within { end ≤ length buffer.old }
-    ensures { WritesBefore end (each_closed (normal_left left.entry)) buffer.old buffer.new result }
+    requires fits { O.fits out.old (each_closed (normal_left left)) }
+    ensures { out.new ≡ O.after out.old (each_closed (normal_left left.entry)) }
 {
-    let mut start = end;
     while let Some(item) = left.next_back() {
-        start = write_before(buffer, start, "/");
-        start = write_before(buffer, start, item);
+        put_segment(out, item);
     }
-    start
 }
 
-/// Writes the items with `/` between so that they end at `end`, and returns where they begin.
-pub(crate) fn write_items(mut left: NormalItems<'_>, buffer: &mut [u8], end: usize) -> usize
+/// Puts the items with `/` between.
+#[tactic(auto, using(crate::proofs::SpellLemmas::lasts))]
+pub(crate) fn put_items<O: Backward>(out: &mut O, mut left: NormalItems<'_>)
     requires sound { IsSound left }
-    requires room { length (each_closed (normal_left left)) ≤ end + 1 }
-    requires within { end ≤ length buffer.old }
-    ensures { WritesBefore end (join_with_byte slash (normal_left left.entry))
-        buffer.old buffer.new result }
+    requires fits { O.fits out.old (join_with_byte slash (normal_left left)) }
+    ensures { out.new ≡ O.after out.old (join_with_byte slash (normal_left left.entry)) }
 {
-    let Some(last) = left.next_back() else {
-        return end;
-    };
-    let start = write_before(buffer, end, last);
-    write_closed(left, buffer, start)
+    if let Some(last) = left.next_back() {
+        out.put(last.as_bytes());
+        put_closed(out, left);
+    }
 }
 
 // Whether the text holds a `:`.
@@ -139,50 +127,63 @@ pub fn guard_in(context: PathContext, absolute: bool, size: usize, first: &str) 
     guard(rooted, dotted)
 }
 
-// Writes items that are given the last first, each with a `/` after it, so that they end at `end`,
-// and returns where they begin.
-fn write_stacked_closed(items: &[&str], buffer: &mut [u8], end: usize) -> usize
-    requires room { length (each_closed (in_order items.now)) ≤ end }
-    requires within { end ≤ length buffer.old }
-    ensures { WritesBefore end (each_closed (in_order items.now)) buffer.old buffer.new result }
+// Puts items that are given the last first, each with a `/` after it.
+#[tactic(auto, using(crate::proofs::StackLemmas::stacked_lasts))]
+fn put_stacked_closed<O: Backward>(out: &mut O, items: &[&str])
+    requires { O.fits out.old (each_closed (in_order items.now)) }
+    ensures { out.new ≡ O.after out.old (each_closed (in_order items.entry.now)) }
 {
-    let mut start = end;
     for item in items {
-        start = write_before(buffer, start, "/");
-        start = write_before(buffer, start, item);
+        put_segment(out, item);
     }
-    start
 }
 
-// Writes items that are given the last first, with `/` between, so that they end at `end`, and
-// returns where they begin.
-fn write_stacked(items: &[&str], buffer: &mut [u8], end: usize) -> usize
-    requires room { length (each_closed (in_order items.now)) ≤ end + 1 }
-    requires within { end ≤ length buffer.old }
-    ensures { WritesBefore end (join_with_byte slash (in_order items.now))
-        buffer.old buffer.new result }
+// Puts items that are given the last first, with `/` between.
+#[tactic(auto, using(crate::proofs::StackLemmas::stacked_lasts))]
+fn put_stacked<O: Backward>(out: &mut O, items: &[&str])
+    requires { O.fits out.old (join_with_byte slash (in_order items.now)) }
+    ensures { out.new ≡ O.after out.old (join_with_byte slash (in_order items.now)) }
 {
-    let Some((last, others)) = items.split_first() else {
-        return end;
-    };
-    let start = write_before(buffer, end, last);
-    write_stacked_closed(others, buffer, start)
+    if let Some((last, others)) = items.split_first() {
+        out.put(last.as_bytes());
+        put_stacked_closed(out, others);
+    }
 }
 
-// The guard, and the items with `/` between. The items are given the last first. `size` is their
-// length with a `/` after each.
-#[tactic(auto, using(crate::proofs::WrittenLemmas::stacked), unfolding(crate::specs::Stacks::stacked_text))]
-fn stacked_bytes(alloc: Global, guard: &str, items: &[&str], size: usize) -> Result<Vec<u8>, Memory>
-    requires size { size ≡ length (each_closed (in_order items.now)) }
-    requires countable { length guard.now + size < 2 ^ 64 }
-    ensures { IfOk result (λ bytes. bytes.items ≡ stacked_text guard.now items.now) }
-{
-    let len = guard.len() + size.saturating_sub(1);
-    let mut bytes = vec![in alloc; 0u8; len]?;
-    let buffer = bytes.as_mut_slice();
-    let start = write_stacked(items, buffer, len);
-    write_before(buffer, start, guard);
-    Ok(bytes)
+// The text of a normal path whose items are on a stack, not written yet.
+#[derive(Clone, Copy)]
+struct StackedPath<'a> {
+    // The root, and `./` where it is needed.
+    guard: &'static str,
+    // The last first.
+    items: &'a [&'a str],
+    // How many bytes the items have with a `/` after each.
+    size: usize,
+}
+
+impl StackedPath<'_> {
+    // How many bytes the text has.
+    #[tactic(auto, using(crate::proofs::SpellLemmas::stacked_sizes), unfolding(crate::specs::Stacks::stacked_text))]
+    fn len(&self) -> usize
+        requires { IsStacked self.now }
+        ensures { result ≡ length (stacked_text self.now) }
+    {
+        self.guard.len() + self.size.saturating_sub(1)
+    }
+}
+
+impl Unwritten for StackedPath<'_> {
+    ghost text = { stacked_text };
+
+    ghost is_sound = { IsStacked };
+
+    #[tactic(auto, unfolding(crate::specs::Stacks::stacked_text))]
+    fn put<O: Backward>(&self, out: &mut O) {
+        if !out.put_len(self.len()) {
+            put_stacked(out, self.items);
+            out.put(self.guard.as_bytes());
+        }
+    }
 }
 
 // The longest path, in bytes, whose items may take memory while it is read.
@@ -206,10 +207,15 @@ fn normal_bytes(
         stack.read(absolute, segments);
         if stack.is_whole {
             let guard = guard_in(context, absolute, stack.size, stack.first);
-            return stacked_bytes(alloc, guard, stack.items.as_slice(), stack.size);
+            let stacked = StackedPath {
+                guard,
+                items: stack.items.as_slice(),
+                size: stack.size,
+            };
+            return stacked.to_bytes(alloc);
         }
     }
-    MeasuredPath::of_segments(context, absolute, None, segments).bytes(alloc)
+    MeasuredPath::of_segments(context, absolute, None, segments).to_bytes(alloc)
 }
 
 /// The text of the normalized path in its context (RFC 3986 section 5.2.4). A flag says whether it is
@@ -244,11 +250,5 @@ pub fn append_normalized(context: PathContext, path: &str, out: &mut Vec<u8>) ->
         ≡ out.old.items ++ spell_path (normalized context (read_path path.now))) }
     ensures err { OnErr result (out.new.items ≡ out.old.items) }
 {
-    let path = MeasuredPath::normalized(context, path);
-    let start = out.len();
-    let len = path.len();
-    let end = start.checked_add(len).ok_or(AllocError)?;
-    out.resize(end, 0)?;
-    path.write_before(&mut out[start..], len);
-    Ok(())
+    MeasuredPath::normalized(context, path).append_to(out)
 }

@@ -15,6 +15,7 @@ use iref_parse::split::ReferenceSlices;
 use iref_reference_text::measured::{MeasuredReference, count_paths};
 use iref_reference_text::reference_text::{HeldRule, ReferenceText};
 use iref_splice::Memory;
+use iref_splice::unwritten::Unwritten;
 use std::alloc::{AllocError, Global};
 use std::fmt;
 use std::marker::{Model, PhantomData};
@@ -53,7 +54,7 @@ impl<'a, R: HeldRule, C: CharSet> Composed<'a, R, C> {
         ensures { IfOk result (λ composed.
             composed ≡ spell_texts (measured_components components.entry)) }
     {
-        let len = components.total()?;
+        let len = components.count()?;
         Ok(Composed {
             components,
             len,
@@ -130,7 +131,7 @@ impl<'a, R: HeldRule, C: CharSet> Composed<'a, R, C> {
         requires { length self.now ≤ length buffer.old }
         ensures { buffer.new ≡ self.now ++ drop (length self.now) buffer.old }
     {
-        self.components.write(&mut buffer[..self.len]);
+        self.components.fill(&mut buffer[..self.len]);
     }
 
     /// Appends the text to a vector: with `s:g`, `ok` becomes `oks:g`. The room is taken once. At
@@ -142,7 +143,7 @@ impl<'a, R: HeldRule, C: CharSet> Composed<'a, R, C> {
         let start = out.len();
         let len = start.checked_add(self.len).ok_or(AllocError)?;
         out.resize(len, 0)?;
-        self.components.write(&mut out[start..]);
+        self.components.fill(&mut out[start..]);
         Ok(())
     }
 

@@ -1,6 +1,5 @@
 -- The components of what a reference resolves to, as texts.
-use Rattle.std.proofs.Common.{arith, ◌≡◌, Bool, true, false, ◌||◌, [], ◌∷◌, length, refl, ◌∙◌, ap}
-use Rattle.std.proofs.lemmas.Grind.{common_steps}
+use Rattle.std.proofs.Common.{arith, ◌≡◌, Bool, true, false, ◌||◌, [], ◌∷◌, refl, ◌∙◌, ap}
 use Rattle.iref_model.proofs.MappedMarkLemmas.{is_some-map}
 use Rattle.std.specs.Prelude.{◌≢◌, Option, is_some}
 use Rattle.std.specs.Borrow.{Bor}
@@ -18,14 +17,11 @@ use Rattle.iref_model.specs.Resolution.{is_no_path, resolved}
 use Rattle.iref_model.proofs.PieceLemmas.{some_piece}
 use Rattle.iref_path.specs.MergedPaths.{path_after}
 use Rattle.iref_path.proofs.GuardTextLemmas.{guarded-same}
-use Rattle.iref_reference_text.specs.ComponentLengths.{lengths_of_texts, total_length}
+use Rattle.iref_reference_text.specs.ComponentLengths.{lengths_of_texts}
 use Rattle.iref_reference_text.specs.MeasuredReferences.{IsComposed, IsReady, measured_components, spell_texts}
 use Rattle.iref_reference_text.specs.Steps.{Spells}
 use Rattle.iref_reference_text.specs.declared.measured.MeasuredReference.{MeasuredReference}
 use Rattle.iref_reference_text.proofs.EditLemmas.{is_step}
-use Rattle.iref_grammar.specs.Grammar.{colon}
-use Rattle.iref_splice.proofs.PartLemmas.{first_len}
-use Rattle.iref_reference_text.proofs.LengthLemmas.{marked_len}
 
 pub or-copied : (first second : Option (Bor Text)) → option_copied (option_or first second) ≡ option_or (option_copied first) (option_copied second)
 or-copied first second = grind arith
@@ -68,11 +64,6 @@ module _ (b t : ComponentTexts) (none : (is_some t.scheme || is_some t.authority
   after_resolved some path e = grind (arith, none, some_path t.path some, authority_spelled, is_some-map)
 
 -- ---- the text of components
-
--- how long the text of components is
-pub total-texts : (t : ComponentTexts) → total_length (lengths_of_texts t) ≡ length (spell_texts t)
-unfolding spell_texts
-total-texts t = grind (arith, common_steps, first_len colon, marked_len)
 
 -- the text of the components of a reference is its spelling
 pub spelled_texts : (t : ComponentTexts) (r : ReferenceValue) → t ≡ spell_components r → spell_texts t ≡ spell r

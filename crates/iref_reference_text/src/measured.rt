@@ -1,13 +1,12 @@
 //! References that are measured before they are written: what one resolves to against a base,
 //! strict (RFC 3986 sections 5.2.2 and 5.3).
 ghost use Rattle.std.specs.{Fmt.{WritesOnOk}, Option.{option_copied}};
-ghost use Rattle.std.specs.Prelude.{◌≡◌, ◌+◌, ◌*◌, ◌<◌, ◌≤◌, ◌^◌, [], ◌∷◌, IfOk, is_some, length, true};
+ghost use Rattle.std.specs.Prelude.{◌≡◌, ◌+◌, ◌*◌, ◌<◌, ◌^◌, [], ◌∷◌, IfOk, is_some, length, true};
 ghost use Rattle.iref_grammar.specs.{ComponentTexts.{spell_components}, Reference.{context_of}, Grammar.{colon}};
 ghost use Rattle.iref_grammar.specs.Texts.{part_then, then_part};
 ghost use Rattle.iref_model.specs.{fits, resolved};
 ghost use Rattle.iref_parse.specs.ReferenceSlices.{value_of};
-ghost use Rattle.iref_path.specs.Written.{WritesBefore};
-ghost use Rattle.iref_reference_text.specs.ComponentLengths.{lengths_of_texts, with_mark};
+ghost use Rattle.iref_reference_text.specs.ComponentLengths.{lengths_of_texts};
 ghost use Rattle.iref_reference_text.specs.MeasuredReferences.{IsReady, spell_texts, measured_components};
 
 use crate::lengths::Lengths;
@@ -15,10 +14,10 @@ use crate::row::Row;
 use iref_grammar::context::PathContext;
 use iref_parse::split::ReferenceSlices;
 use iref_path::measured::MeasuredPath;
-use iref_path::spell::write_before;
-use iref_splice::Memory;
+use iref_splice::backward::Backward;
 use iref_splice::text::marked_len;
-use std::alloc::{AllocError, Global};
+use iref_splice::unwritten::Unwritten;
+use std::alloc::AllocError;
 use std::fmt;
 
 /// The components of a reference that is not written yet, as of what `../g` resolves to against
@@ -43,18 +42,6 @@ pub fn count_paths(base: &str, other: &str) -> Result<(), AllocError>
     Ok(())
 }
 
-// A length and that of a part with its delimiter, if there is a part and the sum can be counted.
-fn add_part(len: usize, mark: usize, part: Option<&str>) -> Result<usize, AllocError>
-    requires { mark ≤ 2 }
-    ensures { IfOk result (λ sum. sum ≡ len + with_mark mark (option_copied part.entry)) }
-{
-    let Some(part) = part else {
-        return Ok(len);
-    };
-    let marked = len.checked_add(mark).ok_or(AllocError)?;
-    marked.checked_add(part.len()).ok_or(AllocError)
-}
-
 // What stands before a path after these components.
 pub(crate) fn context_after(scheme: Option<&str>, authority: Option<&str>) -> PathContext
     ensures { result ≡ record {
@@ -68,39 +55,27 @@ pub(crate) fn context_after(scheme: Option<&str>, authority: Option<&str>) -> Pa
     }
 }
 
-// Writes a delimiter and a part so that they end at `end`, or nothing, and returns where they begin.
+// Puts a delimiter and a part, or nothing.
 #[inline(always)]
-#[tactic(auto, using(iref_path::proofs::WrittenLemmas::both_written))]
-fn write_marked(buffer: &mut [u8], end: usize, mark: &str, part: Option<&str>) -> usize
-    requires room { length (then_part mark.now (option_copied part)) ≤ end }
-    requires within { end ≤ length buffer.old }
-    ensures { WritesBefore end (then_part mark.entry.now (option_copied part.entry))
-        buffer.old buffer.new result }
+fn put_marked<O: Backward>(out: &mut O, mark: &[u8], part: Option<&str>)
+    requires { O.fits out.old (then_part mark.now (option_copied part)) }
+    ensures { out.new ≡ O.after out.old (then_part mark.entry.now (option_copied part.entry)) }
 {
-    match part {
-        Some(part) => {
-            let start = write_before(buffer, end, part);
-            write_before(buffer, start, mark)
-        }
-        None => end,
+    if let Some(part) = part {
+        out.put(part.as_bytes());
+        out.put(mark);
     }
 }
 
-// Writes a scheme and its delimiter so, or nothing.
+// Puts a scheme and its delimiter, or nothing.
 #[inline(always)]
-#[tactic(auto, using(iref_path::proofs::WrittenLemmas::both_written))]
-fn write_scheme(buffer: &mut [u8], end: usize, scheme: Option<&str>) -> usize
-    requires room { length (part_then (colon ∷ []) (option_copied scheme)) ≤ end }
-    requires within { end ≤ length buffer.old }
-    ensures { WritesBefore end (part_then (colon ∷ []) (option_copied scheme.entry))
-        buffer.old buffer.new result }
+fn put_scheme<O: Backward>(out: &mut O, scheme: Option<&str>)
+    requires { O.fits out.old (part_then (colon ∷ []) (option_copied scheme)) }
+    ensures { out.new ≡ O.after out.old (part_then (colon ∷ []) (option_copied scheme.entry)) }
 {
-    match scheme {
-        Some(scheme) => {
-            let start = write_before(buffer, end, ":");
-            write_before(buffer, start, scheme)
-        }
-        None => end,
+    if let Some(scheme) = scheme {
+        out.put(b":");
+        out.put(scheme.as_bytes());
     }
 }
 
@@ -192,42 +167,6 @@ impl<'a> MeasuredReference<'a> {
         }
     }
 
-    /// How long the text is, if that can be counted.
-    pub fn total(&self) -> Result<usize, AllocError>
-        requires { IsReady self.now }
-        ensures { IfOk result (λ len. len ≡ length (spell_texts (measured_components self.now))) }
-    {
-        let path = add_part(add_part(0, 1, self.scheme)?, 2, self.authority)?;
-        let query = path.checked_add(self.path.len()).ok_or(AllocError)?;
-        add_part(add_part(query, 1, self.query)?, 1, self.fragment)
-    }
-
-    /// The bytes of the text, which is this long.
-    pub fn bytes(&self, alloc: Global, len: usize) -> Result<Vec<u8>, Memory>
-        requires ready { IsReady self.now }
-        requires len { len ≡ length (spell_texts (measured_components self.now)) }
-        ensures { IfOk result (λ bytes. bytes.items ≡ spell_texts (measured_components self.now)) }
-    {
-        let mut bytes = vec![in alloc; 0u8; len]?;
-        self.write(&mut bytes);
-        Ok(bytes)
-    }
-
-    /// Fills the buffer with the text, from its end.
-    #[tactic(auto, unfolding(crate::specs::MeasuredReferences::spell_texts))]
-    pub fn write(&self, buffer: &mut [u8])
-        requires ready { IsReady self.now }
-        requires room { length (spell_texts (measured_components self.now)) ≡ length buffer.old }
-        ensures { buffer.new ≡ spell_texts (measured_components self.now) }
-    {
-        let end = buffer.len();
-        let end = write_marked(buffer, end, "#", self.fragment);
-        let end = write_marked(buffer, end, "?", self.query);
-        let end = self.path.write_before(buffer, end);
-        let end = write_marked(buffer, end, "//", self.authority);
-        write_scheme(buffer, end, self.scheme);
-    }
-
     /// Writes the text to a formatter, from the front.
     #[tactic(auto, unfolding(crate::specs::MeasuredReferences::spell_texts))]
     pub fn show<W: fmt::Write>(&self, f: &mut fmt::Formatter<W>) -> fmt::Result
@@ -240,5 +179,20 @@ impl<'a> MeasuredReference<'a> {
         self.path.show(f)?;
         show_marked("?", self.query, f)?;
         show_marked("#", self.fragment, f)
+    }
+}
+
+impl Unwritten for MeasuredReference<'_> {
+    ghost text = { λ m. spell_texts (measured_components m) };
+
+    ghost is_sound = { IsReady };
+
+    #[tactic(auto, unfolding(crate::specs::MeasuredReferences::spell_texts))]
+    fn put<O: Backward>(&self, out: &mut O) {
+        put_marked(out, b"#", self.fragment);
+        put_marked(out, b"?", self.query);
+        self.path.put(out);
+        put_marked(out, b"//", self.authority);
+        put_scheme(out, self.scheme);
     }
 }

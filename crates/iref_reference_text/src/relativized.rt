@@ -20,6 +20,7 @@ use iref_parse::split::ReferenceSlices;
 use iref_path::measured::MeasuredPath;
 use iref_path::segments::split_root;
 use iref_path::settled::is_settled;
+use iref_splice::unwritten::Unwritten;
 use std::alloc::AllocError;
 
 // Nothing stands before the path.
@@ -159,7 +160,7 @@ fn shorter<'a>(
         ≡ shorter_texts (measured_components first.entry) (measured_components other.entry)) }
     ensures ready { IfOk result IsReady }
 {
-    if other.total()? < first.total()? {
+    if other.count()? < first.count()? {
         Ok(other)
     } else {
         Ok(first)

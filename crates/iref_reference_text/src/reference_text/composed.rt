@@ -9,11 +9,13 @@ use crate::lengths::Lengths;
 use crate::measured::MeasuredReference;
 use iref_grammar::chars::CharSet;
 use iref_splice::Memory;
+use iref_splice::unwritten::Unwritten;
 use std::alloc::Global;
 use std::marker::PhantomData;
 
 impl<R: HeldRule, C: CharSet> ReferenceText<R, C> {
     /// The text of these components, which is in the rule and this long. The room is taken once.
+    #[inline(always)]
     #[tactic(auto, using(crate::proofs::ReferenceTextLemmas::in_rule_utf8))]
     pub fn of_components(
         alloc: Global,
@@ -24,7 +26,8 @@ impl<R: HeldRule, C: CharSet> ReferenceText<R, C> {
         requires len { len ≡ length (spell_texts (measured_components components.now)) }
         ensures { IfOk result (λ inner. inner ≡ spell_texts (measured_components components.now)) }
     {
-        let bytes = components.bytes(alloc, len)?;
+        let mut bytes = vec![in alloc; 0u8; len]?;
+        components.fill(&mut bytes);
         // What spells a reference is text, so no byte is read again.
         let text = unsafe { String::from_utf8_unchecked(bytes) };
         Ok(ReferenceText {

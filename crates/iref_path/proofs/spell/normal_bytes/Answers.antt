@@ -9,9 +9,13 @@ read-requires-clause-fits c = omega (arith, read_size c.args.path.now _ c.split_
 pub of_segments-requires : goal.of_segments-requires
 of_segments-requires c = omega (arith, read_size c.args.path.now _ c.split_root.ensures.path)
 
-pub stacked_bytes-requires-clause-countable : goal.stacked_bytes-requires-clause-countable
-stacked_bytes-requires-clause-countable c =
-    omega (arith, read_size c.args.path.now _ c.split_root.ensures.path, normal_size (path_of c.args.absolute c.split_root.result.1))
+pub to_bytes-requires : goal.to_bytes-requires
+to_bytes-requires c =
+    let same = ap in_order c.as_slice.ensures ∙ c.read.ensures.listed c.if-stack.true in
+    record {
+      size = grind arith;
+      countable = omega (arith, read_size c.args.path.now _ c.split_root.ensures.path, normal_size (path_of c.args.absolute c.split_root.result.1));
+    }
 
 pub returns-then-stack : goal.returns-then-stack
 unfolding stacked_text

@@ -1,0 +1,14 @@
+use Rattle.std.proofs.Common.{◌≡◌, length}
+use Rattle.iref_path.specs.NormalItems.{IsSound, normal_left}
+use Rattle.iref_path.specs.Spelling.{each_closed}
+use Rattle.iref_path.proofs.spell.put_closed.Given as goal
+
+abbrev pub invariant-loop-item : goal.invariant-loop-item
+invariant-loop-item g l = record {
+  same : g.O.Backward.after l.out (each_closed (normal_left l.left)) ≡ g.O.Backward.after l.fn.out (each_closed (normal_left l.fn.left));
+  fits : g.O.Backward.fits l.out (each_closed (normal_left l.left));
+  sound : IsSound l.left;
+}
+
+abbrev pub decreases-loop-item : goal.decreases-loop-item
+decreases-loop-item g l = length (normal_left l.left)
