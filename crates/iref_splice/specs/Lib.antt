@@ -6,3 +6,5 @@ pub mod Filled
 pub mod FilledLaws
 pub mod Fed
 pub mod FedLaws
+pub mod Held
+pub mod HeldLaws

@@ -9,8 +9,8 @@ use crate::backward::Backward;
 use std::hash::Hasher;
 use std::marker::Model;
 
-// How many bytes a piece has at most.
-const ROOM: usize = 256;
+/// How many bytes a piece has at most.
+pub(crate) const ROOM: usize = 256;
 
 // Writes the last piece to the hasher, which ends the text.
 #[inline(always)]
@@ -53,15 +53,23 @@ impl Model for Waiting {
 }
 
 impl Waiting {
-    // No byte waits.
+    /// No byte waits.
     #[inline(always)]
-    fn new() -> Self
+    pub(crate) fn new() -> Self
         ensures { result ≡ [] }
     {
         Waiting {
             bytes: [0; ROOM],
             start: ROOM,
         }
+    }
+
+    /// The bytes that wait.
+    #[inline(always)]
+    pub(crate) fn as_slice(&self) -> &[u8]
+        ensures { result.now ≡ self.now }
+    {
+        &self.bytes[self.start..]
     }
 
     // How many more bytes can wait.
@@ -72,10 +80,10 @@ impl Waiting {
         self.start
     }
 
-    // Puts bytes before those that wait. Three, as an escape has, are copied with no call.
+    /// Puts bytes before those that wait. Three, as an escape has, are copied with no call.
     #[inline(always)]
     #[tactic(auto, using(std::proofs::lemmas::List::take_all))]
-    fn put_fitting(&mut self, bytes: &[u8])
+    pub(crate) fn put_fitting(&mut self, bytes: &[u8])
         requires { length bytes.now + length self.old ≤ 256 }
         ensures { self.new ≡ bytes.now ++ self.old }
     {
@@ -93,7 +101,7 @@ impl Waiting {
         ensures state { state.new ≡ H.write state.old self.old }
         ensures none { self.new ≡ [] }
     {
-        state.write(&self.bytes[self.start..]);
+        state.write(self.as_slice());
         self.start = ROOM;
     }
 
@@ -142,7 +150,7 @@ impl<'a, H: Hasher> Fed<'a, H> {
             ≡ fold H.write self.entry.state.now (self.entry.waiting ∷ fed_byte 255) }
     {
         let Fed { state, waiting } = self;
-        write_last(&waiting.bytes[waiting.start..], state);
+        write_last(waiting.as_slice(), state);
     }
 }
 

@@ -6,6 +6,7 @@ pub mod backward;
 pub mod bytes;
 pub mod change;
 pub mod fed;
+pub mod held;
 pub mod out_of_memory;
 pub mod target;
 pub mod text;

@@ -3,8 +3,9 @@ ghost use Rattle.std.specs.Prelude.{◌≡◌, ◌++◌, IfOk, OnErr, OnOk, byte
 ghost use Rattle.iref_grammar.specs.Rules.{Text};
 ghost use Rattle.iref_splice.specs.Fed.{fed_text};
 
-use crate::backward::{Backward, Compared, Count, Filled};
+use crate::backward::{Backward, Compared, Filled};
 use crate::fed::Fed;
+use crate::held::Held;
 use crate::out_of_memory::Memory;
 use std::alloc::{AllocError, Global};
 use std::hash::Hasher;
@@ -23,16 +24,6 @@ pub trait Unwritten {
         requires fits { O.fits out.old (text self.now) }
         ensures { out.new ≡ O.after out.old (text self.now) };
 
-    /// How many bytes the text has, if they can be counted.
-    fn count(&self) -> Result<usize, AllocError>
-        requires { is_sound self.now }
-        ensures { IfOk result (λ len. len ≡ length (text self.now)) }
-    {
-        let mut count = Count::new();
-        self.put(&mut count);
-        count.len()
-    }
-
     /// Fills the buffer with the text.
     fn fill(&self, buffer: &mut [u8])
         requires sound { is_sound self.now }
@@ -43,12 +34,17 @@ pub trait Unwritten {
         self.put(&mut filled);
     }
 
-    /// The bytes of the text. The room is taken once.
+    /// The bytes of the text. The room is taken once. A text of at most 256 bytes is put once.
     fn to_bytes(&self, alloc: Global) -> Result<Vec<u8>, Memory>
         requires { is_sound self.now }
         ensures { IfOk result (λ bytes. bytes.items ≡ text self.now) }
     {
-        let mut bytes = vec![in alloc; 0u8; self.count()?]?;
+        let mut held = Held::new();
+        self.put(&mut held);
+        if let Some(text) = held.text() {
+            return Ok(Vec::from_slice(alloc, text)?);
+        }
+        let mut bytes = vec![in alloc; 0u8; held.len()?]?;
         self.fill(&mut bytes);
         Ok(bytes)
     }
@@ -59,9 +55,13 @@ pub trait Unwritten {
         ensures ok { OnOk result (out.new.items ≡ out.old.items ++ text self.now) }
         ensures err { OnErr result (out.new.items ≡ out.old.items) }
     {
-        let len = self.count()?;
+        let mut held = Held::new();
+        self.put(&mut held);
+        if let Some(text) = held.text() {
+            return Ok(out.extend_from_slice(text)?);
+        }
         let start = out.len();
-        let end = start.checked_add(len).ok_or(AllocError)?;
+        let end = start.checked_add(held.len()?).ok_or(AllocError)?;
         out.resize(end, 0)?;
         self.fill(&mut out[start..]);
         Ok(())
@@ -73,8 +73,13 @@ pub trait Unwritten {
         ensures ok { OnOk result (bytes.new.items ≡ text self.now) }
         ensures err { OnErr result (bytes.new.items ≡ bytes.old.items) }
     {
-        bytes.resize(self.count()?, 0)?;
-        self.fill(bytes.as_mut_slice());
+        let mut held = Held::new();
+        self.put(&mut held);
+        bytes.resize(held.len()?, 0)?;
+        match held.text() {
+            Some(text) => bytes.as_mut_slice().copy_from_slice(text),
+            None => self.fill(bytes.as_mut_slice()),
+        }
         Ok(())
     }
 
