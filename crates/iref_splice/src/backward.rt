@@ -1,10 +1,11 @@
-//! What takes a text from its end, piece by piece: it is written or compared.
-ghost use Rattle.std.specs.Prelude.{◌≡◌, ◌++◌, Option, Some, [], false, length, true, ⊤};
+//! What takes a text from its end, piece by piece: it is counted, written or compared.
+ghost use Rattle.std.specs.Prelude.{◌≡◌, ℕ, ◌<◌, ◌++◌, Option, Some, [], IfOk, OnErr, false, length, true, ⊤};
 ghost use Rattle.std.specs.Option.{option_copied};
 ghost use Rattle.iref_grammar.specs.Rules.{Text};
-ghost use Rattle.iref_splice.specs.Backward.{compared_after, is_all};
-ghost use Rattle.iref_splice.specs.BackwardLaws.{compared-both, compared-nothing};
+ghost use Rattle.iref_splice.specs.Backward.{compared_after, counted_after, is_all, most};
+ghost use Rattle.iref_splice.specs.BackwardLaws.{compared-both, compared-nothing, counted-both, counted-nothing};
 
+use std::alloc::AllocError;
 use std::marker::Model;
 
 /// What takes a text from its end.
@@ -37,6 +38,63 @@ pub trait Backward {
     /// What can take both can take the last, and then the first.
     ghost fits_both: { (out : Self) → (front back : Text) → fits out (front ++ back)
         → fits out back × fits (after out back) front };
+}
+
+/// How many bytes a text has, or the greatest number where they are more.
+#[derive(Drop)]
+pub struct Count {
+    len: usize,
+}
+
+impl Model for Count {
+    ghost Value = { ℕ };
+
+    ghost view = { λ c. c.len };
+
+    ghost invariant = { λ c. ⊤ };
+}
+
+impl Count {
+    /// Of no text.
+    pub fn new() -> Self
+        ensures { result ≡ 0 }
+    {
+        Count { len: 0 }
+    }
+
+    /// How many bytes were taken, if they can be counted.
+    pub fn len(&self) -> Result<usize, AllocError>
+        ensures ok { IfOk result (λ len. len ≡ self.now) }
+        ensures exact { IfOk result (λ len. len < most) }
+        ensures err { OnErr result (self.now ≡ most) }
+    {
+        if self.len == usize::MAX {
+            Err(AllocError)
+        } else {
+            Ok(self.len)
+        }
+    }
+}
+
+impl Backward for Count {
+    ghost after = { counted_after };
+
+    ghost fits = { λ _ _. ⊤ };
+
+    fn put(&mut self, piece: &[u8]) {
+        self.len = self.len.saturating_add(piece.len());
+    }
+
+    fn put_len(&mut self, len: usize) -> bool {
+        self.len = self.len.saturating_add(len);
+        true
+    }
+
+    ghost after_nothing = { counted-nothing };
+
+    ghost after_both = { counted-both };
+
+    ghost fits_both = { λ _ _ _ _. (tt, tt) };
 }
 
 /// What is left of a text that is compared from its end, or nothing once it differs.

@@ -3,7 +3,7 @@ ghost use Rattle.std.specs.Prelude.{◌≡◌, ◌++◌, IfOk, OnErr, OnOk, byte
 ghost use Rattle.iref_grammar.specs.Rules.{Text};
 ghost use Rattle.iref_splice.specs.Fed.{fed_text};
 
-use crate::backward::{Backward, Compared, Filled};
+use crate::backward::{Backward, Compared, Count, Filled};
 use crate::fed::Fed;
 use crate::held::Held;
 use crate::out_of_memory::Memory;
@@ -23,6 +23,16 @@ pub trait Unwritten {
         requires sound { is_sound self.now }
         requires fits { O.fits out.old (text self.now) }
         ensures { out.new ≡ O.after out.old (text self.now) };
+
+    /// How many bytes the text has, if they can be counted.
+    fn count(&self) -> Result<usize, AllocError>
+        requires { is_sound self.now }
+        ensures { IfOk result (λ len. len ≡ length (text self.now)) }
+    {
+        let mut count = Count::new();
+        self.put(&mut count);
+        count.len()
+    }
 
     /// Fills the buffer with the text.
     fn fill(&self, buffer: &mut [u8])
