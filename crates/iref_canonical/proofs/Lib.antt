@@ -27,6 +27,7 @@ pub mod SortLengthLemmas
 pub mod SortByteLemmas
 pub mod SortItemLemmas
 pub mod KeptPartLemmas
+pub mod KeptPathLemmas
 pub mod SortPutLemmas
 pub mod SortBlockLemmas
 pub mod SortShortLemmas

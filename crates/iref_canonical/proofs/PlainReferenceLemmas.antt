@@ -113,7 +113,7 @@ same_authorities (Some a) h k = ap (λ x. Some x) (same_authority a h k)
 
 -- ---- paths
 
-named : (item : Text) → is_name item ≡ true → canonical_name item ≡ encoded (is_path_char uri_chars) item
+pub named : (item : Text) → is_name item ≡ true → canonical_name item ≡ encoded (is_path_char uri_chars) item
 named item h =
     let both = and_parts (not (is_dot item)) (not (is_dot_dot item)) h in
     λ i. cond (not-true (is_dot item) both.0 i) (codes "%2E") (cond (not-true (is_dot_dot item) both.1 i) (codes "%2E%2E") (encoded (is_path_char uri_chars) item))
@@ -147,7 +147,7 @@ same_list false list d h k = no_parent list d h ∙ same_items list d h k
 not_lone : (p : PathValue) → shows_its_list p ≡ true → is_one_empty p.segments ≡ false
 not_lone p h = grind arith
 
-normal_same : (p : PathValue) → is_some_dotted p.segments ≡ false → shows_its_list p ≡ true → normal_segments p ≡ p.segments
+pub normal_same : (p : PathValue) → is_some_dotted p.segments ≡ false → shows_its_list p ≡ true → normal_segments p ≡ p.segments
 normal_same p d h = normal_segments-dotless p d ∙ cond-false (is_one_empty p.segments) [] p.segments (not_lone p h)
 
 same_path : (p : PathValue) → is_some_dotted p.segments ≡ false → shows_its_list p ≡ true → list_all are_unescaped p.segments ≡ true → list_all (is_segment uri_chars) p.segments ≡ true

@@ -47,7 +47,7 @@ module _ (test : ℕ → Bool) where
       let t = if_taken test 0 (test c) cs (ap (λ o. is_encoded_after test o cs) (sym (by_char test c other)) ∙ e) in
       and_from (test c) (list_all test cs) t.0 (passing cs both.1 t.1)
 
-  passing-encoded : (text : Text) → list_all test text ≡ true → encoded test text ≡ text
+  pub passing-encoded : (text : Text) → list_all test text ≡ true → encoded test text ≡ text
   passing-encoded [] h = encoded-nil test
   passing-encoded (c ∷ cs) h =
       let both = and_parts (test c) (list_all test cs) h in
@@ -64,9 +64,13 @@ module _ (test : ℕ → Bool) where
 pub unescaped-parts : (front back : Text) → are_unescaped (front ++ back) ≡ true → (are_unescaped front ≡ true) × (are_unescaped back ≡ true)
 unescaped-parts front back h = and_parts _ _ (sym (list_all-append is_unescaped_byte front back) ∙ h)
 
+-- each piece of what is joined
+pub joined-all : (test : ℕ → Bool) (mark : ℕ) (pieces : List Text) → list_all test (join_with_byte mark pieces) ≡ true → list_all (list_all test) pieces ≡ true
+joined-all test mark [] h = refl
+joined-all test mark (s ∷ []) h = and_from (list_all test s) true h refl
+joined-all test mark (s ∷ t ∷ rest) h =
+    let both = and_parts _ _ (sym (list_all-append test s (mark ∷ join_with_byte mark (t ∷ rest))) ∙ h) in
+    and_from (list_all test s) (list_all (list_all test) (t ∷ rest)) both.0 (joined-all test mark (t ∷ rest) ((and_parts (test mark) _ both.1).1))
+
 pub unescaped-joined : (mark : ℕ) (pieces : List Text) → are_unescaped (join_with_byte mark pieces) ≡ true → list_all are_unescaped pieces ≡ true
-unescaped-joined mark [] h = refl
-unescaped-joined mark (s ∷ []) h = and_from (are_unescaped s) true h refl
-unescaped-joined mark (s ∷ t ∷ rest) h =
-    let both = unescaped-parts s (mark ∷ join_with_byte mark (t ∷ rest)) h in
-    and_from (are_unescaped s) (list_all are_unescaped (t ∷ rest)) both.0 (unescaped-joined mark (t ∷ rest) ((and_parts (is_unescaped_byte mark) _ both.1).1))
+unescaped-joined mark pieces h = joined-all is_unescaped_byte mark pieces h

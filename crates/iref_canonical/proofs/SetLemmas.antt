@@ -1,18 +1,19 @@
 -- The sets of what is escaped in each component, checked character by character.
-use Rattle.std.proofs.Common.{◌≡◌, ℕ, zero, suc, ◌<◌, Bool, true, false, not, cond, ◌&&◌, ◌||◌, [], ◌∷◌, ◌++◌, refl, sym, ◌∙◌, ap}
+use Rattle.std.proofs.Common.{◌≡◌, ℕ, zero, suc, ◌<◌, Bool, true, false, not, cond, ◌&&◌, ◌||◌, [], ◌∷◌, ◌++◌, refl, sym, ◌∙◌, ap, arith}
 use Rattle.std.specs.Char.{is_ascii}
 use Rattle.std.specs.Cmp.{booleans_Decides}
 use mathlib.Core.Bool.{beq, true≢false}
 use Rattle.std.proofs.lemmas.Bool.{ltb-true}
-use Rattle.std.proofs.lemmas.Bool.Decides.{Decides-below_and}
+use Rattle.std.proofs.lemmas.Bool.Decides.{Decides-below_and, nat_tests}
+use Rattle.std.specs.Prelude.{◌==◌}
 use Rattle.percent_encoding.specs.declared.ascii_set.AsciiSet.{AsciiSet}
 use Rattle.percent_encoding.specs.AsciiSet.{contains, should_percent_encode}
 use Rattle.percent_encoding.specs.Percent.{encode_byte, percent_encode, percent_encode_byte}
 use Rattle.iref_grammar.specs.Characters.{uri_chars}
-use Rattle.iref_grammar.specs.Grammar.{is_reg_name_char, is_user_info_char, is_path_char, is_fragment_char, is_query_char}
+use Rattle.iref_grammar.specs.Grammar.{slash, is_reg_name_char, is_user_info_char, is_path_char, is_fragment_char, is_query_char}
 use Rattle.iref_grammar.specs.Rules.{Text}
 use Rattle.iref_canonical.specs.Canonical.{encoded, encoded_byte}
-use Rattle.iref_canonical.specs.declared.encoded.TheConstants.{REG_NAME, USER_INFO, SEGMENT, QUERY}
+use Rattle.iref_canonical.specs.declared.encoded.TheConstants.{PATH, REG_NAME, USER_INFO, SEGMENT, QUERY}
 use Rattle.iref_canonical.proofs.EncodedTextLemmas.{IsPlain}
 use Rattle.iref_canonical.proofs.PlainCharacterLemmas.{plain_name, plain_user_info, plain_path, plain_fragment, plain_query}
 
@@ -62,6 +63,21 @@ encoded-user_info = all_bytes USER_INFO (is_user_info_char uri_chars) plain_user
 pub encoded-segment : (bytes : Text) → percent_encode SEGMENT bytes ≡ encoded (is_path_char uri_chars) bytes
 unfolding is_path_char is_user_info_char is_reg_name_char
 encoded-segment = all_bytes SEGMENT (is_path_char uri_chars) plain_path refl
+
+-- a character of a path, or `/`
+abbrev pub stands_in_path : ℕ → Bool
+stands_in_path b = b == slash || is_path_char uri_chars b
+
+ascii_in_path : (b : ℕ) → stands_in_path b ≡ true → is_ascii b ≡ true
+ascii_in_path b h = grind (arith, nat_tests, plain_path.ascii b)
+
+plain_in_path : IsPlain stands_in_path
+unfolding is_path_char is_user_info_char is_reg_name_char
+plain_in_path = record { ascii = ascii_in_path; percent = refl }
+
+pub escaped_in_path : (b : ℕ) → should_percent_encode PATH b ≡ not (stands_in_path b)
+unfolding is_path_char is_user_info_char is_reg_name_char
+escaped_in_path = flipped PATH stands_in_path plain_in_path refl
 
 pub encoded-fragment : (bytes : Text) → percent_encode QUERY bytes ≡ encoded (is_fragment_char uri_chars) bytes
 unfolding is_fragment_char is_path_char is_user_info_char is_reg_name_char

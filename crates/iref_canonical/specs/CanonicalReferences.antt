@@ -6,7 +6,7 @@ use Rattle.iref_grammar.specs.Grammar.{colon, hash_sign, question_mark}
 use Rattle.iref_grammar.specs.Rules.{Text}
 use Rattle.iref_grammar.specs.Texts.{part_then, then_part}
 use Rattle.iref_canonical.specs.CanonicalParts.{encoded_authority, encoded_query}
-use Rattle.iref_canonical.specs.SpelledItems.{IsCounted, canonical_path_text}
+use Rattle.iref_canonical.specs.KeptPaths.{IsReady, canonical_path_text}
 use Rattle.iref_canonical.specs.declared.reference.CanonicalReference.{CanonicalReference}
 
 -- its components, one after the other
@@ -17,6 +17,6 @@ measured_canonical r =
     ++ then_part (question_mark ∷ []) (encoded_query (option_copied r.slices.query))
     ++ then_part (hash_sign ∷ []) (encoded_query (option_copied r.slices.fragment))
 
--- its path is counted
+-- its path can be put
 abbrev pub IsMeasured : CanonicalReference → Type 0
-IsMeasured r = IsCounted r.path
+IsMeasured r = IsReady r.path

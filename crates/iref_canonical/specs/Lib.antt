@@ -7,6 +7,7 @@ pub mod FutureLiteral
 pub mod SortKey
 pub mod SortPrefix
 pub mod SpelledItems
+pub mod KeptPaths
 pub mod SortBytes
 pub mod SortItems
 pub mod SortedReferences

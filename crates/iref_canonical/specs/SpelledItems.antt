@@ -1,13 +1,18 @@
 -- The items of a canonical path as they are written, and how many of them are `..` that stand.
-use Rattle.std.specs.Prelude.{◌≡◌, ℕ, zero, suc, ◌-◌, ◌≤◌, Bool, not, ◌&&◌, List, [], ◌∷◌, ◌++◌, map, codes, length, if◌then◌else◌}
+use Rattle.std.specs.Prelude.{◌≡◌, ℕ, zero, suc, ◌-◌, ◌≤◌, Bool, false, not, ◌&&◌, ◌||◌, ◌==◌, List, [], ◌∷◌, ◌++◌, map, codes, length, if◌then◌else◌}
 use Rattle.std.specs.List.{join_with_byte}
-use Rattle.iref_grammar.specs.Grammar.{slash}
+use Rattle.iref_grammar.specs.Grammar.{full_stop, percent_sign, slash}
 use Rattle.iref_grammar.specs.Rules.{Text}
 use Rattle.iref_grammar.specs.Texts.{is_empty}
 use Rattle.iref_model.specs.NormalList.{is_dot_dot}
 use Rattle.iref_path.specs.NormalItems.{decoded_left, IsSound, normal_left}
 use Rattle.iref_canonical.specs.Canonical.{canonical_name}
-use Rattle.iref_canonical.specs.declared.path.CanonicalPath.{CanonicalPath}
+use Rattle.iref_canonical.specs.declared.path.SpelledPath.{SpelledPath}
+
+-- the first byte is `.`, or may be that of its escape
+abbrev pub begins_as_dots : Text → Bool
+begins_as_dots [] = false
+begins_as_dots (c ∷ cs) = c == full_stop || c == percent_sign
 
 -- how many `..` stand first in a relative list, the last item not among them
 unfoldable pub standing_of : List Text → ℕ
@@ -30,11 +35,11 @@ spelled_items (suc n) [] = []
 spelled_items (suc n) (item ∷ rest) = codes ".." ∷ spelled_items n rest
 
 -- the guard, and the items
-unfoldable pub canonical_path_text : CanonicalPath → Text
-canonical_path_text p = p.guard.now ++ join_with_byte slash (spelled_items p.standing (decoded_left p.items))
+unfoldable pub spelled_path_text : SpelledPath → Text
+spelled_path_text p = p.guard.now ++ join_with_byte slash (spelled_items p.standing (decoded_left p.items))
 
 -- the items can be read and are counted, and the last one does not stand
-pub record IsCounted (p : CanonicalPath) : Type 0 where
+pub record IsCounted (p : SpelledPath) : Type 0 where
   pub sound : IsSound p.items
   pub count : p.count ≡ length (normal_left p.items)
   pub standing : p.standing ≤ p.count - 1

@@ -32,6 +32,9 @@ pub const USER_INFO: AsciiSet = ascii_set!(REG_NAME.remove(b':'));
 /// What is escaped in a segment (RFC 3986 section 3.3).
 pub const SEGMENT: AsciiSet = ascii_set!(USER_INFO.remove(b'@'));
 
+/// What is escaped in a path (RFC 3986 section 3.3).
+pub const PATH: AsciiSet = ascii_set!(SEGMENT.remove(b'/'));
+
 /// What is escaped in a query and in a fragment (RFC 3986 sections 3.4 and 3.5).
 pub const QUERY: AsciiSet = ascii_set!(SEGMENT.remove(b'/').remove(b'?'));
 
@@ -78,9 +81,9 @@ fn put_byte<O: Backward>(out: &mut O, byte: u8, set: AsciiSet)
     }
 }
 
-// Whether no byte of the text is `%` or in the set, so that decoded and encoded anew it stands.
+/// Whether no byte of the text is `%` or in the set, so that decoded and encoded anew it stands.
 #[inline(always)]
-fn is_passed(text: &str, set: AsciiSet) -> bool
+pub(crate) fn is_passed(text: &str, set: AsciiSet) -> bool
     ensures { result ≡ is_passed set text.now }
 {
     text.bytes()

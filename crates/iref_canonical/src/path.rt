@@ -7,19 +7,22 @@ ghost use Rattle.iref_grammar.specs.{Grammar.{colon, slash}, PathValue.{read_pat
 ghost use Rattle.iref_model.specs.{Guard.{guarded}, NormalList.{is_dot, is_dot_dot}, PathKey.{path_key}};
 ghost use Rattle.iref_path.specs.{NormalItems.{IsSound, decoded_left, normal_left}, Spelling.{each_closed}};
 ghost use Rattle.iref_canonical.specs.{Canonical.{canonical_name, canonical_path}, SpelledItems.{IsCounted}};
-ghost use Rattle.iref_canonical.specs.SpelledItems.{canonical_path_text, spelled_item, spelled_items, standing_of};
+ghost use Rattle.iref_canonical.specs.KeptPaths.{IsReady, canonical_path_text, is_kept_path, is_rooted};
+ghost use Rattle.iref_canonical.specs.SpelledItems.{begins_as_dots, spelled_item, spelled_items};
+ghost use Rattle.iref_canonical.specs.SpelledItems.{spelled_path_text, standing_of};
 
-use crate::encoded::{SEGMENT, put_encoded, split_last_decoded};
+use crate::encoded::{PATH, SEGMENT, is_passed, put_encoded, split_last_decoded};
 use iref_grammar::context::PathContext;
 use iref_parse::decoded::decoded_eq;
+use iref_parse::dots::has_dots;
 use iref_path::normal_items::{NormalItems, survey_items};
 use iref_path::segments::split_root;
 use iref_path::spell::guard_in;
 use iref_splice::backward::Backward;
 
-/// The canonical path of a reference, not written yet.
+/// A canonical path that is spelled anew, item by item.
 #[derive(Clone, Copy)]
-pub struct CanonicalPath<'a> {
+pub struct SpelledPath<'a> {
     // What stands before the items.
     guard: &'static str,
     items: NormalItems<'a>,
@@ -104,13 +107,24 @@ fn sample(item: &str) -> &'static str
     }
 }
 
+// Whether the first byte is `.`, or may be that of its escape.
+#[inline(always)]
+fn begins_as_dots(item: &str) -> bool
+    ensures { result ≡ begins_as_dots item.now }
+{
+    match item.as_bytes() {
+        [first, ..] => *first == b'.' || *first == b'%',
+        [] => false,
+    }
+}
+
 // Puts an item that does not stand. One of more than six bytes does not decode to dots.
-#[tactic(auto, using(crate::proofs::SetLemmas::sets, crate::proofs::LongNameLemmas::long_name))]
+#[tactic(auto, using(crate::proofs::SetLemmas::sets, crate::proofs::LongNameLemmas::no_dots))]
 fn put_name<O: Backward>(out: &mut O, item: &str)
     requires { O.fits out.old (canonical_name (percent_decode item.now)) }
     ensures { out.new ≡ O.after out.old (canonical_name (percent_decode item.now)) }
 {
-    if item.len() > 6 {
+    if item.len() > 6 || !begins_as_dots(item) {
         put_encoded(out, item, SEGMENT);
     } else if decodes_to_dot(item) {
         out.put(b"%2E");
@@ -176,10 +190,10 @@ fn put_items<O: Backward>(out: &mut O, mut left: NormalItems<'_>, count: usize, 
     }
 }
 
-impl<'a> CanonicalPath<'a> {
-    /// The canonical path in its context.
-    pub fn new(context: PathContext, path: &'a str) -> Self
-        ensures text { canonical_path_text result
+impl<'a> SpelledPath<'a> {
+    // The canonical path in its context.
+    fn new(context: PathContext, path: &'a str) -> Self
+        ensures text { spelled_path_text result
             ≡ spell_path (guarded context (canonical_path (path_key (read_path path.now)))) }
         ensures counted { IsCounted result }
     {
@@ -188,7 +202,7 @@ impl<'a> CanonicalPath<'a> {
         let count = all.items.len();
         let guard = guard_in(context, absolute, count, sample(all.first));
         let standing = count_standing_in(absolute, all.items);
-        CanonicalPath {
+        SpelledPath {
             guard,
             items: all.items,
             count,
@@ -196,14 +210,71 @@ impl<'a> CanonicalPath<'a> {
         }
     }
 
-    /// Puts the path.
-    #[tactic(auto, unfolding(crate::specs::SpelledItems::canonical_path_text))]
-    pub(crate) fn put<O: Backward>(&self, out: &mut O)
+    // Puts the path.
+    #[tactic(auto, unfolding(crate::specs::SpelledItems::spelled_path_text))]
+    fn put<O: Backward>(&self, out: &mut O)
         requires counted { IsCounted self.now }
-        requires fits { O.fits out.old (canonical_path_text self.now) }
-        ensures { out.new ≡ O.after out.old (canonical_path_text self.now) }
+        requires fits { O.fits out.old (spelled_path_text self.now) }
+        ensures { out.new ≡ O.after out.old (spelled_path_text self.now) }
     {
         put_items(out, self.items, self.count, self.standing);
         out.put(self.guard.as_bytes());
+    }
+}
+
+/// The canonical path of a reference, not written yet.
+#[derive(Clone, Copy)]
+pub enum CanonicalPath<'a> {
+    /// It stands as it is.
+    Kept(&'a str),
+    /// It is spelled anew.
+    Spelled(SpelledPath<'a>),
+}
+
+// Whether the path begins with a `/`, and no other follows that.
+#[inline(always)]
+fn is_rooted(path: &[u8]) -> bool
+    ensures { result ≡ is_rooted path.now }
+{
+    match path {
+        [first, second, ..] => *first == b'/' && *second != b'/',
+        [first] => *first == b'/',
+        [] => false,
+    }
+}
+
+// Whether one scan finds that the path is canonical, as that of `http://a/b` is.
+#[inline(always)]
+fn is_kept_path(path: &str) -> bool
+    ensures { result ≡ is_kept_path path.now }
+{
+    is_rooted(path.as_bytes()) && is_passed(path, PATH) && !has_dots(path.as_bytes())
+}
+
+impl<'a> CanonicalPath<'a> {
+    /// The canonical path in its context.
+    #[tactic(auto, using(crate::proofs::KeptPathLemmas::kept))]
+    pub fn new(context: PathContext, path: &'a str) -> Self
+        ensures text { canonical_path_text result
+            ≡ spell_path (guarded context (canonical_path (path_key (read_path path.now)))) }
+        ensures ready { IsReady result }
+    {
+        if is_kept_path(path) {
+            CanonicalPath::Kept(path)
+        } else {
+            CanonicalPath::Spelled(SpelledPath::new(context, path))
+        }
+    }
+
+    /// Puts the path.
+    pub(crate) fn put<O: Backward>(&self, out: &mut O)
+        requires ready { IsReady self.now }
+        requires fits { O.fits out.old (canonical_path_text self.now) }
+        ensures { out.new ≡ O.after out.old (canonical_path_text self.now) }
+    {
+        match self {
+            CanonicalPath::Kept(path) => out.put(path.as_bytes()),
+            CanonicalPath::Spelled(path) => path.put(out),
+        }
     }
 }

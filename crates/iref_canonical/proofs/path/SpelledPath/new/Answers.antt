@@ -4,16 +4,16 @@ use Rattle.percent_encoding.specs.Percent.{percent_decode}
 use Rattle.iref_grammar.specs.PathValue.{read_path}
 use Rattle.iref_path.specs.NormalItems.{decoded_left, first_or, normal_left}
 use Rattle.iref_path.proofs.SpellLemmas.{read_size}
-use Rattle.iref_canonical.specs.SpelledItems.{canonical_path_text}
+use Rattle.iref_canonical.specs.SpelledItems.{spelled_path_text}
 use Rattle.iref_canonical.proofs.ShapeLemmas.{AreLike, first-decoded, path-spelled}
 use Rattle.iref_canonical.proofs.SpelledItemLemmas.{standing-few}
-use Rattle.iref_canonical.proofs.path.CanonicalPath.new.Goals as goal
+use Rattle.iref_canonical.proofs.path.SpelledPath.new.Goals as goal
 
 pub survey_items-all-requires : goal.survey_items-all-requires
 survey_items-all-requires c = omega (arith, read_size c.args.path.now _ c.split_root-absolute.ensures.path)
 
 pub returns-clause-text : goal.returns-clause-text
-unfolding canonical_path_text
+unfolding spelled_path_text
 returns-clause-text c =
     let list = decoded_left c.survey_items-all.result.items in
     let first = first-decoded (normal_left c.survey_items-all.result.items) in

@@ -1,0 +1,124 @@
+-- A path that one scan finds to be canonical is.
+use Rattle.std.proofs.Common.{◌≡◌, ℕ, Bool, true, false, not, cond, List, [], ◌∷◌, map, refl, sym, ◌∙◌, ap, arith}
+use Rattle.std.specs.List.{list_all, join_with_byte, onto_first}
+use mathlib.Core.Bool.{true≢false}
+use Rattle.std.proofs.lemmas.Bool.{and_from, and_parts, not-true}
+use Rattle.std.proofs.lemmas.Bool.Decides.{nat_tests}
+use Rattle.std.proofs.lemmas.Grind.{common_steps}
+use Rattle.std.proofs.lemmas.List.Folds.{list_all-append}
+use Rattle.percent_encoding.specs.Percent.{percent_decode, percent_sign}
+use Rattle.iref_grammar.specs.declared.context.PathContext.{PathContext}
+use Rattle.iref_grammar.specs.Characters.{uri_chars}
+use Rattle.iref_grammar.specs.Contexts.{fits}
+use Rattle.iref_grammar.specs.Grammar.{slash, is_path_char, is_not_percent}
+use Rattle.iref_grammar.specs.PathValue.{begins_empty, read_path, spell_path}
+use Rattle.iref_grammar.specs.Rules.{Text}
+use Rattle.iref_grammar.specs.Texts.{lacks, pieces_at}
+use Rattle.iref_grammar.proofs.LackLemmas.{all_lacks}
+use Rattle.iref_grammar.proofs.PathLemmas.{read_path-reads}
+use Rattle.iref_model.specs.Guard.{guarded}
+use Rattle.iref_model.specs.NormalList.{is_name}
+use Rattle.iref_model.specs.PathKey.{path_key}
+use Rattle.iref_parse.specs.Dots.{begins_with_dot, has_dot_segment, is_some_dotted}
+use Rattle.iref_path.proofs.DotlessLemmas.{dotless_name}
+use Rattle.iref_path.proofs.GuardTextLemmas.{guarded-same}
+use Rattle.iref_canonical.specs.Canonical.{canonical_items, canonical_name, canonical_path, canonical_relative, encoded}
+use Rattle.iref_canonical.specs.Decoded.{is_byte_passed, is_passed}
+use Rattle.iref_canonical.specs.KeptPaths.{is_kept_path, is_rooted}
+use Rattle.iref_canonical.specs.declared.encoded.TheConstants.{PATH}
+use Rattle.iref_canonical.proofs.CanonicalPartLemmas.{decoded-lacks}
+use Rattle.iref_canonical.proofs.PlainCharacterLemmas.{plain_path}
+use Rattle.iref_canonical.proofs.PlainReferenceLemmas.{named, normal_same, read_dotless}
+use Rattle.iref_canonical.proofs.PlainTextLemmas.{joined-all, passing-encoded}
+use Rattle.iref_canonical.proofs.SetLemmas.{escaped_in_path, stands_in_path}
+
+-- ---- the bytes
+
+abbrev path_char : ℕ → Bool
+path_char = is_path_char uri_chars
+
+passed_stands : (b : ℕ) → is_byte_passed PATH b ≡ true → stands_in_path b ≡ true
+passed_stands b h = by (stands_in_path b) refl
+  where
+    by : (s : Bool) → stands_in_path b ≡ s → s ≡ true
+    by true e = refl
+    by false e = absurd (true≢false (sym (sym (not-true _ (and_parts (is_not_percent b) _ h).1) ∙ escaped_in_path b ∙ ap not e)))
+
+all_stand : (text : Text) → is_passed PATH text ≡ true → list_all stands_in_path text ≡ true
+all_stand [] h = refl
+all_stand (b ∷ bs) h =
+    let both = and_parts (is_byte_passed PATH b) (is_passed PATH bs) h in
+    and_from (stands_in_path b) (list_all stands_in_path bs) (passed_stands b both.0) (all_stand bs both.1)
+
+-- ---- the segments
+
+one_name : (s : Text) → lacks slash s ≡ true → list_all stands_in_path s ≡ true → list_all path_char s ≡ true
+one_name [] l h = refl
+one_name (c ∷ cs) l h = grind (arith, nat_tests, common_steps, one_name cs)
+
+same_item : (s : Text) → begins_with_dot s ≡ false → list_all path_char s ≡ true → canonical_name (percent_decode s) ≡ s
+same_item s d h =
+    let decoded = decoded-lacks s (all_lacks path_char percent_sign plain_path.percent s h) in
+    named (percent_decode s) (ap is_name decoded ∙ dotless_name s d) ∙ ap (encoded path_char) decoded ∙ passing-encoded path_char s h
+
+same_items : (list : List Text) → is_some_dotted list ≡ false → list_all (lacks slash) list ≡ true → list_all (list_all stands_in_path) list ≡ true
+    → map canonical_name (map percent_decode list) ≡ list
+same_items [] d l h = refl
+same_items (s ∷ rest) d l h =
+    let lack = and_parts (lacks slash s) (list_all (lacks slash) rest) l in
+    let here = and_parts (list_all stands_in_path s) (list_all (list_all stands_in_path) rest) h in
+    let name = one_name s lack.0 here.0 in
+    grind (arith, same_item s, same_items rest)
+
+-- ---- where the path begins
+
+rooted-absolute : (text : Text) → is_rooted text ≡ true → (read_path text).absolute ≡ true
+unfolding read_path
+rooted-absolute [] h = h
+rooted-absolute (c ∷ []) h = grind arith
+rooted-absolute (c ∷ d ∷ rest) h = grind arith
+
+onto_full : (c : ℕ) (pieces : List Text) → begins_empty (onto_first c pieces) ≡ false
+onto_full c [] = refl
+onto_full c (p ∷ pieces) = refl
+
+rooted-full : (text : Text) → is_rooted text ≡ true → begins_empty (read_path text).segments ≡ false
+unfolding read_path
+rooted-full [] h = refl
+rooted-full (c ∷ []) h = grind arith
+rooted-full (c ∷ d ∷ rest) h = grind (arith, common_steps, onto_full d (pieces_at slash rest))
+
+rooted-fits : (context : PathContext) (text : Text) → is_rooted text ≡ true → fits context (read_path text) ≡ true
+rooted-fits context text h =
+    let absolute = rooted-absolute text h in
+    let full = rooted-full text h in
+    let shown = (read_path-reads text).shown in
+    grind (arith, absolute, full, shown)
+
+-- ---- the path
+
+segments_stand : (text : Text) → is_passed PATH text ≡ true → list_all (list_all stands_in_path) (read_path text).segments ≡ true
+unfolding spell_path
+segments_stand text h =
+    let p = read_path text in
+    let whole = ap (list_all stands_in_path) (read_path-reads text).spelled ∙ all_stand text h in
+    let root = cond p.absolute (slash ∷ []) [] in
+    joined-all stands_in_path slash p.segments (and_parts (list_all stands_in_path root) _ (sym (list_all-append stands_in_path root (join_with_byte slash p.segments)) ∙ whole)).1
+
+same_path : (text : Text) → is_kept_path text ≡ true → canonical_path (path_key (read_path text)) ≡ read_path text
+unfolding path_key
+same_path text h =
+    let p = read_path text in
+    let front = and_parts (is_rooted text) (is_passed PATH text) (and_parts _ (not (has_dot_segment text)) h).0 in
+    let dotless = read_dotless text (not-true _ (and_parts _ (not (has_dot_segment text)) h).1) in
+    let reads = read_path-reads text in
+    let list = ap (λ l. map canonical_name (map percent_decode l)) (normal_same p dotless reads.shown) ∙ same_items p.segments dotless reads.segments (segments_stand text front.1) in
+    let items : canonical_items (path_key p) ≡ p.segments = (λ i. cond (rooted-absolute text front.0 i) (map canonical_name (path_key p).segments) (canonical_relative (path_key p).segments)) ∙ list in
+    λ i. record { absolute = p.absolute; segments = items i }
+
+pub kept-path : (context : PathContext) (text : Text) → is_kept_path text ≡ true → spell_path (guarded context (canonical_path (path_key (read_path text)))) ≡ text
+kept-path context text h =
+    let rooted = (and_parts (is_rooted text) (is_passed PATH text) (and_parts _ (not (has_dot_segment text)) h).0).0 in
+    ap (λ p. spell_path (guarded context p)) (same_path text h) ∙ ap spell_path (guarded-same context (read_path text) (rooted-fits context text rooted)) ∙ (read_path-reads text).spelled
+
+pub ruleset kept = (kept-path)
