@@ -4,6 +4,7 @@ pub mod EditLemmas
 pub mod EditListLemmas
 pub mod EditCopyLemmas
 pub mod EditRunLemmas
+pub mod FirstLemmas
 pub mod NormalEditLemmas
 pub mod PortTextLemmas
 pub mod PrefixBitLemmas
@@ -15,6 +16,7 @@ mod PrefixRows
 pub mod PrefixTextLemmas
 pub mod PrefixTableLemmas
 pub mod PrefixWayLemmas
+pub mod SortedLemmas
 -- lemmas about the words of contracts, for callers that list this crate alone
 pub use Rattle.iref_grammar.proofs.AuthorityLemmas
 pub use Rattle.iref_grammar.proofs.CutLemmas

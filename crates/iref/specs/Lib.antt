@@ -2,6 +2,7 @@ pub mod ComponentRules
 pub mod EditAnswers
 pub mod EditSteps
 pub mod Errors
+pub mod Lists
 pub mod PrefixLabels
 pub mod PrefixTable
 pub mod PrefixTree

@@ -7,7 +7,8 @@
 //! - [`iri`] has the same types, where characters beyond ASCII are allowed: [`Iri`], [`IriRef`],
 //!   [`IriBuf`] and [`IriRefBuf`].
 //! - [`Fault`] says where a text is wrong, and [`Memory`] that an allocation failed.
-//! - [`SortKey`] is for indexes, [`edits`] for lists of edits, [`compact`] for tables of prefixes.
+//! - [`SortKey`] is for indexes, [`lists`] sorts and makes unique, [`edits`] has lists of edits,
+//!   [`compact`] tables of prefixes.
 //!
 //! `==`, order and hash do not compare characters: `HTTP://a/%7Eb/./c` equals `http://a/~b/c`. They
 //! ignore the case of the scheme, dot segments, and whether a character is escaped, even `%26` and
@@ -18,6 +19,7 @@ mod both_families;
 pub mod compact;
 pub mod edits;
 mod errors;
+pub mod lists;
 pub mod prefix_laws;
 
 pub use both_families::{
@@ -52,6 +54,7 @@ pub mod uri {
     };
     pub use crate::edits::{Applied, EditFault, apply_all, apply_all_uri};
     pub use crate::errors::UriError;
+    pub use crate::lists::{sorted, sorted_unique, unique};
     pub use iref_fault::{InvalidUri, InvalidUriRef};
     use iref_grammar::chars::UriChars;
 
@@ -160,6 +163,7 @@ pub mod iri {
     };
     pub use crate::edits::{Applied, EditFault, apply_all, apply_all_uri};
     pub use crate::errors::IriError;
+    pub use crate::lists::{sorted, sorted_unique, unique};
     pub use iref_fault::{InvalidIri, InvalidIriRef};
     use iref_grammar::chars::IriChars;
 

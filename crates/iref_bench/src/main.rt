@@ -13,6 +13,7 @@ mod mirror;
 mod names;
 mod namespaces;
 mod reader;
+mod sorted;
 mod sorts;
 mod tables;
 mod writer;
@@ -35,6 +36,7 @@ fn digest_of(alloc: Global, job: &str, count: u32, seed: u32) -> Result<u64> {
         "mirror" => mirror::run(alloc, count, &mut numbers, &mut digest)?,
         "list" => list::run(alloc, count, &mut numbers, &mut digest)?,
         "keys" => keys::run(alloc, count, &mut numbers, &mut digest)?,
+        "sorted" => sorted::run(alloc, count, &mut numbers, &mut digest)?,
         "map" => mapping::run(alloc, count, &mut numbers, &mut digest)?,
         "awkward" => awkward::run(alloc, count, &mut numbers, &mut digest)?,
         "tables" => {

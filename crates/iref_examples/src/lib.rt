@@ -14,8 +14,6 @@ pub mod context;
 pub mod editors;
 pub mod mapping;
 pub mod mirror;
-pub mod sorted;
-pub mod unique;
 pub mod validator;
 pub mod wrong_lines;
 

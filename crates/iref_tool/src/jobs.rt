@@ -3,12 +3,11 @@
 use crate::buffer::push_line;
 use hex::encode;
 use iref::chars::IriChars;
-use iref::iri::{Iri, IriRef};
+use iref::iri::{Iri, IriRef, sorted};
 use iref::rules::HeldRule;
 use iref::uri::{Uri, UriRef};
 use iref::{Fault, Memory, SortKey};
 use iref_component::faults::HasFault;
-use iref_examples::sorted::sorted;
 use iref_fault::fault::text_of_bytes;
 use iref_reference::borrowed::Reference;
 use std::alloc::Global;

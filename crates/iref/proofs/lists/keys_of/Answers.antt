@@ -1,9 +1,9 @@
 use Rattle.std.proofs.Common.{◌≡◌, ◌+◌, ◌-◌, ◌++◌, [], ◌∷◌, arith, length, refl, take}
 use Rattle.std.proofs.lemmas.Grind.{common_steps}
-use Rattle.iref.specs.References.{key_of_reference}
+use Rattle.iref_reference.specs.References.{key_of_reference}
 use Rattle.iref_canonical.specs.SortKey.{sort_key}
-use Rattle.iref_examples.proofs.SortedLemmas.{one_made}
-use Rattle.iref_examples.proofs.sorted.keys_of.Goals as goal
+use Rattle.iref.proofs.SortedLemmas.{one_made}
+use Rattle.iref.proofs.lists.keys_of.Goals as goal
 
 pub loop-reference-preserved : goal.loop-reference-preserved
 loop-reference-preserved g c =

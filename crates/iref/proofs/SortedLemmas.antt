@@ -5,8 +5,8 @@ use Rattle.std.proofs.lemmas.Grind.{flat_map-append}
 use Rattle.std.proofs.lemmas.List.Elements.{All-push}
 use Rattle.std.proofs.Math.Seq.{take-append_seam, drop-append_seam}
 use Rattle.std.specs.List.{All, flat_map}
-use Rattle.iref.specs.Rules.{Text}
-use Rattle.iref_examples.specs.SortedTexts.{AreKeysOf}
+use Rattle.iref_grammar.specs.Rules.{Text}
+use Rattle.iref.specs.Lists.{AreKeysOf}
 
 module _ {R M : Type 0} (key : R → Text) (reference : M → R) where
   -- ---- the keys are read: those of the references that are left stand in the rest of the buffer
@@ -58,10 +58,11 @@ module _ {R M : Type 0} (text : R → Text) (reference : M → R) where
   texts_of [] = refl
   texts_of (m ∷ ms) = ap (λ l. text (reference m) ∷ l) (texts_of ms)
 
-  module _ (references out : List R) (ms : List M) (start done : List Text) (same : map reference ms ≡ references) (started : start ≡ map (λ m. text (reference m)) ms) (ended : map text out ≡ done) where
-    begun : start ≡ map text references
+  module _ (references : List R) (ms : List M) (start : List Text) (same : map reference ms ≡ references) (started : start ≡ map (λ m. text (reference m)) ms) where
+    -- they begin as the texts of the references
+    pub begun : start ≡ map text references
     begun = started ∙ texts_of ms ∙ ap (map text) same
 
     -- what holds of the texts before and after holds of those of the references
-    pub of_references : (P : List Text → List Text → Type 0) → P start done → P (map text references) (map text out)
-    of_references P h = subst (λ l. P l (map text out)) begun (subst (P start) (sym ended) h)
+    pub of_references : (out : List R) (done : List Text) → map text out ≡ done → (P : List Text → List Text → Type 0) → P start done → P (map text references) (map text out)
+    of_references out done ended P h = subst (λ l. P l (map text out)) begun (subst (P start) (sym ended) h)

@@ -1,8 +1,8 @@
 use Rattle.std.proofs.Common.{◌≡◌, map, take, drop}
-use Rattle.iref.specs.References.{reference_text, key_of_reference}
+use Rattle.iref_reference.specs.References.{reference_text, key_of_reference}
 use Rattle.iref_canonical.specs.SortKey.{sort_key}
-use Rattle.iref_examples.proofs.SortedLemmas.{AreLeft}
-use Rattle.iref_examples.proofs.sorted.with_keys.Given as goal
+use Rattle.iref.proofs.SortedLemmas.{AreLeft}
+use Rattle.iref.proofs.lists.with_keys.Given as goal
 
 -- those read have their keys, and the keys of those that are left are left
 abbrev pub invariant-loop-it : goal.invariant-loop-it

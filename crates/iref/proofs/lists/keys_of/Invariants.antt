@@ -1,8 +1,8 @@
 use Rattle.std.proofs.Common.{take}
-use Rattle.iref.specs.References.{key_of_reference}
+use Rattle.iref_reference.specs.References.{key_of_reference}
 use Rattle.iref_canonical.specs.SortKey.{sort_key}
-use Rattle.iref_examples.specs.SortedTexts.{AreKeysOf}
-use Rattle.iref_examples.proofs.sorted.keys_of.Given as goal
+use Rattle.iref.specs.Lists.{AreKeysOf}
+use Rattle.iref.proofs.lists.keys_of.Given as goal
 
 -- the keys of those read are made
 abbrev pub invariant-loop-reference : goal.invariant-loop-reference

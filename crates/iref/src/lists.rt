@@ -1,19 +1,21 @@
-//! References sorted by their sort keys, which stand in one buffer and are made once.
+//! Lists of references, sorted and made unique by sort keys, which stand in one buffer and are made
+//! once.
 ghost use Rattle.std.specs.Cmp.{on_total, on_equiv, po, partial_equiv_from_equiv, eq_by_cmp_equiv};
 ghost use Rattle.std.specs.{Ordering.{on, as_partial_cmp, eq_by_cmp}, Cmp.Rules.{comparing}};
 ghost use Rattle.std.specs.{List.Sorted.{IsPermutation, IsSorted, IsStable}, Prelude.{◌≡◌, IfOk, map}};
 ghost use Rattle.std.proofs.Common.{rules, refl};
 ghost use Rattle.iref_model.{proofs.KeyOrderLemmas.{keys_total}, specs.Key.{key_cmp}};
 ghost use Rattle.iref_canonical.specs.SortKey.{sort_key};
-ghost use Rattle.iref_reference.specs.References.{key_of_reference, reference_text};
-ghost use Rattle.iref_examples.specs.SortedTexts.{key_of_text, AreKeysOf};
+ghost use Rattle.iref_reference.specs.References.{key_of_reference, reference_text, reference_value};
+ghost use Rattle.iref.specs.Lists.{AreKeysOf, IsSortedUnique, firsts, key_of_text};
 
-use iref::Memory;
 use iref_grammar::chars::CharSet;
 use iref_reference::borrowed::Reference;
 use iref_reference_text::reference_text::HeldRule;
+use iref_splice::Memory;
 use std::alloc::Global;
 use std::cmp::Ordering;
+use std::collections::BTreeSet;
 use std::marker::Model;
 
 // A reference with its sort key. Its value is the reference's text.
@@ -123,9 +125,23 @@ fn with_keys<'k, 'a, R: HeldRule, C: CharSet>(
     Ok(keyed)
 }
 
+// The references without their keys.
+fn without_keys<'a, R: HeldRule, C: CharSet>(
+    alloc: Global,
+    keyed: &[Keyed<'_, 'a, R, C>],
+) -> Result<Vec<Reference<'a, R, C>>, Memory>
+    ensures { IfOk result (λ references. map reference_text references.items ≡ keyed.now) }
+{
+    let mut references = Vec::with_capacity(alloc, keyed.len())?;
+    for it in keyed {
+        references.push(it.reference)?;
+    }
+    Ok(references)
+}
+
 /// The references in the order of `cmp`, those that are equal in the order in which they stand: of
-/// `b`, `a`, `./b` first `a`, then `b` and `./b`. Of each the sort key is made once. Out of memory, it
-/// returns `Memory`.
+/// `b`, `a`, `./b` first `a`, then `b` and `./b`. Of each the sort key is made once. It takes a buffer
+/// for all sort keys, and four lists as long as this one. Out of memory, it returns `Memory`.
 pub fn sorted<'a, R: HeldRule, C: CharSet>(
     alloc: Global,
     references: &[Reference<'a, R, C>],
@@ -140,9 +156,44 @@ pub fn sorted<'a, R: HeldRule, C: CharSet>(
     let (keys, measured) = keys_of(alloc, references)?;
     let mut keyed = with_keys(alloc, keys.as_slice(), measured.as_slice())?;
     keyed.sort()?;
-    let mut sorted = Vec::with_capacity(alloc, keyed.len())?;
-    for it in &keyed {
-        sorted.push(it.reference)?;
-    }
+    let sorted = without_keys(alloc, keyed.as_slice())?;
     Ok(sorted)
+}
+
+/// What `sorted` returns, without those that are equal to one before them: of `b`, `a`, `./b` it is
+/// `a` and `b`. This costs less than `sorted` and `dedup`, since sort keys are compared. Out of memory,
+/// it returns `Memory`.
+pub fn sorted_unique<'a, R: HeldRule, C: CharSet>(
+    alloc: Global,
+    references: &[Reference<'a, R, C>],
+) -> Result<Vec<Reference<'a, R, C>>, Memory>
+    ensures { IfOk result (λ kept.
+        IsSortedUnique (map reference_text references.now) (map reference_text kept.items)) }
+{
+    let (keys, measured) = keys_of(alloc, references)?;
+    let mut keyed = with_keys(alloc, keys.as_slice(), measured.as_slice())?;
+    keyed.sort()?;
+    keyed.dedup();
+    let kept = without_keys(alloc, keyed.as_slice())?;
+    Ok(kept)
+}
+
+/// The references without those that are equal to one before them, in the order in which they stand:
+/// of `b`, `a`, `./b` it is `b` and `a`. It takes a sort key of each, and a set of those of the
+/// result. Out of memory, it returns `Memory`.
+pub fn unique<'a, R: HeldRule, C: CharSet>(
+    alloc: Global,
+    references: &[Reference<'a, R, C>],
+) -> Result<Vec<Reference<'a, R, C>>, Memory>
+    ensures { IfOk result (λ kept. map reference_value kept.items
+        ≡ firsts (map reference_value references.now)) }
+{
+    let mut seen = BTreeSet::new(alloc);
+    let mut kept = Vec::new(alloc);
+    for reference in references {
+        if seen.insert(reference.sort_key(alloc)?)? {
+            kept.push(*reference)?;
+        }
+    }
+    Ok(kept)
 }

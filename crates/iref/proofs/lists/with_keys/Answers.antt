@@ -1,10 +1,10 @@
 use Rattle.std.proofs.Common.{◌≡◌, ◌+◌, ◌<◌, ◌++◌, [], ◌∷◌, ap, arith, drop, length, map, rules, sym, subst, take, ◌∙◌}
 use Rattle.std.proofs.lemmas.Grind.{common_steps}
 use Rattle.std.proofs.lemmas.List.{map-append}
-use Rattle.iref.specs.References.{key_of_reference, reference_text}
+use Rattle.iref_reference.specs.References.{key_of_reference, reference_text}
 use Rattle.iref_canonical.specs.SortKey.{sort_key}
-use Rattle.iref_examples.proofs.SortedLemmas.{rest_is}
-use Rattle.iref_examples.proofs.sorted.with_keys.Goals as goal
+use Rattle.iref.proofs.SortedLemmas.{rest_is}
+use Rattle.iref.proofs.lists.with_keys.Goals as goal
 
 pub loop-it-preserved : goal.loop-it-preserved
 loop-it-preserved g c =

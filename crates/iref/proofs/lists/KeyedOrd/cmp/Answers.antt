@@ -1,10 +1,10 @@
 use Rattle.std.proofs.Common.{◌≡◌, ap, arith, ◌∙◌}
-use Rattle.iref.specs.Key.{key_cmp}
-use Rattle.iref.specs.Keys.{text_order}
-use Rattle.iref.specs.References.{key_of_reference}
+use Rattle.iref_model.specs.Key.{key_cmp}
+use Rattle.iref_grammar.specs.Keys.{text_order}
+use Rattle.iref_reference.specs.References.{key_of_reference}
 use Rattle.iref_canonical.specs.SortKey.{sort_key}
 use Rattle.iref_canonical.proofs.SortKeyLemmas.{text_order-sort_key}
-use Rattle.iref_examples.proofs.sorted.KeyedOrd.cmp.Goals as goal
+use Rattle.iref.proofs.lists.KeyedOrd.cmp.Goals as goal
 
 pub returns : goal.returns
 returns g c =

@@ -8,13 +8,13 @@ use Rattle.std.proofs.lemmas.List.Sums.{fold-append}
 use Rattle.std.specs.List.{list_any}
 use Rattle.std.specs.Ordering.{is_eq}
 use Rattle.std.specs.BTreeSet.{BTreeSet, contains, Updates, IsUnchanged}
-use Rattle.iref.specs.Keys.{text_order}
-use Rattle.iref.specs.Key.{are_alike, key}
-use Rattle.iref.specs.Reference.{ReferenceValue}
-use Rattle.iref.specs.Rules.{Text}
+use Rattle.iref_grammar.specs.Keys.{text_order}
+use Rattle.iref_model.specs.Key.{are_alike, key}
+use Rattle.iref_grammar.specs.Reference.{ReferenceValue}
+use Rattle.iref_grammar.specs.Rules.{Text}
 use Rattle.iref_canonical.specs.SortKey.{sort_key}
 use Rattle.iref_canonical.proofs.SortKeyLemmas.{text_order-sort_key}
-use Rattle.iref_examples.specs.Firsts.{firsts, with_new}
+use Rattle.iref.specs.Lists.{firsts, with_new}
 
 -- the set has the sort key of a reference exactly if an equal one is kept
 abbrev pub HasKeysOf : List ReferenceValue → BTreeSet Text → Type 0
