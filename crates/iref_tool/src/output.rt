@@ -1,5 +1,6 @@
 //! Where answers go, and the status of the program.
 ghost use Rattle.std.specs.Prelude.{◌≡◌, is_some};
+ghost use Rattle.iref_tool.specs.declared.output.Status.TheVariants.{Well, Wrong, Misused};
 
 use iref_batch::{Sink, StreamError};
 use std::fmt::Display;
@@ -17,13 +18,24 @@ pub enum Status {
     Misused,
 }
 
-impl From<Status> for ExitCode {
-    fn from(status: Status) -> ExitCode {
-        ExitCode::from(match status {
-            Status::Well => 0u8,
+impl Status {
+    // What the process gives to the one that started it.
+    fn code(self) -> u8
+        ensures well { self ≡ Well → result ≡ 0 }
+        ensures wrong { self ≡ Wrong → result ≡ 1 }
+        ensures misused { self ≡ Misused → result ≡ 2 }
+    {
+        match self {
+            Status::Well => 0,
             Status::Wrong => 1,
             Status::Misused => 2,
-        })
+        }
+    }
+}
+
+impl From<Status> for ExitCode {
+    fn from(status: Status) -> ExitCode {
+        ExitCode::from(status.code())
     }
 }
 

@@ -1,4 +1,6 @@
 //! Where a text is wrong, and why, as a person reads it.
+ghost use Rattle.std.specs.Prelude.{◌≡◌, ◌+◌, ◌≤◌, length};
+ghost use Rattle.iref_tool.specs.Columns.{begins_char as is_first_byte, chars_in_first};
 
 use iref::{Cause, Component, Fault};
 use std::fmt;
@@ -37,12 +39,17 @@ impl fmt::Display for Why {
 }
 
 // Whether a character of UTF-8 begins with this byte.
-fn begins_char(byte: u8) -> bool {
-    byte & 0xC0 != 0x80
+fn begins_char(byte: u8) -> bool
+    ensures { result ≡ is_first_byte byte }
+{
+    byte < 0x80 || byte >= 0xC0
 }
 
 /// How many characters stand before a byte of a text: of `é b` two before the byte 3.
-pub fn chars_before(text: &[u8], at: usize) -> usize {
+pub fn chars_before(text: &[u8], at: usize) -> usize
+    ensures count { result ≡ chars_in_first at text.now }
+    ensures bound { result ≤ length text.now }
+{
     text.iter()
         .take(at)
         .filter(|byte| begins_char(**byte))
@@ -50,6 +57,8 @@ pub fn chars_before(text: &[u8], at: usize) -> usize {
 }
 
 /// The column of a byte of a text, counted in characters from 1: of `é b` that of the byte 3 is 3.
-pub fn column(text: &[u8], at: usize) -> usize {
-    chars_before(text, at).saturating_add(1)
+pub fn column(text: &[u8], at: usize) -> usize
+    ensures { result ≡ 1 + chars_in_first at text.now }
+{
+    1 + chars_before(text, at)
 }
