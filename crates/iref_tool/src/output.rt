@@ -75,10 +75,7 @@ impl<W: Write> Output<W> {
     pub fn print<T: Display>(&mut self, line: &T) -> Result<(), WriteFailed> {
         match writeln!(self.inner, "{line}") {
             Ok(()) => Ok(()),
-            Err(error) => {
-                self.failure = Some(error);
-                Err(WriteFailed)
-            }
+            Err(error) => self.failed(error),
         }
     }
 
@@ -86,11 +83,22 @@ impl<W: Write> Output<W> {
     pub fn put(&mut self, bytes: &[u8]) -> Result<(), WriteFailed> {
         match self.inner.write_all(bytes) {
             Ok(()) => Ok(()),
-            Err(error) => {
-                self.failure = Some(error);
-                Err(WriteFailed)
-            }
+            Err(error) => self.failed(error),
         }
+    }
+
+    /// Writes what the writer keeps.
+    pub fn flush(&mut self) -> Result<(), WriteFailed> {
+        match self.inner.flush() {
+            Ok(()) => Ok(()),
+            Err(error) => self.failed(error),
+        }
+    }
+
+    // Keeps why a write has failed.
+    fn failed(&mut self, error: io::Error) -> Result<(), WriteFailed> {
+        self.failure = Some(error);
+        Err(WriteFailed)
     }
 }
 

@@ -1,21 +1,22 @@
 //! What the words ask for, done.
 
+use crate::buffer::GATHERED;
 use crate::examples::Tables;
 use crate::input::{Failure, TakesLines, each_line};
 use crate::jobs::{
     Below, Canonical, Check, Job, Keep, Key, Relativize, Resolve, Rule, Sort, Unique,
 };
 use crate::lines::Lines;
-use crate::output::{Output, Status};
+use crate::output::{Output, Status, WriteFailed};
 use crate::question::{Question, answer};
 use crate::read::{iri, reference};
 use crate::refusal::Refusal;
 use crate::texts::Texts;
 use crate::words::{LineTask, Task};
-use iref::Memory;
+use iref::iri::IriRef;
 use std::fs;
 use std::hash::RandomState;
-use std::io::{self, ErrorKind, Write};
+use std::io::{self, BufWriter, ErrorKind, Write};
 use std::process::ExitCode;
 
 /// The status where an output has failed. Nothing is said where nobody reads it any more.
@@ -98,26 +99,29 @@ fn do_each<J: Job + Drop>(rt: &HostRuntime, job: J, files: &[&str]) -> Status {
     ended(rt, &texts.out, status.max(texts.status))
 }
 
+// Writes the lines.
+fn put_lines<W: Write>(lines: &[IriRef<'_>], out: &mut Output<W>) -> Result<(), WriteFailed> {
+    for line in lines {
+        out.put(line.as_bytes())?;
+        out.put(b"\n")?;
+    }
+    out.flush()
+}
+
 // Sorts the lines of the files.
 fn sort(rt: &HostRuntime, files: &[&str]) -> Status {
     let job = Sort::new(rt.alloc());
     let mut texts = Texts::new(rt.alloc(), job, rt.stdout(), rt.stderr());
     let status = each_text(rt, files, &mut texts).unwrap_or(Status::Well);
     let status = status.max(texts.status);
-    match texts.job.sorted() {
-        Ok(sorted) => {
-            for line in &sorted {
-                if texts.out.put(line.as_bytes()).is_err() || texts.out.put(b"\n").is_err() {
-                    break;
-                }
-            }
-            ended(rt, &texts.out, status)
-        }
-        Err(Memory) => {
-            refused(rt, &Refusal::Memory);
-            status.max(Status::Wrong)
-        }
-    }
+    let writer = BufWriter::with_capacity(rt.alloc(), GATHERED, rt.stdout());
+    let (Ok(sorted), Ok(writer)) = (texts.job.sorted(), writer) else {
+        refused(rt, &Refusal::Memory);
+        return status.max(Status::Wrong);
+    };
+    let mut out = Output::new(writer);
+    let _ = put_lines(sorted.as_slice(), &mut out);
+    ended(rt, &out, status)
 }
 
 // Answers the lines of the files.
