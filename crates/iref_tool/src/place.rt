@@ -4,6 +4,7 @@ ghost use Rattle.iref_tool.specs.Columns.{begins_char as is_first_byte, chars_in
 
 use iref::{Cause, Component, Fault};
 use std::fmt;
+use unicode_width::UnicodeWidthStr;
 
 // What a component is called in print.
 fn name(component: Component) -> &'static str {
@@ -38,6 +39,12 @@ impl fmt::Display for Why {
     }
 }
 
+/// How many columns of a terminal the characters before a byte of a word take: of `日b` two before
+/// the byte 3. A control character takes one, as what is printed in its place does.
+pub fn columns_before(word: &str, at: usize) -> usize {
+    word.get(..at).unwrap_or(word).width()
+}
+
 // Whether a character of UTF-8 begins with this byte.
 fn begins_char(byte: u8) -> bool
     ensures { result ≡ is_first_byte byte }
@@ -45,8 +52,8 @@ fn begins_char(byte: u8) -> bool
     byte < 0x80 || byte >= 0xC0
 }
 
-/// How many characters stand before a byte of a text: of `é b` two before the byte 3.
-pub fn chars_before(text: &[u8], at: usize) -> usize
+// How many characters stand before a byte of a text: of `é b` two before the byte 3.
+fn chars_before(text: &[u8], at: usize) -> usize
     ensures count { result ≡ chars_in_first at text.now }
     ensures bound { result ≤ length text.now }
 {

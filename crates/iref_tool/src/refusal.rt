@@ -1,7 +1,7 @@
 //! Words that have no answer, and why.
 
 use crate::output::Status;
-use crate::place::{Why, chars_before};
+use crate::place::{Why, column, columns_before};
 use iref::compact::Labels;
 use iref::{Fault, Memory};
 use std::fmt;
@@ -129,11 +129,11 @@ impl fmt::Display for Refusal<'_> {
             write_word(f, word)?;
             return f.write_str("\n");
         };
-        let before = chars_before(word.as_bytes(), start.saturating_add(fault.at()));
-        write!(f, ", at character {}\n    ", before.saturating_add(1))?;
+        let at = start.saturating_add(fault.at());
+        write!(f, ", at character {}\n    ", column(word.as_bytes(), at))?;
         write_word(f, word)?;
         f.write_str("\n    ")?;
-        for _ in 0..before {
+        for _ in 0..columns_before(word, at) {
             f.write_char(' ')?;
         }
         f.write_str("^\n")
