@@ -19,8 +19,11 @@ pub trait TakesLines {
     /// Takes note of a line for which memory was refused.
     fn refuse(&mut self) -> Result<(), WriteFailed>;
 
-    /// Writes what is gathered, before more is read.
-    fn pause(&mut self) -> Result<(), WriteFailed>;
+    /// Writes what is gathered, before more is read. So many bytes were read since the last time.
+    fn pause(&mut self, bytes: usize) -> Result<(), WriteFailed>;
+
+    /// Makes room on a terminal for a message.
+    fn make_room(&mut self);
 }
 
 /// Why lines were not read to the end.
@@ -122,11 +125,11 @@ pub fn each_line<R: Read, T: TakesLines>(
             break;
         }
         begun.take_block(&block[..n], to)?;
-        to.pause()?;
+        to.pause(n)?;
     }
     if !begun.is_empty() {
         begun.end_line(&[], to)?;
     }
-    to.pause()?;
+    to.pause(0)?;
     Ok(())
 }

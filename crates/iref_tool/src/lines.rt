@@ -4,6 +4,7 @@ use crate::buffer::{GATHERED, empty, push_line};
 use crate::examples::{Tables, answer, is_of_examples};
 use crate::input::TakesLines;
 use crate::output::{Output, WriteFailed};
+use crate::progress::Progress;
 use iref::Memory;
 use iref_batch::{FromStd, run};
 use std::alloc::Global;
@@ -11,23 +12,25 @@ use std::io::Write;
 
 /// A run as far as it has come.
 #[derive(Drop)]
-pub struct Lines<W> {
+pub struct Lines<W, E> {
     /// Where answers go.
     pub out: Output<W>,
     alloc: Global,
     tables: Tables,
+    progress: Progress<E>,
     // What is not written yet, and the lines after that which `iref_cli` answers.
     answers: Vec<u8>,
     asked: Vec<u8>,
 }
 
-impl<W: Write> Lines<W> {
+impl<W: Write, E: Write> Lines<W, E> {
     /// Before the first line.
-    pub fn new(alloc: Global, tables: Tables, out: W) -> Self {
+    pub fn new(alloc: Global, tables: Tables, out: W, progress: Progress<E>) -> Self {
         Lines {
             out: Output::new(out),
             alloc,
             tables,
+            progress,
             answers: Vec::new(alloc),
             asked: Vec::new(alloc),
         }
@@ -35,6 +38,7 @@ impl<W: Write> Lines<W> {
 
     // Writes the answers, and answers the lines that are asked.
     fn settle(&mut self) -> Result<(), WriteFailed> {
+        self.progress.hide();
         self.out.put(self.answers.as_slice())?;
         empty(&mut self.answers);
         if self.asked.is_empty() {
@@ -73,7 +77,7 @@ impl<W: Write> Lines<W> {
     }
 }
 
-impl<W: Write> TakesLines for Lines<W> {
+impl<W: Write, E: Write> TakesLines for Lines<W, E> {
     fn take(&mut self, line: &[u8]) -> Result<(), WriteFailed> {
         if is_of_examples(line) {
             self.take_example(line)?;
@@ -90,7 +94,13 @@ impl<W: Write> TakesLines for Lines<W> {
         self.put_line(b"error memory")
     }
 
-    fn pause(&mut self) -> Result<(), WriteFailed> {
-        self.settle()
+    fn pause(&mut self, bytes: usize) -> Result<(), WriteFailed> {
+        self.settle()?;
+        self.progress.advance(bytes);
+        Ok(())
+    }
+
+    fn make_room(&mut self) {
+        self.progress.hide();
     }
 }

@@ -14,6 +14,7 @@ mod lines;
 mod output;
 mod place;
 mod prefixes;
+mod progress;
 mod question;
 mod read;
 mod refusal;

@@ -8,6 +8,7 @@ use crate::jobs::{
 };
 use crate::lines::Lines;
 use crate::output::{Output, Status, WriteFailed};
+use crate::progress::{LONG, Progress};
 use crate::question::{Question, answer};
 use crate::read::{iri, reference};
 use crate::refusal::Refusal;
@@ -16,8 +17,9 @@ use crate::words::{LineTask, Task};
 use iref::iri::IriRef;
 use std::fs;
 use std::hash::RandomState;
-use std::io::{self, BufWriter, ErrorKind, Write};
+use std::io::{self, BufWriter, ErrorKind, IsTerminal, Write};
 use std::process::ExitCode;
+use std::rt::Stderr;
 
 /// The status where an output has failed. Nothing is said where nobody reads it any more.
 pub fn output_failed(rt: &HostRuntime, error: &io::Error, status: Status) -> Status {
@@ -55,6 +57,33 @@ fn answer_one(rt: &HostRuntime, question: Question<'_>) -> Status {
     ended(rt, &out, Status::Well)
 }
 
+// How many bytes a file has, if this is known before it is read; `-` is standard input.
+fn size_of(rt: &HostRuntime, file: &str) -> Option<u64> {
+    let name = if file == "-" { "/dev/stdin" } else { file };
+    match fs::metadata(rt, name) {
+        Ok(metadata) if metadata.is_file() => Some(metadata.len()),
+        _ => None,
+    }
+}
+
+// How many bytes the files have, if this is known of each.
+fn size_of_all(rt: &HostRuntime, files: &[&str]) -> Option<u64> {
+    let mut size = 0u64;
+    for file in files {
+        size = size.saturating_add(size_of(rt, *file)?);
+    }
+    Some(size)
+}
+
+// Says on a terminal how far the files are read, if they are long.
+fn progress_of(rt: &HostRuntime, files: &[&str]) -> Progress<Stderr> {
+    if !rt.stderr().is_terminal() {
+        return Progress::new(rt.stderr(), None);
+    }
+    let size = size_of_all(rt, files).filter(|size| *size >= LONG);
+    Progress::new(rt.stderr(), size)
+}
+
 // Gives each line of a file away; `-` is standard input.
 fn each_line_of<T: TakesLines>(rt: &HostRuntime, file: &str, to: &mut T) -> Result<(), Failure> {
     if file == "-" {
@@ -65,7 +94,9 @@ fn each_line_of<T: TakesLines>(rt: &HostRuntime, file: &str, to: &mut T) -> Resu
 
 // Gives each line of a file away, and says why it cannot be read.
 fn read_file<T: TakesLines>(rt: &HostRuntime, file: &str, to: &mut T) -> Option<Status> {
-    match each_line_of(rt, file, to) {
+    let read = each_line_of(rt, file, to);
+    to.make_room();
+    match read {
         Ok(()) => Some(Status::Well),
         Err(Failure::Write) => None,
         Err(Failure::Read(error)) => {
@@ -81,9 +112,6 @@ fn each_text<'a, J: Job, W: Write, E: Write>(
     files: &[&'a str],
     texts: &mut Texts<'a, J, W, E>,
 ) -> Option<Status> {
-    if files.is_empty() {
-        return read_file(rt, "-", texts);
-    }
     let mut status = Status::Well;
     for file in files {
         texts.begin(*file);
@@ -94,7 +122,8 @@ fn each_text<'a, J: Job, W: Write, E: Write>(
 
 // Does a job with each line of the files.
 fn do_each<J: Job + Drop>(rt: &HostRuntime, job: J, files: &[&str]) -> Status {
-    let mut texts = Texts::new(rt.alloc(), job, rt.stdout(), rt.stderr());
+    let progress = progress_of(rt, files);
+    let mut texts = Texts::new(rt.alloc(), job, rt.stdout(), rt.stderr(), progress);
     let status = each_text(rt, files, &mut texts).unwrap_or(Status::Well);
     ended(rt, &texts.out, status.max(texts.status))
 }
@@ -110,8 +139,8 @@ fn put_lines<W: Write>(lines: &[IriRef<'_>], out: &mut Output<W>) -> Result<(), 
 
 // Sorts the lines of the files.
 fn sort(rt: &HostRuntime, files: &[&str]) -> Status {
-    let job = Sort::new(rt.alloc());
-    let mut texts = Texts::new(rt.alloc(), job, rt.stdout(), rt.stderr());
+    let (job, progress) = (Sort::new(rt.alloc()), progress_of(rt, files));
+    let mut texts = Texts::new(rt.alloc(), job, rt.stdout(), rt.stderr(), progress);
     let status = each_text(rt, files, &mut texts).unwrap_or(Status::Well);
     let status = status.max(texts.status);
     let writer = BufWriter::with_capacity(rt.alloc(), GATHERED, rt.stdout());
@@ -127,11 +156,7 @@ fn sort(rt: &HostRuntime, files: &[&str]) -> Status {
 // Answers the lines of the files.
 fn answer_lines(rt: &HostRuntime, files: &[&str]) -> io::Result<Status> {
     let tables = Tables::new(rt.alloc(), RandomState::new(rt)?);
-    let mut lines = Lines::new(rt.alloc(), tables, rt.stdout());
-    if files.is_empty() {
-        let status = read_file(rt, "-", &mut lines).unwrap_or(Status::Well);
-        return Ok(ended(rt, &lines.out, status));
-    }
+    let mut lines = Lines::new(rt.alloc(), tables, rt.stdout(), progress_of(rt, files));
     let mut status = Status::Well;
     for file in files {
         match read_file(rt, *file, &mut lines) {
@@ -185,11 +210,16 @@ fn run_lines<'a>(
     })
 }
 
+// The files; standard input where there is none.
+fn or_stdin<'a>(files: &'a [&'a str]) -> &'a [&'a str] {
+    if files.is_empty() { &["-"] } else { files }
+}
+
 /// Does what the words ask for.
 pub fn run_task(rt: &HostRuntime, task: Task<'_>) -> ExitCode {
     let status = match task {
         Task::One(question) => answer_one(rt, question),
-        Task::Each(task, files) => match run_lines(rt, task, files) {
+        Task::Each(task, files) => match run_lines(rt, task, or_stdin(files)) {
             Ok(status) => status,
             Err(refusal) => refused(rt, &refusal),
         },

@@ -5,6 +5,7 @@ use crate::input::TakesLines;
 use crate::jobs::{Job, LineFault};
 use crate::output::{Output, Status, WriteFailed};
 use crate::place::{Why, column};
+use crate::progress::Progress;
 use iref::Memory;
 use std::alloc::Global;
 use std::fmt;
@@ -20,6 +21,7 @@ pub struct Texts<'a, J, W, E> {
     /// The status of the program.
     pub status: Status,
     err: E,
+    progress: Progress<E>,
     answers: Vec<u8>,
     notes: Vec<u8>,
     file: &'a str,
@@ -62,12 +64,13 @@ fn push_note(notes: &mut Vec<u8>, note: &Note<'_>) -> Result<(), Memory> {
 
 impl<'a, J: Job, W: Write, E: Write> Texts<'a, J, W, E> {
     /// The job, before the first line.
-    pub fn new(alloc: Global, job: J, out: W, err: E) -> Self {
+    pub fn new(alloc: Global, job: J, out: W, err: E, progress: Progress<E>) -> Self {
         Texts {
             job,
             out: Output::new(out),
             status: Status::Well,
             err,
+            progress,
             answers: Vec::new(alloc),
             notes: Vec::new(alloc),
             file: "-",
@@ -104,6 +107,10 @@ impl<'a, J: Job, W: Write, E: Write> Texts<'a, J, W, E> {
 
     // Writes what is gathered.
     fn flush(&mut self) -> Result<(), WriteFailed> {
+        if self.answers.is_empty() && self.notes.is_empty() {
+            return Ok(());
+        }
+        self.progress.hide();
         self.out.put(self.answers.as_slice())?;
         empty(&mut self.answers);
         let _ = self.err.write_all(self.notes.as_slice());
@@ -134,7 +141,13 @@ impl<J: Job, W: Write, E: Write> TakesLines for Texts<'_, J, W, E> {
         self.note(&[], LineFault::Memory)
     }
 
-    fn pause(&mut self) -> Result<(), WriteFailed> {
-        self.flush()
+    fn pause(&mut self, bytes: usize) -> Result<(), WriteFailed> {
+        self.flush()?;
+        self.progress.advance(bytes);
+        Ok(())
+    }
+
+    fn make_room(&mut self) {
+        self.progress.hide();
     }
 }

@@ -1,0 +1,66 @@
+//! How far the input is read, on a terminal.
+ghost use Rattle.std.specs.Prelude.{◌≡◌, ◌*◌, ◌≤◌, ◌/◌, min};
+
+use std::io::Write;
+
+/// Input of fewer bytes than these is soon read, and nothing is said of it.
+pub const LONG: u64 = 1 << 24;
+
+// How many hundredths of the whole a part is: of 8 that 2 is 25.
+fn percent(part: u64, whole: u64) -> u64
+    ensures { 1 ≤ whole → result ≡ min 100 (part * 100 / whole) }
+{
+    if part >= whole {
+        return 100;
+    }
+    (u128::from(part) * 100 / u128::from(whole)) as u64
+}
+
+/// A line that says how far the input is read, and is written over where it changes: `iref: 42%`.
+#[derive(Drop)]
+pub struct Progress<E> {
+    err: E,
+    read: u64,
+    // How many bytes are to be read, if this is to be said.
+    whole: Option<u64>,
+    // What the terminal shows now.
+    shown: Option<u64>,
+}
+
+impl<E: Write> Progress<E> {
+    /// Before the first of these bytes is read, if it is to be said how far they are read.
+    pub fn new(err: E, whole: Option<u64>) -> Self {
+        Progress {
+            err,
+            read: 0,
+            whole,
+            shown: None,
+        }
+    }
+
+    /// So many bytes more are read.
+    pub fn advance(&mut self, bytes: usize) {
+        self.read = self.read.saturating_add(bytes as u64);
+        self.show();
+    }
+
+    /// Says how far the input is read, unless the terminal shows it.
+    pub fn show(&mut self) {
+        let Some(whole) = self.whole else {
+            return;
+        };
+        let percent = percent(self.read, whole);
+        if self.shown != Some(percent) {
+            let _ = write!(self.err, "\riref: {percent}%");
+            self.shown = Some(percent);
+        }
+    }
+
+    /// Makes the line empty, so that another may be written in its place.
+    pub fn hide(&mut self) {
+        if self.shown.is_some() {
+            let _ = self.err.write_all(b"\r          \r");
+            self.shown = None;
+        }
+    }
+}
