@@ -48,7 +48,7 @@ pub use Rattle.iref_fault.specs.BytePlaces
 pub use Rattle.iref_fault.specs.Printed
 pub use Rattle.iref_fault.specs.Tried
 pub use Rattle.iref_model.specs.Mapping
-pub use Rattle.iref_relativized.specs.Relativized
+pub use Rattle.iref_model.specs.Relativized
 pub use Rattle.iref_parse.specs.AuthoritySlices
 pub use Rattle.iref_parse.specs.ReferenceSlices
 pub use Rattle.iref_component.specs.Makers

@@ -51,3 +51,7 @@ pub mod ReferenceParts
 pub mod Readability
 pub mod Edits
 pub mod Mapping
+pub mod Relativized
+pub mod RelativizedLaws
+pub mod RelativizedTests
+pub mod RelativizedChoice

@@ -17,7 +17,7 @@ use Rattle.iref_model.proofs.ItemLemmas.{name_no_parent}
 use Rattle.iref_model.proofs.JoinedLemmas.{are_names, parents-names}
 use Rattle.iref_model.proofs.NormalLemmas.{excess-is}
 use Rattle.iref_model.proofs.StayingLemmas.{open_parents-is, staying_names-is}
-use Rattle.iref_relativized.specs.Relativized.{is_climb}
+use Rattle.iref_model.specs.Relativized.{is_climb}
 use Rattle.iref_path.specs.ShortestPaths.{are_some_parents}
 use Rattle.iref_path.specs.Spelling.{each_closed}
 use Rattle.iref_path.specs.StepsBetween.{last_ones}

@@ -15,7 +15,7 @@ use Rattle.iref_model.specs.PathSteps.{normalized}
 use Rattle.iref_parse.specs.Dots.{has_dot_segment, is_some_dotted}
 use Rattle.iref_splice.specs.Backward.{compared_after, is_all}
 use Rattle.iref_splice.specs.BackwardLaws.{all-compared, compared-both}
-use Rattle.iref_relativized.proofs.AddedLemmas.{guarded-same}
+use Rattle.iref_model.proofs.AddedLemmas.{guarded-same}
 use Rattle.iref_path.specs.Spelling.{each_closed}
 use Rattle.iref_path.proofs.DotlessLemmas.{normal_segments-dotless}
 use Rattle.iref_path.proofs.SpellLemmas.{each_closed-append, joined_before}

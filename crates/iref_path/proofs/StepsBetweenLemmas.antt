@@ -11,7 +11,7 @@ use Rattle.iref_model.proofs.LeadingLemmas.{divided_last}
 use Rattle.iref_path.specs.Spelling.{each_closed}
 use Rattle.iref_path.specs.StepsBetween.{steps_with, with_last}
 use Rattle.std.specs.Prelude.{bytes_eq}
-use Rattle.iref_relativized.specs.Relativized.{steps_by_text}
+use Rattle.iref_model.specs.Relativized.{steps_by_text}
 use Rattle.iref_path.proofs.SpellLemmas.{last_size, size-append, size-parents, relative-spelled, list_size, normal_size-text}
 use Rattle.iref_path.proofs.SuffixLemmas.{size-drop}
 use Rattle.iref_path.proofs.RelativeStepLemmas.{up-joined, up-size}

@@ -19,10 +19,10 @@ use Rattle.iref_model.proofs.JoinedLemmas.{climbs}
 use Rattle.iref_model.proofs.LeadingLemmas.{divided_last}
 use Rattle.iref_model.proofs.PieceLemmas.{some_piece}
 use Rattle.iref_parse.specs.Dots.{begins_with_dot, has_dot_segment, is_some_dotted}
-use Rattle.iref_relativized.specs.Relativized.{is_climb, shortened, steps_by_text}
-use Rattle.iref_relativized.specs.RelativizedTests.{is_reachable_from}
-use Rattle.iref_relativized.proofs.AddedLemmas.{guarded-same}
-use Rattle.iref_relativized.proofs.WalkLemmas.{climb-is}
+use Rattle.iref_model.specs.Relativized.{is_climb, shortened, steps_by_text}
+use Rattle.iref_model.specs.RelativizedTests.{is_reachable_from}
+use Rattle.iref_model.proofs.AddedLemmas.{guarded-same}
+use Rattle.iref_model.proofs.WalkLemmas.{climb-is}
 use Rattle.iref_path.specs.ShortestPaths.{are_some_parents, directory_of}
 use Rattle.iref_path.specs.StepsBetween.{text_steps_by_text}
 use Rattle.iref_path.proofs.ClimbLemmas.{all_parents, climb-last, kept-read}

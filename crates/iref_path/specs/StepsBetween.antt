@@ -9,7 +9,7 @@ use Rattle.iref_grammar.specs.PathValue.{PathValue}
 use Rattle.iref_model.specs.Guard.{guarded}
 use Rattle.iref_model.specs.NormalList.{normal, normal_segments}
 use Rattle.iref_model.specs.Relative.{directory_names, last_or_empty, steps_between}
-use Rattle.iref_relativized.specs.Relativized.{steps_by_text}
+use Rattle.iref_model.specs.Relativized.{steps_by_text}
 
 -- the last items of a list, this many
 abbrev pub last_ones : ℕ → List Text → List Text

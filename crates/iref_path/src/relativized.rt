@@ -10,8 +10,8 @@ ghost use Rattle.iref_parse.specs.Dots.{has_dot_segment};
 ghost use Rattle.iref_path.specs.MeasuredPaths.{IsMeasured, measured_text};
 ghost use Rattle.iref_path.specs.{NormalItems.{IsSound, normal_left}, Spelling.{each_closed}};
 ghost use Rattle.iref_path.specs.{ShortestPaths.{directory_of}, StepsBetween.{text_steps_by_text}};
-ghost use Rattle.iref_relativized.specs.Relativized.{is_climb, path_from, shortened, steps_by_text};
-ghost use Rattle.iref_relativized.specs.RelativizedTests.{is_reachable_from};
+ghost use Rattle.iref_model.specs.Relativized.{is_climb, path_from, shortened, steps_by_text};
+ghost use Rattle.iref_model.specs.RelativizedTests.{is_reachable_from};
 
 use crate::measured::MeasuredPath;
 use crate::normal_items::NormalItems;

@@ -8,13 +8,13 @@ use Rattle.iref_grammar.specs.Rules.{Text}
 use Rattle.iref_grammar.specs.ComponentTexts.{ComponentTexts, spell_components}
 use Rattle.iref_grammar.specs.Reference.{ReferenceValue, is_readable, is_reference, read_reference, spell}
 use Rattle.iref_grammar.proofs.ReferenceCutLemmas.{read_reference-spelled}
-use Rattle.iref_relativized.specs.Relativized.{relativized}
-use Rattle.iref_relativized.specs.RelativizedChoice.{chosen}
-use Rattle.iref_relativized.specs.RelativizedLaws.{AreReadable}
-use Rattle.iref_relativized.proofs.ChosenLemmas.{relativized-chosen}
-use Rattle.iref_relativized.proofs.ExactLemmas.{relativized-exact}
-use Rattle.iref_relativized.proofs.ReadableAnswerLemmas.{relativized-readable}
-use Rattle.iref_relativized.proofs.TextLawLemmas.{relativized-none_text, relativized-shortest_text}
+use Rattle.iref_model.specs.Relativized.{relativized}
+use Rattle.iref_model.specs.RelativizedChoice.{chosen}
+use Rattle.iref_model.specs.RelativizedLaws.{AreReadable}
+use Rattle.iref_model.proofs.ChosenLemmas.{relativized-chosen}
+use Rattle.iref_model.proofs.ExactLemmas.{relativized-exact}
+use Rattle.iref_model.proofs.ReadableAnswerLemmas.{relativized-readable}
+use Rattle.iref_model.proofs.TextLawLemmas.{relativized-none_text, relativized-shortest_text}
 use Rattle.iref_reference_text.specs.MeasuredReferences.{IsComposed, IsReady, measured_components, spell_texts}
 use Rattle.iref_reference_text.specs.declared.measured.MeasuredReference.{MeasuredReference}
 use Rattle.iref_reference_text.proofs.MeasuredLemmas.{composes}

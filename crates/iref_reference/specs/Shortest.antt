@@ -4,7 +4,7 @@ use Rattle.iref_grammar.specs.Characters.{CharTests}
 use Rattle.iref_grammar.specs.Rules.{Text}
 use Rattle.iref_grammar.specs.Reference.{ReferenceValue, is_reference, read_reference, spell}
 use Rattle.iref_model.specs.Resolution.{resolved}
-use Rattle.iref_relativized.specs.Relativized.{relativized}
+use Rattle.iref_model.specs.Relativized.{relativized}
 
 -- the text spells the answer of the definition, and is read as that; without a text there is none
 abbrev pub IsRelativized : ReferenceValue → ReferenceValue → Option Text → Type 0

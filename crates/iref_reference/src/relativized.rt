@@ -2,7 +2,7 @@
 //! and 5.2).
 ghost use Rattle.std.specs.Prelude.{◌≡◌, IfNone, IfOk, IfSome, option_map, true};
 ghost use Rattle.iref_reference_text.specs.{is_readable};
-ghost use Rattle.iref_relativized.specs.Relativized.{relativized};
+ghost use Rattle.iref_model.specs.Relativized.{relativized};
 ghost use Rattle.iref_reference.specs.{Parts.{uri_parts_value}, References.{reference_buf_text}};
 ghost use Rattle.iref_reference.specs.References.{reference_buf_value, reference_text, reference_value};
 ghost use Rattle.iref_reference.specs.Shortest.{IsRelativized, NoneIsShorter, NoneLeads, led_text};

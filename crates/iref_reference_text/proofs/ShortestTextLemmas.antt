@@ -21,9 +21,9 @@ use Rattle.iref_model.specs.Guard.{guarded}
 use Rattle.iref_model.specs.NormalList.{normal}
 use Rattle.iref_model.specs.PathSteps.{normalized}
 use Rattle.iref_model.specs.Relative.{with_only_path}
-use Rattle.iref_relativized.specs.Relativized.{authority_text, empty_path, fragment_alone, relative_path, same_scheme_text, same_authority_text, same_path_text, same_query_text}
-use Rattle.iref_relativized.specs.RelativizedChoice.{chosen, shorter_of, with_a_path, with_own_scheme, with_whole_path}
-use Rattle.iref_relativized.specs.RelativizedTests.{is_reachable, is_settled}
+use Rattle.iref_model.specs.Relativized.{authority_text, empty_path, fragment_alone, relative_path, same_scheme_text, same_authority_text, same_path_text, same_query_text}
+use Rattle.iref_model.specs.RelativizedChoice.{chosen, shorter_of, with_a_path, with_own_scheme, with_whole_path}
+use Rattle.iref_model.specs.RelativizedTests.{is_reachable, is_settled}
 use Rattle.iref_reference_text.proofs.MeasuredLemmas.{spelled_texts}
 use Rattle.iref_reference_text.specs.ShortestTexts.{same_part, shared_of, shares_authority, shares_path, shares_query, shares_scheme, shorter_texts}
 use Rattle.iref_reference_text.specs.declared.relativized.Shared.{Shared}

@@ -3,7 +3,7 @@ use Rattle.iref_grammar.specs.Rules.{Text}
 use Rattle.iref_grammar.specs.Contexts.{alone}
 use Rattle.iref_grammar.specs.PathValue.{spell_path}
 use Rattle.iref_model.specs.Guard.{guarded}
-use Rattle.iref_relativized.specs.Relativized.{is_climb}
+use Rattle.iref_model.specs.Relativized.{is_climb}
 use Rattle.iref_path.specs.NormalItems.{normal_left}
 use Rattle.iref_path.specs.Spelling.{each_closed}
 use Rattle.iref_path.proofs.StepsBetweenLemmas.{front-take, size-front}

@@ -5,9 +5,9 @@ use Rattle.iref_grammar.specs.PathValue.{spell_path}
 use Rattle.iref_model.specs.Relative.{with_only_path}
 use Rattle.iref_parse.specs.ReferenceSlices.{texts_of, value_of}
 use Rattle.iref_path.specs.MeasuredPaths.{measured_text}
-use Rattle.iref_relativized.specs.Relativized.{relative_path}
-use Rattle.iref_relativized.specs.RelativizedChoice.{with_whole_path}
-use Rattle.iref_relativized.specs.RelativizedTests.{is_reachable}
+use Rattle.iref_model.specs.Relativized.{relative_path}
+use Rattle.iref_model.specs.RelativizedChoice.{with_whole_path}
+use Rattle.iref_model.specs.RelativizedTests.{is_reachable}
 use Rattle.iref_reference_text.specs.MeasuredReferences.{measured_components}
 use Rattle.iref_reference_text.specs.Relatives.{after_path}
 use Rattle.iref_reference_text.specs.ShortestTexts.{shared_of, shares_authority, shorter_texts}

@@ -5,7 +5,7 @@ use Rattle.iref_grammar.specs.Contexts.{alone}
 use Rattle.iref_grammar.specs.PathValue.{read_path, spell_path}
 use Rattle.iref_model.specs.Guard.{guarded}
 use Rattle.iref_model.specs.NormalList.{normal_segments}
-use Rattle.iref_relativized.specs.Relativized.{is_climb}
+use Rattle.iref_model.specs.Relativized.{is_climb}
 use Rattle.iref_path.specs.NormalItems.{normal_left}
 use Rattle.iref_path.specs.Spelling.{each_closed}
 use Rattle.iref_path.proofs.SpellLemmas.{normal_size-text}

@@ -4,7 +4,7 @@ use Rattle.iref_grammar.proofs.ComponentLemmas.{is_some-copied}
 use Rattle.iref_grammar.specs.ComponentTexts.{spell_components}
 use Rattle.iref_grammar.specs.PathValue.{spell_path}
 use Rattle.iref_parse.specs.ReferenceSlices.{texts_of, value_of}
-use Rattle.iref_relativized.specs.RelativizedTests.{is_settled}
+use Rattle.iref_model.specs.RelativizedTests.{is_settled}
 use Rattle.iref_reference_text.specs.Relatives.{after_path}
 use Rattle.iref_reference_text.specs.ShortestTexts.{shared_of, shares_path, shares_query}
 use Rattle.iref_reference_text.proofs.ShortestTextLemmas.{chosen-fragment, chosen-none, chosen-path, chosen-tail}

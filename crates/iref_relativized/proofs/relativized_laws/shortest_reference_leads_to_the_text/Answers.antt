@@ -1,8 +1,0 @@
-use Rattle.std.proofs.Common.{ap}
-use Rattle.iref_model.specs.Key.{key}
-use Rattle.iref_relativized.proofs.ExactLemmas.{relativized-exact}
-use Rattle.iref_relativized.proofs.TextLawLemmas.{relativized-read, relativized-leads}
-use Rattle.iref_relativized.proofs.relativized_laws.shortest_reference_leads_to_the_text.Goals as goal
-
-pub returns : goal.returns
-returns c = record { value = relativized-exact; read = relativized-read; equal = λ set target base r are some. ap key (relativized-leads set target base r are some) }
