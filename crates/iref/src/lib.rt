@@ -93,7 +93,8 @@ pub mod uri {
     /// `h:80`.
     pub type AuthorityBuf = iref_component::authority::AuthorityBuf<UriChars>;
     /// The editor of an authority in a vector of bytes, or in an owned value such as `UriBuf` (RFC
-    /// 3986 section 3.2): at the bytes 2 to 6 of `//h:80/x`, `set_port` with None leaves `//h/x`.
+    /// 3986 section 3.2): at the bytes from 2 up to and without 6 of `//h:80/x`, `set_port` with None
+    /// leaves `//h/x`.
     pub type AuthorityMut<'a, T = Vec<u8>> = iref_component::authority_mut::AuthorityMut<
         'a,
         UriChars,
@@ -121,8 +122,8 @@ pub mod uri {
     /// `/a/c`.
     pub type PathBuf = iref_component::path_buf::PathBuf<UriChars>;
     /// The editor of a path in a vector of bytes, or in an owned value such as `UriBuf` or
-    /// `PathBuf` (RFC 3986 section 3.3): at the bytes 8 to 12 of `http://h/a/b?q`, `pop` leaves
-    /// `http://h/a?q`.
+    /// `PathBuf` (RFC 3986 section 3.3): at the bytes from 8 up to and without 12 of
+    /// `http://h/a/b?q`, `pop` leaves `http://h/a?q`.
     pub type PathMut<'a, T = Vec<u8>> = iref_component::path_mut::PathMut<'a, UriChars, T>;
 
     /// A segment of a path (RFC 3986 section 3.3): `b%2Fc` and the empty text are segments, `b/c`
@@ -200,7 +201,8 @@ pub mod iri {
     /// `é:80`.
     pub type AuthorityBuf = iref_component::authority::AuthorityBuf<IriChars>;
     /// The editor of an authority in a vector of bytes, or in an owned value such as `IriBuf` (RFC
-    /// 3987 section 2.2): at the bytes 2 to 7 of `//é:80/x`, `set_port` with None leaves `//é/x`.
+    /// 3987 section 2.2): at the bytes from 2 up to and without 7 of `//é:80/x`, `set_port` with None
+    /// leaves `//é/x`.
     pub type AuthorityMut<'a, T = Vec<u8>> = iref_component::authority_mut::AuthorityMut<
         'a,
         IriChars,
@@ -228,8 +230,8 @@ pub mod iri {
     /// `/a/ü`.
     pub type PathBuf = iref_component::path_buf::PathBuf<IriChars>;
     /// The editor of a path in a vector of bytes, or in an owned value such as `IriBuf` or
-    /// `PathBuf` (RFC 3987 section 2.2): at the bytes 8 to 13 of `http://h/a/é?q`, `pop` leaves
-    /// `http://h/a?q`.
+    /// `PathBuf` (RFC 3987 section 2.2): at the bytes from 8 up to and without 13 of
+    /// `http://h/a/é?q`, `pop` leaves `http://h/a?q`.
     pub type PathMut<'a, T = Vec<u8>> = iref_component::path_mut::PathMut<'a, IriChars, T>;
 
     /// A segment of a path (RFC 3987 section 2.2): `é%2Fc` and the empty text are segments, `é/c`
