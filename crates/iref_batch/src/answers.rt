@@ -87,7 +87,7 @@ fn write_field<R: Rule, C: CharSet>(
     write_at(out, at, part.as_bytes())
 }
 
-/// Puts the answer whose fields are the parts of a reference. The room is taken once.
+/// Puts the answer whose fields are the parts of a reference. Memory is requested once.
 fn put_parts(parts: &IriRefParts<'_>, out: &mut Vec<u8>) -> Result<(), Memory>
     ensures { Puts (answer_text (Answered (part_fields (uri_ref_part_texts parts.now))))
         out.old.items out.new.items result }

@@ -77,7 +77,7 @@ impl Unwritten for SortedReference<'_> {
 }
 
 /// Appends the sort key of a reference to a vector, from the reference's text and the slices of its
-/// components. The room is taken once.
+/// components. Memory is requested once.
 pub fn append_sort_key(
     text: &str,
     slices: ReferenceSlices<'_>,
@@ -99,8 +99,8 @@ pub fn append_sort_key(
     SortedReference::new(text, slices).append_to(out)
 }
 
-/// The sort key of a reference, from the reference's text and the slices of its components. The room
-/// is taken once, of the exact length.
+/// The sort key of a reference, from the reference's text and the slices of its components. Memory
+/// is requested once, of the exact length.
 pub fn sort_key(alloc: Global, text: &str, slices: ReferenceSlices<'_>) -> Result<Vec<u8>, Memory>
     requires value { value_of slices ≡ read_reference text.now }
     requires texts { texts_of slices ≡ spell_components (read_reference text.now) }

@@ -52,7 +52,7 @@ impl Unwritten for SortPrefix<'_> {
 }
 
 /// Appends the sort prefix of a reference to a vector, from the reference's text and the slices of
-/// its components. The room is taken once.
+/// its components. Memory is requested once.
 pub fn append_sort_prefix(
     text: &str,
     slices: ReferenceSlices<'_>,

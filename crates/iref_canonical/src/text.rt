@@ -16,8 +16,8 @@ use std::alloc::Global;
 use std::hash::Hasher;
 use std::mem;
 
-/// The canonical text of a reference, written from its components: of `HTTP://a/%7Eb`, `http://a/~b`.
-/// The room is taken once.
+/// The canonical text of a reference, written from its components: of `HTTP://a/%7Eb`,
+/// `http://a/~b`. Memory is requested once.
 pub fn canonical_text<C: CharSet>(
     alloc: Global,
     slices: ReferenceSlices<'_>,
@@ -32,7 +32,7 @@ pub fn canonical_text<C: CharSet>(
 }
 
 /// Writes the canonical text of a reference over a text, from the reference's components: of
-/// `HTTP://a/%7Eb`, `http://a/~b`. The room is taken first: an `Err` changes nothing.
+/// `HTTP://a/%7Eb`, `http://a/~b`. The memory is requested first: an error changes nothing.
 pub fn write_canonical_text<C: CharSet>(
     slices: ReferenceSlices<'_>,
     over: &mut String,

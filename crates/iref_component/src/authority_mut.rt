@@ -39,8 +39,9 @@ impl Part for AuthorityPart {
 }
 
 /// The editor of an authority that stands in a vector of bytes, or in another text that it borrows:
-/// of `//h:80/x` the bytes 2 to 6 are edited to `//h/x` by a port of `None`. It knows where the
-/// authority stands, in bytes, and its end moves with each edit; a refused edit changes nothing.
+/// of `//h:80/x` the bytes from 2 up to and without 6 are edited to `//h/x` by a port of `None`. It
+/// knows where the authority stands, in bytes, and its end moves with each edit; a refused edit
+/// changes nothing.
 #[derive(Drop)]
 pub struct AuthorityMut<'a, C: CharSet, T: Target<AuthorityPart, C> = Vec<u8>> {
     target: &'a mut T,
@@ -171,7 +172,7 @@ impl<'a, C: CharSet, T: Target<AuthorityPart, C>> AuthorityMut<'a, C, T> {
     }
 
     /// Replaces the authority, and nothing that stands before or after it: in `//h:80/x`, by `g`,
-    /// it leaves `//g/x`. At `Memory` nothing has changed.
+    /// it leaves `//g/x`. Out of memory, it returns `Memory` and changes nothing.
     pub fn replace(&mut self, authority: Authority<'_, C>) -> Result<(), Memory>
         ensures { Edits (λ _. read_authority (text_of authority.entry))
             self.old self.new result }
@@ -211,7 +212,8 @@ impl<'a, C: CharSet, T: Target<AuthorityPart, C>> AuthorityMut<'a, C, T> {
     }
 
     /// Sets the port to a number, in decimal digits without leading zeros, or removes it, which
-    /// takes no memory: `h` with 80 becomes `h:80`. At `Memory` nothing has changed.
+    /// takes no memory: `h` with 80 becomes `h:80`. Out of memory, it returns `Memory` and changes
+    /// nothing.
     #[tactic(auto, using(iref_model::proofs::PortNumberLemmas::written))]
     pub fn set_port_u32(&mut self, port: Option<u32>) -> Result<(), Memory>
         ensures edit { Edits (with_port (option_map port_text port)) self.old self.new result }

@@ -75,8 +75,8 @@ impl<R: Rule, C: CharSet> TextBuf<R, C> {
         *self.text.allocator()
     }
 
-    // Makes the change, where what this leaves is in the rule. All room is taken first: an `Err`
-    // changes nothing, and what makes the text no longer takes no memory.
+    // Makes the change, where what this leaves is in the rule. All memory is requested first: an
+    // error changes nothing, and what makes the text no longer takes no memory.
     pub(crate) fn apply(&mut self, change: Change<'_>) -> Result<(), Memory>
         requires within { IsWithin (text_of self.old) change.within }
         requires in_rule { R.test C.tests (changed (text_of self.old) change) ≡ true }

@@ -79,7 +79,7 @@ impl<S: Storage, C: CharSet> RuleText<S, PathRule, C> {
     }
 
     /// Appends the text of the normalized path to a vector: with `a/../b:c`, `ok` becomes `ok./b:c`
-    /// (RFC 3986 section 5.2.4). The room is taken once.
+    /// (RFC 3986 section 5.2.4). Memory is requested once.
     pub fn append_normalized_to(&self, out: &mut Vec<u8>) -> Result<(), Memory>
         ensures ok { OnOk result (out.new.items
             ≡ out.old.items ++ spell_path (step.normalized alone (path_value self.now))) }

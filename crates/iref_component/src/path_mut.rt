@@ -28,7 +28,8 @@ use std::marker::PhantomData;
 use std::ops::Range;
 
 /// The editor of a path that stands in a vector of bytes, or in another text that it borrows (RFC
-/// 3986 section 3.3): at the bytes 8 to 12 of `http://h/a/b?q`, `pop` leaves `http://h/a?q`.
+/// 3986 section 3.3): at the bytes from 8 up to and without 12 of `http://h/a/b?q`, `pop` leaves
+/// `http://h/a?q`.
 #[derive(Drop)]
 pub struct PathMut<'a, C: CharSet, T: Target<PathPart, C> = Vec<u8>> {
     target: &'a mut T,
@@ -121,8 +122,8 @@ impl<'a, C: CharSet, T: Target<PathPart, C>> PathMut<'a, C, T> {
         })
     }
 
-    /// Appends a segment as it is, `.` and `..` too: `a` with `..` becomes `a/..`. At `Memory`
-    /// nothing has changed.
+    /// Appends a segment as it is, `.` and `..` too: `a` with `..` becomes `a/..`. Out of memory,
+    /// it returns `Memory` and changes nothing.
     pub fn lazy_push(&mut self, segment: Segment<'_, C>) -> Result<(), Memory>
         ensures { EditsBy step.lazy_pushed (text_of segment.entry) self.old self.new result }
     {
@@ -151,7 +152,7 @@ impl<'a, C: CharSet, T: Target<PathPart, C>> PathMut<'a, C, T> {
     }
 
     /// Pops, and returns whether the path changed: `/a` becomes `/`, an absolute path without
-    /// segments stays. At `Memory` nothing has changed.
+    /// segments stays. Out of memory, it returns `Memory` and changes nothing.
     pub fn try_pop(&mut self) -> Result<bool, Memory>
         ensures edit { Edits step.popped self.old self.new result }
         ensures changed { IfOk result (λ changed. changed ≡ not ((path_mut_value self.old).absolute
@@ -164,7 +165,7 @@ impl<'a, C: CharSet, T: Target<PathPart, C>> PathMut<'a, C, T> {
     }
 
     /// Replaces the path, with a guard where it would be read as something else: alone, `x` by
-    /// `1:2` is `./1:2`. At `Memory` nothing has changed.
+    /// `1:2` is `./1:2`. Out of memory, it returns `Memory` and changes nothing.
     pub fn replace(&mut self, path: Path<'_, C>) -> Result<(), Memory>
         ensures { EditsBy step.replaced (path_value path.entry) self.old self.new result }
     {

@@ -91,7 +91,7 @@ impl<'a, R: HeldRule, C: CharSet> Reference<'a, R, C> {
         self.text.as_str()
     }
 
-    /// The bytes of the text: of `s:a` they are 115, 58 and 97.
+    /// The bytes of the text: of `s:a` they are `b"s:a"`.
     pub fn as_bytes(&self) -> &'a [u8]
         ensures { result.now ≡ reference_text self.now }
     {

@@ -28,7 +28,7 @@ impl<'a, R: HeldRule, C: CharSet> Reference<'a, R, C> {
     /// It is for comparison. Resolve first, and take the canonical text of the result: of `.` it is
     /// the empty text and of `%2E%2E/x` it is `../x`, which resolve to other URIs.
     ///
-    /// The room is taken once. `Memory` says that it was refused, or that the length cannot be
+    /// Memory is requested once. `Memory` says that it was refused, or that the length cannot be
     /// counted.
     pub fn canonical(&self, alloc: Global) -> Result<ReferenceBuf<R, UriChars>, Memory>
         ensures text { IfOk result (λ copy.
@@ -68,8 +68,8 @@ impl<'a, R: HeldRule, C: CharSet> Reference<'a, R, C> {
 
 impl<R: HeldRule, C: CharSet> ReferenceBuf<R, C> {
     /// The reference of the canonical text, as of the borrowed value: of `HTTP://a/%7Eb/./c`,
-    /// `http://a/~b/c`. The room is taken once. `Memory` says that it was refused, or that the length
-    /// cannot be counted.
+    /// `http://a/~b/c`. Memory is requested once. `Memory` says that it was refused, or that the
+    /// length cannot be counted.
     pub fn canonical(&self, alloc: Global) -> Result<ReferenceBuf<R, UriChars>, Memory>
         ensures text { IfOk result (λ copy.
             reference_buf_text copy ≡ canonical_text (key_of_reference_buf self.now)) }
@@ -81,7 +81,7 @@ impl<R: HeldRule, C: CharSet> ReferenceBuf<R, C> {
 
     /// The canonical text, as of the borrowed value: the text itself where it is canonical, else
     /// written into the buffer in place of what stood there. Of `HTTP://a/%7Eb/./c` it is
-    /// `http://a/~b/c`. `Memory` says that room for it was refused, or that the length cannot be
+    /// `http://a/~b/c`. `Memory` says that memory for it was refused, or that the length cannot be
     /// counted; the buffer is as it was.
     pub fn canonical_in<'t>(&'t self, buffer: &'t mut String) -> Result<&'t str, Memory>
         ensures text { IfOk result (λ text.

@@ -134,8 +134,8 @@ impl<'a, R: HeldRule, C: CharSet> Composed<'a, R, C> {
         self.components.fill(&mut buffer[..self.len]);
     }
 
-    /// Appends the text to a vector: with `s:g`, `ok` becomes `oks:g`. The room is taken once. At
-    /// `Memory` the vector is as it was.
+    /// Appends the text to a vector: with `s:g`, `ok` becomes `oks:g`. Memory is requested once.
+    /// Out of memory, it returns `Memory` and adds nothing.
     pub fn append_to(&self, out: &mut Vec<u8>) -> Result<(), Memory>
         ensures ok { OnOk result (out.new.items ≡ out.old.items ++ self.now) }
         ensures err { OnErr result (out.new.items ≡ out.old.items) }
@@ -147,8 +147,8 @@ impl<'a, R: HeldRule, C: CharSet> Composed<'a, R, C> {
         Ok(())
     }
 
-    /// An owned value of the text, such as `s:g`. The room is taken once. Out of memory, it returns
-    /// `Memory`.
+    /// An owned value of the text, such as `s:g`. Memory is requested once. Out of memory, it
+    /// returns `Memory`.
     #[inline(always)]
     pub fn to_owned(&self, alloc: Global) -> Result<ReferenceBuf<R, C>, Memory>
         ensures { IfOk result (λ owner. reference_buf_text owner ≡ self.now) }

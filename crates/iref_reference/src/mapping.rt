@@ -60,7 +60,7 @@ impl<R: HeldRule> ReferenceBuf<R, IriChars> {
 
 impl UriRefBuf<IriChars> {
     /// The reference of URIs that it maps to, as `to_uri_ref` says, within its buffer. A text of
-    /// ASCII takes no memory. If memory runs out, the reference is returned unchanged.
+    /// ASCII takes no memory. Out of memory, it returns the reference unchanged.
     pub fn into_uri_ref(self) -> Result<UriRefBuf<UriChars>, (Self, Memory)>
         ensures ok { IfOk result (IsMappingOf (InUtf8 (IsUriReference uri_chars))
             (reference_buf_text self) (key_of_reference_buf self)) }
@@ -73,7 +73,7 @@ impl UriRefBuf<IriChars> {
 
 impl UriBuf<IriChars> {
     /// The URI that it maps to, as `to_uri` says, within its buffer. A text of ASCII takes no
-    /// memory. If memory runs out, the IRI is returned unchanged.
+    /// memory. Out of memory, it returns the IRI unchanged.
     pub fn into_uri(self) -> Result<UriBuf<UriChars>, (Self, Memory)>
         ensures ok { IfOk result (IsMappingOf (InUtf8 (IsUri uri_chars)) (reference_buf_text self)
             (key_of_reference_buf self)) }

@@ -88,7 +88,7 @@ impl<R: HeldRule, C: CharSet> ReferenceBuf<R, C> {
         self.inner.as_str()
     }
 
-    /// The bytes of the text: of `s:a` they are 115, 58 and 97.
+    /// The bytes of the text: of `s:a` they are `b"s:a"`.
     pub fn as_bytes(&self) -> &[u8]
         ensures { result.now ≡ reference_buf_text self.now }
     {
@@ -200,7 +200,7 @@ impl<R: HeldRule, C: CharSet> ReferenceBuf<R, C> {
         self.inner.into_string()
     }
 
-    /// The bytes of the text, with no copy: of `s:a` they are 115, 58 and 97.
+    /// The bytes of the text, with no copy: of `s:a` they are `b"s:a"`.
     pub fn into_bytes(self) -> Vec<u8>
         ensures { result.items ≡ reference_buf_text self }
     {

@@ -21,8 +21,8 @@ use iref_splice::Memory;
 impl<R: HeldRule, C: CharSet> ReferenceBuf<R, C> {
     /// Replaces, adds or removes the authority (RFC 3986 section 3.2); removing takes no memory.
     /// Where one is added, the path becomes absolute: `a` with `h` becomes `//h/a`. Where it is
-    /// removed, a path that begins with `//` is guarded: `//h//a` becomes `/.//a`. At `Memory`
-    /// nothing has changed.
+    /// removed, a path that begins with `//` is guarded: `//h//a` becomes `/.//a`. Out of memory,
+    /// it returns `Memory` and changes nothing.
     pub fn set_authority(&mut self, authority: Option<Authority<'_, C>>) -> Result<(), Memory>
         ensures set { Edits (with_authority (option_map read_authority
             (option_map text_of authority.entry))) self.old self.new result }
@@ -32,7 +32,8 @@ impl<R: HeldRule, C: CharSet> ReferenceBuf<R, C> {
     }
 
     /// Replaces the path, with a guard where it would be read as something else (RFC 3986 section
-    /// 3.3): `x` with `1:2` becomes `./1:2`. At `Memory` nothing has changed.
+    /// 3.3): `x` with `1:2` becomes `./1:2`. Out of memory, it returns `Memory` and changes
+    /// nothing.
     pub fn set_path(&mut self, path: Path<'_, C>) -> Result<(), Memory>
         ensures { Edits (with_path (path_value path.entry)) self.old self.new result }
     {
@@ -52,7 +53,7 @@ impl<R: HeldRule, C: CharSet> ReferenceBuf<R, C> {
     }
 
     /// Replaces, adds or removes the query (RFC 3986 section 3.4): `a` with `q` becomes `a?q`.
-    /// Removing takes no memory. At `Memory` nothing has changed.
+    /// Removing takes no memory. Out of memory, it returns `Memory` and changes nothing.
     pub fn set_query(&mut self, query: Option<Query<'_, C>>) -> Result<(), Memory>
         ensures set { Edits (with_query (option_map text_of query.entry)) self.old self.new
             result }
@@ -62,7 +63,7 @@ impl<R: HeldRule, C: CharSet> ReferenceBuf<R, C> {
     }
 
     /// Replaces, adds or removes the fragment (RFC 3986 section 3.5): `a` with `f` becomes `a#f`.
-    /// Removing takes no memory. At `Memory` nothing has changed.
+    /// Removing takes no memory. Out of memory, it returns `Memory` and changes nothing.
     pub fn set_fragment(&mut self, fragment: Option<Fragment<'_, C>>) -> Result<(), Memory>
         ensures set { Edits (with_fragment (option_map text_of fragment.entry)) self.old self.new
             result }
@@ -75,7 +76,7 @@ impl<R: HeldRule, C: CharSet> ReferenceBuf<R, C> {
 impl<C: CharSet> UriRefBuf<C> {
     /// Replaces, adds or removes the scheme (RFC 3986 section 3.1); removing takes no memory. Where
     /// it is removed, a path whose first segment holds a `:` is guarded: `s:a:b` becomes `./a:b`.
-    /// At `Memory` nothing has changed.
+    /// Out of memory, it returns `Memory` and changes nothing.
     pub fn set_scheme(&mut self, scheme: Option<Scheme<'_>>) -> Result<(), Memory>
         ensures set { Edits (with_scheme (option_map text_of scheme.entry)) self.old self.new
             result }
@@ -86,8 +87,8 @@ impl<C: CharSet> UriRefBuf<C> {
 }
 
 impl<C: CharSet> UriBuf<C> {
-    /// Replaces the scheme (RFC 3986 section 3.1): `http://a` with `s` becomes `s://a`. At `Memory`
-    /// nothing has changed.
+    /// Replaces the scheme (RFC 3986 section 3.1): `http://a` with `s` becomes `s://a`. Out of
+    /// memory, it returns `Memory` and changes nothing.
     pub fn set_scheme(&mut self, scheme: Scheme<'_>) -> Result<(), Memory>
         ensures { Edits (with_scheme (Some (text_of scheme.entry))) self.old self.new result }
     {

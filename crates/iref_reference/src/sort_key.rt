@@ -26,8 +26,8 @@ impl<R: HeldRule, C: CharSet> Reference<'_, R, C> {
         Ok(SortKey::of_bytes(bytes))
     }
 
-    /// Appends the sort key to a vector: of `?` the bytes 0, 0, 0, 0, 1, 0 and 0. The room is taken
-    /// once; out of memory, it returns `Memory` and the vector is as it was.
+    /// Appends the sort key to a vector: of `?` the bytes 0, 0, 0, 0, 1, 0 and 0. Memory is
+    /// requested once; out of memory, it returns `Memory` and the vector is as it was.
     pub fn append_sort_key_to(&self, bytes: &mut Vec<u8>) -> Result<(), Memory>
         ensures ok { OnOk result (bytes.new.items
             ≡ bytes.old.items ++ sort_key (key_of_reference self.now)) }
@@ -48,8 +48,8 @@ impl<R: HeldRule, C: CharSet> ReferenceBuf<R, C> {
         Ok(SortKey::of_bytes(bytes))
     }
 
-    /// Appends the sort key to a vector: of `?` the bytes 0, 0, 0, 0, 1, 0 and 0. The room is taken
-    /// once; out of memory, it returns `Memory` and the vector is as it was.
+    /// Appends the sort key to a vector: of `?` the bytes 0, 0, 0, 0, 1, 0 and 0. Memory is
+    /// requested once; out of memory, it returns `Memory` and the vector is as it was.
     pub fn append_sort_key_to(&self, bytes: &mut Vec<u8>) -> Result<(), Memory>
         ensures ok { OnOk result (bytes.new.items
             ≡ bytes.old.items ++ sort_key (key_of_reference_buf self.now)) }

@@ -34,7 +34,7 @@ impl<R: HeldRule, C: CharSet> Reference<'_, R, C> {
 
     /// Appends the sort prefix to a vector, with which the sort keys of all below the reference
     /// begin, and no others: of `/a?q` the bytes 0, 0, 1, 1, 97 and 0. It is where `sort_range`
-    /// begins; the range ends before the prefix and the byte 2. The room is taken once; out of
+    /// begins; the range ends before the prefix and the byte 2. Memory is requested once; out of
     /// memory, it returns `Memory` and the vector is as it was.
     pub fn append_sort_prefix_to(&self, bytes: &mut Vec<u8>) -> Result<(), Memory>
         ensures ok { OnOk result (bytes.new.items
@@ -60,9 +60,9 @@ impl<R: HeldRule, C: CharSet> ReferenceBuf<R, C> {
         sort_range(alloc, self.as_str(), self.inner.slices())
     }
 
-    /// Appends the sort prefix to a vector, as of the borrowed value: of `/a?q` the bytes 0, 0, 1, 1,
-    /// 97 and 0. The room is taken once; out of memory, it returns `Memory` and the vector is as it
-    /// was.
+    /// Appends the sort prefix to a vector, as of the borrowed value: of `/a?q` the bytes 0, 0, 1,
+    /// 1, 97 and 0. Memory is requested once; out of memory, it returns `Memory` and the vector is
+    /// as it was.
     pub fn append_sort_prefix_to(&self, bytes: &mut Vec<u8>) -> Result<(), Memory>
         ensures ok { OnOk result (bytes.new.items
             ≡ bytes.old.items ++ sort_prefix (key_of_reference_buf self.now)) }

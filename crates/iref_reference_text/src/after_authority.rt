@@ -52,7 +52,7 @@ fn front_before<'a, C: CharSet>(
     Some(base_slice::<C>(text, base, lengths))
 }
 
-// The bytes of two texts, one after the other. The room is taken once.
+// The bytes of two texts, one after the other. Memory is requested once.
 #[inline(always)]
 fn joined(alloc: Global, front: &str, back: &str) -> Result<Vec<u8>, Memory>
     ensures { IfOk result (λ bytes. bytes.items ≡ front.now ++ back.now) }

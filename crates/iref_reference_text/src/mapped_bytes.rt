@@ -30,7 +30,7 @@ pub fn count_escaped(bytes: &[u8]) -> usize
     count
 }
 
-/// The mapping of a text: of `é%41`, `%C3%A9%41`. Its room is taken once.
+/// The mapping of a text: of `é%41`, `%C3%A9%41`. Its memory is requested once.
 pub fn mapped(alloc: Global, text: &str) -> Result<String, AllocError>
     ensures { IfOk result (λ copy. string_bytes copy ≡ mapped text.now) }
 {
@@ -84,7 +84,7 @@ fn map_to_the_end(buffer: &mut [u8], from: usize)
     }
 }
 
-/// Maps bytes within their buffer; `escaped` of them are escaped. The room is taken once, and
+/// Maps bytes within their buffer; `escaped` of them are escaped. Memory is requested once, and
 /// nothing changes where it is refused.
 pub fn map_in_place(bytes: &mut Vec<u8>, escaped: usize) -> Result<(), AllocError>
     requires { escaped ≡ count_escaped bytes.old.items }

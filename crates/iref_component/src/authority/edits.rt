@@ -56,8 +56,8 @@ impl<C: CharSet> AuthorityBuf<C> {
         AuthorityMut::of_target(self, 0..end)
     }
 
-    /// Replaces the authority, in the room of the old one where it fits: `u@h:80` by `g` is `g`. At
-    /// `Memory` nothing has changed.
+    /// Replaces the authority, in the room of the old one where it fits: `u@h:80` by `g` is `g`.
+    /// Out of memory, it returns `Memory` and changes nothing.
     pub fn replace(&mut self, authority: Authority<'_, C>) -> Result<(), Memory>
         ensures ok { OnOk result (text_of self.new ≡ text_of authority.entry) }
         ensures err { OnErr result (text_of self.new ≡ text_of self.old) }
@@ -75,8 +75,8 @@ impl<C: CharSet> AuthorityBuf<C> {
         self.as_authority_mut().set_user_info(user_info)
     }
 
-    /// Replaces the host (RFC 3986 section 3.2.2): `u@h:80` with `g` becomes `u@g:80`. At `Memory`
-    /// nothing has changed.
+    /// Replaces the host (RFC 3986 section 3.2.2): `u@h:80` with `g` becomes `u@g:80`. Out of
+    /// memory, it returns `Memory` and changes nothing.
     pub fn set_host(&mut self, host: Host<'_, C>) -> Result<(), Memory>
         ensures { EditsOwner (with_host (text_of host.entry)) self.old self.new result }
     {
@@ -94,7 +94,8 @@ impl<C: CharSet> AuthorityBuf<C> {
     }
 
     /// Sets the port to a number, in decimal digits without leading zeros, or removes it, which
-    /// takes no memory: `h` with 80 becomes `h:80`. At `Memory` nothing has changed.
+    /// takes no memory: `h` with 80 becomes `h:80`. Out of memory, it returns `Memory` and changes
+    /// nothing.
     pub fn set_port_u32(&mut self, port: Option<u32>) -> Result<(), Memory>
         ensures edit { EditsOwner (with_port (option_map port_text port)) self.old self.new result }
         ensures none { IsNone port → IsOk result }

@@ -65,8 +65,8 @@ impl<C: CharSet> PathBuf<C> {
         PathMut::from_path(self)
     }
 
-    /// Appends a segment as it is, `.` and `..` too: `a` with `..` becomes `a/..`. At `Memory`
-    /// nothing has changed.
+    /// Appends a segment as it is, `.` and `..` too: `a` with `..` becomes `a/..`. Out of memory,
+    /// it returns `Memory` and changes nothing.
     pub fn lazy_push(&mut self, segment: Segment<'_, C>) -> Result<(), Memory>
         ensures { EditsOwner (step.lazy_pushed alone (text_of segment.entry))
             self.old self.new result }
@@ -94,7 +94,7 @@ impl<C: CharSet> PathBuf<C> {
     }
 
     /// Pops, and returns whether the path changed: `/a` becomes `/`, an absolute path without
-    /// segments stays. At `Memory` nothing has changed.
+    /// segments stays. Out of memory, it returns `Memory` and changes nothing.
     pub fn try_pop(&mut self) -> Result<bool, Memory>
         ensures edit { EditsOwner (step.popped alone) self.old self.new result }
         ensures changed { IfOk result (λ changed. changed ≡ not ((path_value self.old).absolute
@@ -104,7 +104,7 @@ impl<C: CharSet> PathBuf<C> {
     }
 
     /// Replaces the path, with a guard where it would be read as something else: alone, `x` by
-    /// `1:2` is `./1:2`. At `Memory` nothing has changed.
+    /// `1:2` is `./1:2`. Out of memory, it returns `Memory` and changes nothing.
     pub fn replace(&mut self, path: Path<'_, C>) -> Result<(), Memory>
         ensures { EditsOwner (step.replaced alone (path_value path.entry))
             self.old self.new result }

@@ -82,7 +82,7 @@ impl<R: HeldRule, C: CharSet> Reference<'_, R, C> {
 
 impl<C: CharSet> UriRefBuf<C> {
     /// The same reference under a scheme, with no copy where the buffer has room: `x` under `s` is
-    /// `s:x`. If memory runs out, the reference is returned unchanged.
+    /// `s:x`. Out of memory, it returns the reference unchanged.
     pub fn into_with_scheme(self, scheme: Scheme<'_>) -> Result<UriBuf<C>, (Self, Memory)>
         ensures ok { IfOk result (λ uri. IsStep (with_scheme (Some (text_of scheme.entry)))
             (reference_buf_text self) (reference_buf_text uri)) }

@@ -14,7 +14,7 @@ use std::alloc::Global;
 use std::marker::PhantomData;
 
 impl<R: HeldRule, C: CharSet> ReferenceText<R, C> {
-    /// The text of these components, which is in the rule and this long. The room is taken once.
+    /// The text of these components, which is in the rule and this long. Memory is requested once.
     #[inline(always)]
     #[tactic(auto, using(crate::proofs::ReferenceTextLemmas::in_rule_utf8))]
     pub fn of_components(
