@@ -14,10 +14,11 @@ use crate::row::Row;
 use iref_grammar::context::PathContext;
 use iref_parse::split::ReferenceSlices;
 use iref_path::measured::MeasuredPath;
+use iref_splice::Memory;
 use iref_splice::backward::Backward;
 use iref_splice::text::marked_len;
 use iref_splice::unwritten::Unwritten;
-use std::alloc::AllocError;
+use std::alloc::{AllocError, Global};
 use std::fmt;
 
 /// The components of a reference that is not written yet, as of what `../g` resolves to against
@@ -165,6 +166,17 @@ impl<'a> MeasuredReference<'a> {
             query: marked_len(1, self.query),
             fragment: marked_len(1, self.fragment),
         }
+    }
+
+    /// The bytes of the text, which is this long.
+    pub fn bytes(&self, alloc: Global, len: usize) -> Result<Vec<u8>, Memory>
+        requires ready { IsReady self.now }
+        requires len { len ≡ length (spell_texts (measured_components self.now)) }
+        ensures { IfOk result (λ bytes. bytes.items ≡ spell_texts (measured_components self.now)) }
+    {
+        let mut bytes = vec![in alloc; 0u8; len]?;
+        self.fill(&mut bytes);
+        Ok(bytes)
     }
 
     /// Writes the text to a formatter, from the front.

@@ -9,7 +9,6 @@ use crate::lengths::Lengths;
 use crate::measured::MeasuredReference;
 use iref_grammar::chars::CharSet;
 use iref_splice::Memory;
-use iref_splice::unwritten::Unwritten;
 use std::alloc::Global;
 use std::marker::PhantomData;
 
@@ -26,8 +25,7 @@ impl<R: HeldRule, C: CharSet> ReferenceText<R, C> {
         requires len { len ≡ length (spell_texts (measured_components components.now)) }
         ensures { IfOk result (λ inner. inner ≡ spell_texts (measured_components components.now)) }
     {
-        let mut bytes = vec![in alloc; 0u8; len]?;
-        components.fill(&mut bytes);
+        let bytes = components.bytes(alloc, len)?;
         // What spells a reference is text, so no byte is read again.
         let text = unsafe { String::from_utf8_unchecked(bytes) };
         Ok(ReferenceText {
