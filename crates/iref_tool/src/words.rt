@@ -75,12 +75,12 @@ fn help_of(id: &str) -> &'static str {
 }
 
 // An argument that has to be there.
-fn needed(alloc: Global, id: &'static str) -> Arg<'static> {
+fn needed<'a>(alloc: Global, id: &'static str) -> Arg<'a> {
     Arg::new(alloc, id).required(true).help(help_of(id))
 }
 
 // Arguments, any number of them.
-fn many(alloc: Global, id: &'static str) -> Arg<'static> {
+fn many<'a>(alloc: Global, id: &'static str) -> Arg<'a> {
     Arg::new(alloc, id)
         .action(ArgAction::Append)
         .num_args(0..)
@@ -88,7 +88,7 @@ fn many(alloc: Global, id: &'static str) -> Arg<'static> {
 }
 
 // An option without a value.
-fn flag(alloc: Global, id: &'static str, help: &'static str) -> Arg<'static> {
+fn flag<'a>(alloc: Global, id: &'static str, help: &'static str) -> Arg<'a> {
     Arg::new(alloc, id)
         .long(id)
         .action(ArgAction::SetTrue)
@@ -96,12 +96,12 @@ fn flag(alloc: Global, id: &'static str, help: &'static str) -> Arg<'static> {
 }
 
 // A command with arguments that have to be there.
-fn of_words(
+fn of_words<'a>(
     alloc: Global,
     name: &'static str,
     about: &'static str,
     ids: &[&'static str],
-) -> Result<Command<'static>, AllocError> {
+) -> Result<Command<'a>, AllocError> {
     let mut command = Command::new(alloc, name).about(about);
     for id in ids {
         command = command.arg(needed(alloc, *id))?;
@@ -110,23 +110,23 @@ fn of_words(
 }
 
 // A command with files.
-fn of_files(
+fn of_files<'a>(
     alloc: Global,
     name: &'static str,
     about: &'static str,
-) -> Result<Command<'static>, AllocError> {
+) -> Result<Command<'a>, AllocError> {
     Command::new(alloc, name)
         .about(about)
         .arg(many(alloc, "FILE"))
 }
 
 // A command with two words, or with a base and files.
-fn of_base(
+fn of_base<'a>(
     alloc: Global,
     name: &'static str,
     about: &'static str,
     usage: &'static str,
-) -> Result<Command<'static>, AllocError> {
+) -> Result<Command<'a>, AllocError> {
     let base = Arg::new(alloc, "base")
         .long("base")
         .value_name("BASE")
@@ -141,7 +141,7 @@ fn of_base(
 }
 
 // The option that keeps lines.
-fn keep(alloc: Global) -> Arg<'static> {
+fn keep<'a>(alloc: Global) -> Arg<'a> {
     flag(
         alloc,
         "keep",
@@ -150,10 +150,7 @@ fn keep(alloc: Global) -> Arg<'static> {
 }
 
 // Adds the commands that have one answer.
-fn with_questions(
-    command: Command<'static>,
-    alloc: Global,
-) -> Result<Command<'static>, AllocError> {
+fn with_questions<'a>(command: Command<'a>, alloc: Global) -> Result<Command<'a>, AllocError> {
     let edit = of_words(
         alloc,
         "edit",
@@ -194,7 +191,7 @@ fn with_questions(
 }
 
 // Adds the commands that take each line.
-fn with_lines(command: Command<'static>, alloc: Global) -> Result<Command<'static>, AllocError> {
+fn with_lines<'a>(command: Command<'a>, alloc: Global) -> Result<Command<'a>, AllocError> {
     let check = of_files(alloc, "check", "Find the lines that are no IRI references")?
         .arg(flag(alloc, "uri", "Allow the characters of URIs alone"))?
         .arg(flag(alloc, "absolute", "Want a scheme"))?;
@@ -224,7 +221,7 @@ fn with_lines(command: Command<'static>, alloc: Global) -> Result<Command<'stati
 }
 
 /// The command, before any words.
-pub fn command(alloc: Global) -> Result<Command<'static>, AllocError> {
+pub fn command<'a>(alloc: Global) -> Result<Command<'a>, AllocError> {
     let command = Command::new(alloc, "iref")
         .bin_name("iref")?
         .version(VERSION)
@@ -251,12 +248,12 @@ pub fn command(alloc: Global) -> Result<Command<'static>, AllocError> {
 }
 
 // The words of an argument.
-fn words_of<'m>(matches: &'m ArgMatches<'m>, id: &str) -> &'m [&'m str] {
+fn words_of<'m, 'w: 'm>(matches: &'m ArgMatches<'w>, id: &str) -> &'m [&'m str] {
     matches.get_strs(id).unwrap_or(&[])
 }
 
 // What is asked by a command with one answer.
-fn question_of<'m>(name: &str, matches: &'m ArgMatches<'m>) -> Option<Question<'m>> {
+fn question_of<'m, 'w: 'm>(name: &str, matches: &'m ArgMatches<'w>) -> Option<Question<'m>> {
     Some(match name {
         "parts" => Question::Parts(matches.get_str("URI")?),
         "normal" => Question::Normal(matches.get_str("PATH")?),
@@ -271,7 +268,7 @@ fn question_of<'m>(name: &str, matches: &'m ArgMatches<'m>) -> Option<Question<'
 }
 
 // The job of a command that takes each line of files.
-fn line_task_of<'m>(name: &str, matches: &'m ArgMatches<'m>) -> Option<LineTask<'m>> {
+fn line_task_of<'m, 'w: 'm>(name: &str, matches: &'m ArgMatches<'w>) -> Option<LineTask<'m>> {
     let keep = matches.get_flag("keep");
     Some(match name {
         "check" => LineTask::Check {
@@ -289,7 +286,7 @@ fn line_task_of<'m>(name: &str, matches: &'m ArgMatches<'m>) -> Option<LineTask<
 }
 
 // What `resolve` and `relativize` ask for: of two words, or of each line against a base.
-fn base_task_of<'m>(name: &str, matches: &'m ArgMatches<'m>) -> Option<Task<'m>> {
+fn base_task_of<'m, 'w: 'm>(name: &str, matches: &'m ArgMatches<'w>) -> Option<Task<'m>> {
     let keep = matches.get_flag("keep");
     let words = words_of(matches, "WORD");
     match (name, matches.get_str("base"), words) {
@@ -304,7 +301,7 @@ fn base_task_of<'m>(name: &str, matches: &'m ArgMatches<'m>) -> Option<Task<'m>>
 }
 
 /// What the words ask for, if there are as many as the command takes.
-pub fn task_of<'m>(matches: &'m ArgMatches<'m>) -> Option<Task<'m>> {
+pub fn task_of<'m, 'w: 'm>(matches: &'m ArgMatches<'w>) -> Option<Task<'m>> {
     let (name, inner) = matches.subcommand()?;
     if let Some(question) = question_of(name, inner) {
         return Some(Task::One(question));
