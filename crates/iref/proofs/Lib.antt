@@ -17,6 +17,7 @@ pub mod PrefixTextLemmas
 pub mod PrefixTableLemmas
 pub mod PrefixWayLemmas
 pub mod SortedLemmas
+pub mod TextOrderLemmas
 -- lemmas about the words of contracts, for callers that list this crate alone
 pub use Rattle.iref_grammar.proofs.AuthorityLemmas
 pub use Rattle.iref_grammar.proofs.CutLemmas

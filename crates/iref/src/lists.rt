@@ -4,12 +4,14 @@ ghost use Rattle.std.specs.Cmp.{on_total, on_equiv, po, partial_equiv_from_equiv
 ghost use Rattle.std.specs.{Ordering.{on, as_partial_cmp, eq_by_cmp}, Cmp.Rules.{comparing}};
 ghost use Rattle.std.specs.{List.Sorted.{IsPermutation, IsSorted, IsStable}, Prelude.{◌≡◌, IfOk, map}};
 ghost use Rattle.std.proofs.Common.{rules, refl};
+ghost use Rattle.iref_grammar.specs.Keys.{text_order};
 ghost use Rattle.iref_model.{proofs.KeyOrderLemmas.{keys_total}, specs.Key.{key_cmp}};
 ghost use Rattle.iref_canonical.specs.SortKey.{sort_key};
 ghost use Rattle.iref_reference.specs.References.{key_of_reference, reference_text, reference_value};
 ghost use Rattle.iref.specs.Lists.{AreKeysOf, IsSortedUnique, firsts, key_of_text};
 
 use iref_grammar::chars::CharSet;
+use iref_parse::front::common_front;
 use iref_reference::borrowed::Reference;
 use iref_reference_text::reference_text::HeldRule;
 use iref_splice::Memory;
@@ -17,6 +19,20 @@ use std::alloc::Global;
 use std::cmp::Ordering;
 use std::collections::BTreeSet;
 use std::marker::Model;
+
+// The order of two texts, byte by byte and the shorter first. What they begin with alike is passed over
+// by vectors.
+#[tactic(auto, using(crate::proofs::TextOrderLemmas::order_at_bytes, crate::proofs::TextOrderLemmas::order_at_end))]
+fn order_of(a: &[u8], b: &[u8]) -> Ordering
+    ensures { result ≡ text_order a.now b.now }
+{
+    let at = common_front(a, b);
+    if at < a.len() && at < b.len() {
+        a[at].cmp(&b[at])
+    } else {
+        a.len().cmp(&b.len())
+    }
+}
 
 // A reference with its sort key. Its value is the reference's text.
 #[derive(Drop)]
@@ -48,7 +64,7 @@ impl<R: HeldRule, C: CharSet> Ord for Keyed<'_, '_, R, C> {
     ghost matches_eq = { λ _ _. refl };
 
     fn cmp(&self, other: &Self) -> Ordering {
-        self.key.cmp(other.key)
+        order_of(self.key, other.key)
     }
 }
 
@@ -68,7 +84,7 @@ impl<R: HeldRule, C: CharSet> PartialEq for Keyed<'_, '_, R, C> {
     ghost laws = { partial_equiv_from_equiv (on_equiv key_of_text (eq_by_cmp_equiv keys_total)) };
 
     fn eq(&self, other: &Self) -> bool {
-        self.cmp(other) == Ordering::Equal
+        self.key == other.key
     }
 }
 
