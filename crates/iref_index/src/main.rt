@@ -2,6 +2,7 @@
 //! table of the file, each under its sort key, and closes the file. It opens the file again, and
 //! answers each line, a URI: how many URIs of the table are below it, the first and the last of them.
 //! One range of the keys finds them, and is compared with what a scan of all URIs by `suffix` finds.
+//! A file that is no database, or that has another table of the name, is refused and not written.
 #![tactic(auto)]
 
 mod made;
@@ -52,24 +53,27 @@ fn answer(alloc: Global, table: &mut Table, uris: &[UriBuf], line: &str) -> Resu
     }
 }
 
+fn answer_lines(rt: &HostRuntime, table: &mut Table, uris: &[UriBuf]) -> Result<()> {
+    for line in rt.lines(rt.alloc()) {
+        let line = line?;
+        let answer = answer(rt.alloc(), table, uris, line.as_str())?;
+        println!(rt; "{answer}")?;
+    }
+    Ok(())
+}
+
 fn main(rt: HostRuntime) -> Result<()> {
     let alloc = rt.alloc();
     let mut words = env::args(&rt)?;
     let _program = words.next();
     let path = words.next().context("no file is named")?;
-    let mut table = Table::open(&rt, path.as_str())?;
+    ensure!(words.next().is_none(), "more than one file is named");
     let uris = made::uris(alloc)?;
-    table.begin()?;
-    for uri in &uris {
-        table.put(alloc, uri.as_uri())?;
-    }
-    table.commit()?;
-    table.close()?;
     let mut table = Table::open(&rt, path.as_str())?;
-    for line in rt.lines(alloc) {
-        let line = line?;
-        let answer = answer(alloc, &mut table, uris.as_slice(), line.as_str())?;
-        println!(rt; "{answer}")?;
-    }
-    table.close()
+    let put = table.put_all(alloc, uris.as_slice());
+    put.and(table.close(&rt, path.as_str()))
+        .context(format_args!("cannot write {}", path.as_str()))?;
+    let mut table = Table::open(&rt, path.as_str())?;
+    let answered = answer_lines(&rt, &mut table, uris.as_slice());
+    answered.and(table.close(&rt, path.as_str()))
 }

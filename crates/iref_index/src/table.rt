@@ -1,34 +1,62 @@
 //! A table of SQLite, in a file, that holds URIs in the order of their sort keys.
 use anyhow::{Context, Result, ensure};
 use iref::uri::{Uri, UriBuf};
-use sqlite::{Connection, FileStore, params};
+use sqlite::{Connection, Error, ErrorCode, FileStore, Unknown, params};
 use std::alloc::Global;
 use std::fs::{self, File};
-use std::io::Read;
+use std::io::{self, Read};
 
 // How the file of a database begins.
 const HEAD: &[u8] = b"SQLite format 3\0";
 
-const CREATE: &str =
-    "CREATE TABLE IF NOT EXISTS uri (key BLOB NOT NULL PRIMARY KEY, text TEXT NOT NULL)";
+const CREATE: &str = "CREATE TABLE uri (key BLOB NOT NULL PRIMARY KEY, text TEXT NOT NULL)";
+
+// How the table, or whatever else has its name, was made.
+const MADE: &str = "SELECT sql FROM sqlite_schema WHERE name = 'uri' COLLATE NOCASE";
 
 const PUT: &str = "INSERT OR REPLACE INTO uri (key, text) VALUES (?1, ?2)";
 
 const BELOW: &str = "SELECT text FROM uri WHERE key >= ?1 AND key < ?2 ORDER BY key";
 
-// Whether there is no file, an empty one, or one that begins as a database does. To open any other as
-// a database could leave an empty log beside it.
-fn may_be_database(rt: &HostRuntime, path: &str) -> Result<bool> {
-    if !fs::exists(rt, path)? {
-        return Ok(true);
+// A log that holds a page has a head of its own, one of the page, and at least 512 bytes of page.
+const LEAST_LOG: u64 = 32 + 24 + 512;
+
+// Refuses what is no file, as a pipe, which would wait for a writer, and a file that is not empty and
+// does not begin as a database does.
+fn test_front(rt: &HostRuntime, path: &str) -> Result<()> {
+    if !fs::exists(rt, path).context(format_args!("cannot open {path}"))? {
+        return Ok(());
     }
+    let about = fs::metadata(rt, path).context(format_args!("cannot open {path}"))?;
+    ensure!(about.is_file(), "{path} is no file");
     let mut front = Vec::new(rt.alloc());
     File::open(rt, path)
         .context(format_args!("cannot open {path}"))?
         .take(16)
         .read_to_end(&mut front)
         .context(format_args!("cannot read {path}"))?;
-    Ok(front.is_empty() || front.as_slice() == HEAD)
+    let may_be_database = front.is_empty() || front.as_slice() == HEAD;
+    ensure!(may_be_database, "{path} is no database");
+    Ok(())
+}
+
+// Removes the log that SQLite has left beside a file, unless it holds a page. Whoever calls this has the
+// file open, so that it is locked, and the log is no one else's.
+fn remove_log(rt: &HostRuntime, path: &str) -> io::Result<()> {
+    let file = fs::canonicalize(rt, path)?;
+    let log = format!(in rt.alloc(); "{}-wal", file.as_str())?;
+    if fs::metadata(rt, log.as_str())?.len() < LEAST_LOG {
+        fs::remove_file(rt, log.as_str())?;
+    }
+    Ok(())
+}
+
+// Whether the file holds no database, or a damaged one.
+fn is_refusal(error: &Error) -> bool {
+    matches!(
+        error,
+        Error::SqliteFailure(ErrorCode::NotADatabase | ErrorCode::DatabaseCorrupt)
+    )
 }
 
 /// The table of a file.
@@ -38,32 +66,51 @@ pub struct Table {
 }
 
 impl Table {
-    /// The table of a file, which is made where there is none. The error names a file that cannot be
-    /// opened, or that is no database.
+    /// Opens a file, which is made where there is none. The error names a file that cannot be opened, or
+    /// that is no database; nothing is written then.
     pub fn open(rt: &HostRuntime, path: &str) -> Result<Table> {
-        ensure!(may_be_database(rt, path)?, "{path} is no database");
-        let mut conn = Connection::open(rt, path).context(format_args!("cannot open {path}"))?;
-        conn.execute(CREATE, &[])?;
-        Ok(Table { conn })
+        test_front(rt, path)?;
+        match Connection::open_from(rt, path, false, Unknown) {
+            Ok(conn) => Ok(Table { conn }),
+            Err((error, left)) => {
+                // What is left is the open file.
+                if left.is_some() && is_refusal(&error) {
+                    remove_log(rt, path)?;
+                }
+                Err(error).context(format_args!("cannot open {path}"))
+            }
+        }
     }
 
-    /// Begins to put URIs, until `commit`.
-    pub fn begin(&mut self) -> Result<()> {
-        self.conn.execute("BEGIN", &[])?;
+    // Makes the table where there is none.
+    fn make(&mut self) -> Result<()> {
+        match self.conn.query_all(MADE, &[])?.first() {
+            Some(row) => {
+                let made: String = row.get(0)?;
+                ensure!(made.as_str() == CREATE, "uri is another table");
+            }
+            None => {
+                self.conn.execute(CREATE, &[])?;
+            }
+        }
         Ok(())
     }
 
-    /// Keeps what was put.
-    pub fn commit(&mut self) -> Result<()> {
-        self.conn.execute("COMMIT", &[])?;
-        Ok(())
-    }
-
-    /// Puts a URI under its sort key, in place of one that is equal to it.
-    pub fn put(&mut self, alloc: Global, uri: Uri<'_>) -> Result<()> {
+    fn put(&mut self, alloc: Global, uri: Uri<'_>) -> Result<()> {
         let key = uri.sort_key(alloc)?;
         self.conn
             .execute(PUT, params![key.as_bytes(), uri.as_str()])?;
+        Ok(())
+    }
+
+    /// Puts all URIs or none, each under its sort key, in place of one that is equal to it.
+    pub fn put_all(&mut self, alloc: Global, uris: &[UriBuf]) -> Result<()> {
+        self.conn.execute("BEGIN", &[])?;
+        self.make()?;
+        for uri in uris {
+            self.put(alloc, uri.as_uri())?;
+        }
+        self.conn.execute("COMMIT", &[])?;
         Ok(())
     }
 
@@ -81,10 +128,12 @@ impl Table {
         Ok(texts)
     }
 
-    /// Writes all to the file, and closes it.
-    pub fn close(self) -> Result<()> {
+    /// Writes all that was put to the file, and closes it. If `put_all` failed, nothing was put.
+    pub fn close(self, rt: &HostRuntime, path: &str) -> Result<()> {
         let Table { conn } = self;
-        conn.close()?;
-        Ok(())
+        match conn.close_files() {
+            Ok(_files) => Ok(remove_log(rt, path)?),
+            Err((error, _store)) => Err(error.into()),
+        }
     }
 }
