@@ -8,11 +8,15 @@ pub mod FirstLemmas
 pub mod NormalEditLemmas
 pub mod PortTextLemmas
 pub mod PrefixBitLemmas
+pub mod PrefixBookLemmas
+pub mod PrefixChangeLemmas
 pub mod PrefixFindLemmas
 pub mod PrefixInsertLemmas
 pub mod PrefixLabelLemmas
 pub mod PrefixLemmas
+pub mod PrefixPlaceLemmas
 mod PrefixRows
+pub mod PrefixSharedLemmas
 pub mod PrefixTextLemmas
 pub mod PrefixTableLemmas
 pub mod PrefixWayLemmas

@@ -1,5 +1,5 @@
 -- A new text in a tree.
-use Rattle.std.proofs.Common.{arith, ◌≡◌, ◌≢◌, ℕ, ◌+◌, ◌*◌, ◌<◌, ◌≤◌, ◌⊎◌, inl, inr, Bool, true, false, List, [], ◌∷◌, ◌++◌, length, get_or, refl, sym, ap, subst, ◌∙◌, ⊎_elim}
+use Rattle.std.proofs.Common.{arith, ◌≡◌, ◌≢◌, ℕ, ◌+◌, ◌-◌, ◌*◌, ◌<◌, ◌≤◌, ◌⊎◌, inl, inr, Bool, true, false, List, [], ◌∷◌, ◌++◌, length, get_or, refl, sym, ap, subst, ◌∙◌, ⊎_elim}
 use Rattle.std.specs.Prelude.{Option, Some, None, MatchOption, IfSome, unwrap_or}
 use Rattle.std.specs.Prelude.{nat_eq}
 use Rattle.std.specs.List.{common_prefix_len}
@@ -9,14 +9,15 @@ use Rattle.std.proofs.lemmas.List.{get_or_append_left, get_or_push, get_or-set_s
 use Rattle.std.proofs.Math.ListN.{set, length-set}
 use Rattle.std.specs.Global.{Vec}
 use Rattle.iref_grammar.specs.Rules.{Text}
+use Rattle.iref.specs.declared.compact.entry.Lead.{Lead}
 use Rattle.iref.specs.declared.compact.tree.Bit.{Bit}
 use Rattle.iref.specs.declared.compact.tree.Child.{Child}
 use Rattle.iref.specs.declared.compact.tree.Child.TheVariants.{Inner, Leaf}
 use Rattle.iref.specs.declared.compact.tree.Near.{Near}
 use Rattle.iref.specs.declared.compact.tree.Node.{Node}
 use Rattle.iref.specs.declared.compact.tree.Tree.{Tree}
-use Rattle.iref.specs.PrefixTree.{text_at, bit, place_of, child, child_at, with_child, node_at, number_of, spot, Spot, SameBits, AreBytes, IsFirst, IsIn, IsOnSide, IsBelow, IsLink, IsNode, IsTree, IsNear, IsFirstDifference, IsAdded, IsNew, IsWay, Covers}
-use Rattle.iref.proofs.PrefixBitLemmas.{same_bits_refl, same_bits_sym, same_bits_trans, same_bits_less, same_bits_next, no_longer, differ_within, ended_at}
+use Rattle.iref.specs.PrefixTree.{text_at, bit, place_of, child, child_at, with_child, node_at, number_of, spot, Spot, SameBits, AreBytes, IsAbsent, IsFirst, IsFirstOf, IsFront, IsIn, IsOnSide, IsBelow, IsLink, IsNode, IsTree, IsNear, IsFirstDifference, IsAdded, IsNew, IsWay, Covers}
+use Rattle.iref.proofs.PrefixBitLemmas.{same_bits_refl, same_bits_sym, same_bits_trans, same_bits_less, same_bits_next, no_longer, differ_within, ended_at, same_byte}
 use Rattle.iref.proofs.PrefixWayLemmas.{spot_text, root_link, read_node}
 
 module _ (texts : List Text) (tree : Tree) (t : Text) (n : ℕ) (b : Bit) (h : IsNew texts tree t n b) where
@@ -173,6 +174,11 @@ pub record IsGrown (link : Option (ℕ × Bool)) (old new : Tree) (node : Node) 
   pub root_moves : link ≡ None → new.root ≡ Some (Inner (length old.nodes.items))
   pub least : new.least ≡ old.least
 
+-- what is noted of the root node
+pub record IsNoted (t : Text) (b : Bit) (link : Option (ℕ × Bool)) (old new : Tree) : Type 0 where
+  pub stays : (j : ℕ × Bool) → link ≡ Some j → (new.front ≡ old.front) × (new.last ≡ old.last)
+  pub moves : link ≡ None → (new.front ≡ b.at) × (0 < b.at → new.last ≡ get_or t (b.at - 1) 0)
+
 -- of two sides one is no other
 other_side : (x y z : Bool) → x ≢ z → y ≢ z → x ≡ y
 other_side true true z l m = refl
@@ -204,16 +210,16 @@ links (Some j) k side = elim (cases_eq j.0 k) [
 ]
 
 module _ (texts : List Text) (t : Text) where
-  abbrev more : List Text
+  abbrev pub more : List Text
   more = texts ++ t ∷ []
 
-  text_old : (i : ℕ) → i < length texts → text_at more i ≡ text_at texts i
+  pub text_old : (i : ℕ) → i < length texts → text_at more i ≡ text_at texts i
   text_old i l = get_or_append_left texts (t ∷ []) [] i l
 
-  text_new : text_at more (length texts) ≡ t
+  pub text_new : text_at more (length texts) ≡ t
   text_new = get_or_push texts t [] (length texts) refl
 
-  first_old : (i : ℕ) → IsFirst texts i → IsFirst more i
+  pub first_old : (i : ℕ) → IsFirst texts i → IsFirst more i
   first_old i f = let w = f.within in let l = length_push texts t in record {
     within = omega arith;
     new = λ j k e. f.new j k (sym (text_old j (omega arith)) ∙ e ∙ text_old i w);
@@ -228,7 +234,7 @@ module _ (texts : List Text) (t : Text) where
   ]
 
 module _ (texts : List Text) (tree : Tree) (t : Text) (n : ℕ) (b : Bit) (h : IsNew texts tree t n b) (link : Option (ℕ × Bool)) (c : Child) (way : IsWay texts tree t n b link c)
-    (far : place_of b < (spot texts tree.nodes.items c).place) (tree' : Tree) (node : Node) (made : IsMade texts t n b c node) (grown : IsGrown link tree tree' node) where
+    (far : place_of b < (spot texts tree.nodes.items c).place) (tree' : Tree) (node : Node) (made : IsMade texts t n b c node) (grown : IsGrown link tree tree' node) (noted : IsNoted t b link tree tree') where
   abbrev old : List Node
   old = tree.nodes.items
 
@@ -424,6 +430,38 @@ module _ (texts : List Text) (tree : Tree) (t : Text) (n : ℕ) (b : Bit) (h : I
     | inr (inr above) ↦ let m = grown.long in absurd (omega arith)
   ]
 
+  -- ---- the bytes that all texts begin with
+
+  front_old : (o : Option Child) → MatchOption o (texts ≡ []) (IsLink texts old (IsBelow texts old None)) → IsFront texts old tree.front tree.last o → IsFront (more texts t) new tree.front tree.last o
+  front_old None link none = none
+  front_old (Some (Leaf m)) link none = none
+  front_old (Some (Inner k)) link (at, last) = (
+    at ∙ sym (ap (λ (b : Bit). b.at) (grown.bits k link.stands)),
+    λ some. last some ∙ ap (λ s. get_or s (tree.front - 1) 0) (sym (ap (λ (x : Spot). x.text) (spot_old (Inner k) link.stands))),
+  )
+
+  front_more : IsFront (more texts t) new tree'.front tree'.last tree'.root
+  front_more = by link refl
+    where
+      own_bytes : AreBytes own
+      own_bytes = each_text texts t AreBytes h.kept.bytes h.bytes node.entry own_first.within
+
+      by : (at : Option (ℕ × Bool)) → link ≡ at → IsFront (more texts t) new tree'.front tree'.last tree'.root
+      by None is =
+          let moved = noted.moves is in
+          let size : (node_at new (length old)).bit.at ≡ b.at = ap (λ (m : Node). m.bit.at) grown.last ∙ ap (λ (d : Bit). d.at) made.bit_is in
+          let text_is : text_at (more texts t) (node_at new (length old)).entry ≡ own = ap (λ (m : Node). text_at (more texts t) m.entry) grown.last in
+          subst (IsFront (more texts t) new tree'.front tree'.last) (sym (grown.root_moves is)) (
+            moved.0 ∙ sym size,
+            λ some. moved.1 (omega (arith, moved.0)) ∙ ap (λ f. get_or t (f - 1) 0) (sym moved.0)
+                ∙ sym (same_byte own t (tree'.front - 1) own_bytes h.bytes (same_bits_less (9 * (tree'.front - 1) + 9) (omega (arith, moved.0)) own_bits) (let l = own_within in omega (arith, moved.0)) (let l = h.inside in omega (arith, moved.0)))
+                ∙ ap (λ s. get_or s (tree'.front - 1) 0) (sym text_is),
+          )
+      by (Some j) is =
+          let stayed = noted.stays j is in
+          subst (IsFront (more texts t) new tree'.front tree'.last) (sym (grown.root_stays j is))
+          (subst (λ l. IsFront (more texts t) new tree'.front l tree.root) (sym stayed.1) (subst (λ f. IsFront (more texts t) new f tree.last tree.root) (sym stayed.0) (front_old tree.root h.kept.root h.kept.front)))
+
   -- ---- the tree
 
   root_more : MatchOption tree'.root ((more texts t) ≡ []) (IsLink (more texts t) new (IsBelow (more texts t) new None))
@@ -504,12 +542,13 @@ module _ (texts : List Text) (tree : Tree) (t : Text) (n : ℕ) (b : Bit) (h : I
     root = root_more;
     bytes = each_text texts t AreBytes h.kept.bytes h.bytes;
     least = subst (λ n. (i : ℕ) → i < length (more texts t) → n ≤ length (text_at (more texts t) i)) (sym grown.least) (each_text texts t (λ s. tree.least ≤ length s) h.kept.least h.least);
+    front = front_more;
   }
 
 -- ---- a text that is there, and the first text
 
 pub lowered : (texts : List Text) (tree : Tree) (least : ℕ) → least ≤ tree.least → IsTree texts tree → IsTree texts (record tree { least = least })
-lowered texts tree least l h = record { node = h.node; link = h.link; apart = h.apart; root = h.root; bytes = h.bytes; least = λ i m. let k = h.least i m in omega arith }
+lowered texts tree least l h = record { node = h.node; link = h.link; apart = h.apart; root = h.root; bytes = h.bytes; least = λ i m. let k = h.least i m in omega arith; front = h.front }
 
 module _ (texts : List Text) (tree : Tree) (t : Text) (bytes : AreBytes t) (short : tree.least ≤ length t) (h : IsTree texts tree) where
   abbrev kept : List Node
@@ -558,8 +597,14 @@ module _ (texts : List Text) (tree : Tree) (t : Text) (bytes : AreBytes t) (shor
       root = by tree.root h.root;
       bytes = each_text texts t AreBytes h.bytes bytes;
       least = each_text texts t (λ s. tree.least ≤ length s) h.least short;
+      front = front_stays tree.root h.root h.front;
     }
       where
+        front_stays : (o : Option Child) → MatchOption o (texts ≡ []) (IsLink texts kept (IsBelow texts kept None)) → IsFront texts kept tree.front tree.last o → IsFront (more texts t) kept tree.front tree.last o
+        front_stays None link none = none
+        front_stays (Some (Leaf i)) link none = none
+        front_stays (Some (Inner k)) link (at, last) = (at, λ some. last some ∙ ap (λ s. get_or s (tree.front - 1) 0) (sym (text_old texts t (node_at kept k).entry (h.node k link.stands).first.within)))
+
         by : (o : Option Child) → MatchOption o (texts ≡ []) (IsLink texts kept (IsBelow texts kept None)) → MatchOption o ((more texts t) ≡ []) (IsLink (more texts t) kept (IsBelow (more texts t) kept None))
         by None empty = absurd (omega (arith, ap length empty))
         by (Some c) link = link_kept (λ _. Unit {0}) c link
@@ -611,11 +656,11 @@ made texts tree t n b entry number h node c turn is cases = record {
     right_of true other = refl
     right_of false other = absurd (other refl)
 
-module _ (old : Tree) (node : Node) (root : Option Child) (vec : Vec Node) where
+module _ (old : Tree) (node : Node) (root : Option Child) (vec : Vec Node) (leads : Vec (Option Lead)) (front last : ℕ) where
   abbrev before : List Node
   before = old.nodes.items
 
-  pub grown_above : vec.items ≡ before ++ node ∷ [] → root ≡ Some (Inner (length before)) → IsGrown None old (record { root = root; nodes = vec; least = old.least }) node
+  pub grown_above : vec.items ≡ before ++ node ∷ [] → root ≡ Some (Inner (length before)) → IsGrown None old (record { root = root; nodes = vec; least = old.least; front = front; last = last; leads = leads }) node
   grown_above items root_is = record {
     long = ap length items ∙ length_push before node;
     last = ap (λ l. node_at l (length before)) items ∙ get_or_push before node _ (length before) refl;
@@ -632,7 +677,7 @@ module _ (old : Tree) (node : Node) (root : Option Child) (vec : Vec Node) where
       there k l = ap (λ l. node_at l k) items ∙ get_or_append_left before (node ∷ []) _ k l
 
   pub grown_below : (k : ℕ) (side : Bool) (was : Node) → k < length before → was ≡ get_or (before ++ node ∷ []) k was → vec.items ≡ set (before ++ node ∷ []) k (with_child was side (Inner (length before))) → root ≡ old.root
-      → IsGrown (Some (k, side)) old (record { root = root; nodes = vec; least = old.least }) node
+      → IsGrown (Some (k, side)) old (record { root = root; nodes = vec; least = old.least; front = front; last = last; leads = leads }) node
   grown_below k side was l read items root_is = record {
     long = ap length items ∙ length-set (before ++ node ∷ []) k (with_child was side (Inner (length before))) ∙ length_push before node;
     last = ap (λ l. node_at l (length before)) items ∙ get_or-set_other (before ++ node ∷ []) k (length before) _ _ (omega arith) ∙ get_or_push before node _ (length before) refl;
@@ -661,10 +706,10 @@ module _ (old : Tree) (node : Node) (root : Option Child) (vec : Vec Node) where
 
 -- ---- what is added where a text leads
 
-pub added : (texts : List Text) (tree : Tree) (t : Text) → IsTree texts tree → AreBytes t → tree.least ≤ length t → (near : Near) → IsNear texts t (length t) near → (b : Bit) (at entry number : ℕ)
+pub added : (texts : List Text) (places : List (Option ℕ)) (tree : Tree) (t : Text) → IsTree texts tree → AreBytes t → tree.least ≤ length t → (near : Near) → IsNear texts places t (length t) near → (b : Bit) (at entry number : ℕ)
     → at ≡ common_prefix_len nat_eq near.text.now t → IsFirstDifference b near.text.now t → b.at ≡ at → number ≡ length texts
     → ((at ≡ length near.text.now) × (entry ≡ near.number)) ⊎ ((at ≢ length near.text.now) × (entry ≡ number)) → IsAdded texts tree t near.number b entry number
-added texts tree t h bytes least near is b at entry number common split at_is last cases = record {
+added texts places tree t h bytes least near is b at entry number common split at_is last cases = record {
   new = record {
     kept = h;
     first = is.first;
@@ -686,3 +731,20 @@ added texts tree t h bytes least near is b at entry number common split at_is la
         ∙ ended_at near.text.now t at (omega (arith, new.0, short.0)) (omega (arith, short.1)) (subst (λ p. bit near.text.now p ≢ bit t p) place split.differ) ∙ sym at_is
   ];
 }
+
+-- ---- the first number of the text
+
+pub first_again : (texts : List Text) (t u : Text) (n : ℕ) → IsFirstOf texts u n → IsFirstOf (texts ++ t ∷ []) u n
+first_again texts t u n first = (first_old texts t n first.0, text_old texts t n first.0.within ∙ first.1)
+
+pub first_of_all : (texts : List Text) (t : Text) → IsAbsent texts t → IsFirstOf (texts ++ t ∷ []) t (length texts)
+first_of_all texts t absent = (
+  record {
+    within = omega (arith, length_push texts t);
+    new = λ i l same. absent i l (sym (text_old texts t i l) ∙ same ∙ text_new texts t);
+  },
+  text_new texts t,
+)
+
+pub new_absent : (texts : List Text) (tree : Tree) (t : Text) (n : ℕ) (b : Bit) → IsNew texts tree t n b → IsAbsent texts t
+new_absent texts tree t n b h m l same = differs texts tree t n b h m (place_of b + 1) l (omega arith) (subst (λ s. SameBits (place_of b + 1) s t) (sym same) (same_bits_refl (place_of b + 1) t))

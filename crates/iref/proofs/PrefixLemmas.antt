@@ -1,12 +1,12 @@
 -- Prefix tables.
-use Rattle.std.proofs.Common.{◌≡◌, ◌≢◌, ◌<◌, ◌≤◌, Bool, true, false, ◌||◌, List, [], ◌∷◌, ◌++◌, length, take, drop, refl, sym, ◌∙◌, ap, subst, arith, ◌⊎◌, inl, inr}
+use Rattle.std.proofs.Common.{◌≡◌, ◌≢◌, ◌<◌, ◌≤◌, Bool, true, false, ◌||◌, ◌&&◌, not, List, [], ◌∷◌, ◌++◌, length, map, take, drop, refl, sym, ◌∙◌, ap, subst, arith, ◌⊎◌, inl, inr}
 use Rattle.std.proofs.lemmas.Grind.{common_steps}
 use Rattle.std.proofs.Math.Logic.{◌↔◌}
 use Rattle.std.specs.Prelude.{bytes_eq, Option, Some, None, Result, Ok, Err, option_map, is_some, MatchOption, if◌then◌else◌}
 use Rattle.std.specs.Bool.{IsFalse}
 use Rattle.std.specs.List.{AllByRecursion, find, list_all, list_any}
 use Rattle.std.specs.Cmp.Lexicographic.{bytes_decides}
-use Rattle.std.proofs.lemmas.Bool.{and_from, or_parts}
+use Rattle.std.proofs.lemmas.Bool.{and_from, or_parts, or_from, not_from_false, cond_both, cond-true, cases_Bool}
 use Rattle.std.proofs.lemmas.Option.{same_Some}
 use Rattle.std.proofs.lemmas.List.{take-append-drop}
 use Rattle.std.proofs.lemmas.List.Folds.{list_all-append}
@@ -22,7 +22,8 @@ use Rattle.iref_grammar.proofs.CutLemmas.{before-mark, after-part}
 use Rattle.iref.specs.PrefixLabels.{is_label}
 use Rattle.iref.specs.declared.compact.label.Labels.{Labels}
 use Rattle.iref.proofs.PrefixLabelLemmas.{label_lacks}
-use Rattle.iref.specs.PrefixTable.{PrefixEntry, PrefixTable, PrefixesValue, has_label, is_taken, get, InsertRefusal, BadLabel, Taken, inserted, unless_refused, inserted_all, labels_differ, IsPrefixTable, fits, or_longer, longest_fit, IsLongestFit, or_new, CompactValue, IsCompact, compacted, compact_text, NotAnIri, if_iri, expanded_parts, expanded}
+use Rattle.iref.proofs.PrefixPlaceLemmas.{removed_none}
+use Rattle.iref.specs.PrefixTable.{PrefixEntry, PrefixTable, PrefixesValue, has_label, is_taken, get, InsertRefusal, BadLabel, Taken, inserted, with_iri, with_entry, replaced, removed, unless_refused, inserted_all, Change, Insert, Replace, Remove, changed, changed_all, brings_iri, labels_differ, IsPrefixTable, fits, or_longer, longest_fit, IsLongestFit, or_new, CompactValue, IsCompact, compacted, compact_text, NotAnIri, if_iri, expanded_parts, expanded}
 
 -- ---- the longest fit
 
@@ -240,19 +241,230 @@ all_snoc test table e h k = list_all-append test table (e ∷ []) ∙ and_from _
 pub table-new : (label iri : Text) (table new : PrefixesValue) → IsPrefixTable table → is_uri iri_chars iri ≡ true → inserted label iri table ≡ Ok new → IsPrefixTable new
 table-new label iri table new t full h = grind (arith, common_steps, inserted-ok, all_snoc, labels_differ-snoc)
 
--- and so do inserts in a row
-pub table-all : (entries : List PrefixEntry) (table new : PrefixesValue) → IsPrefixTable table → list_all (λ (e : PrefixEntry). is_uri iri_chars e.iri) entries ≡ true
-    → inserted_all entries table ≡ Some new → IsPrefixTable new
-unfolding inserted_all
-table-all [] table new t h k = subst IsPrefixTable (same_Some table new k) t
-table-all (e ∷ entries) table new t h k =
-    by (inserted e.label e.iri table) refl k
-    (λ next f. table-all entries next new (table-new e.label e.iri table next t (first_of_both (is_uri iri_chars e.iri) (list_all (λ (x : PrefixEntry). is_uri iri_chars x.iri) entries) h) f) (second_of_both (is_uri iri_chars e.iri) (list_all (λ (x : PrefixEntry). is_uri iri_chars x.iri) entries) h))
+-- ---- removals and replacements
+
+-- a replacement leaves each label where it stands
+with_iri_label : (label iri : Text) (e : PrefixEntry) → (with_iri label iri e).label ≡ e.label
+with_iri_label label iri e = by (has_label label e) refl
   where
-    by : (r : Result PrefixesValue InsertRefusal) → inserted e.label e.iri table ≡ r → unless_refused (inserted_all entries) r ≡ Some new
-        → ((next : PrefixesValue) → inserted e.label e.iri table ≡ Ok next → inserted_all entries next ≡ Some new → IsPrefixTable new) → IsPrefixTable new
+    by : (b : Bool) → has_label label e ≡ b → let new : PrefixEntry = if b then record { label = label; iri = iri } else e in new.label ≡ e.label
+    by true h = sym (same_label e.label label h)
+    by false h = refl
+
+pub labels_changed : (label iri : Text) (table : PrefixTable) → map (λ (e : PrefixEntry). e.label) (map (with_iri label iri) table) ≡ map (λ (e : PrefixEntry). e.label) table
+labels_changed label iri [] = refl
+labels_changed label iri (e ∷ table) = (λ i. with_iri_label label iri e i ∷ labels_changed label iri table i)
+
+pub is_taken_changed : (other label iri : Text) (table : PrefixTable) → is_taken other (map (with_iri label iri) table) ≡ is_taken other table
+is_taken_changed other label iri [] = refl
+is_taken_changed other label iri (e ∷ table) = (λ i. bytes_eq (with_iri_label label iri e i) other || is_taken_changed other label iri table i)
+
+all_changed : (labels : Labels) (label iri : Text) (table : PrefixTable) → list_all (λ (e : PrefixEntry). is_label labels e.label) (map (with_iri label iri) table) ≡ list_all (λ (e : PrefixEntry). is_label labels e.label) table
+all_changed labels label iri [] = refl
+all_changed labels label iri (e ∷ table) = (λ i. is_label labels (with_iri_label label iri e i) && all_changed labels label iri table i)
+
+differ_changed : (label iri : Text) (table : PrefixTable) → labels_differ (map (with_iri label iri) table) ≡ labels_differ table
+differ_changed label iri [] = refl
+differ_changed label iri (e ∷ table) =
+    (λ i. not (is_taken (with_iri_label label iri e i) (map (with_iri label iri) table)) && labels_differ (map (with_iri label iri) table))
+    ∙ (λ i. not (is_taken_changed e.label label iri table i) && differ_changed label iri table i)
+
+iris_changed : (label iri : Text) (table : PrefixTable) → is_uri iri_chars iri ≡ true → list_all (λ (e : PrefixEntry). is_uri iri_chars e.iri) table ≡ true
+    → list_all (λ (e : PrefixEntry). is_uri iri_chars e.iri) (map (with_iri label iri) table) ≡ true
+iris_changed label iri [] full h = refl
+iris_changed label iri (e ∷ table) full h =
+    and_from _ _ (by (has_label label e)) (iris_changed label iri table full (second_of_both (is_uri iri_chars e.iri) (list_all (λ (x : PrefixEntry). is_uri iri_chars x.iri) table) h))
+  where
+    by : (b : Bool) → let new : PrefixEntry = if b then record { label = label; iri = iri } else e in is_uri iri_chars new.iri ≡ true
+    by true = full
+    by false = first_of_both (is_uri iri_chars e.iri) (list_all (λ (x : PrefixEntry). is_uri iri_chars x.iri) table) h
+
+pub table-changed : (label iri : Text) (table : PrefixesValue) → IsPrefixTable table → is_uri iri_chars iri ≡ true → IsPrefixTable (record table { entries = map (with_iri label iri) table.entries })
+table-changed label iri table t full = record {
+  labels = all_changed table.labels label iri table.entries ∙ t.labels;
+  differ = differ_changed label iri table.entries ∙ t.differ;
+  iris = iris_changed label iri table.entries full t.iris;
+}
+
+-- what is left is a part of what was there
+free_removed : (other label : Text) (table : PrefixTable) → is_taken other table ≡ false → is_taken other (removed label table) ≡ false
+unfolding removed
+free_removed other label [] h = refl
+free_removed other label (e ∷ table) h =
+    let parts = or_parts (has_label other e) (is_taken other table) h in
+    cond_both (not (has_label label e)) (e ∷ removed label table) (removed label table) (λ t. is_taken other t ≡ false)
+    (λ k. or_from _ _ parts.0 (free_removed other label table parts.1)) (λ k. free_removed other label table parts.1)
+
+all_removed : (test : PrefixEntry → Bool) (label : Text) (table : PrefixTable) → list_all test table ≡ true → list_all test (removed label table) ≡ true
+unfolding removed
+all_removed test label [] h = refl
+all_removed test label (e ∷ table) h =
+    let left = all_removed test label table (second_of_both (test e) (list_all test table) h) in
+    cond_both (not (has_label label e)) (e ∷ removed label table) (removed label table) (λ t. list_all test t ≡ true)
+    (λ k. and_from _ _ (first_of_both (test e) (list_all test table) h) left) (λ k. left)
+
+differ_removed : (label : Text) (table : PrefixTable) → labels_differ table ≡ true → labels_differ (removed label table) ≡ true
+unfolding removed
+differ_removed label [] h = refl
+differ_removed label (e ∷ table) h =
+    let new : is_taken e.label table ≡ false = not-true (is_taken e.label table) (first_of_both (not (is_taken e.label table)) (labels_differ table) h) in
+    let left = differ_removed label table (second_of_both (not (is_taken e.label table)) (labels_differ table) h) in
+    cond_both (not (has_label label e)) (e ∷ removed label table) (removed label table) (λ t. labels_differ t ≡ true)
+    (λ k. and_from _ _ (not_from_false _ (free_removed e.label label table new)) left) (λ k. left)
+
+pub table-removed : (label : Text) (table : PrefixesValue) → IsPrefixTable table → IsPrefixTable (record table { entries = removed label table.entries })
+table-removed label table t = record {
+  labels = all_removed (λ (e : PrefixEntry). is_label table.labels e.label) label table.entries t.labels;
+  differ = differ_removed label table.entries t.differ;
+  iris = all_removed (λ (e : PrefixEntry). is_uri iri_chars e.iri) label table.entries t.iris;
+}
+
+same_Ok : {a b : PrefixesValue} → ◌≡◌ {A = Result PrefixesValue InsertRefusal} (Ok a) (Ok b) → a ≡ b
+same_Ok h = cc
+
+-- the cases of a replacement
+pub record IsReplaced (label iri : Text) (table new : PrefixesValue) : Type 0 where
+  pub label_in_rule : is_label table.labels label ≡ true
+  pub labels : table.labels ≡ new.labels
+  pub stands : with_entry label iri table.entries ≡ new.entries
+
+pub replaced-ok : (label iri : Text) (table new : PrefixesValue) → replaced label iri table ≡ Ok new → IsReplaced label iri table new
+unfolding replaced
+replaced-ok label iri table new h = grind arith
+
+-- a label that has no entry is inserted
+pub replaced-free : (label iri : Text) (table : PrefixesValue) → is_taken label table.entries ≡ false → replaced label iri table ≡ inserted label iri table
+unfolding replaced inserted
+replaced-free label iri table free = grind arith
+
+pub replaced-taken : (label iri : Text) (table : PrefixesValue) → is_label table.labels label ≡ true → is_taken label table.entries ≡ true → replaced label iri table ≡ Ok (record table { entries = map (with_iri label iri) table.entries })
+unfolding replaced
+replaced-taken label iri table allowed taken = grind arith
+
+pub table-replaced : (label iri : Text) (table new : PrefixesValue) → IsPrefixTable table → is_uri iri_chars iri ≡ true → replaced label iri table ≡ Ok new → IsPrefixTable new
+table-replaced label iri table new t full h =
+    let is = replaced-ok label iri table new h in
+    elim (cases_Bool (is_taken label table.entries)) [
+      | inl taken ↦ subst IsPrefixTable (same_Ok (sym (replaced-taken label iri table is.label_in_rule taken) ∙ h)) (table-changed label iri table t full)
+      | inr free ↦ table-new label iri table new t full (sym (replaced-free label iri table free) ∙ h)
+    ]
+
+-- ---- what is found then
+
+is_taken-removed : (label : Text) (table : PrefixTable) → is_taken label (removed label table) ≡ false
+unfolding removed
+is_taken-removed label [] = refl
+is_taken-removed label (e ∷ table) =
+    cond_both (not (has_label label e)) (e ∷ removed label table) (removed label table) (λ t. is_taken label t ≡ false)
+    (λ k. or_from _ _ (not-true (has_label label e) k) (is_taken-removed label table)) (λ k. is_taken-removed label table)
+
+pub get-removed : (label : Text) (table : PrefixTable) → get label (removed label table) ≡ None
+unfolding get
+get-removed label table = ap (option_map (λ (e : PrefixEntry). e.iri)) (none_found label (removed label table) (is_taken-removed label table))
+
+-- what has one label has no other
+other_label : (label other : Text) (e : PrefixEntry) → other ≢ label → has_label label e ≡ true → has_label other e ≡ false
+other_label label other e ne h = not_true (has_label other e) (λ k. ne (sym (same_label e.label other k) ∙ same_label e.label label h))
+
+pub get-left : (label other : Text) (table : PrefixTable) → other ≢ label → get other (removed label table) ≡ get other table
+unfolding get removed
+get-left label other [] ne = refl
+get-left label other (e ∷ table) ne = grind (arith, common_steps, other_label label other e ne, get-left label other table ne)
+
+pub removed-twice : (label : Text) (table : PrefixTable) → removed label (removed label table) ≡ removed label table
+removed-twice label table = removed_none label (removed label table) (is_taken-removed label table)
+
+pub removed-order : (front : PrefixTable) (e : PrefixEntry) (back : PrefixTable) → labels_differ (front ++ e ∷ back) ≡ true → removed e.label (front ++ e ∷ back) ≡ front ++ back
+unfolding removed
+removed-order [] e back h = grind (arith, common_steps, label_itself, not-true, first_of_both, removed_none)
+removed-order (x ∷ front) e back h = grind (arith, common_steps, not-true, first_of_both, label_turned, second_of_both, or_parts, removed-order front e back)
+
+removed_last : (label iri : Text) (table : PrefixTable) → is_taken label table ≡ false → removed label (table ++ record { label = label; iri = iri } ∷ []) ≡ table
+unfolding removed
+removed_last label iri [] free = grind (arith, common_steps, label_itself)
+removed_last label iri (e ∷ table) free = grind (arith, common_steps, or_parts, removed_last label iri table)
+
+pub removed-inserted : (label iri : Text) (table new : PrefixesValue) → inserted label iri table ≡ Ok new → removed label new.entries ≡ table.entries
+removed-inserted label iri table new h =
+    let is = inserted-ok label iri table new h in ap (removed label) (sym is.stands) ∙ removed_last label iri table.entries is.free
+
+get_changed : (label iri : Text) (table : PrefixTable) → is_taken label table ≡ true → get label (map (with_iri label iri) table) ≡ Some iri
+unfolding get
+get_changed label iri [] taken = absurd (true≢false (sym taken))
+get_changed label iri (e ∷ table) taken = grind (arith, common_steps, label_itself, get_changed label iri table)
+
+get_unchanged : (label iri other : Text) (table : PrefixTable) → other ≢ label → get other (map (with_iri label iri) table) ≡ get other table
+unfolding get
+get_unchanged label iri other [] ne = refl
+get_unchanged label iri other (e ∷ table) ne = grind (arith, common_steps, other_label label other e ne, with_iri_label label iri e, get_unchanged label iri other table ne)
+
+module _ (label iri : Text) (table new : PrefixesValue) (h : replaced label iri table ≡ Ok new) where
+  -- the label has an entry, or is inserted
+  either_way : ((is_taken label table.entries ≡ true) × (map (with_iri label iri) table.entries ≡ new.entries)) ⊎ (inserted label iri table ≡ Ok new)
+  either_way =
+      let is = replaced-ok label iri table new h in
+      elim (cases_Bool (is_taken label table.entries)) [
+        | inl taken ↦ inl (taken, sym (cond-true (is_taken label table.entries) (map (with_iri label iri) table.entries) (table.entries ++ record { label = label; iri = iri } ∷ []) taken) ∙ is.stands)
+        | inr free ↦ inr (sym (replaced-free label iri table free) ∙ h)
+      ]
+
+  pub get-replaced : get label new.entries ≡ Some iri
+  get-replaced = elim either_way [ inl (taken, is) ↦ ap (get label) (sym is) ∙ get_changed label iri table.entries taken | inr new_one ↦ get-new label iri table new new_one ]
+
+  pub get-replaced_others : (other : Text) → other ≢ label → get other new.entries ≡ get other table.entries
+  get-replaced_others other ne = elim either_way [
+    | inl (taken, is) ↦ ap (get other) (sym is) ∙ get_unchanged label iri other table.entries ne
+    | inr new_one ↦ get-others label iri other table new new_one ne
+  ]
+
+  pub replaced-order : is_taken label table.entries ≡ true → map (λ (e : PrefixEntry). e.label) new.entries ≡ map (λ (e : PrefixEntry). e.label) table.entries
+  replaced-order taken =
+      let is = replaced-ok label iri table new h in
+      ap (map (λ (e : PrefixEntry). e.label)) (sym is.stands ∙ cond-true (is_taken label table.entries) (map (with_iri label iri) table.entries) (table.entries ++ record { label = label; iri = iri } ∷ []) taken)
+      ∙ labels_changed label iri table.entries
+
+pub replaced-bad_label : (label iri : Text) (table : PrefixesValue) → (replaced label iri table ≡ Err (BadLabel table.labels)) ↔ IsFalse (is_label table.labels label)
+unfolding replaced
+replaced-bad_label label iri table = grind arith
+
+-- ---- changes in a row
+
+changed_is : (change : Change) (table new : PrefixesValue) → IsPrefixTable table → brings_iri change ≡ true → changed change table ≡ Ok new → IsPrefixTable new
+unfolding changed
+changed_is (Insert e) table new t full h = table-new e.label e.iri table new t full h
+changed_is (Replace e) table new t full h = table-replaced e.label e.iri table new t full h
+changed_is (Remove label) table new t full h = subst IsPrefixTable (same_Ok h) (table-removed label table t)
+
+pub table-changes : (changes : List Change) (table new : PrefixesValue) → IsPrefixTable table → list_all brings_iri changes ≡ true → changed_all changes table ≡ Some new → IsPrefixTable new
+unfolding changed_all
+table-changes [] table new t h k = subst IsPrefixTable (same_Some table new k) t
+table-changes (change ∷ changes) table new t h k =
+    by (changed change table) refl k
+    (λ next f. table-changes changes next new (changed_is change table next t (first_of_both (brings_iri change) (list_all brings_iri changes) h) f) (second_of_both (brings_iri change) (list_all brings_iri changes) h))
+  where
+    by : (r : Result PrefixesValue InsertRefusal) → changed change table ≡ r → unless_refused (changed_all changes) r ≡ Some new
+        → ((next : PrefixesValue) → changed change table ≡ Ok next → changed_all changes next ≡ Some new → IsPrefixTable new) → IsPrefixTable new
     by (Ok next) f l rest = rest next f l
     by (Err refusal) f l rest = absurd (cc l)
+
+-- inserts in a row are such changes
+pub inserted_all-changes : (entries : List PrefixEntry) (table : PrefixesValue) → inserted_all entries table ≡ changed_all (map Insert entries) table
+unfolding inserted_all changed_all changed
+inserted_all-changes [] table = refl
+inserted_all-changes (e ∷ entries) table = by (inserted e.label e.iri table) (inserted_all-changes entries)
+  where
+    by : (r : Result PrefixesValue InsertRefusal) → ((next : PrefixesValue) → inserted_all entries next ≡ changed_all (map Insert entries) next)
+        → unless_refused (inserted_all entries) r ≡ unless_refused (changed_all (map Insert entries)) r
+    by (Ok next) same = same next
+    by (Err refusal) same = refl
+
+bring_iris : (entries : List PrefixEntry) → list_all (λ (e : PrefixEntry). is_uri iri_chars e.iri) entries ≡ list_all brings_iri (map Insert entries)
+bring_iris [] = refl
+bring_iris (e ∷ entries) = ap (λ b. is_uri iri_chars e.iri && b) (bring_iris entries)
+
+pub table-all : (entries : List PrefixEntry) (table new : PrefixesValue) → IsPrefixTable table → list_all (λ (e : PrefixEntry). is_uri iri_chars e.iri) entries ≡ true
+    → inserted_all entries table ≡ Some new → IsPrefixTable new
+table-all entries table new t h k = table-changes (map Insert entries) table new t (sym (bring_iris entries) ∙ h) (sym (inserted_all-changes entries table) ∙ k)
 
 pub table-nil : (labels : Labels) → IsPrefixTable (record { labels = labels; entries = [] })
 table-nil labels = record { labels = refl; differ = refl; iris = refl }

@@ -1,6 +1,6 @@
 -- What the calls of prefix tables answer, case by case.
-use Rattle.std.proofs.Common.{arith, ◌≡◌, ◌≢◌, true, false, [], ◌∷◌, ◌++◌, length, drop}
-use Rattle.std.specs.Prelude.{Option, Some, None, Ok, Err, option_map, is_some}
+use Rattle.std.proofs.Common.{arith, ◌≡◌, ◌≢◌, true, false, [], ◌∷◌, ◌++◌, length, map, drop, sym, ap, subst, ◌∙◌}
+use Rattle.std.specs.Prelude.{Option, Some, None, Ok, Err, IsOk, option_map, is_some}
 use Rattle.std.specs.List.{find}
 use Rattle.iref_grammar.specs.Characters.{iri_chars, iri_above_ascii}
 use Rattle.iref_grammar.specs.Reference.{is_uri}
@@ -9,8 +9,9 @@ use Rattle.iref_grammar.specs.Grammar.{colon, IsUri}
 use Rattle.iref_grammar.proofs.ReferenceRuleLemmas.{Decides-is_uri}
 use Rattle.iref_grammar.specs.Texts.{before, after, begins_with}
 use Rattle.iref.specs.PrefixLabels.{is_label}
-use Rattle.iref.specs.PrefixTable.{PrefixEntry, PrefixTable, PrefixesValue, has_label, get, BadLabel, Taken, inserted, longest_fit, IsPrefixTable, compacted, compact_text, NoColon, UnknownLabel, NotAnIri, if_iri, expanded}
-use Rattle.iref.proofs.PrefixLemmas.{is_taken-get, longest_fit-is, table-new, expanded-compacted}
+use Rattle.iref.specs.PrefixTable.{PrefixEntry, PrefixTable, PrefixesValue, has_label, get, BadLabel, Taken, inserted, is_taken, with_iri, replaced, longest_fit, IsPrefixTable, compacted, compact_text, NoColon, UnknownLabel, NotAnIri, if_iri, expanded}
+use Rattle.iref.proofs.PrefixPlaceLemmas.{changed_none}
+use Rattle.iref.proofs.PrefixLemmas.{is_taken-get, longest_fit-is, table-new, table-replaced, is_taken_changed, replaced-taken, expanded-compacted}
 
 -- ---- inserts
 
@@ -27,9 +28,38 @@ pub fresh : (label iri : Text) (table : PrefixesValue) → is_label table.labels
 unfolding inserted get
 fresh label iri table h k = grind (arith, is_taken-get)
 
+pub free : (label : Text) (table : PrefixTable) → is_some (find (has_label label) table) ≡ false → is_taken label table ≡ false
+unfolding get
+free label table h = grind (arith, is_taken-get)
+
 pub stays_table : (label iri : Text) (table : PrefixesValue) → IsPrefixTable table → is_uri iri_chars iri ≡ true → is_label table.labels label ≡ true → is_some (find (has_label label) table.entries) ≡ false
     → IsPrefixTable (record table { entries = table.entries ++ record { label = label; iri = iri } ∷ [] })
 stays_table label iri table t full h k = table-new label iri table (record table { entries = table.entries ++ record { label = label; iri = iri } ∷ [] }) t full (fresh label iri table h k)
+
+-- ---- replacements
+
+pub not_replaced : (label iri : Text) (table : PrefixesValue) → is_label table.labels label ≡ false → replaced label iri table ≡ Err (BadLabel table.labels)
+unfolding replaced
+not_replaced label iri table h = grind arith
+
+pub replaced_new : (label iri : Text) (table : PrefixesValue) → is_label table.labels label ≡ true → is_taken label table.entries ≡ false
+    → replaced label iri table ≡ Ok (record table { entries = table.entries ++ record { label = label; iri = iri } ∷ [] })
+unfolding replaced
+replaced_new label iri table h free = grind arith
+
+-- a label in the rule is not refused
+pub may_replace : (label iri : Text) (table : PrefixesValue) → is_label table.labels label ≡ true → IsOk (replaced label iri table)
+unfolding replaced
+may_replace label iri table h = grind arith
+
+-- where the label has no entry, the replacement changes none, and the insert adds one
+pub stays_replaced : (label iri text : Text) (table : PrefixesValue) (entries : PrefixTable) → IsPrefixTable table → is_uri iri_chars iri ≡ true → is_label table.labels label ≡ true → is_taken label table.entries ≡ false
+    → entries ≡ map (with_iri label text) table.entries ++ record { label = label; iri = iri } ∷ [] → IsPrefixTable (record table { entries = entries })
+stays_replaced label iri text table entries t full h free is =
+    let e : PrefixEntry = record { label = label; iri = iri } in
+    let new : PrefixesValue = record table { entries = table.entries ++ e ∷ [] } in
+    subst (λ es. IsPrefixTable (record table { entries = es })) (sym (is ∙ ap (λ es. es ++ e ∷ []) (changed_none label text table.entries free)))
+    (table-replaced label iri table new t full (replaced_new label iri table h free))
 
 -- ---- shortened
 
@@ -73,7 +103,9 @@ no_iri text h = grind (arith, Decides-is_uri iri_chars iri_above_ascii text)
 
 -- ---- what each call takes
 
-pub ruleset inserts = (no_label, taken, fresh, stays_table)
+pub ruleset inserts = (no_label, taken, free, fresh)
+
+pub ruleset replaces = (not_replaced, replaced-taken, replaced_new, may_replace, is_taken_changed, changed_none)
 
 pub ruleset compacts = (longest_begins, compacted_by, expands)
 

@@ -1,15 +1,17 @@
 -- Where a text leads in a tree.
 use Rattle.std.proofs.Common.{arith, Bool, ◌≡◌, ◌≢◌, ℕ, ◌+◌, ◌-◌, ◌*◌, ◌<◌, ◌≤◌, ◌⊎◌, inl, inr, List, [], length, get_or, refl, sym, ap, subst, ◌∙◌, ⊎_elim}
 use Rattle.std.specs.Prelude.{min, Option, Some, None, MatchOption}
+use Rattle.std.specs.Option.{option_or}
 use Rattle.std.proofs.lemmas.Bool.{cases_lt, cases_order, lt-ltb}
 use Rattle.std.proofs.lemmas.List.{get_or_read}
 use Rattle.std.proofs.Math.Nat.{min-eq_left, min-eq_right, min-le_left, min-le_right}
 use Rattle.iref_grammar.specs.Rules.{Text}
+use Rattle.iref.specs.declared.compact.entry.Lead.{Lead}
 use Rattle.iref.specs.declared.compact.tree.Child.{Child}
 use Rattle.iref.specs.declared.compact.tree.Child.TheVariants.{Inner, Leaf}
 use Rattle.iref.specs.declared.compact.tree.Node.{Node}
 use Rattle.iref.specs.declared.compact.tree.Tree.{Tree}
-use Rattle.iref.specs.PrefixTree.{text_at, bit, place_of, child, node_at, number_of, spot, Spot, SameBits, AreBytes, IsFirst, IsIn, IsOnSide, IsBelow, IsLink, IsNode, IsTree, IsFit, IsEnded, IsNearest, Covers}
+use Rattle.iref.specs.PrefixTree.{text_at, bit, place_of, child, node_at, number_of, spot, Spot, SameBits, AreBytes, IsFirst, IsIn, IsOnSide, IsBelow, IsLink, IsNode, IsTree, IsFit, HasPlace, IsLead, IsEnded, IsNearest, Covers}
 use Rattle.iref.proofs.PrefixBitLemmas.{same_bits_refl, same_bits_sym, same_bits_trans, same_bits_less, goes_within, as_long, no_longer, same_text, ends_there, goes_on}
 
 pub spot_text : (texts : List Text) (nodes : List Node) (c : Child) → (spot texts nodes c).text ≡ text_at texts (number_of nodes c)
@@ -30,20 +32,21 @@ pub record IsProper (texts : List Text) (x : Spot) (m : ℕ) : Type 0 where
   pub goes : length (text_at texts m) < length x.text
   pub same : SameBits (9 * length (text_at texts m)) (text_at texts m) x.text
 
--- the last that ended on the way, of `len` bytes at most, is as long as each that ends before the place
-abbrev pub IsPassed : List Text → ℕ → Spot → Option ℕ → Type 0
-IsPassed texts len x None = (m : ℕ) → IsProper texts x m → ⊥
-IsPassed texts len x (Some e) = IsFirst texts e × (length (text_at texts e) ≤ len) × (9 * length (text_at texts e) < x.place) × SameBits (9 * length (text_at texts e)) (text_at texts e) x.text
-    × ((m : ℕ) → IsProper texts x m → length (text_at texts m) ≤ length (text_at texts e))
+-- the last that ended on the way and has a place, of `len` bytes at most, is as long as each that ends before the place and has one
+abbrev pub IsPassed : List Text → List (Option ℕ) → ℕ → Spot → Option Lead → Type 0
+IsPassed texts places len x None = (m : ℕ) → IsProper texts x m → HasPlace texts places (text_at texts m) → ⊥
+IsPassed texts places len x (Some e) = IsLead texts places (text_at texts e.number) e × (length (text_at texts e.number) ≤ len) × (9 * length (text_at texts e.number) < x.place)
+    × SameBits (9 * length (text_at texts e.number)) (text_at texts e.number) x.text
+    × ((m : ℕ) → IsProper texts x m → HasPlace texts places (text_at texts m) → length (text_at texts m) ≤ length (text_at texts e.number))
 
 -- the text leads there
-pub record IsOnWay (texts : List Text) (nodes : List Node) (t : Text) (len : ℕ) (c : Child) (ended : Option ℕ) : Type 0 where
+pub record IsOnWay (texts : List Text) (places : List (Option ℕ)) (nodes : List Node) (t : Text) (len : ℕ) (c : Child) (ended : Option Lead) : Type 0 where
   pub stands : IsIn texts nodes c
   pub first : IsFirst texts (number_of nodes c)
   pub near : (m q : ℕ) → m < length texts → q ≤ (spot texts nodes c).place → SameBits q (text_at texts m) t → SameBits q (spot texts nodes c).text t
-  pub passed : IsPassed texts len (spot texts nodes c) ended
+  pub passed : IsPassed texts places len (spot texts nodes c) ended
 
-module _ (texts : List Text) (nodes : List Node) (t : Text) (len : ℕ) where
+module _ (texts : List Text) (places : List (Option ℕ)) (nodes : List Node) (t : Text) (len : ℕ) where
   -- what is covered does not end before
   not_proper : (x : Spot) (m : ℕ) → Covers x (spot texts nodes (Leaf m)) → IsProper texts x m → ⊥
   not_proper x m c p =
@@ -53,12 +56,12 @@ module _ (texts : List Text) (nodes : List Node) (t : Text) (len : ℕ) where
       let short = no_longer (text_at texts m) (same_bits_sym c.same) (omega arith) in
       absurd (omega arith)
 
-  pub way_root : (c : Child) → IsLink texts nodes (IsBelow texts nodes None) c → IsOnWay texts nodes t len c None
+  pub way_root : (c : Child) → IsLink texts nodes (IsBelow texts nodes None) c → IsOnWay texts places nodes t len c None
   way_root c link = record {
     stands = link.stands;
     first = link.first;
     near = λ m q l within same. same_bits_trans (same_bits_less q within (link.whole (Leaf m) l tt).same) same;
-    passed = λ m p. not_proper (spot texts nodes c) m (link.whole (Leaf m) p.within tt) p;
+    passed = λ m p _. not_proper (spot texts nodes c) m (link.whole (Leaf m) p.within tt) p;
   }
 
   module _ (k : ℕ) (c : Child) (node : IsNode texts nodes k) (link : IsLink texts nodes (IsOnSide (spot texts nodes (Inner k)) (bit t (place_of (node_at nodes k).bit))) c) where
@@ -98,49 +101,67 @@ module _ (texts : List Text) (nodes : List Node) (t : Text) (len : ℕ) where
               (is_below m h.within (same_bits_trans link.belongs.same (same_bits_sym (same_bits_less p (omega arith) h.same))) (h.same.same p below ∙ link.belongs.on)) h)
         ]
 
-    pub way_end : (ended : Option ℕ) → IsOnWay texts nodes t len (Inner k) ended → (node_at nodes k).bit.at ≤ len → (node_at nodes k).bit.shift ≡ 8 → IsOnWay texts nodes t len c (Some (node_at nodes k).entry)
-    way_end ended way l ends =
-        let size = node.ends ends in
-        let order = link.belongs.order in
-        let place : 9 * length x ≡ p = omega arith in
-        let upto : (m : ℕ) → IsProper texts (spot texts nodes (Inner k)) m → length (text_at texts m) ≤ length x = λ m h. (let before = h.before in omega arith) in
-        record {
-          stands = link.stands;
-          first = link.first;
-          near = near_below way.near;
-          passed = (
-            node.first,
-            omega arith,
-            omega arith,
-            same_bits_less (9 * length x) (omega arith) link.belongs.same,
-            λ m h. ⊎_elim (upto m) (λ at. omega arith) (passed_below m h),
-          );
-        }
+    -- the last that ended there stands, where what has a place ends before the node
+    passed_still : ((m : ℕ) → IsProper texts (spot texts nodes c) m → HasPlace texts places (text_at texts m) → IsProper texts (spot texts nodes (Inner k)) m)
+        → (ended : Option Lead) → IsPassed texts places len (spot texts nodes (Inner k)) ended → IsPassed texts places len (spot texts nodes c) ended
+    passed_still still None none = λ m h has. none m (still m h has) has
+    passed_still still (Some e) some = let order = link.belongs.order in let above = some.2 in (
+      some.0,
+      some.1,
+      omega arith,
+      same_bits_trans some.3 (same_bits_less (9 * length (text_at texts e.number)) (omega arith) link.belongs.same),
+      λ m h has. some.4 m (still m h has) has,
+    )
 
-    pub way_on : (ended : Option ℕ) → IsOnWay texts nodes t len (Inner k) ended → (node_at nodes k).bit.shift ≢ 8 → IsOnWay texts nodes t len c ended
+    pub way_end : (ended lead : Option Lead) → IsOnWay texts places nodes t len (Inner k) ended → (node_at nodes k).bit.at ≤ len → (node_at nodes k).bit.shift ≡ 8
+        → MatchOption lead (HasPlace texts places x → ⊥) (IsLead texts places x) → ((m : ℕ) → m < length texts → AreBytes (text_at texts m)) → IsOnWay texts places nodes t len c (option_or lead ended)
+    way_end ended lead way l ends led bytes = record {
+      stands = link.stands;
+      first = link.first;
+      near = near_below way.near;
+      passed = by lead led;
+    }
+      where
+        size : length x ≡ (node_at nodes k).bit.at
+        size = node.ends ends
+
+        there : 9 * length x ≡ p
+        there = omega arith
+
+        upto : (m : ℕ) → IsProper texts (spot texts nodes (Inner k)) m → length (text_at texts m) ≤ length x
+        upto m h = let before = h.before in omega (arith, there)
+
+        -- what ends there is the text of the node
+        same_there : (m : ℕ) → IsProper texts (spot texts nodes c) m → 9 * length (text_at texts m) ≡ p → text_at texts m ≡ x
+        same_there m h at =
+            let both : SameBits (9 * length x) (text_at texts m) x = same_bits_trans (same_bits_less (9 * length x) (omega (arith, there)) h.same) (same_bits_sym (same_bits_less (9 * length x) (omega (arith, there)) link.belongs.same)) in
+            let alike : length (text_at texts m) ≡ length x = omega (arith, there) in
+            same_text (text_at texts m) x (bytes m h.within) (bytes (node_at nodes k).entry node.first.within)
+            (subst (λ n. SameBits (9 * n + 1) (text_at texts m) x) (sym alike) (ends_there (length x) (text_at texts m) x alike refl both))
+
+        by : (lead : Option Lead) → MatchOption lead (HasPlace texts places x → ⊥) (IsLead texts places x) → IsPassed texts places len (spot texts nodes c) (option_or lead ended)
+        by None dead = passed_still (λ m h has. ⊎_elim (λ above. above) (λ at. absurd (dead (subst (HasPlace texts places) (same_there m h at) has))) (passed_below m h)) ended way.passed
+        by (Some e) is = let order = link.belongs.order in
+            subst (λ (s : Text). IsLead texts places s e × (length s ≤ len) × (9 * length s < (spot texts nodes c).place) × SameBits (9 * length s) s (spot texts nodes c).text
+            × ((m : ℕ) → IsProper texts (spot texts nodes c) m → HasPlace texts places (text_at texts m) → length (text_at texts m) ≤ length s)) (sym is.is) (
+              is,
+              omega (arith, size),
+              omega (arith, there),
+              same_bits_less (9 * length x) (omega (arith, there)) link.belongs.same,
+              λ m h _. ⊎_elim (upto m) (λ at. omega (arith, there)) (passed_below m h),
+            )
+
+    pub way_on : (ended : Option Lead) → IsOnWay texts places nodes t len (Inner k) ended → (node_at nodes k).bit.shift ≢ 8 → IsOnWay texts places nodes t len c ended
     way_on ended way goes = record {
       stands = link.stands;
       first = link.first;
       near = near_below way.near;
-      passed = by ended way.passed;
+      passed = passed_still (λ m h _. let shift = node.shift in ⊎_elim (λ above. above) (λ at. absurd (omega arith)) (passed_below m h)) ended way.passed;
     }
-      where
-        still : (m : ℕ) → IsProper texts (spot texts nodes c) m → IsProper texts (spot texts nodes (Inner k)) m
-        still m h = let shift = node.shift in ⊎_elim (λ above. above) (λ at. absurd (omega arith)) (passed_below m h)
-
-        by : (ended : Option ℕ) → IsPassed texts len (spot texts nodes (Inner k)) ended → IsPassed texts len (spot texts nodes c) ended
-        by None none = λ m h. none m (still m h)
-        by (Some e) some = let order = link.belongs.order in let above = some.2 in (
-          some.0,
-          some.1,
-          omega arith,
-          same_bits_trans some.3 (same_bits_less (9 * length (text_at texts e)) (omega arith) link.belongs.same),
-          λ m h. some.4 m (still m h),
-        )
 
   -- ---- where the way ends
 
-  pub nearest_leaf : (n : ℕ) (ended : Option ℕ) → AreBytes t → AreBytes (text_at texts n) → IsOnWay texts nodes t len (Leaf n) ended → IsNearest texts t len n
+  pub nearest_leaf : (n : ℕ) (ended : Option Lead) → AreBytes t → AreBytes (text_at texts n) → IsOnWay texts places nodes t len (Leaf n) ended → IsNearest texts t len n
   nearest_leaf n ended bytes own way = λ m q l within same. elim (cases_lt (9 * length (text_at texts n) + 1) q) [
     | inl more ↦
         let is : text_at texts n ≡ t = same_text (text_at texts n) t own bytes (way.near m (9 * length (text_at texts n) + 1) l (omega arith) (same_bits_less (9 * length (text_at texts n) + 1) (omega arith) same)) in
@@ -148,11 +169,11 @@ module _ (texts : List Text) (nodes : List Node) (t : Text) (len : ℕ) where
     | inr less ↦ way.near m q l less same
   ]
 
-  pub nearest_inner : (k : ℕ) (ended : Option ℕ) → len < (node_at nodes k).bit.at → IsOnWay texts nodes t len (Inner k) ended → IsNearest texts t len (node_at nodes k).entry
+  pub nearest_inner : (k : ℕ) (ended : Option Lead) → len < (node_at nodes k).bit.at → IsOnWay texts places nodes t len (Inner k) ended → IsNearest texts t len (node_at nodes k).entry
   nearest_inner k ended short way = λ m q l within same. way.near m q l (omega arith) same
 
   -- a text that ends before the bit of a node has no more bits of a text there, unless it is the one that ends there
-  pub nearest_end : (k : ℕ) (ended : Option ℕ) → length t ≤ (node_at nodes k).bit.at → AreBytes t → AreBytes (text_at texts (node_at nodes k).entry) → IsNode texts nodes k → IsOnWay texts nodes t len (Inner k) ended
+  pub nearest_end : (k : ℕ) (ended : Option Lead) → length t ≤ (node_at nodes k).bit.at → AreBytes t → AreBytes (text_at texts (node_at nodes k).entry) → IsNode texts nodes k → IsOnWay texts places nodes t len (Inner k) ended
       → IsNearest texts t len (node_at nodes k).entry
   nearest_end k ended short bytes own node way = λ m q l within same. elim (cases_lt (place_of (node_at nodes k).bit) q) [
     | inl more ↦
@@ -190,13 +211,13 @@ module _ (texts : List Text) (nodes : List Node) (t : Text) (len : ℕ) where
           | inr more ↦ inl (omega arith)
         ]
 
-    pub ended_near : (ended : Option ℕ) → IsPassed texts len x ended → IsEnded texts t len n ended
-    ended_near None none = λ m fit short. ⊎_elim (λ same. same) (λ h. absurd (none m h)) (fits_near m fit short)
+    pub ended_near : (ended : Option Lead) → IsPassed texts places len x ended → IsEnded texts places t len n ended
+    ended_near None none = λ m fit has short. ⊎_elim (λ same. same) (λ h. absurd (none m h has)) (fits_near m fit short)
     ended_near (Some e) some = (
       some.0,
       some.1,
-      subst (SameBits (9 * length (text_at texts e)) (text_at texts e)) is some.3,
-      λ m fit short. ⊎_elim (λ same. inl same) (λ h. inr (some.4 m h)) (fits_near m fit short),
+      subst (SameBits (9 * length (text_at texts e.number)) (text_at texts e.number)) is some.3,
+      λ m fit has short. ⊎_elim (λ same. inl same) (λ h. inr (some.4 m h has)) (fits_near m fit short),
     )
 
 -- how many bits the node is before this place
@@ -226,6 +247,11 @@ read_node nodes k node l is = get_or_read nodes k node l is (record { bit = reco
 pub root_link : (texts : List Text) (tree : Tree) (c : Child) → IsTree texts tree → tree.root ≡ Some c → IsLink texts tree.nodes.items (IsBelow texts tree.nodes.items None) c
 root_link texts tree c h is = subst (λ o. MatchOption o (texts ≡ []) (IsLink texts tree.nodes.items (IsBelow texts tree.nodes.items None))) is h.root
 
+pub node_first : (texts : List Text) (tree : Tree) → IsTree texts tree → (k : ℕ) (node : Node) {at : Child} → IsIn texts tree.nodes.items at → at ≡ Inner k → node ≡ get_or tree.nodes.items k node → IsFirst texts node.entry
+node_first texts tree h k node stands is read =
+    let within : k < length tree.nodes.items = subst (IsIn texts tree.nodes.items) is stands in
+    subst (λ (n : Node). IsFirst texts n.entry) (sym (read_node tree.nodes.items k node within read)) (h.node k within).first
+
 -- a text that goes on has the bit that says so
 pub goes_right : (t : Text) (node : Node) → node.bit.shift ≡ 8 → node.bit.at < length t → node.right ≡ child node (bit t (place_of node.bit))
 goes_right t node eight l =
@@ -249,48 +275,48 @@ bits_fewer texts tree len k node at side h stands is read l =
     go (Inner j) upto order = omega arith
     go (Leaf n) upto order = omega arith
 
-module _ (texts : List Text) (tree : Tree) (t : Text) (len : ℕ) (h : IsTree texts tree) where
-  pub way_next : (k : ℕ) (node : Node) (at next : Child) (ended later : Option ℕ) → IsOnWay texts tree.nodes.items t len at ended → at ≡ Inner k → node ≡ get_or tree.nodes.items k node → node.bit.at ≤ len
-      → next ≡ child node (bit t (place_of node.bit)) → ((node.bit.shift ≡ 8) × (later ≡ Some node.entry)) ⊎ ((node.bit.shift ≢ 8) × (later ≡ ended)) → IsOnWay texts tree.nodes.items t len next later
-  way_next k node at next ended later way is read l next_is cases =
+module _ (texts : List Text) (places : List (Option ℕ)) (tree : Tree) (t : Text) (len : ℕ) (h : IsTree texts tree) where
+  pub way_next : (k : ℕ) (node : Node) (at next : Child) (ended later lead : Option Lead) → IsOnWay texts places tree.nodes.items t len at ended → at ≡ Inner k → node ≡ get_or tree.nodes.items k node → node.bit.at ≤ len
+      → next ≡ child node (bit t (place_of node.bit)) → ((node.bit.shift ≡ 8) × MatchOption lead (HasPlace texts places (text_at texts node.entry) → ⊥) (IsLead texts places (text_at texts node.entry)) × (later ≡ option_or lead ended)) ⊎ ((node.bit.shift ≢ 8) × (later ≡ ended)) → IsOnWay texts places tree.nodes.items t len next later
+  way_next k node at next ended later lead way is read l next_is cases =
       let nodes = tree.nodes.items in
-      let way : IsOnWay texts nodes t len (Inner k) ended = subst (λ c. IsOnWay texts nodes t len c ended) is way in
+      let way : IsOnWay texts places nodes t len (Inner k) ended = subst (λ c. IsOnWay texts places nodes t len c ended) is way in
       let node_is = read_node nodes k node way.stands read in
       let next_is : next ≡ child (node_at nodes k) (bit t (place_of (node_at nodes k).bit)) = next_is ∙ ap (λ (n : Node). child n (bit t (place_of n.bit))) node_is in
       let c : Child = child (node_at nodes k) (bit t (place_of (node_at nodes k).bit)) in
       let node = h.node k way.stands in
       let link = h.link k (bit t (place_of (node_at nodes k).bit)) way.stands in
-      subst (λ c. IsOnWay texts nodes t len c later) (sym next_is) (elim cases [
+      subst (λ c. IsOnWay texts places nodes t len c later) (sym next_is) (elim cases [
         | inl ends ↦
             let shift : (node_at nodes k).bit.shift ≡ 8 = sym (ap (λ (n : Node). n.bit.shift) node_is) ∙ ends.0 in
             let at_is = ap (λ (n : Node). n.bit.at) node_is in
-            let later_is : later ≡ Some (node_at nodes k).entry = ends.1 ∙ ap (λ (n : Node). Some n.entry) node_is in
-            subst (IsOnWay texts nodes t len c) (sym later_is) (way_end texts nodes t len k c node link ended way (omega arith) shift)
+            let led = subst (λ (n : Node). MatchOption lead (HasPlace texts places (text_at texts n.entry) → ⊥) (IsLead texts places (text_at texts n.entry))) node_is ends.1 in
+            subst (IsOnWay texts places nodes t len c) (sym ends.2) (way_end texts places nodes t len k c node link ended lead way (omega arith) shift led h.bytes)
         | inr goes ↦
-            subst (IsOnWay texts nodes t len c) (sym goes.1) (way_on texts nodes t len k c node link ended way (λ e. goes.0 (ap (λ (n : Node). n.bit.shift) node_is ∙ e)))
+            subst (IsOnWay texts places nodes t len c) (sym goes.1) (way_on texts places nodes t len k c node link ended way (λ e. goes.0 (ap (λ (n : Node). n.bit.shift) node_is ∙ e)))
       ])
 
   -- the number where the way ends
-  abbrev pub EndsAt : ℕ → Option ℕ → Type 0
-  EndsAt n ended = IsFirst texts n × IsNearest texts t len n × IsEnded texts t len n ended
+  abbrev pub EndsAt : ℕ → Option Lead → Type 0
+  EndsAt n ended = IsFirst texts n × IsNearest texts t len n × IsEnded texts places t len n ended
 
-  pub way_to_leaf : (at : Child) (n : ℕ) (ended : Option ℕ) → AreBytes t → IsOnWay texts tree.nodes.items t len at ended → at ≡ Leaf n → EndsAt n ended
+  pub way_to_leaf : (at : Child) (n : ℕ) (ended : Option Lead) → AreBytes t → IsOnWay texts places tree.nodes.items t len at ended → at ≡ Leaf n → EndsAt n ended
   way_to_leaf at n ended bytes way is =
-      let way : IsOnWay texts tree.nodes.items t len (Leaf n) ended = subst (λ c. IsOnWay texts tree.nodes.items t len c ended) is way in
-      let nearest = nearest_leaf texts tree.nodes.items t len n ended bytes (h.bytes n way.stands) way in
-      (way.first, nearest, ended_near texts tree.nodes.items t len n (spot texts tree.nodes.items (Leaf n)) refl nearest (λ m l less. omega arith) ended way.passed)
+      let way : IsOnWay texts places tree.nodes.items t len (Leaf n) ended = subst (λ c. IsOnWay texts places tree.nodes.items t len c ended) is way in
+      let nearest = nearest_leaf texts places tree.nodes.items t len n ended bytes (h.bytes n way.stands) way in
+      (way.first, nearest, ended_near texts places tree.nodes.items t len n (spot texts tree.nodes.items (Leaf n)) refl nearest (λ m l less. omega arith) ended way.passed)
 
-  pub way_to_inner : (at : Child) (k n : ℕ) (node other : Node) (ended : Option ℕ) → AreBytes t → len ≤ length t → IsOnWay texts tree.nodes.items t len at ended → at ≡ Inner k → node ≡ get_or tree.nodes.items k node
+  pub way_to_inner : (at : Child) (k n : ℕ) (node other : Node) (ended : Option Lead) → AreBytes t → len ≤ length t → IsOnWay texts places tree.nodes.items t len at ended → at ≡ Inner k → node ≡ get_or tree.nodes.items k node
       → (len < node.bit.at) ⊎ (length t ≤ node.bit.at) → other ≡ get_or tree.nodes.items k other → n ≡ other.entry → EndsAt n ended
   way_to_inner at k n node other ended bytes within way is read short again n_is =
       let nodes = tree.nodes.items in
-      let way : IsOnWay texts nodes t len (Inner k) ended = subst (λ c. IsOnWay texts nodes t len c ended) is way in
+      let way : IsOnWay texts places nodes t len (Inner k) ended = subst (λ c. IsOnWay texts places nodes t len c ended) is way in
       let at_is = ap (λ (n : Node). n.bit.at) (read_node nodes k node way.stands read) in
       let node = h.node k way.stands in
       let e = (node_at nodes k).entry in
       let nearest : IsNearest texts t len e = elim short [
-        | inl before ↦ nearest_inner texts nodes t len k ended (omega arith) way
-        | inr behind ↦ nearest_end texts nodes t len k ended (omega arith) bytes (h.bytes e node.first.within) node way
+        | inl before ↦ nearest_inner texts places nodes t len k ended (omega arith) way
+        | inr behind ↦ nearest_end texts places nodes t len k ended (omega arith) bytes (h.bytes e node.first.within) node way
       ] in
       let far : (m : ℕ) → length (text_at texts m) ≤ len → length (text_at texts m) < length (text_at texts e) → 9 * length (text_at texts m) < place_of (node_at nodes k).bit = λ m upto less. elim (cases_lt (node_at nodes k).bit.shift 8) [
         | inl later ↦ elim short [ inl before ↦ omega arith | inr behind ↦ omega arith ]
@@ -300,4 +326,4 @@ module _ (texts : List Text) (tree : Tree) (t : Text) (len : ℕ) (h : IsTree te
             omega arith
       ] in
       subst (λ n. EndsAt n ended) (sym (n_is ∙ ap (λ (n : Node). n.entry) (read_node nodes k other way.stands again)))
-      (way.first, nearest, ended_near texts nodes t len e (spot texts nodes (Inner k)) refl nearest far ended way.passed)
+      (way.first, nearest, ended_near texts places nodes t len e (spot texts nodes (Inner k)) refl nearest far ended way.passed)

@@ -5,6 +5,7 @@ pub mod Errors
 pub mod Lists
 pub mod PrefixLabels
 pub mod PrefixTable
+pub mod PrefixPlaces
 pub mod PrefixTree
 pub mod Prefixes
 -- the words of contracts, for callers that list this crate alone

@@ -1,10 +1,12 @@
 -- The trees by which a prefix table finds its entries: by their labels, and by their texts.
 use Rattle.std.specs.Prelude.{◌≡◌, ◌≢◌, ℕ, ◌+◌, ◌-◌, ◌*◌, ◌/◌, ◌%◌, ◌<◌, ◌≤◌, ◌==◌, ◌⊎◌, Bool, true, false, List, [], ◌∷◌, ◌++◌, length, map, nat_lt, slice_index, slice_index_or, bytes_eq, Option, Some, None, MatchOption, IfSome, if◌then◌else◌}
 use Rattle.std.specs.Int.{bit_at}
+use Rattle.std.specs.Vec.{vec_len, vec_capacity}
 use Rattle.iref_grammar.specs.Rules.{Text}
 use Rattle.iref.specs.PrefixTable.{PrefixEntry, PrefixTable}
 use Rattle.iref.specs.declared.compact.entry.Key.{Key}
 use Rattle.iref.specs.declared.compact.entry.Key.TheVariants.{Label, Iri}
+use Rattle.iref.specs.declared.compact.entry.Lead.{Lead}
 use Rattle.iref.specs.declared.compact.tree.Bit.{Bit}
 use Rattle.iref.specs.declared.compact.tree.Child.{Child}
 use Rattle.iref.specs.declared.compact.tree.Child.TheVariants.{Inner, Leaf}
@@ -30,6 +32,42 @@ text_at texts n = slice_index_or texts n []
 pub record IsFirst (texts : List Text) (n : ℕ) : Type 0 where
   pub within : n < length texts
   pub new : (i : ℕ) → i < n → text_at texts i ≢ text_at texts n
+
+-- no text is this one
+abbrev pub IsAbsent : List Text → Text → Type 0
+IsAbsent texts t = (n : ℕ) → n < length texts → text_at texts n ≢ t
+
+-- the first number of this text
+abbrev pub IsFirstOf : List Text → Text → ℕ → Type 0
+IsFirstOf texts t n = IsFirst texts n × (text_at texts n ≡ t)
+
+-- ---- the entries that the table has
+
+-- the number of the entry at a place
+abbrev pub place_at : List (Option ℕ) → ℕ → Option ℕ
+place_at places p = slice_index_or places p None
+
+-- an entry of this text has a place
+pub record HasPlace (texts : List Text) (places : List (Option ℕ)) (t : Text) : Type 0 where
+  pub place : ℕ
+  pub number : ℕ
+  pub stands : place_at places place ≡ Some number
+  pub is : text_at texts number ≡ t
+
+-- the first place of an entry of this text
+pub record IsLead (texts : List Text) (places : List (Option ℕ)) (t : Text) (lead : Lead) : Type 0 where
+  pub stands : place_at places lead.place ≡ Some lead.number
+  pub within : lead.number < length texts
+  pub is : text_at texts lead.number ≡ t
+  pub first : (p n : ℕ) → p < lead.place → place_at places p ≡ Some n → text_at texts n ≢ t
+
+abbrev pub lead_at : List (Option Lead) → ℕ → Option Lead
+lead_at leads n = slice_index_or leads n None
+
+-- the first entry of each text leads to the first place of an entry of that text
+pub record IsLed (texts : List Text) (places : List (Option ℕ)) (leads : List (Option Lead)) : Type 0 where
+  pub long : length leads ≡ length texts
+  pub each : (n : ℕ) → IsFirst texts n → MatchOption (lead_at leads n) (HasPlace texts places (text_at texts n) → ⊥) (IsLead texts places (text_at texts n))
 
 -- ---- the bits of a text
 
@@ -116,6 +154,12 @@ pub record IsNode (texts : List Text) (nodes : List Node) (k : ℕ) : Type 0 whe
   pub within : place_of (node_at nodes k).bit ≤ 9 * length (text_at texts (node_at nodes k).entry)
   pub ends : (node_at nodes k).bit.shift ≡ 8 → length (text_at texts (node_at nodes k).entry) ≡ (node_at nodes k).bit.at
 
+-- how many bytes all texts below the root node begin with, and the last of them; 0 where there is no node
+abbrev pub IsFront : List Text → List Node → ℕ → ℕ → Option Child → Type 0
+IsFront texts nodes front last None = front ≡ 0
+IsFront texts nodes front last (Some (Leaf n)) = front ≡ 0
+IsFront texts nodes front last (Some (Inner k)) = (front ≡ (node_at nodes k).bit.at) × (0 < front → last ≡ slice_index_or (text_at texts (node_at nodes k).entry) (front - 1) 0)
+
 pub record IsTree (texts : List Text) (tree : Tree) : Type 0 where
   pub node : (k : ℕ) → k < length tree.nodes.items → IsNode texts tree.nodes.items k
   pub link : (k : ℕ) (side : Bool) → k < length tree.nodes.items → IsLink texts tree.nodes.items (IsOnSide (spot texts tree.nodes.items (Inner k)) side) (child (node_at tree.nodes.items k) side)
@@ -124,6 +168,11 @@ pub record IsTree (texts : List Text) (tree : Tree) : Type 0 where
   pub root : MatchOption tree.root (texts ≡ []) (IsLink texts tree.nodes.items (IsBelow texts tree.nodes.items None))
   pub bytes : (n : ℕ) → n < length texts → AreBytes (text_at texts n)
   pub least : (n : ℕ) → n < length texts → tree.least ≤ length (text_at texts n)
+  pub front : IsFront texts tree.nodes.items tree.front tree.last tree.root
+
+-- room for one more entry
+abbrev pub HasRoom : Tree → Type 0
+HasRoom tree = (vec_len tree.nodes < vec_capacity tree.nodes) × (vec_len tree.leads < vec_capacity tree.leads)
 
 -- ---- where a text leads
 
@@ -131,22 +180,22 @@ pub record IsTree (texts : List Text) (tree : Tree) : Type 0 where
 abbrev pub IsFit : List Text → Text → ℕ → Type 0
 IsFit texts text n = (n < length texts) × SameBits (9 * length (text_at texts n)) (text_at texts n) text
 
--- the last text that ends on the way; what fits within `len` bytes is as long as the text `n`, or no longer than this one
-abbrev pub IsEnded : List Text → Text → ℕ → ℕ → Option ℕ → Type 0
-IsEnded texts text len n None = (m : ℕ) → IsFit texts text m → length (text_at texts m) ≤ len → length (text_at texts m) ≡ length (text_at texts n)
-IsEnded texts text len n (Some e) = IsFirst texts e × (length (text_at texts e) ≤ len) × SameBits (9 * length (text_at texts e)) (text_at texts e) (text_at texts n)
-    × ((m : ℕ) → IsFit texts text m → length (text_at texts m) ≤ len → (length (text_at texts m) ≡ length (text_at texts n)) ⊎ (length (text_at texts m) ≤ length (text_at texts e)))
+-- the last text that ends on the way and has a place; what fits within `len` bytes and has a place is as long as the text `n`, or no longer than this one
+abbrev pub IsEnded : List Text → List (Option ℕ) → Text → ℕ → ℕ → Option Lead → Type 0
+IsEnded texts places text len n None = (m : ℕ) → IsFit texts text m → HasPlace texts places (text_at texts m) → length (text_at texts m) ≤ len → length (text_at texts m) ≡ length (text_at texts n)
+IsEnded texts places text len n (Some e) = IsLead texts places (text_at texts e.number) e × (length (text_at texts e.number) ≤ len) × SameBits (9 * length (text_at texts e.number)) (text_at texts e.number) (text_at texts n)
+    × ((m : ℕ) → IsFit texts text m → HasPlace texts places (text_at texts m) → length (text_at texts m) ≤ len → (length (text_at texts m) ≡ length (text_at texts n)) ⊎ (length (text_at texts m) ≤ length (text_at texts e.number)))
 
 -- the text of this number has as many first bits in common with the text as any, of those of the first symbols
 abbrev pub IsNearest : List Text → Text → ℕ → ℕ → Type 0
 IsNearest texts text len n = (m q : ℕ) → m < length texts → q ≤ 9 * (len + 1) → SameBits q (text_at texts m) text → SameBits q (text_at texts n) text
 
-pub record IsNear (texts : List Text) (text : Text) (len : ℕ) (near : Near) : Type 0 where
+pub record IsNear (texts : List Text) (places : List (Option ℕ)) (text : Text) (len : ℕ) (near : Near) : Type 0 where
   pub first : IsFirst texts near.number
   pub is : near.text.now ≡ text_at texts near.number
   pub bytes : AreBytes text
   pub nearest : IsNearest texts text len near.number
-  pub ended : IsEnded texts text len near.number near.ended
+  pub ended : IsEnded texts places text len near.number near.ended
 
 -- ---- where a text is added
 

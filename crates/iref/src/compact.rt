@@ -1,27 +1,28 @@
 //! Prefix tables: labels that stand for the beginnings of IRIs, as in `ex:a` for
 //! `http://example.org/a`.
 ghost use Rattle.std.specs.Prelude.{◌≡◌, [], length, option_map, Ok, IfOk, IfErr, IfSome, OnOk, OnErr};
-ghost use Rattle.std.specs.{String.{string_bytes}, List.{find}, Option.{option_copied}};
-ghost use Rattle.iref.specs.PrefixTable.{has_label, longest_fit, IsPrefixTable, compact_text, compacted};
-ghost use Rattle.iref.specs.PrefixTable.{ascii_table, expanded, get, inserted};
+ghost use Rattle.std.specs.String.{string_bytes};
+ghost use Rattle.iref.specs.PrefixTable.{ascii_table, compact_text, compacted, expanded, get};
+ghost use Rattle.iref.specs.PrefixTable.{inserted, is_taken, removed, replaced};
 ghost use Rattle.iref_reference.specs.References.{reference_buf_text, reference_text};
 ghost use Rattle.iref.specs.Prefixes.{compact_value, RefusesExpand, RefusesInsert};
 
 mod entry;
 mod label;
+mod shared;
+mod table;
 mod text;
 mod tree;
 
 use crate::iri::{Iri, IriBuf};
-use entry::{Entry, Key, add};
 use iref_parse::cut::cut;
 use iref_splice::Memory;
 pub use label::Labels;
 use std::alloc::Global;
 use std::marker::Model;
+use table::Table;
 use text::{after_front, iri_of, joined};
 use thiserror::Error;
-use tree::Tree;
 
 /// Why an entry cannot be inserted, as one under the label `1x`.
 #[derive(Clone, Copy, Debug, PartialEq, Eq, Error)]
@@ -95,28 +96,24 @@ impl Compact<'_> {
 
 /// Labels, each with the IRI that it stands for, in the order in which they were inserted: with
 /// `ex` for `http://example.org/`, `compact` of `http://example.org/a` returns `ex` and `a`, and
-/// `expand` of `ex:a` returns that IRI.
+/// `expand` of `ex:a` returns that IRI. What `remove` and `replace` take away keeps its memory until
+/// the table is dropped.
 #[derive(Drop)]
 pub struct Prefixes {
     rule: Labels,
-    entries: Vec<Entry>,
-    // the entries by their labels
-    labels: Tree,
-    // the first entries of texts by the texts
-    texts: Tree,
+    table: Table,
 }
 
 impl Model for Prefixes {
     ghost use Rattle.iref.specs.PrefixTable.{PrefixesValue, IsPrefixTable};
-    ghost use Rattle.iref.specs.{PrefixTree.{keys_of, IsTree}, declared.compact.entry.Key.TheVariants.{Label, Iri}};
+    ghost use Rattle.iref.specs.PrefixPlaces.{table_of, IsTable};
 
     ghost Value = { PrefixesValue };
 
-    ghost view = { λ p. record { labels = p.rule; entries = p.entries.items } };
+    ghost view = { λ p. record { labels = p.rule; entries = table_of p.table.entries } };
 
-    ghost invariant = { λ p. IsPrefixTable (record { labels = p.rule; entries = p.entries.items })
-        × IsTree (keys_of Label p.entries.items) p.labels
-        × IsTree (keys_of Iri p.entries.items) p.texts };
+    ghost invariant = { λ p. IsPrefixTable (record { labels = p.rule; entries = table_of p.table.entries })
+        × IsTable p.table };
 }
 
 impl Prefixes {
@@ -133,38 +130,15 @@ impl Prefixes {
         ensures { result ≡ record { labels = labels; entries = [] } }
     {
         let rule = labels;
-        let entries = Vec::new(alloc);
-        let labels = Tree::new(alloc);
-        let texts = Tree::new(alloc);
-        Prefixes {
-            rule,
-            entries,
-            labels,
-            texts,
-        }
+        let table = Table::new(alloc);
+        Prefixes { rule, table }
     }
 
     /// How many entries the table has: after one `insert`, 1.
     pub fn len(&self) -> usize
         ensures { result ≡ length self.now.entries }
     {
-        self.entries.len()
-    }
-
-    // The entry of a label.
-    fn find(&self, label: &str) -> Option<&Entry>
-        ensures { option_copied result ≡ find (has_label label.now) self.now.entries }
-    {
-        self.labels
-            .entry_of(&self.entries, Key::Label, label.as_bytes())
-    }
-
-    // The first of the longest entries whose text is a beginning of the IRI's.
-    fn longest_fit(&self, iri: &str) -> Option<&Entry>
-        ensures entry { option_copied result ≡ longest_fit iri.now self.now.entries }
-        ensures table { IsPrefixTable self.now }
-    {
-        self.texts.longest_fit(&self.entries, iri.as_bytes())
+        self.table.len()
     }
 
     /// The IRI of a label, if the label has an entry: after `insert` of `ex` with `http://ex.org/`,
@@ -173,7 +147,7 @@ impl Prefixes {
     pub fn get(&self, label: &str) -> Option<Iri<'_>>
         ensures { option_map reference_text result ≡ get label.now self.now.entries }
     {
-        Some(self.find(label)?.iri())
+        Some(self.table.find(label)?.iri())
     }
 
     /// Adds a last entry. The label is in the rule of the table's labels, and differs from all
@@ -194,16 +168,46 @@ impl Prefixes {
         if !self.rule.allow(label) {
             return Err(PrefixFault::BadLabel(self.rule));
         }
-        if self.find(label).is_some() {
+        if self.table.find(label).is_some() {
             return Err(PrefixFault::Taken);
         }
-        Ok(add(
-            &mut self.entries,
-            &mut self.labels,
-            &mut self.texts,
-            label,
-            iri.as_str(),
-        )?)
+        Ok(self.table.insert(label, iri.as_str())?)
+    }
+
+    /// Gives the entry of a label this IRI, and returns whether there was one. The entry keeps its
+    /// place in the order. A label that has no entry gets a last one, as by `insert`: `replace` of
+    /// `ex` in the empty table returns `false`, and of `ex` once more `true`.
+    ///
+    /// # Errors
+    ///
+    /// `BadLabel`, then `Memory`.
+    #[tactic(auto, using(crate::proofs::PrefixTableLemmas::replaces))]
+    pub fn replace(&mut self, label: &str, iri: Iri<'_>) -> Result<bool, PrefixFault>
+        ensures ok { OnOk result (replaced label.now (reference_text iri.entry) self.old
+            ≡ Ok self.new) }
+        ensures was { IfOk result (λ was. was ≡ is_taken label.now self.old.entries) }
+        ensures err { IfErr result
+            (RefusesInsert (replaced label.now (reference_text iri.entry) self.old)) }
+        ensures unchanged { OnErr result (self.new ≡ self.old) }
+    {
+        if !self.rule.allow(label) {
+            return Err(PrefixFault::BadLabel(self.rule));
+        }
+        let was = self.table.replace(label, iri.as_str())?;
+        if !was {
+            self.table.insert(label, iri.as_str())?;
+        }
+        Ok(was)
+    }
+
+    /// Takes the entry of a label away, and returns whether there was one: of `ex` from a table with
+    /// it `true`, and once more `false`. The others keep their order. It takes no memory.
+    pub fn remove(&mut self, label: &str) -> bool
+        ensures left { self.new
+            ≡ record self.old { entries = removed label.now self.old.entries } }
+        ensures was { result ≡ is_taken label.now self.old.entries }
+    {
+        self.table.remove(label)
     }
 
     /// The IRI by its longest beginning in the table: the label of the entry whose IRI's text is a
@@ -220,7 +224,7 @@ impl Prefixes {
             ≡ Ok (reference_text iri.entry)) }
     {
         let text = iri.as_str();
-        let entry = self.longest_fit(text)?;
+        let entry = self.table.longest_fit(text)?;
         let rest = after_front(text, entry.text());
         let label = entry.label();
         Some(Compact { label, rest })

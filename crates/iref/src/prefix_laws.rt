@@ -1,7 +1,8 @@
 //! Laws of prefix tables: each is the contract of a function that does nothing.
 #![tactic(auto, using(crate::proofs::PrefixLemmas::laws))]
 
-ghost use Rattle.std.specs.Prelude.{◌≡◌, ◌≢◌, ◌↔◌, List, [], ◌∷◌, ◌++◌, Some, Ok, Err, true};
+ghost use Rattle.std.specs.Prelude.{◌≡◌, ◌≢◌, ◌↔◌, List, [], ◌∷◌, ◌++◌, map, Some, None, Ok, Err};
+ghost use Rattle.std.specs.Prelude.{true, false};
 ghost use Rattle.std.specs.{Prelude.{IsFalse, IsSome, MatchOption, if◌then◌else◌}, List.{list_all}};
 ghost use Rattle.std.specs.List.{list_any};
 ghost use Rattle.iref_grammar.specs.{iri_chars, Text, is_uri, Grammar.{colon}, Texts.{lacks}};
@@ -10,7 +11,9 @@ ghost use Rattle.iref.specs.PrefixTable.{PrefixEntry, PrefixTable, PrefixesValue
 ghost use Rattle.iref.specs.PrefixTable.{IsPrefixTable, labels_differ, get, BadLabel, Taken};
 ghost use Rattle.iref.specs.{PrefixLabels.{is_label, IsPnPrefix}, declared.compact.label.Labels.{Labels}};
 ghost use Rattle.iref.specs.declared.compact.label.Labels.TheVariants.{Turtle};
-ghost use Rattle.iref.specs.PrefixTable.{inserted, inserted_all, fits, longest_fit};
+ghost use Rattle.iref.specs.PrefixTable.{inserted, inserted_all, is_taken, removed, replaced};
+ghost use Rattle.iref.specs.PrefixTable.{Change, Insert, brings_iri, changed_all};
+ghost use Rattle.iref.specs.PrefixTable.{fits, longest_fit};
 ghost use Rattle.iref.specs.PrefixTable.{IsLongestFit, or_new, CompactValue, IsCompact};
 ghost use Rattle.iref.specs.PrefixTable.{compacted, compact_text, expanded};
 
@@ -53,6 +56,57 @@ pub fn inserting_refuses_bad_and_taken_labels()
     ensures taken { (label iri : Text) (table : PrefixesValue)
         → (inserted label iri table ≡ Err Taken)
         ↔ ((is_label table.labels label ≡ true) × IsSome (get label table.entries)) }
+{}
+
+/// A table that was made by any mixture of inserts, replacements and removals of entries with IRIs
+/// holds labels in its rule, none of them twice, and IRIs.
+pub fn changing_keeps_labels_unique()
+    ensures removed { (label : Text) (table : PrefixesValue) → IsPrefixTable table
+        → IsPrefixTable (record table { entries = removed label table.entries }) }
+    ensures replaced { (label iri : Text) (table new : PrefixesValue) → IsPrefixTable table
+        → is_uri iri_chars iri ≡ true
+        → replaced label iri table ≡ Ok new → IsPrefixTable new }
+    ensures all { (labels : Labels) (changes : List Change) (new : PrefixesValue)
+        → list_all brings_iri changes ≡ true
+        → changed_all changes (record { labels = labels; entries = [] }) ≡ Some new
+        → IsPrefixTable new }
+    ensures inserts { (entries : List PrefixEntry) (table : PrefixesValue)
+        → inserted_all entries table ≡ changed_all (map Insert entries) table }
+{}
+
+/// What is removed is not found, and the others keep their order and their IRIs. To remove it again
+/// changes nothing, and to remove what was inserted gives the table from before.
+pub fn removing_leaves_the_other_entries()
+    ensures gone { (label : Text) (table : PrefixTable) → get label (removed label table) ≡ None }
+    ensures others { (label other : Text) (table : PrefixTable)
+        → other ≢ label → get other (removed label table) ≡ get other table }
+    ensures order { (front : PrefixTable) (e : PrefixEntry) (back : PrefixTable)
+        → labels_differ (front ++ e ∷ back) ≡ true
+        → removed e.label (front ++ e ∷ back) ≡ front ++ back }
+    ensures again { (label : Text) (table : PrefixTable)
+        → removed label (removed label table) ≡ removed label table }
+    ensures undoes { (label iri : Text) (table new : PrefixesValue)
+        → inserted label iri table ≡ Ok new → removed label new.entries ≡ table.entries }
+{}
+
+/// A label that has an entry gets another IRI and keeps its place, and the other labels keep their
+/// IRIs. A label that has none is inserted.
+pub fn replacing_keeps_the_order_of_labels()
+    ensures new { (label iri : Text) (table new : PrefixesValue)
+        → replaced label iri table ≡ Ok new → get label new.entries ≡ Some iri }
+    ensures others { (label iri other : Text) (table new : PrefixesValue)
+        → replaced label iri table ≡ Ok new → other ≢ label
+        → get other new.entries ≡ get other table.entries }
+    ensures order { (label iri : Text) (table new : PrefixesValue)
+        → replaced label iri table ≡ Ok new → is_taken label table.entries ≡ true
+        → map (λ (e : PrefixEntry). e.label) new.entries
+        ≡ map (λ (e : PrefixEntry). e.label) table.entries }
+    ensures absent { (label iri : Text) (table : PrefixesValue)
+        → is_taken label table.entries ≡ false
+        → replaced label iri table ≡ inserted label iri table }
+    ensures bad_label { (label iri : Text) (table : PrefixesValue)
+        → (replaced label iri table ≡ Err (BadLabel table.labels))
+        ↔ IsFalse (is_label table.labels label) }
 {}
 
 /// An IRI is shortened by the longest entry whose text is a beginning of its text, the first of

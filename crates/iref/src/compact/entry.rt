@@ -1,10 +1,9 @@
-//! An entry of a prefix table, and how one is added to the table and its trees.
-ghost use Rattle.std.specs.{Prelude.{◌≡◌, ◌++◌, [], ◌∷◌, true, IfOk, OnOk, OnErr}, String.{string_bytes}};
+//! The entries of a prefix table, and where texts lead to.
+ghost use Rattle.std.specs.{Prelude.{◌≡◌, ◌<◌, length, true, IfOk}, String.{string_bytes}};
 ghost use Rattle.iref_grammar.specs.{Characters.{iri_chars}, Reference.{is_uri}};
 ghost use Rattle.iref_reference.specs.References.{reference_text};
-ghost use Rattle.iref.specs.{PrefixTree.{key_of, keys_of, IsTree}, declared.compact.entry.Key.TheVariants.{Label, Iri}};
+ghost use Rattle.iref.specs.PrefixTree.{key_of, keys_of, text_at};
 
-use super::tree::Tree;
 use crate::iri::Iri;
 use iref_splice::Memory;
 use std::alloc::Global;
@@ -78,30 +77,26 @@ impl Entry {
     }
 }
 
-// Adds a last entry, and finds it by its label and its text.
-pub(super) fn add(
-    entries: &mut Vec<Entry>,
-    labels: &mut Tree,
-    texts: &mut Tree,
-    label: &str,
-    iri: &str,
-) -> Result<(), Memory>
-    requires iri { is_uri iri_chars iri.now ≡ true }
-    requires labels { IsTree (keys_of Label entries.old.items) labels.old }
-    requires texts { IsTree (keys_of Iri entries.old.items) texts.old }
-    ensures ok { OnOk result (entries.new.items
-        ≡ entries.old.items ++ record { label = label.now; iri = iri.now } ∷ []) }
-    ensures err { OnErr result (entries.new.items ≡ entries.old.items) }
-    ensures labels { IsTree (keys_of Label entries.new.items) labels.new }
-    ensures texts { IsTree (keys_of Iri entries.new.items) texts.new }
+// Where a text leads to: the place of an entry in the table, and its number.
+#[derive(Clone, Copy)]
+pub(super) struct Lead {
+    pub(super) place: usize,
+    pub(super) number: usize,
+}
+
+// All entries that were ever added, by their numbers, and those that the table has, in its order.
+#[derive(Drop)]
+pub(super) struct Entries {
+    pub(super) all: Vec<Entry>,
+    // the number of the entry at each place, if the table still has it
+    pub(super) places: Vec<Option<usize>>,
+}
+
+// What an entry is found by.
+#[inline(always)]
+pub(super) fn text_of<'a>(entries: &'a Entries, key: Key, number: usize) -> &'a [u8]
+    requires { number < length entries.now.all.items }
+    ensures { result.now ≡ text_at (keys_of key entries.now.all.items) number }
 {
-    let alloc = *entries.allocator();
-    let entry = Entry::new(alloc, label, iri)?;
-    entries.reserve(1)?;
-    labels.reserve()?;
-    texts.reserve()?;
-    labels.add(entries, Key::Label, label.as_bytes());
-    texts.add(entries, Key::Iri, iri.as_bytes());
-    entries.push_reserved(entry);
-    Ok(())
+    entries.all[number].key(key).as_bytes()
 }

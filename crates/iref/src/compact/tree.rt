@@ -1,14 +1,16 @@
 //! The first entries of texts, by the texts: a tree of nodes that each tell texts apart by one bit.
-ghost use Rattle.std.specs.Prelude.{◌≡◌, ◌≢◌, ℕ, ◌*◌, ◌<◌, ◌≤◌, ◌++◌, [], ◌∷◌, List, false, length, nat_lt, Option};
-ghost use Rattle.std.specs.{Prelude.{MatchOption, OnOk, Some}, List.{find}, Option.{option_copied}};
-ghost use Rattle.std.specs.Vec.{vec_len, vec_capacity};
+ghost use Rattle.std.specs.Prelude.{◌≡◌, ◌≢◌, ℕ, ◌-◌, ◌*◌, ◌<◌, ◌≤◌, ◌++◌, [], ◌∷◌, List, false, length};
+ghost use Rattle.std.specs.Prelude.{◌+◌, min, nat_lt, slice_index_or, MatchOption, OnOk, Option, Some, None};
+ghost use Rattle.std.specs.{List.{find}, Option.{option_copied}, Vec.{vec_len, vec_capacity}};
+ghost use Rattle.std.proofs.Math.ListN.{set};
 ghost use Rattle.iref_grammar.specs.Rules.{Text};
-ghost use Rattle.iref.specs.PrefixTable.{longest_fit};
-ghost use Rattle.iref.specs.{declared.compact.entry.Key.TheVariants.{Iri}, PrefixTree.{has_key, keys_of, text_at}};
-ghost use Rattle.iref.specs.PrefixTree.{symbol, bit, place_of, child, spot, with_child, IsAdded, IsFirstDifference};
-ghost use Rattle.iref.specs.PrefixTree.{IsFit, IsNear, IsNew, IsTree, IsWay, SameBits};
+ghost use Rattle.iref.specs.{PrefixTable.{longest_fit}, PrefixPlaces.{table_of, AreWithin}};
+ghost use Rattle.iref.specs.declared.compact.entry.Key.TheVariants.{Iri};
+ghost use Rattle.iref.specs.PrefixTree.{has_key, keys_of, lead_at, symbol, bit, place_of, child, spot};
+ghost use Rattle.iref.specs.PrefixTree.{with_child, HasRoom, IsAbsent, IsAdded, IsFirstDifference};
+ghost use Rattle.iref.specs.PrefixTree.{IsFirstOf, IsFit, IsLed, IsNear, IsNew, IsTree, IsWay, SameBits};
 
-use super::entry::{Entry, Key};
+use super::entry::{Entries, Entry, Key, Lead, text_of};
 use iref_parse::front::common_front;
 use iref_splice::Memory;
 use std::alloc::Global;
@@ -51,6 +53,12 @@ pub(super) struct Tree {
     nodes: Vec<Node>,
     // no text is shorter
     least: usize,
+    // how many bytes all texts begin with, as the root node says, and the last of them; 0 where no
+    // node is the root
+    front: usize,
+    last: u8,
+    // where the first entry of each text leads to, by its number
+    leads: Vec<Option<Lead>>,
 }
 
 // Where a text leads in a tree.
@@ -60,8 +68,8 @@ struct Near<'a> {
     number: usize,
     // the text of that entry
     text: &'a [u8],
-    // the last entry on the way whose text ends where others go on
-    ended: Option<usize>,
+    // the last entry on the way whose text ends where others go on, and which has a place
+    ended: Option<Lead>,
 }
 
 // The symbol of a text at a place: its byte with the bit `GOES_ON`, or 0 behind the text.
@@ -134,46 +142,64 @@ impl Node {
     }
 }
 
-// What an entry is found by.
+// The end of what is read of a text of this size: behind the first bytes and the next one. Where the
+// text is read whole the compiler finds so, which it does not by `min`.
 #[inline(always)]
-fn text_of<'a>(entries: &'a [Entry], key: Key, number: usize) -> &'a [u8]
-    requires { number < length entries.now }
-    ensures { result.now ≡ text_at (keys_of key entries.now) number }
+fn end_of(len: usize, size: usize) -> usize
+    ensures { result ≡ min size (len + 1) }
 {
-    entries[number].key(key).as_bytes()
+    if len < size { len + 1 } else { size }
+}
+
+// The byte before a place of a text, or 0 where the text begins.
+fn byte_before(text: &[u8], at: usize) -> u8
+    requires { at ≤ length text.now }
+    ensures { 0 < at → result ≡ slice_index_or text.now (at - 1) 0 }
+{
+    if at == 0 { 0 } else { text[at - 1] }
 }
 
 impl Tree {
     pub(super) fn new(alloc: Global) -> Self
-        ensures { IsTree [] result }
+        ensures tree { IsTree [] result }
+        ensures led { IsLed [] [] result.leads.items }
     {
         let nodes = Vec::new(alloc);
         let least = usize::MAX;
+        let leads = Vec::new(alloc);
         Tree {
             root: None,
             nodes,
             least,
+            front: 0,
+            last: 0,
+            leads,
         }
     }
 
     // Makes room for one more entry.
     pub(super) fn reserve(&mut self) -> Result<(), Memory>
         ensures tree { (texts : List Text) → IsTree texts self.old → IsTree texts self.new }
-        ensures room { OnOk result (vec_len self.new.nodes < vec_capacity self.new.nodes) }
+        ensures leads { self.new.leads.items ≡ self.old.leads.items }
+        ensures room { OnOk result (HasRoom self.new) }
     {
         self.nodes.reserve(1)?;
+        self.leads.reserve(1)?;
         Ok(())
     }
 
     // Where a text leads by the bits of its symbols up to this place.
     #[inline(always)]
-    fn near<'a>(&self, entries: &'a [Entry], key: Key, text: &[u8], len: usize) -> Option<Near<'a>>
-        requires tree { IsTree (keys_of key entries.now) self.now }
+    fn near<'a>(&self, entries: &'a Entries, key: Key, text: &[u8], len: usize) -> Option<Near<'a>>
+        requires tree { IsTree (keys_of key entries.now.all.items) self.now }
+        requires led { IsLed (keys_of key entries.now.all.items) entries.now.places.items
+            self.now.leads.items }
         requires len { len ≤ length text.now }
-        ensures { let texts = keys_of key entries.now in
-            MatchOption result (texts ≡ []) (IsNear texts text.now len) }
+        ensures { let texts = keys_of key entries.now.all.items in
+            MatchOption result (texts ≡ [])
+            (IsNear texts entries.now.places.items text.now len) }
     {
-        let end = text.len().min(len + 1);
+        let end = end_of(len, text.len());
         let mut child = self.root?;
         let mut ended = None;
         while let Child::Inner(at) = child {
@@ -182,7 +208,7 @@ impl Tree {
                 break;
             }
             if node.bit.shift == GOES_ON {
-                ended = Some(node.entry);
+                ended = self.leads[node.entry].or(ended);
                 child = node.right;
             } else {
                 child = node.child(node.bit.is_in(text));
@@ -203,84 +229,133 @@ impl Tree {
     // Whether an entry's text may be a beginning of this one: not if this one is shorter than all,
     // or differs from all in the last byte that these have in common from the front on.
     #[inline(always)]
-    fn may_fit(&self, entries: &[Entry], key: Key, text: &[u8]) -> bool
-        requires tree { IsTree (keys_of key entries.now) self.now }
-        ensures { result ≡ false → (n : ℕ) → IsFit (keys_of key entries.now) text.now n → ⊥ }
+    fn may_fit(&self, text: &[u8]) -> bool
+        ensures { result ≡ false → (texts : List Text) → IsTree texts self.now
+            → (n : ℕ) → IsFit texts text.now n → ⊥ }
     {
         if text.len() < self.least {
             return false;
         }
-        let Some(root) = self.root else {
-            return true;
-        };
-        let Child::Inner(at) = root else {
-            return true;
-        };
-        let node = &self.nodes[at];
-        let front = node.bit.at;
-        let entry = text_of(entries, key, node.entry);
-        front == 0 || (front <= text.len() && text[front - 1] == entry[front - 1])
+        let front = self.front;
+        front == 0 || (front <= text.len() && text[front - 1] == self.last)
     }
 
-    // The first entry of a text.
-    pub(super) fn entry_of<'a>(
-        &self,
-        entries: &'a [Entry],
-        key: Key,
-        text: &[u8],
-    ) -> Option<&'a Entry>
-        requires { IsTree (keys_of key entries.now) self.now }
-        ensures { option_copied result ≡ find (has_key key text.now) entries.now }
+    // The first entry that was ever added under a text, by its number.
+    pub(super) fn number_of(&self, entries: &Entries, key: Key, text: &[u8]) -> Option<usize>
+        requires tree { IsTree (keys_of key entries.now.all.items) self.now }
+        requires led { IsLed (keys_of key entries.now.all.items) entries.now.places.items
+            self.now.leads.items }
+        ensures { let texts = keys_of key entries.now.all.items in
+            MatchOption result (IsAbsent texts text.now) (IsFirstOf texts text.now) }
     {
-        if !self.may_fit(entries, key, text) {
+        if !self.may_fit(text) {
             return None;
         }
         let near = self.near(entries, key, text, text.len())?;
         if near.text == text {
-            Some(&entries[near.number])
+            Some(near.number)
         } else {
             None
         }
     }
 
-    // The first of the longest entries whose text is a beginning of this one.
-    pub(super) fn longest_fit<'a>(&self, entries: &'a [Entry], text: &[u8]) -> Option<&'a Entry>
-        requires { IsTree (keys_of Iri entries.now) self.now }
-        ensures { option_copied result ≡ longest_fit text.now entries.now }
+    // The first entry of the table that has this text.
+    pub(super) fn entry_of<'a>(
+        &self,
+        entries: &'a Entries,
+        key: Key,
+        text: &[u8],
+    ) -> Option<&'a Entry>
+        requires tree { IsTree (keys_of key entries.now.all.items) self.now }
+        requires led { IsLed (keys_of key entries.now.all.items) entries.now.places.items
+            self.now.leads.items }
+        requires within { AreWithin entries.now.all.items entries.now.places.items }
+        ensures { option_copied result
+            ≡ find (has_key key text.now) (table_of entries.now) }
     {
-        if !self.may_fit(entries, Key::Iri, text) {
+        let number = self.number_of(entries, key, text)?;
+        let lead = self.lead_of(number)?;
+        Some(&entries.all[lead.number])
+    }
+
+    // Where the nearest entry leads to, if its whole text is what is in common.
+    #[inline(always)]
+    fn lead_of_whole(&self, near: Near<'_>, common: usize) -> Option<Lead>
+        requires { near.number < length self.now.leads.items }
+        ensures whole { common ≡ length near.entry.text.now
+            → result ≡ lead_at self.now.leads.items near.entry.number }
+        ensures part { common ≢ length near.entry.text.now → result ≡ None }
+    {
+        if common == near.text.len() {
+            self.lead_of(near.number)
+        } else {
+            None
+        }
+    }
+
+    // The first of the longest entries of the table whose text is a beginning of this one.
+    pub(super) fn longest_fit<'a>(&self, entries: &'a Entries, text: &[u8]) -> Option<&'a Entry>
+        requires tree { IsTree (keys_of Iri entries.now.all.items) self.now }
+        requires led { IsLed (keys_of Iri entries.now.all.items) entries.now.places.items
+            self.now.leads.items }
+        requires within { AreWithin entries.now.all.items entries.now.places.items }
+        ensures { option_copied result ≡ longest_fit text.now (table_of entries.now) }
+    {
+        if !self.may_fit(text) {
             return None;
         }
         let near = self.near(entries, Key::Iri, text, text.len())?;
         let common = common_front(near.text, text);
-        if common == near.text.len() {
-            return Some(&entries[near.number]);
+        if let Some(lead) = self.lead_of_whole(near, common) {
+            return Some(&entries.all[lead.number]);
         }
-        let number = near.ended?;
-        let ended = &entries[number];
-        if ended.text().len() <= common {
-            return Some(ended);
+        let ended = near.ended?;
+        let entry = &entries.all[ended.number];
+        if entry.text().len() <= common {
+            return Some(entry);
         }
         let last = self.near(entries, Key::Iri, text, common)?;
-        let number = last.ended?;
-        Some(&entries[number])
+        let ended = last.ended?;
+        Some(&entries.all[ended.number])
+    }
+
+    // Adds the next entry under its text, which leads nowhere yet, and returns the first entry that
+    // was ever added under it.
+    pub(super) fn add(&mut self, entries: &Entries, key: Key, text: &[u8]) -> usize
+        requires tree { IsTree (keys_of key entries.now.all.items) self.old }
+        requires led { IsLed (keys_of key entries.now.all.items) entries.now.places.items
+            self.old.leads.items }
+        requires room { HasRoom self.old }
+        ensures tree { IsTree (keys_of key entries.now.all.items ++ text.now ∷ []) self.new }
+        ensures leads { self.new.leads.items ≡ self.old.leads.items ++ None ∷ [] }
+        ensures first { IsFirstOf (keys_of key entries.now.all.items ++ text.now ∷ [])
+            text.now result }
+    {
+        let first = self.add_text(entries, key, text);
+        self.leads.push_reserved(None);
+        first
     }
 
     // Adds the next entry under its text, unless an entry has the text.
-    pub(super) fn add(&mut self, entries: &[Entry], key: Key, text: &[u8])
-        requires tree { IsTree (keys_of key entries.now) self.old }
+    fn add_text(&mut self, entries: &Entries, key: Key, text: &[u8]) -> usize
+        requires tree { IsTree (keys_of key entries.now.all.items) self.old }
+        requires led { IsLed (keys_of key entries.now.all.items) entries.now.places.items
+            self.old.leads.items }
         requires room { vec_len self.old.nodes < vec_capacity self.old.nodes }
-        ensures { IsTree (keys_of key entries.now ++ text.now ∷ []) self.new }
+        ensures tree { IsTree (keys_of key entries.now.all.items ++ text.now ∷ []) self.new }
+        ensures leads { self.new.leads ≡ self.old.leads }
+        ensures first { IsFirstOf (keys_of key entries.now.all.items ++ text.now ∷ [])
+            text.now result }
     {
-        let number = entries.len();
+        let number = entries.all.len();
         self.least = self.least.min(text.len());
         let Some(near) = self.near(entries, key, text, text.len()) else {
             self.root = Some(Child::Leaf(number));
-            return;
+            return number;
         };
         let at = common_front(near.text, text);
         if at == text.len() && at == near.text.len() {
-            return;
+            return near.number;
         }
         let bit = Bit::of_difference(near.text, text, at);
         let entry = if at == near.text.len() {
@@ -289,6 +364,24 @@ impl Tree {
             number
         };
         self.put(bit, entry, text, number);
+        number
+    }
+
+    // Where the first entry of a text leads to.
+    pub(super) fn lead_of(&self, number: usize) -> Option<Lead>
+        requires { number < length self.now.leads.items }
+        ensures { result ≡ lead_at self.now.leads.items number }
+    {
+        self.leads[number]
+    }
+
+    // Has the first entry of a text lead there.
+    pub(super) fn set_lead(&mut self, number: usize, lead: Option<Lead>)
+        requires { number < length self.old.leads.items }
+        ensures tree { (texts : List Text) → IsTree texts self.old → IsTree texts self.new }
+        ensures leads { self.new.leads.items ≡ set self.old.leads.items number lead }
+    {
+        self.leads[number] = lead;
     }
 
     // Where a new text leads above this bit: below which node, on which side, and to which child.
@@ -317,7 +410,8 @@ impl Tree {
         requires added { (texts : List Text) × (n : ℕ)
             × IsAdded texts self.old text.now n bit entry number }
         requires room { vec_len self.old.nodes < vec_capacity self.old.nodes }
-        ensures { (texts : List Text) (n : ℕ)
+        ensures leads { self.new.leads ≡ self.old.leads }
+        ensures tree { (texts : List Text) (n : ℕ)
             → IsAdded texts self.old text.now n bit entry number
             → IsTree (texts ++ text.now ∷ []) self.new }
     {
@@ -344,6 +438,8 @@ impl Tree {
         self.nodes.push_reserved(node);
         let Some((at, side)) = above else {
             self.root = Some(new);
+            self.front = bit.at;
+            self.last = byte_before(text, bit.at);
             return;
         };
         self.nodes[at].set_child(side, new);

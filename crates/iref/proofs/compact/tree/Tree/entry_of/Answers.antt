@@ -1,23 +1,33 @@
-use Rattle.std.proofs.Common.{◌≡◌, sym, subst, ◌∙◌}
-use Rattle.std.proofs.lemmas.Bool.{both_ways}
-use Rattle.std.specs.Cmp.Lexicographic.{bytes_decides}
-use Rattle.iref.specs.PrefixTree.{AreBytes}
-use Rattle.iref.proofs.PrefixFindLemmas.{none_fits_none_is, found, near_is_not}
+use Rattle.std.proofs.Common.{rules, arith, ◌≡◌, length, ap, sym, ◌∙◌}
+use Rattle.std.proofs.lemmas.List.{length-map}
+use Rattle.std.specs.Prelude.{None, Some}
+use Rattle.std.specs.Option.{option_copied}
+use Rattle.iref.specs.PrefixTree.{key_of, keys_of}
+use Rattle.iref.proofs.PrefixFindLemmas.{absent_placed, none_placed, first_placed, entry_read, led_to, led_none}
 use Rattle.iref.proofs.compact.tree.Tree.entry_of.Goals as goal
 
-pub returns-then-not-may_fit : goal.returns-then-not-may_fit
-returns-then-not-may_fit c = sym (none_fits_none_is c.args.key c.args.text.now c.args.entries.now (c.may_fit.ensures c.if-not-may_fit.true))
+pub returns-in_err-number : goal.returns-in_err-number
+returns-in_err-number c =
+    let none : option_copied c.from_residual.result ≡ None = search rules in
+    none ∙ sym (absent_placed c.args.key c.args.entries.now.all.items c.args.entries.now.places.items c.args.text.now c.requires.within c.in_err-number.ensures)
 
-pub returns-then-eq : goal.returns-then-eq
-returns-then-eq c =
-    let near = c.in_ok-near.near in
-    let is = c.in_ok-near.ensures in
-    let same : near.text.now ≡ c.args.text.now = (bytes_decides near.text.now c.args.text.now).0 (sym c.eq.ensures ∙ c.if-eq.true) in
-    sym (found c.args.key c.args.entries.now near.number is.first c.index-entries-near.result c.args.text.now c.index-entries-near.is (sym is.is ∙ same))
+pub returns-in_err-lead : goal.returns-in_err-lead
+returns-in_err-lead c =
+    let none : option_copied c.from_residual-in_err-lead.result ≡ None = search rules in
+    none ∙ sym (none_placed c.args.key c.args.entries.now.all.items c.args.entries.now.places.items c.args.text.now
+    (led_none (keys_of c.args.key c.args.entries.now.all.items) c.args.entries.now.places.items c.args.self.now.leads.items c.args.text.now c.in_ok-number.number c.requires.led c.in_ok-number.ensures (sym c.lead_of.ensures ∙ c.in_err-lead.was)))
 
-pub returns-else-eq : goal.returns-else-eq
-returns-else-eq c =
-    let near = c.in_ok-near.near in
-    let is = c.in_ok-near.ensures in
-    let own : AreBytes near.text.now = subst AreBytes (sym is.is) (c.requires.bytes near.number is.first.within) in
-    sym (near_is_not c.args.key c.args.text.now c.args.entries.now near own is (λ same. both_ways _ (sym c.eq.ensures ∙ c.if-eq.false) ((bytes_decides near.text.now c.args.text.now).1 same)))
+pub lead_of-requires : goal.lead_of-requires
+lead_of-requires c = let l = c.in_ok-number.ensures.0.within in omega (arith, c.requires.led.long)
+
+pub index-requires : goal.index-requires
+index-requires c =
+    let led = led_to (keys_of c.args.key c.args.entries.now.all.items) c.args.entries.now.places.items c.args.self.now.leads.items c.args.text.now c.in_ok-number.number c.in_ok-lead.lead c.requires.led c.in_ok-number.ensures (sym c.lead_of.ensures ∙ c.in_ok-lead.was) in
+    omega (arith, led.within, length-map c.args.entries.now.all.items (key_of c.args.key))
+
+pub returns : goal.returns
+returns c =
+    let all = c.args.entries.now.all.items in
+    let led = led_to (keys_of c.args.key all) c.args.entries.now.places.items c.args.self.now.leads.items c.args.text.now c.in_ok-number.number c.in_ok-lead.lead c.requires.led c.in_ok-number.ensures (sym c.lead_of.ensures ∙ c.in_ok-lead.was) in
+    ap (λ e. Some e) (entry_read all c.in_ok-lead.lead.number c.index.result.now (omega (arith, led.within, length-map all (key_of c.args.key))) c.index.ensures)
+    ∙ sym (first_placed c.args.key all c.args.entries.now.places.items c.args.text.now c.in_ok-lead.lead led)
