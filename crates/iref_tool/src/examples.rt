@@ -13,20 +13,19 @@ use iref::Memory;
 use iref::compact::Prefixes;
 use iref::iri::{Iri, IriRef};
 use iref::uri::Uri;
-use iref_examples::cache::{self, Cache};
+use iref_examples::cache::Cache;
 use iref_examples::context::shortened;
 use iref_examples::mirror::relinked;
 use iref_examples::validator::checked;
 use iref_parse::cut::cut_bytes;
 use std::alloc::Global;
-use std::collections::HashMap;
 use std::hash::RandomState;
 use std::str;
 
 /// What lasts from line to line.
 #[derive(Drop)]
 pub struct Tables {
-    cache: Cache,
+    cache: Cache<String>,
     buffer: String,
     context: Prefixes,
 }
@@ -35,7 +34,7 @@ impl Tables {
     /// No entries, and a seed for hashes.
     pub fn new(alloc: Global, seed: RandomState) -> Self {
         Tables {
-            cache: HashMap::with_hasher(alloc, seed),
+            cache: Cache::new(alloc, seed),
             buffer: String::new(alloc),
             context: Prefixes::new(alloc),
         }
@@ -46,11 +45,11 @@ fn owned(alloc: Global, text: &str) -> Result<String, Memory> {
     Ok(String::from_str(alloc, text)?)
 }
 
-fn put(alloc: Global, cache: &mut Cache, uri: &str, value: &str) -> Result<String, Memory> {
+fn put(alloc: Global, cache: &mut Cache<String>, uri: &str, value: &str) -> Result<String, Memory> {
     let Ok(uri) = Uri::new(uri) else {
         return owned(alloc, "error invalid");
     };
-    cache::put(alloc, cache, uri, owned(alloc, value)?)?;
+    cache.put(alloc, uri, owned(alloc, value)?)?;
     owned(alloc, "ok")
 }
 
@@ -58,7 +57,7 @@ fn get(alloc: Global, tables: &mut Tables, uri: &str) -> Result<String, Memory> 
     let Ok(uri) = Uri::new(uri) else {
         return owned(alloc, "error invalid");
     };
-    match cache::get(&tables.cache, uri, &mut tables.buffer)? {
+    match tables.cache.get(uri, &mut tables.buffer)? {
         Some(value) => Ok(format!(in alloc; "={value}")?),
         None => owned(alloc, "-"),
     }
