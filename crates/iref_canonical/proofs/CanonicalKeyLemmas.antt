@@ -31,7 +31,7 @@ use Rattle.iref_model.proofs.StepSegmentLemmas.{normal-in}
 use Rattle.iref_model.proofs.MappedCharLemmas.{utf8_bytes}
 use Rattle.iref_model.proofs.MappedMarkLemmas.{is_some-map}
 use Rattle.iref_model.proofs.MappedRuleLemmas.{IfSome_mapped}
-use Rattle.iref_canonical.specs.Canonical.{encoded, canonical_authority, canonical_parts, canonical}
+use Rattle.iref_canonical.specs.Canonical.{encoded, canonical_authority, canonical_parts, canonical, spelled}
 use Rattle.iref_canonical.proofs.EncodedTextLemmas.{encoded-in}
 use Rattle.iref_canonical.proofs.PlainCharacterLemmas.{plain_query, plain_fragment}
 use Rattle.iref_canonical.proofs.CanonicalPathLemmas.{AreBytes, canonical_items-in, path_key-canonical}
@@ -67,7 +67,7 @@ authority-back (Some a) h = ap (λ x. Some x) (authority_key-canonical a h)
 
 -- the canonical reference is readable
 pub readable-canonical : (k : ReferenceValue) → IsKey k → is_readable uri_chars (canonical k) ≡ true
-unfolding canonical
+unfolding spelled
 readable-canonical k h = guarded_reference-readable uri_chars (canonical_parts k) (record {
   scheme = h.scheme;
   authority = authority-in k.authority h.authority;
@@ -81,7 +81,7 @@ context_of-parts k = λ i. record { has_scheme = is_some k.scheme; has_authority
 
 -- and its key is the key
 pub key-canonical : (k : ReferenceValue) → IsKey k → key (canonical k) ≡ k
-unfolding key canonical
+unfolding key spelled
 key-canonical k h =
     let context = context_of (canonical_parts k) in
     let follows = ap (λ context. follows_authority context k.path) (context_of-parts k) ∙ h.follows in
@@ -95,7 +95,7 @@ key-canonical k h =
 
 -- a scheme is there where one was
 pub scheme-canonical : (r : ReferenceValue) → is_some (canonical (key r)).scheme ≡ is_some r.scheme
-unfolding key canonical
+unfolding key spelled
 scheme-canonical r = is_some-map str_to_ascii_lowercase r.scheme
 
 -- ---- to a key

@@ -28,7 +28,7 @@ use Rattle.iref_model.specs.PathKey.{path_key}
 use Rattle.iref_model.proofs.MappedLemmas.{length-escape}
 use Rattle.iref_path.specs.Spelling.{each_closed}
 use Rattle.iref_path.proofs.SpellLemmas.{length-join, normal_size, size-cons}
-use Rattle.iref_canonical.specs.Canonical.{canonical, canonical_authority, canonical_host, canonical_items, canonical_name, canonical_parts, canonical_path, canonical_relative, canonical_text, encoded, encoded_byte}
+use Rattle.iref_canonical.specs.Canonical.{canonical_authority, canonical_host, canonical_items, canonical_name, canonical_parts, canonical_path, canonical_relative, canonical_text, encoded, encoded_byte, spelled_relative, spelled}
 
 -- ---- texts
 
@@ -101,7 +101,7 @@ names_size [] = omega arith
 names_size (s ∷ list) = omega (arith, name_size s, names_size list, size-cons s list, size-cons (canonical_name s) (map canonical_name list))
 
 relative_size : (list : List Text) → length (each_closed (canonical_relative list)) ≤ 3 * length (each_closed list)
-unfolding canonical_relative
+unfolding spelled_relative
 relative_size [] = omega arith
 relative_size (s ∷ list) = by (is_dot_dot s && not (is_empty list)) (relative_size list)
   where
@@ -151,7 +151,7 @@ path_size context p =
 -- ---- all
 
 text_of_value_size : (r : ReferenceValue) → length (canonical_text (key r)) ≤ 3 * length (spell r) + 9
-unfolding canonical key spell
+unfolding spelled key spell
 text_of_value_size r =
     let k = key r in
     let scheme = part_then (colon ∷ []) r.scheme in

@@ -25,7 +25,7 @@ use Rattle.iref_model.proofs.JoinedLemmas.{are_names, climbs, open-names, stayin
 use Rattle.iref_model.proofs.NormalPathLemmas.{normal-guarded}
 use Rattle.iref_model.proofs.PathGrammarLemmas.{is_segment-dot_dot}
 use Rattle.iref_model.proofs.SettledLemmas.{leading, normal-is, ends-names}
-use Rattle.iref_canonical.specs.Canonical.{encoded, canonical_name, canonical_relative, canonical_items, canonical_path}
+use Rattle.iref_canonical.specs.Canonical.{encoded, canonical_name, canonical_relative, canonical_items, canonical_path, spelled_relative}
 use Rattle.iref_canonical.proofs.EncodedTextLemmas.{decoded-encoded, encoded-in}
 use Rattle.iref_canonical.proofs.PlainCharacterLemmas.{plain_path}
 
@@ -140,7 +140,7 @@ parent_normal list some n =
 -- ---- relative lists
 
 is_empty-canonical_relative : (items : List Text) → is_empty (canonical_relative items) ≡ is_empty items
-unfolding canonical_relative
+unfolding spelled_relative
 is_empty-canonical_relative [] = refl
 is_empty-canonical_relative (item ∷ rest) = by (is_dot_dot item && not (is_empty rest))
   where
@@ -155,7 +155,7 @@ parent_stands item rest e =
     ((bytes_decides item (codes "..")).0 both.0, is_empty-canonical_relative rest ∙ not-true (is_empty rest) both.1)
 
 canonical_relative_normal : (items : List Text) → AreBytes items → IsNormal false (canonical_relative items)
-unfolding canonical_relative
+unfolding spelled_relative
 canonical_relative_normal [] small = names_normal false [] refl
 canonical_relative_normal (item ∷ rest) small = by (is_dot_dot item && not (is_empty rest)) refl (canonical_relative_normal rest small.1)
   where
@@ -166,7 +166,7 @@ canonical_relative_normal (item ∷ rest) small = by (is_dot_dot item && not (is
     by false e n = names_normal false (map canonical_name (item ∷ rest)) (are_names-canonical_names (item ∷ rest) small)
 
 decoded-canonical_relative : (items : List Text) → AreBytes items → map percent_decode (canonical_relative items) ≡ items
-unfolding canonical_relative
+unfolding spelled_relative
 decoded-canonical_relative [] small = refl
 decoded-canonical_relative (item ∷ rest) small = by (is_dot_dot item && not (is_empty rest)) refl (decoded-canonical_relative rest small.1)
   where
@@ -177,7 +177,7 @@ decoded-canonical_relative (item ∷ rest) small = by (is_dot_dot item && not (i
     by false e back = decoded-canonical_names (item ∷ rest) small
 
 canonical_relative-in : (items : List Text) → list_all (is_segment uri_chars) (canonical_relative items) ≡ true
-unfolding canonical_relative
+unfolding spelled_relative
 canonical_relative-in [] = refl
 canonical_relative-in (item ∷ rest) = by (is_dot_dot item && not (is_empty rest)) refl (canonical_relative-in rest)
   where

@@ -14,7 +14,7 @@ use Rattle.iref_model.specs.Guard.{guarded}
 use Rattle.iref_model.specs.NormalList.{normal_segments, excess, staying_names}
 use Rattle.iref_model.specs.PathKey.{path_key}
 use Rattle.iref_model.specs.Key.{key}
-use Rattle.iref_canonical.specs.Canonical.{encoded, canonical_relative, canonical, canonical_text}
+use Rattle.iref_canonical.specs.Canonical.{canonical_text, encoded, spelled, spelled_relative}
 
 -- the canonical text of a text
 abbrev canonical_of : Text → Text
@@ -56,13 +56,13 @@ references =
 
 references_hold : map (λ row. canonical_of row.0) references ≡ map (λ row. codes row.1) references
 unfolding read_reference read_authority read_path key path_key normal_segments excess staying_names percent_decode encode_utf8
-    canonical encoded canonical_relative percent_encode_byte is_reg_name_char is_user_info_char is_path_char is_fragment_char is_query_char
+    spelled encoded spelled_relative percent_encode_byte is_reg_name_char is_user_info_char is_path_char is_fragment_char is_query_char
     is_ip_literal is_ipvfuture ipv4_value ipv6_value guarded spell spell_authority spell_path
 references_hold = refl
 
 -- and each is its own canonical text
 again_hold : map (λ row. canonical_of (codes row.1)) references ≡ map (λ row. codes row.1) references
 unfolding read_reference read_authority read_path key path_key normal_segments excess staying_names percent_decode encode_utf8
-    canonical encoded canonical_relative percent_encode_byte is_reg_name_char is_user_info_char is_path_char is_fragment_char is_query_char
+    spelled encoded spelled_relative percent_encode_byte is_reg_name_char is_user_info_char is_path_char is_fragment_char is_query_char
     is_ip_literal is_ipvfuture ipv4_value ipv6_value guarded spell spell_authority spell_path
 again_hold = refl

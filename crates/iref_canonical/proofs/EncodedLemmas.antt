@@ -1,40 +1,102 @@
 -- Bytes that are decoded and encoded anew.
-use Rattle.std.proofs.Common.{◌≡◌, ℕ, true, cond, [], ◌∷◌, ◌++◌, refl, ◌∙◌, ap}
-use Rattle.std.proofs.lemmas.Bool.{and_parts, not-true}
+use Rattle.std.proofs.Common.{◌≡◌, ℕ, ◌<◌, Bool, true, false, not, cond, ◌&&◌, ◌||◌, [], ◌∷◌, ◌++◌, refl, sym, ◌∙◌, ap}
+use Rattle.std.specs.Char.{is_ascii}
+use Rattle.std.specs.List.{list_all}
+use Rattle.std.proofs.lemmas.Bool.{agree_below_at, and_from, and_parts, ltb-true, not-true}
+use Rattle.std.proofs.lemmas.Grind.{flat_map-append}
 use Rattle.std.proofs.lemmas.List.{append-nil}
 use Rattle.percent_encoding.specs.declared.ascii_set.AsciiSet.{AsciiSet}
-use Rattle.percent_encoding.specs.Percent.{encode_byte, percent_decode, percent_encode, percent_encode_byte, percent_sign}
-use Rattle.percent_encoding.proofs.PercentLemmas.{percent_encode-append, percent_encode-nil, percent_decode-nil}
+use Rattle.percent_encoding.specs.AsciiSet.{should_percent_encode}
+use Rattle.percent_encoding.specs.Percent.{percent_decode, percent_encode_byte, percent_sign}
+use Rattle.percent_encoding.proofs.PercentLemmas.{percent_decode-nil}
 use Rattle.iref_grammar.specs.Grammar.{is_not_percent}
 use Rattle.iref_grammar.specs.Rules.{Text}
 use Rattle.iref_grammar.proofs.LackLemmas.{all_lacks}
-use Rattle.iref_canonical.specs.Decoded.{SplitsLast, is_byte_passed, is_passed}
+use Rattle.iref_parse.specs.Plain.{is_name_byte}
+use Rattle.iref_canonical.specs.Canonical.{is_raw}
+use Rattle.iref_canonical.specs.Decoded.{SparesNames, SplitsLast, is_byte_passed, is_escaped, is_passed, recoded, recoded_byte}
+use Rattle.iref_canonical.specs.declared.authority.TheConstants.{NOTHING}
+use Rattle.iref_canonical.specs.declared.encoded.TheConstants.{QUERY, REG_NAME, SEGMENT, USER_INFO}
 use Rattle.iref_canonical.proofs.CanonicalPartLemmas.{decoded-lacks}
 
-encode-one : (set : AsciiSet) (b : ℕ) → percent_encode set (b ∷ []) ≡ encode_byte set b
-unfolding percent_encode
-encode-one set b = append-nil (encode_byte set b)
+-- ---- names
 
--- the last byte is encoded last
-pub encoded-last : (set : AsciiSet) (text front : Text) (byte : ℕ) → SplitsLast percent_decode text front byte
-    → percent_encode set (percent_decode text) ≡ percent_encode set (percent_decode front) ++ encode_byte set byte
-encoded-last set text front byte h =
-    ap (percent_encode set) h.split ∙ percent_encode-append set (percent_decode front) (byte ∷ []) ∙ ap (λ t. percent_encode set (percent_decode front) ++ t) (encode-one set byte)
+pub and-false : (b : Bool) → (b && false) ≡ false
+and-false true = refl
+and-false false = refl
 
-pub encoded-nothing : (set : AsciiSet) (text : Text) → text ≡ [] → percent_encode set (percent_decode text) ≡ []
-encoded-nothing set text e = ap (λ t. percent_encode set (percent_decode t)) e ∙ ap (percent_encode set) percent_decode-nil ∙ percent_encode-nil set
+-- what holds of each number below 128 holds of a character of a name
+module _ (test : ℕ → Bool) (all : (b : ℕ) → b < 128 → (not (is_name_byte b) || test b) ≡ true) where
+  each_name : (b : ℕ) → is_name_byte b ≡ true → test b ≡ true
+  each_name b h = (λ i. not (sym h i) || test b) ∙ all b (ltb-true b 128 (and_parts (is_ascii b) _ h).0)
 
-passed-encoded : (set : AsciiSet) (text : Text) → is_passed set text ≡ true → percent_encode set text ≡ text
-unfolding percent_encode
-passed-encoded set [] h = refl
-passed-encoded set (b ∷ bytes) h =
-    let both = and_parts (is_byte_passed set b) (is_passed set bytes) h in
-    let kept = not-true _ (and_parts (is_not_percent b) _ both.0).1 in
-    λ i. cond (kept i) (percent_encode_byte b) (b ∷ []) ++ passed-encoded set bytes both.1 i
+name_other : (b : ℕ) → is_name_byte b ≡ true → is_not_percent b ≡ true
+name_other = each_name is_not_percent (λ b l. agree_below_at (λ c. not (is_name_byte c) || is_not_percent c) (λ c. true) 128 b refl l)
 
--- a text of such bytes stands
-pub encoded-already : (set : AsciiSet) (text : Text) → is_passed set text ≡ true → percent_encode set (percent_decode text) ≡ text
-encoded-already set text h =
-    ap (percent_encode set) (decoded-lacks text (all_lacks (is_byte_passed set) percent_sign refl text h)) ∙ passed-encoded set text h
+spares : (set : AsciiSet) → ((b : ℕ) → b < 128 → (not (is_name_byte b) || not (should_percent_encode set b)) ≡ true) → SparesNames set
+spares set all b h = not-true (should_percent_encode set b) (each_name (λ c. not (should_percent_encode set c)) all b h)
 
-pub ruleset lasts = (encoded-last, encoded-nothing, encoded-already)
+pub spared-nothing : SparesNames NOTHING
+unfolding should_percent_encode
+spared-nothing = spares NOTHING (λ b l. agree_below_at (λ c. not (is_name_byte c) || not (should_percent_encode NOTHING c)) (λ c. true) 128 b refl l)
+
+pub spared-name : SparesNames REG_NAME
+unfolding should_percent_encode
+spared-name = spares REG_NAME (λ b l. agree_below_at (λ c. not (is_name_byte c) || not (should_percent_encode REG_NAME c)) (λ c. true) 128 b refl l)
+
+pub spared-user_info : SparesNames USER_INFO
+unfolding should_percent_encode
+spared-user_info = spares USER_INFO (λ b l. agree_below_at (λ c. not (is_name_byte c) || not (should_percent_encode USER_INFO c)) (λ c. true) 128 b refl l)
+
+pub spared-segment : SparesNames SEGMENT
+unfolding should_percent_encode
+spared-segment = spares SEGMENT (λ b l. agree_below_at (λ c. not (is_name_byte c) || not (should_percent_encode SEGMENT c)) (λ c. true) 128 b refl l)
+
+pub spared-query : SparesNames QUERY
+unfolding should_percent_encode
+spared-query = spares QUERY (λ b l. agree_below_at (λ c. not (is_name_byte c) || not (should_percent_encode QUERY c)) (λ c. true) 128 b refl l)
+
+pub ruleset spared = (spared-nothing, spared-name, spared-user_info, spared-segment, spared-query)
+
+-- ---- bytes that are encoded anew
+
+module _ (raw : Bool) (set : AsciiSet) where
+  -- the last byte is encoded last
+  recoded-last : (front : Text) (byte : ℕ) → recoded raw set (front ++ byte ∷ []) ≡ recoded raw set front ++ recoded_byte raw set byte
+  unfolding recoded
+  recoded-last front byte = flat_map-append (recoded_byte raw set) front (byte ∷ []) ∙ ap (λ t. recoded raw set front ++ t) (append-nil (recoded_byte raw set byte))
+
+  pub encoded-last : (text front : Text) (byte : ℕ) → SplitsLast percent_decode text front byte
+      → recoded raw set (percent_decode text) ≡ recoded raw set (percent_decode front) ++ recoded_byte raw set byte
+  encoded-last text front byte h = ap (recoded raw set) h.split ∙ recoded-last (percent_decode front) byte
+
+  pub encoded-nothing : (text : Text) → text ≡ [] → recoded raw set (percent_decode text) ≡ []
+  unfolding recoded
+  encoded-nothing text e = ap (λ t. recoded raw set (percent_decode t)) e ∙ ap (recoded raw set) percent_decode-nil
+
+  passed-encoded : (text : Text) → is_passed raw set text ≡ true → recoded raw set text ≡ text
+  unfolding recoded recoded_byte is_passed
+  passed-encoded [] h = refl
+  passed-encoded (b ∷ bytes) h =
+      let both = and_parts (is_byte_passed raw set b) (is_passed raw set bytes) h in
+      let kept = not-true _ (and_parts (is_not_percent b) _ both.0).1 in
+      λ i. cond (kept i) (percent_encode_byte b) (b ∷ []) ++ passed-encoded bytes both.1 i
+
+  names-passed : SparesNames set → (text : Text) → list_all is_name_byte text ≡ true → is_passed raw set text ≡ true
+  unfolding is_passed is_escaped
+  names-passed spares [] h = refl
+  names-passed spares (b ∷ bytes) h =
+      let both = and_parts (is_name_byte b) (list_all is_name_byte bytes) h in
+      let stays = ap (λ e. not (not (raw && is_raw b) && e)) (spares b both.0) ∙ ap not (and-false (not (raw && is_raw b))) in
+      and_from (is_byte_passed raw set b) (is_passed raw set bytes) (and_from (is_not_percent b) _ (name_other b both.0) stays) (names-passed spares bytes both.1)
+
+  -- a text of such bytes stands
+  pub encoded-already : (text : Text) → is_passed raw set text ≡ true → recoded raw set (percent_decode text) ≡ text
+  unfolding is_passed
+  encoded-already text h =
+      ap (recoded raw set) (decoded-lacks text (all_lacks (is_byte_passed raw set) percent_sign refl text h)) ∙ passed-encoded text h
+
+  pub encoded-names : SparesNames set → (text : Text) → list_all is_name_byte text ≡ true → recoded raw set (percent_decode text) ≡ text
+  encoded-names spares text h = encoded-already text (names-passed spares text h)
+
+pub ruleset lasts = (encoded-last, encoded-nothing, encoded-already, encoded-names)

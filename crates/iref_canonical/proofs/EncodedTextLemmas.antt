@@ -36,7 +36,7 @@ pub record IsPlain (test : ℕ → Bool) : Type 0 where
   pub percent : test percent_sign ≡ false
 
 -- an escape before a text leaves nothing owed
-is_encoded-escape : (test : ℕ → Bool) (b : ℕ) (rest : Text) → is_encoded test (percent_encode_byte b ++ rest) ≡ is_encoded test rest
+pub is_encoded-escape : (test : ℕ → Bool) (b : ℕ) (rest : Text) → is_encoded test (percent_encode_byte b ++ rest) ≡ is_encoded test rest
 unfolding percent_encode_byte
 is_encoded-escape test b rest =
     let high = digit_glyph true (b / 16 % 16) in

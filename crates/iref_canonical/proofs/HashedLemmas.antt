@@ -1,29 +1,27 @@
 -- What is hashed of a reference, and of a path alone, determines its key.
-use Rattle.std.proofs.Common.{◌≡◌, ℕ, true, not, ◌==◌, [], ◌∷◌, refl, sym, ◌∙◌, ap, subst, arith}
-use Rattle.std.proofs.lemmas.Bool.{and_from, and_parts}
-use Rattle.std.proofs.lemmas.Bool.Decides.{nat_tests}
-use Rattle.std.specs.Char.{is_ascii}
+use Rattle.std.proofs.Common.{◌≡◌, true, refl, sym, ◌∙◌, ap, subst}
 use Rattle.std.specs.List.{list_all}
 use Rattle.iref_grammar.specs.Characters.{CharTests, AreAboveAscii, uri_chars, uri_above_ascii}
 use Rattle.iref_grammar.specs.Grammar.{IsSegment}
 use Rattle.iref_grammar.specs.PathValue.{PathValue}
 use Rattle.iref_grammar.specs.Reference.{ReferenceValue, IsReadable}
-use Rattle.iref_grammar.specs.Rules.{Text, InUtf8}
+use Rattle.iref_grammar.specs.Rules.{InUtf8}
 use Rattle.iref_grammar.specs.Tests.{is_segment}
 use Rattle.iref_grammar.proofs.LeafLemmas.{Decides-is_segment}
 use Rattle.iref_grammar.proofs.PartRuleLemmas.{Decides-all}
-use Rattle.iref_grammar.proofs.ReferenceRuleLemmas.{Decides-is_readable, in_utf8-reference, one_spelling}
+use Rattle.iref_grammar.proofs.ReferenceRuleLemmas.{Decides-is_readable, one_spelling}
 use Rattle.iref_model.specs.Key.{key}
+use Rattle.iref_model.specs.Mapping.{mapped}
 use Rattle.iref_model.specs.NormalList.{normal_segments}
 use Rattle.iref_model.specs.PathKey.{path_key}
-use Rattle.iref_model.proofs.AsciiReferenceLemmas.{uri_reference_ascii}
 use Rattle.iref_model.proofs.NormalGrammarLemmas.{takes_dots}
 use Rattle.iref_model.proofs.SettledLemmas.{lone-normal}
 use Rattle.iref_model.proofs.StepSegmentLemmas.{normal-in}
-use Rattle.iref_splice.specs.Fed.{is_unended, IsSelfDelimiting}
+use Rattle.iref_splice.specs.Fed.{IsSelfDelimiting}
 use Rattle.iref_splice.proofs.DelimitLemmas.{text-delimits}
-use Rattle.iref_canonical.specs.Canonical.{canonical, canonical_text}
+use Rattle.iref_canonical.specs.Canonical.{canonical, canonical_text, hashed_text}
 use Rattle.iref_canonical.specs.Hashed.{fed_lone_path, fed_reference, IsPathKey, IsReadableKey, path_alone}
+use Rattle.iref_canonical.proofs.HashedTextLemmas.{hashed-mapped, hashed-unended}
 use Rattle.iref_canonical.proofs.CanonicalKeyLemmas.{IsKey, decoded_items, decoded_some, is_key, key-canonical, readable-canonical}
 
 -- ---- of keys of readable references
@@ -31,28 +29,18 @@ use Rattle.iref_canonical.proofs.CanonicalKeyLemmas.{IsKey, decoded_items, decod
 readable : (k : ReferenceValue) → IsKey k → IsReadable uri_chars (canonical k)
 readable k h = (Decides-is_readable uri_chars uri_above_ascii (canonical k)).0 (readable-canonical k h)
 
--- the canonical text tells the key
-one_text : (k l : ReferenceValue) → IsKey k → IsKey l → canonical_text k ≡ canonical_text l → k ≡ l
-one_text k l h j e = sym (key-canonical k h) ∙ ap key (one_spelling uri_chars uri_above_ascii (canonical k) (canonical l) (readable k h) (readable l j) e) ∙ key-canonical l j
+-- the canonical text tells the key, and so does the text that is hashed
+canonical_tells : (k l : ReferenceValue) → IsKey k → IsKey l → canonical_text k ≡ canonical_text l → k ≡ l
+canonical_tells k l h j e =
+    sym (key-canonical k h) ∙ ap key (one_spelling uri_chars uri_above_ascii (canonical k) (canonical l) (readable k h) (readable l j) e) ∙ key-canonical l j
 
-not_255 : (b : ℕ) → is_ascii b ≡ true → not (b == 255) ≡ true
-not_255 b h = grind (arith, nat_tests)
-
-pub ascii_unended : (text : Text) → list_all is_ascii text ≡ true → is_unended text ≡ true
-ascii_unended [] h = refl
-ascii_unended (b ∷ bs) h =
-    let both = and_parts (is_ascii b) (list_all is_ascii bs) h in
-    and_from (not (b == 255)) (is_unended bs) (not_255 b both.0) (ascii_unended bs both.1)
-
-unended : (k : ReferenceValue) → IsKey k → is_unended (canonical_text k) ≡ true
-unended k h =
-    ascii_unended (canonical_text k)
-    (uri_reference_ascii (canonical_text k) ((in_utf8-reference uri_chars uri_above_ascii (canonical_text k)).1 (canonical k, readable k h, refl)))
+one_text : (k l : ReferenceValue) → IsKey k → IsKey l → hashed_text k ≡ hashed_text l → k ≡ l
+one_text k l h j e = canonical_tells k l h j (sym (hashed-mapped k h) ∙ ap mapped e ∙ hashed-mapped l j)
 
 keys-delimit : IsSelfDelimiting IsKey fed_reference
 unfolding fed_reference
 keys-delimit k l h j r s e =
-    let both = text-delimits (canonical_text k) (canonical_text l) (unended k h) (unended l j) r s e in
+    let both = text-delimits (hashed_text k) (hashed_text l) (hashed-unended k h) (hashed-unended l j) r s e in
     (one_text k l h j both.0, both.1)
 
 pub reference-delimits : IsSelfDelimiting IsReadableKey fed_reference

@@ -21,9 +21,10 @@ use Rattle.iref_splice.proofs.DelimitLemmas.{text-delimits}
 use Rattle.iref_canonical.specs.Decoded.{SplitsLast}
 use Rattle.iref_canonical.specs.Lower.{is_lower}
 use Rattle.iref_canonical.proofs.PlainReferenceLemmas.{lower_same}
-use Rattle.iref_canonical.proofs.PlainTextLemmas.{unescaped-decoded}
+use Rattle.iref_canonical.proofs.PlainTextLemmas.{standing-decoded}
 use Rattle.iref_canonical.specs.Hashed.{fed_lone_path, IsPathKey}
-use Rattle.iref_canonical.proofs.HashedLemmas.{ascii_unended, path-delimits}
+use Rattle.iref_canonical.proofs.HashedLemmas.{path-delimits}
+use Rattle.iref_canonical.proofs.HashedTextLemmas.{ascii-unended}
 use Rattle.iref_canonical.specs.HashedParts.{fed_authority, fed_components, fed_part, HasPathKey, hashed_byte, hashed_bytes, IsAny}
 
 -- ---- of a text
@@ -44,7 +45,7 @@ unended-hashed [] = refl
 unended-hashed (b ∷ bs) = by (is_hashed_escaped b) refl (unended-hashed bs)
   where
     by : (escaped : Bool) → is_hashed_escaped b ≡ escaped → is_unended (hashed_bytes bs) ≡ true → is_unended (cond escaped (percent_encode_byte b) (b ∷ []) ++ hashed_bytes bs) ≡ true
-    by true e rest = list_all-append _ (percent_encode_byte b) (hashed_bytes bs) ∙ and_from _ _ (ascii_unended (percent_encode_byte b) (escape_ascii b)) rest
+    by true e rest = list_all-append _ (percent_encode_byte b) (hashed_bytes bs) ∙ and_from _ _ (ascii-unended (percent_encode_byte b) (escape_ascii b)) rest
     by false e rest = and_from (not (b == 255)) (is_unended (hashed_bytes bs)) (grind (arith, nat_tests)) rest
 
 -- a text of ASCII without `%` stands
@@ -141,7 +142,7 @@ pub ruleset last = (last-split)
 -- ---- of a text that stands
 
 pub decoded-stands : (text : Text) → list_all is_unescaped_byte text ≡ true → hashed_bytes (percent_decode text) ≡ text
-decoded-stands text h = ap hashed_bytes (unescaped-decoded text h) ∙ hashed-unescaped text h
+decoded-stands text h = ap hashed_bytes (standing-decoded false text h) ∙ hashed-unescaped text h
 
 pub lower-stands : (text : Text) → list_all is_unescaped_byte text ≡ true → is_lower text ≡ true → hashed_bytes (str_to_ascii_lowercase text) ≡ text
 lower-stands text h low = ap hashed_bytes (lower_same text low) ∙ hashed-unescaped text h

@@ -1,6 +1,6 @@
 -- Worked rows of what is hashed, computed: a list of writes, each a list of bytes.
 use Prim.Native.String.{String}
-use Rattle.std.specs.Prelude.{◌≡◌, [], ◌∷◌, map, codes, refl}
+use Rattle.std.specs.Prelude.{◌≡◌, [], ◌∷◌, map, refl}
 use Rattle.std.specs.Char.{encode_utf8}
 use Rattle.std.specs.Hash.{HashWrites}
 use Rattle.percent_encoding.specs.Percent.{percent_encode_byte, percent_decode}
@@ -16,13 +16,13 @@ use Rattle.iref_model.specs.NormalList.{normal_segments, excess, staying_names}
 use Rattle.iref_model.specs.PathKey.{path_key}
 use Rattle.iref_model.proofs.Rows.{utf8}
 use Rattle.iref_splice.specs.Fed.{fed_text, waiting_after, written_after}
-use Rattle.iref_canonical.specs.Canonical.{encoded, canonical_relative, canonical}
+use Rattle.iref_canonical.specs.Canonical.{encoded, spelled, spelled_relative}
 use Rattle.iref_canonical.specs.Hashed.{fed_lone_path, fed_reference}
 use Rattle.iref_canonical.specs.HashedParts.{fed_part}
 
 -- a short text, and 255
 abbrev ended : String → HashWrites
-ended text = codes text ∷ (255 ∷ []) ∷ []
+ended text = utf8 text ∷ (255 ∷ []) ∷ []
 
 abbrev fed_as_reference : String → HashWrites
 fed_as_reference text = fed_reference (key (read_reference (utf8 text)))
@@ -35,14 +35,14 @@ abbrev fed_as_part : String → HashWrites
 fed_as_part text = fed_part (percent_decode (utf8 text))
 
 fed_references : map fed_as_reference ("http://a/~b/c" ∷ "HTTP://a/%7Eb/./c" ∷ "a/..//b" ∷ "?é" ∷ "" ∷ [])
-    ≡ map ended ("http://a/~b/c" ∷ "http://a/~b/c" ∷ ".//b" ∷ "?%C3%A9" ∷ "" ∷ [])
+    ≡ map ended ("http://a/~b/c" ∷ "http://a/~b/c" ∷ ".//b" ∷ "?é" ∷ "" ∷ [])
 unfolding read_reference read_authority read_path key path_key normal_segments excess staying_names percent_decode encode_utf8
-    canonical encoded canonical_relative percent_encode_byte is_reg_name_char is_user_info_char is_path_char is_fragment_char is_query_char
+    spelled encoded spelled_relative percent_encode_byte is_reg_name_char is_user_info_char is_path_char is_fragment_char is_query_char
     is_ip_literal is_ipvfuture ipv4_value ipv6_value guarded spell spell_authority spell_path fed_reference fed_text waiting_after written_after
 fed_references = refl
 
 fed_paths : map fed_as_path ("/a/../b" ∷ "1%3A2" ∷ ".." ∷ "" ∷ []) ≡ map ended ("/b" ∷ "./1:2" ∷ "../" ∷ "" ∷ [])
-unfolding read_path path_key normal_segments excess staying_names percent_decode encode_utf8 canonical encoded canonical_relative percent_encode_byte
+unfolding read_path path_key normal_segments excess staying_names percent_decode encode_utf8 spelled encoded spelled_relative percent_encode_byte
     is_path_char is_user_info_char is_reg_name_char guarded spell spell_path fed_reference fed_text waiting_after written_after
 fed_paths = refl
 

@@ -34,6 +34,7 @@ pub mod SortShortLemmas
 pub mod PaddedLemmas
 pub mod SortCutLemmas
 pub mod LongNameLemmas
+pub mod HashedTextLemmas
 pub mod HashedLemmas
 pub mod HashedPartLemmas
 mod HashedRows

@@ -1,19 +1,19 @@
 -- The sets of what is escaped in each component, checked character by character.
-use Rattle.std.proofs.Common.{◌≡◌, ℕ, zero, suc, ◌<◌, Bool, true, false, not, cond, ◌&&◌, ◌||◌, [], ◌∷◌, ◌++◌, refl, sym, ◌∙◌, ap, arith}
+use Rattle.std.proofs.Common.{◌≡◌, ℕ, zero, suc, ◌<◌, Bool, true, false, not, cond, ◌&&◌, ◌||◌, [], ◌∷◌, ◌++◌, refl, sym, ◌∙◌, ap}
 use Rattle.std.specs.Char.{is_ascii}
 use Rattle.std.specs.Cmp.{booleans_Decides}
 use mathlib.Core.Bool.{beq, true≢false}
 use Rattle.std.proofs.lemmas.Bool.{ltb-true}
-use Rattle.std.proofs.lemmas.Bool.Decides.{Decides-below_and, nat_tests}
-use Rattle.std.specs.Prelude.{◌==◌}
+use Rattle.std.proofs.lemmas.Bool.Decides.{Decides-below_and}
 use Rattle.percent_encoding.specs.declared.ascii_set.AsciiSet.{AsciiSet}
 use Rattle.percent_encoding.specs.AsciiSet.{contains, should_percent_encode}
-use Rattle.percent_encoding.specs.Percent.{encode_byte, percent_encode, percent_encode_byte}
+use Rattle.percent_encoding.specs.Percent.{percent_encode_byte}
 use Rattle.iref_grammar.specs.Characters.{uri_chars}
-use Rattle.iref_grammar.specs.Grammar.{slash, is_reg_name_char, is_user_info_char, is_path_char, is_fragment_char, is_query_char}
+use Rattle.iref_grammar.specs.Grammar.{is_reg_name_char, is_user_info_char, is_path_char, is_fragment_char, is_query_char}
 use Rattle.iref_grammar.specs.Rules.{Text}
-use Rattle.iref_canonical.specs.Canonical.{encoded, encoded_byte}
-use Rattle.iref_canonical.specs.declared.encoded.TheConstants.{PATH, REG_NAME, USER_INFO, SEGMENT, QUERY}
+use Rattle.iref_canonical.specs.Canonical.{encoded, encoded_byte, is_raw, stands}
+use Rattle.iref_canonical.specs.Decoded.{is_escaped, recoded, recoded_byte}
+use Rattle.iref_canonical.specs.declared.encoded.TheConstants.{REG_NAME, USER_INFO, SEGMENT, QUERY}
 use Rattle.iref_canonical.proofs.EncodedTextLemmas.{IsPlain}
 use Rattle.iref_canonical.proofs.PlainCharacterLemmas.{plain_name, plain_user_info, plain_path, plain_fragment, plain_query}
 
@@ -31,59 +31,53 @@ pub in_set : (set : AsciiSet) (test : ℕ → Bool) → are_apart set test 128 �
 in_set set test h b ascii = entry set test h b (ltb-true b 128 ascii)
 
 module _ (set : AsciiSet) (test : ℕ → Bool) (plain : IsPlain test) (apart : are_apart set test 128 ≡ true) where
-  flipped : (b : ℕ) → should_percent_encode set b ≡ not (test b)
+  tested : (b : ℕ) → should_percent_encode set b ≡ not (test b)
   unfolding should_percent_encode
-  flipped b = by (is_ascii b) refl (test b) refl
+  tested b = by (is_ascii b) refl (test b) refl
     where
       by : (ascii : Bool) → is_ascii b ≡ ascii → (kept : Bool) → test b ≡ kept → (not ascii || contains set b) ≡ not (test b)
       by true e kept f = in_set set test apart b e
       by false e true f = absurd (true≢false (sym (plain.ascii b f) ∙ e))
       by false e false f = sym (ap not f)
 
-  one_byte : (b : ℕ) → encode_byte set b ≡ encoded_byte test b
-  one_byte b = ap (λ c. cond c (percent_encode_byte b) (b ∷ [])) (flipped b) ∙ by (test b)
+  flipped : (raw : Bool) (b : ℕ) → is_escaped raw set b ≡ not (stands raw test b)
+  unfolding is_escaped
+  flipped raw b = by (raw && is_raw b)
+    where
+      by : (beyond : Bool) → (not beyond && should_percent_encode set b) ≡ not (beyond || test b)
+      by true = refl
+      by false = tested b
+
+  one_byte : (raw : Bool) (b : ℕ) → recoded_byte raw set b ≡ encoded_byte (stands raw test) b
+  unfolding recoded_byte
+  one_byte raw b = ap (λ c. cond c (percent_encode_byte b) (b ∷ [])) (flipped raw b) ∙ by (stands raw test b)
     where
       by : (kept : Bool) → cond (not kept) (percent_encode_byte b) (b ∷ []) ≡ cond kept (b ∷ []) (percent_encode_byte b)
       by true = refl
       by false = refl
 
-  all_bytes : (bytes : Text) → percent_encode set bytes ≡ encoded test bytes
-  unfolding percent_encode encoded
-  all_bytes [] = refl
-  all_bytes (b ∷ bytes) = λ i. one_byte b i ++ all_bytes bytes i
+  all_bytes : (raw : Bool) (bytes : Text) → recoded raw set bytes ≡ encoded (stands raw test) bytes
+  unfolding recoded encoded
+  all_bytes raw [] = refl
+  all_bytes raw (b ∷ bytes) = λ i. one_byte raw b i ++ all_bytes raw bytes i
 
-pub encoded-name : (bytes : Text) → percent_encode REG_NAME bytes ≡ encoded (is_reg_name_char uri_chars) bytes
+pub encoded-name : (raw : Bool) (bytes : Text) → recoded raw REG_NAME bytes ≡ encoded (stands raw (is_reg_name_char uri_chars)) bytes
 unfolding is_reg_name_char
 encoded-name = all_bytes REG_NAME (is_reg_name_char uri_chars) plain_name refl
 
-pub encoded-user_info : (bytes : Text) → percent_encode USER_INFO bytes ≡ encoded (is_user_info_char uri_chars) bytes
+pub encoded-user_info : (raw : Bool) (bytes : Text) → recoded raw USER_INFO bytes ≡ encoded (stands raw (is_user_info_char uri_chars)) bytes
 unfolding is_user_info_char is_reg_name_char
 encoded-user_info = all_bytes USER_INFO (is_user_info_char uri_chars) plain_user_info refl
 
-pub encoded-segment : (bytes : Text) → percent_encode SEGMENT bytes ≡ encoded (is_path_char uri_chars) bytes
+pub encoded-segment : (raw : Bool) (bytes : Text) → recoded raw SEGMENT bytes ≡ encoded (stands raw (is_path_char uri_chars)) bytes
 unfolding is_path_char is_user_info_char is_reg_name_char
 encoded-segment = all_bytes SEGMENT (is_path_char uri_chars) plain_path refl
 
--- a character of a path, or `/`
-abbrev pub stands_in_path : ℕ → Bool
-stands_in_path b = b == slash || is_path_char uri_chars b
-
-ascii_in_path : (b : ℕ) → stands_in_path b ≡ true → is_ascii b ≡ true
-ascii_in_path b h = grind (arith, nat_tests, plain_path.ascii b)
-
-plain_in_path : IsPlain stands_in_path
-unfolding is_path_char is_user_info_char is_reg_name_char
-plain_in_path = record { ascii = ascii_in_path; percent = refl }
-
-pub escaped_in_path : (b : ℕ) → should_percent_encode PATH b ≡ not (stands_in_path b)
-unfolding is_path_char is_user_info_char is_reg_name_char
-escaped_in_path = flipped PATH stands_in_path plain_in_path refl
-
-pub encoded-fragment : (bytes : Text) → percent_encode QUERY bytes ≡ encoded (is_fragment_char uri_chars) bytes
+pub encoded-fragment : (raw : Bool) (bytes : Text) → recoded raw QUERY bytes ≡ encoded (stands raw (is_fragment_char uri_chars)) bytes
 unfolding is_fragment_char is_path_char is_user_info_char is_reg_name_char
 encoded-fragment = all_bytes QUERY (is_fragment_char uri_chars) plain_fragment refl
 
-pub encoded-query : (bytes : Text) → percent_encode QUERY bytes ≡ encoded (is_query_char uri_chars) bytes
+pub encoded-query : (raw : Bool) (bytes : Text) → recoded raw QUERY bytes ≡ encoded (stands raw (is_query_char uri_chars)) bytes
 unfolding is_query_char is_fragment_char is_path_char is_user_info_char is_reg_name_char
 encoded-query = all_bytes QUERY (is_query_char uri_chars) plain_query refl
 

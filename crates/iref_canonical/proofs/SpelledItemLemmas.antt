@@ -15,7 +15,7 @@ use Rattle.iref_model.specs.NormalList.{is_dot_dot}
 use Rattle.iref_model.proofs.FitsLemmas.{is_empty-snoc}
 use Rattle.iref_path.specs.Spelling.{each_closed}
 use Rattle.iref_path.proofs.SpellLemmas.{each_closed-append, joined_before}
-use Rattle.iref_canonical.specs.Canonical.{canonical_name, canonical_relative}
+use Rattle.iref_canonical.specs.Canonical.{spelled_name, spelled_relative}
 use Rattle.iref_canonical.specs.SpelledItems.{spelled_item, spelled_items, standing_before, standing_of}
 
 -- ---- how many stand
@@ -46,57 +46,57 @@ standing-few (x ∷ y ∷ rest) = grind (arith, standing-few (y ∷ rest))
 
 -- ---- the items with those that stand
 
-pub spelled-none : (items : List Text) → spelled_items 0 items ≡ map canonical_name items
+pub spelled-none : (raw : Bool) (items : List Text) → spelled_items raw 0 items ≡ map (spelled_name raw) items
 unfolding spelled_items
-spelled-none items = refl
+spelled-none raw items = refl
 
-pub spelled-nothing : (n : ℕ) → spelled_items n [] ≡ []
+pub spelled-nothing : (raw : Bool) (n : ℕ) → spelled_items raw n [] ≡ []
 unfolding spelled_items
-spelled-nothing zero = refl
-spelled-nothing (suc n) = refl
+spelled-nothing raw zero = refl
+spelled-nothing raw (suc n) = refl
 
-pub spelled-relative : (items : List Text) → spelled_items (standing_of items) items ≡ canonical_relative items
-unfolding spelled_items standing_of canonical_relative
-spelled-relative [] = refl
-spelled-relative (item ∷ rest) = by (is_dot_dot item && not (is_empty rest)) refl (spelled-relative rest)
+pub spelled-relative : (raw : Bool) (items : List Text) → spelled_items raw (standing_of items) items ≡ spelled_relative raw items
+unfolding spelled_items standing_of spelled_relative
+spelled-relative raw [] = refl
+spelled-relative raw (item ∷ rest) = by (is_dot_dot item && not (is_empty rest)) refl (spelled-relative raw rest)
   where
-    by : (b : Bool) → (is_dot_dot item && not (is_empty rest)) ≡ b → spelled_items (standing_of rest) rest ≡ canonical_relative rest
-        → spelled_items (cond b (suc (standing_of rest)) 0) (item ∷ rest) ≡ cond b (item ∷ canonical_relative rest) (map canonical_name (item ∷ rest))
+    by : (b : Bool) → (is_dot_dot item && not (is_empty rest)) ≡ b → spelled_items raw (standing_of rest) rest ≡ spelled_relative raw rest
+        → spelled_items raw (cond b (suc (standing_of rest)) 0) (item ∷ rest) ≡ cond b (item ∷ spelled_relative raw rest) (map (spelled_name raw) (item ∷ rest))
     by true e same = λ i. sym ((bytes_decides item (codes "..")).0 (and_parts (is_dot_dot item) (not (is_empty rest)) e).0) i ∷ same i
     by false e same = refl
 
-pub spelled-last : (n : ℕ) (front : List Text) (item : Text) → spelled_items n (front ++ item ∷ []) ≡ spelled_items n front ++ spelled_item (nat_lt (length front) n) item ∷ []
+pub spelled-last : (raw : Bool) (n : ℕ) (front : List Text) (item : Text) → spelled_items raw n (front ++ item ∷ []) ≡ spelled_items raw n front ++ spelled_item raw (nat_lt (length front) n) item ∷ []
 unfolding spelled_items
-spelled-last zero [] item = grind arith
-spelled-last zero (x ∷ front) item = grind (arith, nat_tests, spelled-last zero front item)
-spelled-last (suc n) [] item = by n
+spelled-last raw zero [] item = grind arith
+spelled-last raw zero (x ∷ front) item = grind (arith, nat_tests, spelled-last raw zero front item)
+spelled-last raw (suc n) [] item = by n
   where
-    by : (n : ℕ) → codes ".." ∷ spelled_items n [] ≡ spelled_item (nat_lt 0 (suc n)) item ∷ []
+    by : (n : ℕ) → codes ".." ∷ spelled_items raw n [] ≡ spelled_item raw (nat_lt 0 (suc n)) item ∷ []
     by zero = grind (arith, nat_tests)
     by (suc n) = grind (arith, nat_tests)
-spelled-last (suc n) (x ∷ front) item = grind (arith, nat_tests, spelled-last n front item)
+spelled-last raw (suc n) (x ∷ front) item = grind (arith, nat_tests, spelled-last raw n front item)
 
 -- ---- their text
 
 -- an item with a `/` after it comes last
-pub closed-last : (n : ℕ) (front : List Text) (item : Text)
-    → each_closed (spelled_items n (front ++ item ∷ [])) ≡ each_closed (spelled_items n front) ++ (spelled_item (nat_lt (length front) n) item ++ slash ∷ [])
-closed-last n front item =
+pub closed-last : (raw : Bool) (n : ℕ) (front : List Text) (item : Text)
+    → each_closed (spelled_items raw n (front ++ item ∷ [])) ≡ each_closed (spelled_items raw n front) ++ (spelled_item raw (nat_lt (length front) n) item ++ slash ∷ [])
+closed-last raw n front item =
     let stands = nat_lt (length front) n in
-    ap each_closed (spelled-last n front item) ∙ each_closed-append (spelled_items n front) (spelled_item stands item ∷ []) ∙ grind (arith, common_steps)
+    ap each_closed (spelled-last raw n front item) ∙ each_closed-append (spelled_items raw n front) (spelled_item raw stands item ∷ []) ∙ grind (arith, common_steps)
 
-pub closed-nothing : (n : ℕ) → each_closed (spelled_items n []) ≡ []
-closed-nothing n = ap each_closed (spelled-nothing n)
+pub closed-nothing : (raw : Bool) (n : ℕ) → each_closed (spelled_items raw n []) ≡ []
+closed-nothing raw n = ap each_closed (spelled-nothing raw n)
 
 -- and the last one without it, which does not stand
-pub joined-last : (n : ℕ) (front : List Text) (item : Text) → n ≤ length front
-    → join_with_byte slash (spelled_items n (front ++ item ∷ [])) ≡ each_closed (spelled_items n front) ++ canonical_name item
-joined-last n front item h =
-    ap (join_with_byte slash) (spelled-last n front item) ∙ sym (joined_before (spelled_items n front) (spelled_item (nat_lt (length front) n) item))
+pub joined-last : (raw : Bool) (n : ℕ) (front : List Text) (item : Text) → n ≤ length front
+    → join_with_byte slash (spelled_items raw n (front ++ item ∷ [])) ≡ each_closed (spelled_items raw n front) ++ spelled_name raw item
+joined-last raw n front item h =
+    ap (join_with_byte slash) (spelled-last raw n front item) ∙ sym (joined_before (spelled_items raw n front) (spelled_item raw (nat_lt (length front) n) item))
     ∙ grind (arith, nat_tests)
 
-pub joined-nothing : (n : ℕ) → join_with_byte slash (spelled_items n []) ≡ []
-joined-nothing n = ap (join_with_byte slash) (spelled-nothing n)
+pub joined-nothing : (raw : Bool) (n : ℕ) → join_with_byte slash (spelled_items raw n []) ≡ []
+joined-nothing raw n = ap (join_with_byte slash) (spelled-nothing raw n)
 
 -- ---- decoded
 
@@ -107,27 +107,27 @@ decoded-last all front item e = grind (arith, common_steps)
 pub one_less : (all front : List Text) (item : Text) (at : ℕ) → all ≡ front ++ item ∷ [] → at ≡ length all → length front ≡ at - 1
 one_less all front item at e f = grind (arith, common_steps)
 
-pub closed-step : (n : ℕ) (all front : List Text) (item : Text) (at : ℕ) → all ≡ front ++ item ∷ [] → at ≡ length all
-    → each_closed (spelled_items n (map percent_decode all))
-    ≡ each_closed (spelled_items n (map percent_decode front)) ++ (spelled_item (nat_lt (at - 1) n) (percent_decode item) ++ slash ∷ [])
-closed-step n all front item at e f =
+pub closed-step : (raw : Bool) (n : ℕ) (all front : List Text) (item : Text) (at : ℕ) → all ≡ front ++ item ∷ [] → at ≡ length all
+    → each_closed (spelled_items raw n (map percent_decode all))
+    ≡ each_closed (spelled_items raw n (map percent_decode front)) ++ (spelled_item raw (nat_lt (at - 1) n) (percent_decode item) ++ slash ∷ [])
+closed-step raw n all front item at e f =
     let len : length (map percent_decode front) ≡ at - 1 = length-map front percent_decode ∙ one_less all front item at e f in
-    ap (λ list. each_closed (spelled_items n list)) (decoded-last all front item e)
-    ∙ closed-last n (map percent_decode front) (percent_decode item)
-    ∙ ap (λ k. each_closed (spelled_items n (map percent_decode front)) ++ (spelled_item (nat_lt k n) (percent_decode item) ++ slash ∷ [])) len
+    ap (λ list. each_closed (spelled_items raw n list)) (decoded-last all front item e)
+    ∙ closed-last raw n (map percent_decode front) (percent_decode item)
+    ∙ ap (λ k. each_closed (spelled_items raw n (map percent_decode front)) ++ (spelled_item raw (nat_lt k n) (percent_decode item) ++ slash ∷ [])) len
 
-pub closed-end : (n : ℕ) (all : List Text) → all ≡ [] → each_closed (spelled_items n (map percent_decode all)) ≡ []
-closed-end n all e = ap (λ list. each_closed (spelled_items n (map percent_decode list))) e ∙ closed-nothing n
+pub closed-end : (raw : Bool) (n : ℕ) (all : List Text) → all ≡ [] → each_closed (spelled_items raw n (map percent_decode all)) ≡ []
+closed-end raw n all e = ap (λ list. each_closed (spelled_items raw n (map percent_decode list))) e ∙ closed-nothing raw n
 
-pub joined-step : (n : ℕ) (all front : List Text) (item : Text) (at : ℕ) → all ≡ front ++ item ∷ [] → at ≡ length all → n ≤ at - 1
-    → join_with_byte slash (spelled_items n (map percent_decode all)) ≡ each_closed (spelled_items n (map percent_decode front)) ++ canonical_name (percent_decode item)
-joined-step n all front item at e f h =
+pub joined-step : (raw : Bool) (n : ℕ) (all front : List Text) (item : Text) (at : ℕ) → all ≡ front ++ item ∷ [] → at ≡ length all → n ≤ at - 1
+    → join_with_byte slash (spelled_items raw n (map percent_decode all)) ≡ each_closed (spelled_items raw n (map percent_decode front)) ++ spelled_name raw (percent_decode item)
+joined-step raw n all front item at e f h =
     let len : length (map percent_decode front) ≡ at - 1 = length-map front percent_decode ∙ one_less all front item at e f in
-    ap (λ list. join_with_byte slash (spelled_items n list)) (decoded-last all front item e)
-    ∙ joined-last n (map percent_decode front) (percent_decode item) (subst (λ k. n ≤ k) (sym len) h)
+    ap (λ list. join_with_byte slash (spelled_items raw n list)) (decoded-last all front item e)
+    ∙ joined-last raw n (map percent_decode front) (percent_decode item) (subst (λ k. n ≤ k) (sym len) h)
 
-pub joined-end : (n : ℕ) (all : List Text) → all ≡ [] → join_with_byte slash (spelled_items n (map percent_decode all)) ≡ []
-joined-end n all e = ap (λ list. join_with_byte slash (spelled_items n (map percent_decode list))) e ∙ joined-nothing n
+pub joined-end : (raw : Bool) (n : ℕ) (all : List Text) → all ≡ [] → join_with_byte slash (spelled_items raw n (map percent_decode all)) ≡ []
+joined-end raw n all e = ap (λ list. join_with_byte slash (spelled_items raw n (map percent_decode list))) e ∙ joined-nothing raw n
 
 pub standing-first : (all front : List Text) (last : Text) → all ≡ front ++ last ∷ [] → standing_before (map percent_decode front) 0 ≡ standing_of (map percent_decode all)
 standing-first all front last e = sym (ap standing_of (decoded-last all front last e) ∙ standing-last (map percent_decode front) (percent_decode last))

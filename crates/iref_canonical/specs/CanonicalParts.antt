@@ -1,17 +1,17 @@
--- The parts of a canonical text, from the parts of a reference's text.
-use Rattle.std.specs.Prelude.{Option, option_map}
+-- The parts of a canonical text or of one that is hashed, from the parts of a reference's text.
+use Rattle.std.specs.Prelude.{Bool, Option, option_map}
 use Rattle.percent_encoding.specs.Percent.{percent_decode}
 use Rattle.iref_grammar.specs.Authority.{read_authority, spell_authority}
 use Rattle.iref_grammar.specs.Characters.{uri_chars}
 use Rattle.iref_grammar.specs.Grammar.{is_query_char}
 use Rattle.iref_grammar.specs.Rules.{Text}
 use Rattle.iref_model.specs.AuthorityKey.{authority_key}
-use Rattle.iref_canonical.specs.Canonical.{canonical_authority, encoded}
+use Rattle.iref_canonical.specs.Canonical.{encoded, spelled_authority, stands}
 
 -- a query or a fragment, of which the same characters stand
-abbrev pub encoded_query : Option Text → Option Text
-encoded_query part = option_map (encoded (is_query_char uri_chars)) (option_map percent_decode part)
+abbrev pub encoded_query : Bool → Option Text → Option Text
+encoded_query raw part = option_map (encoded (stands raw (is_query_char uri_chars))) (option_map percent_decode part)
 
 -- an authority
-abbrev pub encoded_authority : Option Text → Option Text
-encoded_authority part = option_map (λ text. spell_authority (canonical_authority (authority_key (read_authority text)))) part
+abbrev pub encoded_authority : Bool → Option Text → Option Text
+encoded_authority raw part = option_map (λ text. spell_authority (spelled_authority raw (authority_key (read_authority text)))) part

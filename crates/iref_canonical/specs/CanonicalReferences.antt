@@ -1,4 +1,4 @@
--- The canonical text of a reference that is measured before it is written.
+-- The canonical text of a reference, or the one that is hashed, that is measured before it is written.
 use Rattle.std.specs.Prelude.{◌∷◌, ◌++◌, [], codes, option_map}
 use Rattle.std.specs.Option.{option_copied}
 use Rattle.std.specs.Str.{str_to_ascii_lowercase}
@@ -13,9 +13,9 @@ use Rattle.iref_canonical.specs.declared.reference.CanonicalReference.{Canonical
 unfoldable pub measured_canonical : CanonicalReference → Text
 measured_canonical r =
     part_then (colon ∷ []) (option_map str_to_ascii_lowercase (option_copied r.slices.scheme))
-    ++ then_part (codes "//") (encoded_authority (option_copied r.slices.authority)) ++ canonical_path_text r.path
-    ++ then_part (question_mark ∷ []) (encoded_query (option_copied r.slices.query))
-    ++ then_part (hash_sign ∷ []) (encoded_query (option_copied r.slices.fragment))
+    ++ then_part (codes "//") (encoded_authority r.raw (option_copied r.slices.authority)) ++ canonical_path_text r.raw r.path
+    ++ then_part (question_mark ∷ []) (encoded_query r.raw (option_copied r.slices.query))
+    ++ then_part (hash_sign ∷ []) (encoded_query r.raw (option_copied r.slices.fragment))
 
 -- its path can be put
 abbrev pub IsMeasured : CanonicalReference → Type 0

@@ -1,4 +1,4 @@
--- What is hashed of the keys of references and of paths (RFC 3986 section 6.2.2): their canonical texts.
+-- What is hashed of the keys of references and of paths (RFC 3986 section 6.2.2): their texts with the bytes beyond ASCII raw.
 use Rattle.std.specs.Prelude.{◌≡◌, true, None}
 use Rattle.std.specs.Hash.{HashWrites}
 use Rattle.std.specs.List.{list_all}
@@ -9,11 +9,11 @@ use Rattle.iref_grammar.specs.Tests.{is_segment}
 use Rattle.iref_model.specs.Key.{key}
 use Rattle.iref_model.specs.PathKey.{path_key}
 use Rattle.iref_splice.specs.Fed.{fed_text}
-use Rattle.iref_canonical.specs.Canonical.{canonical_text}
+use Rattle.iref_canonical.specs.Canonical.{hashed_text}
 
--- of a key its canonical text
+-- of a key its text
 unfoldable pub fed_reference : ReferenceValue → HashWrites
-fed_reference k = fed_text (canonical_text k)
+fed_reference k = fed_text (hashed_text k)
 
 -- the key of a readable reference
 pub record IsReadableKey (k : ReferenceValue) : Type 0 where

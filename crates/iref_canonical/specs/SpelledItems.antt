@@ -6,7 +6,7 @@ use Rattle.iref_grammar.specs.Rules.{Text}
 use Rattle.iref_grammar.specs.Texts.{is_empty}
 use Rattle.iref_model.specs.NormalList.{is_dot_dot}
 use Rattle.iref_path.specs.NormalItems.{decoded_left, IsSound, normal_left}
-use Rattle.iref_canonical.specs.Canonical.{canonical_name}
+use Rattle.iref_canonical.specs.Canonical.{spelled_name}
 use Rattle.iref_canonical.specs.declared.path.SpelledPath.{SpelledPath}
 
 -- the first byte is `.`, or may be that of its escape
@@ -25,18 +25,18 @@ standing_before [] n = n
 standing_before (item ∷ rest) n = if is_dot_dot item then suc (standing_before rest n) else 0
 
 -- an item that stands, or a name
-abbrev pub spelled_item : Bool → Text → Text
-spelled_item stands item = if stands then codes ".." else canonical_name item
+abbrev pub spelled_item : Bool → Bool → Text → Text
+spelled_item raw stands item = if stands then codes ".." else spelled_name raw item
 
 -- the items, of which this number of `..` stand first
-unfoldable pub spelled_items : ℕ → List Text → List Text
-spelled_items zero items = map canonical_name items
-spelled_items (suc n) [] = []
-spelled_items (suc n) (item ∷ rest) = codes ".." ∷ spelled_items n rest
+unfoldable pub spelled_items : Bool → ℕ → List Text → List Text
+spelled_items raw zero items = map (spelled_name raw) items
+spelled_items raw (suc n) [] = []
+spelled_items raw (suc n) (item ∷ rest) = codes ".." ∷ spelled_items raw n rest
 
 -- the guard, and the items
-unfoldable pub spelled_path_text : SpelledPath → Text
-spelled_path_text p = p.guard.now ++ join_with_byte slash (spelled_items p.standing (decoded_left p.items))
+unfoldable pub spelled_path_text : Bool → SpelledPath → Text
+spelled_path_text raw p = p.guard.now ++ join_with_byte slash (spelled_items raw p.standing (decoded_left p.items))
 
 -- the items can be read and are counted, and the last one does not stand
 pub record IsCounted (p : SpelledPath) : Type 0 where

@@ -4,7 +4,7 @@ ghost use Rattle.percent_encoding.specs.Percent.{percent_decode};
 ghost use Rattle.iref_grammar.specs.{Authority.{read_authority, spell_authority}, Characters.{uri_chars}};
 ghost use Rattle.iref_grammar.specs.{Texts.{part_then, then_part}, Grammar.{at_sign, colon, is_user_info_char}};
 ghost use Rattle.iref_model.specs.AuthorityKey.{authority_key};
-ghost use Rattle.iref_canonical.specs.Canonical.{canonical_authority, canonical_host, encoded};
+ghost use Rattle.iref_canonical.specs.Canonical.{encoded, spelled_authority, spelled_host, stands};
 
 use crate::encoded::{REG_NAME, USER_INFO, put_encoded};
 use crate::literal::decodes_to_ip_literal;
@@ -27,43 +27,42 @@ fn put_port<O: Backward>(out: &mut O, port: Option<&str>)
 }
 
 // Puts the host. An IP literal stands.
-#[tactic(auto, using(crate::proofs::PutAuthorityLemmas::hosts))]
-fn put_host<O: Backward>(out: &mut O, host: &str)
-    requires { O.fits out.old (canonical_host (percent_decode host.now)) }
-    ensures { out.new ≡ O.after out.old (canonical_host (percent_decode host.now)) }
+#[tactic(auto, using(crate::proofs::PutAuthorityLemmas::hosts, crate::proofs::EncodedLemmas::spared))]
+fn put_host<O: Backward>(out: &mut O, raw: bool, host: &str)
+    requires { O.fits out.old (spelled_host raw (percent_decode host.now)) }
+    ensures { out.new ≡ O.after out.old (spelled_host raw (percent_decode host.now)) }
 {
-    let set = if decodes_to_ip_literal(host) {
-        NOTHING
+    if decodes_to_ip_literal(host) {
+        put_encoded(out, raw, NOTHING, host);
     } else {
-        REG_NAME
-    };
-    put_encoded(out, host, set);
+        put_encoded(out, raw, REG_NAME, host);
+    }
 }
 
 // Puts a user info before its `@`, if there is one.
-fn put_user_info<O: Backward>(out: &mut O, user_info: Option<&str>)
+fn put_user_info<O: Backward>(out: &mut O, raw: bool, user_info: Option<&str>)
     requires { O.fits out.old (part_then (at_sign ∷ [])
-        (option_map (encoded (is_user_info_char uri_chars))
+        (option_map (encoded (stands raw (is_user_info_char uri_chars)))
         (option_map percent_decode (option_copied user_info)))) }
     ensures { out.new ≡ O.after out.old (part_then (at_sign ∷ [])
-        (option_map (encoded (is_user_info_char uri_chars))
+        (option_map (encoded (stands raw (is_user_info_char uri_chars)))
         (option_map percent_decode (option_copied user_info.entry)))) }
 {
     if let Some(user_info) = user_info {
         out.put(b"@");
-        put_encoded(out, user_info, USER_INFO);
+        put_encoded(out, raw, USER_INFO, user_info);
     }
 }
 
 /// Puts the authority.
-pub(crate) fn put_authority<O: Backward>(out: &mut O, text: &str)
+pub(crate) fn put_authority<O: Backward>(out: &mut O, raw: bool, text: &str)
     requires { O.fits out.old
-        (spell_authority (canonical_authority (authority_key (read_authority text.now)))) }
+        (spell_authority (spelled_authority raw (authority_key (read_authority text.now)))) }
     ensures { out.new ≡ O.after out.old
-        (spell_authority (canonical_authority (authority_key (read_authority text.now)))) }
+        (spell_authority (spelled_authority raw (authority_key (read_authority text.now)))) }
 {
     let parts = split_parts(text);
     put_port(out, parts.port);
-    put_host(out, parts.host);
-    put_user_info(out, parts.user_info);
+    put_host(out, raw, parts.host);
+    put_user_info(out, raw, parts.user_info);
 }

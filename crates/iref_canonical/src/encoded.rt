@@ -1,8 +1,10 @@
 //! The bytes that a text decodes to, encoded anew (RFC 3986 section 2.1).
 ghost use Rattle.std.specs.{Prelude.{◌≡◌, false, [], MatchOption}, Str.{str_to_ascii_lowercase}};
-ghost use Rattle.percent_encoding.specs.Percent.{encode_byte, percent_decode, percent_encode};
-ghost use Rattle.iref_canonical.specs.Decoded.{SplitsLast, ends_in_escape, is_passed};
+ghost use Rattle.percent_encoding.specs.Percent.{percent_decode};
+ghost use Rattle.iref_canonical.specs.{Canonical.{is_raw}, Decoded.{SplitsLast, ends_in_escape}};
+ghost use Rattle.iref_canonical.specs.Decoded.{SparesNames, is_escaped, is_passed, recoded, recoded_byte};
 
+use iref_parse::unescaped::has_name_bytes;
 use iref_splice::backward::Backward;
 use percent_encoding::{AsciiSet, NON_ALPHANUMERIC, ascii_set, percent_encode_byte};
 
@@ -31,9 +33,6 @@ pub const USER_INFO: AsciiSet = ascii_set!(REG_NAME.remove(b':'));
 
 /// What is escaped in a segment (RFC 3986 section 3.3).
 pub const SEGMENT: AsciiSet = ascii_set!(USER_INFO.remove(b'@'));
-
-/// What is escaped in a path (RFC 3986 section 3.3).
-pub const PATH: AsciiSet = ascii_set!(SEGMENT.remove(b'/'));
 
 /// What is escaped in a query and in a fragment (RFC 3986 sections 3.4 and 3.5).
 pub const QUERY: AsciiSet = ascii_set!(SEGMENT.remove(b'/').remove(b'?'));
@@ -68,41 +67,62 @@ pub fn split_last_decoded(text: &[u8]) -> Option<(&[u8], u8)>
     }
 }
 
-// Puts a byte, or its escape where the set has it.
+// Whether the byte is beyond ASCII, but for 255, which ends what is hashed.
 #[inline(always)]
-fn put_byte<O: Backward>(out: &mut O, byte: u8, set: AsciiSet)
-    requires { O.fits out.old (encode_byte set byte) }
-    ensures { out.new ≡ O.after out.old (encode_byte set byte) }
+fn is_raw(byte: u8) -> bool
+    ensures { result ≡ is_raw byte }
 {
-    if set.should_percent_encode(byte) {
+    !byte.is_ascii() && byte != 0xff
+}
+
+// Whether the byte is in the set, or beyond ASCII if such bytes do not stand raw.
+#[inline(always)]
+#[tactic(auto, unfolding(crate::specs::Decoded::is_escaped))]
+fn is_escaped(raw: bool, set: AsciiSet, byte: u8) -> bool
+    ensures { result ≡ is_escaped raw set byte }
+{
+    !(raw && is_raw(byte)) && set.should_percent_encode(byte)
+}
+
+// Puts a byte, or its escape.
+#[inline(always)]
+#[tactic(auto, unfolding(crate::specs::Decoded::recoded_byte))]
+fn put_byte<O: Backward>(out: &mut O, raw: bool, set: AsciiSet, byte: u8)
+    requires { O.fits out.old (recoded_byte raw set byte) }
+    ensures { out.new ≡ O.after out.old (recoded_byte raw set byte) }
+{
+    if is_escaped(raw, set, byte) {
         out.put(percent_encode_byte(byte).as_bytes());
     } else {
         out.put(&[byte]);
     }
 }
 
-/// Whether no byte of the text is `%` or in the set, so that decoded and encoded anew it stands.
+// Whether no byte of the text is `%` or escaped, so that decoded and encoded anew it stands.
 #[inline(always)]
-pub(crate) fn is_passed(text: &str, set: AsciiSet) -> bool
-    ensures { result ≡ is_passed set text.now }
+#[tactic(auto, unfolding(crate::specs::Decoded::is_passed))]
+fn is_passed(raw: bool, set: AsciiSet, text: &str) -> bool
+    ensures { result ≡ is_passed raw set text.now }
 {
     text.bytes()
-        .all(|byte| byte != b'%' && !set.should_percent_encode(byte))
+        .all(|byte| byte != b'%' && !is_escaped(raw, set, byte))
 }
 
-/// Puts the bytes that the text decodes to, those of the set escaped. Most texts stand as they are.
+/// Puts the bytes that the text decodes to, those of the set escaped, and those beyond ASCII if they
+/// do not stand raw. Most texts stand as they are.
 #[tactic(auto, using(crate::proofs::EncodedLemmas::lasts))]
-pub(crate) fn put_encoded<O: Backward>(out: &mut O, text: &str, set: AsciiSet)
-    requires { O.fits out.old (percent_encode set (percent_decode text.now)) }
-    ensures { out.new ≡ O.after out.old (percent_encode set (percent_decode text.now)) }
+pub(crate) fn put_encoded<O: Backward>(out: &mut O, raw: bool, set: AsciiSet, text: &str)
+    requires names { SparesNames set }
+    requires fits { O.fits out.old (recoded raw set (percent_decode text.now)) }
+    ensures { out.new ≡ O.after out.old (recoded raw set (percent_decode text.now)) }
 {
-    if is_passed(text, set) {
+    if has_name_bytes(text.as_bytes()) || is_passed(raw, set, text) {
         out.put(text.as_bytes());
         return;
     }
     let mut rest = text.as_bytes();
     while let Some((front, byte)) = split_last_decoded(rest) {
-        put_byte(out, byte, set);
+        put_byte(out, raw, set, byte);
         rest = front;
     }
 }

@@ -1,20 +1,21 @@
 //! The path of the canonical text of a reference (RFC 3986 sections 6.2.2.2 and
-//! 6.2.2.3).
-ghost use Rattle.std.specs.Prelude.{◌≡◌, ◌-◌, ◌<◌, ◌≤◌, ◌^◌, ◌++◌, ◌∷◌, [], length, if◌then◌else◌};
+//! 6.2.2.3), or of the text that is hashed.
+ghost use Rattle.std.specs.Prelude.{Bool, ◌≡◌, ◌-◌, ◌<◌, ◌≤◌, ◌^◌, ◌++◌, ◌∷◌, [], length, if◌then◌else◌};
 ghost use Rattle.std.specs.{Char.{char_set_contains}, List.{join_with_byte}};
 ghost use Rattle.percent_encoding.specs.Percent.{percent_decode};
 ghost use Rattle.iref_grammar.specs.{Grammar.{colon, slash}, PathValue.{read_path, spell_path}, Texts.{is_empty}};
 ghost use Rattle.iref_model.specs.{Guard.{guarded}, NormalList.{is_dot, is_dot_dot}, PathKey.{path_key}};
 ghost use Rattle.iref_path.specs.{NormalItems.{IsSound, decoded_left, normal_left}, Spelling.{each_closed}};
-ghost use Rattle.iref_canonical.specs.{Canonical.{canonical_name, canonical_path}, SpelledItems.{IsCounted}};
+ghost use Rattle.iref_canonical.specs.{Canonical.{spelled_name, spelled_path}, SpelledItems.{IsCounted}};
 ghost use Rattle.iref_canonical.specs.KeptPaths.{IsReady, canonical_path_text, is_kept_path, is_rooted};
 ghost use Rattle.iref_canonical.specs.SpelledItems.{begins_as_dots, spelled_item, spelled_items};
 ghost use Rattle.iref_canonical.specs.SpelledItems.{spelled_path_text, standing_of};
 
-use crate::encoded::{PATH, SEGMENT, is_passed, put_encoded, split_last_decoded};
+use crate::encoded::{SEGMENT, put_encoded, split_last_decoded};
 use iref_grammar::context::PathContext;
 use iref_parse::decoded::decoded_eq;
 use iref_parse::dots::has_dots;
+use iref_parse::unescaped::has_path_bytes;
 use iref_path::normal_items::{NormalItems, survey_items};
 use iref_path::segments::split_root;
 use iref_path::spell::guard_in;
@@ -119,82 +120,94 @@ fn begins_as_dots(item: &str) -> bool
 }
 
 // Puts an item that does not stand. One of more than six bytes does not decode to dots.
-#[tactic(auto, using(crate::proofs::SetLemmas::sets, crate::proofs::LongNameLemmas::no_dots))]
-fn put_name<O: Backward>(out: &mut O, item: &str)
-    requires { O.fits out.old (canonical_name (percent_decode item.now)) }
-    ensures { out.new ≡ O.after out.old (canonical_name (percent_decode item.now)) }
+#[tactic(auto, using(crate::proofs::SetLemmas::sets, crate::proofs::EncodedLemmas::spared, crate::proofs::LongNameLemmas::no_dots))]
+fn put_name<O: Backward>(out: &mut O, raw: bool, item: &str)
+    requires { O.fits out.old (spelled_name raw (percent_decode item.now)) }
+    ensures { out.new ≡ O.after out.old (spelled_name raw (percent_decode item.now)) }
 {
     if item.len() > 6 || !begins_as_dots(item) {
-        put_encoded(out, item, SEGMENT);
+        put_encoded(out, raw, SEGMENT, item);
     } else if decodes_to_dot(item) {
         out.put(b"%2E");
     } else if decodes_to_dots(item) {
         out.put(b"%2E%2E");
     } else {
-        put_encoded(out, item, SEGMENT);
+        put_encoded(out, raw, SEGMENT, item);
     }
 }
 
 // Puts an item, which may be a `..` that stands.
-fn put_item<O: Backward>(out: &mut O, item: &str, stands: bool)
-    requires { O.fits out.old (spelled_item stands (percent_decode item.now)) }
-    ensures { out.new ≡ O.after out.old (spelled_item stands (percent_decode item.now)) }
+fn put_item<O: Backward>(out: &mut O, raw: bool, item: &str, stands: bool)
+    requires { O.fits out.old (spelled_item raw stands (percent_decode item.now)) }
+    ensures { out.new ≡ O.after out.old (spelled_item raw stands (percent_decode item.now)) }
 {
     if stands {
         out.put(b"..");
     } else {
-        put_name(out, item);
+        put_name(out, raw, item);
     }
 }
 
 // Puts an item and a `/` after it.
-fn put_closed_item<O: Backward>(out: &mut O, item: &str, stands: bool)
-    requires { O.fits out.old (spelled_item stands (percent_decode item.now) ++ slash ∷ []) }
+fn put_closed_item<O: Backward>(out: &mut O, raw: bool, item: &str, stands: bool)
+    requires { O.fits out.old (spelled_item raw stands (percent_decode item.now) ++ slash ∷ []) }
     ensures { out.new ≡ O.after out.old
-        (spelled_item stands (percent_decode item.now) ++ slash ∷ []) }
+        (spelled_item raw stands (percent_decode item.now) ++ slash ∷ []) }
 {
     out.put(b"/");
-    put_item(out, item, stands);
+    put_item(out, raw, item, stands);
 }
 
 // Puts the items, each with a `/` after it.
 #[tactic(auto, using(crate::proofs::SpelledItemLemmas::steps))]
-fn put_closed<O: Backward>(out: &mut O, mut left: NormalItems<'_>, count: usize, standing: usize)
+fn put_closed<O: Backward>(
+    out: &mut O,
+    raw: bool,
+    mut left: NormalItems<'_>,
+    count: usize,
+    standing: usize,
+)
     requires sound { IsSound left }
     requires count { count ≡ length (normal_left left) }
-    requires fits { O.fits out.old (each_closed (spelled_items standing (decoded_left left))) }
+    requires fits { O.fits out.old (each_closed (spelled_items raw standing (decoded_left left))) }
     ensures { out.new ≡ O.after out.old
-        (each_closed (spelled_items standing (decoded_left left.entry))) }
+        (each_closed (spelled_items raw standing (decoded_left left.entry))) }
 {
     let mut at = count;
     while let Some(item) = left.next_back() {
         at -= 1;
-        put_closed_item(out, item, at < standing);
+        put_closed_item(out, raw, item, at < standing);
     }
 }
 
 // Puts the items with `/` between. The last one does not stand.
 #[tactic(auto, using(crate::proofs::SpelledItemLemmas::steps))]
-fn put_items<O: Backward>(out: &mut O, mut left: NormalItems<'_>, count: usize, standing: usize)
+fn put_items<O: Backward>(
+    out: &mut O,
+    raw: bool,
+    mut left: NormalItems<'_>,
+    count: usize,
+    standing: usize,
+)
     requires sound { IsSound left }
     requires count { count ≡ length (normal_left left) }
     requires standing { standing ≤ count - 1 }
     requires fits { O.fits out.old
-        (join_with_byte slash (spelled_items standing (decoded_left left))) }
+        (join_with_byte slash (spelled_items raw standing (decoded_left left))) }
     ensures { out.new ≡ O.after out.old
-        (join_with_byte slash (spelled_items standing (decoded_left left.entry))) }
+        (join_with_byte slash (spelled_items raw standing (decoded_left left.entry))) }
 {
     if let Some(last) = left.next_back() {
-        put_name(out, last);
-        put_closed(out, left, count - 1, standing);
+        put_name(out, raw, last);
+        put_closed(out, raw, left, count - 1, standing);
     }
 }
 
 impl<'a> SpelledPath<'a> {
-    // The canonical path in its context.
+    // The path of a key's text in its context, whether bytes beyond ASCII stand raw in it or not.
     fn new(context: PathContext, path: &'a str) -> Self
-        ensures text { spelled_path_text result
-            ≡ spell_path (guarded context (canonical_path (path_key (read_path path.now)))) }
+        ensures text { (raw : Bool) → spelled_path_text raw result
+            ≡ spell_path (guarded context (spelled_path raw (path_key (read_path path.now)))) }
         ensures counted { IsCounted result }
     {
         let (absolute, segments) = split_root(path);
@@ -212,17 +225,17 @@ impl<'a> SpelledPath<'a> {
 
     // Puts the path.
     #[tactic(auto, unfolding(crate::specs::SpelledItems::spelled_path_text))]
-    fn put<O: Backward>(&self, out: &mut O)
+    fn put<O: Backward>(&self, out: &mut O, raw: bool)
         requires counted { IsCounted self.now }
-        requires fits { O.fits out.old (spelled_path_text self.now) }
-        ensures { out.new ≡ O.after out.old (spelled_path_text self.now) }
+        requires fits { O.fits out.old (spelled_path_text raw self.now) }
+        ensures { out.new ≡ O.after out.old (spelled_path_text raw self.now) }
     {
-        put_items(out, self.items, self.count, self.standing);
+        put_items(out, raw, self.items, self.count, self.standing);
         out.put(self.guard.as_bytes());
     }
 }
 
-/// The canonical path of a reference, not written yet.
+/// The path of a key's text, not written yet.
 #[derive(Clone, Copy)]
 pub enum CanonicalPath<'a> {
     /// It stands as it is.
@@ -243,20 +256,20 @@ fn is_rooted(path: &[u8]) -> bool
     }
 }
 
-// Whether one scan finds that the path is canonical, as that of `http://a/b` is.
+// Whether one scan finds that the path stands, as that of `http://a/b` does.
 #[inline(always)]
 fn is_kept_path(path: &str) -> bool
     ensures { result ≡ is_kept_path path.now }
 {
-    is_rooted(path.as_bytes()) && is_passed(path, PATH) && !has_dots(path.as_bytes())
+    is_rooted(path.as_bytes()) && has_path_bytes(path.as_bytes()) && !has_dots(path.as_bytes())
 }
 
 impl<'a> CanonicalPath<'a> {
-    /// The canonical path in its context.
+    /// The path of a key's text in its context.
     #[tactic(auto, using(crate::proofs::KeptPathLemmas::kept))]
-    pub fn new(context: PathContext, path: &'a str) -> Self
-        ensures text { canonical_path_text result
-            ≡ spell_path (guarded context (canonical_path (path_key (read_path path.now)))) }
+    pub fn new(raw: bool, context: PathContext, path: &'a str) -> Self
+        ensures text { canonical_path_text raw result
+            ≡ spell_path (guarded context (spelled_path raw (path_key (read_path path.now)))) }
         ensures ready { IsReady result }
     {
         if is_kept_path(path) {
@@ -267,14 +280,14 @@ impl<'a> CanonicalPath<'a> {
     }
 
     /// Puts the path.
-    pub(crate) fn put<O: Backward>(&self, out: &mut O)
+    pub(crate) fn put<O: Backward>(&self, out: &mut O, raw: bool)
         requires ready { IsReady self.now }
-        requires fits { O.fits out.old (canonical_path_text self.now) }
-        ensures { out.new ≡ O.after out.old (canonical_path_text self.now) }
+        requires fits { O.fits out.old (canonical_path_text raw self.now) }
+        ensures { out.new ≡ O.after out.old (canonical_path_text raw self.now) }
     {
         match self {
             CanonicalPath::Kept(path) => out.put(path.as_bytes()),
-            CanonicalPath::Spelled(path) => path.put(out),
+            CanonicalPath::Spelled(path) => path.put(out, raw),
         }
     }
 }

@@ -1,10 +1,11 @@
-//! The canonical text of a reference, from the components of its text (RFC 3986 section 5.3).
+//! The canonical text of a reference, or the one that is hashed, from the components of its text (RFC
+//! 3986 section 5.3).
 ghost use Rattle.std.specs.Prelude.{◌≡◌, ◌∷◌, [], codes, option_map};
 ghost use Rattle.std.specs.{Option.{option_copied}, Str.{str_to_ascii_lowercase}};
-ghost use Rattle.iref_grammar.specs.{Grammar.{colon}, Texts.{part_then, then_part}};
+ghost use Rattle.iref_grammar.specs.{Grammar.{colon}, Reference.{spell}, Texts.{part_then, then_part}};
 ghost use Rattle.iref_model.specs.Key.{key};
 ghost use Rattle.iref_parse.specs.ReferenceSlices.{value_of};
-ghost use Rattle.iref_canonical.specs.{Canonical.{canonical_text}, CanonicalParts.{encoded_authority, encoded_query}};
+ghost use Rattle.iref_canonical.specs.{Canonical.{spelled}, CanonicalParts.{encoded_authority, encoded_query}};
 ghost use Rattle.iref_canonical.specs.CanonicalReferences.{IsMeasured, measured_canonical};
 
 use crate::authority::put_authority;
@@ -15,22 +16,24 @@ use iref_parse::split::ReferenceSlices;
 use iref_splice::backward::Backward;
 use iref_splice::unwritten::Unwritten;
 
-/// The canonical text of a reference, not written yet.
+/// The canonical text of a reference, or the one that is hashed, not written yet.
 #[derive(Clone, Copy)]
 pub struct CanonicalReference<'a> {
     slices: ReferenceSlices<'a>,
     path: CanonicalPath<'a>,
+    // Whether bytes beyond ASCII stand raw, as in the text that is hashed.
+    raw: bool,
 }
 
 // Puts a query or a fragment after its delimiter, if there is one.
-#[tactic(auto, using(crate::proofs::SetLemmas::sets))]
-fn put_marked<O: Backward>(out: &mut O, mark: &[u8], part: Option<&str>)
-    requires { O.fits out.old (then_part mark.now (encoded_query (option_copied part))) }
+#[tactic(auto, using(crate::proofs::SetLemmas::sets, crate::proofs::EncodedLemmas::spared))]
+fn put_marked<O: Backward>(out: &mut O, raw: bool, mark: &[u8], part: Option<&str>)
+    requires { O.fits out.old (then_part mark.now (encoded_query raw (option_copied part))) }
     ensures { out.new ≡ O.after out.old
-        (then_part mark.entry.now (encoded_query (option_copied part.entry))) }
+        (then_part mark.entry.now (encoded_query raw (option_copied part.entry))) }
 {
     if let Some(part) = part {
-        put_encoded(out, part, QUERY);
+        put_encoded(out, raw, QUERY, part);
         out.put(mark);
     }
 }
@@ -49,22 +52,23 @@ fn put_scheme<O: Backward>(out: &mut O, scheme: Option<&str>)
 }
 
 // Puts an authority after `//`, if there is one.
-fn put_marked_authority<O: Backward>(out: &mut O, authority: Option<&str>)
+fn put_marked_authority<O: Backward>(out: &mut O, raw: bool, authority: Option<&str>)
     requires { O.fits out.old
-        (then_part (codes "//") (encoded_authority (option_copied authority))) }
+        (then_part (codes "//") (encoded_authority raw (option_copied authority))) }
     ensures { out.new ≡ O.after out.old
-        (then_part (codes "//") (encoded_authority (option_copied authority.entry))) }
+        (then_part (codes "//") (encoded_authority raw (option_copied authority.entry))) }
 {
     if let Some(authority) = authority {
-        put_authority(out, authority);
+        put_authority(out, raw, authority);
         out.put(b"//");
     }
 }
 
 impl<'a> CanonicalReference<'a> {
-    /// The canonical text of the reference of these components.
-    pub fn new(slices: ReferenceSlices<'a>) -> Self
-        ensures text { measured_canonical result ≡ canonical_text (key (value_of slices.entry)) }
+    /// The text of the reference of these components: the canonical one, or that which is hashed, in
+    /// which bytes beyond ASCII stand raw.
+    pub fn new(raw: bool, slices: ReferenceSlices<'a>) -> Self
+        ensures text { measured_canonical result ≡ spell (spelled raw (key (value_of slices.entry))) }
         ensures measured { IsMeasured result }
     {
         let context = PathContext {
@@ -73,7 +77,8 @@ impl<'a> CanonicalReference<'a> {
         };
         CanonicalReference {
             slices,
-            path: CanonicalPath::new(context, slices.path),
+            path: CanonicalPath::new(raw, context, slices.path),
+            raw,
         }
     }
 }
@@ -85,10 +90,10 @@ impl Unwritten for CanonicalReference<'_> {
 
     #[tactic(auto, unfolding(crate::specs::CanonicalReferences::measured_canonical))]
     fn put<O: Backward>(&self, out: &mut O) {
-        put_marked(out, b"#", self.slices.fragment);
-        put_marked(out, b"?", self.slices.query);
-        self.path.put(out);
-        put_marked_authority(out, self.slices.authority);
+        put_marked(out, self.raw, b"#", self.slices.fragment);
+        put_marked(out, self.raw, b"?", self.slices.query);
+        self.path.put(out, self.raw);
+        put_marked_authority(out, self.raw, self.slices.authority);
         put_scheme(out, self.slices.scheme);
     }
 }

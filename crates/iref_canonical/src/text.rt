@@ -1,4 +1,4 @@
-//! Canonical texts from the texts of references: those with one key have one text.
+//! Canonical texts from the texts of references, and what is hashed: those with one key have one text.
 ghost use Rattle.std.specs.{Prelude.{◌≡◌, true, bytes_eq, fold, IfOk, OnErr, OnOk}, String.{string_bytes}};
 ghost use Rattle.iref_grammar.specs.Reference.{IsReadable, is_reference, read_reference};
 ghost use Rattle.iref_model.specs.Key.{key};
@@ -26,7 +26,7 @@ pub fn canonical_text<C: CharSet>(
     ensures { IfOk result (λ copy.
         string_bytes copy ≡ canonical_text (key (value_of slices.entry))) }
 {
-    let bytes = CanonicalReference::new(slices).to_bytes(alloc)?;
+    let bytes = CanonicalReference::new(false, slices).to_bytes(alloc)?;
     // A canonical text is ASCII, so no byte is read again.
     Ok(unsafe { String::from_utf8_unchecked(bytes) })
 }
@@ -44,7 +44,7 @@ pub fn write_canonical_text<C: CharSet>(
 {
     let empty = String::new(*over.allocator());
     let mut bytes = mem::replace(over, empty).into_bytes();
-    let written = CanonicalReference::new(slices).write_over(&mut bytes);
+    let written = CanonicalReference::new(false, slices).write_over(&mut bytes);
     // A canonical text is ASCII, and what stood there was a text, so no byte is read again.
     *over = unsafe { String::from_utf8_unchecked(bytes) };
     written
@@ -57,28 +57,29 @@ pub fn is_canonical<C: CharSet>(text: &str, slices: ReferenceSlices<'_>) -> bool
     requires slices { value_of slices ≡ read_reference text.now }
     ensures { result ≡ bytes_eq text.now (canonical_text (key (read_reference text.now))) }
 {
-    is_plain::<C>(text, slices) || CanonicalReference::new(slices).is(text.as_bytes())
+    is_plain::<C>(false, text, slices) || CanonicalReference::new(false, slices).is(text.as_bytes())
 }
 
-/// Feeds the canonical text of a reference, of which text and components are given, to a hasher. A
-/// text that one scan finds to be canonical is read as it stands.
+/// Feeds the canonical text of a reference, of which text and components are given, to a hasher, with
+/// the bytes beyond ASCII raw. A text that one scan finds to be this is read as it stands.
 #[tactic(auto, unfolding(crate::specs::Hashed::fed_reference))]
 pub fn feed_canonical<C: CharSet, H: Hasher>(text: &str, slices: ReferenceSlices<'_>, state: &mut H)
     requires reference { is_reference C.tests text.now ≡ true }
     requires slices { value_of slices ≡ read_reference text.now }
     ensures { state.new ≡ fold H.write state.old (fed_reference (key (read_reference text.now))) }
 {
-    if is_plain::<C>(text, slices) {
+    if is_plain::<C>(true, text, slices) {
         feed_text(text.as_bytes(), state);
     } else {
         feed_slices(slices, state);
     }
 }
 
-/// Feeds the canonical text of the reference of these components to a hasher.
+/// Feeds the canonical text of the reference of these components to a hasher, with the bytes beyond
+/// ASCII raw.
 #[tactic(auto, unfolding(crate::specs::Hashed::fed_reference))]
 pub fn feed_slices<H: Hasher>(slices: ReferenceSlices<'_>, state: &mut H)
     ensures { state.new ≡ fold H.write state.old (fed_reference (key (value_of slices.entry))) }
 {
-    CanonicalReference::new(slices).feed(state);
+    CanonicalReference::new(true, slices).feed(state);
 }

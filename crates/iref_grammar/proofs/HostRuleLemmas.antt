@@ -158,7 +158,7 @@ pub ones_encoded : (test : ℕ → Bool) → test percent_sign ≡ false → (te
 ones_encoded test safe [] h = refl
 ones_encoded test safe (c ∷ cs) h = grind (arith, take_char, ones_encoded test safe cs)
 
-join_all : (test : ℕ → Bool) (sep : ℕ) → test sep ≡ true → (pieces : List Text) → list_all (list_all test) pieces ≡ true → list_all test (join_with_byte sep pieces) ≡ true
+pub join_all : (test : ℕ → Bool) (sep : ℕ) → test sep ≡ true → (pieces : List Text) → list_all (list_all test) pieces ≡ true → list_all test (join_with_byte sep pieces) ≡ true
 join_all test sep h [] k = refl
 join_all test sep h (p ∷ []) k = first_of_both (list_all test p) true k
 join_all test sep h (p ∷ q ∷ pieces) k = grind (arith, common_steps, join_all test sep h (q ∷ pieces))

@@ -47,7 +47,7 @@ all_but_last-map (s ∷ ss) = grind (arith, common_steps, all_but_last-map ss)
 
 -- ---- references
 
-guarded_reference-mapped : (r : ReferenceValue) → guarded_reference (mapped_reference r) ≡ mapped_reference (guarded_reference r)
+pub guarded_reference-mapped : (r : ReferenceValue) → guarded_reference (mapped_reference r) ≡ mapped_reference (guarded_reference r)
 guarded_reference-mapped r = grind (arith, common_steps, context_of-mapped, guarded-mapped)
 
 module _ (base : ReferenceValue) where

@@ -5,8 +5,8 @@ use Rattle.std.specs.List.{prefix_len}
 use Rattle.std.proofs.lemmas.Bool.{agree_below_at, eq-eqb, ne_eqb}
 use Rattle.std.proofs.lemmas.List.Sums.{prefix_len_is, prefix_len_passes, prefix_len_stops, prefix_len-le-length}
 use Rattle.iref_parse.specs.declared.plain.Groups.{Groups}
-use Rattle.iref_parse.specs.declared.plain.TheConstants.{ASCII, COMMON}
-use Rattle.iref_parse.specs.Plain.{is_plain_byte, is_common_byte, other_groups, is_in_no_group}
+use Rattle.iref_parse.specs.declared.plain.TheConstants.{ASCII, COMMON, NAME, PATH}
+use Rattle.iref_parse.specs.Plain.{is_plain_byte, is_common_byte, is_name_byte, is_path_byte, other_groups, is_in_no_group}
 use Rattle.iref_parse.specs.Lanes.{IsFirstMarked}
 
 -- a test that agrees with another on each byte of a list passes as many in front
@@ -20,6 +20,12 @@ module _ (bytes : List ℕ) (fit : (k : ℕ) → Fits w8 (get_or bytes k 0)) whe
 
   pub common_front : prefix_len (is_in_no_group COMMON) bytes ≡ prefix_len is_common_byte bytes
   common_front = front_agrees (is_in_no_group COMMON) is_common_byte bytes (λ k. agree_below_at (is_in_no_group COMMON) is_common_byte 256 (get_or bytes k 0) refl (fit k).fits)
+
+pub name_byte : (b : ℕ) → Fits w8 b → is_in_no_group NAME b ≡ is_name_byte b
+name_byte b fit = agree_below_at (is_in_no_group NAME) is_name_byte 256 b refl fit.fits
+
+pub path_byte : (b : ℕ) → Fits w8 b → is_in_no_group PATH b ≡ is_path_byte b
+path_byte b fit = agree_below_at (is_in_no_group PATH) is_path_byte 256 b refl fit.fits
 
 -- the mark of the byte at index k
 abbrev pub groups_at : Groups → List ℕ → ℕ → ℕ

@@ -9,6 +9,14 @@ use Rattle.iref_parse.specs.declared.plain.Groups.{Groups}
 abbrev pub is_plain_byte : ℕ → Bool
 is_plain_byte b = is_ascii b && (is_ascii_alphanumeric b || char_set_contains (codes "-._~!$&'()*+,;=:@/?#") b)
 
+-- a character of a registered name (RFC 3986 section 3.2.2), which stands in each component
+abbrev pub is_name_byte : ℕ → Bool
+is_name_byte b = is_ascii b && (is_ascii_alphanumeric b || char_set_contains (codes "-._~!$&'()*+,;=") b)
+
+-- a character of a path, or `/`
+abbrev pub is_path_byte : ℕ → Bool
+is_path_byte b = is_ascii b && (is_ascii_alphanumeric b || char_set_contains (codes "-._~!$&'()*+,;=:@/") b)
+
 -- a byte with which a character from U+00C0 to U+D7FF begins in UTF-8
 abbrev pub begins_common : ℕ → Bool
 begins_common = is_in_range 0xC3 0xED
@@ -25,9 +33,13 @@ is_common_byte b = is_plain_byte b || is_of_common b
 abbrev pub is_unescaped_byte : ℕ → Bool
 is_unescaped_byte b = is_ascii b && is_not_percent b
 
+-- 0 exactly if it is another byte than `%`
+abbrev pub percent_mark : ℕ → ℕ
+percent_mark b = if b == percent_sign then 255 else 0
+
 -- 0 exactly if it is one
 abbrev pub unescaped_mark : ℕ → ℕ
-unescaped_mark b = bit_or (bit_and b 128) (if b == percent_sign then 255 else 0)
+unescaped_mark b = bit_or (bit_and b 128) (percent_mark b)
 
 -- a byte other than 0, 1 and `%`
 abbrev pub is_kept_byte : ℕ → Bool
@@ -35,7 +47,7 @@ is_kept_byte b = nat_lt 1 b && is_not_percent b
 
 -- 0 exactly if it is one
 abbrev pub kept_mark : ℕ → ℕ
-kept_mark b = bit_or (if bit_and b 254 == 0 then 255 else 0) (if b == percent_sign then 255 else 0)
+kept_mark b = bit_or (if bit_and b 254 == 0 then 255 else 0) (percent_mark b)
 
 -- the groups that both halves of b are in
 abbrev pub other_groups : Groups → ℕ → ℕ

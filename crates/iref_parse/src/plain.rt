@@ -1,6 +1,7 @@
 //! How many bytes of a text stand before the first that is not plain.
-ghost use Rattle.std.specs.Prelude.{◌≡◌, length, slice_index};
+ghost use Rattle.std.specs.Prelude.{◌≡◌, ◌+◌, ◌≤◌, length, slice_index};
 ghost use Rattle.std.specs.List.{prefix_len};
+ghost use Rattle.iref_parse.specs.Lanes.{HasLanes};
 ghost use Rattle.iref_parse.specs.Plain as plain;
 
 use crate::lanes::{both, by_high_half, by_low_half, load};
@@ -31,11 +32,35 @@ static COMMON: Groups = Groups {
     high: [1, 1, 2, 4, 0, 16, 32, 64, 0, 0, 0, 0, 8, 0, 128, 1],
 };
 
+/// Plain are the bytes of a registered name that are no escapes.
+pub(crate) static NAME: Groups = Groups {
+    low: [11, 1, 3, 3, 1, 3, 1, 1, 1, 1, 5, 49, 53, 49, 21, 39],
+    high: [1, 1, 2, 4, 8, 16, 8, 32, 1, 1, 1, 1, 1, 1, 1, 1],
+};
+
+/// Plain are the bytes of a path that are no escapes.
+pub(crate) static PATH: Groups = Groups {
+    low: [67, 1, 3, 3, 1, 3, 1, 1, 1, 1, 1, 49, 53, 49, 21, 37],
+    high: [1, 1, 2, 4, 0, 16, 64, 32, 1, 1, 1, 1, 1, 1, 1, 1],
+};
+
+/// Whether the byte is plain by the groups.
 #[inline(always)]
-fn is_plain_byte(groups: &Groups, byte: u8) -> bool
+pub(crate) fn is_plain_byte(groups: &Groups, byte: u8) -> bool
     ensures { result ≡ plain.is_in_no_group groups.now byte }
 {
     groups.low[usize::from(byte % 16)] & groups.high[usize::from(byte / 16)] == 0
+}
+
+/// The groups of 16 bytes: no group for a byte that is plain.
+#[inline(always)]
+pub(crate) fn other_lanes(groups: &Groups, bytes: &[u8], at: usize) -> u8x16
+    requires { at + 16 ≤ length bytes.now }
+    ensures { HasLanes result (λ k.
+        plain.other_groups groups.now (slice_index bytes.now (at + k))) }
+{
+    let v = load(bytes, at);
+    both(by_low_half(&groups.low, v), by_high_half(&groups.high, v))
 }
 
 // A text in which the bytes that are not plain by the groups are marked.
@@ -52,11 +77,7 @@ impl Marks for OtherThan<'_> {
 
     #[inline(always)]
     fn lanes(&self, at: usize) -> u8x16 {
-        let v = load(self.bytes, at);
-        both(
-            by_low_half(&self.groups.low, v),
-            by_high_half(&self.groups.high, v),
-        )
+        other_lanes(self.groups, self.bytes, at)
     }
 }
 

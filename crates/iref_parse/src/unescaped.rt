@@ -1,13 +1,18 @@
-//! Whether a text is ASCII, and has no escape; and whether it has neither escapes nor bytes below 2.
+//! Whether each byte of a text is of a kind: other than `%`, also ASCII, also at least 2, or of a name or
+//! a path.
 ghost use Rattle.std.proofs.{Common.{refl}, lemmas.Bool.{agree_below_at}};
 ghost use Rattle.std.specs.Prelude.{◌≡◌, ℕ, ◌+◌, ◌%◌, ◌<◌, ◌≤◌, ◌==◌, if◌then◌else◌};
 ghost use Rattle.std.specs.Prelude.{Bool, bit_and, length, slice_index};
 ghost use Rattle.std.specs.List.{list_all};
+ghost use Rattle.iref_grammar.specs.Grammar.{is_not_percent};
 ghost use Rattle.iref_parse.specs.Lanes.{HasLanes};
 ghost use Rattle.iref_parse.specs.Plain.{is_kept_byte, is_unescaped_byte, kept_mark};
-ghost use Rattle.iref_parse.specs.Plain.{unescaped_mark};
+ghost use Rattle.iref_parse.specs.Plain.{is_in_no_group, is_name_byte, is_path_byte};
+ghost use Rattle.iref_parse.specs.Plain.{other_groups, percent_mark, unescaped_mark};
+ghost use Rattle.iref_parse.specs.declared.plain.TheConstants.{NAME, PATH};
 
 use crate::lanes::{both, either, equal_to, is_clear, lesser, load};
+use crate::plain::{NAME, PATH, is_plain_byte, other_lanes};
 use crate::position::ends_of;
 use std::simd::prelude::*;
 
@@ -37,6 +42,15 @@ struct UnescapedBytes;
 
 // All bytes but 0, 1 and `%`.
 struct KeptBytes;
+
+// All bytes but `%`.
+struct OtherBytes;
+
+// The bytes of a registered name that are no escapes.
+struct NameBytes;
+
+// The bytes of a path that are no escapes.
+struct PathBytes;
 
 impl ByteRule for UnescapedBytes {
     ghost allowed = { is_unescaped_byte };
@@ -85,6 +99,62 @@ impl ByteRule for KeptBytes {
     }
 }
 
+impl ByteRule for OtherBytes {
+    ghost allowed = { is_not_percent };
+
+    ghost mark = { percent_mark };
+
+    ghost tells = { λ b l. agree_below_at (λ x. percent_mark x == 0) is_not_percent 256 b refl l };
+
+    #[inline(always)]
+    fn allows(byte: u8) -> bool {
+        byte != b'%'
+    }
+
+    #[inline(always)]
+    fn marks(bytes: &[u8], at: usize) -> u8x16 {
+        equal_to(load(bytes, at), b'%')
+    }
+}
+
+impl ByteRule for NameBytes {
+    ghost allowed = { is_name_byte };
+
+    ghost mark = { other_groups NAME };
+
+    ghost tells = { λ b l. agree_below_at (is_in_no_group NAME) is_name_byte 256 b refl l };
+
+    #[inline(always)]
+    #[tactic(auto, using(crate::proofs::PlainLemmas::name_byte))]
+    fn allows(byte: u8) -> bool {
+        is_plain_byte(&NAME, byte)
+    }
+
+    #[inline(always)]
+    fn marks(bytes: &[u8], at: usize) -> u8x16 {
+        other_lanes(&NAME, bytes, at)
+    }
+}
+
+impl ByteRule for PathBytes {
+    ghost allowed = { is_path_byte };
+
+    ghost mark = { other_groups PATH };
+
+    ghost tells = { λ b l. agree_below_at (is_in_no_group PATH) is_path_byte 256 b refl l };
+
+    #[inline(always)]
+    #[tactic(auto, using(crate::proofs::PlainLemmas::path_byte))]
+    fn allows(byte: u8) -> bool {
+        is_plain_byte(&PATH, byte)
+    }
+
+    #[inline(always)]
+    fn marks(bytes: &[u8], at: usize) -> u8x16 {
+        other_lanes(&PATH, bytes, at)
+    }
+}
+
 // Whether each byte is allowed. The bytes are read one by one.
 fn allows_few<R: ByteRule>(bytes: &[u8]) -> bool
     ensures { result ≡ list_all R.allowed bytes.now }
@@ -128,6 +198,31 @@ fn allows_all<R: ByteRule>(bytes: &[u8]) -> bool
         at += 16;
     }
     is_clear(seen)
+}
+
+/// Whether each byte of the text is of a registered name, and no escape. Such a text stands in each
+/// component.
+#[inline(always)]
+pub fn has_name_bytes(bytes: &[u8]) -> bool
+    ensures { result ≡ list_all is_name_byte bytes.now }
+{
+    allows_all::<NameBytes>(bytes)
+}
+
+/// Whether each byte of the text is of a path, and no escape.
+#[inline(always)]
+pub fn has_path_bytes(bytes: &[u8]) -> bool
+    ensures { result ≡ list_all is_path_byte bytes.now }
+{
+    allows_all::<PathBytes>(bytes)
+}
+
+/// Whether no byte of the text is `%`.
+#[inline(always)]
+pub fn has_no_percent(bytes: &[u8]) -> bool
+    ensures { result ≡ list_all is_not_percent bytes.now }
+{
+    allows_all::<OtherBytes>(bytes)
 }
 
 /// Whether each byte of the text is ASCII other than `%`.

@@ -115,7 +115,7 @@ fn canonical_of<R: HeldRule, C: CharSet>(
         reference_buf_text copy ≡ canonical_text (key (read_reference text.now))) }
     ensures key { IfOk result (λ copy. key_of_reference_buf copy ≡ key (read_reference text.now)) }
 {
-    if is_plain::<C>(text, slices) {
+    if is_plain::<C>(false, text, slices) {
         let copy = String::from_str(alloc, text)?;
         return Ok(ReferenceBuf::from_inner(ReferenceText::of_slices(copy, slices)));
     }

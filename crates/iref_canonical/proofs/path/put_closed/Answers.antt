@@ -5,5 +5,5 @@ use Rattle.iref_canonical.proofs.path.put_closed.Goals as goal
 
 pub put_closed_item-requires : goal.put_closed_item-requires
 put_closed_item-requires g c =
-    let step = closed-step c.args.standing (normal_left c.loop-item.left) (normal_left c.next_back.new.self) c.in-Some.item.now c.loop-item.at in
+    let step = closed-step c.args.raw c.args.standing (normal_left c.loop-item.left) (normal_left c.next_back.new.self) c.in-Some.item.now c.loop-item.at in
     grind (arith, g.met.O.Backward.fits_both, step)

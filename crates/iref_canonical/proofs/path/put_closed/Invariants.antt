@@ -6,8 +6,8 @@ use Rattle.iref_canonical.proofs.path.put_closed.Given as goal
 
 abbrev pub invariant-loop-item : goal.invariant-loop-item
 invariant-loop-item g l = record {
-  same : g.O.Backward.after l.out (each_closed (spelled_items l.standing (decoded_left l.left))) ≡ g.O.Backward.after l.fn.out (each_closed (spelled_items l.standing (decoded_left l.fn.left)));
-  fits : g.O.Backward.fits l.out (each_closed (spelled_items l.standing (decoded_left l.left)));
+  same : g.O.Backward.after l.out (each_closed (spelled_items l.raw l.standing (decoded_left l.left))) ≡ g.O.Backward.after l.fn.out (each_closed (spelled_items l.raw l.standing (decoded_left l.fn.left)));
+  fits : g.O.Backward.fits l.out (each_closed (spelled_items l.raw l.standing (decoded_left l.left)));
   at : l.at ≡ length (normal_left l.left);
   sound : IsSound l.left;
 }

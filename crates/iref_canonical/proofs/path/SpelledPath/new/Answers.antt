@@ -14,11 +14,11 @@ survey_items-all-requires c = omega (arith, read_size c.args.path.now _ c.split_
 
 pub returns-clause-text : goal.returns-clause-text
 unfolding spelled_path_text
-returns-clause-text c =
+returns-clause-text c = λ raw.
     let list = decoded_left c.survey_items-all.result.items in
     let first = first-decoded (normal_left c.survey_items-all.result.items) in
     let like : AreLike c.sample.result.now (first_or [] list) = record { empty = grind arith; marked = grind arith } in
-    let spelled = path-spelled c.args.context (read_path c.args.path.now) list c.len-count.result c.count_standing_in-standing.result c.sample.result.now in
+    let spelled = path-spelled raw c.args.context (read_path c.args.path.now) list c.len-count.result c.count_standing_in-standing.result c.sample.result.now in
     grind (arith, like, spelled, length-map (normal_left c.survey_items-all.result.items) percent_decode)
 
 pub returns-clause-counted : goal.returns-clause-counted

@@ -3,9 +3,9 @@ use Rattle.iref_grammar.proofs.ComponentLemmas.{is_some-copied}
 use Rattle.iref_parse.specs.ReferenceSlices.{texts_of}
 use Rattle.iref_canonical.specs.CanonicalReferences.{measured_canonical}
 use Rattle.iref_canonical.specs.KeptPaths.{canonical_path_text}
-use Rattle.iref_canonical.proofs.CanonicalSpellingLemmas.{canonical-spelled}
+use Rattle.iref_canonical.proofs.CanonicalSpellingLemmas.{components-spelled}
 use Rattle.iref_canonical.proofs.reference.CanonicalReference.new.Goals as goal
 
 pub returns-clause-text : goal.returns-clause-text
 unfolding measured_canonical
-returns-clause-text c = canonical-spelled (texts_of c.args.slices) (canonical_path_text c.new.result) (grind (arith, is_some-copied))
+returns-clause-text c = components-spelled c.args.raw (texts_of c.args.slices) (canonical_path_text c.args.raw c.new.result) (grind (arith, is_some-copied))
