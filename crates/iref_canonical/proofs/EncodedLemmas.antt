@@ -1,5 +1,5 @@
 -- Bytes that are decoded and encoded anew.
-use Rattle.std.proofs.Common.{◌≡◌, ℕ, ◌<◌, Bool, true, false, not, cond, ◌&&◌, ◌||◌, [], ◌∷◌, ◌++◌, refl, sym, ◌∙◌, ap}
+use Rattle.std.proofs.Common.{◌≡◌, ℕ, ◌<◌, Bool, true, not, cond, ◌&&◌, ◌||◌, [], ◌∷◌, ◌++◌, refl, sym, ◌∙◌, ap}
 use Rattle.std.specs.Char.{is_ascii}
 use Rattle.std.specs.List.{list_all}
 use Rattle.std.proofs.lemmas.Bool.{agree_below_at, and_from, and_parts, ltb-true, not-true}
@@ -14,16 +14,12 @@ use Rattle.iref_grammar.specs.Rules.{Text}
 use Rattle.iref_grammar.proofs.LackLemmas.{all_lacks}
 use Rattle.iref_parse.specs.Plain.{is_name_byte}
 use Rattle.iref_canonical.specs.Canonical.{is_raw}
-use Rattle.iref_canonical.specs.Decoded.{SparesNames, SplitsLast, is_byte_passed, is_escaped, is_passed, recoded, recoded_byte}
+use Rattle.iref_canonical.specs.Decoded.{SparesNames, SplitsLast, is_escaped, is_passed, is_unchanged, recoded, recoded_byte}
 use Rattle.iref_canonical.specs.declared.authority.TheConstants.{NOTHING}
 use Rattle.iref_canonical.specs.declared.encoded.TheConstants.{QUERY, REG_NAME, SEGMENT, USER_INFO}
 use Rattle.iref_canonical.proofs.CanonicalPartLemmas.{decoded-lacks}
 
 -- ---- names
-
-pub and-false : (b : Bool) → (b && false) ≡ false
-and-false true = refl
-and-false false = refl
 
 -- what holds of each number below 128 holds of a character of a name
 module _ (test : ℕ → Bool) (all : (b : ℕ) → b < 128 → (not (is_name_byte b) || test b) ≡ true) where
@@ -32,6 +28,12 @@ module _ (test : ℕ → Bool) (all : (b : ℕ) → b < 128 → (not (is_name_by
 
 name_other : (b : ℕ) → is_name_byte b ≡ true → is_not_percent b ≡ true
 name_other = each_name is_not_percent (λ b l. agree_below_at (λ c. not (is_name_byte c) || is_not_percent c) (λ c. true) 128 b refl l)
+
+names_other : (text : Text) → list_all is_name_byte text ≡ true → list_all is_not_percent text ≡ true
+names_other [] h = refl
+names_other (b ∷ bytes) h =
+    let both = and_parts (is_name_byte b) (list_all is_name_byte bytes) h in
+    and_from (is_not_percent b) (list_all is_not_percent bytes) (name_other b both.0) (names_other bytes both.1)
 
 spares : (set : AsciiSet) → ((b : ℕ) → b < 128 → (not (is_name_byte b) || not (should_percent_encode set b)) ≡ true) → SparesNames set
 spares set all b h = not-true (should_percent_encode set b) (each_name (λ c. not (should_percent_encode set c)) all b h)
@@ -74,27 +76,32 @@ module _ (raw : Bool) (set : AsciiSet) where
   unfolding recoded
   encoded-nothing text e = ap (λ t. recoded raw set (percent_decode t)) e ∙ ap (recoded raw set) percent_decode-nil
 
-  passed-encoded : (text : Text) → is_passed raw set text ≡ true → recoded raw set text ≡ text
-  unfolding recoded recoded_byte is_passed
+  passed-encoded : (text : Text) → list_all (is_unchanged raw set) text ≡ true → recoded raw set text ≡ text
+  unfolding recoded recoded_byte
   passed-encoded [] h = refl
   passed-encoded (b ∷ bytes) h =
-      let both = and_parts (is_byte_passed raw set b) (is_passed raw set bytes) h in
-      let kept = not-true _ (and_parts (is_not_percent b) _ both.0).1 in
+      let both = and_parts (is_unchanged raw set b) (list_all (is_unchanged raw set) bytes) h in
+      let kept = not-true _ both.0 in
       λ i. cond (kept i) (percent_encode_byte b) (b ∷ []) ++ passed-encoded bytes both.1 i
 
-  names-passed : SparesNames set → (text : Text) → list_all is_name_byte text ≡ true → is_passed raw set text ≡ true
-  unfolding is_passed is_escaped
-  names-passed spares [] h = refl
-  names-passed spares (b ∷ bytes) h =
+  names_unchanged : SparesNames set → (text : Text) → list_all is_name_byte text ≡ true → list_all (is_unchanged raw set) text ≡ true
+  unfolding is_escaped
+  names_unchanged spares [] h = refl
+  names_unchanged spares (b ∷ bytes) h =
       let both = and_parts (is_name_byte b) (list_all is_name_byte bytes) h in
-      let stays = ap (λ e. not (not (raw && is_raw b) && e)) (spares b both.0) ∙ ap not (and-false (not (raw && is_raw b))) in
-      and_from (is_byte_passed raw set b) (is_passed raw set bytes) (and_from (is_not_percent b) _ (name_other b both.0) stays) (names-passed spares bytes both.1)
+      let stays = ap (λ e. not (e && not (raw && is_raw b))) (spares b both.0) in
+      and_from (is_unchanged raw set b) (list_all (is_unchanged raw set) bytes) stays (names_unchanged spares bytes both.1)
+
+  names-passed : SparesNames set → (text : Text) → list_all is_name_byte text ≡ true → is_passed raw set text ≡ true
+  unfolding is_passed
+  names-passed spares text h = and_from (list_all is_not_percent text) (list_all (is_unchanged raw set) text) (names_other text h) (names_unchanged spares text h)
 
   -- a text of such bytes stands
   pub encoded-already : (text : Text) → is_passed raw set text ≡ true → recoded raw set (percent_decode text) ≡ text
   unfolding is_passed
   encoded-already text h =
-      ap (recoded raw set) (decoded-lacks text (all_lacks (is_byte_passed raw set) percent_sign refl text h)) ∙ passed-encoded text h
+      let both = and_parts (list_all is_not_percent text) (list_all (is_unchanged raw set) text) h in
+      ap (recoded raw set) (decoded-lacks text (all_lacks is_not_percent percent_sign refl text both.0)) ∙ passed-encoded text both.1
 
   pub encoded-names : SparesNames set → (text : Text) → list_all is_name_byte text ≡ true → recoded raw set (percent_decode text) ≡ text
   encoded-names spares text h = encoded-already text (names-passed spares text h)

@@ -28,6 +28,7 @@ pub mod SortByteLemmas
 pub mod SortItemLemmas
 pub mod KeptPartLemmas
 pub mod KeptPathLemmas
+pub mod RootedPathLemmas
 pub mod SortPutLemmas
 pub mod SortBlockLemmas
 pub mod SortShortLemmas

@@ -42,11 +42,13 @@ module _ (set : AsciiSet) (test : ℕ → Bool) (plain : IsPlain test) (apart : 
 
   flipped : (raw : Bool) (b : ℕ) → is_escaped raw set b ≡ not (stands raw test b)
   unfolding is_escaped
-  flipped raw b = by (raw && is_raw b)
+  flipped raw b = by (raw && is_raw b) (should_percent_encode set b) (tested b)
     where
-      by : (beyond : Bool) → (not beyond && should_percent_encode set b) ≡ not (beyond || test b)
-      by true = refl
-      by false = tested b
+      by : (beyond escaped : Bool) → escaped ≡ not (test b) → (escaped && not beyond) ≡ not (beyond || test b)
+      by true true e = refl
+      by true false e = refl
+      by false true e = e
+      by false false e = e
 
   one_byte : (raw : Bool) (b : ℕ) → recoded_byte raw set b ≡ encoded_byte (stands raw test) b
   unfolding recoded_byte

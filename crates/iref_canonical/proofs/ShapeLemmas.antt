@@ -33,7 +33,7 @@ pub record AreLike (s t : Text) : Type 0 where
   pub empty : is_empty s ≡ is_empty t
   pub marked : char_set_contains s colon ≡ char_set_contains t colon
 
-like-same : (s : Text) → AreLike s s
+pub like-same : (s : Text) → AreLike s s
 like-same s = record { empty = refl; marked = refl }
 
 pub like-both : (s t u : Text) → AreLike s t → AreLike t u → AreLike s u

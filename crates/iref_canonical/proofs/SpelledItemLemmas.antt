@@ -141,4 +141,20 @@ standing-end all e = ap (λ list. standing_of (map percent_decode list)) e ∙ s
 
 pub ruleset steps = (joined-end, joined-step, closed-end, closed-step, one_less)
 
+-- ---- where none stands
+
+none_below : (k : ℕ) → nat_lt k 0 ≡ false
+none_below k = grind (arith, nat_tests)
+
+pub name-closed : (raw : Bool) (all front : List Text) (item : Text) → all ≡ front ++ item ∷ []
+    → each_closed (spelled_items raw 0 (map percent_decode all)) ≡ each_closed (spelled_items raw 0 (map percent_decode front)) ++ (spelled_item raw false (percent_decode item) ++ slash ∷ [])
+name-closed raw all front item e = ap (λ list. each_closed (spelled_items raw 0 list)) (decoded-last all front item e) ∙ closed-last raw 0 (map percent_decode front) (percent_decode item)
+    ∙ ap (λ stands. each_closed (spelled_items raw 0 (map percent_decode front)) ++ (spelled_item raw stands (percent_decode item) ++ slash ∷ [])) (none_below (length (map percent_decode front)))
+
+pub name-joined : (raw : Bool) (all front : List Text) (item : Text) → all ≡ front ++ item ∷ []
+    → join_with_byte slash (spelled_items raw 0 (map percent_decode all)) ≡ each_closed (spelled_items raw 0 (map percent_decode front)) ++ spelled_name raw (percent_decode item)
+name-joined raw all front item e = ap (λ list. join_with_byte slash (spelled_items raw 0 list)) (decoded-last all front item e) ∙ joined-last raw 0 (map percent_decode front) (percent_decode item) (omega arith)
+
+pub ruleset names = (closed-end, joined-end, name-closed, name-joined)
+
 pub ruleset stands = (standing-end, standing-first, standing-step)

@@ -25,7 +25,7 @@ pub record SplitsLast (bytes : Text → Text) (text front : Text) (byte : ℕ) :
 
 -- a byte of the set, or beyond ASCII if such bytes do not stand raw
 unfoldable pub is_escaped : Bool → AsciiSet → ℕ → Bool
-is_escaped raw set b = not (raw && is_raw b) && should_percent_encode set b
+is_escaped raw set b = should_percent_encode set b && not (raw && is_raw b)
 
 -- the byte, or its escape
 unfoldable pub recoded_byte : Bool → AsciiSet → ℕ → Text
@@ -43,14 +43,14 @@ is_standing raw b = stands raw is_ascii b && is_not_percent b
 abbrev pub are_standing : Bool → Text → Bool
 are_standing raw text = list_all (is_standing raw) text
 
--- neither `%` nor a byte that is escaped
-abbrev pub is_byte_passed : Bool → AsciiSet → ℕ → Bool
-is_byte_passed raw set b = is_not_percent b && not (is_escaped raw set b)
+-- a byte that is not escaped
+abbrev pub is_unchanged : Bool → AsciiSet → ℕ → Bool
+is_unchanged raw set b = not (is_escaped raw set b)
 
 -- the set has no character of a registered name
 abbrev pub SparesNames : AsciiSet → Type 0
 SparesNames set = (b : ℕ) → is_name_byte b ≡ true → should_percent_encode set b ≡ false
 
--- each byte of the text is such a byte
+-- no byte of the text is `%` or escaped
 unfoldable pub is_passed : Bool → AsciiSet → Text → Bool
-is_passed raw set text = list_all (is_byte_passed raw set) text
+is_passed raw set text = list_all is_not_percent text && list_all (is_unchanged raw set) text

@@ -1,12 +1,15 @@
 -- Canonical paths: those that one scan finds, and those that are spelled anew.
-use Rattle.std.specs.Prelude.{Bool, false, not, ◌&&◌, ◌==◌, [], ◌∷◌}
-use Rattle.std.specs.List.{list_all}
+use Rattle.std.specs.Prelude.{◌≡◌, Bool, true, false, not, ◌&&◌, ◌==◌, [], ◌∷◌, map}
+use Rattle.std.specs.List.{join_with_byte, list_all}
 use Rattle.iref_grammar.specs.Grammar.{slash}
+use Rattle.iref_grammar.specs.PathValue.{read_path}
 use Rattle.iref_grammar.specs.Rules.{Text}
+use Rattle.iref_model.specs.PathKey.{path_key}
 use Rattle.iref_parse.specs.Dots.{has_dot_segment}
 use Rattle.iref_parse.specs.Plain.{is_path_byte}
+use Rattle.iref_canonical.specs.Canonical.{spelled_name}
 use Rattle.iref_canonical.specs.declared.path.CanonicalPath.{CanonicalPath}
-use Rattle.iref_canonical.specs.declared.path.CanonicalPath.TheVariants.{Kept, Spelled}
+use Rattle.iref_canonical.specs.declared.path.CanonicalPath.TheVariants.{Kept, Rooted, Spelled}
 use Rattle.iref_canonical.specs.SpelledItems.{IsCounted, spelled_path_text}
 
 -- the path begins with a `/`, and no other follows that
@@ -19,12 +22,18 @@ is_rooted (c ∷ d ∷ rest) = c == slash && not (d == slash)
 abbrev pub is_kept_path : Text → Bool
 is_kept_path path = is_rooted path && list_all is_path_byte path && not (has_dot_segment path)
 
+-- the text of an absolute path behind an authority, which needs no guard
+abbrev pub rooted_text : Bool → Text → Text
+rooted_text raw path = slash ∷ join_with_byte slash (map (spelled_name raw) (path_key (read_path path)).segments)
+
 -- the text of the path
 abbrev pub canonical_path_text : Bool → CanonicalPath → Text
 canonical_path_text raw (Kept path) = path.now
+canonical_path_text raw (Rooted path) = rooted_text raw path.now
 canonical_path_text raw (Spelled p) = spelled_path_text raw p
 
--- what is spelled anew is counted
+-- what is put behind an authority is absolute, and what is counted is so
 abbrev pub IsReady : CanonicalPath → Type 0
 IsReady (Kept path) = Unit {0}
+IsReady (Rooted path) = (read_path path.now).absolute ≡ true
 IsReady (Spelled p) = IsCounted p

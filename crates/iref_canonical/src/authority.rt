@@ -9,6 +9,7 @@ ghost use Rattle.iref_canonical.specs.Canonical.{encoded, spelled_authority, spe
 use crate::encoded::{REG_NAME, USER_INFO, put_encoded};
 use crate::literal::decodes_to_ip_literal;
 use iref_parse::authority::split_parts;
+use iref_parse::unescaped::has_name_bytes;
 use iref_splice::backward::Backward;
 use percent_encoding::AsciiSet;
 
@@ -54,13 +55,18 @@ fn put_user_info<O: Backward>(out: &mut O, raw: bool, user_info: Option<&str>)
     }
 }
 
-/// Puts the authority.
+/// Puts the authority. Most are a host of name bytes alone, which stands.
+#[tactic(auto, using(crate::proofs::PutAuthorityLemmas::named))]
 pub(crate) fn put_authority<O: Backward>(out: &mut O, raw: bool, text: &str)
     requires { O.fits out.old
         (spell_authority (spelled_authority raw (authority_key (read_authority text.now)))) }
     ensures { out.new ≡ O.after out.old
         (spell_authority (spelled_authority raw (authority_key (read_authority text.now)))) }
 {
+    if has_name_bytes(text.as_bytes()) {
+        out.put(text.as_bytes());
+        return;
+    }
     let parts = split_parts(text);
     put_port(out, parts.port);
     put_host(out, raw, parts.host);

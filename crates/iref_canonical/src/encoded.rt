@@ -1,10 +1,10 @@
 //! The bytes that a text decodes to, encoded anew (RFC 3986 section 2.1).
-ghost use Rattle.std.specs.{Prelude.{◌≡◌, false, [], MatchOption}, Str.{str_to_ascii_lowercase}};
+ghost use Rattle.std.specs.{Prelude.{◌≡◌, false, [], MatchOption}, List.{list_all}, Str.{str_to_ascii_lowercase}};
 ghost use Rattle.percent_encoding.specs.Percent.{percent_decode};
 ghost use Rattle.iref_canonical.specs.{Canonical.{is_raw}, Decoded.{SplitsLast, ends_in_escape}};
-ghost use Rattle.iref_canonical.specs.Decoded.{SparesNames, is_escaped, is_passed, recoded, recoded_byte};
+ghost use Rattle.iref_canonical.specs.Decoded.{SparesNames, is_escaped, is_passed, is_unchanged, recoded, recoded_byte};
 
-use iref_parse::unescaped::has_name_bytes;
+use iref_parse::unescaped::{has_name_bytes, has_no_percent};
 use iref_splice::backward::Backward;
 use percent_encoding::{AsciiSet, NON_ALPHANUMERIC, ascii_set, percent_encode_byte};
 
@@ -81,7 +81,7 @@ fn is_raw(byte: u8) -> bool
 fn is_escaped(raw: bool, set: AsciiSet, byte: u8) -> bool
     ensures { result ≡ is_escaped raw set byte }
 {
-    !(raw && is_raw(byte)) && set.should_percent_encode(byte)
+    set.should_percent_encode(byte) && !(raw && is_raw(byte))
 }
 
 // Puts a byte, or its escape.
@@ -98,14 +98,21 @@ fn put_byte<O: Backward>(out: &mut O, raw: bool, set: AsciiSet, byte: u8)
     }
 }
 
+// Whether no byte of the text is escaped.
+#[inline(always)]
+fn are_unchanged(raw: bool, set: AsciiSet, text: &str) -> bool
+    ensures { result ≡ list_all (is_unchanged raw set) text.now }
+{
+    text.bytes().all(|byte| !is_escaped(raw, set, byte))
+}
+
 // Whether no byte of the text is `%` or escaped, so that decoded and encoded anew it stands.
 #[inline(always)]
 #[tactic(auto, unfolding(crate::specs::Decoded::is_passed))]
 fn is_passed(raw: bool, set: AsciiSet, text: &str) -> bool
     ensures { result ≡ is_passed raw set text.now }
 {
-    text.bytes()
-        .all(|byte| byte != b'%' && !is_escaped(raw, set, byte))
+    has_no_percent(text.as_bytes()) && are_unchanged(raw, set, text)
 }
 
 /// Puts the bytes that the text decodes to, those of the set escaped, and those beyond ASCII if they

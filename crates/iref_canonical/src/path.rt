@@ -1,13 +1,13 @@
 //! The path of the canonical text of a reference (RFC 3986 sections 6.2.2.2 and
 //! 6.2.2.3), or of the text that is hashed.
-ghost use Rattle.std.specs.Prelude.{Bool, ◌≡◌, ◌-◌, ◌<◌, ◌≤◌, ◌^◌, ◌++◌, ◌∷◌, [], length, if◌then◌else◌};
+ghost use Rattle.std.specs.Prelude.{Bool, ◌≡◌, ◌-◌, ◌<◌, ◌≤◌, ◌^◌, ◌++◌, ◌∷◌, [], length, map, true, if◌then◌else◌};
 ghost use Rattle.std.specs.{Char.{char_set_contains}, List.{join_with_byte}};
 ghost use Rattle.percent_encoding.specs.Percent.{percent_decode};
 ghost use Rattle.iref_grammar.specs.{Grammar.{colon, slash}, PathValue.{read_path, spell_path}, Texts.{is_empty}};
 ghost use Rattle.iref_model.specs.{Guard.{guarded}, NormalList.{is_dot, is_dot_dot}, PathKey.{path_key}};
 ghost use Rattle.iref_path.specs.{NormalItems.{IsSound, decoded_left, normal_left}, Spelling.{each_closed}};
 ghost use Rattle.iref_canonical.specs.{Canonical.{spelled_name, spelled_path}, SpelledItems.{IsCounted}};
-ghost use Rattle.iref_canonical.specs.KeptPaths.{IsReady, canonical_path_text, is_kept_path, is_rooted};
+ghost use Rattle.iref_canonical.specs.KeptPaths.{IsReady, canonical_path_text, is_kept_path, is_rooted, rooted_text};
 ghost use Rattle.iref_canonical.specs.SpelledItems.{begins_as_dots, spelled_item, spelled_items};
 ghost use Rattle.iref_canonical.specs.SpelledItems.{spelled_path_text, standing_of};
 
@@ -16,6 +16,7 @@ use iref_grammar::context::PathContext;
 use iref_parse::decoded::decoded_eq;
 use iref_parse::dots::has_dots;
 use iref_parse::unescaped::has_path_bytes;
+use iref_path::normal_items::rooted::RootedItems;
 use iref_path::normal_items::{NormalItems, survey_items};
 use iref_path::segments::split_root;
 use iref_path::spell::guard_in;
@@ -203,6 +204,42 @@ fn put_items<O: Backward>(
     }
 }
 
+// Puts the items of an absolute path, each with a `/` after it.
+#[tactic(auto, using(crate::proofs::SpelledItemLemmas::names))]
+fn put_closed_names<O: Backward>(out: &mut O, raw: bool, mut left: RootedItems<'_>)
+    requires { O.fits out.old (each_closed (spelled_items raw 0 (map percent_decode left))) }
+    ensures { out.new ≡ O.after out.old
+        (each_closed (spelled_items raw 0 (map percent_decode left.entry))) }
+{
+    while let Some(item) = left.next_back() {
+        put_closed_item(out, raw, item, false);
+    }
+}
+
+// Puts the items of an absolute path with `/` between.
+#[tactic(auto, using(crate::proofs::SpelledItemLemmas::names))]
+fn put_names<O: Backward>(out: &mut O, raw: bool, mut left: RootedItems<'_>)
+    requires { O.fits out.old
+        (join_with_byte slash (spelled_items raw 0 (map percent_decode left))) }
+    ensures { out.new ≡ O.after out.old
+        (join_with_byte slash (spelled_items raw 0 (map percent_decode left.entry))) }
+{
+    if let Some(last) = left.next_back() {
+        put_name(out, raw, last);
+        put_closed_names(out, raw, left);
+    }
+}
+
+// Puts an absolute path, which stands behind an authority and so needs no guard.
+fn put_rooted<O: Backward>(out: &mut O, raw: bool, path: &str)
+    requires absolute { (read_path path.now).absolute ≡ true }
+    requires fits { O.fits out.old (rooted_text raw path.now) }
+    ensures { out.new ≡ O.after out.old (rooted_text raw path.now) }
+{
+    put_names(out, raw, RootedItems::new(split_root(path).1));
+    out.put(b"/");
+}
+
 impl<'a> SpelledPath<'a> {
     // The path of a key's text in its context, whether bytes beyond ASCII stand raw in it or not.
     fn new(context: PathContext, path: &'a str) -> Self
@@ -240,7 +277,9 @@ impl<'a> SpelledPath<'a> {
 pub enum CanonicalPath<'a> {
     /// It stands as it is.
     Kept(&'a str),
-    /// It is spelled anew.
+    /// It is absolute and behind an authority: no guard is needed, so nothing is counted.
+    Rooted(&'a str),
+    /// It is counted, and spelled anew.
     Spelled(SpelledPath<'a>),
 }
 
@@ -266,7 +305,7 @@ fn is_kept_path(path: &str) -> bool
 
 impl<'a> CanonicalPath<'a> {
     /// The path of a key's text in its context.
-    #[tactic(auto, using(crate::proofs::KeptPathLemmas::kept))]
+    #[tactic(auto, using(crate::proofs::KeptPathLemmas::kept, crate::proofs::RootedPathLemmas::rooted))]
     pub fn new(raw: bool, context: PathContext, path: &'a str) -> Self
         ensures text { canonical_path_text raw result
             ≡ spell_path (guarded context (spelled_path raw (path_key (read_path path.now)))) }
@@ -274,6 +313,8 @@ impl<'a> CanonicalPath<'a> {
     {
         if is_kept_path(path) {
             CanonicalPath::Kept(path)
+        } else if context.has_authority && split_root(path).0 {
+            CanonicalPath::Rooted(path)
         } else {
             CanonicalPath::Spelled(SpelledPath::new(context, path))
         }
@@ -287,6 +328,7 @@ impl<'a> CanonicalPath<'a> {
     {
         match self {
             CanonicalPath::Kept(path) => out.put(path.as_bytes()),
+            CanonicalPath::Rooted(path) => put_rooted(out, raw, path),
             CanonicalPath::Spelled(path) => path.put(out, raw),
         }
     }

@@ -1,5 +1,6 @@
 //! Canonical texts from the texts of references, and what is hashed: those with one key have one text.
-ghost use Rattle.std.specs.{Prelude.{◌≡◌, true, bytes_eq, fold, IfOk, OnErr, OnOk}, String.{string_bytes}};
+ghost use Rattle.std.specs.Prelude.{◌≡◌, true, bytes_eq, fold, not, IfOk, IsOk, OnErr, OnOk};
+ghost use Rattle.std.specs.{Prelude.{if◌then◌else◌}, String.{string_bytes}};
 ghost use Rattle.iref_grammar.specs.Reference.{IsReadable, is_reference, read_reference};
 ghost use Rattle.iref_model.specs.Key.{key};
 ghost use Rattle.iref_parse.specs.ReferenceSlices.{value_of};
@@ -31,20 +32,27 @@ pub fn canonical_text<C: CharSet>(
     Ok(unsafe { String::from_utf8_unchecked(bytes) })
 }
 
-/// Writes the canonical text of a reference over a text, from the reference's components: of
-/// `HTTP://a/%7Eb`, `http://a/~b`. The memory is requested first: an error changes nothing.
+/// Writes the canonical text of a reference, of which text and components are given, over a text,
+/// unless it is the reference's own: whether it is written. Of `HTTP://a/%7Eb` it is `http://a/~b`.
+/// The memory is requested first: an error changes nothing.
 pub fn write_canonical_text<C: CharSet>(
+    text: &str,
     slices: ReferenceSlices<'_>,
     over: &mut String,
-) -> Result<(), Memory>
+) -> Result<bool, Memory>
     requires { IsReadable C.tests (value_of slices) }
+    ensures written { IfOk result (λ written.
+        written ≡ not (bytes_eq text.now (canonical_text (key (value_of slices.entry))))) }
     ensures ok { OnOk result (string_bytes over.new
-        ≡ canonical_text (key (value_of slices.entry))) }
+        ≡ (if bytes_eq text.now (canonical_text (key (value_of slices.entry)))
+        then string_bytes over.old else canonical_text (key (value_of slices.entry)))) }
     ensures err { OnErr result (string_bytes over.new ≡ string_bytes over.old) }
+    ensures same { bytes_eq text.now (canonical_text (key (value_of slices.entry))) ≡ true
+        → IsOk result }
 {
     let empty = String::new(*over.allocator());
     let mut bytes = mem::replace(over, empty).into_bytes();
-    let written = CanonicalReference::new(false, slices).write_over(&mut bytes);
+    let written = CanonicalReference::new(false, slices).write_unless(text.as_bytes(), &mut bytes);
     // A canonical text is ASCII, and what stood there was a text, so no byte is read again.
     *over = unsafe { String::from_utf8_unchecked(bytes) };
     written

@@ -124,10 +124,11 @@ impl ByteRule for NameBytes {
 
     ghost tells = { λ b l. agree_below_at (is_in_no_group NAME) is_name_byte 256 b refl l };
 
+    // Most are letters in lower case.
     #[inline(always)]
     #[tactic(auto, using(crate::proofs::PlainLemmas::name_byte))]
     fn allows(byte: u8) -> bool {
-        is_plain_byte(&NAME, byte)
+        byte.is_ascii_lowercase() || is_plain_byte(&NAME, byte)
     }
 
     #[inline(always)]

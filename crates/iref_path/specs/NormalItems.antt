@@ -39,6 +39,10 @@ open_at_start n = open_before (both_left n) n.open_parents
 abbrev pub to_read : NormalItems → ℕ
 to_read n = n.open_parents + length (both_left n)
 
+-- the names that stay, and the closing segment
+abbrev pub names_and_closing : NormalItems → List Text
+names_and_closing n = names_staying n ++ closing n.closes
+
 -- ---- those of the text behind
 
 abbrev pub names_behind : NormalItems → List Text

@@ -16,6 +16,7 @@ ghost use Rattle.iref_model.specs.NormalList.{is_dot_dot};
 ghost use Rattle.std.specs.List.{list_any};
 
 mod climbs;
+pub mod rooted;
 pub mod stack;
 
 use crate::segments::{first_segment, last_segment, split_root};

@@ -136,10 +136,9 @@ fn canonical_in<'t, C: CharSet>(
         canonical.now ≡ canonical_text (key (read_reference text.now))) }
     ensures canonical { text.now ≡ canonical_text (key (read_reference text.now)) → IsOk result }
 {
-    if is_canonical::<C>(text, slices) {
+    if is_plain::<C>(false, text, slices) || !write_canonical_text::<C>(text, slices, buffer)? {
         return Ok(text);
     }
-    write_canonical_text::<C>(slices, buffer)?;
     Ok(buffer.as_str())
 }
 

@@ -1,5 +1,5 @@
 -- A text after a change between characters is text.
-use Rattle.std.proofs.Common.{◌≡◌, ◌++◌, take, drop, IsUtf8, OnOk, OnErr, sym, subst}
+use Rattle.std.proofs.Common.{◌≡◌, Bool, true, false, cond, ◌++◌, take, drop, IsUtf8, OnOk, OnErr, sym, subst}
 use Rattle.std.specs.Prelude.{Result, Ok, Err}
 use Rattle.std.proofs.lemmas.Str.{IsUtf8-append, IsUtf8-drop, IsUtf8-take}
 use Rattle.iref_grammar.specs.Rules.{Text}
@@ -17,3 +17,8 @@ changed_is_text text change within u first middle close =
 pub left_is_text : {V E : Type 0} (result : Result V E) (old new made : Text) → OnOk result (new ≡ made) → OnErr result (new ≡ old) → IsUtf8 old → IsUtf8 made → IsUtf8 new
 left_is_text (Ok v) old new made ok err before after = subst IsUtf8 (sym ok) after
 left_is_text (Err e) old new made ok err before after = subst IsUtf8 (sym err) before
+
+-- one of two texts is text
+pub one_is_text : (first : Bool) (s t : Text) → IsUtf8 s → IsUtf8 t → IsUtf8 (cond first s t)
+one_is_text true s t u v = u
+one_is_text false s t u v = v

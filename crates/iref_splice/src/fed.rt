@@ -80,7 +80,7 @@ impl Waiting {
         self.start
     }
 
-    /// Puts bytes before those that wait. Three, as an escape has, are copied with no call.
+    /// Puts bytes before those that wait. One, and three, as an escape has, are copied with no call.
     #[inline(always)]
     #[tactic(auto, using(std::proofs::lemmas::List::take_all))]
     pub(crate) fn put_fitting(&mut self, bytes: &[u8])
@@ -88,7 +88,9 @@ impl Waiting {
         ensures { self.new ≡ bytes.now ++ self.old }
     {
         let start = self.start - bytes.len();
-        if bytes.len() == 3 {
+        if bytes.len() == 1 {
+            self.bytes[start] = bytes[0];
+        } else if bytes.len() == 3 {
             self.bytes[start..start + 3].copy_from_slice(&bytes[..3]);
         } else {
             self.bytes[start..self.start].copy_from_slice(bytes);

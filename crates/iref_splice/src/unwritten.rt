@@ -1,7 +1,8 @@
 //! Texts that are not written yet: they are counted, written, hashed or compared.
-ghost use Rattle.std.specs.Prelude.{◌≡◌, ◌++◌, IfOk, OnErr, OnOk, bytes_eq, fold, length};
+ghost use Rattle.std.specs.Prelude.{◌≡◌, ◌++◌, IfOk, IsOk, OnErr, OnOk, bytes_eq, fold, length};
+ghost use Rattle.std.specs.Prelude.{not, true, if◌then◌else◌};
 ghost use Rattle.iref_grammar.specs.Rules.{Text};
-ghost use Rattle.iref_splice.specs.Fed.{fed_text};
+ghost use Rattle.iref_splice.specs.{Fed.{fed_text}, Held.{taken_after, taken_nothing}};
 
 use crate::backward::{Backward, Compared, Count, Filled};
 use crate::fed::Fed;
@@ -77,20 +78,45 @@ pub trait Unwritten {
         Ok(())
     }
 
-    /// Writes the text over the bytes of a vector. The room is taken first: an `Err` changes nothing.
-    fn write_over(&self, bytes: &mut Vec<u8>) -> Result<(), Memory>
-        requires { is_sound self.now }
+    /// Writes the text over the bytes of a vector, from what is held of it. The room is taken first:
+    /// an `Err` changes nothing.
+    fn write_held(&self, held: &Held, bytes: &mut Vec<u8>) -> Result<(), Memory>
+        requires sound { is_sound self.now }
+        requires held { held.now ≡ taken_after taken_nothing (text self.now) }
         ensures ok { OnOk result (bytes.new.items ≡ text self.now) }
         ensures err { OnErr result (bytes.new.items ≡ bytes.old.items) }
     {
-        let mut held = Held::new();
-        self.put(&mut held);
         bytes.resize(held.len()?, 0)?;
         match held.text() {
             Some(text) => bytes.as_mut_slice().copy_from_slice(text),
             None => self.fill(bytes.as_mut_slice()),
         }
         Ok(())
+    }
+
+    /// Writes the text over the bytes of a vector, unless it is this other text: whether it is
+    /// written. The room is taken first: an `Err` changes nothing. A text of at most 256 bytes is put
+    /// once.
+    fn write_unless(&self, other: &[u8], bytes: &mut Vec<u8>) -> Result<bool, Memory>
+        requires { is_sound self.now }
+        ensures written { IfOk result (λ written.
+            written ≡ not (bytes_eq other.now (text self.now))) }
+        ensures ok { OnOk result (bytes.new.items
+            ≡ (if bytes_eq other.now (text self.now) then bytes.old.items else text self.now)) }
+        ensures err { OnErr result (bytes.new.items ≡ bytes.old.items) }
+        ensures same { bytes_eq other.now (text self.now) ≡ true → IsOk result }
+    {
+        let mut held = Held::new();
+        self.put(&mut held);
+        let is_other = match held.text() {
+            Some(text) => text == other,
+            None => self.is(other),
+        };
+        if is_other {
+            return Ok(false);
+        }
+        self.write_held(&held, bytes)?;
+        Ok(true)
     }
 
     /// Feeds the text to a hasher.
