@@ -18,6 +18,10 @@ use Rattle.iref_canonical.proofs.CanonicalTextLemmas.{canonical_text-read, key_k
 use Rattle.iref_reference.proofs.CanonicalLemmas.{tied_by_texts}
 use Rattle.iref_examples.specs.Caches.{HasCanonicalKeys, HasPut, entries_of, found}
 
+-- a text that is copied from a canonical one is canonical
+pub copy_canonical : (text copied : Text) (k : ReferenceValue) → text ≡ copied → copied ≡ canonical_text k → key (read_reference copied) ≡ k → IsCanonicalTextOf k text
+copy_canonical text copied k same is reads = (same ∙ is, ap (λ t. key (read_reference t)) same ∙ reads)
+
 lookup-texts : {A V : Type 0} (text : Text) (entries : List (String A × V)) → lookup (bytes_eq text) (map (λ e. (string_bytes e.0, e.1)) entries) ≡ lookup (λ k. bytes_eq text (string_bytes k)) entries
 lookup-texts text [] = refl
 lookup-texts text (e ∷ entries) = ap (cond (bytes_eq text (string_bytes e.0)) (Some e.1)) (lookup-texts text entries)
@@ -47,6 +51,7 @@ module _ {A V S : Type 0} (old new : HashMap (String A) V S) (text : String A) (
       text_put (canonical_text (key other))
       ∙ ap (λ b. cond b (Some put) (found (entries_of old) other)) (sym (tied_by_texts (key uri) (key other) (string_bytes text) (canonical_text (key other)) is (refl, kept)))
 
+  -- each key stays a canonical text
   pub keys_canonical : HasCanonicalKeys (entries_of old) → HasCanonicalKeys (entries_of new)
   keys_canonical canonical other has =
       elim (cases_Bool (bytes_eq (string_bytes text) other)) [

@@ -1,5 +1,5 @@
-//! A map of std over URIs, by their canonical texts: two spellings of one URI find one entry, such as
-//! `HTTP://a/%7Eb/./c` and `http://a/~b/c`.
+//! A cache over a map of std, whose keys are canonical texts of URIs: two spellings of one URI find
+//! one entry, such as `HTTP://a/%7Eb/./c` and `http://a/~b/c`.
 ghost use Rattle.std.specs.Prelude.{◌≡◌, None, IfOk, IsOk, OnErr, OnOk};
 ghost use Rattle.std.specs.Option.{option_copied};
 ghost use Rattle.iref.specs.{Canonical.{canonical_text}, Key.{key}, Reference.{ReferenceValue}};
@@ -53,7 +53,8 @@ impl<V: Drop> Cache<V> {
 
     /// The value that was last put under a spelling of the URI. The look-up of a URI whose text is
     /// canonical takes no memory; the canonical text of another is written into the buffer, which is
-    /// used again. Each key is a canonical text, so a text that is a key needs no test.
+    /// used again. Each key is a canonical text, so the text itself is looked up first: most are found
+    /// by that, and another spelling pays for one look-up more.
     pub fn get(&self, uri: Uri<'_>, buffer: &mut String) -> Result<Option<&V>, Memory>
         ensures found { IfOk result (λ value.
             option_copied value ≡ found self.now (reference_value uri.entry)) }
@@ -63,10 +64,10 @@ impl<V: Drop> Cache<V> {
         if let Some(value) = self.values.get(uri.as_str()) {
             return Ok(Some(value));
         }
-        if uri.is_canonical() {
+        let text = uri.canonical_in(buffer)?;
+        if text == uri.as_str() {
             return Ok(None);
         }
-        let text = uri.canonical_in(buffer)?;
         Ok(self.values.get(text))
     }
 }

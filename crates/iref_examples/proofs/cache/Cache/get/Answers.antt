@@ -11,10 +11,11 @@ returns-in-Some-clause-found g c =
     found-key c.self.inside.values c.args.self.now c.self.view_is c.as_str.result.now c.in-Some.value.now c.self.invariant c.in-Some.ensures.value
     ∙ ap (λ t. found c.args.self.now (read_reference t)) c.as_str.ensures.text
 
-pub returns-then-is_canonical-clause-found : goal.returns-then-is_canonical-clause-found
-returns-then-is_canonical-clause-found g c =
-    c.in_default.ensures.value
-    ∙ found-canonical c.self.inside.values c.args.self.now c.self.view_is c.as_str.result.now (reference_value c.args.uri) (c.as_str.ensures.text ∙ (bytes_eq-Decides _ _).0 (sym c.if-is_canonical.ensures))
+pub returns-then-eq-clause-found : goal.returns-then-eq-clause-found
+returns-then-eq-clause-found g c =
+    let same = (bytes_eq-Decides c.in_ok-text.text.now c.as_str-2.result.now).0 (sym c.if-eq.ensures) in
+    let canonical = c.as_str.ensures.text ∙ sym c.as_str-2.ensures.text ∙ sym same ∙ c.in_ok-text.ensures.text in
+    c.in_default.ensures.value ∙ found-canonical c.self.inside.values c.args.self.now c.self.view_is c.as_str.result.now (reference_value c.args.uri) canonical
 
 pub returns-clause-found : goal.returns-clause-found
 returns-clause-found g c =
