@@ -117,13 +117,26 @@ impl Job for Check {
 }
 
 /// Writes canonical texts.
-#[derive(Clone, Copy)]
-pub struct Canonical(pub Keep);
+#[derive(Drop)]
+pub struct Canonical {
+    keep: Keep,
+    // The canonical text of a line that has another spelling.
+    buffer: String,
+}
+
+impl Canonical {
+    /// With each line behind its text, or without.
+    pub fn new(alloc: Global, keep: Keep) -> Self {
+        let buffer = String::new(alloc);
+        Canonical { keep, buffer }
+    }
+}
 
 impl Job for Canonical {
     fn answer(&mut self, line: &[u8], out: &mut Vec<u8>) -> Result<(), LineFault> {
-        let canonical = reference(line)?.canonical(*out.allocator())?;
-        Ok(self.0.push(canonical.as_bytes(), line, out)?)
+        let reference = reference(line)?;
+        let canonical = reference.canonical_in(&mut self.buffer)?;
+        Ok(self.keep.push(canonical.as_bytes(), line, out)?)
     }
 
     fn is_report(&self) -> bool {

@@ -183,7 +183,7 @@ fn run_lines<'a>(
             };
             do_each(rt, Check(rule), files)
         }
-        LineTask::Canonical { keep } => do_each(rt, Canonical(Keep(keep)), files),
+        LineTask::Canonical { keep } => do_each(rt, Canonical::new(rt.alloc(), Keep(keep)), files),
         LineTask::Key { keep } => do_each(rt, Key(Keep(keep)), files),
         LineTask::Resolve { base, keep } => {
             do_each(rt, Resolve(iri("BASE", base)?, Keep(keep)), files)
