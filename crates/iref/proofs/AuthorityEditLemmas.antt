@@ -1,18 +1,14 @@
 -- What an edit by an editor of the authority leaves is the step of the whole reference.
 use Rattle.std.proofs.Common.{◌≡◌, true, Result, Ok, Err, OnErr, refl, sym, ap, ◌∙◌}
 use Rattle.std.specs.Prelude.{Option, Some, None, is_some, option_map, if◌then◌else◌}
-use Rattle.iref_grammar.specs.Characters.{CharTests, AreAboveAscii}
-use Rattle.iref_grammar.specs.Rules.{Text}
-use Rattle.iref_grammar.specs.Tests.{none_or}
+use Rattle.iref_grammar.specs.{Characters.{CharTests, AreAboveAscii}, Rules.{Text}, Tests.{none_or}}
 use Rattle.iref_grammar.specs.Authority.{AuthorityValue, read_authority, is_authority, has_authority_parts}
-use Rattle.iref_grammar.specs.ComponentOffsets.{offsets_of}
-use Rattle.iref_grammar.specs.Reference.{is_readable, is_reference, read_reference}
-use Rattle.iref_component.specs.declared.rule_text.RuleText.{RuleText}
-use Rattle.iref_component.specs.Components.{text_of}
-use Rattle.iref_model.specs.ComponentSteps.{with_authority_step}
-use Rattle.iref_model.specs.Edits.{EditStep, NoAuthority, edited, with_authority_part}
+use Rattle.iref_grammar.specs.{ComponentOffsets.{offsets_of}, Reference.{is_readable, is_reference, read_reference}}
+use Rattle.iref_component.specs.{declared.rule_text.RuleText.{RuleText}, Components.{text_of}}
 use Rattle.iref_component.specs.declared.authority_mut.AuthorityMut.{AuthorityMut}
 use Rattle.iref_component.specs.AuthorityEdits.{edited_bytes, Edits, IsEditorAt}
+use Rattle.iref_model.specs.ComponentSteps.{with_authority_step}
+use Rattle.iref_model.specs.Edits.{EditStep, NoAuthority, edited, with_authority_part}
 use Rattle.iref_reference_text.proofs.EditLemmas.{readable_of}
 use Rattle.iref_reference.proofs.AuthorityStepLemmas.{authority_step}
 use Rattle.iref.specs.EditAnswers.{DoesEdit, may_take_memory}

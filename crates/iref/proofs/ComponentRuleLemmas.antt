@@ -1,17 +1,13 @@
 -- A text is a reference exactly if each component that it is cut into is in the rule of the grammar.
-use Rattle.iref_grammar.specs.Authority.{is_authority}
-use Rattle.iref_grammar.specs.Characters.{AreAboveAscii, CharTests}
+use Rattle.iref_grammar.specs.{Authority.{is_authority}, Characters.{AreAboveAscii, CharTests}}
 use Rattle.iref_grammar.specs.ComponentTexts.{ComponentTexts, read_components, AreComponents}
 use Rattle.iref_grammar.specs.Grammar.{IsAuthority, IsScheme, IsQuery, IsFragment, IsUriReference}
-use Rattle.iref_grammar.specs.Reference.{read_reference}
-use Rattle.iref_grammar.specs.Rules.{InUtf8, Text}
+use Rattle.iref_grammar.specs.{Reference.{read_reference}, Rules.{InUtf8, Text}}
 use Rattle.iref_grammar.specs.Tests.{is_fragment, is_query, is_scheme}
-use Rattle.iref_grammar.proofs.AuthorityRuleLemmas.{Decides-is_authority}
-use Rattle.iref_grammar.proofs.ComponentLemmas.{Decides-AreComponents}
+use Rattle.iref_grammar.proofs.{AuthorityRuleLemmas.{Decides-is_authority}, ComponentLemmas.{Decides-AreComponents}}
 use Rattle.iref_grammar.proofs.LeafLemmas.{Decides-is_fragment, Decides-is_query}
 use Rattle.iref_grammar.proofs.PartRuleLemmas.{Decides-is_scheme_bytes, Decides-none_or}
-use Rattle.iref_grammar.proofs.PathTextLemmas.{Decides-is_path}
-use Rattle.iref_grammar.proofs.ReferenceRuleLemmas.{Decides-is_uri_reference}
+use Rattle.iref_grammar.proofs.{PathTextLemmas.{Decides-is_path}, ReferenceRuleLemmas.{Decides-is_uri_reference}}
 use Rattle.iref.specs.ComponentRules.{AreInRules}
 use Rattle.std.proofs.Common.{arith, ◌≡◌}
 

@@ -1,16 +1,11 @@
 -- What an edit by an editor leaves is the step of the whole reference.
 use Rattle.std.proofs.Common.{◌≡◌, true, Result, Ok, Err, OnErr, sym, ap, ◌∙◌}
-use Rattle.iref_grammar.specs.declared.context.PathContext.{PathContext}
-use Rattle.iref_grammar.specs.Characters.{CharTests, AreAboveAscii}
-use Rattle.iref_grammar.specs.Rules.{Text}
-use Rattle.iref_grammar.specs.PathValue.{PathValue}
-use Rattle.iref_grammar.specs.ComponentOffsets.{offsets_of}
+use Rattle.iref_grammar.specs.{declared.context.PathContext.{PathContext}, Characters.{CharTests, AreAboveAscii}}
+use Rattle.iref_grammar.specs.{Rules.{Text}, PathValue.{PathValue}, ComponentOffsets.{offsets_of}}
 use Rattle.iref_grammar.specs.Reference.{context_of, is_readable, is_reference, read_reference}
-use Rattle.iref_model.specs.ComponentSteps.{with_path_step}
-use Rattle.iref_model.specs.Edits.{EditStep, edited}
+use Rattle.iref_model.specs.{ComponentSteps.{with_path_step}, Edits.{EditStep, edited}}
 use Rattle.iref_reference_text.proofs.EditLemmas.{readable_of}
-use Rattle.iref_component.specs.declared.path_mut.PathMut.{PathMut}
-use Rattle.iref_component.specs.PathEdits.{edited_bytes, IsEditorOf, Edits}
+use Rattle.iref_component.specs.{declared.path_mut.PathMut.{PathMut}, PathEdits.{edited_bytes, IsEditorOf, Edits}}
 use Rattle.iref_reference.proofs.PathStepLemmas.{path_step}
 use Rattle.iref.specs.EditAnswers.{DoesEdit, may_take_memory}
 

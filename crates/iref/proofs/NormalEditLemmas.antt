@@ -1,15 +1,11 @@
 -- A path that is known to be normal is not normalized again.
 use Rattle.std.proofs.Common.{◌≡◌, Bool, true, Option, Ok, refl, ap, ◌∙◌, arith}
-use Rattle.iref_grammar.specs.Rules.{Text}
-use Rattle.iref_grammar.specs.Contexts.{follows_authority}
-use Rattle.iref_grammar.specs.PathValue.{PathValue}
+use Rattle.iref_grammar.specs.{Rules.{Text}, Contexts.{follows_authority}, PathValue.{PathValue}}
 use Rattle.iref_grammar.specs.Reference.{ReferenceValue, context_of, read_reference}
 use Rattle.iref_grammar.proofs.ContextLemmas.{read_follows}
-use Rattle.iref_model.specs.ComponentSteps.{with_path, with_path_step}
-use Rattle.iref_model.specs.PathSteps.{normalized}
+use Rattle.iref_model.specs.{ComponentSteps.{with_path, with_path_step}, PathSteps.{normalized}}
 use Rattle.iref_model.specs.Edits.{EditStep, Normalize, edited, edited_uri}
-use Rattle.iref_model.proofs.FitsLemmas.{replaced-fits}
-use Rattle.iref_model.proofs.NormalPathLemmas.{normalized-normalized}
+use Rattle.iref_model.proofs.{FitsLemmas.{replaced-fits}, NormalPathLemmas.{normalized-normalized}}
 use Rattle.iref.specs.EditAnswers.{HasNormalPath, edited_in, is_normal_after}
 use Rattle.iref.proofs.EditListLemmas.{kept_in}
 

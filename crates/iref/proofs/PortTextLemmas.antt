@@ -1,12 +1,9 @@
 -- A number is written as a port.
 use Rattle.std.proofs.Common.{◌≡◌, ℕ, ◌<◌, ◌/◌, ◌%◌, zero, suc, true, false, ◌∷◌, arith}
-use Rattle.std.specs.Prelude.{Option, option_map}
-use Rattle.std.specs.Char.{is_ascii_digit}
-use Rattle.std.specs.Fmt.{digit_glyph, digits_onto, digits}
-use Rattle.std.specs.List.{list_all}
 use Rattle.std.proofs.lemmas.Bool.Decides.{nat_tests}
-use Rattle.iref_grammar.specs.Rules.{Text}
-use Rattle.iref_grammar.specs.Tests.{is_port, none_or}
+use Rattle.std.specs.{Prelude.{Option, option_map}, Char.{is_ascii_digit}, Fmt.{digit_glyph, digits_onto, digits}}
+use Rattle.std.specs.List.{list_all}
+use Rattle.iref_grammar.specs.{Rules.{Text}, Tests.{is_port, none_or}}
 use Rattle.iref_model.specs.PortNumbers.{port_text}
 
 glyph_is_digit : (d : ℕ) → d < 10 → is_ascii_digit (digit_glyph false d) ≡ true

@@ -1,23 +1,18 @@
 -- What a table keeps when an entry is added, inserted, replaced or removed.
 use Rattle.std.proofs.Common.{arith, ◌≡◌, ◌≢◌, ℕ, ◌+◌, ◌-◌, ◌<◌, not, ◌&&◌, ◌||◌, inl, inr, false, true, List, [], ◌∷◌, ◌++◌, length, get_or, map, refl, sym, ap, subst, ◌∙◌}
-use Rattle.std.specs.Prelude.{◌==◌, Option, Some, None}
-use Rattle.std.proofs.lemmas.Bool.{cases_lt}
-use Rattle.std.proofs.lemmas.List.{get_or_push, get_or_past, length_push, length-map}
+use Rattle.std.proofs.{lemmas.Bool.{cases_lt}, lemmas.List.{get_or_push, get_or_past, length_push, length-map}}
 use Rattle.std.proofs.Math.ListN.{set}
+use Rattle.std.specs.Prelude.{◌==◌, Option, Some, None}
 use Rattle.iref_grammar.specs.Rules.{Text}
 use Rattle.iref.specs.PrefixTable.{PrefixEntry, PrefixTable, is_taken, removed, with_iri}
 use Rattle.iref.specs.PrefixTree.{key_of, keys_of, text_at, place_at, HasPlace, IsAbsent, IsFirstOf, IsLed, IsTree}
 use Rattle.iref.specs.PrefixPlaces.{entries_at, entry_at, holds, AreWithin, IsAddedTo, IsBook, IsHeld, IsShared}
-use Rattle.iref.specs.declared.compact.entry.Entries.{Entries}
-use Rattle.iref.specs.declared.compact.entry.Key.TheVariants.{Label, Iri}
-use Rattle.iref.specs.declared.compact.entry.Lead.{Lead}
-use Rattle.iref.specs.declared.compact.shared.Shared.{Shared}
-use Rattle.iref.specs.declared.compact.table.Added.{Added}
-use Rattle.iref.specs.declared.compact.table.Held.{Held}
+use Rattle.iref.specs.{declared.compact.entry.Entries.{Entries}, declared.compact.entry.Key.TheVariants.{Label, Iri}}
+use Rattle.iref.specs.{declared.compact.entry.Lead.{Lead}, declared.compact.shared.Shared.{Shared}}
+use Rattle.iref.specs.{declared.compact.table.Added.{Added}, declared.compact.table.Held.{Held}}
 use Rattle.iref.specs.declared.compact.tree.Tree.{Tree}
 use Rattle.iref.proofs.PrefixChangeLemmas.{keys_more, LedAt, IsChanged, changed_set, changed_push, within_after, once_after, led_after, led_after_both, lead_there, lead_gone, shared_insert, shared_remove, shared_replace}
-use Rattle.iref.proofs.PrefixFindLemmas.{entry_key, entry_read}
-use Rattle.iref.proofs.PrefixInsertLemmas.{first_again, text_old}
+use Rattle.iref.proofs.{PrefixFindLemmas.{entry_key, entry_read}, PrefixInsertLemmas.{first_again, text_old}}
 use Rattle.iref.proofs.PrefixPlaceLemmas.{entries_pushed, entries_cleared, entries_changed, length_cleared, length_changed, none_labelled, not_taken, taken_at}
 
 pub book_empty : (all : PrefixTable) (places : List (Option ℕ)) (by_label by_iri : Tree) (pairs : Shared) → all ≡ [] → places ≡ [] → IsTree [] by_label → IsLed [] [] by_label.leads.items → IsTree [] by_iri → IsLed [] [] by_iri.leads.items

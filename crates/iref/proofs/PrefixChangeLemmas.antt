@@ -1,22 +1,19 @@
 -- A prefix table gets one more entry, or changes at one place.
 use Rattle.std.proofs.Common.{arith, ◌≡◌, ◌≢◌, ℕ, ◌+◌, ◌<◌, ◌≤◌, inl, inr, Bool, true, false, not, ◌&&◌, ◌||◌, List, [], ◌∷◌, ◌++◌, length, refl, sym, ap, subst, ◌∙◌}
-use Rattle.std.specs.Prelude.{◌==◌, bytes_eq, Option, Some, None, IfSome, MatchOption}
-use mathlib.Core.Bool.{true≢false}
-use Rattle.std.specs.Cmp.Lexicographic.{bytes_decides}
 use Rattle.std.proofs.lemmas.Bool.{cases_eq, cases_lt, cases_order, eq-eqb, eqb-true, ne_eqb, false_from_ne_true}
 use Rattle.std.proofs.lemmas.List.{get_or_append_left, get_or_push, get_or_past, get_or-set_same, get_or-set_other, length_push, length-map, map-append}
 use Rattle.std.proofs.Math.ListN.{set, length-set}
+use Rattle.std.specs.Prelude.{◌==◌, bytes_eq, Option, Some, None, IfSome, MatchOption}
+use Rattle.std.specs.Cmp.Lexicographic.{bytes_decides}
+use mathlib.Core.Bool.{true≢false}
 use Rattle.iref_grammar.specs.Rules.{Text}
 use Rattle.iref.specs.PrefixTable.{PrefixEntry, PrefixTable}
 use Rattle.iref.specs.PrefixTree.{key_of, keys_of, text_at, place_at, lead_at, HasPlace, IsFirst, IsLead, IsLed, IsTree}
 use Rattle.iref.specs.PrefixPlaces.{holds, stands_there, AreWithin, IsBook, IsOnce, IsShared}
-use Rattle.iref.specs.declared.compact.entry.Key.{Key}
-use Rattle.iref.specs.declared.compact.entry.Key.TheVariants.{Label, Iri}
-use Rattle.iref.specs.declared.compact.entry.Lead.{Lead}
-use Rattle.iref.specs.declared.compact.shared.Shared.{Shared}
+use Rattle.iref.specs.{declared.compact.entry.Key.{Key}, declared.compact.entry.Key.TheVariants.{Label, Iri}}
+use Rattle.iref.specs.{declared.compact.entry.Lead.{Lead}, declared.compact.shared.Shared.{Shared}}
 use Rattle.iref.specs.declared.compact.tree.Tree.{Tree}
-use Rattle.iref.proofs.PrefixInsertLemmas.{text_old}
-use Rattle.iref.proofs.PrefixPlaceLemmas.{entries_of_more}
+use Rattle.iref.proofs.{PrefixInsertLemmas.{text_old}, PrefixPlaceLemmas.{entries_of_more}}
 
 -- where the first entry of a text leads to
 abbrev pub LedAt : List Text → List (Option ℕ) → Text → Option Lead → Type 0

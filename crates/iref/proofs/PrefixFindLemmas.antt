@@ -1,21 +1,16 @@
 -- The entries that a tree finds.
 use Rattle.std.proofs.Common.{arith, ◌≡◌, ◌≢◌, ℕ, zero, suc, ◌+◌, ◌-◌, ◌*◌, ◌<◌, ◌≤◌, inl, inr, true, false, List, [], ◌∷◌, length, get_or, take, refl, sym, ap, subst, ◌∙◌, ⊎_elim}
-use Rattle.std.specs.Prelude.{nat_eq, MatchOption, Option, Some, None}
-use Rattle.std.specs.List.{AllByRecursion, common_prefix_len, find}
-use Rattle.std.specs.Cmp.Lexicographic.{bytes_decides}
 use Rattle.std.proofs.lemmas.Bool.{cases_lt, cases_eq, false_from_ne_true}
 use Rattle.std.proofs.lemmas.List.{get_or_read, length-take, length-take-le, length-map}
 use Rattle.std.proofs.lemmas.List.Sums.{common_prefix_len-le}
+use Rattle.std.specs.{Prelude.{nat_eq, MatchOption, Option, Some, None}, List.{AllByRecursion, common_prefix_len, find}}
+use Rattle.std.specs.Cmp.Lexicographic.{bytes_decides}
 use Rattle.iref_grammar.specs.Rules.{Text}
-use Rattle.iref.specs.PrefixTable.{PrefixEntry, PrefixTable, fits, longest_fit}
-use Rattle.iref.specs.declared.compact.entry.Key.{Key}
+use Rattle.iref.specs.{PrefixTable.{PrefixEntry, PrefixTable, fits, longest_fit}, declared.compact.entry.Key.{Key}}
 use Rattle.iref.specs.PrefixPlaces.{AreWithin, entries_at, entry_at}
-use Rattle.iref.specs.declared.compact.entry.Key.TheVariants.{Label, Iri}
-use Rattle.iref.specs.declared.compact.entry.Lead.{Lead}
-use Rattle.iref.specs.declared.compact.tree.Child.{Child}
-use Rattle.iref.specs.declared.compact.tree.Child.TheVariants.{Inner, Leaf}
-use Rattle.iref.specs.declared.compact.tree.Near.{Near}
-use Rattle.iref.specs.declared.compact.tree.Tree.{Tree}
+use Rattle.iref.specs.{declared.compact.entry.Key.TheVariants.{Label, Iri}, declared.compact.entry.Lead.{Lead}}
+use Rattle.iref.specs.{declared.compact.tree.Child.{Child}, declared.compact.tree.Child.TheVariants.{Inner, Leaf}}
+use Rattle.iref.specs.{declared.compact.tree.Near.{Near}, declared.compact.tree.Tree.{Tree}}
 use Rattle.iref.specs.PrefixTree.{key_of, keys_of, has_key, text_at, place_at, lead_at, node_at, SameBits, AreBytes, HasPlace, IsLead, IsLed, IsAbsent, IsFirst, IsFirstOf, IsFront, IsTree, IsFit, IsEnded, IsNear}
 use Rattle.iref.proofs.PrefixBitLemmas.{same_bits_refl, same_bits_sym, same_bits_trans, same_bits_less, as_long, no_longer, goes_within, goes_there, ends_there, same_text, common_bits, common_upto, bits_of_begun, begins_by_bits, same_byte}
 use Rattle.iref.proofs.PrefixWayLemmas.{root_link}

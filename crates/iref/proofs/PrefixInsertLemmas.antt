@@ -1,20 +1,14 @@
 -- A new text in a tree.
 use Rattle.std.proofs.Common.{arith, ◌≡◌, ◌≢◌, ℕ, ◌+◌, ◌-◌, ◌*◌, ◌<◌, ◌≤◌, ◌⊎◌, inl, inr, Bool, true, false, List, [], ◌∷◌, ◌++◌, length, get_or, refl, sym, ap, subst, ◌∙◌, ⊎_elim}
-use Rattle.std.specs.Prelude.{Option, Some, None, MatchOption, IfSome, unwrap_or}
-use Rattle.std.specs.Prelude.{nat_eq}
-use Rattle.std.specs.List.{common_prefix_len}
-use Rattle.std.proofs.lemmas.List.Sums.{common_prefix_len-le}
-use Rattle.std.proofs.lemmas.Bool.{cases_lt, cases_eq, cases_order}
+use Rattle.std.proofs.{lemmas.List.Sums.{common_prefix_len-le}, lemmas.Bool.{cases_lt, cases_eq, cases_order}}
 use Rattle.std.proofs.lemmas.List.{get_or_append_left, get_or_push, get_or-set_same, get_or-set_other, length_push}
 use Rattle.std.proofs.Math.ListN.{set, length-set}
+use Rattle.std.specs.{Prelude.{Option, Some, None, MatchOption, IfSome, unwrap_or, nat_eq}, List.{common_prefix_len}}
 use Rattle.std.specs.Global.{Vec}
 use Rattle.iref_grammar.specs.Rules.{Text}
-use Rattle.iref.specs.declared.compact.entry.Lead.{Lead}
-use Rattle.iref.specs.declared.compact.tree.Bit.{Bit}
-use Rattle.iref.specs.declared.compact.tree.Child.{Child}
-use Rattle.iref.specs.declared.compact.tree.Child.TheVariants.{Inner, Leaf}
-use Rattle.iref.specs.declared.compact.tree.Near.{Near}
-use Rattle.iref.specs.declared.compact.tree.Node.{Node}
+use Rattle.iref.specs.{declared.compact.entry.Lead.{Lead}, declared.compact.tree.Bit.{Bit}}
+use Rattle.iref.specs.{declared.compact.tree.Child.{Child}, declared.compact.tree.Child.TheVariants.{Inner, Leaf}}
+use Rattle.iref.specs.{declared.compact.tree.Near.{Near}, declared.compact.tree.Node.{Node}}
 use Rattle.iref.specs.declared.compact.tree.Tree.{Tree}
 use Rattle.iref.specs.PrefixTree.{text_at, bit, place_of, child, child_at, with_child, node_at, number_of, spot, Spot, SameBits, AreBytes, IsAbsent, IsFirst, IsFirstOf, IsFront, IsIn, IsOnSide, IsBelow, IsLink, IsNode, IsTree, IsNear, IsFirstDifference, IsAdded, IsNew, IsWay, Covers}
 use Rattle.iref.proofs.PrefixBitLemmas.{same_bits_refl, same_bits_sym, same_bits_trans, same_bits_less, same_bits_next, no_longer, differ_within, ended_at, same_byte}

@@ -1,29 +1,19 @@
 -- Prefix tables.
 use Rattle.std.proofs.Common.{◌≡◌, ◌≢◌, ◌<◌, ◌≤◌, Bool, true, false, ◌||◌, ◌&&◌, not, List, [], ◌∷◌, ◌++◌, length, map, take, drop, refl, sym, ◌∙◌, ap, subst, arith, ◌⊎◌, inl, inr}
-use Rattle.std.proofs.lemmas.Grind.{common_steps}
-use Rattle.std.proofs.Math.Logic.{◌↔◌}
-use Rattle.std.specs.Prelude.{bytes_eq, Option, Some, None, Result, Ok, Err, option_map, is_some, MatchOption, if◌then◌else◌}
-use Rattle.std.specs.Bool.{IsFalse}
-use Rattle.std.specs.List.{AllByRecursion, find, list_all, list_any}
-use Rattle.std.specs.Cmp.Lexicographic.{bytes_decides}
+use Rattle.std.proofs.{lemmas.Grind.{common_steps}, Math.Logic.{◌↔◌}}
 use Rattle.std.proofs.lemmas.Bool.{and_from, or_parts, or_from, not_from_false, cond_both, cond-true, cases_Bool}
-use Rattle.std.proofs.lemmas.Option.{same_Some}
-use Rattle.std.proofs.lemmas.List.{take-append-drop}
-use Rattle.std.proofs.lemmas.List.Folds.{list_all-append}
+use Rattle.std.proofs.{lemmas.Option.{same_Some}, lemmas.List.{take-append-drop}, lemmas.List.Folds.{list_all-append}}
 use Rattle.std.proofs.lemmas.Bool.{not-true}
+use Rattle.std.specs.Prelude.{bytes_eq, Option, Some, None, Result, Ok, Err, option_map, is_some, MatchOption, if◌then◌else◌}
+use Rattle.std.specs.{Bool.{IsFalse}, List.{AllByRecursion, find, list_all, list_any}}
+use Rattle.std.specs.Cmp.Lexicographic.{bytes_decides}
 use mathlib.Core.Bool.{true≢false}
-use Rattle.iref_grammar.specs.Characters.{iri_chars}
-use Rattle.iref_grammar.specs.Rules.{Text}
-use Rattle.iref_grammar.specs.Grammar.{colon}
-use Rattle.iref_grammar.specs.Texts.{begins_with, lacks}
+use Rattle.iref_grammar.specs.{Characters.{iri_chars}, Rules.{Text}, Grammar.{colon}, Texts.{begins_with, lacks}}
 use Rattle.iref_grammar.specs.Reference.{is_uri}
-use Rattle.iref_grammar.proofs.TextLemmas.{first_of_both, second_of_both}
-use Rattle.iref_grammar.proofs.CutLemmas.{before-mark, after-part}
-use Rattle.iref.specs.PrefixLabels.{is_label}
-use Rattle.iref.specs.declared.compact.label.Labels.{Labels}
-use Rattle.iref.proofs.PrefixLabelLemmas.{label_lacks}
-use Rattle.iref.proofs.PrefixPlaceLemmas.{removed_none}
+use Rattle.iref_grammar.proofs.{TextLemmas.{first_of_both, second_of_both}, CutLemmas.{before-mark, after-part}}
+use Rattle.iref.specs.{PrefixLabels.{is_label}, declared.compact.label.Labels.{Labels}}
 use Rattle.iref.specs.PrefixTable.{PrefixEntry, PrefixTable, PrefixesValue, has_label, is_taken, get, InsertRefusal, BadLabel, Taken, inserted, with_iri, with_entry, replaced, removed, unless_refused, inserted_all, Change, Insert, Replace, Remove, changed, changed_all, brings_iri, labels_differ, IsPrefixTable, fits, or_longer, longest_fit, IsLongestFit, or_new, CompactValue, IsCompact, compacted, compact_text, NotAnIri, if_iri, expanded_parts, expanded}
+use Rattle.iref.proofs.{PrefixLabelLemmas.{label_lacks}, PrefixPlaceLemmas.{removed_none}}
 
 -- ---- the longest fit
 

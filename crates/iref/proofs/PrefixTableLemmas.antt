@@ -1,13 +1,9 @@
 -- What the calls of prefix tables answer, case by case.
 use Rattle.std.proofs.Common.{arith, ◌≡◌, ◌≢◌, true, false, [], ◌∷◌, ◌++◌, length, map, drop, sym, ap, subst, ◌∙◌}
-use Rattle.std.specs.Prelude.{Option, Some, None, Ok, Err, IsOk, option_map, is_some}
-use Rattle.std.specs.List.{find}
-use Rattle.iref_grammar.specs.Characters.{iri_chars, iri_above_ascii}
-use Rattle.iref_grammar.specs.Reference.{is_uri}
-use Rattle.iref_grammar.specs.Rules.{Text, InUtf8}
-use Rattle.iref_grammar.specs.Grammar.{colon, IsUri}
+use Rattle.std.specs.{Prelude.{Option, Some, None, Ok, Err, IsOk, option_map, is_some}, List.{find}}
+use Rattle.iref_grammar.specs.{Characters.{iri_chars, iri_above_ascii}, Reference.{is_uri}, Rules.{Text, InUtf8}}
+use Rattle.iref_grammar.specs.{Grammar.{colon, IsUri}, Texts.{before, after, begins_with}}
 use Rattle.iref_grammar.proofs.ReferenceRuleLemmas.{Decides-is_uri}
-use Rattle.iref_grammar.specs.Texts.{before, after, begins_with}
 use Rattle.iref.specs.PrefixLabels.{is_label}
 use Rattle.iref.specs.PrefixTable.{PrefixEntry, PrefixTable, PrefixesValue, has_label, get, BadLabel, Taken, inserted, is_taken, with_iri, replaced, longest_fit, IsPrefixTable, compacted, compact_text, NoColon, UnknownLabel, NotAnIri, if_iri, expanded}
 use Rattle.iref.proofs.PrefixPlaceLemmas.{changed_none}

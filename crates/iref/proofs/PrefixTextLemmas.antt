@@ -1,8 +1,7 @@
 -- Beginnings of texts.
 use Rattle.std.proofs.Common.{arith, ◌≡◌, ◌≤◌, true, List, ℕ, length, length-take, ap, subst, take}
-use Rattle.std.specs.Str.{IsCharBoundary, IsUtf8}
-use Rattle.std.specs.Cmp.Lexicographic.{bytes_decides}
 use Rattle.std.proofs.lemmas.Str.{IsCharBoundary-from_take}
+use Rattle.std.specs.{Str.{IsCharBoundary, IsUtf8}, Cmp.Lexicographic.{bytes_decides}}
 use Rattle.iref_grammar.specs.Texts.{begins_with}
 
 -- a text that begins with another one may be cut where that ends

@@ -1,15 +1,11 @@
 -- Where a text leads in a tree.
 use Rattle.std.proofs.Common.{arith, Bool, ◌≡◌, ◌≢◌, ℕ, ◌+◌, ◌-◌, ◌*◌, ◌<◌, ◌≤◌, ◌⊎◌, inl, inr, List, [], length, get_or, refl, sym, ap, subst, ◌∙◌, ⊎_elim}
-use Rattle.std.specs.Prelude.{min, Option, Some, None, MatchOption}
-use Rattle.std.specs.Option.{option_or}
-use Rattle.std.proofs.lemmas.Bool.{cases_lt, cases_order, lt-ltb}
-use Rattle.std.proofs.lemmas.List.{get_or_read}
+use Rattle.std.proofs.{lemmas.Bool.{cases_lt, cases_order, lt-ltb}, lemmas.List.{get_or_read}}
 use Rattle.std.proofs.Math.Nat.{min-eq_left, min-eq_right, min-le_left, min-le_right}
+use Rattle.std.specs.{Prelude.{min, Option, Some, None, MatchOption}, Option.{option_or}}
 use Rattle.iref_grammar.specs.Rules.{Text}
-use Rattle.iref.specs.declared.compact.entry.Lead.{Lead}
-use Rattle.iref.specs.declared.compact.tree.Child.{Child}
-use Rattle.iref.specs.declared.compact.tree.Child.TheVariants.{Inner, Leaf}
-use Rattle.iref.specs.declared.compact.tree.Node.{Node}
+use Rattle.iref.specs.{declared.compact.entry.Lead.{Lead}, declared.compact.tree.Child.{Child}}
+use Rattle.iref.specs.{declared.compact.tree.Child.TheVariants.{Inner, Leaf}, declared.compact.tree.Node.{Node}}
 use Rattle.iref.specs.declared.compact.tree.Tree.{Tree}
 use Rattle.iref.specs.PrefixTree.{text_at, bit, place_of, child, node_at, number_of, spot, Spot, SameBits, AreBytes, IsFirst, IsIn, IsOnSide, IsBelow, IsLink, IsNode, IsTree, IsFit, HasPlace, IsLead, IsEnded, IsNearest, Covers}
 use Rattle.iref.proofs.PrefixBitLemmas.{same_bits_refl, same_bits_sym, same_bits_trans, same_bits_less, goes_within, as_long, no_longer, same_text, ends_there, goes_on}

@@ -1,9 +1,7 @@
 -- The components of a text, each of which is in its rule of the grammar.
 use Rattle.std.specs.Prelude.{IfSome}
-use Rattle.iref_grammar.specs.Characters.{CharTests}
-use Rattle.iref_grammar.specs.ComponentTexts.{ComponentTexts}
-use Rattle.iref_grammar.specs.Grammar.{IsAuthority, IsFragment, IsPath, IsQuery, IsScheme}
-use Rattle.iref_grammar.specs.Rules.{InUtf8}
+use Rattle.iref_grammar.specs.{Characters.{CharTests}, ComponentTexts.{ComponentTexts}}
+use Rattle.iref_grammar.specs.{Grammar.{IsAuthority, IsFragment, IsPath, IsQuery, IsScheme}, Rules.{InUtf8}}
 
 -- each component that is there is in its rule
 pub record AreInRules (set : CharTests) (t : ComponentTexts) : Type 0 where

@@ -1,15 +1,12 @@
 -- The step of the model that each edit stands for.
-use Rattle.std.specs.Prelude.{ℕ, Bool, List, map, Option, option_map, Result}
-use Rattle.std.specs.List.{list_all}
+use Rattle.std.specs.{Prelude.{ℕ, Bool, List, map, Option, option_map, Result}, List.{list_all}}
 use Rattle.iref_model.specs.Edits as model
 use Rattle.iref_model.specs.Edits.{EditStep}
 use Rattle.iref_component.specs.Components.{text_of}
 use Rattle.iref_grammar.specs.Rules.{Text}
-use Rattle.iref_reference.specs.declared.owned.ReferenceBuf.{ReferenceBuf}
-use Rattle.iref_reference.specs.References.{reference_buf_value}
+use Rattle.iref_reference.specs.{declared.owned.ReferenceBuf.{ReferenceBuf}, References.{reference_buf_value}}
 use Rattle.iref.specs.EditAnswers.{AppliesEdits, edited_in, keeps_query_and_fragment}
-use Rattle.iref.specs.declared.edits.EditFault.{EditFault}
-use Rattle.iref.specs.declared.edits.Edit.{Edit}
+use Rattle.iref.specs.{declared.edits.EditFault.{EditFault}, declared.edits.Edit.{Edit}}
 use Rattle.iref.specs.declared.edits.Edit.TheVariants.{SetScheme, SetAuthority, ReplaceAuthority, SetUserInfo, SetHost, SetPort, SetPortU32, SetPath, SetAndNormalizePath, SetQuery, SetFragment, LazyPush, Push, JoinPath, Pop, Clear, Normalize}
 
 -- the step that an edit is

@@ -1,13 +1,10 @@
 -- What an error of a family holds of the error that it was made from, and where its input is wrong.
-use Rattle.std.specs.Borrow.{Bor}
-use Rattle.std.specs.Prelude.{◌≡◌, Option}
-use Rattle.iref_grammar.specs.Characters.{uri_chars, iri_chars}
-use Rattle.iref_grammar.specs.Rules.{Text}
+use Rattle.std.specs.{Borrow.{Bor}, Prelude.{◌≡◌, Option}}
+use Rattle.iref_grammar.specs.{Characters.{uri_chars, iri_chars}, Rules.{Text}}
 use Rattle.iref_fault.specs.Faults.{FaultValue, fault_of_part, fault_of_authority, fault_of_reference, fault_of_uri}
 use Rattle.iref_fault.specs.Places as part
-use Rattle.iref.specs.declared.errors.iri.IriError.{IriError}
+use Rattle.iref.specs.{declared.errors.iri.IriError.{IriError}, declared.errors.uri.UriError.{UriError}}
 use Rattle.iref.specs.declared.errors.iri.IriError.TheVariants as iri
-use Rattle.iref.specs.declared.errors.uri.UriError.{UriError}
 use Rattle.iref.specs.declared.errors.uri.UriError.TheVariants as uri
 
 -- the error is `variant (with_input input)`, for an input that is converted from the first error's

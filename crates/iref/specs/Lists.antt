@@ -1,10 +1,8 @@
 -- Lists of references that are sorted, or made unique.
 use Rattle.std.specs.Prelude.{◌≡◌, ℕ, List, [], ◌∷◌, ◌++◌, fold, length, map, if◌then◌else◌}
-use Rattle.std.specs.List.{All, dedup, flat_map, list_any}
-use Rattle.std.specs.List.Sorted.{IsPermutation, IsSorted, IsStable}
+use Rattle.std.specs.{List.{All, dedup, flat_map, list_any}, List.Sorted.{IsPermutation, IsSorted, IsStable}}
 use Rattle.std.specs.Ordering.{eq_by_cmp, on}
-use Rattle.iref_grammar.specs.Reference.{ReferenceValue, read_reference}
-use Rattle.iref_grammar.specs.Rules.{Text}
+use Rattle.iref_grammar.specs.{Reference.{ReferenceValue, read_reference}, Rules.{Text}}
 use Rattle.iref_model.specs.Key.{are_alike, key, key_cmp}
 
 -- what a reference is compared by

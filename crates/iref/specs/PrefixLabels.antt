@@ -1,12 +1,9 @@
 -- Which texts the labels of a prefix table are.
 use Rattle.std.specs.Prelude.{ℕ, Bool, true, false, not, ◌==◌, ◌&&◌, ◌||◌, [], ◌∷◌, codes}
 use Rattle.std.specs.Char.{is_ascii_alphabetic, is_ascii_alphanumeric, is_ascii_digit, char_set_contains}
-use Rattle.std.specs.Int.{is_in_range}
-use Rattle.std.specs.List.{list_all}
-use Rattle.iref_grammar.specs.Grammar.{colon, full_stop}
-use Rattle.iref_grammar.specs.Rules.{Text, Rule, OneOf, Optional, ZeroOrMore, ◌⨾◌}
-use Rattle.iref_grammar.specs.Tests.{in_utf8}
-use Rattle.iref_grammar.specs.Texts.{is_empty, lacks}
+use Rattle.std.specs.{Int.{is_in_range}, List.{list_all}}
+use Rattle.iref_grammar.specs.{Grammar.{colon, full_stop}, Rules.{Text, Rule, OneOf, Optional, ZeroOrMore, ◌⨾◌}}
+use Rattle.iref_grammar.specs.{Tests.{in_utf8}, Texts.{is_empty, lacks}}
 use Rattle.iref.specs.declared.compact.label.Labels.{Labels}
 use Rattle.iref.specs.declared.compact.label.Labels.TheVariants.{Ascii, Turtle, Any}
 

@@ -1,17 +1,12 @@
 -- The entries that a prefix table has, of all that were ever added to it.
 use Rattle.std.specs.Prelude.{◌≡◌, ℕ, ◌<◌, ◌≤◌, Bool, false, List, [], ◌∷◌, ◌++◌, length, slice_index_or, bytes_eq, Option, Some, None}
-use Rattle.std.specs.BTreeSet.{contains}
-use Rattle.std.specs.Vec.{vec_len, vec_capacity}
-use Rattle.std.specs.Ordering.{nat_cmp, ordering_then}
+use Rattle.std.specs.{BTreeSet.{contains}, Vec.{vec_len, vec_capacity}, Ordering.{nat_cmp, ordering_then}}
 use Rattle.iref_grammar.specs.Rules.{Text}
 use Rattle.iref.specs.PrefixTable.{PrefixEntry, PrefixTable}
 use Rattle.iref.specs.PrefixTree.{keys_of, text_at, place_at, HasRoom, IsFirst, IsFirstOf, IsLed, IsTree}
-use Rattle.iref.specs.declared.compact.entry.Entries.{Entries}
-use Rattle.iref.specs.declared.compact.entry.Key.TheVariants.{Label, Iri}
-use Rattle.iref.specs.declared.compact.shared.Shared.{Shared}
-use Rattle.iref.specs.declared.compact.table.Added.{Added}
-use Rattle.iref.specs.declared.compact.table.Held.{Held}
-use Rattle.iref.specs.declared.compact.table.Table.{Table}
+use Rattle.iref.specs.{declared.compact.entry.Entries.{Entries}, declared.compact.entry.Key.TheVariants.{Label, Iri}}
+use Rattle.iref.specs.{declared.compact.shared.Shared.{Shared}, declared.compact.table.Added.{Added}}
+use Rattle.iref.specs.{declared.compact.table.Held.{Held}, declared.compact.table.Table.{Table}}
 use Rattle.iref.specs.declared.compact.tree.Tree.{Tree}
 
 abbrev pub entry_at : PrefixTable → ℕ → PrefixEntry

@@ -1,18 +1,12 @@
 -- The trees by which a prefix table finds its entries: by their labels, and by their texts.
 use Rattle.std.specs.Prelude.{◌≡◌, ◌≢◌, ℕ, ◌+◌, ◌-◌, ◌*◌, ◌/◌, ◌%◌, ◌<◌, ◌≤◌, ◌==◌, ◌⊎◌, Bool, true, false, List, [], ◌∷◌, ◌++◌, length, map, nat_lt, slice_index, slice_index_or, bytes_eq, Option, Some, None, MatchOption, IfSome, if◌then◌else◌}
-use Rattle.std.specs.Int.{bit_at}
-use Rattle.std.specs.Vec.{vec_len, vec_capacity}
+use Rattle.std.specs.{Int.{bit_at}, Vec.{vec_len, vec_capacity}}
 use Rattle.iref_grammar.specs.Rules.{Text}
-use Rattle.iref.specs.PrefixTable.{PrefixEntry, PrefixTable}
-use Rattle.iref.specs.declared.compact.entry.Key.{Key}
-use Rattle.iref.specs.declared.compact.entry.Key.TheVariants.{Label, Iri}
-use Rattle.iref.specs.declared.compact.entry.Lead.{Lead}
-use Rattle.iref.specs.declared.compact.tree.Bit.{Bit}
-use Rattle.iref.specs.declared.compact.tree.Child.{Child}
-use Rattle.iref.specs.declared.compact.tree.Child.TheVariants.{Inner, Leaf}
-use Rattle.iref.specs.declared.compact.tree.Near.{Near}
-use Rattle.iref.specs.declared.compact.tree.Node.{Node}
-use Rattle.iref.specs.declared.compact.tree.Tree.{Tree}
+use Rattle.iref.specs.{PrefixTable.{PrefixEntry, PrefixTable}, declared.compact.entry.Key.{Key}}
+use Rattle.iref.specs.{declared.compact.entry.Key.TheVariants.{Label, Iri}, declared.compact.entry.Lead.{Lead}}
+use Rattle.iref.specs.{declared.compact.tree.Bit.{Bit}, declared.compact.tree.Child.{Child}}
+use Rattle.iref.specs.{declared.compact.tree.Child.TheVariants.{Inner, Leaf}, declared.compact.tree.Near.{Near}}
+use Rattle.iref.specs.{declared.compact.tree.Node.{Node}, declared.compact.tree.Tree.{Tree}}
 
 -- what an entry is found by
 abbrev pub key_of : Key → PrefixEntry → Text

@@ -3,13 +3,12 @@ use Rattle.std.specs.Prelude.{◌≡◌, ◌≢◌, Result, Err, IsOk}
 use Rattle.iref_grammar.specs.Rules.{Text}
 use Rattle.iref.specs.PrefixTable as table
 use Rattle.iref.specs.PrefixTable.{PrefixesValue, CompactValue, InsertRefusal, ExpandRefusal}
-use Rattle.iref.specs.declared.compact.Compact.{Compact}
-use Rattle.iref.specs.declared.compact.PrefixFault.{PrefixFault}
-use Rattle.iref.specs.declared.compact.PrefixFault.TheVariants as prefix_fault
+use Rattle.iref.specs.{declared.compact.Compact.{Compact}, declared.compact.PrefixFault.{PrefixFault}}
 use Rattle.iref.specs.declared.compact.PrefixFault.TheVariants.{BadLabel, Taken}
 use Rattle.iref.specs.declared.compact.ExpandFault.{ExpandFault}
-use Rattle.iref.specs.declared.compact.ExpandFault.TheVariants as expand_fault
 use Rattle.iref.specs.declared.compact.ExpandFault.TheVariants.{NoColon, UnknownLabel, NotAnIri}
+use Rattle.iref.specs.declared.compact.PrefixFault.TheVariants as prefix_fault
+use Rattle.iref.specs.declared.compact.ExpandFault.TheVariants as expand_fault
 
 abbrev pub compact_value : Compact → CompactValue
 compact_value c = record { label = c.label.now; rest = c.rest.now }

@@ -105,8 +105,7 @@ pub struct Prefixes {
 }
 
 impl Model for Prefixes {
-    ghost use Rattle.iref.specs.PrefixTable.{PrefixesValue, IsPrefixTable};
-    ghost use Rattle.iref.specs.PrefixPlaces.{table_of, IsTable};
+    ghost use Rattle.iref.specs.{PrefixTable.{PrefixesValue, IsPrefixTable}, PrefixPlaces.{table_of, IsTable}};
 
     ghost Value = { PrefixesValue };
 

@@ -1,21 +1,17 @@
 //! Laws of prefix tables: each is the contract of a function that does nothing.
 #![tactic(auto, using(crate::proofs::PrefixLemmas::laws))]
 
-ghost use Rattle.std.specs.Prelude.{◌≡◌, ◌≢◌, ◌↔◌, List, [], ◌∷◌, ◌++◌, map, Some, None, Ok, Err};
-ghost use Rattle.std.specs.Prelude.{true, false};
-ghost use Rattle.std.specs.{Prelude.{IsFalse, IsSome, MatchOption, if◌then◌else◌}, List.{list_all}};
-ghost use Rattle.std.specs.List.{list_any};
+ghost use Rattle.std.specs.Prelude.{◌≡◌, ◌≢◌, ◌↔◌, List, [], ◌∷◌, ◌++◌, map, Some, None, Ok, Err, true, false};
+ghost use Rattle.std.specs.{Prelude.{IsFalse, IsSome, MatchOption, if◌then◌else◌}, List.{list_all, list_any}};
 ghost use Rattle.iref_grammar.specs.{iri_chars, Text, is_uri, Grammar.{colon}, Texts.{lacks}};
 ghost use Rattle.iref_grammar.specs.Rules.{AcceptsExactly, Optional};
-ghost use Rattle.iref.specs.PrefixTable.{PrefixEntry, PrefixTable, PrefixesValue};
+ghost use Rattle.iref.specs.PrefixTable.{PrefixEntry, PrefixTable, PrefixesValue, fits, longest_fit};
 ghost use Rattle.iref.specs.PrefixTable.{IsPrefixTable, labels_differ, get, BadLabel, Taken};
 ghost use Rattle.iref.specs.{PrefixLabels.{is_label, IsPnPrefix}, declared.compact.label.Labels.{Labels}};
 ghost use Rattle.iref.specs.declared.compact.label.Labels.TheVariants.{Turtle};
 ghost use Rattle.iref.specs.PrefixTable.{inserted, inserted_all, is_taken, removed, replaced};
-ghost use Rattle.iref.specs.PrefixTable.{Change, Insert, brings_iri, changed_all};
-ghost use Rattle.iref.specs.PrefixTable.{fits, longest_fit};
+ghost use Rattle.iref.specs.PrefixTable.{Change, Insert, brings_iri, changed_all, compacted, compact_text, expanded};
 ghost use Rattle.iref.specs.PrefixTable.{IsLongestFit, or_new, CompactValue, IsCompact};
-ghost use Rattle.iref.specs.PrefixTable.{compacted, compact_text, expanded};
 
 /// A table that was made by inserts of IRIs holds labels in its rule, none of them twice, and IRIs.
 pub fn inserting_keeps_labels_unique()

@@ -1,24 +1,14 @@
 -- Answers to lines.
 use Rattle.std.proofs.Common.{arith, ◌≡◌, Bool, true, false, Option, Err, option_map, codes}
-use Rattle.iref.specs.Rules.{Text, InUtf8}
-use Rattle.iref.specs.Characters.{iri_chars, iri_above_ascii}
-use Rattle.iref.specs.Grammar.{IsPath, IsUri, IsUriReference}
-use Rattle.iref.proofs.PathTextLemmas.{Decides-is_path}
-use Rattle.iref.proofs.ReferenceRuleLemmas.{Decides-is_uri, Decides-is_uri_reference}
-use Rattle.iref.specs.PathValue.{spell_path, read_path}
-use Rattle.iref.specs.Contexts.{alone}
+use Rattle.iref.specs.{Rules.{Text, InUtf8}, Characters.{iri_chars, iri_above_ascii}}
+use Rattle.iref.specs.{Grammar.{IsPath, IsUri, IsUriReference}, PathValue.{spell_path, read_path}, Contexts.{alone}}
 use Rattle.iref.specs.Reference.{ReferenceValue, read_reference, spell}
-use Rattle.iref.specs.ComponentTexts.{ComponentTexts, spell_components}
-use Rattle.iref.specs.Guard.{guarded}
-use Rattle.iref.specs.NormalList.{normal}
-use Rattle.iref.specs.Key.{are_alike}
-use Rattle.iref.proofs.TieLemmas.{references_tie}
-use Rattle.iref.specs.Relative.{relative_to}
-use Rattle.iref.specs.Resolution.{resolved}
-use Rattle.iref.specs.Mapping.{mapped}
+use Rattle.iref.specs.{ComponentTexts.{ComponentTexts, spell_components}, Guard.{guarded}, NormalList.{normal}}
+use Rattle.iref.specs.{Key.{are_alike}, Relative.{relative_to}, Resolution.{resolved}, Mapping.{mapped}}
+use Rattle.iref.proofs.PathTextLemmas.{Decides-is_path}
+use Rattle.iref.proofs.{ReferenceRuleLemmas.{Decides-is_uri, Decides-is_uri_reference}, TieLemmas.{references_tie}}
 use Rattle.iref_batch.specs.Lines.{Request, answer_if_valid, read_line, answer, InvalidText, Answered, Parts, Resolve, Relative, Normal, Equal, ToUri, answer_to, is_valid, part_fields, yes_or_no, all_verbs}
-use Rattle.iref_batch.specs.EditFields.{IsRead, IsRefusal}
-use Rattle.iref_batch.specs.Runs.{line_reply, reply_to}
+use Rattle.iref_batch.specs.{EditFields.{IsRead, IsRefusal}, Runs.{line_reply, reply_to}}
 use Rattle.iref_batch.specs.declared.edit_fields.FieldError.{FieldError}
 
 -- what is written for a line is what is written for its request

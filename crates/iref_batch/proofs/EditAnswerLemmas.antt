@@ -2,13 +2,10 @@
 use Rattle.iref.proofs.ReferenceRuleLemmas.{Decides-is_uri_reference}
 use Rattle.std.proofs.Common.{arith, ◌≡◌, ℕ, true, false, List, Option, Some, Ok, Err, subst, option_map}
 use Rattle.std.specs.List.{list_all}
-use Rattle.iref.specs.Characters.{iri_chars, iri_above_ascii}
-use Rattle.iref.specs.Grammar.{IsUriReference}
-use Rattle.iref.specs.Reference.{ReferenceValue, read_reference, spell}
-use Rattle.iref.specs.Rules.{InUtf8, Text}
-use Rattle.iref.specs.Edits.{EditStep, EditRefusal, EditsOutcome, edited, edited_all}
+use Rattle.iref.specs.{Characters.{iri_chars, iri_above_ascii}, Grammar.{IsUriReference}}
+use Rattle.iref.specs.{Reference.{ReferenceValue, read_reference, spell}, Rules.{InUtf8, Text}}
+use Rattle.iref.specs.{Edits.{EditStep, EditRefusal, EditsOutcome, edited, edited_all}, EditAnswers.{AreDone}}
 use Rattle.iref_batch.specs.Lines.{Edit, Answered, InvalidText, RefusedEdit, answer_if_valid, answer_text, answer_to, edits_answer, is_valid, is_valid_edit}
-use Rattle.iref.specs.EditAnswers.{AreDone}
 use Rattle.iref_batch.specs.Runs.{reply_to}
 
 pub unfit_edits : (text : Text) (steps : List EditStep) → list_all (is_valid_edit iri_chars) steps ≡ false → is_valid iri_chars (Edit text steps) ≡ false

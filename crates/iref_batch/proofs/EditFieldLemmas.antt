@@ -1,16 +1,12 @@
 -- The edits that fields name, one after the other.
 use Rattle.std.proofs.Common.{arith, ◌≡◌, ◌&&◌, Bool, true, false, List, [], ◌∷◌, ◌++◌, Option, Some, Result, Err, ap, ◌∙◌, bytes_eq, option_map, MatchResult, IsOkAnd}
+use Rattle.std.proofs.{lemmas.Slice.Eq.{bytes_eq-Decides}, Math.Bool.{and-false, and-true}}
 use Rattle.std.specs.List.{find, list_all}
-use Rattle.std.proofs.lemmas.Slice.Eq.{bytes_eq-Decides}
-use Rattle.std.proofs.Math.Bool.{and-false, and-true}
-use Rattle.iref.specs.Characters.{iri_chars}
-use Rattle.iref.specs.Rules.{Text}
-use Rattle.iref.specs.Edits.{EditStep}
+use Rattle.iref.specs.{Characters.{iri_chars}, Rules.{Text}, Edits.{EditStep}, Texts.{after, before}}
 use Rattle.iref_batch.specs.Lines.{edit_names, equals_sign, read_edit, is_valid_edit}
-use Rattle.iref.specs.Texts.{after, before}
 use Rattle.iref_batch.specs.declared.edit_fields.FieldError.{FieldError}
-use Rattle.iref_batch.proofs.FieldListLemmas.{next_read}
 use Rattle.iref_batch.specs.EditFields.{IsRead, EditNames, edit_named, edits_read}
+use Rattle.iref_batch.proofs.FieldListLemmas.{next_read}
 
 -- the name that was asked for is looked up
 pub made_by_name : {V A W : Type 0} (names : EditNames) (wanted name : Text) (value : Option Text) (by : Option Text → Option EditStep) (make : V → W) (shown : V → A) (is_valid : A → Bool) (shown_then : W → EditStep) (step : A → EditStep)

@@ -1,20 +1,16 @@
 -- What stands written where a run ends.
 use Rattle.std.proofs.lemmas.List.{flat_map_more}
 use Rattle.std.proofs.Common.{arith, ◌≡◌, ◌≤◌, ◌-◌, ◌^◌, length, inl, Bool, false, List, [], ◌∷◌, ◌++◌, Option, Some, refl, map}
-use Rattle.std.proofs.lemmas.Grind.{common_steps}
-use Rattle.std.specs.List.{AllZip}
-use Rattle.std.proofs.lemmas.List.Concat.{flat_map-append}
+use Rattle.std.proofs.{lemmas.Grind.{common_steps}, lemmas.List.Concat.{flat_map-append}}
 use Rattle.std.proofs.lemmas.List.Elements.{AllZip-push}
-use Rattle.iref.specs.Rules.{Text}
-use Rattle.iref.specs.Texts.{is_empty}
-use Rattle.iref_batch.specs.Lines.{newline, lines_of}
-use Rattle.iref_batch.proofs.OutputLemmas.{lines_of-cut}
-use Rattle.iref_batch.specs.declared.lines.Lines.{Lines}
+use Rattle.std.specs.List.{AllZip}
+use Rattle.iref.specs.{Rules.{Text}, Texts.{is_empty}}
+use Rattle.iref_batch.specs.{Lines.{newline, lines_of}, declared.lines.Lines.{Lines}}
 use Rattle.iref_batch.specs.Runs.{IsReply, line_reply, with_newline, with_newlines, AnswersAll, AnswersBegun, EndsEarly}
 use Rattle.iref_batch.specs.Gathering.{IsLine, IsNothing, Holds, Writes, WritesPart, RepliesPart, InRun, BreaksOff}
+use Rattle.iref_batch.proofs.OutputLemmas.{lines_of-cut}
 use Rattle.iref_batch.proofs.LineLemmas.{ended_lines_of, lines_of_lines, lines_of_ended, lines_of_begun, lines_of_next}
-use Rattle.iref_batch.proofs.ReplyLemmas.{nothing_begun}
-use Rattle.iref_batch.proofs.RunLemmas.{next_line, line-append}
+use Rattle.iref_batch.proofs.{ReplyLemmas.{nothing_begun}, RunLemmas.{next_line, line-append}}
 
 answers : List Text → List Text
 answers lines = map (λ line. line_reply line) lines

@@ -1,16 +1,12 @@
 -- The fields of a line.
 use Rattle.std.proofs.Common.{◌≡◌, ◌==◌, ◌<◌, ℕ, true, false, List, [], ◌∷◌, Option, Some, None, length, refl, ap, ◌∙◌, arith, bytes_eq, codes}
-use Rattle.std.specs.List.{find}
 use Rattle.std.proofs.lemmas.Slice.Eq.{bytes_eq-Decides}
 use Rattle.std.proofs.lemmas.List.Splits.{slice_split_at, slice_split_none, length-slice_split}
-use Rattle.iref.specs.Rules.{Text}
-use Rattle.std.proofs.lemmas.List.{append-nil}
-use Rattle.std.proofs.lemmas.List.Elements.{All-cons, All-nil}
-use Rattle.iref.specs.Texts.{after, before, lacks, pieces_at, is_empty}
-use Rattle.iref.proofs.CutLemmas.{cut, rest_lacks}
-use Rattle.iref.proofs.SplitLemmas.{lacks-before}
-use Rattle.iref_batch.specs.Lines.{Request, tab, read_line, one_text, all_verbs}
-use Rattle.iref_batch.specs.Gathering.{Lacks}
+use Rattle.std.proofs.{lemmas.List.{append-nil}, lemmas.List.Elements.{All-cons, All-nil}}
+use Rattle.std.specs.List.{find}
+use Rattle.iref.specs.{Rules.{Text}, Texts.{after, before, lacks, pieces_at, is_empty}}
+use Rattle.iref.proofs.{CutLemmas.{cut, rest_lacks}, SplitLemmas.{lacks-before}}
+use Rattle.iref_batch.specs.{Lines.{Request, tab, read_line, one_text, all_verbs}, Gathering.{Lacks}}
 use Rattle.iref_batch.specs.Fields.{fields_of}
 
 -- a text without the delimiter, character by character

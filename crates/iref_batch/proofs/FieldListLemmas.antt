@@ -1,8 +1,7 @@
 -- Fields that are read one after the other.
 use Rattle.std.proofs.Common.{arith, ◌≡◌, List, [], ◌∷◌, ◌++◌, Option, Some, option_map, map}
 use Rattle.std.proofs.lemmas.Grind.{common_steps}
-use Rattle.iref.specs.Rules.{Text}
-use Rattle.iref.specs.IpAddresses.{all_some}
+use Rattle.iref.specs.{Rules.{Text}, IpAddresses.{all_some}}
 
 module _ {A : Type 0} (read : Text → Option A) where
   -- one more field is read, or cannot be

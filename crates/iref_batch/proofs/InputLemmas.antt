@@ -3,12 +3,9 @@ use Rattle.std.proofs.Common.{◌≡◌, ◌<◌, ◌≤◌, ◌+◌, ◌-◌, �
 use Rattle.std.proofs.lemmas.Grind.{common_steps}
 use Rattle.std.specs.Io.KnownBytes.{Consumes, IsAtEnd, Keeps}
 use Rattle.iref.specs.Rules.{Text}
-use Rattle.iref_batch.specs.declared.lines.Lines.{Lines}
-use Rattle.iref_batch.specs.Runs.{AnswersAll, AnswersBegun, EndsWell, EndsEarly}
+use Rattle.iref_batch.specs.{declared.lines.Lines.{Lines}, Runs.{AnswersAll, AnswersBegun, EndsWell, EndsEarly}}
 use Rattle.iref_batch.specs.Gathering.{IsNothing, InRun, SeesMore, BreaksOff}
-use Rattle.iref_batch.proofs.Writing.{same_from_keeps}
-use Rattle.iref_batch.proofs.RunLemmas.{in_run_start}
-use Rattle.iref_batch.proofs.EndLemmas.{ended_answered}
+use Rattle.iref_batch.proofs.{Writing.{same_from_keeps}, RunLemmas.{in_run_start}, EndLemmas.{ended_answered}}
 
 -- so far the reader has given the text seen, by as many reads as bytes at most
 pub record InInput (input before : Text) (reads : ℕ) (left contents : Option Text) (lines : Lines) : Type 0 where

@@ -1,21 +1,14 @@
 -- Laws of the answers to lines.
 use Rattle.std.proofs.Common.{◌≡◌, ◌≢◌, true, ◌&&◌, List, [], ◌∷◌, refl, sym, ◌∙◌, ap, subst, arith}
-use Rattle.std.proofs.lemmas.Grind.{common_steps}
-use Rattle.std.specs.Prelude.{Option, Some, None, option_map, unwrap_or, is_some}
-use Rattle.std.specs.List.{list_all}
-use Rattle.std.proofs.lemmas.Bool.{and_parts}
-use Rattle.std.proofs.lemmas.Option.{same_Some}
+use Rattle.std.proofs.{lemmas.Grind.{common_steps}, lemmas.Bool.{and_parts}, lemmas.Option.{same_Some}}
+use Rattle.std.specs.{Prelude.{Option, Some, None, option_map, unwrap_or, is_some}, List.{list_all}}
 use mathlib.Core.Bool.{true≢false}
 use Rattle.iref.specs.Characters.{CharTests, AreAboveAscii, uri_chars, iri_chars, iri_above_ascii}
-use Rattle.iref.specs.Rules.{Text, InUtf8}
-use Rattle.iref.specs.Grammar.{IsUriReference}
-use Rattle.iref.specs.Reference.{read_reference, is_uri}
-use Rattle.iref_grammar.proofs.ReferenceRuleLemmas.{Decides-is_uri_reference}
-use Rattle.iref.specs.Key.{key, are_alike}
-use Rattle.iref_model.proofs.KeyLemmas.{Decides-are_alike}
-use Rattle.iref.specs.Mapping.{mapped}
-use Rattle.iref.specs.declared.compact.label.Labels.TheVariants.{Ascii}
+use Rattle.iref.specs.{Rules.{Text, InUtf8}, Grammar.{IsUriReference}, Reference.{read_reference, is_uri}}
+use Rattle.iref.specs.{Key.{key, are_alike}, Mapping.{mapped}, declared.compact.label.Labels.TheVariants.{Ascii}}
 use Rattle.iref.specs.PrefixTable.{PrefixEntry, PrefixesValue, IsPrefixTable, ascii_table, inserted_all, CompactValue, compacted, compact_text, expanded}
+use Rattle.iref_grammar.proofs.ReferenceRuleLemmas.{Decides-is_uri_reference}
+use Rattle.iref_model.proofs.KeyLemmas.{Decides-are_alike}
 use Rattle.iref_model.proofs.MappedReferenceLemmas.{reference_is_uri_reference, key-mapped_text}
 use Rattle.iref.proofs.PrefixLemmas.{table-nil, table-all, expanded-compacted}
 use Rattle.iref_batch.specs.Lines.{Request, ToUri, Compact, Expand, Answered, InvalidText, Verbs, equals_sign, is_valid, part_field, expanded_answer, answer_to, answer_if_valid, answer}

@@ -1,16 +1,13 @@
 -- Lines of a text, and replies to them.
 use Rattle.std.proofs.Common.{◌≡◌, false, List, [], ◌∷◌, ◌++◌, length, ◌<◌, refl, ◌∙◌, append-nil, arith}
-use Rattle.std.proofs.lemmas.Grind.{common_steps}
-use Rattle.std.specs.List.{All}
-use Rattle.std.proofs.lemmas.List.{flat_map_more}
+use Rattle.std.proofs.{lemmas.Grind.{common_steps}, lemmas.List.{flat_map_more}}
 use Rattle.std.proofs.lemmas.List.Splits.{slice_split_at, slice_split_none, length-slice_split}
 use Rattle.std.proofs.lemmas.List.Elements.{All-head, All-tail, All-push}
-use Rattle.iref.specs.Rules.{Text}
-use Rattle.iref.specs.Texts.{pieces_at, is_empty}
-use Rattle.iref_batch.specs.Lines.{newline, lines_of, without_empty_last}
-use Rattle.iref_batch.proofs.OutputLemmas.{without_empty_last-append}
-use Rattle.iref_batch.specs.Runs.{with_newlines, ended_lines}
+use Rattle.std.specs.List.{All}
+use Rattle.iref.specs.{Rules.{Text}, Texts.{pieces_at, is_empty}}
+use Rattle.iref_batch.specs.{Lines.{newline, lines_of, without_empty_last}, Runs.{with_newlines, ended_lines}}
 use Rattle.iref_batch.specs.Gathering.{IsLine}
+use Rattle.iref_batch.proofs.OutputLemmas.{without_empty_last-append}
 use Rattle.iref.proofs.DirectoryLemmas.{all_but_last-snoc}
 
 pieces_of_lines : (lines : List Text) (rest : Text) → All IsLine lines → pieces_at newline (with_newlines lines ++ rest) ≡ lines ++ pieces_at newline rest

@@ -1,8 +1,6 @@
 -- Worked rows of the program's lines, computed.
 use Prim.Native.String.{String}
-use Rattle.std.specs.Prelude.{◌≡◌, List, [], ◌∷◌, ◌++◌, map, codes, refl}
-use Rattle.std.specs.Char.{encode_utf8}
-use Rattle.std.specs.Str.{is_utf8, chars}
+use Rattle.std.specs.{Prelude.{◌≡◌, List, [], ◌∷◌, ◌++◌, map, codes, refl}, Char.{encode_utf8}, Str.{is_utf8, chars}}
 use Rattle.std.specs.Fmt.{digits}
 use Rattle.percent_encoding.specs.Percent.{percent_encode_byte, percent_decode}
 use Rattle.iref.specs.Rules.{Text}
@@ -12,18 +10,11 @@ use Rattle.iref.specs.IpAddresses.{ipv4_value, ipv6_value}
 use Rattle.iref.specs.Authority.{spell_authority, read_authority, is_authority, has_authority_parts}
 use Rattle.iref.specs.PathValue.{spell_path, read_path}
 use Rattle.iref.specs.Reference.{spell, read_reference, is_reference, is_uri, is_readable}
-use Rattle.iref.specs.Guard.{guarded, guarded_list}
-use Rattle.iref.specs.NormalList.{normal_segments, excess, staying_names}
-use Rattle.iref.specs.PathKey.{path_key}
-use Rattle.iref.specs.PathSteps.{lazy_pushed, pushed, popped, joined, appended}
-use Rattle.iref.specs.ComponentSteps.{with_scheme, with_authority, with_path}
-use Rattle.iref.specs.Key.{key, key_cmp}
-use Rattle.iref.specs.Relative.{relative_to}
-use Rattle.iref.specs.Resolution.{resolved}
-use Rattle.iref.specs.Edits.{edited, edited_from}
-use Rattle.iref.specs.Characters.{uri_chars, iri_chars}
-use Rattle.iref.specs.Mapping.{mapped}
-use Rattle.iref.specs.PrefixLabels.{is_ascii_label}
+use Rattle.iref.specs.{Guard.{guarded, guarded_list}, NormalList.{normal_segments, excess, staying_names}}
+use Rattle.iref.specs.{PathKey.{path_key}, PathSteps.{lazy_pushed, pushed, popped, joined, appended}}
+use Rattle.iref.specs.{ComponentSteps.{with_scheme, with_authority, with_path}, Key.{key, key_cmp}}
+use Rattle.iref.specs.{Relative.{relative_to}, Resolution.{resolved}, Edits.{edited, edited_from}}
+use Rattle.iref.specs.{Characters.{uri_chars, iri_chars}, Mapping.{mapped}, PrefixLabels.{is_ascii_label}}
 use Rattle.iref.specs.PrefixTable.{get, inserted, inserted_all, longest_fit, compacted, expanded}
 use Rattle.iref_model.proofs.Rows.{utf8}
 use Rattle.iref_batch.specs.Lines.{answer, answer_text, answer_to, is_valid, read_line, output, all_verbs}

@@ -1,10 +1,7 @@
 -- The output of an input that is cut where a line ends.
 use Rattle.std.proofs.Common.{arith, ◌≡◌, List, [], ◌∷◌, ◌++◌, refl, sym, ◌∙◌, ap, append_assoc, append-nil}
-use Rattle.std.proofs.lemmas.Grind.{common_steps}
-use Rattle.std.proofs.lemmas.List.Concat.{flat_map-append}
-use Rattle.iref.specs.Characters.{CharTests}
-use Rattle.iref.specs.Rules.{Text}
-use Rattle.iref.specs.Texts.{pieces_at}
+use Rattle.std.proofs.{lemmas.Grind.{common_steps}, lemmas.List.Concat.{flat_map-append}}
+use Rattle.iref.specs.{Characters.{CharTests}, Rules.{Text}, Texts.{pieces_at}}
 use Rattle.iref_model.proofs.PieceLemmas.{pieces-append, some_piece}
 use Rattle.iref_batch.specs.Lines.{Verbs, newline, without_empty_last, lines_of, output}
 

@@ -1,15 +1,11 @@
 -- Answers to lines of prefix tables.
-use Rattle.std.proofs.Common.{arith, ◌≡◌, true, false, List, Option, Result, option_map}
-use Rattle.std.proofs.lemmas.Grind.{common_steps}
+use Rattle.std.proofs.{Common.{arith, ◌≡◌, true, false, List, Option, Result, option_map}, lemmas.Grind.{common_steps}}
 use Rattle.std.specs.Str.{is_utf8}
-use Rattle.iref.specs.Characters.{iri_chars, iri_above_ascii}
-use Rattle.iref.specs.Grammar.{IsUri}
-use Rattle.iref.specs.Rules.{InUtf8, Text}
-use Rattle.iref.proofs.ReferenceRuleLemmas.{Decides-is_uri}
+use Rattle.iref.specs.{Characters.{iri_chars, iri_above_ascii}, Grammar.{IsUri}, Rules.{InUtf8, Text}}
 use Rattle.iref.specs.PrefixTable.{PrefixEntry, CompactValue, compacted, compact_text, ExpandRefusal, expanded}
+use Rattle.iref.proofs.ReferenceRuleLemmas.{Decides-is_uri}
 use Rattle.iref_batch.specs.Lines.{Compact, Expand, Answered, InvalidText, answer_if_valid, answer_to, are_valid_entries, expanded_answer, is_valid, part_field}
-use Rattle.iref_batch.specs.Requests.{asked_of}
-use Rattle.iref_batch.specs.declared.request.TableVerb.{TableVerb}
+use Rattle.iref_batch.specs.{Requests.{asked_of}, declared.request.TableVerb.{TableVerb}}
 use Rattle.iref_batch.proofs.PrefixFieldLemmas.{valid_table}
 
 pub unfit_entries : (verb : TableVerb) (text : Text) (es : List PrefixEntry) → are_valid_entries iri_chars es ≡ false → is_valid iri_chars (asked_of verb text es) ≡ false

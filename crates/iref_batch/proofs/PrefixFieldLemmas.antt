@@ -1,23 +1,14 @@
 -- Entries of a prefix table, read from fields.
 use Rattle.std.proofs.Common.{◌≡◌, ◌<◌, ℕ, Bool, true, false, List, [], ◌∷◌, ◌++◌, Option, Some, Ok, Err, refl, append_assoc, sym, ap, ◌∙◌, option_map, option_and_then, arith}
-use Rattle.std.proofs.lemmas.Grind.{common_steps}
-use Rattle.std.specs.List.{list_all}
-use Rattle.std.proofs.lemmas.Bool.Decides.{nat_tests}
-use Rattle.std.proofs.lemmas.List.Sums.{AllPass-from_list_all}
-use Rattle.std.proofs.lemmas.Str.{IsUtf8-from_ascii}
-use Rattle.std.proofs.lemmas.Str.Ascii.{IsAscii-from_all}
-use Rattle.std.specs.Str.{IsUtf8}
-use Rattle.std.proofs.lemmas.List.Folds.{list_all-append}
-use Rattle.iref.specs.Characters.{iri_chars, iri_above_ascii}
-use Rattle.iref.specs.Grammar.{IsUri}
-use Rattle.iref.specs.Texts.{after, before}
-use Rattle.iref.proofs.ReferenceRuleLemmas.{Decides-is_uri}
-use Rattle.iref.specs.Reference.{is_uri}
-use Rattle.iref.specs.Rules.{InUtf8, Text}
+use Rattle.std.proofs.{lemmas.Grind.{common_steps}, lemmas.Bool.Decides.{nat_tests}}
+use Rattle.std.proofs.{lemmas.List.Sums.{AllPass-from_list_all}, lemmas.Str.{IsUtf8-from_ascii}}
+use Rattle.std.proofs.{lemmas.Str.Ascii.{IsAscii-from_all}, lemmas.List.Folds.{list_all-append}}
+use Rattle.std.specs.{List.{list_all}, Str.{IsUtf8}}
+use Rattle.iref.specs.{Characters.{iri_chars, iri_above_ascii}, Grammar.{IsUri}, Texts.{after, before}}
+use Rattle.iref.specs.{Reference.{is_uri}, Rules.{InUtf8, Text}}
 use Rattle.iref.specs.PrefixTable.{PrefixEntry, PrefixesValue, InsertRefusal, ascii_table, inserted, unless_refused, inserted_all}
-use Rattle.iref.specs.PrefixLabels.{is_ascii_label, is_label_char}
-use Rattle.iref.specs.declared.compact.label.Labels.TheVariants.{Ascii}
-use Rattle.iref.proofs.PrefixLemmas.{inserted-ok, inserted-bad_label}
+use Rattle.iref.specs.{PrefixLabels.{is_ascii_label, is_label_char}, declared.compact.label.Labels.TheVariants.{Ascii}}
+use Rattle.iref.proofs.{ReferenceRuleLemmas.{Decides-is_uri}, PrefixLemmas.{inserted-ok, inserted-bad_label}}
 use Rattle.iref_batch.specs.Lines.{equals_sign, are_valid_entries, read_entry, table_of}
 use Rattle.iref_batch.specs.PrefixFields.{can_insert, entries_read, HasTaken}
 use Rattle.iref_batch.proofs.FieldListLemmas.{next_read}

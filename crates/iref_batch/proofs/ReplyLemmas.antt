@@ -1,8 +1,7 @@
 -- Replies gathered and written.
 use Rattle.std.proofs.Common.{◌≡◌, ◌++◌, [], Option, refl, inl, sym, ◌∙◌}
 use Rattle.iref.specs.Rules.{Text}
-use Rattle.iref_batch.specs.declared.lines.Begun.{Begun}
-use Rattle.iref_batch.specs.Runs.{line_reply, with_newline, IsReply}
+use Rattle.iref_batch.specs.{declared.lines.Begun.{Begun}, Runs.{line_reply, with_newline, IsReply}}
 use Rattle.iref_batch.specs.Gathering.{Writes, WritesPart, Replies, RepliesPart, IsNothing, Holds}
 use Rattle.iref_batch.proofs.Writing.{gains_gathered, gains_written}
 

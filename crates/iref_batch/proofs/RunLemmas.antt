@@ -1,13 +1,9 @@
 -- How a run goes on.
 use Rattle.std.proofs.Common.{◌≡◌, ◌==◌, true, false, List, [], ◌∷◌, ◌++◌, Option, Some, length, ◌<◌, arith, refl, ap, sym, ◌∙◌, append_assoc, append-nil}
-use Rattle.std.proofs.lemmas.Grind.{common_steps}
-use Rattle.std.proofs.lemmas.List.{flat_map_more}
+use Rattle.std.proofs.{lemmas.Grind.{common_steps}, lemmas.List.{flat_map_more}}
 use Rattle.std.proofs.lemmas.List.Elements.{All-nil, All-append, All-push, AllZip-push}
-use Rattle.iref.specs.Rules.{Text}
-use Rattle.iref.specs.Texts.{is_empty}
-use Rattle.iref_batch.specs.Lines.{newline}
-use Rattle.iref_batch.specs.declared.lines.Lines.{Lines}
-use Rattle.iref_batch.specs.Runs.{IsReply, with_newline, with_newlines}
+use Rattle.iref.specs.{Rules.{Text}, Texts.{is_empty}}
+use Rattle.iref_batch.specs.{Lines.{newline}, declared.lines.Lines.{Lines}, Runs.{IsReply, with_newline, with_newlines}}
 use Rattle.iref_batch.specs.Gathering.{IsLine, IsNothing, Holds, Writes, Replies, InRun, SeesMore}
 
 pub no_byte : IsLine []

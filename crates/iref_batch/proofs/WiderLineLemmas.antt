@@ -1,24 +1,17 @@
 -- A text that is valid as one of URIs is valid in each set.
 use Rattle.std.proofs.Common.{arith, ◌≡◌, Bool, true, ◌&&◌, List, [], ◌∷◌, refl, sym, ◌∙◌}
-use Rattle.std.proofs.lemmas.Grind.{common_steps}
-use Rattle.std.specs.Prelude.{Option, Some, None, is_some}
-use Rattle.std.specs.List.{list_all}
-use Rattle.std.specs.Str.{is_utf8}
-use Rattle.std.proofs.lemmas.Bool.{and_from, and_parts}
-use Rattle.iref.specs.Characters.{CharTests, AreAboveAscii, uri_chars, uri_above_ascii}
-use Rattle.iref.specs.Rules.{Text}
+use Rattle.std.proofs.{lemmas.Grind.{common_steps}, lemmas.Bool.{and_from, and_parts}}
+use Rattle.std.specs.{Prelude.{Option, Some, None, is_some}, List.{list_all}, Str.{is_utf8}}
+use Rattle.iref.specs.{Characters.{CharTests, AreAboveAscii, uri_chars, uri_above_ascii}, Rules.{Text}}
 use Rattle.iref.specs.Grammar.{is_user_info_char, is_path_char, is_query_char, is_fragment_char}
 use Rattle.iref.specs.Tests.{is_user_info, is_host, is_segment, is_path, is_query, is_fragment, none_or}
-use Rattle.iref.specs.Authority.{is_authority, read_authority}
-use Rattle.iref.specs.PathValue.{read_path}
-use Rattle.iref.specs.Reference.{is_reference, is_uri}
+use Rattle.iref.specs.{Authority.{is_authority, read_authority}, PathValue.{read_path}}
+use Rattle.iref.specs.{Reference.{is_reference, is_uri}, PrefixTable.{PrefixEntry, ascii_table, inserted_all}}
+use Rattle.iref.specs.Edits.{EditStep, SetScheme, SetAuthority, ReplaceAuthority, SetUserInfo, SetHost, SetPort, SetPortU32, SetPath, SetAndNormalizePath, SetQuery, SetFragment, LazyPush, Push, JoinPath, Pop, Clear, Normalize}
 use Rattle.iref_grammar.proofs.LeafLemmas.{Decides-is_user_info, Decides-is_segment, Decides-is_query, Decides-is_fragment}
-use Rattle.iref_grammar.proofs.HostRuleLemmas.{Decides-is_host}
-use Rattle.iref_grammar.proofs.AuthorityRuleLemmas.{Decides-has_authority_parts}
+use Rattle.iref_grammar.proofs.{HostRuleLemmas.{Decides-is_host}, AuthorityRuleLemmas.{Decides-has_authority_parts}}
 use Rattle.iref_grammar.proofs.PathTestLemmas.{is_path-segments}
 use Rattle.iref_grammar.proofs.WiderLemmas.{wider_than_uri, encoded_wider, user_info_wider, path_wider, query_wider, fragment_wider, host_wider, authority_wider, uri_reference}
-use Rattle.iref.specs.PrefixTable.{PrefixEntry, ascii_table, inserted_all}
-use Rattle.iref.specs.Edits.{EditStep, SetScheme, SetAuthority, ReplaceAuthority, SetUserInfo, SetHost, SetPort, SetPortU32, SetPath, SetAndNormalizePath, SetQuery, SetFragment, LazyPush, Push, JoinPath, Pop, Clear, Normalize}
 use Rattle.iref_batch.specs.Lines.{Request, Parts, Resolve, Relative, Normal, Equal, Edit, ToUri, Compact, Expand, is_valid_edit, is_valid}
 
 -- what the one test takes, the other takes

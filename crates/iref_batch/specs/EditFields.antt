@@ -1,9 +1,7 @@
 -- What the fields of a line are read as: edits, with their values.
 use Rattle.std.specs.Prelude.{◌≡◌, Bool, true, false, List, map, drop, Option, Some, None, Result, Ok, Err, bytes_eq, option_and_then}
 use Rattle.std.specs.List.{find}
-use Rattle.iref.specs.Rules.{Text}
-use Rattle.iref.specs.IpAddresses.{all_some}
-use Rattle.iref.specs.Edits.{EditStep}
+use Rattle.iref.specs.{Rules.{Text}, IpAddresses.{all_some}, Edits.{EditStep}}
 use Rattle.iref_batch.specs.Lines.{BadCommand, InvalidText, answer_text, edit_names, read_edit}
 use Rattle.iref_batch.specs.declared.edit_fields.FieldError.{FieldError}
 use Rattle.iref_batch.specs.declared.edit_fields.FieldError.TheVariants.{Command, Invalid, Memory}

@@ -1,11 +1,8 @@
 -- How far a run has come: what was read, the line begun, and the replies gathered or written.
 use Rattle.std.specs.Prelude.{◌≡◌, ◌==◌, ℕ, true, false, List, [], ◌++◌, ◌∷◌, Option, Some, None, Result, OnOk, OnErr}
-use Rattle.std.specs.Borrow.{Bor}
-use Rattle.std.specs.List.{All, AllZip}
-use Rattle.iref.specs.Rules.{Text}
-use Rattle.iref.specs.Texts.{is_empty}
-use Rattle.iref_batch.specs.Lines.{Request, newline, lines_of}
-use Rattle.iref_batch.specs.declared.lines.Begun.{Begun}
+use Rattle.std.specs.{Borrow.{Bor}, List.{All, AllZip}}
+use Rattle.iref.specs.{Rules.{Text}, Texts.{is_empty}}
+use Rattle.iref_batch.specs.{Lines.{Request, newline, lines_of}, declared.lines.Begun.{Begun}}
 use Rattle.iref_batch.specs.declared.lines.Lines.{Lines}
 use Rattle.iref_batch.specs.Runs.{IsReply, request_reply, with_newline, with_newlines, AnswersBegun}
 

@@ -1,23 +1,12 @@
 -- The program's answers to lines, over the texts of URIs or of IRIs.
 use Rattle.std.specs.Prelude.{ℕ, Bool, true, false, ◌&&◌, List, [], ◌∷◌, ◌++◌, map, bytes_eq, codes, Option, Some, None, Result, Ok, Err, option_map, option_and_then, unwrap_or, is_some, if◌then◌else◌}
-use Rattle.std.specs.Str.{is_utf8}
-use Rattle.std.specs.List.{list_all, find, flat_map, join_with_byte}
-use Rattle.iref.specs.Rules.{Text}
-use Rattle.iref.specs.Characters.{CharTests}
-use Rattle.iref.specs.Texts.{before, after, pieces_at, is_empty}
+use Rattle.std.specs.{Str.{is_utf8}, List.{list_all, find, flat_map, join_with_byte}}
+use Rattle.iref.specs.{Rules.{Text}, Characters.{CharTests}, Texts.{before, after, pieces_at, is_empty}}
 use Rattle.iref.specs.Tests.{is_scheme, is_user_info, is_host, is_port, is_path, is_segment, is_query, is_fragment, none_or}
-use Rattle.iref.specs.IpAddresses.{all_some}
-use Rattle.iref.specs.Authority.{is_authority}
-use Rattle.iref.specs.PathValue.{spell_path, read_path}
-use Rattle.iref.specs.Guard.{guarded}
-use Rattle.iref.specs.ComponentTexts.{ComponentTexts, spell_components}
-use Rattle.iref.specs.Contexts.{alone}
-use Rattle.iref.specs.NormalList.{normal}
-use Rattle.iref.specs.Reference.{spell, read_reference, is_reference, is_uri}
-use Rattle.iref.specs.Resolution.{resolved}
-use Rattle.iref.specs.Key.{are_alike}
-use Rattle.iref.specs.Relative.{relative_to}
-use Rattle.iref.specs.Mapping.{mapped}
+use Rattle.iref.specs.{IpAddresses.{all_some}, Authority.{is_authority}, PathValue.{spell_path, read_path}}
+use Rattle.iref.specs.{Guard.{guarded}, ComponentTexts.{ComponentTexts, spell_components}, Contexts.{alone}}
+use Rattle.iref.specs.{NormalList.{normal}, Reference.{spell, read_reference, is_reference, is_uri}}
+use Rattle.iref.specs.{Resolution.{resolved}, Key.{are_alike}, Relative.{relative_to}, Mapping.{mapped}}
 use Rattle.iref.specs.PrefixTable.{PrefixEntry, PrefixTable, ascii_table, inserted_all, compacted, compact_text, ExpandRefusal, expanded}
 use Rattle.iref.specs.Edits.{EditStep, SetScheme, SetAuthority, ReplaceAuthority, SetUserInfo, SetHost, SetPort, SetPortU32, SetPath, SetAndNormalizePath, SetQuery, SetFragment, LazyPush, Push, JoinPath, Pop, Clear, Normalize, EditsOutcome, edited_all}
 

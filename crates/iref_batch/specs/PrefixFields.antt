@@ -1,13 +1,8 @@
 -- What the fields of a line are read as: entries of a prefix table.
-use Rattle.std.specs.Prelude.{◌≡◌, Bool, true, false, ◌&&◌, List, map, Option, Some, None, Ok}
-use Rattle.std.specs.Result.{is_ok}
-use Rattle.iref.specs.Characters.{iri_chars}
-use Rattle.iref.specs.Reference.{is_uri}
-use Rattle.iref.specs.Rules.{Text}
-use Rattle.iref.specs.IpAddresses.{all_some}
+use Rattle.std.specs.{Prelude.{◌≡◌, Bool, true, false, ◌&&◌, List, map, Option, Some, None, Ok}, Result.{is_ok}}
+use Rattle.iref.specs.{Characters.{iri_chars}, Reference.{is_uri}, Rules.{Text}, IpAddresses.{all_some}}
 use Rattle.iref.specs.PrefixTable.{PrefixEntry, PrefixesValue, inserted}
-use Rattle.iref_batch.specs.Lines.{read_entry}
-use Rattle.iref_batch.specs.declared.edit_fields.FieldError.{FieldError}
+use Rattle.iref_batch.specs.{Lines.{read_entry}, declared.edit_fields.FieldError.{FieldError}}
 use Rattle.iref_batch.specs.declared.edit_fields.FieldError.TheVariants.{Command, Invalid, Memory}
 
 -- the entries that the fields name

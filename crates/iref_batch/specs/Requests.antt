@@ -1,11 +1,8 @@
 -- What the program has read of a line.
-use Rattle.std.specs.Prelude.{◌∷◌, List, Option, Some}
-use Rattle.std.specs.Option.{option_copied}
-use Rattle.iref.specs.Rules.{Text}
-use Rattle.iref.specs.PrefixTable.{PrefixEntry}
+use Rattle.std.specs.{Prelude.{◌∷◌, List, Option, Some}, Option.{option_copied}}
+use Rattle.iref.specs.{Rules.{Text}, PrefixTable.{PrefixEntry}}
 use Rattle.iref_batch.specs.Lines as spec
-use Rattle.iref_batch.specs.Fields.{fields_of}
-use Rattle.iref_batch.specs.declared.request.Request.{Request}
+use Rattle.iref_batch.specs.{Fields.{fields_of}, declared.request.Request.{Request}}
 use Rattle.iref_batch.specs.declared.request.Request.TheVariants.{Parts, Resolve, Relative, Normal, Equal, Edit, ToUri, ByTable}
 use Rattle.iref_batch.specs.declared.request.TableVerb.{TableVerb}
 use Rattle.iref_batch.specs.declared.request.TableVerb.TheVariants.{Compact, Expand}

@@ -1,9 +1,7 @@
 -- What the program has written for what it has read.
 use Rattle.std.specs.Prelude.{◌≡◌, ◌≤◌, ◌-◌, ◌^◌, ◌⊎◌, Bool, false, List, [], ◌∷◌, ◌++◌, Option, Some, None, codes, length}
 use Rattle.std.specs.List.{flat_map, AllZip}
-use Rattle.iref.specs.Characters.{iri_chars}
-use Rattle.iref.specs.Rules.{Text}
-use Rattle.iref.specs.Texts.{pieces_at, all_but_last}
+use Rattle.iref.specs.{Characters.{iri_chars}, Rules.{Text}, Texts.{pieces_at, all_but_last}}
 use Rattle.iref_batch.specs.Lines.{Request, BadCommand, newline, answer, answer_if_valid, answer_text, lines_of, all_verbs}
 
 -- what is written for a request, for what may be one, and for a line

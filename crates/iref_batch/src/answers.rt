@@ -2,10 +2,9 @@
 ghost use Rattle.std.specs.Prelude.{◌≡◌, ◌+◌, ◌≤◌, ◌++◌, ◌∷◌, length, take, option_map, IfSome, OnOk, OnErr};
 ghost use Rattle.std.specs.Prelude.{option_and_then};
 ghost use Rattle.iref_batch.specs.Lines.{Answered, answer_text, part_field, part_fields, tab, yes_or_no, Parts};
-ghost use Rattle.iref_batch.specs.Lines.{Normal, Equal, ToUri};
+ghost use Rattle.iref_batch.specs.{Lines.{Normal, Equal, ToUri}, EditFields.{IsRefusal}, Gathering.{Puts, PutsReply}};
+ghost use Rattle.iref_batch.specs.{Requests.{request_of}, Runs.{reply_to, line_reply, with_newline}};
 ghost use Rattle.iref.specs.{Components.{text_of}, Parts.{uri_ref_part_texts}, Rules.{Text}};
-ghost use Rattle.iref_batch.specs.{EditFields.{IsRefusal}, Gathering.{Puts, PutsReply}, Requests.{request_of}};
-ghost use Rattle.iref_batch.specs.Runs.{reply_to, line_reply, with_newline};
 
 mod edit;
 mod prefixes;

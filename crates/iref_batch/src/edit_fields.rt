@@ -1,8 +1,7 @@
 //! The edits that the fields of a line name, each a name, or a name, `=` and a value.
 ghost use Rattle.std.specs.{Prelude.{◌≡◌, Some, true, option_map}, Option.{option_copied}};
-ghost use Rattle.iref_batch.specs.Lines.{edit_names, is_valid_edit};
+ghost use Rattle.iref_batch.specs.{Lines.{edit_names, is_valid_edit}, EditFields.{IsRead, edit_named, path_edit_names}};
 ghost use Rattle.iref.specs.{Tests.{none_or}, Characters.{iri_chars}, Components.{text_of}, EditSteps.{edit_step}};
-ghost use Rattle.iref_batch.specs.EditFields.{IsRead, edit_named, path_edit_names};
 ghost use Rattle.iref_batch.specs.Lines as spec;
 
 use super::request::is_name;

@@ -1,9 +1,8 @@
 //! Laws of the answers to lines: each is the contract of a function that does nothing.
 
 ghost use Rattle.std.specs.Prelude.{◌≡◌, ◌≢◌, [], ◌∷◌, ◌++◌, List, true};
-ghost use Rattle.iref.specs.{Characters.{uri_chars, iri_chars}, Rules.{Text, InUtf8}};
-ghost use Rattle.iref.specs.{Grammar.{IsUriReference}, Reference.{read_reference}};
-ghost use Rattle.iref.specs.{Key.{are_alike}, PrefixTable.{PrefixEntry}};
+ghost use Rattle.iref.specs.{Characters.{uri_chars, iri_chars}, Rules.{Text, InUtf8}, Grammar.{IsUriReference}};
+ghost use Rattle.iref.specs.{Reference.{read_reference}, Key.{are_alike}, PrefixTable.{PrefixEntry}};
 ghost use Rattle.iref_batch.specs.Lines.{Verbs, ToUri, Compact, Expand, Answered, InvalidText};
 ghost use Rattle.iref_batch.specs.Lines.{equals_sign, is_valid, newline, answer_to, answer, output};
 

@@ -1,10 +1,9 @@
 //! Lines as their bytes come in, and the replies to them.
 ghost use Rattle.std.specs.Prelude.{◌≡◌, ◌++◌, ◌∷◌, [], true, false, is_err, OnOk, OnErr};
-ghost use Rattle.iref_batch.specs.Lines.{newline};
-ghost use Rattle.iref.specs.{Rules.{Text}, Texts.{is_empty}};
-ghost use Rattle.iref_batch.specs.{Runs.{memory_refused, with_newline, AnswersAll}, Gathering.{Cuts, Lacks, Writes}};
+ghost use Rattle.iref_batch.specs.{Lines.{newline}, Runs.{memory_refused, with_newline, AnswersAll}};
+ghost use Rattle.iref_batch.specs.Gathering.{Cuts, Lacks, Writes, SeesSameLines, BreaksOff};
 ghost use Rattle.iref_batch.specs.Gathering.{WritesPart, Replies, RepliesPart, IsNothing, Holds, InRun, SeesMore};
-ghost use Rattle.iref_batch.specs.Gathering.{SeesSameLines, BreaksOff};
+ghost use Rattle.iref.specs.{Rules.{Text}, Texts.{is_empty}};
 
 use super::answers::answer_line;
 use super::streams::{Sink, StreamError};

@@ -2,9 +2,8 @@
 ghost use Rattle.std.specs.{Iterator.{YieldsFirstBy}, Option.{option_copied}};
 ghost use Rattle.std.specs.Prelude.{◌≡◌, ◌∷◌, bytes_eq, List, option_and_then, option_map};
 ghost use Rattle.iref_batch.specs.Lines.{tab, read_line, one_text, two_texts, all_verbs, text_and_edits};
-ghost use Rattle.iref_batch.specs.Lines.{text_and_entries};
+ghost use Rattle.iref_batch.specs.{Lines.{text_and_entries}, Fields.{fields_of}, Requests.{request_of}};
 ghost use Rattle.iref.specs.{Texts.{pieces_at}, Rules.{Text}, PrefixTable.{PrefixEntry}};
-ghost use Rattle.iref_batch.specs.{Fields.{fields_of}, Requests.{request_of}};
 ghost use Rattle.iref_batch.specs.Lines as spec;
 
 use iref_parse::cut::cut_bytes;

@@ -1,10 +1,8 @@
 -- Worked rows of the ranges that C gets of the subcomponents of an authority, computed.
 use Prim.Native.String.{String}
 use Rattle.std.specs.Prelude.{◌≡◌, ℕ, List, [], ◌∷◌, map, codes, Option, Some, None, option_map, refl}
-use Rattle.iref.specs.Authority.{read_authority}
-use Rattle.iref.specs.Reference.{read_reference}
-use Rattle.iref_c.specs.declared.ranges.ByteRange.{ByteRange}
-use Rattle.iref_c.specs.declared.ranges.Ranges.{Ranges}
+use Rattle.iref.specs.{Authority.{read_authority}, Reference.{read_reference}}
+use Rattle.iref_c.specs.{declared.ranges.ByteRange.{ByteRange}, declared.ranges.Ranges.{Ranges}}
 use Rattle.iref_c.specs.PartRanges.{all_ranges, range_for_c}
 
 abbrev Ends : Type 0

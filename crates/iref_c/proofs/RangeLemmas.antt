@@ -1,16 +1,11 @@
 -- Where the parts of an authority stand, by the lengths of its slices.
 use Rattle.std.proofs.Common.{◌≡◌, ℕ, ◌+◌, [], ◌∷◌, length, refl, ap, ◌∙◌, length-append, arith}
 use Rattle.std.specs.Prelude.{Option, Some, None, IfSome, option_map}
-use Rattle.iref.specs.Rules.{Text}
-use Rattle.iref.specs.Grammar.{at_sign, colon}
-use Rattle.iref.specs.Texts.{part_then, then_part}
-use Rattle.iref.specs.Authority.{AuthorityValue, read_authority, spell_authority}
-use Rattle.iref.specs.Offsets.{Offsets}
-use Rattle.iref.specs.Reference.{ReferenceValue}
-use Rattle.iref.specs.ComponentOffsets.{authority_mark, range_from, offsets_in}
+use Rattle.iref.specs.{Rules.{Text}, Grammar.{at_sign, colon}, Texts.{part_then, then_part}}
+use Rattle.iref.specs.{Authority.{AuthorityValue, read_authority, spell_authority}, Offsets.{Offsets}}
+use Rattle.iref.specs.{Reference.{ReferenceValue}, ComponentOffsets.{authority_mark, range_from, offsets_in}}
 use Rattle.iref.proofs.AuthorityLemmas.{read_authority-spelled}
-use Rattle.iref_c.specs.declared.ranges.ByteRange.{ByteRange}
-use Rattle.iref_c.specs.PartRanges.{authority_ranges, range_for_c, ranges_from}
+use Rattle.iref_c.specs.{declared.ranges.ByteRange.{ByteRange}, PartRanges.{authority_ranges, range_for_c, ranges_from}}
 
 -- an authority is as long as its parts and their delimiters
 pub length-spelled : (a : AuthorityValue) → length (spell_authority a) ≡ length (part_then (at_sign ∷ []) a.user_info) + length a.host + length (then_part (colon ∷ []) a.port)

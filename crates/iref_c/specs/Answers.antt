@@ -1,8 +1,6 @@
 -- What the calls answer: a status, and what they leave in what the caller lends them.
 use Rattle.std.specs.Prelude.{◌≡◌, ℕ, ⊤, ◌<◌, ◌≤◌, ◌++◌, ◌⊎◌, Option, None, Some, length, drop}
-use Rattle.iref.specs.Characters.{iri_chars}
-use Rattle.iref.specs.Grammar.{IsUriReference}
-use Rattle.iref.specs.Reference.{ReferenceValue, read_reference}
+use Rattle.iref.specs.{Characters.{iri_chars}, Grammar.{IsUriReference}, Reference.{ReferenceValue, read_reference}}
 use Rattle.iref.specs.Rules.{InUtf8, Rule, Text}
 use Rattle.iref_c.specs.declared.status.TheConstants.{OK, INVALID, SECOND_INVALID, SHORT, MEMORY, NONE}
 

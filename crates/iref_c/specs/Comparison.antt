@@ -1,12 +1,9 @@
 -- The results of the calls that compare, as numbers.
-use Rattle.std.specs.Prelude.{ℕ, Bool, ℤ, pos, negsuc, fold, if◌then◌else◌}
-use Rattle.std.specs.declared.cmp.Ordering.{Ordering}
+use Rattle.std.specs.{Prelude.{ℕ, Bool, ℤ, pos, negsuc, fold, if◌then◌else◌}, declared.cmp.Ordering.{Ordering}}
 use Rattle.std.specs.declared.cmp.Ordering.TheVariants.{Less, Equal, Greater}
 use Rattle.std.specs.declared.hash.DefaultHasher.{DefaultHasher}
 use Rattle.std.specs.Hash.DefaultHasher.{initial, with_keys, write, finish}
-use Rattle.iref.specs.Hashed.{fed_reference}
-use Rattle.iref.specs.Key.{are_alike, key, key_cmp}
-use Rattle.iref.specs.Reference.{ReferenceValue}
+use Rattle.iref.specs.{Hashed.{fed_reference}, Key.{are_alike, key, key_cmp}, Reference.{ReferenceValue}}
 
 abbrev pub number_of_equality : Bool → ℕ
 number_of_equality b = if b then 1 else 0

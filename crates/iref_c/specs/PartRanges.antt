@@ -1,13 +1,8 @@
 -- Where the components of a text stand, and the parts of its authority, as C sees them.
-use Rattle.std.specs.Prelude.{ℕ, ◌+◌, [], ◌∷◌, length, Option, None, Some, option_map}
-use Rattle.std.specs.declared.ops.Range.{Range}
-use Rattle.iref.specs.Grammar.{at_sign}
-use Rattle.iref.specs.Texts.{part_then}
-use Rattle.iref.specs.Authority.{AuthorityValue}
-use Rattle.iref.specs.ComponentOffsets.{authority_mark, range_from, offsets_in}
-use Rattle.iref.specs.Reference.{ReferenceValue}
-use Rattle.iref_c.specs.declared.ranges.ByteRange.{ByteRange}
-use Rattle.iref_c.specs.declared.ranges.Ranges.{Ranges}
+use Rattle.std.specs.{Prelude.{ℕ, ◌+◌, [], ◌∷◌, length, Option, None, Some, option_map}, declared.ops.Range.{Range}}
+use Rattle.iref.specs.{Grammar.{at_sign}, Texts.{part_then}, Authority.{AuthorityValue}}
+use Rattle.iref.specs.{ComponentOffsets.{authority_mark, range_from, offsets_in}, Reference.{ReferenceValue}}
+use Rattle.iref_c.specs.{declared.ranges.ByteRange.{ByteRange}, declared.ranges.Ranges.{Ranges}}
 use Rattle.iref_c.specs.declared.ranges.AuthorityRanges.{AuthorityRanges}
 
 -- the range of what is there, or zeros

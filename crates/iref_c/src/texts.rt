@@ -3,10 +3,9 @@
 //! section 3.1).
 ghost use Rattle.std.specs.Prelude.{⊤, option_map};
 ghost use Rattle.iref.specs.{Canonical.{canonical_text}, Key.{key}, SortKey.{sort_key}, Mapping.{mapped}};
-ghost use Rattle.iref.specs.{Relativized.{relativized}, SortPrefix.{sort_prefix_end}};
-ghost use Rattle.iref.specs.{Relative.{relative_to}, Resolution.{resolved}, Characters.{iri_chars}, Contexts.{alone}};
-ghost use Rattle.iref.specs.{Grammar.{IsPath, IsUri}, PathValue.{read_path, spell_path}};
-ghost use Rattle.iref.specs.{Reference.{read_reference, spell}, Rules.{InUtf8}};
+ghost use Rattle.iref.specs.{Relativized.{relativized}, SortPrefix.{sort_prefix_end}, Relative.{relative_to}};
+ghost use Rattle.iref.specs.{Resolution.{resolved}, Characters.{iri_chars}, Contexts.{alone}, Grammar.{IsPath, IsUri}};
+ghost use Rattle.iref.specs.{PathValue.{read_path, spell_path}, Reference.{read_reference, spell}, Rules.{InUtf8}};
 ghost use Rattle.iref_c.specs.Answers.{IsReference, Writes, WritesIfSome};
 ghost use Rattle.iref.specs.PathSteps as step;
 

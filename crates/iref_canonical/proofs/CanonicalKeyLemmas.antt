@@ -1,7 +1,6 @@
 -- Canonical references: they are readable, and the key of each is the key that it was made of.
 use Rattle.std.proofs.Common.{◌≡◌, Bool, true, false, All, List, [], ◌∷◌, map, refl, sym, ◌∙◌, ap, subst, arith}
-use Rattle.std.specs.Prelude.{Option, Some, None, option_map, IfSome, is_some}
-use Rattle.std.specs.List.{AllByRecursion}
+use Rattle.std.specs.{Prelude.{Option, Some, None, option_map, IfSome, is_some}, List.{AllByRecursion}}
 use Rattle.std.specs.Str.{str_to_ascii_lowercase}
 use mathlib.Core.Bool.{true≢false}
 use Rattle.percent_encoding.specs.Percent.{percent_decode}
@@ -12,28 +11,20 @@ use Rattle.iref_grammar.specs.Rules.{Text, Rule, InUtf8}
 use Rattle.iref_grammar.specs.Grammar.{IsUserInfo, IsHost, IsPort, IsSegment, IsQuery, IsFragment, is_query_char, is_fragment_char}
 use Rattle.iref_grammar.specs.Tests.{none_or, is_scheme, is_port, is_segment, is_query, is_fragment}
 use Rattle.iref_grammar.specs.Authority.{AuthorityValue, HasAuthorityParts, has_authority_parts}
-use Rattle.iref_grammar.specs.PathValue.{PathValue, is_one_empty}
-use Rattle.iref_grammar.specs.Contexts.{follows_authority}
+use Rattle.iref_grammar.specs.{PathValue.{PathValue, is_one_empty}, Contexts.{follows_authority}}
 use Rattle.iref_grammar.specs.Reference.{ReferenceValue, IsReadable, context_of, is_readable}
 use Rattle.iref_grammar.proofs.LeafLemmas.{Decides-is_segment, Decides-is_query, Decides-is_fragment}
 use Rattle.iref_grammar.proofs.PartRuleLemmas.{Decides-none_or, Decides-all, Decides-is_port_bytes}
-use Rattle.iref_grammar.proofs.ReadablePartsLemmas.{readable_parts}
-use Rattle.iref_grammar.proofs.ReferenceRuleLemmas.{Decides-is_readable}
+use Rattle.iref_grammar.proofs.{ReadablePartsLemmas.{readable_parts}, ReferenceRuleLemmas.{Decides-is_readable}}
 use Rattle.iref_model.specs.AuthorityKey.{authority_key}
 use Rattle.iref_model.specs.NormalList.{normal_segments, without_lone_empty, excess, staying_names}
-use Rattle.iref_model.specs.PathKey.{path_key}
-use Rattle.iref_model.specs.Key.{key}
-use Rattle.iref_model.proofs.ComparisonLemmas.{lone_equal}
-use Rattle.iref_model.proofs.NormalGrammarLemmas.{takes_dots}
-use Rattle.iref_model.proofs.ReferenceStepLemmas.{guarded_reference-readable}
-use Rattle.iref_model.proofs.SettledLemmas.{lone-normal}
-use Rattle.iref_model.proofs.StepSegmentLemmas.{normal-in}
-use Rattle.iref_model.proofs.MappedCharLemmas.{utf8_bytes}
-use Rattle.iref_model.proofs.MappedMarkLemmas.{is_some-map}
-use Rattle.iref_model.proofs.MappedRuleLemmas.{IfSome_mapped}
+use Rattle.iref_model.specs.{PathKey.{path_key}, Key.{key}}
+use Rattle.iref_model.proofs.{ComparisonLemmas.{lone_equal}, NormalGrammarLemmas.{takes_dots}}
+use Rattle.iref_model.proofs.{ReferenceStepLemmas.{guarded_reference-readable}, SettledLemmas.{lone-normal}}
+use Rattle.iref_model.proofs.{StepSegmentLemmas.{normal-in}, MappedCharLemmas.{utf8_bytes}}
+use Rattle.iref_model.proofs.{MappedMarkLemmas.{is_some-map}, MappedRuleLemmas.{IfSome_mapped}}
 use Rattle.iref_canonical.specs.Canonical.{encoded, canonical_authority, canonical_parts, canonical, spelled}
-use Rattle.iref_canonical.proofs.EncodedTextLemmas.{encoded-in}
-use Rattle.iref_canonical.proofs.PlainCharacterLemmas.{plain_query, plain_fragment}
+use Rattle.iref_canonical.proofs.{EncodedTextLemmas.{encoded-in}, PlainCharacterLemmas.{plain_query, plain_fragment}}
 use Rattle.iref_canonical.proofs.CanonicalPathLemmas.{AreBytes, canonical_items-in, path_key-canonical}
 use Rattle.iref_canonical.proofs.CanonicalPartLemmas.{lower_scheme, lower_case_again, option-decoded, none_or-map, IsAuthorityKey, authority_key-canonical, has_parts-canonical}
 

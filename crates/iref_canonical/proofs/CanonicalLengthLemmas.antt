@@ -1,30 +1,19 @@
 -- How long canonical texts are.
 use Rattle.std.proofs.Common.{arith, ◌≡◌, ℕ, ◌+◌, ◌*◌, ◌≤◌, Bool, true, false, List, [], ◌∷◌, ◌++◌, Option, Some, None, length, refl, ap, length-append}
-use Rattle.std.proofs.lemmas.Bool.Decides.{nat_tests}
-use Rattle.std.proofs.lemmas.List.{length-map}
-use Rattle.std.proofs.lemmas.Slice.Eq.{bytes_eq-Decides}
-use Rattle.std.specs.Char.{to_ascii_lowercase}
-use Rattle.std.specs.List.{join_with_byte}
-use Rattle.std.specs.Prelude.{map, option_map, codes, if◌then◌else◌, cond, not, ◌&&◌}
-use Rattle.std.specs.Str.{str_to_ascii_lowercase}
+use Rattle.std.proofs.{lemmas.Bool.Decides.{nat_tests}, lemmas.List.{length-map}, lemmas.Slice.Eq.{bytes_eq-Decides}}
+use Rattle.std.specs.{Char.{to_ascii_lowercase}, List.{join_with_byte}}
+use Rattle.std.specs.{Prelude.{map, option_map, codes, if◌then◌else◌, cond, not, ◌&&◌}, Str.{str_to_ascii_lowercase}}
 use Rattle.percent_encoding.specs.Percent.{percent_decode, percent_encode_byte}
 use Rattle.percent_encoding.proofs.PercentLemmas.{length-percent_decode}
-use Rattle.iref_grammar.specs.Authority.{AuthorityValue, spell_authority}
-use Rattle.iref_grammar.specs.Characters.{uri_chars}
+use Rattle.iref_grammar.specs.{Authority.{AuthorityValue, spell_authority}, Characters.{uri_chars}}
 use Rattle.iref_grammar.specs.Grammar.{at_sign, colon, hash_sign, is_fragment_char, is_path_char, is_query_char, is_reg_name_char, is_user_info_char, question_mark, slash}
-use Rattle.iref_grammar.specs.Tests.{is_ip_literal}
-use Rattle.iref_grammar.specs.PathValue.{PathValue, spell_path}
-use Rattle.iref_grammar.specs.Reference.{ReferenceValue, context_of, read_reference, spell}
-use Rattle.iref_grammar.specs.Rules.{Text}
-use Rattle.iref_grammar.specs.Texts.{is_empty, part_then, then_part}
-use Rattle.iref_grammar.specs.Contexts.{reads_as_path}
+use Rattle.iref_grammar.specs.{Tests.{is_ip_literal}, PathValue.{PathValue, spell_path}}
+use Rattle.iref_grammar.specs.{Reference.{ReferenceValue, context_of, read_reference, spell}, Rules.{Text}}
+use Rattle.iref_grammar.specs.{Texts.{is_empty, part_then, then_part}, Contexts.{reads_as_path}}
 use Rattle.iref_grammar.specs.declared.context.PathContext.{PathContext}
 use Rattle.iref_grammar.proofs.ReferenceCutLemmas.{read_reference-spelled}
-use Rattle.iref_model.specs.AuthorityKey.{authority_key}
-use Rattle.iref_model.specs.Guard.{guarded, made_absolute, with_dot}
-use Rattle.iref_model.specs.Key.{key}
-use Rattle.iref_model.specs.NormalList.{is_dot_dot, normal_segments}
-use Rattle.iref_model.specs.PathKey.{path_key}
+use Rattle.iref_model.specs.{AuthorityKey.{authority_key}, Guard.{guarded, made_absolute, with_dot}, Key.{key}}
+use Rattle.iref_model.specs.{NormalList.{is_dot_dot, normal_segments}, PathKey.{path_key}}
 use Rattle.iref_model.proofs.MappedLemmas.{length-escape}
 use Rattle.iref_path.specs.Spelling.{each_closed}
 use Rattle.iref_path.proofs.SpellLemmas.{length-join, normal_size, size-cons}

@@ -1,22 +1,15 @@
 -- The canonical components of a key are in their rules, and have it as their key.
 use Rattle.std.proofs.Common.{◌≡◌, ℕ, Bool, true, false, cond, ◌||◌, All, [], ◌∷◌, refl, ap, arith}
-use Rattle.std.proofs.lemmas.Grind.{common_steps}
-use Rattle.std.specs.Prelude.{Option, Some, None, option_map, IfSome}
-use Rattle.std.specs.Char.{is_ascii_alphabetic, to_ascii_lowercase}
-use Rattle.std.specs.List.{list_all}
-use Rattle.std.specs.Str.{str_to_ascii_lowercase}
-use Rattle.std.proofs.lemmas.Bool.{and_from, or_right}
-use Rattle.std.proofs.lemmas.Bool.Decides.{nat_tests}
+use Rattle.std.proofs.{lemmas.Grind.{common_steps}, lemmas.Bool.{and_from, or_right}, lemmas.Bool.Decides.{nat_tests}}
+use Rattle.std.specs.{Prelude.{Option, Some, None, option_map, IfSome}, Char.{is_ascii_alphabetic, to_ascii_lowercase}}
+use Rattle.std.specs.{List.{list_all}, Str.{str_to_ascii_lowercase}}
 use Rattle.percent_encoding.specs.Percent.{percent_sign, percent_decode}
 use Rattle.percent_encoding.proofs.PercentLemmas.{IsByte, percent_decode-nil, percent_decode_not_percent}
-use Rattle.iref_grammar.specs.Characters.{uri_chars, uri_above_ascii}
-use Rattle.iref_grammar.specs.Rules.{Text}
-use Rattle.iref_grammar.specs.Grammar.{is_scheme_char, is_user_info_char, is_reg_name_char}
-use Rattle.iref_grammar.specs.Texts.{lacks}
+use Rattle.iref_grammar.specs.{Characters.{uri_chars, uri_above_ascii}, Rules.{Text}}
+use Rattle.iref_grammar.specs.{Grammar.{is_scheme_char, is_user_info_char, is_reg_name_char}, Texts.{lacks}}
 use Rattle.iref_grammar.specs.Tests.{none_or, is_scheme, is_user_info, is_reg_name, is_ip_literal, is_host, is_port}
 use Rattle.iref_grammar.specs.Authority.{AuthorityValue, has_authority_parts}
-use Rattle.iref_grammar.proofs.TextLemmas.{first_of_both, second_of_both}
-use Rattle.iref_grammar.proofs.PctLemmas.{literal_lacks}
+use Rattle.iref_grammar.proofs.{TextLemmas.{first_of_both, second_of_both}, PctLemmas.{literal_lacks}}
 use Rattle.iref_grammar.proofs.LeafLemmas.{Decides-is_user_info, Decides-is_reg_name}
 use Rattle.iref_model.specs.AuthorityKey.{authority_key}
 use Rattle.iref_canonical.specs.Canonical.{encoded, canonical_host, canonical_authority}

@@ -1,33 +1,25 @@
 -- Canonical paths: each is its own normal path, and its key is the key that it was made of.
 use Rattle.std.proofs.Common.{◌≡◌, suc, Bool, true, false, not, cond, ◌&&◌, All, List, [], ◌∷◌, ◌++◌, map, ◌+◌, ◌||◌, refl, sym, ◌∙◌, ap, subst, arith}
-use Rattle.std.specs.Prelude.{codes, bytes_eq}
-use Rattle.std.specs.Str.{is_utf8, chars}
-use Rattle.std.specs.Char.{encode_utf8}
-use Rattle.std.specs.List.{AllByRecursion, list_all}
-use Rattle.std.specs.Cmp.Lexicographic.{bytes_decides}
 use Rattle.std.proofs.lemmas.Bool.{and_from, and_parts, cond-false, not-true}
+use Rattle.std.specs.{Prelude.{codes, bytes_eq}, Str.{is_utf8, chars}, Char.{encode_utf8}}
+use Rattle.std.specs.{List.{AllByRecursion, list_all}, Cmp.Lexicographic.{bytes_decides}}
 use mathlib.Core.Bool.{true≢false}
 use Rattle.percent_encoding.specs.Percent.{percent_decode}
 use Rattle.percent_encoding.proofs.PercentLemmas.{IsByte}
-use Rattle.iref_grammar.specs.declared.context.PathContext.{PathContext}
-use Rattle.iref_grammar.specs.Rules.{Text}
+use Rattle.iref_grammar.specs.{declared.context.PathContext.{PathContext}, Rules.{Text}}
 use Rattle.iref_grammar.specs.Characters.{uri_chars, uri_above_ascii}
 use Rattle.iref_grammar.specs.Grammar.{is_path_char, is_user_info_char, is_reg_name_char}
-use Rattle.iref_grammar.specs.Tests.{is_segment, owed_after}
-use Rattle.iref_grammar.specs.Texts.{is_empty}
-use Rattle.iref_grammar.specs.PathValue.{PathValue, is_one_empty}
+use Rattle.iref_grammar.specs.{Tests.{is_segment, owed_after}, Texts.{is_empty}, PathValue.{PathValue, is_one_empty}}
 use Rattle.iref_grammar.specs.Contexts.{follows_authority}
 use Rattle.iref_grammar.proofs.LeafLemmas.{Decides-is_segment}
 use Rattle.iref_model.specs.Guard.{guarded}
 use Rattle.iref_model.specs.NormalList.{is_dot, is_dot_dot, is_name, without_lone_empty, normal_segments, ends_in_dots, closed, staying_names, open_parents}
 use Rattle.iref_model.specs.PathKey.{path_key}
 use Rattle.iref_model.proofs.JoinedLemmas.{are_names, climbs, open-names, staying-names}
-use Rattle.iref_model.proofs.NormalPathLemmas.{normal-guarded}
-use Rattle.iref_model.proofs.PathGrammarLemmas.{is_segment-dot_dot}
+use Rattle.iref_model.proofs.{NormalPathLemmas.{normal-guarded}, PathGrammarLemmas.{is_segment-dot_dot}}
 use Rattle.iref_model.proofs.SettledLemmas.{leading, normal-is, ends-names}
 use Rattle.iref_canonical.specs.Canonical.{encoded, canonical_name, canonical_relative, canonical_items, canonical_path, spelled_relative}
-use Rattle.iref_canonical.proofs.EncodedTextLemmas.{decoded-encoded, encoded-in}
-use Rattle.iref_canonical.proofs.PlainCharacterLemmas.{plain_path}
+use Rattle.iref_canonical.proofs.{EncodedTextLemmas.{decoded-encoded, encoded-in}, PlainCharacterLemmas.{plain_path}}
 
 -- items as bytes
 abbrev pub AreBytes : List Text → Type 0

@@ -1,18 +1,12 @@
 -- Worked rows of canonical texts, computed.
 use Prim.Native.String.{String}
-use Rattle.std.specs.Prelude.{◌≡◌, List, [], ◌∷◌, ◌++◌, map, codes, encode_utf8_all, refl}
-use Rattle.std.specs.Char.{encode_utf8}
+use Rattle.std.specs.{Prelude.{◌≡◌, List, [], ◌∷◌, ◌++◌, map, codes, encode_utf8_all, refl}, Char.{encode_utf8}}
 use Rattle.percent_encoding.specs.Percent.{percent_encode_byte, percent_decode}
-use Rattle.iref_grammar.specs.Rules.{Text}
-use Rattle.iref_grammar.specs.IpAddresses.{ipv4_value, ipv6_value}
+use Rattle.iref_grammar.specs.{Rules.{Text}, IpAddresses.{ipv4_value, ipv6_value}}
 use Rattle.iref_grammar.specs.Grammar.{is_reg_name_char, is_user_info_char, is_path_char, is_fragment_char, is_query_char}
-use Rattle.iref_grammar.specs.Tests.{is_ipvfuture, is_ip_literal}
-use Rattle.iref_grammar.specs.Authority.{read_authority, spell_authority}
-use Rattle.iref_grammar.specs.PathValue.{read_path, spell_path}
-use Rattle.iref_grammar.specs.Reference.{read_reference, spell}
-use Rattle.iref_model.specs.Guard.{guarded}
-use Rattle.iref_model.specs.NormalList.{normal_segments, excess, staying_names}
-use Rattle.iref_model.specs.PathKey.{path_key}
+use Rattle.iref_grammar.specs.{Tests.{is_ipvfuture, is_ip_literal}, Authority.{read_authority, spell_authority}}
+use Rattle.iref_grammar.specs.{PathValue.{read_path, spell_path}, Reference.{read_reference, spell}}
+use Rattle.iref_model.specs.{Guard.{guarded}, NormalList.{normal_segments, excess, staying_names}, PathKey.{path_key}}
 use Rattle.iref_model.specs.Key.{key}
 use Rattle.iref_canonical.specs.Canonical.{canonical_text, encoded, spelled, spelled_relative}
 

@@ -1,20 +1,12 @@
 -- The canonical text of a reference, and the one that is hashed, from the texts of its components.
 use Rattle.std.proofs.Common.{◌≡◌, Bool, ◌∷◌, ◌++◌, [], refl, sym, ◌∙◌, ap, arith}
-use Rattle.std.specs.Prelude.{Option, Some, None, codes, is_some, option_map}
-use Rattle.std.specs.Str.{str_to_ascii_lowercase}
+use Rattle.std.specs.{Prelude.{Option, Some, None, codes, is_some, option_map}, Str.{str_to_ascii_lowercase}}
 use Rattle.percent_encoding.specs.Percent.{percent_decode}
-use Rattle.iref_grammar.specs.Characters.{uri_chars}
-use Rattle.iref_grammar.specs.ComponentTexts.{ComponentTexts, read_components}
+use Rattle.iref_grammar.specs.{Characters.{uri_chars}, ComponentTexts.{ComponentTexts, read_components}}
 use Rattle.iref_grammar.specs.Grammar.{colon, hash_sign, is_fragment_char, question_mark}
-use Rattle.iref_grammar.specs.Authority.{read_authority, spell_authority}
-use Rattle.iref_grammar.specs.PathValue.{read_path, spell_path}
-use Rattle.iref_grammar.specs.Reference.{context_of, spell}
-use Rattle.iref_grammar.specs.Rules.{Text}
-use Rattle.iref_grammar.specs.Texts.{part_then, then_part}
-use Rattle.iref_model.specs.AuthorityKey.{authority_key}
-use Rattle.iref_model.specs.Guard.{guarded}
-use Rattle.iref_model.specs.Key.{key}
-use Rattle.iref_model.specs.PathKey.{path_key}
+use Rattle.iref_grammar.specs.{Authority.{read_authority, spell_authority}, PathValue.{read_path, spell_path}}
+use Rattle.iref_grammar.specs.{Reference.{context_of, spell}, Rules.{Text}, Texts.{part_then, then_part}}
+use Rattle.iref_model.specs.{AuthorityKey.{authority_key}, Guard.{guarded}, Key.{key}, PathKey.{path_key}}
 use Rattle.iref_model.proofs.MappedMarkLemmas.{is_some-map}
 use Rattle.iref_canonical.specs.Canonical.{encoded, spelled, spelled_authority, spelled_parts, spelled_path, stands}
 use Rattle.iref_canonical.specs.CanonicalParts.{encoded_authority, encoded_query}

@@ -1,16 +1,11 @@
 -- Canonical texts of readable references and of texts in the grammar.
-use Rattle.std.proofs.Common.{◌≡◌, true, refl, sym, ◌∙◌, ap, subst}
-use Rattle.std.proofs.Math.Logic.{◌↔◌}
-use Rattle.std.specs.Char.{is_ascii}
-use Rattle.std.specs.List.{list_all}
-use Rattle.std.specs.Prelude.{IsUtf8}
-use Rattle.iref_grammar.specs.Characters.{CharTests, AreAboveAscii, uri_chars, uri_above_ascii}
-use Rattle.iref_grammar.specs.Rules.{Text, InUtf8}
+use Rattle.std.proofs.{Common.{◌≡◌, true, refl, sym, ◌∙◌, ap, subst}, Math.Logic.{◌↔◌}}
+use Rattle.std.specs.{Char.{is_ascii}, List.{list_all}, Prelude.{IsUtf8}}
+use Rattle.iref_grammar.specs.{Characters.{CharTests, AreAboveAscii, uri_chars, uri_above_ascii}, Rules.{Text, InUtf8}}
 use Rattle.iref_grammar.specs.Grammar.{IsUri, IsUriReference}
 use Rattle.iref_grammar.specs.Reference.{ReferenceValue, IsReadable, read_reference, is_reference, is_uri}
 use Rattle.iref_grammar.proofs.ReferenceRuleLemmas.{Decides-is_readable, Decides-is_uri_reference, Decides-is_uri, reference_read, one_spelling, in_utf8-reference, in_utf8-full}
-use Rattle.iref_model.specs.Key.{key, AreAlike}
-use Rattle.iref_model.specs.Mapping.{mapped}
+use Rattle.iref_model.specs.{Key.{key, AreAlike}, Mapping.{mapped}}
 use Rattle.iref_model.proofs.AsciiReferenceLemmas.{is_reference-ascii}
 use Rattle.iref_model.proofs.MappedReferenceLemmas.{readable_text, key-mapped_text}
 use Rattle.iref_canonical.specs.Canonical.{canonical, canonical_text}

@@ -1,16 +1,12 @@
 -- Bytes that are decoded and encoded anew.
 use Rattle.std.proofs.Common.{◌≡◌, ℕ, ◌<◌, Bool, true, not, cond, ◌&&◌, ◌||◌, [], ◌∷◌, ◌++◌, refl, sym, ◌∙◌, ap}
-use Rattle.std.specs.Char.{is_ascii}
-use Rattle.std.specs.List.{list_all}
 use Rattle.std.proofs.lemmas.Bool.{agree_below_at, and_from, and_parts, ltb-true, not-true}
-use Rattle.std.proofs.lemmas.Grind.{flat_map-append}
-use Rattle.std.proofs.lemmas.List.{append-nil}
-use Rattle.percent_encoding.specs.declared.ascii_set.AsciiSet.{AsciiSet}
-use Rattle.percent_encoding.specs.AsciiSet.{should_percent_encode}
+use Rattle.std.proofs.{lemmas.Grind.{flat_map-append}, lemmas.List.{append-nil}}
+use Rattle.std.specs.{Char.{is_ascii}, List.{list_all}}
+use Rattle.percent_encoding.specs.{declared.ascii_set.AsciiSet.{AsciiSet}, AsciiSet.{should_percent_encode}}
 use Rattle.percent_encoding.specs.Percent.{percent_decode, percent_encode_byte, percent_sign}
 use Rattle.percent_encoding.proofs.PercentLemmas.{percent_decode-nil}
-use Rattle.iref_grammar.specs.Grammar.{is_not_percent}
-use Rattle.iref_grammar.specs.Rules.{Text}
+use Rattle.iref_grammar.specs.{Grammar.{is_not_percent}, Rules.{Text}}
 use Rattle.iref_grammar.proofs.LackLemmas.{all_lacks}
 use Rattle.iref_parse.specs.Plain.{is_name_byte}
 use Rattle.iref_canonical.specs.Canonical.{is_raw}

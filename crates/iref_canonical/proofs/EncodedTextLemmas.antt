@@ -1,20 +1,14 @@
 -- Texts encoded for a set of characters of ASCII: decoding gives the bytes back, and the text is in the rule of the set.
 use Rattle.std.proofs.Common.{◌≡◌, ℕ, ◌/◌, ◌%◌, Bool, true, false, All, [], ◌∷◌, ◌++◌, refl, sym, ◌∙◌, ap, arith}
-use Rattle.std.specs.Char.{is_ascii}
-use Rattle.std.specs.Fmt.{digit_glyph}
-use Rattle.std.specs.List.{list_all}
-use Rattle.std.proofs.lemmas.Bool.{cond-true, cond-false, and_from}
-use Rattle.std.proofs.lemmas.List.Elements.{All-head, All-tail}
+use Rattle.std.proofs.{lemmas.Bool.{cond-true, cond-false, and_from}, lemmas.List.Elements.{All-head, All-tail}}
 use Rattle.std.proofs.lemmas.List.Folds.{list_all-append}
+use Rattle.std.specs.{Char.{is_ascii}, Fmt.{digit_glyph}, List.{list_all}}
 use mathlib.Core.Bool.{true≢false}
 use Rattle.percent_encoding.specs.Percent.{percent_sign, percent_encode_byte, percent_decode}
 use Rattle.percent_encoding.proofs.PercentLemmas.{IsByte, percent_decode-nil, percent_decode_not_percent, percent_decode-percent_encode_byte}
-use Rattle.iref_grammar.specs.Rules.{Text, InUtf8}
-use Rattle.iref_grammar.specs.Grammar.{IsEncoded}
-use Rattle.iref_grammar.specs.Tests.{is_encoded, is_encoded_after}
+use Rattle.iref_grammar.specs.{Rules.{Text, InUtf8}, Grammar.{IsEncoded}, Tests.{is_encoded, is_encoded_after}}
 use Rattle.iref_grammar.proofs.EncodedLemmas.{by_percent, by_digit, take_char, Decides-is_encoded}
-use Rattle.iref_model.proofs.MappedLemmas.{escape_ascii}
-use Rattle.iref_model.proofs.MappedMarkLemmas.{glyph_hex}
+use Rattle.iref_model.proofs.{MappedLemmas.{escape_ascii}, MappedMarkLemmas.{glyph_hex}}
 use Rattle.iref_model.proofs.MappedRuleLemmas.{ascii_in_utf8}
 use Rattle.iref_canonical.specs.Canonical.{encoded}
 

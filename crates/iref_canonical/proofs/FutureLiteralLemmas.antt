@@ -1,16 +1,12 @@
 -- An address of a future version in brackets is what is read from its first byte to its last.
 use Rattle.std.proofs.Common.{◌≡◌, ℕ, Bool, true, false, ◌&&◌, [], ◌∷◌, refl, ap, arith}
-use Rattle.std.specs.Prelude.{◌==◌, codes, Some}
-use Rattle.std.specs.List.{list_all}
-use Rattle.std.specs.Char.{is_ascii_hexdigit, char_set_contains}
 use Rattle.std.proofs.lemmas.Bool.Decides.{nat_tests}
-use Rattle.iref_grammar.specs.Grammar.{full_stop, left_bracket, right_bracket, is_future_char}
-use Rattle.iref_grammar.specs.Rules.{Text}
+use Rattle.std.specs.{Prelude.{◌==◌, codes, Some}, List.{list_all}, Char.{is_ascii_hexdigit, char_set_contains}}
+use Rattle.iref_grammar.specs.{Grammar.{full_stop, left_bracket, right_bracket, is_future_char}, Rules.{Text}}
 use Rattle.iref_grammar.specs.Texts.{before, after, after_first_char, is_empty}
 use Rattle.iref_grammar.specs.Tests.{ends_here, in_brackets, is_future_address, is_future_version, is_ipvfuture, some_and}
 use Rattle.iref_grammar.proofs.CutLemmas.{before-no, before-yes, from_first-no, from_first-yes}
-use Rattle.iref_canonical.specs.FutureLiteral.{after_byte, is_read, is_whole}
-use Rattle.iref_canonical.specs.declared.literal.Progress.{Progress}
+use Rattle.iref_canonical.specs.{FutureLiteral.{after_byte, is_read, is_whole}, declared.literal.Progress.{Progress}}
 use Rattle.iref_canonical.specs.declared.literal.Progress.TheVariants.{Nothing, Bracket, V, Version, Stop, Address, Whole, Other}
 
 -- ---- cuts at one delimiter

@@ -1,21 +1,13 @@
 -- What is hashed of a reference, and of a path alone, determines its key.
 use Rattle.std.proofs.Common.{◌≡◌, true, refl, sym, ◌∙◌, ap, subst}
 use Rattle.std.specs.List.{list_all}
-use Rattle.iref_grammar.specs.Characters.{CharTests, AreAboveAscii, uri_chars, uri_above_ascii}
-use Rattle.iref_grammar.specs.Grammar.{IsSegment}
-use Rattle.iref_grammar.specs.PathValue.{PathValue}
-use Rattle.iref_grammar.specs.Reference.{ReferenceValue, IsReadable}
-use Rattle.iref_grammar.specs.Rules.{InUtf8}
+use Rattle.iref_grammar.specs.{Characters.{CharTests, AreAboveAscii, uri_chars, uri_above_ascii}, Grammar.{IsSegment}}
+use Rattle.iref_grammar.specs.{PathValue.{PathValue}, Reference.{ReferenceValue, IsReadable}, Rules.{InUtf8}}
 use Rattle.iref_grammar.specs.Tests.{is_segment}
-use Rattle.iref_grammar.proofs.LeafLemmas.{Decides-is_segment}
-use Rattle.iref_grammar.proofs.PartRuleLemmas.{Decides-all}
+use Rattle.iref_grammar.proofs.{LeafLemmas.{Decides-is_segment}, PartRuleLemmas.{Decides-all}}
 use Rattle.iref_grammar.proofs.ReferenceRuleLemmas.{Decides-is_readable, one_spelling}
-use Rattle.iref_model.specs.Key.{key}
-use Rattle.iref_model.specs.Mapping.{mapped}
-use Rattle.iref_model.specs.NormalList.{normal_segments}
-use Rattle.iref_model.specs.PathKey.{path_key}
-use Rattle.iref_model.proofs.NormalGrammarLemmas.{takes_dots}
-use Rattle.iref_model.proofs.SettledLemmas.{lone-normal}
+use Rattle.iref_model.specs.{Key.{key}, Mapping.{mapped}, NormalList.{normal_segments}, PathKey.{path_key}}
+use Rattle.iref_model.proofs.{NormalGrammarLemmas.{takes_dots}, SettledLemmas.{lone-normal}}
 use Rattle.iref_model.proofs.StepSegmentLemmas.{normal-in}
 use Rattle.iref_splice.specs.Fed.{IsSelfDelimiting}
 use Rattle.iref_splice.proofs.DelimitLemmas.{text-delimits}

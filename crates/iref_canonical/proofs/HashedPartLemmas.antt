@@ -1,31 +1,21 @@
 -- What is hashed of a component, of an authority's parts and of components determines its key.
 use Rattle.std.proofs.Common.{◌≡◌, ℕ, Bool, true, false, not, ◌||◌, ◌==◌, cond, List, [], ◌∷◌, ◌++◌, refl, sym, ◌∙◌, ap, arith, append_assoc}
-use Rattle.std.proofs.lemmas.Bool.{and_from, and_parts}
-use Rattle.std.proofs.lemmas.Bool.Decides.{nat_tests}
-use Rattle.std.proofs.lemmas.Grind.{flat_map-append}
-use Rattle.std.proofs.lemmas.List.{append-nil}
+use Rattle.std.proofs.{lemmas.Bool.{and_from, and_parts}, lemmas.Bool.Decides.{nat_tests}}
+use Rattle.std.proofs.{lemmas.Grind.{flat_map-append}, lemmas.List.{append-nil}}
 use Rattle.std.proofs.lemmas.List.Folds.{concat-append, list_all-append}
-use Rattle.std.specs.Prelude.{Some, None}
-use Rattle.std.specs.Str.{str_to_ascii_lowercase}
-use Rattle.std.specs.Hash.{HashWrites, le_bytes, option}
+use Rattle.std.specs.{Prelude.{Some, None}, Str.{str_to_ascii_lowercase}, Hash.{HashWrites, le_bytes, option}}
 use Rattle.std.specs.List.{concat, list_all}
 use Rattle.percent_encoding.specs.Percent.{percent_decode, percent_encode_byte, percent_sign}
 use Rattle.percent_encoding.proofs.PercentLemmas.{percent_decode-nil, percent_decode_not_percent, percent_decode-percent_encode_byte}
-use Rattle.iref_grammar.specs.Authority.{AuthorityValue}
-use Rattle.iref_grammar.specs.Reference.{ReferenceValue}
-use Rattle.iref_grammar.specs.Rules.{Text}
+use Rattle.iref_grammar.specs.{Authority.{AuthorityValue}, Reference.{ReferenceValue}, Rules.{Text}}
 use Rattle.iref_model.proofs.MappedLemmas.{escape_ascii}
 use Rattle.iref_parse.specs.Plain.{is_unescaped_byte}
 use Rattle.iref_splice.specs.Fed.{is_unended, IsSelfDelimiting}
 use Rattle.iref_splice.proofs.DelimitLemmas.{text-delimits}
-use Rattle.iref_canonical.specs.Decoded.{SplitsLast}
-use Rattle.iref_canonical.specs.Lower.{is_lower}
-use Rattle.iref_canonical.proofs.PlainReferenceLemmas.{lower_same}
-use Rattle.iref_canonical.proofs.PlainTextLemmas.{standing-decoded}
-use Rattle.iref_canonical.specs.Hashed.{fed_lone_path, IsPathKey}
-use Rattle.iref_canonical.proofs.HashedLemmas.{path-delimits}
-use Rattle.iref_canonical.proofs.HashedTextLemmas.{ascii-unended}
+use Rattle.iref_canonical.specs.{Decoded.{SplitsLast}, Lower.{is_lower}, Hashed.{fed_lone_path, IsPathKey}}
 use Rattle.iref_canonical.specs.HashedParts.{fed_authority, fed_components, fed_part, HasPathKey, hashed_byte, hashed_bytes, IsAny}
+use Rattle.iref_canonical.proofs.{PlainReferenceLemmas.{lower_same}, PlainTextLemmas.{standing-decoded}}
+use Rattle.iref_canonical.proofs.{HashedLemmas.{path-delimits}, HashedTextLemmas.{ascii-unended}}
 
 -- ---- of a text
 

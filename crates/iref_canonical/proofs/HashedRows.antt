@@ -1,23 +1,16 @@
 -- Worked rows of what is hashed, computed: a list of writes, each a list of bytes.
 use Prim.Native.String.{String}
-use Rattle.std.specs.Prelude.{◌≡◌, [], ◌∷◌, map, refl}
-use Rattle.std.specs.Char.{encode_utf8}
-use Rattle.std.specs.Hash.{HashWrites}
+use Rattle.std.specs.{Prelude.{◌≡◌, [], ◌∷◌, map, refl}, Char.{encode_utf8}, Hash.{HashWrites}}
 use Rattle.percent_encoding.specs.Percent.{percent_encode_byte, percent_decode}
 use Rattle.iref_grammar.specs.IpAddresses.{ipv4_value, ipv6_value}
 use Rattle.iref_grammar.specs.Grammar.{is_reg_name_char, is_user_info_char, is_path_char, is_fragment_char, is_query_char}
-use Rattle.iref_grammar.specs.Tests.{is_ipvfuture, is_ip_literal}
-use Rattle.iref_grammar.specs.Authority.{read_authority, spell_authority}
-use Rattle.iref_grammar.specs.PathValue.{read_path, spell_path}
-use Rattle.iref_grammar.specs.Reference.{read_reference, spell}
-use Rattle.iref_model.specs.Guard.{guarded}
-use Rattle.iref_model.specs.Key.{key}
-use Rattle.iref_model.specs.NormalList.{normal_segments, excess, staying_names}
+use Rattle.iref_grammar.specs.{Tests.{is_ipvfuture, is_ip_literal}, Authority.{read_authority, spell_authority}}
+use Rattle.iref_grammar.specs.{PathValue.{read_path, spell_path}, Reference.{read_reference, spell}}
+use Rattle.iref_model.specs.{Guard.{guarded}, Key.{key}, NormalList.{normal_segments, excess, staying_names}}
 use Rattle.iref_model.specs.PathKey.{path_key}
 use Rattle.iref_model.proofs.Rows.{utf8}
 use Rattle.iref_splice.specs.Fed.{fed_text, waiting_after, written_after}
-use Rattle.iref_canonical.specs.Canonical.{encoded, spelled, spelled_relative}
-use Rattle.iref_canonical.specs.Hashed.{fed_lone_path, fed_reference}
+use Rattle.iref_canonical.specs.{Canonical.{encoded, spelled, spelled_relative}, Hashed.{fed_lone_path, fed_reference}}
 use Rattle.iref_canonical.specs.HashedParts.{fed_part}
 
 -- a short text, and 255

@@ -1,38 +1,26 @@
 -- The text that is hashed of a key: its mapping is the canonical text, and no byte of it is 255.
 use Rattle.std.proofs.Common.{◌≡◌, ℕ, Bool, true, false, not, cond, ◌&&◌, ◌||◌, ◌==◌, List, [], ◌∷◌, ◌++◌, map, refl, sym, ◌∙◌, ap, arith}
-use Rattle.std.proofs.lemmas.Bool.{and_from, and_parts}
-use Rattle.std.proofs.lemmas.Bool.Decides.{nat_tests}
-use Rattle.std.proofs.lemmas.List.{append-nil}
+use Rattle.std.proofs.{lemmas.Bool.{and_from, and_parts}, lemmas.Bool.Decides.{nat_tests}, lemmas.List.{append-nil}}
 use Rattle.std.proofs.lemmas.List.Folds.{list_all-append}
-use Rattle.std.specs.Prelude.{Option, Some, None, IfSome, codes, option_map}
-use Rattle.std.specs.Char.{is_ascii}
-use Rattle.std.specs.Cmp.Lexicographic.{bytes_decides}
-use Rattle.std.specs.List.{list_all, join_with_byte}
+use Rattle.std.specs.{Prelude.{Option, Some, None, IfSome, codes, option_map}, Char.{is_ascii}}
+use Rattle.std.specs.{Cmp.Lexicographic.{bytes_decides}, List.{list_all, join_with_byte}}
 use mathlib.Core.Bool.{true≢false}
 use Rattle.percent_encoding.specs.Percent.{percent_encode_byte}
-use Rattle.iref_grammar.specs.declared.context.PathContext.{PathContext}
-use Rattle.iref_grammar.specs.Authority.{AuthorityValue, spell_authority}
-use Rattle.iref_grammar.specs.Characters.{uri_chars}
-use Rattle.iref_grammar.specs.Contexts.{reads_as_path}
+use Rattle.iref_grammar.specs.{declared.context.PathContext.{PathContext}, Authority.{AuthorityValue, spell_authority}}
+use Rattle.iref_grammar.specs.{Characters.{uri_chars}, Contexts.{reads_as_path}}
 use Rattle.iref_grammar.specs.Grammar.{at_sign, colon, hash_sign, question_mark, slash, is_fragment_char, is_path_char, is_query_char, is_reg_name_char, is_user_info_char}
-use Rattle.iref_grammar.specs.PathValue.{PathValue, spell_path}
-use Rattle.iref_grammar.specs.Reference.{ReferenceValue, context_of, spell}
-use Rattle.iref_grammar.specs.Rules.{Text}
-use Rattle.iref_grammar.specs.Tests.{none_or, is_ip_literal, is_port, is_scheme}
+use Rattle.iref_grammar.specs.{PathValue.{PathValue, spell_path}, Reference.{ReferenceValue, context_of, spell}}
+use Rattle.iref_grammar.specs.{Rules.{Text}, Tests.{none_or, is_ip_literal, is_port, is_scheme}}
 use Rattle.iref_grammar.specs.Texts.{is_empty, part_then, then_part}
 use Rattle.iref_grammar.proofs.HostRuleLemmas.{Decides-is_ip_literal, join_all, literal_ascii}
-use Rattle.iref_model.specs.ComponentSteps.{guarded_reference}
-use Rattle.iref_model.specs.Guard.{guarded, made_absolute, with_dot}
-use Rattle.iref_model.specs.Mapping.{mapped, mapped_authority, mapped_reference}
-use Rattle.iref_model.specs.NormalList.{is_dot, is_dot_dot}
+use Rattle.iref_model.specs.{ComponentSteps.{guarded_reference}, Guard.{guarded, made_absolute, with_dot}}
+use Rattle.iref_model.specs.{Mapping.{mapped, mapped_authority, mapped_reference}, NormalList.{is_dot, is_dot_dot}}
 use Rattle.iref_model.proofs.MappedLemmas.{escape_ascii, mapped-append, mapped-ascii, mapped-escaped, mapped-kept, mapped-nil}
 use Rattle.iref_model.proofs.MappedResolutionLemmas.{guarded_reference-mapped}
-use Rattle.iref_model.proofs.MappedRuleLemmas.{port_ascii, scheme_ascii}
-use Rattle.iref_model.proofs.MappedSpellingLemmas.{spell-mapped}
+use Rattle.iref_model.proofs.{MappedRuleLemmas.{port_ascii, scheme_ascii}, MappedSpellingLemmas.{spell-mapped}}
 use Rattle.iref_splice.specs.Fed.{is_unended}
 use Rattle.iref_canonical.specs.Canonical.{canonical_text, encoded, encoded_byte, hashed_text, spelled, spelled_authority, spelled_host, spelled_name, spelled_parts, spelled_relative, stands}
-use Rattle.iref_canonical.proofs.CanonicalKeyLemmas.{IsKey}
-use Rattle.iref_canonical.proofs.CanonicalPartLemmas.{IsAuthorityKey}
+use Rattle.iref_canonical.proofs.{CanonicalKeyLemmas.{IsKey}, CanonicalPartLemmas.{IsAuthorityKey}}
 use Rattle.iref_canonical.proofs.EncodedTextLemmas.{IsPlain}
 use Rattle.iref_canonical.proofs.PlainCharacterLemmas.{plain_fragment, plain_name, plain_path, plain_query, plain_user_info}
 

@@ -1,32 +1,20 @@
 -- A path that one scan finds to stand does, in the canonical text and in the one that is hashed.
 use Rattle.std.proofs.Common.{◌≡◌, ℕ, Bool, true, false, not, cond, ◌&&◌, ◌||◌, ◌==◌, List, [], ◌∷◌, map, refl, sym, ◌∙◌, ap, arith}
-use Rattle.std.specs.List.{list_all, join_with_byte, onto_first}
-use Rattle.std.specs.Char.{is_ascii}
 use Rattle.std.proofs.lemmas.Bool.{agree_below_at, and_from, and_parts, ltb-true, not-true, or_right}
-use Rattle.std.proofs.lemmas.Bool.Decides.{nat_tests}
-use Rattle.std.proofs.lemmas.Grind.{common_steps}
+use Rattle.std.proofs.{lemmas.Bool.Decides.{nat_tests}, lemmas.Grind.{common_steps}}
 use Rattle.std.proofs.lemmas.List.Folds.{list_all-append}
+use Rattle.std.specs.{List.{list_all, join_with_byte, onto_first}, Char.{is_ascii}}
 use Rattle.percent_encoding.specs.Percent.{percent_decode, percent_sign}
-use Rattle.iref_grammar.specs.declared.context.PathContext.{PathContext}
-use Rattle.iref_grammar.specs.Characters.{uri_chars}
-use Rattle.iref_grammar.specs.Contexts.{fits}
+use Rattle.iref_grammar.specs.{declared.context.PathContext.{PathContext}, Characters.{uri_chars}, Contexts.{fits}}
 use Rattle.iref_grammar.specs.Grammar.{slash, is_path_char, is_reg_name_char, is_user_info_char}
-use Rattle.iref_grammar.specs.PathValue.{begins_empty, read_path, spell_path}
-use Rattle.iref_grammar.specs.Rules.{Text}
-use Rattle.iref_grammar.specs.Texts.{lacks, pieces_at}
-use Rattle.iref_grammar.proofs.LackLemmas.{all_lacks}
-use Rattle.iref_grammar.proofs.PathLemmas.{read_path-reads}
-use Rattle.iref_model.specs.Guard.{guarded}
-use Rattle.iref_model.specs.NormalList.{is_name}
-use Rattle.iref_model.specs.PathKey.{path_key}
-use Rattle.iref_parse.specs.Dots.{begins_with_dot, has_dot_segment, is_some_dotted}
-use Rattle.iref_parse.specs.Plain.{is_path_byte}
-use Rattle.iref_path.proofs.DotlessLemmas.{dotless_name}
-use Rattle.iref_path.proofs.GuardTextLemmas.{guarded-same}
+use Rattle.iref_grammar.specs.{PathValue.{begins_empty, read_path, spell_path}, Rules.{Text}, Texts.{lacks, pieces_at}}
+use Rattle.iref_grammar.proofs.{LackLemmas.{all_lacks}, PathLemmas.{read_path-reads}}
+use Rattle.iref_model.specs.{Guard.{guarded}, NormalList.{is_name}, PathKey.{path_key}}
+use Rattle.iref_parse.specs.{Dots.{begins_with_dot, has_dot_segment, is_some_dotted}, Plain.{is_path_byte}}
+use Rattle.iref_path.proofs.{DotlessLemmas.{dotless_name}, GuardTextLemmas.{guarded-same}}
 use Rattle.iref_canonical.specs.Canonical.{encoded, is_raw, spelled_list, spelled_name, spelled_path, spelled_relative, stands}
 use Rattle.iref_canonical.specs.KeptPaths.{is_kept_path, is_rooted}
-use Rattle.iref_canonical.proofs.CanonicalPartLemmas.{decoded-lacks}
-use Rattle.iref_canonical.proofs.PlainCharacterLemmas.{plain_path}
+use Rattle.iref_canonical.proofs.{CanonicalPartLemmas.{decoded-lacks}, PlainCharacterLemmas.{plain_path}}
 use Rattle.iref_canonical.proofs.PlainReferenceLemmas.{named, normal_same, read_dotless}
 use Rattle.iref_canonical.proofs.PlainTextLemmas.{joined-all, passing-encoded}
 

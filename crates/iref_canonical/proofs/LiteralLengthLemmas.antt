@@ -1,21 +1,16 @@
 -- An IPv6 address in brackets has at most 47 bytes, and any IP literal that has more is of a future version.
 use Rattle.std.proofs.Common.{◌≡◌, ℕ, ◌+◌, ◌*◌, ◌/◌, ◌%◌, ◌<◌, ◌≤◌, Bool, true, false, ◌&&◌, ◌||◌, List, [], ◌∷◌, ◌++◌, length, refl, sym, ◌∙◌, ap, arith, ◌⊎◌, inl, inr, lit<, length-append}
+use Rattle.std.proofs.{lemmas.Grind.{common_steps}, lemmas.Fmt.{length-decimal-le}, lemmas.Bool.Decides.{nat_tests}}
 use Rattle.std.specs.Prelude.{◌==◌, slice_index, Option, Some, None, codes, decimal, is_some, nat_le}
-use Rattle.std.proofs.lemmas.Grind.{common_steps}
-use Rattle.std.specs.List.{AllZip, join_with_byte}
-use Rattle.std.specs.Str.{IsUtf8}
-use Rattle.std.proofs.lemmas.Fmt.{length-decimal-le}
-use Rattle.std.proofs.lemmas.Bool.Decides.{nat_tests}
+use Rattle.std.specs.{List.{AllZip, join_with_byte}, Str.{IsUtf8}}
 use native.Mathlib.Nat.{lt_trans}
 use mathlib.Core.Bool.{true≢false}
 use Rattle.percent_encoding.specs.Percent.{percent_decode}
 use Rattle.percent_encoding.proofs.PercentLemmas.{percent_decode-nil, percent_decode_not_percent}
-use Rattle.iref_grammar.specs.Rules.{Text}
-use Rattle.iref_grammar.specs.Grammar.{left_bracket, percent_sign, right_bracket}
+use Rattle.iref_grammar.specs.{Rules.{Text}, Grammar.{left_bracket, percent_sign, right_bracket}}
 use Rattle.iref_grammar.specs.IpAddresses.{IsIpv4, IsGroup, AreGroups, AreLastGroups, IsFullIpv6, IsShortIpv6, ipv6_value}
 use Rattle.iref_grammar.specs.Tests.{in_brackets, is_ip_address, is_ip_literal, is_ipv6, is_ipvfuture, some_and}
-use Rattle.iref_grammar.proofs.ComponentLackLemmas.{bracket_parts}
-use Rattle.iref_grammar.proofs.HostRuleLemmas.{Decides-is_ip_literal_bytes}
+use Rattle.iref_grammar.proofs.{ComponentLackLemmas.{bracket_parts}, HostRuleLemmas.{Decides-is_ip_literal_bytes}}
 use Rattle.iref_grammar.proofs.Ipv6Lemmas.{ipv6_value-sound}
 
 -- ---- texts of groups

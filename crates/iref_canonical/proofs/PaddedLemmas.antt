@@ -1,12 +1,8 @@
 -- Texts behind which more bytes can be read: where a delimiter is in them.
 use Rattle.std.proofs.Common.{arith, ◌≡◌, ℕ, zero, suc, ◌+◌, ◌<◌, ◌≤◌, ◌∷◌, [], length, take, drop, refl, ◌∙◌, ap}
-use Rattle.std.proofs.lemmas.Bool.Decides.{nat_tests}
-use Rattle.std.proofs.lemmas.Grind.{common_steps}
-use Rattle.std.specs.Char.{char_set_contains}
-use Rattle.std.specs.List.{position_or_len}
-use Rattle.std.specs.Prelude.{Some, min}
-use Rattle.iref_grammar.specs.Rules.{Text}
-use Rattle.iref_grammar.specs.Texts.{after, after_first_char}
+use Rattle.std.proofs.{lemmas.Bool.Decides.{nat_tests}, lemmas.Grind.{common_steps}}
+use Rattle.std.specs.{Char.{char_set_contains}, List.{position_or_len}, Prelude.{Some, min}}
+use Rattle.iref_grammar.specs.{Rules.{Text}, Texts.{after, after_first_char}}
 
 abbrev pub first_of : ℕ → Text → ℕ
 first_of mark text = position_or_len (char_set_contains (mark ∷ [])) text

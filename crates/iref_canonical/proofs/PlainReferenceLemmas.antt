@@ -1,39 +1,29 @@
 -- A reference whose text has no escape, no dot segment and no upper-case letter in the scheme stands as it is, if it is ASCII or bytes
 -- beyond ASCII stand raw.
 use Rattle.std.proofs.Common.{◌≡◌, ℕ, Bool, true, false, not, cond, ◌||◌, List, [], ◌∷◌, ◌++◌, map, refl, sym, ◌∙◌, ap, arith}
-use Rattle.std.specs.Prelude.{Option, Some, None, option_map, codes}
-use Rattle.std.specs.List.{list_all, join_with_byte}
+use Rattle.std.proofs.{lemmas.Bool.{and_from, and_parts, cond-false, not-true}, lemmas.Bool.Decides.{nat_tests}}
+use Rattle.std.specs.{Prelude.{Option, Some, None, option_map, codes}, List.{list_all, join_with_byte}}
+use Rattle.std.specs.{Str.{str_to_ascii_lowercase}, Char.{is_ascii, to_ascii_lowercase}}
 use mathlib.Core.Bool.{true≢false}
-use Rattle.std.specs.Str.{str_to_ascii_lowercase}
-use Rattle.std.specs.Char.{is_ascii, to_ascii_lowercase}
-use Rattle.std.proofs.lemmas.Bool.{and_from, and_parts, cond-false, not-true}
-use Rattle.std.proofs.lemmas.Bool.Decides.{nat_tests}
 use Rattle.percent_encoding.specs.Percent.{percent_decode, percent_encode_byte, percent_sign}
-use Rattle.iref_grammar.specs.Characters.{CharTests, AreAboveAscii, uri_chars}
-use Rattle.iref_grammar.specs.Rules.{Text}
+use Rattle.iref_grammar.specs.{Characters.{CharTests, AreAboveAscii, uri_chars}, Rules.{Text}}
 use Rattle.iref_grammar.specs.Grammar.{slash, colon, question_mark, hash_sign, at_sign, is_path_char, is_query_char, is_fragment_char, is_user_info_char, is_reg_name_char}
 use Rattle.iref_grammar.specs.Texts.{lacks, part_then, then_part}
 use Rattle.iref_grammar.specs.Tests.{none_or, is_segment, is_query, is_fragment, is_user_info, is_reg_name, is_host, is_ip_literal, is_port}
 use Rattle.iref_grammar.specs.Authority.{AuthorityValue, spell_authority, has_authority_parts}
 use Rattle.iref_grammar.specs.PathValue.{PathValue, is_one_empty, shows_its_list, spell_path, read_path}
 use Rattle.iref_grammar.specs.Reference.{ReferenceValue, context_of, is_readable, is_reference, read_reference, spell}
-use Rattle.iref_grammar.proofs.PctLemmas.{literal_lacks}
-use Rattle.iref_grammar.proofs.ReadablePartsLemmas.{readable_parts}
+use Rattle.iref_grammar.proofs.{PctLemmas.{literal_lacks}, ReadablePartsLemmas.{readable_parts}}
 use Rattle.iref_grammar.proofs.ReferenceCutLemmas.{read_reference-spelled}
-use Rattle.iref_model.specs.AuthorityKey.{authority_key}
-use Rattle.iref_model.specs.ComponentSteps.{guarded_reference}
-use Rattle.iref_model.specs.NormalList.{is_dot, is_dot_dot, is_name, normal_segments}
-use Rattle.iref_model.specs.PathKey.{path_key}
-use Rattle.iref_model.specs.Key.{key}
-use Rattle.iref_parse.specs.Dots.{begins_with_dot, is_some_dotted, has_dot_segment}
+use Rattle.iref_model.specs.{AuthorityKey.{authority_key}, ComponentSteps.{guarded_reference}}
+use Rattle.iref_model.specs.{NormalList.{is_dot, is_dot_dot, is_name, normal_segments}, PathKey.{path_key}, Key.{key}}
 use Rattle.iref_model.specs.Mapping.{mapped, mapped_authority, mapped_reference}
+use Rattle.iref_parse.specs.Dots.{begins_with_dot, is_some_dotted, has_dot_segment}
 use Rattle.iref_model.proofs.AsciiReferenceLemmas.{is_reference-mapped, read_reference-tested}
 use Rattle.iref_model.proofs.MappedLemmas.{mapped-ascii, mapped-escaped, mapped-kept}
-use Rattle.iref_path.proofs.DotlessLemmas.{dotless_name, normal_segments-dotless}
-use Rattle.iref_path.proofs.GuardTextLemmas.{guarded-same}
+use Rattle.iref_path.proofs.{DotlessLemmas.{dotless_name, normal_segments-dotless}, GuardTextLemmas.{guarded-same}}
 use Rattle.iref_canonical.specs.Canonical.{encoded, spelled, spelled_authority, spelled_host, spelled_list, spelled_name, spelled_parts, spelled_path, spelled_relative, stands}
-use Rattle.iref_canonical.specs.Decoded.{are_standing, is_standing}
-use Rattle.iref_canonical.specs.Lower.{is_lower, is_lower_byte}
+use Rattle.iref_canonical.specs.{Decoded.{are_standing, is_standing}, Lower.{is_lower, is_lower_byte}}
 use Rattle.iref_canonical.proofs.PlainTextLemmas.{joined-all, standing-decoded, standing-encoded, standing-parts}
 
 -- ---- schemes

@@ -1,29 +1,19 @@
 -- Texts without `%`: each is what it decodes to, and what it is when encoded, if it is ASCII or bytes beyond ASCII stand raw.
 use Rattle.std.proofs.Common.{◌≡◌, ℕ, Bool, true, false, ◌&&◌, ◌||◌, List, [], ◌∷◌, ◌++◌, refl, sym, ◌∙◌, ap, subst, arith, not, ◌==◌}
-use Rattle.std.specs.Prelude.{IsUtf8, chars, encode_utf8_all}
-use Rattle.std.specs.Char.{encode_utf8, is_ascii}
-use Rattle.std.specs.List.{list_all, join_with_byte}
-use Rattle.std.specs.Str.{all_scalars, is_utf8}
-use mathlib.Core.Bool.{true≢false}
-use Rattle.std.proofs.lemmas.Bool.{and_from, and_parts, not-true, or_right}
-use Rattle.std.proofs.lemmas.Bool.Decides.{nat_tests}
-use Rattle.std.proofs.lemmas.Grind.{common_steps}
-use Rattle.std.proofs.lemmas.List.Folds.{list_all-append}
-use Rattle.std.proofs.Math.Utf8.{scalar}
+use Rattle.std.proofs.{lemmas.Bool.{and_from, and_parts, not-true, or_right}, lemmas.Bool.Decides.{nat_tests}}
+use Rattle.std.proofs.{lemmas.Grind.{common_steps}, lemmas.List.Folds.{list_all-append}, Math.Utf8.{scalar}}
 use Rattle.std.proofs.lemmas.Str.{chars-encodes}
+use Rattle.std.specs.{Prelude.{IsUtf8, chars, encode_utf8_all}, Char.{encode_utf8, is_ascii}}
+use Rattle.std.specs.{List.{list_all, join_with_byte}, Str.{all_scalars, is_utf8}}
+use mathlib.Core.Bool.{true≢false}
 use Rattle.percent_encoding.specs.Percent.{percent_sign, percent_decode}
-use Rattle.iref_grammar.specs.Rules.{Text}
-use Rattle.iref_grammar.specs.Grammar.{is_not_percent}
-use Rattle.iref_grammar.specs.Tests.{is_encoded, is_encoded_after, in_utf8}
-use Rattle.iref_grammar.proofs.EncodedLemmas.{by_char, if_taken}
-use Rattle.iref_grammar.proofs.TextLemmas.{first_of_both, second_of_both}
-use Rattle.iref_grammar.proofs.LackLemmas.{all_lacks}
-use Rattle.iref_grammar.proofs.Utf8RuleLemmas.{in_utf8-ascii}
+use Rattle.iref_grammar.specs.{Rules.{Text}, Grammar.{is_not_percent}, Tests.{is_encoded, is_encoded_after, in_utf8}}
+use Rattle.iref_grammar.proofs.{EncodedLemmas.{by_char, if_taken}, TextLemmas.{first_of_both, second_of_both}}
+use Rattle.iref_grammar.proofs.{LackLemmas.{all_lacks}, Utf8RuleLemmas.{in_utf8-ascii}}
 use Rattle.iref_model.specs.Mapping.{mapped}
 use Rattle.iref_model.proofs.MappedLemmas.{ascii-mapped, mapped-escaped, mapped-kept}
 use Rattle.iref_splice.specs.Fed.{is_unended}
-use Rattle.iref_canonical.specs.Canonical.{encoded, is_raw, stands}
-use Rattle.iref_canonical.specs.Decoded.{are_standing, is_standing}
+use Rattle.iref_canonical.specs.{Canonical.{encoded, is_raw, stands}, Decoded.{are_standing, is_standing}}
 use Rattle.iref_canonical.proofs.CanonicalPartLemmas.{decoded-lacks}
 use Rattle.iref_canonical.proofs.EncodedTextLemmas.{encoded-nil, encoded-kept, is_encoded-escape}
 

@@ -1,33 +1,22 @@
 -- An authority as it is put: its parts in their order, the host encoded for one of two sets.
 use Rattle.std.proofs.Common.{◌≡◌, ℕ, Bool, true, false, not, cond, ◌&&◌, ◌||◌, [], ◌∷◌, ◌++◌, None, refl, sym, ◌∙◌, ap, inl}
-use Rattle.std.specs.Prelude.{option_map}
-use Rattle.std.specs.Option.{option_copied}
-use Rattle.std.specs.Char.{is_ascii}
-use Rattle.std.specs.List.{list_all}
-use Rattle.std.proofs.lemmas.Bool.{and_parts, cond-false}
-use Rattle.std.proofs.lemmas.List.{append-nil}
+use Rattle.std.proofs.{lemmas.Bool.{and_parts, cond-false}, lemmas.List.{append-nil}}
+use Rattle.std.specs.{Prelude.{option_map}, Option.{option_copied}, Char.{is_ascii}, List.{list_all}}
 use Rattle.percent_encoding.specs.AsciiSet.{should_percent_encode}
 use Rattle.percent_encoding.specs.Percent.{percent_decode, percent_encode_byte, percent_sign}
-use Rattle.iref_grammar.specs.Authority.{AuthorityValue, read_authority, spell_authority}
-use Rattle.iref_grammar.specs.Characters.{uri_chars}
+use Rattle.iref_grammar.specs.{Authority.{AuthorityValue, read_authority, spell_authority}, Characters.{uri_chars}}
 use Rattle.iref_grammar.specs.Grammar.{at_sign, colon, left_bracket, is_reg_name_char, is_user_info_char}
-use Rattle.iref_grammar.specs.Rules.{Text}
-use Rattle.iref_grammar.specs.Tests.{is_ip_literal}
-use Rattle.iref_grammar.specs.Texts.{begins_with, lacks, part_then, then_part}
+use Rattle.iref_grammar.specs.{Rules.{Text}, Tests.{is_ip_literal}, Texts.{begins_with, lacks, part_then, then_part}}
 use Rattle.iref_grammar.proofs.AuthorityLemmas.{read_authority-back}
-use Rattle.iref_grammar.proofs.HostRuleLemmas.{Decides-is_ip_literal, literal_ascii}
-use Rattle.iref_grammar.proofs.CutLemmas.{first_lacks}
+use Rattle.iref_grammar.proofs.{HostRuleLemmas.{Decides-is_ip_literal, literal_ascii}, CutLemmas.{first_lacks}}
 use Rattle.iref_grammar.proofs.LackLemmas.{all_lacks}
 use Rattle.iref_model.specs.AuthorityKey.{authority_key}
-use Rattle.iref_parse.specs.AuthoritySlices.{authority_of}
-use Rattle.iref_parse.specs.Plain.{is_name_byte}
+use Rattle.iref_parse.specs.{AuthoritySlices.{authority_of}, Plain.{is_name_byte}}
 use Rattle.iref_parse.specs.declared.authority.AuthoritySlices.{AuthoritySlices}
 use Rattle.iref_canonical.specs.Canonical.{encoded, is_raw, spelled_authority, spelled_host, stands}
-use Rattle.iref_canonical.specs.Decoded.{is_escaped, recoded, recoded_byte}
-use Rattle.iref_canonical.specs.declared.authority.TheConstants.{NOTHING}
+use Rattle.iref_canonical.specs.{Decoded.{is_escaped, recoded, recoded_byte}, declared.authority.TheConstants.{NOTHING}}
 use Rattle.iref_canonical.specs.declared.encoded.TheConstants.{REG_NAME}
-use Rattle.iref_canonical.proofs.CanonicalPartLemmas.{decoded-lacks}
-use Rattle.iref_canonical.proofs.EncodedLemmas.{encoded-names, spared-name}
+use Rattle.iref_canonical.proofs.{CanonicalPartLemmas.{decoded-lacks}, EncodedLemmas.{encoded-names, spared-name}}
 use Rattle.iref_canonical.proofs.SetLemmas.{encoded-name, in_set}
 
 -- what is ASCII stands where nothing is escaped

@@ -1,23 +1,15 @@
 -- An absolute path behind an authority, as it is put.
 use Rattle.std.proofs.Common.{◌≡◌, ℕ, Bool, true, false, cond, List, [], ◌∷◌, ◌++◌, map, length, refl, sym, ◌∙◌, ap}
-use Rattle.std.specs.Prelude.{codes, ◌==◌}
-use Rattle.std.specs.List.{join_with_byte}
+use Rattle.std.specs.{Prelude.{codes, ◌==◌}, List.{join_with_byte}}
 use Rattle.percent_encoding.specs.Percent.{percent_decode}
 use Rattle.percent_encoding.proofs.PercentLemmas.{percent_decode-nil}
-use Rattle.iref_grammar.specs.declared.context.PathContext.{PathContext}
-use Rattle.iref_grammar.specs.Grammar.{slash}
-use Rattle.iref_grammar.specs.PathValue.{PathValue, read_path, spell_path}
-use Rattle.iref_grammar.specs.Rules.{Text}
-use Rattle.iref_model.specs.Guard.{guarded}
-use Rattle.iref_model.specs.NormalList.{normal_segments, without_lone_empty}
-use Rattle.iref_model.specs.PathKey.{path_key}
-use Rattle.iref_path.specs.NormalItems.{first_or}
-use Rattle.iref_path.specs.Spelling.{guard_in}
-use Rattle.iref_canonical.specs.Canonical.{encoded, spelled_name, spelled_path}
-use Rattle.iref_canonical.specs.KeptPaths.{rooted_text}
+use Rattle.iref_grammar.specs.{declared.context.PathContext.{PathContext}, Grammar.{slash}}
+use Rattle.iref_grammar.specs.{PathValue.{PathValue, read_path, spell_path}, Rules.{Text}}
+use Rattle.iref_model.specs.{Guard.{guarded}, NormalList.{normal_segments, without_lone_empty}, PathKey.{path_key}}
+use Rattle.iref_path.specs.{NormalItems.{first_or}, Spelling.{guard_in}}
+use Rattle.iref_canonical.specs.{Canonical.{encoded, spelled_name, spelled_path}, KeptPaths.{rooted_text}}
 use Rattle.iref_canonical.specs.SpelledItems.{spelled_items, standing_of}
-use Rattle.iref_canonical.proofs.ShapeLemmas.{like-same, path-spelled}
-use Rattle.iref_canonical.proofs.SpelledItemLemmas.{spelled-none}
+use Rattle.iref_canonical.proofs.{ShapeLemmas.{like-same, path-spelled}, SpelledItemLemmas.{spelled-none}}
 
 module _ (raw : Bool) where
   named-nothing : spelled_name raw (percent_decode []) ≡ []

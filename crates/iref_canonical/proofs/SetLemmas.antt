@@ -1,12 +1,9 @@
 -- The sets of what is escaped in each component, checked character by character.
 use Rattle.std.proofs.Common.{◌≡◌, ℕ, zero, suc, ◌<◌, Bool, true, false, not, cond, ◌&&◌, ◌||◌, [], ◌∷◌, ◌++◌, refl, sym, ◌∙◌, ap}
-use Rattle.std.specs.Char.{is_ascii}
-use Rattle.std.specs.Cmp.{booleans_Decides}
+use Rattle.std.proofs.{lemmas.Bool.{ltb-true}, lemmas.Bool.Decides.{Decides-below_and}}
+use Rattle.std.specs.{Char.{is_ascii}, Cmp.{booleans_Decides}}
 use mathlib.Core.Bool.{beq, true≢false}
-use Rattle.std.proofs.lemmas.Bool.{ltb-true}
-use Rattle.std.proofs.lemmas.Bool.Decides.{Decides-below_and}
-use Rattle.percent_encoding.specs.declared.ascii_set.AsciiSet.{AsciiSet}
-use Rattle.percent_encoding.specs.AsciiSet.{contains, should_percent_encode}
+use Rattle.percent_encoding.specs.{declared.ascii_set.AsciiSet.{AsciiSet}, AsciiSet.{contains, should_percent_encode}}
 use Rattle.percent_encoding.specs.Percent.{percent_encode_byte}
 use Rattle.iref_grammar.specs.Characters.{uri_chars}
 use Rattle.iref_grammar.specs.Grammar.{is_reg_name_char, is_user_info_char, is_path_char, is_fragment_char, is_query_char}

@@ -1,28 +1,17 @@
 -- What decides on the guard of a canonical path: whether the first item is empty, and whether it has a `:`.
 use Rattle.std.proofs.Common.{◌≡◌, ℕ, ◌/◌, ◌%◌, ◌<◌, Bool, true, false, not, cond, ◌&&◌, ◌||◌, List, [], ◌∷◌, ◌++◌, map, length, refl, sym, ◌∙◌, ap, arith}
-use Rattle.std.specs.Prelude.{codes, ◌==◌}
-use Rattle.std.specs.Char.{char_set_contains}
-use Rattle.std.specs.Fmt.{digit_glyph}
-use Rattle.std.specs.List.{join_with_byte}
-use Rattle.std.specs.Cmp.Lexicographic.{bytes_decides}
 use Rattle.std.proofs.lemmas.Bool.Decides.{nat_tests}
+use Rattle.std.specs.{Prelude.{codes, ◌==◌}, Char.{char_set_contains}, Fmt.{digit_glyph}, List.{join_with_byte}}
+use Rattle.std.specs.Cmp.Lexicographic.{bytes_decides}
 use mathlib.Core.Bool.{true≢false}
 use Rattle.percent_encoding.specs.Percent.{percent_decode, percent_encode_byte}
 use Rattle.percent_encoding.proofs.PercentLemmas.{percent_decode-nil}
-use Rattle.iref_grammar.specs.declared.context.PathContext.{PathContext}
-use Rattle.iref_grammar.specs.Characters.{uri_chars}
-use Rattle.iref_grammar.specs.Grammar.{colon, slash, is_path_char, is_user_info_char}
-use Rattle.iref_grammar.specs.Rules.{Text}
-use Rattle.iref_grammar.specs.Texts.{is_empty}
+use Rattle.iref_grammar.specs.{declared.context.PathContext.{PathContext}, Characters.{uri_chars}}
+use Rattle.iref_grammar.specs.{Grammar.{colon, slash, is_path_char, is_user_info_char}, Rules.{Text}, Texts.{is_empty}}
 use Rattle.iref_grammar.specs.PathValue.{PathValue, is_one_empty, spell_path}
-use Rattle.iref_model.specs.Guard.{guarded}
-use Rattle.iref_model.specs.NormalList.{is_dot, is_dot_dot, normal_segments}
-use Rattle.iref_model.specs.PathKey.{path_key}
-use Rattle.iref_model.proofs.ComparisonLemmas.{empty-decoded}
-use Rattle.iref_model.proofs.RewritingLemmas.{not_lone}
-use Rattle.iref_model.proofs.SettledLemmas.{lone-normal}
-use Rattle.iref_path.specs.NormalItems.{first_or}
-use Rattle.iref_path.specs.Spelling.{each_closed, guard, guard_in}
+use Rattle.iref_model.specs.{Guard.{guarded}, NormalList.{is_dot, is_dot_dot, normal_segments}, PathKey.{path_key}}
+use Rattle.iref_model.proofs.{ComparisonLemmas.{empty-decoded}, RewritingLemmas.{not_lone}, SettledLemmas.{lone-normal}}
+use Rattle.iref_path.specs.{NormalItems.{first_or}, Spelling.{each_closed, guard, guard_in}}
 use Rattle.iref_path.proofs.SpellLemmas.{list-spelled, size-cons}
 use Rattle.iref_canonical.specs.Canonical.{encoded, spelled_list, spelled_name, spelled_path, spelled_relative, stands}
 use Rattle.iref_canonical.specs.SpelledItems.{spelled_items, standing_of}

@@ -1,17 +1,12 @@
 -- The bytes of a text as sort keys hold them.
 use Rattle.std.proofs.Common.{arith, ◌≡◌, ℕ, ◌+◌, ◌++◌, ◌∷◌, [], length, refl, sym, ◌∙◌, ap, true, length-append}
-use Rattle.std.proofs.lemmas.Grind.{common_steps, flat_map-append}
-use Rattle.std.proofs.lemmas.Bool.Decides.{nat_tests}
+use Rattle.std.proofs.{lemmas.Grind.{common_steps, flat_map-append}, lemmas.Bool.Decides.{nat_tests}}
 use Rattle.std.proofs.lemmas.List.{append-nil, map-append}
-use Rattle.std.specs.List.{flat_map}
-use Rattle.std.specs.Char.{to_ascii_lowercase}
-use Rattle.std.specs.Prelude.{map, option_map, Option, Some, None}
+use Rattle.std.specs.{List.{flat_map}, Char.{to_ascii_lowercase}, Prelude.{map, option_map, Option, Some, None}}
 use Rattle.percent_encoding.specs.Percent.{percent_decode}
 use Rattle.percent_encoding.proofs.PercentLemmas.{percent_decode_not_percent, percent_decode-nil}
-use Rattle.iref_grammar.specs.Authority.{AuthorityValue}
-use Rattle.iref_grammar.specs.Rules.{Text}
-use Rattle.iref_canonical.specs.SortKey.{sort_byte, sort_option, sort_text, sort_authority}
-use Rattle.iref_canonical.specs.Decoded.{SplitsLast}
+use Rattle.iref_grammar.specs.{Authority.{AuthorityValue}, Rules.{Text}}
+use Rattle.iref_canonical.specs.{SortKey.{sort_byte, sort_option, sort_text, sort_authority}, Decoded.{SplitsLast}}
 use Rattle.iref_canonical.specs.SortBytes.{is_kept}
 
 -- ---- the last byte is put first

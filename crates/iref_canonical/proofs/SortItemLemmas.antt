@@ -1,23 +1,16 @@
 -- The items of a path in sort keys, the last first.
 use Rattle.std.proofs.Common.{arith, ◌≡◌, ℕ, ◌+◌, ◌++◌, ◌∷◌, [], List, length, refl, sym, ◌∙◌, ap, true, None, length-append}
-use Rattle.std.proofs.lemmas.List.{append-nil, map-append}
-use Rattle.std.proofs.lemmas.Grind.{flat_map-append}
-use Rattle.std.proofs.lemmas.Bool.{and_from, and_parts}
-use Rattle.std.proofs.lemmas.List.Folds.{list_all-append}
-use Rattle.std.specs.List.{flat_map, list_all, onto_first}
-use Rattle.std.specs.Prelude.{map, Bool, false, cond, ◌==◌}
+use Rattle.std.proofs.{lemmas.List.{append-nil, map-append}, lemmas.Grind.{flat_map-append}}
+use Rattle.std.proofs.{lemmas.Bool.{and_from, and_parts}, lemmas.List.Folds.{list_all-append}}
+use Rattle.std.specs.{List.{flat_map, list_all, onto_first}, Prelude.{map, Bool, false, cond, ◌==◌}}
 use Rattle.percent_encoding.specs.Percent.{percent_decode}
-use Rattle.iref_grammar.specs.Grammar.{slash}
-use Rattle.iref_grammar.specs.Rules.{Text}
-use Rattle.iref_grammar.specs.Texts.{pieces_at}
+use Rattle.iref_grammar.specs.{Grammar.{slash}, Rules.{Text}, Texts.{pieces_at}}
 use Rattle.iref_grammar.specs.PathValue.{PathValue, is_one_empty, read_path, segments_of}
 use Rattle.iref_model.specs.PathKey.{path_key}
 use Rattle.iref_parse.specs.Dots.{is_some_dotted, has_dot_segment}
 use Rattle.iref_path.specs.Spelling.{each_closed}
 use Rattle.iref_path.proofs.DotlessLemmas.{both_size, normal_segments-dotless, whole_text}
-use Rattle.iref_canonical.specs.SortKey.{sort_item, sort_text}
-use Rattle.iref_canonical.specs.SortBytes.{is_kept_byte, is_kept}
-use Rattle.iref_canonical.specs.SortItems.{AreKept}
+use Rattle.iref_canonical.specs.{SortKey.{sort_item, sort_text}, SortBytes.{is_kept_byte, is_kept}, SortItems.{AreKept}}
 use Rattle.iref_canonical.proofs.SortByteLemmas.{kept_sorted, kept_decodes}
 
 sorted_last : (rest : List Text) (x : Text) → flat_map sort_item (rest ++ x ∷ []) ≡ flat_map sort_item rest ++ (1 ∷ sort_text x)

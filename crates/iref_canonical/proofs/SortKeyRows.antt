@@ -1,17 +1,11 @@
 -- Worked rows of sort keys, computed (RFC 3986 section 6.2.2).
 use Prim.Native.String.{String}
 use Rattle.std.specs.Prelude.{◌≡◌, Bool, true, ◌&&◌, List, [], ◌∷◌, ◌++◌, map, codes, encode_utf8_all, refl}
-use Rattle.std.specs.Char.{encode_utf8}
-use Rattle.std.specs.Ordering.{is_lt}
+use Rattle.std.specs.{Char.{encode_utf8}, Ordering.{is_lt}}
 use Rattle.percent_encoding.specs.Percent.{percent_decode}
-use Rattle.iref_grammar.specs.Rules.{Text}
-use Rattle.iref_grammar.specs.Keys.{text_order}
-use Rattle.iref_grammar.specs.Authority.{read_authority}
-use Rattle.iref_grammar.specs.PathValue.{read_path}
+use Rattle.iref_grammar.specs.{Rules.{Text}, Keys.{text_order}, Authority.{read_authority}, PathValue.{read_path}}
 use Rattle.iref_grammar.specs.Reference.{read_reference}
-use Rattle.iref_model.specs.NormalList.{normal_segments, excess, staying_names}
-use Rattle.iref_model.specs.PathKey.{path_key}
-use Rattle.iref_model.specs.Key.{key}
+use Rattle.iref_model.specs.{NormalList.{normal_segments, excess, staying_names}, PathKey.{path_key}, Key.{key}}
 use Rattle.iref_canonical.specs.SortKey.{sort_text, sort_path, sort_authority, sort_key}
 
 abbrev sorted : String → Text

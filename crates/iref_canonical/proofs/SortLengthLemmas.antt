@@ -1,26 +1,19 @@
 -- How long sort keys are.
 use Rattle.std.proofs.Common.{arith, ◌≡◌, ℕ, ◌+◌, ◌*◌, ◌≤◌, List, [], ◌∷◌, ◌++◌, Option, Some, None, length, ap, length-append}
 use Rattle.std.proofs.lemmas.Bool.Decides.{nat_tests}
-use Rattle.std.specs.List.{flat_map, join_with_byte}
-use Rattle.std.specs.Prelude.{map, option_map, codes, if◌then◌else◌}
+use Rattle.std.specs.{List.{flat_map, join_with_byte}, Prelude.{map, option_map, codes, if◌then◌else◌}}
 use Rattle.percent_encoding.specs.Percent.{percent_decode}
 use Rattle.percent_encoding.proofs.PercentLemmas.{length-percent_decode}
 use Rattle.iref_grammar.specs.Authority.{AuthorityValue, spell_authority}
 use Rattle.iref_grammar.specs.Grammar.{at_sign, colon, hash_sign, question_mark, slash}
-use Rattle.iref_grammar.specs.PathValue.{PathValue, spell_path}
-use Rattle.iref_grammar.specs.Reference.{ReferenceValue, read_reference, spell}
-use Rattle.iref_grammar.specs.Rules.{Text}
-use Rattle.iref_grammar.specs.Texts.{part_then, then_part}
+use Rattle.iref_grammar.specs.{PathValue.{PathValue, spell_path}, Reference.{ReferenceValue, read_reference, spell}}
+use Rattle.iref_grammar.specs.{Rules.{Text}, Texts.{part_then, then_part}}
 use Rattle.iref_grammar.proofs.ReferenceCutLemmas.{read_reference-spelled}
-use Rattle.iref_model.specs.AuthorityKey.{authority_key}
-use Rattle.iref_model.specs.Key.{key}
-use Rattle.iref_model.specs.NormalList.{normal_segments}
-use Rattle.iref_model.specs.PathKey.{path_key}
+use Rattle.iref_model.specs.{AuthorityKey.{authority_key}, Key.{key}, NormalList.{normal_segments}, PathKey.{path_key}}
 use Rattle.iref_path.specs.Spelling.{each_closed}
 use Rattle.iref_path.proofs.SpellLemmas.{length-join, normal_size, size-cons}
 use Rattle.iref_canonical.specs.SortKey.{sort_authority, sort_byte, sort_item, sort_key, sort_list, sort_option, sort_text}
-use Rattle.iref_canonical.proofs.KeptPartLemmas.{length-sort_key}
-use Rattle.iref_canonical.proofs.SortByteLemmas.{length-sort_authority}
+use Rattle.iref_canonical.proofs.{KeptPartLemmas.{length-sort_key}, SortByteLemmas.{length-sort_authority}}
 use Rattle.iref_canonical.proofs.SortPutLemmas.{lower_size}
 
 -- ---- texts

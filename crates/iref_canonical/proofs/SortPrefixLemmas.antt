@@ -1,27 +1,16 @@
 -- What is below a reference is one range of sort keys, and begins with one text.
 use Rattle.std.proofs.Common.{arith, ◌≡◌, ℕ, ◌≤◌, Bool, true, false, ◌&&◌, List, [], ◌∷◌, ◌++◌, refl, sym, ◌∙◌, ap, Some, None, Ordering, Less, Equal, Greater, is_eq, append_assoc, length, take, lit≤, ◌+◌}
-use Rattle.std.proofs.lemmas.Grind.{common_steps}
-use Rattle.std.proofs.lemmas.Bool.Decides.{nat_tests}
-use Rattle.std.proofs.lemmas.Map.Text.{is_eq-slice_cmp}
-use Rattle.std.specs.Option.{option_cmp}
-use Rattle.std.specs.Ordering.{is_le, is_lt, on, ordering_reverse, ordering_then, then_cmp}
+use Rattle.std.proofs.{lemmas.Grind.{common_steps}, lemmas.Bool.Decides.{nat_tests}, lemmas.Map.Text.{is_eq-slice_cmp}}
+use Rattle.std.specs.{Option.{option_cmp}, Ordering.{is_le, is_lt, on, ordering_reverse, ordering_then, then_cmp}}
 use Rattle.std.specs.Prelude.{if◌then◌else◌, is_some, map, option_map, cond, not, ◌==◌}
-use Rattle.std.specs.BTreeMap.Range.{IsLeBy, range_contains}
-use Rattle.std.specs.List.{flat_map, starts_with}
+use Rattle.std.specs.{BTreeMap.Range.{IsLeBy, range_contains}, List.{flat_map, starts_with}}
 use Rattle.std.specs.declared.ops.Bound.TheVariants.{Excluded, Included}
-use Rattle.std.specs.Cmp.{IsTotalOrder, both_ways, on_total, then_total}
-use Rattle.std.specs.Cmp.Lexicographic.{options_total, pointwise}
+use Rattle.std.specs.{Cmp.{IsTotalOrder, both_ways, on_total, then_total}, Cmp.Lexicographic.{options_total, pointwise}}
 use Rattle.percent_encoding.specs.Percent.{percent_decode}
 use mathlib.Core.Bool.{beq}
-use Rattle.iref_grammar.specs.Keys.{text_order}
-use Rattle.iref_grammar.specs.PathValue.{PathValue}
-use Rattle.iref_grammar.specs.Reference.{ReferenceValue}
-use Rattle.iref_grammar.specs.Rules.{Text}
-use Rattle.iref_model.specs.AuthorityKey.{authority_key_cmp}
-use Rattle.iref_model.specs.Key.{key}
-use Rattle.iref_model.specs.NormalList.{normal_segments}
-use Rattle.iref_model.specs.PathKey.{path_key}
-use Rattle.iref_model.specs.PathSuffix.{is_decoded_beginning, path_suffix}
+use Rattle.iref_grammar.specs.{Keys.{text_order}, PathValue.{PathValue}, Reference.{ReferenceValue}, Rules.{Text}}
+use Rattle.iref_model.specs.{AuthorityKey.{authority_key_cmp}, Key.{key}, NormalList.{normal_segments}}
+use Rattle.iref_model.specs.{PathKey.{path_key}, PathSuffix.{is_decoded_beginning, path_suffix}}
 use Rattle.iref_model.specs.ReferenceSuffix.{reference_suffix}
 use Rattle.iref_model.proofs.KeyOrderLemmas.{authority_keys_total, texts_total}
 use Rattle.iref_canonical.specs.SortKey.{sort_authority, sort_item, sort_key, sort_list, sort_option, sort_path, sort_text}

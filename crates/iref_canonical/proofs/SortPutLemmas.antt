@@ -1,25 +1,16 @@
 -- Sort keys put from the front.
 use Rattle.std.proofs.Common.{arith, ◌≡◌, ℕ, ◌+◌, ◌<◌, ◌++◌, ◌∷◌, [], List, Bool, true, false, length, take, drop, refl, sym, ◌∙◌, ap, subst, cond, ◌&&◌, append_assoc, length-append, length-take, take_all}
-use Rattle.std.proofs.lemmas.Bool.{and_parts}
-use Rattle.std.proofs.lemmas.List.{append-nil, drop_all, length-map, map-append}
-use Rattle.std.specs.List.{flat_map, list_all, onto_first}
-use Rattle.std.specs.Char.{to_ascii_lowercase}
-use Rattle.std.specs.Prelude.{map, option_map, Option, Some, ◌==◌}
-use Rattle.std.specs.Option.{option_copied}
+use Rattle.std.proofs.{lemmas.Bool.{and_parts}, lemmas.List.{append-nil, drop_all, length-map, map-append}}
+use Rattle.std.specs.{List.{flat_map, list_all, onto_first}, Char.{to_ascii_lowercase}}
+use Rattle.std.specs.{Prelude.{map, option_map, Option, Some, ◌==◌}, Option.{option_copied}}
 use Rattle.std.specs.Str.{str_to_ascii_lowercase}
-use Rattle.iref_grammar.specs.Authority.{AuthorityValue, read_authority}
-use Rattle.iref_grammar.specs.Grammar.{slash}
-use Rattle.iref_grammar.specs.PathValue.{PathValue, read_path, segments_of}
-use Rattle.iref_grammar.specs.Rules.{Text}
-use Rattle.iref_grammar.specs.Tests.{none_or}
+use Rattle.iref_grammar.specs.{Authority.{AuthorityValue, read_authority}, Grammar.{slash}}
+use Rattle.iref_grammar.specs.{PathValue.{PathValue, read_path, segments_of}, Rules.{Text}, Tests.{none_or}}
 use Rattle.iref_grammar.specs.Texts.{pieces_at}
-use Rattle.iref_parse.specs.ReferenceSlices.{value_of}
-use Rattle.iref_parse.specs.declared.split.ReferenceSlices.{ReferenceSlices}
-use Rattle.iref_canonical.specs.SortBytes.{is_kept_byte, is_kept, are_kept_parts}
-use Rattle.iref_canonical.specs.SortItems.{AreKept}
+use Rattle.iref_parse.specs.{ReferenceSlices.{value_of}, declared.split.ReferenceSlices.{ReferenceSlices}}
+use Rattle.iref_canonical.specs.{SortBytes.{is_kept_byte, is_kept, are_kept_parts}, SortItems.{AreKept}}
 use Rattle.iref_canonical.specs.SortKey.{sort_authority, sort_item, sort_key, sort_list, sort_option, sort_text}
-use Rattle.iref_canonical.specs.SortPuts.{Puts, lowered, segment_bytes}
-use Rattle.iref_canonical.specs.declared.padded.Padded.{Padded}
+use Rattle.iref_canonical.specs.{SortPuts.{Puts, lowered, segment_bytes}, declared.padded.Padded.{Padded}}
 use Rattle.iref_canonical.specs.Padded.{IsPadded, text_in}
 use Rattle.iref_canonical.proofs.SortItemLemmas.{kept_pieces}
 use Rattle.iref_canonical.proofs.SortByteLemmas.{kept_sorted, length-sort_authority, option-lower, sort_text-lower}

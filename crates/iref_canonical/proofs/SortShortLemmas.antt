@@ -1,35 +1,24 @@
 -- Sort keys of short texts whose bytes stand in them as they are: what they are, and that there is room.
 use Rattle.std.proofs.Common.{arith, ◌≡◌, ℕ, ◌+◌, ◌*◌, ◌≤◌, ◌++◌, ◌∷◌, [], Bool, true, false, length, refl, sym, ◌∙◌, ap, append_assoc, cond, length-append}
-use Rattle.std.proofs.lemmas.Bool.{and_parts}
-use Rattle.std.proofs.lemmas.List.Splits.{length-slice_split}
-use Rattle.std.proofs.lemmas.List.Sums.{count_by-le-length}
-use Rattle.std.proofs.lemmas.List.{take_at}
-use Rattle.std.specs.List.{flat_map}
-use Rattle.std.specs.Option.{option_copied}
-use Rattle.std.specs.Prelude.{IfSome, codes, option_map, Option, None, Some, ◌&&◌, ◌==◌}
-use Rattle.std.specs.Str.{str_to_ascii_lowercase}
+use Rattle.std.proofs.{lemmas.Bool.{and_parts}, lemmas.List.Splits.{length-slice_split}}
+use Rattle.std.proofs.{lemmas.List.Sums.{count_by-le-length}, lemmas.List.{take_at}}
+use Rattle.std.specs.{List.{flat_map}, Option.{option_copied}}
+use Rattle.std.specs.{Prelude.{IfSome, codes, option_map, Option, None, Some, ◌&&◌, ◌==◌}, Str.{str_to_ascii_lowercase}}
 use Rattle.percent_encoding.specs.Percent.{percent_decode}
 use Rattle.iref_grammar.specs.Authority.{AuthorityValue, read_authority, spell_authority}
 use Rattle.iref_grammar.specs.ComponentTexts.{ComponentTexts, spell_components}
 use Rattle.iref_grammar.specs.Grammar.{at_sign, colon, hash_sign, question_mark, slash}
 use Rattle.iref_grammar.specs.PathValue.{PathValue, read_path, segments_of}
-use Rattle.iref_grammar.specs.Reference.{ReferenceValue, read_reference, spell}
-use Rattle.iref_grammar.specs.Rules.{Text}
-use Rattle.iref_grammar.specs.Tests.{none_or}
+use Rattle.iref_grammar.specs.{Reference.{ReferenceValue, read_reference, spell}, Rules.{Text}, Tests.{none_or}}
 use Rattle.iref_grammar.specs.Texts.{part_then, pieces_at, then_part}
 use Rattle.iref_grammar.proofs.ReferenceCutLemmas.{read_reference-spelled}
-use Rattle.iref_model.specs.AuthorityKey.{authority_key}
-use Rattle.iref_model.specs.Key.{key}
-use Rattle.iref_model.specs.PathKey.{path_key}
-use Rattle.iref_parse.specs.Dots.{has_dot_segment}
-use Rattle.iref_parse.specs.ReferenceSlices.{texts_of, value_of}
+use Rattle.iref_model.specs.{AuthorityKey.{authority_key}, Key.{key}, PathKey.{path_key}}
+use Rattle.iref_parse.specs.{Dots.{has_dot_segment}, ReferenceSlices.{texts_of, value_of}}
 use Rattle.iref_parse.specs.declared.split.ReferenceSlices.{ReferenceSlices}
-use Rattle.iref_canonical.specs.SortBytes.{is_kept, are_kept_parts}
-use Rattle.iref_canonical.specs.SortItems.{AreKept}
+use Rattle.iref_canonical.specs.{SortBytes.{is_kept, are_kept_parts}, SortItems.{AreKept}}
 use Rattle.iref_canonical.specs.SortKey.{sort_authority, sort_item, sort_key, sort_list, sort_option, sort_path, sort_text}
 use Rattle.iref_canonical.specs.SortPuts.{AreKeptSlices, lowered, sorted_slices, spelled_slices}
-use Rattle.iref_canonical.proofs.SortByteLemmas.{kept_decodes}
-use Rattle.iref_canonical.proofs.SortCutLemmas.{kept_behind}
+use Rattle.iref_canonical.proofs.{SortByteLemmas.{kept_decodes}, SortCutLemmas.{kept_behind}}
 use Rattle.iref_canonical.proofs.SortItemLemmas.{kept_key, kept_pieces, kept_size}
 use Rattle.iref_canonical.proofs.SortPutLemmas.{all_size, kept_host, option_size, parts_size}
 use Rattle.iref_canonical.proofs.KeptPartLemmas.{HasKeptParts, both_kept, parts_kept_in, text_kept}

@@ -1,18 +1,12 @@
 -- Texts of references that are functions of the key alone: the canonical one (RFC 3986 section 2.1), and the one that is hashed.
 use Rattle.std.specs.Prelude.{ℕ, Bool, true, false, not, ◌&&◌, ◌||◌, ◌==◌, List, [], ◌∷◌, map, codes, option_map, if◌then◌else◌}
-use Rattle.std.specs.Char.{is_ascii}
-use Rattle.std.specs.List.{flat_map}
+use Rattle.std.specs.{Char.{is_ascii}, List.{flat_map}}
 use Rattle.percent_encoding.specs.Percent.{percent_encode_byte}
-use Rattle.iref_grammar.specs.Authority.{AuthorityValue}
-use Rattle.iref_grammar.specs.Characters.{uri_chars}
+use Rattle.iref_grammar.specs.{Authority.{AuthorityValue}, Characters.{uri_chars}}
 use Rattle.iref_grammar.specs.Grammar.{is_fragment_char, is_path_char, is_query_char, is_reg_name_char, is_user_info_char}
-use Rattle.iref_grammar.specs.PathValue.{PathValue}
-use Rattle.iref_grammar.specs.Reference.{ReferenceValue, spell}
-use Rattle.iref_grammar.specs.Rules.{Text}
-use Rattle.iref_grammar.specs.Tests.{is_ip_literal}
-use Rattle.iref_grammar.specs.Texts.{is_empty}
-use Rattle.iref_model.specs.ComponentSteps.{guarded_reference}
-use Rattle.iref_model.specs.NormalList.{is_dot, is_dot_dot}
+use Rattle.iref_grammar.specs.{PathValue.{PathValue}, Reference.{ReferenceValue, spell}, Rules.{Text}}
+use Rattle.iref_grammar.specs.{Tests.{is_ip_literal}, Texts.{is_empty}}
+use Rattle.iref_model.specs.{ComponentSteps.{guarded_reference}, NormalList.{is_dot, is_dot_dot}}
 
 -- a byte that passes the test stands; any other becomes `%` and two upper-case hexadecimal digits
 abbrev pub encoded_byte : (ℕ → Bool) → ℕ → Text

@@ -1,10 +1,8 @@
 -- The parts of a canonical text or of one that is hashed, from the parts of a reference's text.
 use Rattle.std.specs.Prelude.{Bool, Option, option_map}
 use Rattle.percent_encoding.specs.Percent.{percent_decode}
-use Rattle.iref_grammar.specs.Authority.{read_authority, spell_authority}
-use Rattle.iref_grammar.specs.Characters.{uri_chars}
-use Rattle.iref_grammar.specs.Grammar.{is_query_char}
-use Rattle.iref_grammar.specs.Rules.{Text}
+use Rattle.iref_grammar.specs.{Authority.{read_authority, spell_authority}, Characters.{uri_chars}}
+use Rattle.iref_grammar.specs.{Grammar.{is_query_char}, Rules.{Text}}
 use Rattle.iref_model.specs.AuthorityKey.{authority_key}
 use Rattle.iref_canonical.specs.Canonical.{encoded, spelled_authority, stands}
 

@@ -1,10 +1,6 @@
 -- The canonical text of a reference, or the one that is hashed, that is measured before it is written.
-use Rattle.std.specs.Prelude.{◌∷◌, ◌++◌, [], codes, option_map}
-use Rattle.std.specs.Option.{option_copied}
-use Rattle.std.specs.Str.{str_to_ascii_lowercase}
-use Rattle.iref_grammar.specs.Grammar.{colon, hash_sign, question_mark}
-use Rattle.iref_grammar.specs.Rules.{Text}
-use Rattle.iref_grammar.specs.Texts.{part_then, then_part}
+use Rattle.std.specs.{Prelude.{◌∷◌, ◌++◌, [], codes, option_map}, Option.{option_copied}, Str.{str_to_ascii_lowercase}}
+use Rattle.iref_grammar.specs.{Grammar.{colon, hash_sign, question_mark}, Rules.{Text}, Texts.{part_then, then_part}}
 use Rattle.iref_canonical.specs.CanonicalParts.{encoded_authority, encoded_query}
 use Rattle.iref_canonical.specs.KeptPaths.{IsReady, canonical_path_text}
 use Rattle.iref_canonical.specs.declared.reference.CanonicalReference.{CanonicalReference}

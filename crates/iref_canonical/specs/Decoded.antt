@@ -1,12 +1,9 @@
 -- The last byte that a text decodes to (RFC 3986 section 2.1), and texts that are decoded and encoded already.
 use Rattle.std.specs.Prelude.{◌≡◌, ℕ, ◌<◌, Bool, true, false, not, ◌&&◌, [], ◌∷◌, ◌++◌, length, if◌then◌else◌}
-use Rattle.std.specs.Char.{is_ascii}
-use Rattle.std.specs.List.{flat_map, list_all}
-use Rattle.percent_encoding.specs.declared.ascii_set.AsciiSet.{AsciiSet}
-use Rattle.percent_encoding.specs.AsciiSet.{should_percent_encode}
+use Rattle.std.specs.{Char.{is_ascii}, List.{flat_map, list_all}}
+use Rattle.percent_encoding.specs.{declared.ascii_set.AsciiSet.{AsciiSet}, AsciiSet.{should_percent_encode}}
 use Rattle.percent_encoding.specs.Percent.{is_escape, percent_encode_byte}
-use Rattle.iref_grammar.specs.Grammar.{is_not_percent}
-use Rattle.iref_grammar.specs.Rules.{Text}
+use Rattle.iref_grammar.specs.{Grammar.{is_not_percent}, Rules.{Text}}
 use Rattle.iref_parse.specs.Plain.{is_name_byte}
 use Rattle.iref_canonical.specs.Canonical.{is_raw, stands}
 

@@ -1,8 +1,7 @@
 -- How far a text was read as an address of a future version of IP in brackets (RFC 3986 section 3.2.2).
 use Rattle.std.specs.Prelude.{ℕ, Bool, true, false, codes, [], ◌∷◌, ◌==◌, if◌then◌else◌}
 use Rattle.std.specs.Char.{is_ascii_hexdigit, char_set_contains}
-use Rattle.iref_grammar.specs.Grammar.{full_stop, left_bracket, right_bracket, is_future_char}
-use Rattle.iref_grammar.specs.Rules.{Text}
+use Rattle.iref_grammar.specs.{Grammar.{full_stop, left_bracket, right_bracket, is_future_char}, Rules.{Text}}
 use Rattle.iref_canonical.specs.declared.literal.Progress.{Progress}
 use Rattle.iref_canonical.specs.declared.literal.Progress.TheVariants.{Nothing, Bracket, V, Version, Stop, Address, Whole, Other}
 

@@ -1,13 +1,8 @@
 -- What is hashed of the keys of references and of paths (RFC 3986 section 6.2.2): their texts with the bytes beyond ASCII raw.
-use Rattle.std.specs.Prelude.{◌≡◌, true, None}
-use Rattle.std.specs.Hash.{HashWrites}
-use Rattle.std.specs.List.{list_all}
-use Rattle.iref_grammar.specs.Characters.{CharTests, AreAboveAscii}
-use Rattle.iref_grammar.specs.PathValue.{PathValue}
-use Rattle.iref_grammar.specs.Reference.{ReferenceValue, IsReadable}
-use Rattle.iref_grammar.specs.Tests.{is_segment}
-use Rattle.iref_model.specs.Key.{key}
-use Rattle.iref_model.specs.PathKey.{path_key}
+use Rattle.std.specs.{Prelude.{◌≡◌, true, None}, Hash.{HashWrites}, List.{list_all}}
+use Rattle.iref_grammar.specs.{Characters.{CharTests, AreAboveAscii}, PathValue.{PathValue}}
+use Rattle.iref_grammar.specs.{Reference.{ReferenceValue, IsReadable}, Tests.{is_segment}}
+use Rattle.iref_model.specs.{Key.{key}, PathKey.{path_key}}
 use Rattle.iref_splice.specs.Fed.{fed_text}
 use Rattle.iref_canonical.specs.Canonical.{hashed_text}
 

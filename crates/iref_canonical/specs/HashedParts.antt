@@ -1,11 +1,7 @@
 -- What is hashed of the keys of components, and of components that are hashed one by one.
-use Rattle.std.specs.Prelude.{ℕ, ◌||◌, ◌==◌, [], ◌∷◌, ◌++◌, if◌then◌else◌}
-use Rattle.std.specs.Hash.{HashWrites, option}
-use Rattle.std.specs.List.{flat_map}
+use Rattle.std.specs.{Prelude.{ℕ, ◌||◌, ◌==◌, [], ◌∷◌, ◌++◌, if◌then◌else◌}, Hash.{HashWrites, option}, List.{flat_map}}
 use Rattle.percent_encoding.specs.Percent.{percent_encode_byte, percent_sign}
-use Rattle.iref_grammar.specs.Authority.{AuthorityValue}
-use Rattle.iref_grammar.specs.Reference.{ReferenceValue}
-use Rattle.iref_grammar.specs.Rules.{Text}
+use Rattle.iref_grammar.specs.{Authority.{AuthorityValue}, Reference.{ReferenceValue}, Rules.{Text}}
 use Rattle.iref_splice.specs.Fed.{fed_text}
 use Rattle.iref_canonical.specs.Hashed.{fed_lone_path, IsPathKey}
 

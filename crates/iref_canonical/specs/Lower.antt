@@ -1,7 +1,5 @@
 -- Texts without an upper-case letter.
-use Rattle.std.specs.Prelude.{ℕ, Bool, not}
-use Rattle.std.specs.Char.{is_ascii_uppercase}
-use Rattle.std.specs.List.{list_all}
+use Rattle.std.specs.{Prelude.{ℕ, Bool, not}, Char.{is_ascii_uppercase}, List.{list_all}}
 use Rattle.iref_grammar.specs.Rules.{Text}
 
 -- no upper-case letter of ASCII

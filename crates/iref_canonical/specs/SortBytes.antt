@@ -1,9 +1,6 @@
 -- Texts whose bytes stand in sort keys as they are.
-use Rattle.std.specs.Prelude.{Bool, ◌&&◌}
-use Rattle.std.specs.List.{list_all}
-use Rattle.iref_grammar.specs.Authority.{AuthorityValue}
-use Rattle.iref_grammar.specs.Rules.{Text}
-use Rattle.iref_grammar.specs.Tests.{none_or}
+use Rattle.std.specs.{Prelude.{Bool, ◌&&◌}, List.{list_all}}
+use Rattle.iref_grammar.specs.{Authority.{AuthorityValue}, Rules.{Text}, Tests.{none_or}}
 pub use Rattle.iref_parse.specs.Plain.{is_kept_byte}
 
 -- each byte stands in sort keys as it is, and none begins an escape

@@ -1,11 +1,8 @@
 -- The items of a path, as they are put into a sort key.
-use Rattle.std.specs.Prelude.{◌≡◌, true, List}
-use Rattle.std.specs.List.{list_all}
+use Rattle.std.specs.{Prelude.{◌≡◌, true, List}, List.{list_all}}
 use Rattle.iref_grammar.specs.Rules.{Text}
-use Rattle.iref_path.specs.NormalItems.{decoded_left, IsSound}
-use Rattle.iref_path.specs.Pieces.{pieces_if_some}
-use Rattle.iref_canonical.specs.declared.sort_path.Items.{Items}
-use Rattle.iref_canonical.specs.declared.sort_path.Items.TheVariants.{Kept, Normal}
+use Rattle.iref_path.specs.{NormalItems.{decoded_left, IsSound}, Pieces.{pieces_if_some}}
+use Rattle.iref_canonical.specs.{declared.sort_path.Items.{Items}, declared.sort_path.Items.TheVariants.{Kept, Normal}}
 use Rattle.iref_canonical.specs.SortBytes.{is_kept}
 
 abbrev pub AreKept : List Text → Type 0

@@ -1,9 +1,6 @@
 -- Sort keys of references: bytes in whose order the keys stand in theirs.
-use Rattle.std.specs.Prelude.{ℕ, ◌==◌, List, [], ◌∷◌, ◌++◌, Option, None, Some, if◌then◌else◌}
-use Rattle.std.specs.List.{flat_map}
-use Rattle.iref_grammar.specs.Authority.{AuthorityValue}
-use Rattle.iref_grammar.specs.PathValue.{PathValue}
-use Rattle.iref_grammar.specs.Reference.{ReferenceValue}
+use Rattle.std.specs.{Prelude.{ℕ, ◌==◌, List, [], ◌∷◌, ◌++◌, Option, None, Some, if◌then◌else◌}, List.{flat_map}}
+use Rattle.iref_grammar.specs.{Authority.{AuthorityValue}, PathValue.{PathValue}, Reference.{ReferenceValue}}
 use Rattle.iref_grammar.specs.Rules.{Text}
 
 -- the items one after the other, and the byte 0, which ends them

@@ -1,11 +1,6 @@
 -- What the sort keys of a reference and of all below it begin with, and the range in which they stand.
-use Rattle.std.specs.Prelude.{Bool, ◌&&◌, [], ◌∷◌, ◌++◌, if◌then◌else◌}
-use Rattle.std.specs.List.{flat_map}
-use Rattle.std.specs.Ordering.{is_le, is_lt}
-use Rattle.iref_grammar.specs.Keys.{text_order}
-use Rattle.iref_grammar.specs.PathValue.{PathValue}
-use Rattle.iref_grammar.specs.Reference.{ReferenceValue}
-use Rattle.iref_grammar.specs.Rules.{Text}
+use Rattle.std.specs.{Prelude.{Bool, ◌&&◌, [], ◌∷◌, ◌++◌, if◌then◌else◌}, List.{flat_map}, Ordering.{is_le, is_lt}}
+use Rattle.iref_grammar.specs.{Keys.{text_order}, PathValue.{PathValue}, Reference.{ReferenceValue}, Rules.{Text}}
 use Rattle.iref_canonical.specs.SortKey.{sort_authority, sort_item, sort_option, sort_text}
 
 -- whether the path is absolute, and its items, which more can follow

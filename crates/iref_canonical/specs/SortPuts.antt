@@ -1,14 +1,8 @@
 -- Sort keys of texts whose bytes stand in them as they are, put from the front.
 use Rattle.std.specs.Prelude.{◌≡◌, ℕ, ◌+◌, true, ◌==◌, [], ◌∷◌, ◌++◌, length, option_map, take, codes, if◌then◌else◌}
-use Rattle.std.specs.List.{flat_map}
-use Rattle.std.specs.Option.{option_copied}
-use Rattle.std.specs.Str.{str_to_ascii_lowercase}
-use Rattle.iref_grammar.specs.Authority.{read_authority}
-use Rattle.iref_grammar.specs.Grammar.{colon, hash_sign, question_mark, slash}
-use Rattle.iref_grammar.specs.PathValue.{read_path}
-use Rattle.iref_grammar.specs.Reference.{ReferenceValue}
-use Rattle.iref_grammar.specs.Rules.{Text}
-use Rattle.iref_grammar.specs.Tests.{none_or}
+use Rattle.std.specs.{List.{flat_map}, Option.{option_copied}, Str.{str_to_ascii_lowercase}}
+use Rattle.iref_grammar.specs.{Authority.{read_authority}, Grammar.{colon, hash_sign, question_mark, slash}}
+use Rattle.iref_grammar.specs.{PathValue.{read_path}, Reference.{ReferenceValue}, Rules.{Text}, Tests.{none_or}}
 use Rattle.iref_grammar.specs.Texts.{part_then, then_part}
 use Rattle.iref_parse.specs.declared.split.ReferenceSlices.{ReferenceSlices}
 use Rattle.iref_canonical.specs.SortBytes.{is_kept, are_kept_parts}

@@ -1,14 +1,9 @@
 -- The sort key of a reference that is measured before it is written.
-use Rattle.std.specs.Prelude.{◌≡◌, true, option_map}
-use Rattle.std.specs.Option.{option_copied}
-use Rattle.std.specs.Str.{str_to_ascii_lowercase}
+use Rattle.std.specs.{Prelude.{◌≡◌, true, option_map}, Option.{option_copied}, Str.{str_to_ascii_lowercase}}
 use Rattle.percent_encoding.specs.Percent.{percent_decode}
-use Rattle.iref_grammar.specs.Authority.{AuthorityValue, read_authority}
-use Rattle.iref_grammar.specs.Reference.{ReferenceValue}
-use Rattle.iref_grammar.specs.Rules.{Text}
+use Rattle.iref_grammar.specs.{Authority.{AuthorityValue, read_authority}, Reference.{ReferenceValue}, Rules.{Text}}
 use Rattle.iref_model.specs.AuthorityKey.{authority_key}
-use Rattle.iref_canonical.specs.declared.sort_key.SortedReference.{SortedReference}
-use Rattle.iref_canonical.specs.SortItems.{AreItems, items_of}
+use Rattle.iref_canonical.specs.{declared.sort_key.SortedReference.{SortedReference}, SortItems.{AreItems, items_of}}
 use Rattle.iref_canonical.specs.SortPuts.{AreKeptSlices}
 
 -- the key of an authority's text

@@ -1,13 +1,10 @@
 -- The items of a canonical path as they are written, and how many of them are `..` that stand.
 use Rattle.std.specs.Prelude.{◌≡◌, ℕ, zero, suc, ◌-◌, ◌≤◌, Bool, false, not, ◌&&◌, ◌||◌, ◌==◌, List, [], ◌∷◌, ◌++◌, map, codes, length, if◌then◌else◌}
 use Rattle.std.specs.List.{join_with_byte}
-use Rattle.iref_grammar.specs.Grammar.{full_stop, percent_sign, slash}
-use Rattle.iref_grammar.specs.Rules.{Text}
-use Rattle.iref_grammar.specs.Texts.{is_empty}
+use Rattle.iref_grammar.specs.{Grammar.{full_stop, percent_sign, slash}, Rules.{Text}, Texts.{is_empty}}
 use Rattle.iref_model.specs.NormalList.{is_dot_dot}
 use Rattle.iref_path.specs.NormalItems.{decoded_left, IsSound, normal_left}
-use Rattle.iref_canonical.specs.Canonical.{spelled_name}
-use Rattle.iref_canonical.specs.declared.path.SpelledPath.{SpelledPath}
+use Rattle.iref_canonical.specs.{Canonical.{spelled_name}, declared.path.SpelledPath.{SpelledPath}}
 
 -- the first byte is `.`, or may be that of its escape
 abbrev pub begins_as_dots : Text → Bool

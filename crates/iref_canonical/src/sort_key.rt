@@ -4,8 +4,7 @@ ghost use Rattle.std.specs.Prelude.{◌≡◌, ◌++◌, IfOk, OnErr, OnOk};
 ghost use Rattle.iref_grammar.specs.{ComponentTexts.{spell_components}, Reference.{read_reference}};
 ghost use Rattle.iref_model.specs.Key.{key};
 ghost use Rattle.iref_parse.specs.ReferenceSlices.{texts_of, value_of};
-ghost use Rattle.iref_canonical.specs.SortKey.{sort_key, sort_path};
-ghost use Rattle.iref_canonical.specs.SortedReferences.{IsSorted, sorted_key};
+ghost use Rattle.iref_canonical.specs.{SortKey.{sort_key, sort_path}, SortedReferences.{IsSorted, sorted_key}};
 
 use crate::sort_parts::{put_authority_option, put_option, put_scheme};
 use crate::sort_path::Items;

@@ -1,8 +1,7 @@
 //! The parts of a reference in sort keys, but for the path, put from the end. `kept` says that each byte
 //! stands as it is.
 
-ghost use Rattle.std.specs.{Prelude.{◌≡◌, option_map, true}, Option.{option_copied}};
-ghost use Rattle.std.specs.Str.{str_to_ascii_lowercase};
+ghost use Rattle.std.specs.{Prelude.{◌≡◌, option_map, true}, Option.{option_copied}, Str.{str_to_ascii_lowercase}};
 ghost use Rattle.percent_encoding.specs.Percent.{percent_decode};
 ghost use Rattle.iref_grammar.specs.{Authority.{read_authority}, Tests.{none_or}};
 ghost use Rattle.iref_canonical.specs.SortBytes.{is_kept, are_kept_parts};

@@ -1,17 +1,11 @@
 -- A part of an authority replaced in its text.
 use Rattle.std.proofs.Common.{◌≡◌, ◌+◌, true, [], ◌∷◌, ◌++◌, length, sym, ◌∙◌, length-append, append_assoc, arith, rules, subst, lit<}
-use Rattle.std.proofs.lemmas.Grind.{common_steps}
-use Rattle.std.specs.Prelude.{Option, None}
-use Rattle.std.specs.List.{splice}
-use Rattle.std.specs.Str.{IsCharBoundary, IsUtf8}
-use Rattle.std.proofs.lemmas.List.{places, same_lists}
+use Rattle.std.proofs.{lemmas.Grind.{common_steps}, lemmas.List.{places, same_lists}}
 use Rattle.std.proofs.lemmas.Str.{IsCharBoundary-start, IsCharBoundary-end, IsCharBoundary-at_seam}
+use Rattle.std.specs.{Prelude.{Option, None}, List.{splice}, Str.{IsCharBoundary, IsUtf8}}
 use Rattle.iref_splice.specs.Changes.{IsWithin, with_mark}
-use Rattle.iref_grammar.specs.Characters.{CharTests, AreAboveAscii}
-use Rattle.iref_grammar.specs.Rules.{Text}
-use Rattle.iref_grammar.specs.Grammar.{at_sign, colon}
-use Rattle.iref_grammar.specs.Texts.{part_then, then_part}
-use Rattle.iref_grammar.specs.Tests.{is_user_info, is_host, is_port, none_or}
+use Rattle.iref_grammar.specs.{Characters.{CharTests, AreAboveAscii}, Rules.{Text}, Grammar.{at_sign, colon}}
+use Rattle.iref_grammar.specs.{Texts.{part_then, then_part}, Tests.{is_user_info, is_host, is_port, none_or}}
 use Rattle.iref_grammar.specs.Authority.{AuthorityValue, spell_authority, read_authority, is_authority, has_authority_parts}
 use Rattle.iref_grammar.proofs.AuthorityLemmas.{read_authority-spelled}
 use Rattle.iref_grammar.proofs.AuthorityRuleLemmas.{authority_read, Decides-has_authority_parts}

@@ -1,8 +1,6 @@
 -- The parts of an authority are in their rules.
 use Rattle.std.proofs.Common.{◌≡◌, true, arith}
-use Rattle.iref_grammar.specs.Characters.{CharTests}
-use Rattle.iref_grammar.specs.Rules.{Text}
-use Rattle.iref_grammar.specs.Tests.{is_user_info, is_host, is_port, none_or}
+use Rattle.iref_grammar.specs.{Characters.{CharTests}, Rules.{Text}, Tests.{is_user_info, is_host, is_port, none_or}}
 use Rattle.iref_grammar.specs.Authority.{AuthorityValue, is_authority, has_authority_parts, read_authority}
 
 module _ (set : CharTests) (text : Text) (a : AuthorityValue) (e : a ≡ read_authority text) (h : is_authority set text ≡ true) where

@@ -1,6 +1,5 @@
 -- Texts that are the same have one key.
-use Rattle.std.proofs.Common.{◌≡◌, true, Equal, sym, ap, ◌∙◌}
-use Rattle.std.proofs.lemmas.Cmp.{tied_itself}
+use Rattle.std.proofs.{Common.{◌≡◌, true, Equal, sym, ap, ◌∙◌}, lemmas.Cmp.{tied_itself}}
 use Rattle.std.proofs.lemmas.Slice.Eq.{bytes_eq-Decides}
 use Rattle.std.specs.Str.{bytes_eq}
 use Rattle.iref_grammar.specs.Rules.{Text}

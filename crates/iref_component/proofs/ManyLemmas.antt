@@ -1,22 +1,16 @@
 -- Several edits of one path, seen as one.
 use Rattle.std.proofs.Common.{rules, Bool, not, true, false, ◌≡◌, ℕ, ◌+◌, ◌≤◌, List, [], ◌∷◌, ◌++◌, length, fold, map, refl, subst, arith}
-use Rattle.std.proofs.lemmas.Grind.{common_steps}
-use Rattle.std.specs.List.{splice, slice_range}
-use Rattle.std.specs.Iterator.{Drains, YieldsFirstBy}
-use Rattle.std.proofs.lemmas.Iterator.{items_from_drains}
-use Rattle.std.proofs.lemmas.Iterator.Consumers.{YieldsList-from_first}
-use Rattle.std.proofs.lemmas.List.{places, same_lists}
+use Rattle.std.proofs.{lemmas.Grind.{common_steps}, lemmas.Iterator.{items_from_drains}}
+use Rattle.std.proofs.{lemmas.Iterator.Consumers.{YieldsList-from_first}, lemmas.List.{places, same_lists, map-append}}
 use Rattle.std.proofs.lemmas.List.Sums.{fold-append}
-use Rattle.std.proofs.lemmas.List.{map-append}
-use Rattle.iref_grammar.specs.declared.context.PathContext.{PathContext}
-use Rattle.iref_grammar.specs.Rules.{Text}
-use Rattle.iref_grammar.specs.PathValue.{PathValue, read_path}
+use Rattle.std.specs.{List.{splice, slice_range}, Iterator.{Drains, YieldsFirstBy}}
+use Rattle.iref_grammar.specs.{declared.context.PathContext.{PathContext}, Rules.{Text}}
+use Rattle.iref_grammar.specs.{PathValue.{PathValue, read_path}, Contexts.{alone}}
 use Rattle.iref_grammar.proofs.PathLemmas.{read_path-reads}
 use Rattle.iref_model.specs.NormalList.{is_name, ends_in_dots}
 use Rattle.iref_model.specs.PathSteps.{lazy_pushed, lazy_appended, followed, pushed, closed_path, appended, joined, from_segments}
 use Rattle.iref_model.proofs.ItemLemmas.{ends-last}
 use Rattle.iref_component.specs.declared.path_mut.PathMut.{PathMut}
-use Rattle.iref_grammar.specs.Contexts.{alone}
 use Rattle.iref_component.specs.PathEdits.{edited_bytes, path_mut_context, path_mut_text, path_mut_value, IsEditorOf, BecomesPath, IsUnchanged}
 use Rattle.iref_component.proofs.PathEditLemmas.{slice_all}
 

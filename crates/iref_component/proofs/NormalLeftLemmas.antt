@@ -1,15 +1,11 @@
 -- The parts of what is left of a normal list.
 use Rattle.std.proofs.Common.{◌≡◌, ℕ, ◌-◌, ◌≤◌, List, [], ◌∷◌, ◌++◌, ap, append_assoc, arith, length, length-append, Option, None, Some, sym, take, ◌∙◌}
-use Rattle.std.specs.Borrow.{Bor}
-use Rattle.std.specs.Iterator.{YieldsFirstBy, YieldsLastBy}
-use Rattle.iref_path.specs.Pieces.{text_at}
 use Rattle.std.proofs.lemmas.List.{append-nil, take-append-drop}
-use Rattle.iref_grammar.specs.Rules.{Text}
-use Rattle.iref_path.specs.NormalItems.{normal_left}
-use Rattle.iref_path.specs.StepsBetween.{last_ones}
+use Rattle.std.specs.{Borrow.{Bor}, Iterator.{YieldsFirstBy, YieldsLastBy}}
+use Rattle.iref_path.specs.{Pieces.{text_at}, NormalItems.{normal_left}, StepsBetween.{last_ones}}
 use Rattle.iref_path.specs.declared.normal_items.NormalItems.{NormalItems}
-use Rattle.iref_component.specs.NormalLeft.{IsPart, left_of, parts_left}
-use Rattle.iref_component.specs.declared.normal.left.Left.{Left}
+use Rattle.iref_grammar.specs.Rules.{Text}
+use Rattle.iref_component.specs.{NormalLeft.{IsPart, left_of, parts_left}, declared.normal.left.Left.{Left}}
 
 -- a part is put before the others
 parts_left-push : (parts : List NormalItems) (part : NormalItems) → parts_left (parts ++ part ∷ []) ≡ normal_left part ++ parts_left parts

@@ -1,22 +1,15 @@
 -- The text that an edit leaves.
-use Rattle.std.proofs.Common.{true, ◌≡◌, ℕ, ◌+◌, [], length, sym, ap, ◌∙◌, arith}
-use Rattle.std.proofs.lemmas.Grind.{common_steps}
+use Rattle.std.proofs.{Common.{true, ◌≡◌, ℕ, ◌+◌, [], length, sym, ap, ◌∙◌, arith}, lemmas.Grind.{common_steps}}
 use Rattle.std.proofs.lemmas.List.{drop_all, take_all}
 use Rattle.std.specs.List.{splice, slice_range}
-use Rattle.iref_grammar.specs.declared.context.PathContext.{PathContext}
-use Rattle.iref_grammar.specs.Rules.{Text}
-use Rattle.iref_grammar.specs.Characters.{AreAboveAscii, CharTests}
-use Rattle.iref_grammar.specs.Contexts.{is_path_in}
-use Rattle.iref_grammar.specs.Tests.{is_path}
-use Rattle.iref_grammar.proofs.TextLemmas.{first_of_both}
-use Rattle.iref_grammar.proofs.PathLemmas.{read_path-reads}
-use Rattle.iref_model.specs.DotSegments.{RemovesDotSegments}
-use Rattle.iref_model.specs.PathSteps.{normalized}
-use Rattle.iref_model.proofs.RewritingLemmas.{path_removes_dot_segments}
-use Rattle.iref_path.specs.Rewriting.{rewritten}
-use Rattle.iref_path.proofs.SpellLemmas.{normalized-in_context}
+use Rattle.iref_grammar.specs.{declared.context.PathContext.{PathContext}, Rules.{Text}}
+use Rattle.iref_grammar.specs.{Characters.{AreAboveAscii, CharTests}, Contexts.{is_path_in}, Tests.{is_path}}
 use Rattle.iref_grammar.specs.PathValue.{PathValue, read_path, spell_path}
-use Rattle.iref_path.specs.PathParts.{is_path_after, StepsTo}
+use Rattle.iref_grammar.proofs.{TextLemmas.{first_of_both}, PathLemmas.{read_path-reads}}
+use Rattle.iref_model.specs.{DotSegments.{RemovesDotSegments}, PathSteps.{normalized}}
+use Rattle.iref_model.proofs.RewritingLemmas.{path_removes_dot_segments}
+use Rattle.iref_path.specs.{Rewriting.{rewritten}, PathParts.{is_path_after, StepsTo}}
+use Rattle.iref_path.proofs.SpellLemmas.{normalized-in_context}
 
 -- all of a text replaced
 pub splice_all : (old text : Text) (start end : ℕ) → start ≡ 0 → end ≡ length old → splice old start end text ≡ text

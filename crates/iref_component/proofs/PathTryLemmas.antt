@@ -1,14 +1,9 @@
 -- What an edit by texts of an iterator makes where its last step is to close the path.
 use Rattle.std.proofs.Common.{List, true, Option, None, Result, Ok, Err, MatchResult, ◌≡◌, refl}
-use Rattle.std.specs.Borrow.{Bor}
-use Rattle.std.specs.Iterator.{Drains}
-use Rattle.std.specs.List.{All}
-use Rattle.std.specs.Result.{result_or}
-use Rattle.iref_grammar.specs.Characters.{CharTests}
-use Rattle.iref_grammar.specs.Rules.{Text}
+use Rattle.std.specs.{Borrow.{Bor}, Iterator.{Drains}, List.{All}, Result.{result_or}}
+use Rattle.iref_grammar.specs.{Characters.{CharTests}, Rules.{Text}}
 use Rattle.iref_fault.specs.declared.edit.TryError.TheVariants.{Memory}
-use Rattle.iref_component.specs.Appends.{IsSegmentText, item_texts, ListEdit, TriesAppends}
-use Rattle.iref_component.specs.PathEdits.{PathStep}
+use Rattle.iref_component.specs.{Appends.{IsSegmentText, item_texts, ListEdit, TriesAppends}, PathEdits.{PathStep}}
 
 -- all texts were taken, and the path is closed if there is memory for it
 pub tries_to_close : {U S V F : Type 0} (edit : ListEdit) (set : CharTests) (becomes : U → S → Type 0) (steps : S → Option (Bor Text) → S → Type 0) (source : U) (iterator : S) (items : List (Bor Text)) (Becomes : PathStep → Type 0) (result : Result V F)

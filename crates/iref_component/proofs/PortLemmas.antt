@@ -1,14 +1,10 @@
 -- Ports as numbers of a type.
-use Rattle.std.proofs.Common.{◌≡◌, ℕ, ◌<◌, ◌^◌, length, true, arith}
-use Rattle.std.specs.Prelude.{Result, Ok, MatchResult, IsErrAnd}
-use Rattle.std.specs.Str.Parse.{ParsesUnsigned}
-use Rattle.std.proofs.lemmas.Str.Parse.{parse_digits}
+use Rattle.std.proofs.{Common.{◌≡◌, ℕ, ◌<◌, ◌^◌, length, true, arith}, lemmas.Str.Parse.{parse_digits}}
 use Rattle.std.proofs.lemmas.Bool.Decides.{nat_tests}
-use Rattle.iref_grammar.specs.Rules.{Text}
-use Rattle.iref_grammar.specs.Tests.{is_port}
+use Rattle.std.specs.{Prelude.{Result, Ok, MatchResult, IsErrAnd}, Str.Parse.{ParsesUnsigned}}
+use Rattle.iref_grammar.specs.{Rules.{Text}, Tests.{is_port}}
 use Rattle.iref_component.specs.Ports.{port_number}
-use Rattle.iref_fault.specs.declared.port.PortError.{PortError}
-use Rattle.iref_fault.specs.declared.port.PortError.TheVariants.{OutOfRange}
+use Rattle.iref_fault.specs.{declared.port.PortError.{PortError}, declared.port.PortError.TheVariants.{OutOfRange}}
 use Rattle.iref_model.proofs.PortNumberLemmas.{digits_of_ports, value_of_digits}
 
 -- the number that is read of digits

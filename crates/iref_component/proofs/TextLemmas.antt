@@ -1,7 +1,6 @@
 -- Texts of a rule as records.
 use mathlib.Core.HLevel.{is_prop→PathP}
-use Rattle.std.proofs.Common.{◌≡◌, true}
-use Rattle.std.proofs.Math.Bool.{Bool-set}
+use Rattle.std.proofs.{Common.{◌≡◌, true}, Math.Bool.{Bool-set}}
 use Rattle.iref_component.specs.declared.rule_text.RuleText.{RuleText}
 
 -- two texts of a rule are one where what they are kept in is one

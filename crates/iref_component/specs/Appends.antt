@@ -1,22 +1,13 @@
 -- What an edit by many segments takes of an iterator, and what it makes of a path.
 use Rattle.std.specs.Prelude.{Bool, false, true, List, Option, Result, ◌≡◌, fold, map, IfNone, MatchOption, MatchResult}
-use Rattle.std.specs.Borrow.{Bor}
-use Rattle.std.specs.Iterator.{YieldsThen, Drains}
-use Rattle.std.specs.List.{All}
-use Rattle.iref_grammar.specs.declared.context.PathContext.{PathContext}
-use Rattle.iref_grammar.specs.Characters.{CharTests}
-use Rattle.iref_grammar.specs.Grammar.{IsSegment}
-use Rattle.iref_grammar.specs.PathValue.{PathValue}
-use Rattle.iref_grammar.specs.Rules.{Text, InUtf8}
-use Rattle.iref_model.specs.NormalList.{ends_in_dots}
-use Rattle.iref_model.specs.PathSteps.{appended, followed, lazy_appended}
-use Rattle.iref_component.specs.declared.rule_text.RuleText.{RuleText}
-use Rattle.iref_component.specs.Components.{text_of}
-use Rattle.iref_fault.specs.Tried.{InvalidIfOutside}
-use Rattle.iref_fault.specs.declared.edit.TryError.{TryError}
+use Rattle.std.specs.{Borrow.{Bor}, Iterator.{YieldsThen, Drains}, List.{All}}
+use Rattle.iref_grammar.specs.{declared.context.PathContext.{PathContext}, Characters.{CharTests}, Grammar.{IsSegment}}
+use Rattle.iref_grammar.specs.{PathValue.{PathValue}, Rules.{Text, InUtf8}}
+use Rattle.iref_model.specs.{NormalList.{ends_in_dots}, PathSteps.{appended, followed, lazy_appended}}
+use Rattle.iref_component.specs.{declared.rule_text.RuleText.{RuleText}, Components.{text_of}, PathEdits.{PathStep}}
+use Rattle.iref_fault.specs.{Tried.{InvalidIfOutside}, declared.edit.TryError.{TryError}}
 use Rattle.iref_fault.specs.declared.edit.TryError.TheVariants.{Memory}
 use Rattle.iref_fault.specs.declared.invalid.InvalidSegment.{InvalidSegment}
-use Rattle.iref_component.specs.PathEdits.{PathStep}
 
 -- of the iterator that is made of the source it takes all items, up to the first None, and this is true of them
 abbrev pub TakesAll : {U S X : Type 0} → (U → S → Type 0) → (S → Option X → S → Type 0) → U → (List X → Type 0) → Type 0

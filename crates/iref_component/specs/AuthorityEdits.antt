@@ -1,10 +1,7 @@
 -- What callers see of an editor of an authority, and what an edit does.
 use Rattle.std.specs.Prelude.{ℕ, ◌≡◌, ◌+◌, ◌≤◌, Option, Some, length, slice_range, Result, MatchResult}
-use Rattle.std.specs.Borrow.{GName}
-use Rattle.std.specs.List.{splice}
-use Rattle.std.specs.declared.ops.Range.{Range}
-use Rattle.iref_grammar.specs.Rules.{Text}
-use Rattle.iref_grammar.specs.Authority.{AuthorityValue, spell_authority, read_authority}
+use Rattle.std.specs.{Borrow.{GName}, List.{splice}, declared.ops.Range.{Range}}
+use Rattle.iref_grammar.specs.{Rules.{Text}, Authority.{AuthorityValue, spell_authority, read_authority}}
 use Rattle.iref_component.specs.declared.authority_mut.AuthorityMut.{AuthorityMut}
 
 -- the name of the reference that it holds

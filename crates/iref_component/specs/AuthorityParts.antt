@@ -2,8 +2,7 @@
 use Rattle.std.specs.Prelude.{option_map}
 use Rattle.iref_grammar.specs.Authority.{AuthorityValue}
 use Rattle.iref_model.specs.AuthorityKey.{authority_key}
-use Rattle.iref_component.specs.Components.{text_of}
-use Rattle.iref_component.specs.declared.authority_parts.AuthorityParts.{AuthorityParts}
+use Rattle.iref_component.specs.{Components.{text_of}, declared.authority_parts.AuthorityParts.{AuthorityParts}}
 
 abbrev pub parts_value : {C : _} {c : _} → AuthorityParts C c → AuthorityValue
 parts_value p = record { user_info = option_map text_of p.user_info; host = text_of p.host; port = option_map text_of p.port }

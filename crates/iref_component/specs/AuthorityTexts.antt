@@ -1,9 +1,7 @@
 -- The text of an authority that is edited in place.
-use Rattle.std.specs.Prelude.{ℕ, ◌≡◌, true, length}
-use Rattle.std.specs.Str.{IsUtf8}
+use Rattle.std.specs.{Prelude.{ℕ, ◌≡◌, true, length}, Str.{IsUtf8}}
 use Rattle.std.proofs.Props.{props}
-use Rattle.iref_grammar.specs.Characters.{CharTests, AreAboveAscii}
-use Rattle.iref_grammar.specs.Rules.{Text}
+use Rattle.iref_grammar.specs.{Characters.{CharTests, AreAboveAscii}, Rules.{Text}}
 use Rattle.iref_grammar.specs.Authority.{AuthorityValue, spell_authority, read_authority, is_authority}
 use Rattle.iref_grammar.proofs.AuthorityRuleLemmas.{Decides-is_authority}
 

@@ -1,10 +1,7 @@
 -- Paths in a range of bytes.
 use Rattle.std.specs.Prelude.{ℕ, ◌≡◌, true, take, slice_range}
-use Rattle.iref_grammar.specs.Characters.{CharTests}
-use Rattle.iref_grammar.specs.Rules.{Text}
-use Rattle.iref_grammar.specs.Tests.{is_path}
-use Rattle.iref_grammar.specs.Contexts.{context_from, follows_authority}
-use Rattle.iref_grammar.specs.PathValue.{read_path}
+use Rattle.iref_grammar.specs.{Characters.{CharTests}, Rules.{Text}, Tests.{is_path}}
+use Rattle.iref_grammar.specs.{Contexts.{context_from, follows_authority}, PathValue.{read_path}}
 
 -- after an authority, a path in the range is absolute or empty
 abbrev pub MayFollow : CharTests → Text → ℕ → ℕ → Type 0

@@ -1,24 +1,15 @@
 -- What texts are compared by, and what it is that a type compares by it.
-use Rattle.std.specs.Prelude.{◌≡◌, true, ◌↔◌}
-use Rattle.std.specs.BTreeMap.Lent.{OrdMembers}
-use Rattle.std.specs.Cmp.{IsTotalOrder}
-use Rattle.std.specs.Cmp.Lexicographic.{nat_list_cmp_total}
-use Rattle.std.specs.Hash.{HashWrites}
-use Rattle.std.specs.HashMap.Lent.{HashMembers}
-use Rattle.std.specs.Ordering.{is_eq}
-use Rattle.std.specs.declared.cmp.Ordering.{Ordering}
-use Rattle.iref_grammar.specs.Authority.{AuthorityValue, read_authority}
-use Rattle.iref_grammar.specs.Keys.{text_order}
-use Rattle.iref_grammar.specs.PathValue.{PathValue, read_path}
-use Rattle.iref_grammar.specs.Rules.{Text}
+use Rattle.std.specs.{Prelude.{◌≡◌, true, ◌↔◌}, BTreeMap.Lent.{OrdMembers}, Cmp.{IsTotalOrder}}
+use Rattle.std.specs.{Cmp.Lexicographic.{nat_list_cmp_total}, Hash.{HashWrites}, HashMap.Lent.{HashMembers}}
+use Rattle.std.specs.{Ordering.{is_eq}, declared.cmp.Ordering.{Ordering}}
+use Rattle.iref_grammar.specs.{Authority.{AuthorityValue, read_authority}, Keys.{text_order}}
+use Rattle.iref_grammar.specs.{PathValue.{PathValue, read_path}, Rules.{Text}}
 use Rattle.iref_model.specs.AuthorityKey.{authority_key, authority_key_cmp, authority_keys_total}
 use Rattle.iref_model.specs.PathKey.{path_key, path_key_cmp, path_keys_total}
 use Rattle.iref_model.proofs.KeyOrderLemmas.{authority_keys_separate, path_keys_separate, texts_separate}
 use Rattle.iref_splice.specs.Fed.{IsSelfDelimiting}
-use Rattle.iref_canonical.specs.Hashed.{fed_lone_path, IsPathKey}
-use Rattle.iref_canonical.specs.HashedParts.{fed_authority, fed_part, IsAny}
-use Rattle.iref_canonical.proofs.HashedLemmas.{path-delimits}
-use Rattle.iref_canonical.proofs.HashedPartLemmas.{authority-delimits, part-delimits}
+use Rattle.iref_canonical.specs.{Hashed.{fed_lone_path, IsPathKey}, HashedParts.{fed_authority, fed_part, IsAny}}
+use Rattle.iref_canonical.proofs.{HashedLemmas.{path-delimits}, HashedPartLemmas.{authority-delimits, part-delimits}}
 
 -- the key of a text, the order of keys, and what is hashed of a key; the order is total, keys that differ differ in the order, and
 -- keys of readable texts that differ differ in the bytes that are hashed

@@ -1,6 +1,5 @@
 -- What is left of a normal list that is given from both ends.
-use Rattle.std.specs.Prelude.{◌<◌, ◌≤◌, List, [], ◌∷◌, ◌++◌, length}
-use Rattle.std.specs.List.{All}
+use Rattle.std.specs.{Prelude.{◌<◌, ◌≤◌, List, [], ◌∷◌, ◌++◌, length}, List.{All}}
 use Rattle.iref_grammar.specs.Rules.{Text}
 use Rattle.iref_path.specs.NormalItems.{IsPlain, IsSound, normal_left}
 use Rattle.iref_path.specs.declared.normal_items.NormalItems.{NormalItems}

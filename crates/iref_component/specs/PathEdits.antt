@@ -1,15 +1,9 @@
 -- What callers see of an editor of a path, and what an edit does.
-use Rattle.std.specs.Borrow.{GName}
-use Rattle.std.specs.Prelude.{ℕ, ◌≡◌, ◌+◌, length, slice_range, Result, MatchResult}
-use Rattle.std.specs.List.{splice}
-use Rattle.iref_grammar.specs.declared.context.PathContext.{PathContext}
-use Rattle.iref_grammar.specs.Contexts.{alone}
-use Rattle.iref_grammar.specs.Rules.{Text}
+use Rattle.std.specs.{Borrow.{GName}, Prelude.{ℕ, ◌≡◌, ◌+◌, length, slice_range, Result, MatchResult}, List.{splice}}
+use Rattle.iref_grammar.specs.{declared.context.PathContext.{PathContext}, Contexts.{alone}, Rules.{Text}}
 use Rattle.iref_grammar.specs.PathValue.{PathValue, read_path, spell_path}
-use Rattle.iref_component.specs.declared.path_mut.PathMut.{PathMut}
-use Rattle.iref_component.specs.declared.rule_text.RuleText.{RuleText}
-use Rattle.iref_component.specs.Components.{text_of}
-use Rattle.iref_component.specs.Paths.{path_value}
+use Rattle.iref_component.specs.{declared.path_mut.PathMut.{PathMut}, declared.rule_text.RuleText.{RuleText}}
+use Rattle.iref_component.specs.{Components.{text_of}, Paths.{path_value}}
 
 -- the name of the reference that it holds
 abbrev pub borrowed_name : {C : _} {T : _} {c : _} {t : _} → PathMut C T c t → GName

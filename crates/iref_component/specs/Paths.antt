@@ -1,9 +1,7 @@
 -- What callers see of paths and of their segments.
 use Rattle.std.specs.Prelude.{List}
-use Rattle.iref_grammar.specs.PathValue.{PathValue, read_path}
-use Rattle.iref_grammar.specs.Rules.{Text}
-use Rattle.iref_component.specs.Components.{text_of}
-use Rattle.iref_component.specs.declared.segments.Segments.{Segments}
+use Rattle.iref_grammar.specs.{PathValue.{PathValue, read_path}, Rules.{Text}}
+use Rattle.iref_component.specs.{Components.{text_of}, declared.segments.Segments.{Segments}}
 use Rattle.iref_component.specs.declared.rule_text.RuleText.{RuleText}
 use Rattle.iref_path.specs.Pieces.{pieces_if_some}
 

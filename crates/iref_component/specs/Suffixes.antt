@@ -2,9 +2,7 @@
 use Rattle.std.specs.Prelude.{◌≡◌, Option, option_map}
 use Rattle.iref_grammar.specs.PathValue.{PathValue, spell_path}
 use Rattle.iref_model.specs.PathSuffix.{path_suffix}
-use Rattle.iref_component.specs.Components.{text_of}
-use Rattle.iref_component.specs.Paths.{path_value}
-use Rattle.iref_component.specs.declared.rule_text.RuleText.{RuleText}
+use Rattle.iref_component.specs.{Components.{text_of}, Paths.{path_value}, declared.rule_text.RuleText.{RuleText}}
 
 -- there is an owned path exactly where there is such a rest; its text spells that, and is read as it
 pub record SpellsSuffix {S R C K s r k c : _} (prefix path : PathValue) (found : Option (RuleText S R C K s r k c)) : Type 0 where

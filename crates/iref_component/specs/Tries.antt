@@ -1,10 +1,7 @@
 -- What the result of an edit by a text says of the text.
-use Rattle.std.specs.Borrow.{Bor}
-use Rattle.std.specs.Prelude.{◌≡◌, Option, Some, IfSome, IsNone, IsOk, Result}
-use Rattle.std.specs.Option.{option_copied}
+use Rattle.std.specs.{Borrow.{Bor}, Prelude.{◌≡◌, Option, Some, IfSome, IsNone, IsOk, Result}, Option.{option_copied}}
 use Rattle.iref_grammar.specs.Rules.{Text, InUtf8}
-use Rattle.iref_fault.specs.declared.edit.TryError.{TryError}
-use Rattle.iref_fault.specs.Tried.{TellsInvalid}
+use Rattle.iref_fault.specs.{declared.edit.TryError.{TryError}, Tried.{TellsInvalid}}
 
 -- it is refused as invalid exactly where the text is not in its rule, and the error holds the text
 abbrev pub Tests : {V E : Type 0} → (Text → Type 0) → Bor Text → (E → Bor Text) → Result V (TryError E) → Type 0

@@ -1,9 +1,7 @@
 -- Where a path stands that is a whole text.
 use Rattle.std.specs.Prelude.{ℕ, ◌≡◌, true, length}
 use Rattle.std.proofs.Props.{props}
-use Rattle.iref_grammar.specs.declared.context.PathContext.{PathContext}
-use Rattle.iref_grammar.specs.Characters.{CharTests}
-use Rattle.iref_grammar.specs.Rules.{Text}
+use Rattle.iref_grammar.specs.{declared.context.PathContext.{PathContext}, Characters.{CharTests}, Rules.{Text}}
 use Rattle.iref_path.specs.PathParts.{is_path_after}
 
 -- the path is all of the text, and may stand in the context

@@ -1,24 +1,15 @@
 -- What stands in a range of an index, and what is added to the index.
 use Rattle.std.proofs.Common.{◌≡◌, Bool, true, false, cond, List, [], ◌∷◌, refl, sym, ◌∙◌, ap, map}
-use Rattle.std.specs.Prelude.{Some, is_some}
-use Rattle.std.specs.declared.cmp.Ordering.{Ordering}
+use Rattle.std.proofs.lemmas.Map.Lookups.{exact_bytes}
+use Rattle.std.specs.{Prelude.{Some, is_some}, declared.cmp.Ordering.{Ordering}}
 use Rattle.std.specs.declared.cmp.Ordering.TheVariants.{Less, Equal, Greater}
 use Rattle.std.specs.declared.ops.Bound.TheVariants.{Excluded, Included}
-use Rattle.std.specs.BTreeMap.{BTreeMap, get, insert_entry, Updates}
-use Rattle.std.specs.BTreeMap.Range.{entries_between, range_contains}
-use Rattle.std.specs.List.{AllByRecursion}
-use Rattle.std.specs.Map.{values_of}
-use Rattle.std.specs.Ordering.{is_eq, match_ordering}
-use Rattle.std.proofs.lemmas.Map.Lookups.{exact_bytes}
-use Rattle.iref.specs.Key.{key}
-use Rattle.iref.specs.Keys.{text_order}
-use Rattle.iref.specs.Reference.{ReferenceValue}
-use Rattle.iref.specs.ReferenceSuffix.{reference_suffix}
+use Rattle.std.specs.{BTreeMap.{BTreeMap, get, insert_entry, Updates}, BTreeMap.Range.{entries_between, range_contains}}
+use Rattle.std.specs.{List.{AllByRecursion}, Map.{values_of}, Ordering.{is_eq, match_ordering}}
+use Rattle.iref.specs.{Key.{key}, Keys.{text_order}, Reference.{ReferenceValue}, ReferenceSuffix.{reference_suffix}}
 use Rattle.iref.specs.Rules.{Text}
-use Rattle.iref_canonical.specs.SortKey.{sort_key}
-use Rattle.iref_canonical.specs.SortPrefix.{sort_prefix, sort_prefix_end}
-use Rattle.iref_canonical.proofs.SortKeyLemmas.{text_order-sort_key}
-use Rattle.iref_canonical.proofs.SortPrefixLemmas.{below_in_map}
+use Rattle.iref_canonical.specs.{SortKey.{sort_key}, SortPrefix.{sort_prefix, sort_prefix_end}}
+use Rattle.iref_canonical.proofs.{SortKeyLemmas.{text_order-sort_key}, SortPrefixLemmas.{below_in_map}}
 use Rattle.iref_examples.specs.Below.{all_below, HasAdded}
 
 -- one more element, which passes both tests or neither

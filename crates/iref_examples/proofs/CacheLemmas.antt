@@ -1,18 +1,10 @@
 -- What a map over canonical texts has, once a value is put.
-use Rattle.std.proofs.Common.{cond, refl, sym, ◌∙◌, ap, subst, inl, inr}
-use Rattle.std.proofs.lemmas.Bool.{cases_Bool, cond-false}
-use Rattle.std.proofs.lemmas.Slice.Eq.{bytes_eq-Decides}
-use Rattle.std.proofs.lemmas.Map.Text.{hash_map_updates_text}
+use Rattle.std.proofs.{Common.{cond, refl, sym, ◌∙◌, ap, subst, inl, inr}, lemmas.Bool.{cases_Bool, cond-false}}
+use Rattle.std.proofs.{lemmas.Slice.Eq.{bytes_eq-Decides}, lemmas.Map.Text.{hash_map_updates_text}}
 use Rattle.std.specs.Prelude.{◌≡◌, List, [], ◌∷◌, map, IsSome, Some, String, string_bytes}
-use Rattle.std.specs.HashMap.{HashMap, Updates, get_by_text}
-use Rattle.std.specs.Map.{lookup}
-use Rattle.std.specs.Str.{bytes_eq}
-use Rattle.std.specs.String.{string_eq}
-use Rattle.iref.specs.Canonical.{canonical_text}
-use Rattle.iref.specs.CanonicalTexts.{IsCanonicalTextOf}
-use Rattle.iref.specs.Characters.{uri_above_ascii, uri_chars}
-use Rattle.iref.specs.Key.{key}
-use Rattle.iref.specs.Reference.{ReferenceValue, read_reference}
+use Rattle.std.specs.{HashMap.{HashMap, Updates, get_by_text}, Map.{lookup}, Str.{bytes_eq}, String.{string_eq}}
+use Rattle.iref.specs.{Canonical.{canonical_text}, CanonicalTexts.{IsCanonicalTextOf}}
+use Rattle.iref.specs.{Characters.{uri_above_ascii, uri_chars}, Key.{key}, Reference.{ReferenceValue, read_reference}}
 use Rattle.iref.specs.Rules.{Text}
 use Rattle.iref_canonical.proofs.CanonicalTextLemmas.{canonical_text-read, key_kept}
 use Rattle.iref_reference.proofs.CanonicalLemmas.{tied_by_texts}

@@ -1,14 +1,11 @@
 -- A text with a component outside its rule is no reference.
 use Rattle.std.proofs.Common.{◌≡◌, subst, sym}
-use Rattle.std.specs.Prelude.{Option, Some, None, Result, Ok, Err, IfSome, IsSomeAnd, MatchResult}
-use Rattle.std.specs.Borrow.{Bor}
+use Rattle.std.specs.{Prelude.{Option, Some, None, Result, Ok, Err, IfSome, IsSomeAnd, MatchResult}, Borrow.{Bor}}
 use Rattle.std.specs.Option.{option_copied}
-use Rattle.iref.specs.Characters.{iri_above_ascii, iri_chars}
-use Rattle.iref.specs.ComponentRules.{AreInRules}
+use Rattle.iref.specs.{Characters.{iri_above_ascii, iri_chars}, ComponentRules.{AreInRules}}
 use Rattle.iref.specs.ComponentTexts.{ComponentTexts, read_components, spell_components}
 use Rattle.iref.specs.Grammar.{IsAuthority, IsFragment, IsPath, IsQuery, IsScheme, IsUriReference}
-use Rattle.iref.specs.Reference.{read_reference}
-use Rattle.iref.specs.Rules.{InUtf8, Rule, Text}
+use Rattle.iref.specs.{Reference.{read_reference}, Rules.{InUtf8, Rule, Text}}
 use Rattle.iref.proofs.ComponentRuleLemmas.{in_rules, reference_from_rules}
 use Rattle.iref_examples.specs.Components.{IsFirstOutside, IsInside, IsOutside}
 use Rattle.iref_examples.specs.declared.validator.Component.{Component}

@@ -1,10 +1,8 @@
 -- Links rewritten relative to their page.
 use Rattle.std.proofs.Common.{◌≡◌, true, subst}
 use Rattle.std.specs.Prelude.{IfOk, Result, Ok, Err, is_some}
-use Rattle.iref.specs.Key.{AreAlike}
-use Rattle.iref.specs.Reference.{ReferenceValue}
-use Rattle.iref.specs.Relatives.{ClimbsNoMore, LeadsToTarget, WritesPathAlone}
-use Rattle.iref.specs.Resolution.{resolved}
+use Rattle.iref.specs.{Key.{AreAlike}, Reference.{ReferenceValue}}
+use Rattle.iref.specs.{Relatives.{ClimbsNoMore, LeadsToTarget, WritesPathAlone}, Resolution.{resolved}}
 use Rattle.iref_examples.specs.Links.{IsRelinked}
 
 -- what leads from the page to what the link resolves to

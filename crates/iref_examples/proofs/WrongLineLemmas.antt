@@ -1,20 +1,11 @@
 -- The lines that are wrong, told one after the other.
 use Rattle.std.proofs.Common.{◌≡◌, ℕ, ◌+◌, List, [], ◌∷◌, ◌++◌, refl, sym, ◌∙◌, ap, subst, map, append_assoc}
-use Rattle.std.proofs.lemmas.List.{append-nil, map-append}
-use Rattle.std.proofs.lemmas.Iterator.Splits.{YieldsList-from_lines}
-use Rattle.std.specs.Prelude.{Some, None, option_map}
-use Rattle.std.specs.Borrow.{Bor}
-use Rattle.std.specs.Iterator.{AlwaysYields}
-use Rattle.std.specs.Option.{option_to_list}
-use Rattle.std.specs.Str.Iter.{lines_rest, lines_steps}
-use Rattle.std.specs.Str.Lines.{lines}
-use Rattle.std.specs.declared.str.Lines.{Lines}
-use Rattle.iref.specs.BytePlaces.{fault_value}
-use Rattle.iref.specs.Characters.{iri_chars}
-use Rattle.iref.specs.Faults.{FaultValue, fault_of_reference}
+use Rattle.std.proofs.{lemmas.List.{append-nil, map-append}, lemmas.Iterator.Splits.{YieldsList-from_lines}}
+use Rattle.std.specs.{Prelude.{Some, None, option_map}, Borrow.{Bor}, Iterator.{AlwaysYields}, Option.{option_to_list}}
+use Rattle.std.specs.{Str.Iter.{lines_rest, lines_steps}, Str.Lines.{lines}, declared.str.Lines.{Lines}}
+use Rattle.iref.specs.{BytePlaces.{fault_value}, Characters.{iri_chars}, Faults.{FaultValue, fault_of_reference}}
 use Rattle.iref.specs.Rules.{Text}
-use Rattle.iref_examples.specs.WrongLines.{line_and_fault, wrong_lines}
-use Rattle.iref_examples.specs.declared.wrong_lines.WrongLine.{WrongLine}
+use Rattle.iref_examples.specs.{WrongLines.{line_and_fault, wrong_lines}, declared.wrong_lines.WrongLine.{WrongLine}}
 
 -- what is told of the lines that were read, of which this was the last number, and of those that are left, is what is told of all
 pub record AreTold (text : Text) (told : List (ℕ × FaultValue)) (number : ℕ) (left : Lines) : Type 0 where

@@ -1,13 +1,8 @@
 -- URIs in the order of their sort keys, and those of them that are below another; `value` is what a URI is read as.
-use Rattle.std.specs.Prelude.{◌≡◌, List, Some, is_some, if◌then◌else◌}
-use Rattle.std.specs.BTreeMap.{BTreeMap, get}
+use Rattle.std.specs.{Prelude.{◌≡◌, List, Some, is_some, if◌then◌else◌}, BTreeMap.{BTreeMap, get}}
 use Rattle.std.specs.List.{AllByRecursion, filter}
-use Rattle.iref.specs.Key.{are_alike, key}
-use Rattle.iref.specs.Keys.{text_order}
-use Rattle.iref.specs.Reference.{ReferenceValue}
-use Rattle.iref.specs.ReferenceSuffix.{reference_suffix}
-use Rattle.iref.specs.Rules.{Text}
-use Rattle.iref.specs.SortKey.{sort_key}
+use Rattle.iref.specs.{Key.{are_alike, key}, Keys.{text_order}, Reference.{ReferenceValue}}
+use Rattle.iref.specs.{ReferenceSuffix.{reference_suffix}, Rules.{Text}, SortKey.{sort_key}}
 
 -- those that have a suffix after the first, in the order of the list
 abbrev pub all_below : ReferenceValue → List ReferenceValue → List ReferenceValue

@@ -1,13 +1,8 @@
 -- What a cache has for each URI.
 use Rattle.std.specs.Prelude.{◌≡◌, List, map, IsSome, Option, Some, String, string_bytes, if◌then◌else◌}
-use Rattle.std.specs.HashMap.{HashMap}
-use Rattle.std.specs.Map.{lookup}
-use Rattle.std.specs.Str.{bytes_eq}
-use Rattle.iref.specs.Canonical.{canonical_text}
-use Rattle.iref.specs.Characters.{uri_chars}
-use Rattle.iref.specs.Key.{are_alike, key}
-use Rattle.iref.specs.Reference.{IsReadable, ReferenceValue, read_reference}
-use Rattle.iref.specs.Rules.{Text}
+use Rattle.std.specs.{HashMap.{HashMap}, Map.{lookup}, Str.{bytes_eq}}
+use Rattle.iref.specs.{Canonical.{canonical_text}, Characters.{uri_chars}, Key.{are_alike, key}}
+use Rattle.iref.specs.{Reference.{IsReadable, ReferenceValue, read_reference}, Rules.{Text}}
 
 -- the texts of a map, each with its value
 abbrev pub entries_of : {A V S : Type 0} → HashMap (String A) V S → List (Text × V)

@@ -1,10 +1,7 @@
 -- Which component of a text is the first outside its rule.
-use Rattle.std.specs.Prelude.{◌≡◌, Option, Result, Ok, Err, IfSome, IsSomeAnd, MatchResult}
-use Rattle.std.specs.Borrow.{Bor}
-use Rattle.iref.specs.Characters.{iri_chars}
-use Rattle.iref.specs.ComponentTexts.{ComponentTexts}
-use Rattle.iref.specs.Grammar.{IsAuthority, IsFragment, IsPath, IsQuery, IsScheme}
-use Rattle.iref.specs.Rules.{InUtf8, Rule, Text}
+use Rattle.std.specs.{Prelude.{◌≡◌, Option, Result, Ok, Err, IfSome, IsSomeAnd, MatchResult}, Borrow.{Bor}}
+use Rattle.iref.specs.{Characters.{iri_chars}, ComponentTexts.{ComponentTexts}}
+use Rattle.iref.specs.{Grammar.{IsAuthority, IsFragment, IsPath, IsQuery, IsScheme}, Rules.{InUtf8, Rule, Text}}
 use Rattle.iref_examples.specs.declared.validator.Component.{Component}
 use Rattle.iref_examples.specs.declared.validator.Component.TheVariants.{Scheme, Authority, Path, Query, Fragment}
 

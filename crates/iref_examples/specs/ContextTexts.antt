@@ -1,11 +1,8 @@
 -- What texts of a JSON-LD document stand for, by a context.
 use Rattle.std.specs.Prelude.{◌≡◌, MatchOption, Bool, false, ◌++◌, Option, Some, None, Result, Ok, Err, codes, option_and_then, if◌then◌else◌}
-use Rattle.iref.specs.Characters.{iri_chars}
-use Rattle.iref.specs.Grammar.{colon}
+use Rattle.iref.specs.{Characters.{iri_chars}, Grammar.{colon}}
 use Rattle.iref.specs.PrefixTable.{PrefixTable, ExpandRefusal, NoColon, UnknownLabel, NotAnIri, expanded, if_iri, get}
-use Rattle.iref.specs.Reference.{is_uri, is_reference}
-use Rattle.iref.specs.Resolutions.{IsResolved}
-use Rattle.iref.specs.Rules.{Text}
+use Rattle.iref.specs.{Reference.{is_uri, is_reference}, Resolutions.{IsResolved}, Rules.{Text}}
 use Rattle.iref.specs.Texts.{after, begins_with}
 
 -- the text, if it is an IRI

@@ -1,11 +1,7 @@
 -- Links rewritten relative to their page, and links to a text.
 use Rattle.std.specs.Prelude.{◌≡◌, ◌⊎◌}
-use Rattle.iref.specs.Characters.{iri_chars}
-use Rattle.iref.specs.Key.{AreAlike}
-use Rattle.iref.specs.Reference.{ReferenceValue}
-use Rattle.iref.specs.Relatives.{ClimbsNoMore, WritesPathAlone}
-use Rattle.iref.specs.Resolution.{resolved}
-use Rattle.iref.specs.Rules.{Text}
+use Rattle.iref.specs.{Characters.{iri_chars}, Key.{AreAlike}, Reference.{ReferenceValue}}
+use Rattle.iref.specs.{Relatives.{ClimbsNoMore, WritesPathAlone}, Resolution.{resolved}, Rules.{Text}}
 use Rattle.iref.specs.Shortest.{NoneLeads, led_text}
 
 -- the answer leads where the link leads; it has neither scheme nor authority where those of the target are the page's and its path

@@ -1,12 +1,8 @@
 -- The lines of a text that are no references, with their numbers and their faults.
-use Rattle.std.specs.Prelude.{ℕ, ◌+◌, List, [], ◌∷◌, ◌++◌, codes, Option, Some, option_map}
-use Rattle.std.specs.Fmt.{decimal, ◌++?◌}
+use Rattle.std.specs.{Prelude.{ℕ, ◌+◌, List, [], ◌∷◌, ◌++◌, codes, Option, Some, option_map}, Fmt.{decimal, ◌++?◌}}
 use Rattle.std.specs.Option.{option_to_list}
-use Rattle.iref.specs.Characters.{iri_chars}
-use Rattle.iref.specs.Rules.{Text}
-use Rattle.iref.specs.BytePlaces.{fault_value}
-use Rattle.iref.specs.Faults.{FaultValue, fault_of_reference}
-use Rattle.iref.specs.Printed.{fault_text}
+use Rattle.iref.specs.{Characters.{iri_chars}, Rules.{Text}, BytePlaces.{fault_value}}
+use Rattle.iref.specs.{Faults.{FaultValue, fault_of_reference}, Printed.{fault_text}}
 use Rattle.iref_examples.specs.declared.wrong_lines.WrongLine.{WrongLine}
 
 -- the number and the fault

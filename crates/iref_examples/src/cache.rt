@@ -1,7 +1,6 @@
 //! A cache over a map of std, whose keys are canonical texts of URIs: two spellings of one URI find
 //! one entry, such as `HTTP://a/%7Eb/./c` and `http://a/~b/c`.
-ghost use Rattle.std.specs.Prelude.{◌≡◌, None, IfOk, IsOk, OnErr, OnOk};
-ghost use Rattle.std.specs.Option.{option_copied};
+ghost use Rattle.std.specs.{Prelude.{◌≡◌, None, IfOk, IsOk, OnErr, OnOk}, Option.{option_copied}};
 ghost use Rattle.iref.specs.{Canonical.{canonical_text}, Key.{key}, Reference.{ReferenceValue}};
 ghost use Rattle.iref.specs.References.{reference_text, reference_value};
 ghost use Rattle.iref_examples.specs.Caches.{found, HasPut};

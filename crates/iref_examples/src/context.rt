@@ -3,8 +3,7 @@
 //! (JSON-LD 1.1 Processing Algorithms and API, section 5.2).
 ghost use Rattle.std.specs.{Prelude.{◌≡◌, Ok, IfOk, IfErr, IfSome, option_map}, String.{string_bytes}};
 ghost use Rattle.iref.specs.{PrefixTable.{compact_text, compacted, expanded}, Prefixes.{RefusesExpand}};
-ghost use Rattle.iref.specs.References.{reference_buf_text, reference_text};
-ghost use Rattle.iref.specs.{Grammar.{colon}, Texts.{after}};
+ghost use Rattle.iref.specs.{References.{reference_buf_text, reference_text}, Grammar.{colon}, Texts.{after}};
 ghost use Rattle.iref_examples.specs.ContextTexts.{begins_with_slashes, by_colon, itself};
 ghost use Rattle.iref_examples.specs.ContextTexts.{itself_or_behind, named, OrResolved, IsLocated};
 

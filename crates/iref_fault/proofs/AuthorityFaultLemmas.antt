@@ -1,13 +1,9 @@
 -- A text is an authority exactly if the pieces of it are in their rules.
 use Rattle.std.proofs.Common.{arith, ◌≡◌, ℕ, ◌+◌, true, false, List, [], ◌∷◌, ◌++◌, ◌⊎◌, inl, inr, refl, sym, ◌∙◌, ap, subst, length, append_assoc}
-use Rattle.std.proofs.Math.Logic.{◌↔◌}
+use Rattle.std.proofs.{Math.Logic.{◌↔◌}, lemmas.Grind.{common_steps}, Math.Bool.{or-true}}
 use Rattle.std.specs.Prelude.{◌==◌, ◌||◌, Option, Some, None, IfSome, is_some, if◌then◌else◌}
-use Rattle.std.specs.Char.{char_set_contains, is_ascii_digit}
-use Rattle.std.specs.List.{AllByRecursion}
-use Rattle.std.proofs.lemmas.Grind.{common_steps}
-use Rattle.std.proofs.Math.Bool.{or-true}
-use Rattle.iref_grammar.specs.Characters.{CharTests, AreAboveAscii}
-use Rattle.iref_grammar.specs.Rules.{Text, InUtf8}
+use Rattle.std.specs.{Char.{char_set_contains, is_ascii_digit}, List.{AllByRecursion}}
+use Rattle.iref_grammar.specs.{Characters.{CharTests, AreAboveAscii}, Rules.{Text, InUtf8}}
 use Rattle.iref_grammar.specs.Grammar.{colon, at_sign, left_bracket, right_bracket, IsUserInfo, IsHost, IsPort, IsAuthority}
 use Rattle.iref_grammar.specs.Tests.{is_port}
 use Rattle.iref_grammar.specs.Texts.{before, after, after_first_char, begins_with, lacks, part_then, then_part}
@@ -15,8 +11,7 @@ use Rattle.iref_grammar.specs.Authority.{spell_authority}
 use Rattle.iref_grammar.proofs.CutLemmas.{cut, before-part, after-part, from_first-lacking}
 use Rattle.iref_grammar.proofs.AuthorityLemmas.{IsPlainHost, IsBracketedHost, delimited_authority}
 use Rattle.iref_grammar.proofs.AuthorityRuleLemmas.{Decides-has_authority_parts, in_utf8-authority}
-use Rattle.iref_grammar.proofs.PartRuleLemmas.{Decides-is_port_bytes}
-use Rattle.iref_grammar.proofs.LackLemmas.{all_lacks}
+use Rattle.iref_grammar.proofs.{PartRuleLemmas.{Decides-is_port_bytes}, LackLemmas.{all_lacks}}
 use Rattle.iref_fault.specs.Places.{PartRule, UserInfo, Port, rule_of}
 use Rattle.iref_fault.specs.Cut.{Piece, piece, piece_if, bracket_host, bracket_port, cut_host, cut_port, host_pieces, authority_pieces}
 use Rattle.iref_fault.specs.FirstFault.{AreInRules}

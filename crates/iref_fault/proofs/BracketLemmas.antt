@@ -1,18 +1,12 @@
 -- The port behind the last `]`, and the host before it.
 use Rattle.std.proofs.Common.{◌≡◌, ◌≢◌, ℕ, ◌<◌, Bool, true, false, [], ◌∷◌, length, refl, sym, ap, ◌∙◌, arith}
-use Rattle.std.specs.Prelude.{◌==◌, ◌||◌, IfSome, Option, Some, None, if◌then◌else◌}
-use Rattle.std.specs.Borrow.{Bor}
-use Rattle.std.specs.Option.{option_copied}
-use Rattle.std.specs.Char.{char_set_contains}
-use Rattle.std.proofs.lemmas.Bool.Decides.{nat_tests}
-use Rattle.std.proofs.lemmas.Option.{same_Some}
+use Rattle.std.proofs.{lemmas.Bool.Decides.{nat_tests}, lemmas.Option.{same_Some}}
+use Rattle.std.specs.{Prelude.{◌==◌, ◌||◌, IfSome, Option, Some, None, if◌then◌else◌}, Borrow.{Bor}}
+use Rattle.std.specs.{Option.{option_copied}, Char.{char_set_contains}}
 use mathlib.Core.Bool.{true≢false}
-use Rattle.iref_grammar.specs.Rules.{Text}
-use Rattle.iref_grammar.specs.Grammar.{colon, right_bracket}
-use Rattle.iref_grammar.specs.Texts.{after, after_first_char}
+use Rattle.iref_grammar.specs.{Rules.{Text}, Grammar.{colon, right_bracket}, Texts.{after, after_first_char}}
 use Rattle.iref_grammar.proofs.CutLemmas.{from_first-no, from_first-yes}
-use Rattle.iref_fault.specs.Cut.{bracket_port}
-use Rattle.iref_fault.specs.CutSteps.{after_last}
+use Rattle.iref_fault.specs.{Cut.{bracket_port}, CutSteps.{after_last}}
 
 abbrev has : Text → Bool
 has text = char_set_contains text right_bracket

@@ -1,13 +1,10 @@
 -- Places in bytes: steps of the scans.
 use Rattle.std.proofs.Common.{◌≡◌, ◌≢◌, ℕ, suc, ◌+◌, ◌-◌, ◌≤◌, Bool, false, [], ◌∷◌, length, take, refl, sym, ap, ◌∙◌, arith, chars, IsUtf8, length-append}
-use Rattle.std.specs.Prelude.{Option, Some, None, option_map, encode_utf8, encode_utf8_all, ◌==◌, if◌then◌else◌}
-use Rattle.std.proofs.lemmas.Str.{encodes-chars, chars-nil}
-use Rattle.std.proofs.lemmas.Bool.Decides.{nat_tests}
+use Rattle.std.proofs.{lemmas.Str.{encodes-chars, chars-nil}, lemmas.Bool.Decides.{nat_tests}}
 use Rattle.std.proofs.lemmas.List.{nil_from_length}
-use Rattle.iref_grammar.specs.Rules.{Text}
-use Rattle.iref_grammar.specs.Tests.{owed_after}
-use Rattle.iref_fault.specs.Places.{bytes_before, encoded_place_after}
-use Rattle.iref_fault.specs.BytePlaces.{located}
+use Rattle.std.specs.Prelude.{Option, Some, None, option_map, encode_utf8, encode_utf8_all, ◌==◌, if◌then◌else◌}
+use Rattle.iref_grammar.specs.{Rules.{Text}, Tests.{owed_after}}
+use Rattle.iref_fault.specs.{Places.{bytes_before, encoded_place_after}, BytePlaces.{located}}
 
 -- after a character each place is one character on, and so many bytes
 pub located-suc : (start c : ℕ) (cs : Text) (place : Option ℕ) → located start (c ∷ cs) (option_map suc place) ≡ located (start + length (encode_utf8 c)) cs place

@@ -1,24 +1,17 @@
 -- The pieces of a text are slices of it, and have the shape of their rules.
 use Rattle.std.proofs.Common.{arith, ◌≡◌, ℕ, ◌+◌, ◌<◌, Bool, true, false, List, [], ◌∷◌, ◌++◌, ◌⊎◌, inl, inr, refl, sym, ◌∙◌, ap, subst, length, drop, append_assoc, length-append, lit<}
-use Rattle.std.specs.Prelude.{◌==◌, ◌&&◌, ◌||◌, codes, Option, Some, None, IfSome, is_some, chars, if◌then◌else◌}
-use Rattle.std.specs.Str.{IsUtf8}
-use Rattle.std.specs.Char.{char_set_contains}
-use Rattle.std.specs.List.{AllByRecursion}
-use Rattle.std.proofs.lemmas.Grind.{common_steps}
-use Rattle.std.proofs.lemmas.Bool.Decides.{eqb_tells}
-use Rattle.std.proofs.lemmas.List.{append-nil}
+use Rattle.std.proofs.{lemmas.Grind.{common_steps}, lemmas.Bool.Decides.{eqb_tells}, lemmas.List.{append-nil}}
 use Rattle.std.proofs.lemmas.Str.{chars-nil, encode_ascii, encodes-chars, chars-append, chars_past_char}
+use Rattle.std.specs.Prelude.{◌==◌, ◌&&◌, ◌||◌, codes, Option, Some, None, IfSome, is_some, chars, if◌then◌else◌}
+use Rattle.std.specs.{Str.{IsUtf8}, Char.{char_set_contains}, List.{AllByRecursion}}
 use mathlib.Core.Bool.{true≢false}
-use Rattle.iref_grammar.specs.Characters.{CharTests, AreAboveAscii}
-use Rattle.iref_grammar.specs.Rules.{Text}
+use Rattle.iref_grammar.specs.{Characters.{CharTests, AreAboveAscii}, Rules.{Text}}
 use Rattle.iref_grammar.specs.Grammar.{hash_sign, slash, colon, question_mark, at_sign, left_bracket, right_bracket}
 use Rattle.iref_grammar.specs.Texts.{before, after, from_first, begins_with, lacks, part_then, then_part}
 use Rattle.iref_grammar.specs.Reference.{split_scheme, split_authority, scheme_of, hierarchy}
 use Rattle.iref_grammar.proofs.CutLemmas.{cut, before-from_first, before-yes, before-no, before-part, first_lacks, rest_lacks}
-use Rattle.iref_grammar.proofs.HostLemmas.{before_lacks}
-use Rattle.iref_grammar.proofs.SegmentRuleLemmas.{lacks-decoded}
-use Rattle.iref_grammar.proofs.SliceLemmas.{mark_boundary}
-use Rattle.iref_grammar.proofs.ReferenceCutLemmas.{split_scheme-joins}
+use Rattle.iref_grammar.proofs.{HostLemmas.{before_lacks}, SegmentRuleLemmas.{lacks-decoded}}
+use Rattle.iref_grammar.proofs.{SliceLemmas.{mark_boundary}, ReferenceCutLemmas.{split_scheme-joins}}
 use Rattle.iref_fault.specs.Places.{PartRule, Scheme, UserInfo, Host, Port, Path, BarePath, Query, Fragment}
 use Rattle.iref_fault.specs.Cut.{Piece, piece, piece_if, bracket_host, bracket_port, cut_host, cut_port, host_pieces, authority_pieces, authority_pieces_if, cut_scheme, pieces_of}
 use Rattle.iref_fault.proofs.CutSliceLemmas.{IsSlice, whole_slice, utf8_seam, utf8_before, first_slice, second_slice, slice_after, slice_before, slice_behind}

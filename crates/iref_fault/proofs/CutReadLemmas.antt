@@ -1,23 +1,19 @@
 -- On a text of the grammar the cut gives the components that are read from it.
 use Rattle.std.proofs.Common.{◌≡◌, ℕ, ◌+◌, Bool, true, false, List, [], ◌∷◌, ◌++◌, refl, sym, ◌∙◌, ap, length}
-use Rattle.std.specs.Prelude.{map, ◌||◌, Option, Some, None, is_some, option_map, if◌then◌else◌}
 use Rattle.std.proofs.lemmas.List.{map-append}
-use Rattle.iref_grammar.specs.Characters.{CharTests, AreAboveAscii}
-use Rattle.iref_grammar.specs.Rules.{Text}
-use Rattle.iref_grammar.specs.Grammar.{colon, at_sign}
-use Rattle.iref_grammar.specs.Texts.{before, after, begins_with}
-use Rattle.iref_grammar.specs.Tests.{none_or}
+use Rattle.std.specs.Prelude.{map, ◌||◌, Option, Some, None, is_some, option_map, if◌then◌else◌}
+use Rattle.iref_grammar.specs.{Characters.{CharTests, AreAboveAscii}, Rules.{Text}, Grammar.{colon, at_sign}}
+use Rattle.iref_grammar.specs.{Texts.{before, after, begins_with}, Tests.{none_or}}
 use Rattle.iref_grammar.specs.Authority.{AuthorityValue, read_host, after_bracketed, read_host_and_port, read_authority, has_authority_parts, is_authority}
 use Rattle.iref_grammar.specs.Reference.{split_scheme, hierarchy, read_reference, is_reference}
 use Rattle.iref_grammar.specs.ComponentTexts.{ComponentTexts, AreComponents, read_components}
-use Rattle.iref_grammar.proofs.PathLemmas.{read_path-reads}
-use Rattle.iref_grammar.proofs.AuthorityLemmas.{read_host-joins, delimited_authority}
+use Rattle.iref_grammar.proofs.{PathLemmas.{read_path-reads}, AuthorityLemmas.{read_host-joins, delimited_authority}}
 use Rattle.iref_grammar.proofs.AuthorityRuleLemmas.{Decides-has_authority_parts}
 use Rattle.iref_fault.specs.declared.component.Component.{Component}
-use Rattle.iref_fault.specs.declared.component.Component.TheVariants as component
 use Rattle.iref_fault.specs.Places.{PartRule, Scheme, UserInfo, Port, Path, BarePath, Query, Fragment, component_of}
 use Rattle.iref_fault.specs.Cut.{Piece, piece, piece_if, cut_host, cut_port, host_pieces, authority_pieces, authority_pieces_if, pieces_of}
 use Rattle.iref_fault.specs.Components.{component_text, component_if, authority_components, authority_components_if, components_of}
+use Rattle.iref_fault.specs.declared.component.Component.TheVariants as component
 use Rattle.iref_fault.proofs.AuthorityFaultLemmas.{host_back, port_lacks_bracket}
 use Rattle.iref_fault.proofs.ReferenceFaultLemmas.{Starts, starts_of, listed, path_rule, parts_from, pieces_listed, decides_parts, colon_not_tested, one_cut}
 

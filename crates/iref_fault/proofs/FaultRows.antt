@@ -1,24 +1,17 @@
 -- Worked rows of faults: why, where, and what stands there; computed.
 use Prim.Native.String.{String}
 use Rattle.std.specs.Prelude.{codes, encode_utf8_all, ◌≡◌, ℕ, List, [], ◌∷◌, map, Option, Some, None, option_and_then, option_map, refl}
-use Rattle.std.specs.Str.{chars, is_utf8}
-use Rattle.std.specs.Str.Lossy.{utf8_valid_len}
-use Rattle.std.specs.Char.{encode_utf8}
-use Rattle.iref_grammar.specs.Characters.{uri_chars, iri_chars}
-use Rattle.iref_grammar.specs.Rules.{Text}
+use Rattle.std.specs.{Str.{chars, is_utf8}, Str.Lossy.{utf8_valid_len}, Char.{encode_utf8}, Fmt.{digits, debug_escape}}
+use Rattle.iref_grammar.specs.{Characters.{uri_chars, iri_chars}, Rules.{Text}}
 use Rattle.iref_grammar.specs.Grammar.{is_reg_name_char, is_user_info_char, is_path_char, is_fragment_char, is_query_char}
-use Rattle.iref_grammar.specs.IpAddresses.{ipv4_value, ipv6_value}
-use Rattle.iref_grammar.specs.Tests.{owed_after, is_ip_literal, is_ipvfuture}
+use Rattle.iref_grammar.specs.{IpAddresses.{ipv4_value, ipv6_value}, Tests.{owed_after, is_ip_literal, is_ipvfuture}}
 use Rattle.iref_fault.specs.declared.component.Cause.{Cause}
 use Rattle.iref_fault.specs.declared.component.Cause.TheVariants.{Invalid, NoScheme, NotUtf8}
 use Rattle.iref_fault.specs.declared.component.Component.TheVariants.{Scheme, UserInfo, Host, Port, Path, Query, Fragment}
-use Rattle.iref_fault.specs.declared.component.Component.{Component}
-use Rattle.iref_fault.specs.Places as rule
-use Rattle.iref_fault.specs.Places.{PartRule, component_of, place_in}
-use Rattle.iref_fault.specs.Cut.{Piece, authority_pieces, pieces_of}
-use Rattle.std.specs.Fmt.{digits, debug_escape}
-use Rattle.iref_fault.specs.Printed.{fault_text}
+use Rattle.iref_fault.specs.{declared.component.Component.{Component}, Places.{PartRule, component_of, place_in}}
+use Rattle.iref_fault.specs.{Cut.{Piece, authority_pieces, pieces_of}, Printed.{fault_text}}
 use Rattle.iref_fault.specs.Faults.{FaultValue, fault_of_piece, fault_of_part, fault_of_authority, fault_of_reference, fault_of_uri}
+use Rattle.iref_fault.specs.Places as rule
 
 -- the bytes of a quoted text
 abbrev utf8 : String → Text

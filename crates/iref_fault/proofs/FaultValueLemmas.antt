@@ -1,19 +1,14 @@
 -- The fault of a text, from the first place in bytes.
 use Rattle.std.proofs.Common.{◌≡◌, ℕ, ◌+◌, true, false, List, [], ◌∷◌, refl, sym, ap, subst, ◌∙◌, arith, chars, IsUtf8}
-use Rattle.std.specs.Prelude.{Option, Some, None, option_map, IfSome, if◌then◌else◌}
-use Rattle.std.specs.Option.{option_or}
-use Rattle.std.specs.Str.{IsCharBoundary, is_utf8}
-use Rattle.std.specs.List.{AllByRecursion}
 use Rattle.std.proofs.lemmas.Str.{is_utf8-from_IsUtf8}
-use Rattle.iref_grammar.specs.Characters.{CharTests, AreAboveAscii}
-use Rattle.iref_grammar.specs.Rules.{Text}
-use Rattle.iref_fault.specs.declared.pieces.Place.{Place}
-use Rattle.iref_fault.specs.Places.{PartRule, component_of, place_in, bytes_before}
+use Rattle.std.specs.{Prelude.{Option, Some, None, option_map, IfSome, if◌then◌else◌}, Option.{option_or}}
+use Rattle.std.specs.{Str.{IsCharBoundary, is_utf8}, List.{AllByRecursion}}
+use Rattle.iref_grammar.specs.{Characters.{CharTests, AreAboveAscii}, Rules.{Text}}
+use Rattle.iref_fault.specs.{declared.pieces.Place.{Place}, Places.{PartRule, component_of, place_in, bytes_before}}
 use Rattle.iref_fault.specs.Cut.{Piece, piece, authority_pieces, pieces_of, has_cut_scheme}
 use Rattle.iref_fault.specs.Faults.{FaultValue, fault_at, fault_of_piece, first_fault, fault_of_part, fault_of_authority, fault_of_reference, fault_of_uri, no_scheme, not_utf8}
 use Rattle.iref_fault.specs.BytePlaces.{located, placed, place_of_piece, first_place, value_at}
-use Rattle.iref_fault.proofs.CutSliceLemmas.{IsSlice, whole_slice, slice_boundary}
-use Rattle.iref_fault.proofs.PieceLemmas.{AreSound}
+use Rattle.iref_fault.proofs.{CutSliceLemmas.{IsSlice, whole_slice, slice_boundary}, PieceLemmas.{AreSound}}
 use Rattle.iref_fault.proofs.CutPieceLemmas.{authority_sound, pieces_sound}
 
 -- ---- the value

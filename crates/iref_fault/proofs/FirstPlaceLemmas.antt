@@ -1,13 +1,9 @@
 -- Places of pieces in bytes: of one piece, of two lists of pieces, and how far a place is.
 use Rattle.std.proofs.Common.{◌≡◌, ℕ, ◌+◌, ◌<◌, Bool, true, false, List, [], ◌∷◌, ◌++◌, length, refl, ap, ◌∙◌, arith, chars, IsUtf8}
-use Rattle.std.specs.Prelude.{Option, Some, None, IfSome}
-use Rattle.std.specs.Option.{option_or}
-use Rattle.iref_grammar.specs.Characters.{CharTests}
-use Rattle.iref_grammar.specs.Rules.{Text}
-use Rattle.iref_fault.specs.Places.{PartRule, component_of, place_in}
-use Rattle.iref_fault.specs.declared.component.Component.TheVariants.{Path}
-use Rattle.iref_fault.specs.Cut.{Piece, piece}
-use Rattle.iref_fault.specs.CutSteps.{path_rule}
+use Rattle.std.specs.{Prelude.{Option, Some, None, IfSome}, Option.{option_or}}
+use Rattle.iref_grammar.specs.{Characters.{CharTests}, Rules.{Text}}
+use Rattle.iref_fault.specs.{Places.{PartRule, component_of, place_in}, declared.component.Component.TheVariants.{Path}}
+use Rattle.iref_fault.specs.{Cut.{Piece, piece}, CutSteps.{path_rule}}
 use Rattle.iref_fault.specs.BytePlaces.{located, byte_place, placed, place_of_piece, first_place}
 use Rattle.iref_fault.proofs.CutSliceLemmas.{whole_slice, slice_boundary}
 

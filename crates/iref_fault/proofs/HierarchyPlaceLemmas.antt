@@ -1,20 +1,13 @@
 -- The first place in a reference, from those in its parts.
 use Rattle.std.proofs.Common.{◌≡◌, ℕ, ◌+◌, ◌-◌, ◌≤◌, Bool, [], ◌∷◌, ◌++◌, length, sym, ap, ◌∙◌, arith, append_assoc, length-append}
-use Rattle.std.specs.Prelude.{◌||◌, codes, Option, is_some}
-use Rattle.std.specs.Option.{option_or}
-use Rattle.iref_grammar.specs.Characters.{CharTests}
-use Rattle.iref_grammar.specs.Rules.{Text}
-use Rattle.iref_grammar.specs.Grammar.{colon, hash_sign, question_mark}
-use Rattle.iref_grammar.specs.Texts.{before, after, part_then, then_part}
-use Rattle.iref_grammar.specs.Reference.{split_authority, hierarchy}
+use Rattle.std.specs.{Prelude.{◌||◌, codes, Option, is_some}, Option.{option_or}}
+use Rattle.iref_grammar.specs.{Characters.{CharTests}, Rules.{Text}, Grammar.{colon, hash_sign, question_mark}}
+use Rattle.iref_grammar.specs.{Texts.{before, after, part_then, then_part}, Reference.{split_authority, hierarchy}}
 use Rattle.iref_grammar.proofs.ReferenceCutLemmas.{split_authority-joins}
-use Rattle.iref_fault.specs.declared.pieces.Place.{Place}
-use Rattle.iref_fault.specs.Places.{Scheme, Query, Fragment}
+use Rattle.iref_fault.specs.{declared.pieces.Place.{Place}, Places.{Scheme, Query, Fragment}}
 use Rattle.iref_fault.specs.Cut.{piece, piece_if, authority_pieces_if, cut_scheme, pieces_of}
-use Rattle.iref_fault.specs.CutSteps.{path_rule, pieces_after_scheme, hierarchy_pieces}
-use Rattle.iref_fault.specs.BytePlaces.{first_place}
-use Rattle.iref_fault.proofs.CutPieceLemmas.{cut_scheme_joins}
-use Rattle.iref_fault.proofs.FirstPlaceLemmas.{first_place-append}
+use Rattle.iref_fault.specs.{CutSteps.{path_rule, pieces_after_scheme, hierarchy_pieces}, BytePlaces.{first_place}}
+use Rattle.iref_fault.proofs.{CutPieceLemmas.{cut_scheme_joins}, FirstPlaceLemmas.{first_place-append}}
 
 module _ (set : CharTests) where
   pub place_behind : (start : ℕ) (scheme authority : Option Text) (text path : Text) (front place : Option Place) (follows : Bool)

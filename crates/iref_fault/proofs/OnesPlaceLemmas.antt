@@ -1,20 +1,16 @@
 -- Places in bytes where each character is one byte, up to the place.
 use Rattle.std.proofs.Common.{◌≡◌, ℕ, suc, ◌<◌, ◌≤◌, Bool, true, false, not, [], ◌∷◌, ◌++◌, length, refl, sym, ap, ◌∙◌, arith, chars, IsUtf8, get_or, slice_index, drop, length-append, ⊎_elim, zero-add}
-use Rattle.std.specs.Prelude.{Option, Some, None, option_map, encode_utf8, encode_utf8_all, if◌then◌else◌}
-use Rattle.std.specs.List.{position}
-use Rattle.std.specs.Char.{is_ascii_digit, is_ascii_alphabetic}
-use Rattle.std.proofs.lemmas.Bool.{cases_lt}
-use Rattle.std.proofs.lemmas.Bool.Decides.{nat_tests}
+use Rattle.std.proofs.{lemmas.Bool.{cases_lt}, lemmas.Bool.Decides.{nat_tests}}
 use Rattle.std.proofs.lemmas.Str.{encodes-chars, encode_ascii, chars-nil, char_from_byte, byte_from_char, length-encode, len_utf8_bounds}
 use Rattle.std.proofs.lemmas.List.{nil_from_length}
+use Rattle.std.specs.Prelude.{Option, Some, None, option_map, encode_utf8, encode_utf8_all, if◌then◌else◌}
+use Rattle.std.specs.{List.{position}, Char.{is_ascii_digit, is_ascii_alphabetic}}
 use mathlib.Core.Bool.{true≢false}
 use Rattle.iref_grammar.proofs.PartRuleLemmas.{letter_low, scheme_low, digit_low}
 use Rattle.iref_parse.proofs.ScanLemmas.{chars-ascii}
 use Rattle.iref_fault.proofs.BytePlaceLemmas.{located-suc}
-use Rattle.iref_grammar.specs.Rules.{Text}
-use Rattle.iref_grammar.specs.Grammar.{is_scheme_char}
-use Rattle.iref_fault.specs.Places.{ones_place, scheme_place}
-use Rattle.iref_fault.specs.BytePlaces.{located, byte_place}
+use Rattle.iref_grammar.specs.{Rules.{Text}, Grammar.{is_scheme_char}}
+use Rattle.iref_fault.specs.{Places.{ones_place, scheme_place}, BytePlaces.{located, byte_place}}
 
 -- the first that does not pass, at a first element
 pub ones-first : (test : ℕ → Bool) (c : ℕ) (cs : Text) → ones_place test (c ∷ cs) ≡ (if test c then option_map suc (ones_place test cs) else Some 0)

@@ -1,34 +1,25 @@
 -- A text is a reference exactly if the pieces of it are in their rules.
 use Rattle.std.proofs.Common.{◌≡◌, ℕ, ◌+◌, Bool, true, false, List, [], ◌∷◌, ◌++◌, inl, inr, refl, sym, ◌∙◌, ap, subst, length, lit<}
-use Rattle.std.proofs.Math.Logic.{◌↔◌}
-use Rattle.std.specs.Prelude.{◌||◌, codes, Option, Some, None, IfSome, is_some, chars, if◌then◌else◌}
-use Rattle.std.specs.Bool.{Decides}
+use Rattle.std.proofs.{Math.Logic.{◌↔◌}, lemmas.Bool.{and_from}, lemmas.Str.{chars-encodes}}
+use Rattle.std.specs.{Prelude.{◌||◌, codes, Option, Some, None, IfSome, is_some, chars, if◌then◌else◌}, Bool.{Decides}}
 use Rattle.std.specs.Str.{IsUtf8}
-use Rattle.std.proofs.lemmas.Bool.{and_from}
-use Rattle.std.proofs.lemmas.Str.{chars-encodes}
 use mathlib.Core.Bool.{true≢false}
-use Rattle.iref_grammar.specs.Characters.{CharTests, AreAboveAscii}
-use Rattle.iref_grammar.specs.Rules.{Text, InUtf8}
+use Rattle.iref_grammar.specs.{Characters.{CharTests, AreAboveAscii}, Rules.{Text, InUtf8}}
 use Rattle.iref_grammar.specs.Grammar.{colon, question_mark, hash_sign, IsScheme, IsPath, IsQuery, IsFragment, IsAuthority, IsUri, IsUriReference}
 use Rattle.iref_grammar.specs.Texts.{before, after, begins_with, part_then, then_part}
-use Rattle.iref_grammar.specs.Tests.{none_or, is_scheme, is_query, is_fragment}
-use Rattle.iref_grammar.specs.Authority.{is_authority}
+use Rattle.iref_grammar.specs.{Tests.{none_or, is_scheme, is_query, is_fragment}, Authority.{is_authority}}
 use Rattle.iref_grammar.specs.Reference.{split_scheme, split_authority, hierarchy, read_reference, is_reference, is_uri}
 use Rattle.iref_grammar.specs.ComponentTexts.{ComponentTexts, AreComponents}
 use Rattle.iref_grammar.proofs.ComponentLemmas.{Decides-AreComponents}
 use Rattle.iref_grammar.proofs.PartRuleLemmas.{Decides-none_or, Decides-is_scheme_bytes}
-use Rattle.iref_grammar.proofs.LeafLemmas.{Decides-is_query, Decides-is_fragment}
-use Rattle.iref_grammar.proofs.PathTextLemmas.{Decides-is_path}
+use Rattle.iref_grammar.proofs.{LeafLemmas.{Decides-is_query, Decides-is_fragment}, PathTextLemmas.{Decides-is_path}}
 use Rattle.iref_grammar.proofs.AuthorityRuleLemmas.{Decides-is_authority}
 use Rattle.iref_grammar.proofs.ReferenceRuleLemmas.{Decides-is_uri, Decides-is_uri_reference}
-use Rattle.iref_grammar.proofs.OnlyLemmas.{scheme-back}
+use Rattle.iref_grammar.proofs.{OnlyLemmas.{scheme-back}, TextLemmas.{first_of_both, second_of_both}, CutLemmas.{cut}}
 use Rattle.iref_fault.specs.Places.{PartRule, Scheme, Path, BarePath, Query, Fragment, rule_of, IsBarePath}
 use Rattle.iref_fault.specs.Cut.{Piece, piece, piece_if, authority_pieces_if, cut_scheme, has_cut_scheme, pieces_of}
 use Rattle.iref_fault.specs.FirstFault.{IsInRule, AreInRules}
-use Rattle.iref_fault.proofs.PartPlaceLemmas.{has_plain_start, colon_starts}
-use Rattle.iref_grammar.proofs.TextLemmas.{first_of_both, second_of_both}
-use Rattle.iref_grammar.proofs.CutLemmas.{cut}
-use Rattle.iref_fault.proofs.CutSliceLemmas.{utf8_before}
+use Rattle.iref_fault.proofs.{PartPlaceLemmas.{has_plain_start, colon_starts}, CutSliceLemmas.{utf8_before}}
 use Rattle.iref_fault.proofs.CutPieceLemmas.{all_append, colon_first, colon_chars, plain_chars, bare_scheme, bare_authority, HasByteShape}
 use Rattle.iref_fault.proofs.AuthorityFaultLemmas.{all_first, all_second, if_pieces, pieces_if, authority_pieces_are}
 

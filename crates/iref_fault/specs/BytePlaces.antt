@@ -1,15 +1,10 @@
 -- Places in bytes, as code counts them, and what proofs see of a fault.
-use Rattle.std.specs.Prelude.{ℕ, ◌+◌, List, [], ◌∷◌, drop, Option, Some, None, option_map, chars}
-use Rattle.std.specs.Option.{option_or}
-use Rattle.iref_grammar.specs.Characters.{CharTests}
-use Rattle.iref_grammar.specs.Rules.{Text}
+use Rattle.std.specs.{Prelude.{ℕ, ◌+◌, List, [], ◌∷◌, drop, Option, Some, None, option_map, chars}, Option.{option_or}}
+use Rattle.iref_grammar.specs.{Characters.{CharTests}, Rules.{Text}}
 use Rattle.iref_fault.specs.declared.component.Cause.{Cause}
 use Rattle.iref_fault.specs.declared.component.Cause.TheVariants.{Invalid, NoScheme, NotUtf8}
-use Rattle.iref_fault.specs.declared.component.Component.{Component}
-use Rattle.iref_fault.specs.declared.fault.Fault.{Fault}
-use Rattle.iref_fault.specs.declared.pieces.Place.{Place}
-use Rattle.iref_fault.specs.Places.{component_of, place_in, bytes_before}
-use Rattle.iref_fault.specs.Cut.{Piece}
+use Rattle.iref_fault.specs.{declared.component.Component.{Component}, declared.fault.Fault.{Fault}}
+use Rattle.iref_fault.specs.{declared.pieces.Place.{Place}, Places.{component_of, place_in, bytes_before}, Cut.{Piece}}
 use Rattle.iref_fault.specs.Faults.{FaultValue, first_char}
 
 -- a place among characters, in bytes, where this many bytes stand before them

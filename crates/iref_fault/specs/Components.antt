@@ -1,13 +1,10 @@
 -- The components of a reference of the grammar, in the order in which they stand, as the cut gives them.
 use Rattle.std.specs.Prelude.{List, [], ◌∷◌, ◌++◌, Option, Some, None}
-use Rattle.iref_grammar.specs.Rules.{Text}
-use Rattle.iref_grammar.specs.Authority.{AuthorityValue}
-use Rattle.iref_grammar.specs.PathValue.{spell_path}
+use Rattle.iref_grammar.specs.{Rules.{Text}, Authority.{AuthorityValue}, PathValue.{spell_path}}
 use Rattle.iref_grammar.specs.Reference.{ReferenceValue}
 use Rattle.iref_fault.specs.declared.component.Component.{Component}
 use Rattle.iref_fault.specs.declared.component.Component.TheVariants.{Scheme, UserInfo, Host, Port, Path, Query, Fragment}
-use Rattle.iref_fault.specs.Places.{component_of}
-use Rattle.iref_fault.specs.Cut.{Piece}
+use Rattle.iref_fault.specs.{Places.{component_of}, Cut.{Piece}}
 
 -- the component of a piece, and its text
 abbrev pub component_text : Piece → Component × Text

@@ -1,9 +1,7 @@
 -- The steps in which code cuts a text.
 use Rattle.std.specs.Prelude.{ℕ, ◌+◌, ◌==◌, ◌||◌, Bool, List, [], ◌∷◌, ◌++◌, length, codes, Option, is_some, if◌then◌else◌}
 use Rattle.std.specs.Char.{char_set_contains}
-use Rattle.iref_grammar.specs.Rules.{Text}
-use Rattle.iref_grammar.specs.Grammar.{colon, right_bracket}
-use Rattle.iref_grammar.specs.Texts.{part_then, then_part}
+use Rattle.iref_grammar.specs.{Rules.{Text}, Grammar.{colon, right_bracket}, Texts.{part_then, then_part}}
 use Rattle.iref_grammar.specs.Reference.{split_authority}
 use Rattle.iref_fault.specs.Places.{PartRule, Scheme, Path, BarePath}
 use Rattle.iref_fault.specs.Cut.{Piece, piece, piece_if, authority_pieces_if, cut_scheme}

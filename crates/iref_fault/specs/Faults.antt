@@ -1,10 +1,7 @@
 -- Where a text is outside the grammar, and why.
 use Rattle.std.specs.Prelude.{ℕ, ◌+◌, List, [], ◌∷◌, drop, Option, Some, None, option_map, chars, if◌then◌else◌}
-use Rattle.std.specs.Option.{option_or}
-use Rattle.std.specs.Str.{is_utf8}
-use Rattle.std.specs.Str.Lossy.{utf8_valid_len}
-use Rattle.iref_grammar.specs.Characters.{CharTests}
-use Rattle.iref_grammar.specs.Rules.{Text}
+use Rattle.std.specs.{Option.{option_or}, Str.{is_utf8}, Str.Lossy.{utf8_valid_len}}
+use Rattle.iref_grammar.specs.{Characters.{CharTests}, Rules.{Text}}
 use Rattle.iref_fault.specs.declared.component.Cause.{Cause}
 use Rattle.iref_fault.specs.declared.component.Cause.TheVariants.{Invalid, NoScheme, NotUtf8}
 use Rattle.iref_fault.specs.Places.{PartRule, component_of, place_in, bytes_before}

@@ -1,10 +1,7 @@
 -- What the fault of a text is: that of its first piece, in the order in which they stand, that is outside its rule.
-use Rattle.std.specs.Prelude.{◌≡◌, ℕ, ◌+◌, List, ◌∷◌, ◌++◌, chars}
-use Rattle.std.specs.List.{AllByRecursion}
-use Rattle.iref_grammar.specs.Characters.{CharTests}
-use Rattle.iref_grammar.specs.Rules.{Text, InUtf8}
-use Rattle.iref_fault.specs.Places.{PartRule, rule_of, IsPlaceIn, bytes_before}
-use Rattle.iref_fault.specs.Cut.{Piece}
+use Rattle.std.specs.{Prelude.{◌≡◌, ℕ, ◌+◌, List, ◌∷◌, ◌++◌, chars}, List.{AllByRecursion}}
+use Rattle.iref_grammar.specs.{Characters.{CharTests}, Rules.{Text, InUtf8}}
+use Rattle.iref_fault.specs.{Places.{PartRule, rule_of, IsPlaceIn, bytes_before}, Cut.{Piece}}
 use Rattle.iref_fault.specs.Faults.{FaultValue, fault_at}
 
 -- the piece is in its rule

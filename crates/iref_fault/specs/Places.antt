@@ -1,13 +1,10 @@
 -- Where a single text is outside its rule: the count of the characters before that place.
 use Rattle.std.specs.Prelude.{◌≡◌, ℕ, suc, Bool, true, false, not, ◌||◌, ◌==◌, [], ◌∷◌, ◌++◌, ◌⊎◌, length, take, Option, Some, None, option_map, if◌then◌else◌, encode_utf8_all}
-use Rattle.std.specs.List.{position}
-use Rattle.std.specs.Char.{is_ascii_alphabetic, is_ascii_digit}
-use Rattle.iref_grammar.specs.Characters.{CharTests}
-use Rattle.iref_grammar.specs.Rules.{Text, Rule}
+use Rattle.std.specs.{List.{position}, Char.{is_ascii_alphabetic, is_ascii_digit}}
+use Rattle.iref_grammar.specs.{Characters.{CharTests}, Rules.{Text, Rule}}
 use Rattle.iref_grammar.specs.Grammar.{slash, colon, left_bracket, is_scheme_char, is_user_info_char, is_reg_name_char, is_path_char, is_query_char, is_fragment_char}
 use Rattle.iref_grammar.specs.Grammar.{IsScheme, IsUserInfo, IsHost, IsPort, IsPath, IsSegment, IsQuery, IsFragment}
-use Rattle.iref_grammar.specs.Texts.{before, begins_with, lacks}
-use Rattle.iref_grammar.specs.Tests.{owed_after, is_ip_literal}
+use Rattle.iref_grammar.specs.{Texts.{before, begins_with, lacks}, Tests.{owed_after, is_ip_literal}}
 use Rattle.iref_fault.specs.declared.component.Component.{Component}
 use Rattle.iref_fault.specs.declared.component.Component.TheVariants as component
 

@@ -1,6 +1,5 @@
 -- The text that is printed of a fault.
-use Rattle.std.specs.Prelude.{ℕ, codes, Option, Some, None}
-use Rattle.std.specs.Fmt.{decimal, debug_char, ◌++?◌}
+use Rattle.std.specs.{Prelude.{ℕ, codes, Option, Some, None}, Fmt.{decimal, debug_char, ◌++?◌}}
 use Rattle.iref_grammar.specs.Rules.{Text}
 use Rattle.iref_fault.specs.declared.component.Cause.{Cause}
 use Rattle.iref_fault.specs.declared.component.Cause.TheVariants.{Invalid, NoScheme, NotUtf8}

@@ -1,7 +1,6 @@
 -- What the result of an edit by a text says of the text.
 use Rattle.std.specs.Prelude.{Result, MatchResult}
-use Rattle.iref_fault.specs.declared.edit.TryError.{TryError}
-use Rattle.iref_fault.specs.declared.edit.TryError.TheVariants.{Invalid, Memory}
+use Rattle.iref_fault.specs.{declared.edit.TryError.{TryError}, declared.edit.TryError.TheVariants.{Invalid, Memory}}
 
 -- Invalid only where the text is not in its rule, and it holds the text; Memory only where it is
 abbrev pub InvalidIfOutside : {E : Type 0} → Type 0 → (E → Type 0) → TryError E → Type 0

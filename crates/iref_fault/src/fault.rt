@@ -5,10 +5,9 @@ ghost use Rattle.std.specs.Prelude.{◌≡◌, option_map, true, false, chars, I
 ghost use Rattle.std.specs.Str.{IsCharBoundary, is_utf8};
 ghost use Rattle.iref_grammar.specs.Characters.{CharTests};
 ghost use Rattle.iref_fault.specs.BytePlaces.{fault_value, invalid_component, value_at};
+ghost use Rattle.iref_fault.specs.{Faults.{fault_of_part, first_char, not_utf8}, Printed.{component_name, fault_text}};
 ghost use Rattle.iref_fault.specs.Faults as spec;
-ghost use Rattle.iref_fault.specs.Faults.{fault_of_part, first_char, not_utf8};
 ghost use Rattle.iref_fault.specs.Places as rule;
-ghost use Rattle.iref_fault.specs.Printed.{component_name, fault_text};
 
 use crate::component::{Cause, Component};
 use crate::pieces::{

@@ -1,17 +1,16 @@
 //! Laws of faults: each is the contract of a function that does nothing.
 #![tactic(auto, using(crate::proofs::FaultLemmas::laws))]
 
-ghost use Rattle.std.specs.Prelude.{◌≡◌, ◌↔◌, ℕ, ◌≤◌, length, take, drop, true, false, Some};
-ghost use Rattle.std.specs.{Prelude.{None, map}, Str.{is_utf8, IsValidUpTo}, List.{AllByRecursion}};
-ghost use Rattle.iref_grammar.specs.{Text, InUtf8, IsUri, IsUriReference, IsAuthority};
-ghost use Rattle.iref_grammar.specs.{is_authority, is_reference, read_authority, read_reference};
+ghost use Rattle.std.specs.Prelude.{◌≡◌, ◌↔◌, ℕ, ◌≤◌, length, take, drop, true, false, Some, None, map};
+ghost use Rattle.std.specs.{Str.{is_utf8, IsValidUpTo}, List.{AllByRecursion}};
+ghost use Rattle.iref_grammar.specs.{Text, InUtf8, IsUri, IsUriReference, IsAuthority, is_authority, is_reference};
+ghost use Rattle.iref_grammar.specs.{read_authority, read_reference};
 ghost use Rattle.iref_fault.specs.Places.{PartRule, is_bare, rule_of, IsPlaceIn};
 ghost use Rattle.iref_fault.specs.Cut.{authority_pieces, pieces_of, has_cut_scheme};
 ghost use Rattle.iref_fault.specs.Faults.{FaultValue, fault_of_part, fault_of_authority};
 ghost use Rattle.iref_fault.specs.Faults.{fault_of_reference, fault_of_uri, not_utf8, no_scheme};
 ghost use Rattle.iref_fault.specs.FirstFault.{IsFirstFault, IsPartFault};
-ghost use Rattle.iref_fault.specs.Components.{component_text, authority_components};
-ghost use Rattle.iref_fault.specs.Components.{components_of};
+ghost use Rattle.iref_fault.specs.Components.{component_text, authority_components, components_of};
 
 use iref_grammar::chars::CharSet;
 

@@ -1,18 +1,14 @@
 //! The cut of any text into components and parts (RFC 3986 appendix B), and the first of them that
 //! is outside its rule.
-ghost use Rattle.std.specs.Prelude.{◌≡◌, ◌+◌, ◌<◌, ◌^◌, length, IfSome, is_some, ◌||◌};
-ghost use Rattle.std.specs.Option.{option_copied};
-ghost use Rattle.iref_grammar.specs.Characters.{CharTests};
-ghost use Rattle.iref_grammar.specs.Grammar.{right_bracket};
-ghost use Rattle.iref_grammar.specs.Reference.{hierarchy};
+ghost use Rattle.std.specs.{Prelude.{◌≡◌, ◌+◌, ◌<◌, ◌^◌, length, IfSome, is_some, ◌||◌}, Option.{option_copied}};
+ghost use Rattle.iref_grammar.specs.{Characters.{CharTests}, Grammar.{right_bracket}, Reference.{hierarchy}};
 ghost use Rattle.iref_grammar.specs.Texts.{after};
 ghost use Rattle.iref_fault.specs.Cut as spec;
 ghost use Rattle.iref_fault.specs.Cut.{piece, piece_if, authority_pieces, authority_pieces_if};
 ghost use Rattle.iref_fault.specs.Cut.{host_pieces, pieces_of, has_cut_scheme};
-ghost use Rattle.iref_fault.specs.CutSteps.{after_last, hierarchy_pieces, path_rule};
-ghost use Rattle.iref_fault.specs.CutSteps.{pieces_after_scheme};
-ghost use Rattle.iref_fault.specs.Places as rule;
+ghost use Rattle.iref_fault.specs.CutSteps.{after_last, hierarchy_pieces, path_rule, pieces_after_scheme};
 ghost use Rattle.iref_fault.specs.BytePlaces.{byte_place, first_place, placed};
+ghost use Rattle.iref_fault.specs.Places as rule;
 
 use crate::component::Component;
 use crate::scan;

@@ -1,14 +1,11 @@
 //! Where a single text is outside its rule, in bytes: the first character that may not stand there,
 //! or the end, if more has to follow.
-ghost use Rattle.std.specs.Prelude.{◌≡◌, [], ◌∷◌, not};
-ghost use Rattle.std.specs.List.{position};
+ghost use Rattle.std.specs.{Prelude.{◌≡◌, [], ◌∷◌, not}, List.{position}, Char.{is_ascii_digit}};
 ghost use Rattle.iref_grammar.specs.Grammar as grammar;
 ghost use Rattle.iref_grammar.specs.Tests as test;
 ghost use Rattle.iref_grammar.specs.Texts.{begins_with};
 ghost use Rattle.iref_fault.specs.Places as spec;
-ghost use Rattle.std.specs.Char.{is_ascii_digit};
-ghost use Rattle.iref_fault.specs.Places.{encoded_place};
-ghost use Rattle.iref_fault.specs.BytePlaces.{byte_place};
+ghost use Rattle.iref_fault.specs.{Places.{encoded_place}, BytePlaces.{byte_place}};
 
 use iref_grammar::chars::CharSet;
 use iref_parse::host::is_ip_literal;

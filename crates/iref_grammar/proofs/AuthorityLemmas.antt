@@ -1,18 +1,14 @@
 -- An authority's parts are read from their spelling.
 use Rattle.std.proofs.Common.{arith, ◌≡◌, ℕ, ◌+◌, length, take, sym, length-append, true, false, ◌&&◌, [], ◌∷◌, ◌++◌, refl, ◌∙◌, ap, append_assoc, inl, inr, subst, ◌⊎◌, lit<}
-use Rattle.std.proofs.lemmas.Grind.{common_steps}
-use Rattle.std.specs.Prelude.{◌==◌, Option, Some, None, is_some, IfSome}
-use Rattle.iref_grammar.specs.Rules.{Text}
-use Rattle.iref_grammar.specs.Grammar.{colon, at_sign, left_bracket, right_bracket}
+use Rattle.std.proofs.{lemmas.Grind.{common_steps}, Math.Seq.{take-append_seam}}
+use Rattle.std.specs.{Prelude.{◌==◌, Option, Some, None, is_some, IfSome}, Str.{IsCharBoundary}}
+use Rattle.iref_grammar.specs.{Rules.{Text}, Grammar.{colon, at_sign, left_bracket, right_bracket}}
 use Rattle.iref_grammar.specs.Texts.{before, after, after_first_char, begins_with, part_then, then_part}
 use Rattle.iref_grammar.specs.Authority.{AuthorityValue, spell_authority, read_authority, read_host_and_port, read_host, bracketed, after_bracketed, has_authority_parts}
-use Rattle.std.specs.Str.{IsCharBoundary}
-use Rattle.std.proofs.Math.Seq.{take-append_seam}
-use Rattle.iref_grammar.proofs.SliceLemmas.{mark_boundary}
-use Rattle.iref_grammar.proofs.TextLemmas.{lacks, first_of_both, second_of_both}
-use Rattle.iref_grammar.proofs.CutLemmas.{cut, first_lacks, from_first-lacking, before-mark, from_first-mark, before-part, after-part}
 use Rattle.iref_grammar.specs.Characters.{CharTests, AreAboveAscii}
 use Rattle.iref_grammar.specs.Tests.{is_ip_literal, none_or, is_host, is_reg_name, is_port}
+use Rattle.iref_grammar.proofs.{SliceLemmas.{mark_boundary}, TextLemmas.{lacks, first_of_both, second_of_both}}
+use Rattle.iref_grammar.proofs.CutLemmas.{cut, first_lacks, from_first-lacking, before-mark, from_first-mark, before-part, after-part}
 use Rattle.iref_grammar.proofs.LackLemmas.{lacks-append}
 use Rattle.iref_grammar.proofs.ComponentLackLemmas.{IsCut, reg_name_refuses, user_info_lacks, reg_name_lacks, literal_parts, port_lacks, host_lacks}
 

@@ -1,15 +1,13 @@
 -- Authorities: the test, by its one reading, decides the rule.
 use Rattle.std.proofs.Common.{◌≡◌, ◌&&◌, [], ◌∷◌, ◌++◌, refl, sym, ◌∙◌, ap, append_assoc}
-use Rattle.std.proofs.lemmas.Bool.Decides.{Decides-like, Decides-and}
+use Rattle.std.proofs.{lemmas.Bool.Decides.{Decides-like, Decides-and}, Math.Logic.{◌↔◌}}
 use Rattle.iref_grammar.specs.Rules.{Text, Rule, Mark, ◌⨾◌, Optional, InUtf8}
 use Rattle.iref_grammar.specs.Grammar.{colon, at_sign, IsPort, IsUserInfo, IsHost, IsAuthority}
 use Rattle.iref_grammar.specs.Texts.{part_then, then_part}
 use Rattle.iref_grammar.specs.Authority.{AuthorityValue, spell_authority, read_authority, has_authority_parts, HasAuthorityParts, is_authority}
+use Rattle.iref_grammar.specs.{Characters.{CharTests, AreAboveAscii}, Tests.{none_or, is_host, is_user_info, is_port}}
 use Rattle.std.specs.Bool.{Decides}
-use Rattle.iref_grammar.specs.Characters.{CharTests, AreAboveAscii}
-use Rattle.iref_grammar.specs.Tests.{none_or, is_host, is_user_info, is_port}
 use Rattle.iref_grammar.proofs.AuthorityLemmas.{read_authority-spelled, read_authority-back, delimited_authority}
-use Rattle.std.proofs.Math.Logic.{◌↔◌}
 use Rattle.iref_grammar.proofs.LeafLemmas.{Decides-is_user_info}
 use Rattle.iref_grammar.proofs.Utf8RuleLemmas.{in_utf8-joined, in_utf8-then_part, in_utf8-part_then}
 use Rattle.iref_grammar.proofs.HostRuleLemmas.{Decides-is_host}

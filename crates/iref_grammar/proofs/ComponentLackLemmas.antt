@@ -1,18 +1,15 @@
 -- What the components of a text lack: the delimiters that end them.
 use Rattle.std.proofs.Common.{arith, ◌≡◌, ℕ, Bool, true, false, cond, ◌&&◌, ◌||◌, List, [], ◌∷◌, ◌++◌, refl, sym, ◌<◌, lit<}
-use Rattle.std.proofs.lemmas.Grind.{common_steps}
+use Rattle.std.proofs.{lemmas.Grind.{common_steps}, lemmas.Option.{same_Some}}
 use Rattle.std.specs.Prelude.{◌==◌, Option, Some, None, codes, IfSome}
 use Rattle.std.specs.Char.{char_set_contains, is_ascii_alphanumeric, is_ascii_alphabetic, is_ascii_digit}
 use Rattle.std.specs.List.{list_all}
 use mathlib.Core.Bool.{true≢false}
 use Rattle.iref_grammar.specs.Rules.{Text}
 use Rattle.iref_grammar.specs.Grammar.{hash_sign, slash, colon, question_mark, at_sign, left_bracket, right_bracket, percent_sign, is_sub_delim, is_scheme_char, is_reg_name_char, is_user_info_char, is_path_char, is_fragment_char, is_query_char}
-use Rattle.iref_grammar.specs.Texts.{before, after, part_then, then_part}
-use Rattle.iref_grammar.proofs.TextLemmas.{lacks}
-use Rattle.iref_grammar.proofs.CutLemmas.{cut}
-use Rattle.iref_grammar.specs.Characters.{CharTests, AreAboveAscii}
+use Rattle.iref_grammar.specs.{Texts.{before, after, part_then, then_part}, Characters.{CharTests, AreAboveAscii}}
 use Rattle.iref_grammar.specs.Tests.{in_brackets, is_ip_literal, is_ip_address, some_and, none_or, ends_here, is_host, is_reg_name, is_user_info, is_port, is_scheme, is_segment, is_query}
-use Rattle.std.proofs.lemmas.Option.{same_Some}
+use Rattle.iref_grammar.proofs.{TextLemmas.{lacks}, CutLemmas.{cut}}
 use Rattle.iref_grammar.proofs.LackLemmas.{lacks_more, lacks-append, all_lacks, IsRefused, in_utf8_lacks}
 use Rattle.iref_grammar.proofs.HostLemmas.{IsOutside, address_lacks, before_lacks}
 

@@ -1,21 +1,14 @@
 -- A text is a reference exactly if each of its components is in its rule.
-use Rattle.std.proofs.Common.{arith, ◌≡◌, true, false, refl, sym, ◌∙◌, ap}
-use Rattle.std.proofs.lemmas.Grind.{common_steps}
+use Rattle.std.proofs.{Common.{arith, ◌≡◌, true, false, refl, sym, ◌∙◌, ap}, lemmas.Grind.{common_steps}}
 use Rattle.std.proofs.lemmas.Bool.{and_from, and_parts}
-use Rattle.std.specs.Prelude.{Option, Some, None, option_map, is_some}
-use Rattle.std.specs.Borrow.{Bor}
-use Rattle.std.specs.Option.{option_copied}
+use Rattle.std.specs.{Prelude.{Option, Some, None, option_map, is_some}, Borrow.{Bor}, Option.{option_copied}}
 use Rattle.std.specs.Bool.{Decides}
-use Rattle.iref_grammar.specs.Characters.{CharTests, AreAboveAscii}
-use Rattle.iref_grammar.specs.Rules.{Text}
-use Rattle.iref_grammar.specs.Tests.{none_or}
+use Rattle.iref_grammar.specs.{Characters.{CharTests, AreAboveAscii}, Rules.{Text}, Tests.{none_or}}
 use Rattle.iref_grammar.specs.Authority.{spell_authority, read_authority, has_authority_parts, is_authority}
 use Rattle.iref_grammar.specs.Reference.{ReferenceValue, read_reference, is_reference, is_uri}
 use Rattle.iref_grammar.specs.ComponentTexts.{ComponentTexts, spell_components, read_components, AreComponents}
-use Rattle.iref_grammar.proofs.AuthorityLemmas.{read_authority-spelled}
-use Rattle.iref_grammar.proofs.PathLemmas.{read_path-reads}
-use Rattle.iref_grammar.proofs.ReadablePartsLemmas.{readable_parts, readable_from}
-use Rattle.iref_grammar.proofs.PathTestLemmas.{is_path-segments}
+use Rattle.iref_grammar.proofs.{AuthorityLemmas.{read_authority-spelled}, PathLemmas.{read_path-reads}}
+use Rattle.iref_grammar.proofs.{ReadablePartsLemmas.{readable_parts, readable_from}, PathTestLemmas.{is_path-segments}}
 use Rattle.iref_grammar.proofs.ContextLemmas.{read_follows, read_reads_as_path}
 
 authority_tested : (set : CharTests) (o : Option Text) → none_or (has_authority_parts set) (option_map read_authority o) ≡ none_or (is_authority set) o

@@ -1,19 +1,15 @@
 -- What is read from a text meets the conditions on a path where it stands.
 use Rattle.std.proofs.Common.{arith, ◌≡◌, ℕ, Bool, true, false, not, cond, ◌&&◌, ◌||◌, [], ◌∷◌, drop, refl, sym, ◌∙◌, ap, subst, ◌⊎◌, inl, inr}
+use Rattle.std.proofs.{lemmas.Bool.Decides.{eqb_tells}, lemmas.Bool.{and_from}, lemmas.List.{append-nil}}
 use Rattle.std.specs.Prelude.{◌==◌, Option, Some, None, option_map, is_some, codes}
-use Rattle.std.proofs.lemmas.Bool.Decides.{eqb_tells}
-use Rattle.std.proofs.lemmas.Bool.{and_from}
-use Rattle.std.proofs.lemmas.List.{append-nil}
 use mathlib.Core.Bool.{true≢false}
-use Rattle.iref_grammar.specs.Rules.{Text}
-use Rattle.iref_grammar.specs.Grammar.{slash, colon}
+use Rattle.iref_grammar.specs.{Rules.{Text}, Grammar.{slash, colon}}
 use Rattle.iref_grammar.specs.Texts.{before, from_first, begins_with, is_empty, pieces_at, lacks}
 use Rattle.iref_grammar.specs.PathValue.{PathValue, begins_empty, shows_its_list, segments_of, read_path}
 use Rattle.iref_grammar.specs.Contexts.{begins_with_colon_segment, follows_authority, is_no_authority, is_no_scheme, reads_as_path}
 use Rattle.iref_grammar.specs.Authority.{read_authority}
 use Rattle.iref_grammar.specs.Reference.{context_of, split_scheme, split_authority, hierarchy, read_reference}
-use Rattle.iref_grammar.proofs.TextLemmas.{pieces_at-one, pieces_at-front}
-use Rattle.iref_grammar.proofs.PathLemmas.{read_path-reads}
+use Rattle.iref_grammar.proofs.{TextLemmas.{pieces_at-one, pieces_at-front}, PathLemmas.{read_path-reads}}
 use Rattle.iref_grammar.proofs.SplitLemmas.{ends_scheme, cut_in_two, lacks-before, begins_with_mark, scheme-found}
 
 -- a text that is empty or begins with `/`

@@ -4,8 +4,7 @@ use Rattle.std.specs.Str.{chars, is_utf8}
 use Rattle.iref_grammar.specs.Characters.{CharTests}
 use Rattle.iref_grammar.specs.Tests.{is_query, is_fragment, is_port, is_pct_str, is_user_info, is_segment, is_host, is_ip_literal, is_reg_name}
 use Rattle.iref_grammar.specs.Authority.{is_authority, has_authority_parts, read_authority}
-use Rattle.iref_grammar.specs.Reference.{is_reference, is_readable, read_reference}
-use Rattle.iref_grammar.specs.PathValue.{read_path}
+use Rattle.iref_grammar.specs.{Reference.{is_reference, is_readable, read_reference}, PathValue.{read_path}}
 
 pub is_query_empty : (set : CharTests) → is_query set [] ≡ true
 unfolding is_query is_utf8 chars

@@ -1,14 +1,10 @@
 -- The front of a reference, before its fragment or its query, is a reference.
-use Rattle.std.proofs.Common.{arith, ◌≡◌, true, refl, sym, ◌∙◌, ap}
-use Rattle.std.proofs.lemmas.Grind.{common_steps}
+use Rattle.std.proofs.{Common.{arith, ◌≡◌, true, refl, sym, ◌∙◌, ap}, lemmas.Grind.{common_steps}}
 use Rattle.std.specs.Prelude.{ℕ, Option, None, option_map}
-use Rattle.iref_grammar.specs.Characters.{CharTests}
-use Rattle.iref_grammar.specs.Rules.{Text}
-use Rattle.iref_grammar.specs.Grammar.{hash_sign, question_mark}
+use Rattle.iref_grammar.specs.{Characters.{CharTests}, Rules.{Text}, Grammar.{hash_sign, question_mark}}
 use Rattle.iref_grammar.specs.Texts.{before, after, after_first_char, lacks}
 use Rattle.iref_grammar.specs.Reference.{ReferenceValue, split_scheme, split_authority, hierarchy, read_reference, is_reference}
-use Rattle.iref_grammar.specs.Authority.{read_authority}
-use Rattle.iref_grammar.specs.PathValue.{read_path}
+use Rattle.iref_grammar.specs.{Authority.{read_authority}, PathValue.{read_path}}
 use Rattle.iref_grammar.proofs.CutLemmas.{before-lacking, from_first-lacking}
 use Rattle.iref_grammar.proofs.ReadablePartsLemmas.{readable_parts, readable_from}
 use Rattle.iref_grammar.proofs.SplitLemmas.{ends_path, hash, question, lacks-before, hierarchy-cut}

@@ -1,15 +1,11 @@
 -- Worked rows of the grammar: what it takes and refuses, computed.
 use Prim.Native.String.{String}
 use Rattle.std.specs.Prelude.{◌≡◌, ℕ, Bool, true, false, List, [], ◌∷◌, map, encode_utf8_all, refl}
-use Rattle.std.specs.Str.{is_utf8, chars}
-use Rattle.std.specs.Char.{encode_utf8}
-use Rattle.iref_grammar.specs.Characters.{uri_chars, iri_chars}
-use Rattle.iref_grammar.specs.Rules.{Text}
-use Rattle.iref_grammar.specs.IpAddresses.{ipv4_value, ipv6_value}
+use Rattle.std.specs.{Str.{is_utf8, chars}, Char.{encode_utf8}}
+use Rattle.iref_grammar.specs.{Characters.{uri_chars, iri_chars}, Rules.{Text}, IpAddresses.{ipv4_value, ipv6_value}}
 use Rattle.iref_grammar.specs.Grammar.{is_reg_name_char, is_user_info_char, is_path_char, is_fragment_char, is_query_char}
 use Rattle.iref_grammar.specs.Tests.{owed_after, is_scheme, is_port, is_user_info, is_reg_name, is_ipvfuture, is_ip_literal, is_host, is_segment, is_path, is_query, is_fragment}
-use Rattle.iref_grammar.specs.Authority.{read_authority, has_authority_parts}
-use Rattle.iref_grammar.specs.PathValue.{read_path}
+use Rattle.iref_grammar.specs.{Authority.{read_authority, has_authority_parts}, PathValue.{read_path}}
 use Rattle.iref_grammar.specs.Reference.{read_reference, is_readable, is_reference, is_uri}
 use Rattle.iref_grammar.proofs.Rows.{utf8}
 

@@ -1,24 +1,19 @@
 -- What a host that is taken lacks.
 use Rattle.std.proofs.Common.{◌≡◌, ℕ, ◌<◌, true, false, not, ◌&&◌, ◌||◌, List, [], ◌∷◌, ◌++◌, refl, sym, ◌∙◌, ap, subst, arith, ◌⊎◌, inl, inr, lit<}
-use Rattle.std.proofs.lemmas.Grind.{common_steps}
-use Rattle.std.specs.Prelude.{◌==◌, decimal, codes, Option, Some, None, is_some}
-use Rattle.std.specs.List.{list_all, AllZip, join_with_byte}
-use Rattle.std.specs.Char.{char_set_contains, digit_value, is_ascii_hexdigit}
-use Rattle.std.specs.Str.Parse.{AllDigits}
-use Rattle.std.proofs.lemmas.Fmt.{decimal_is_IsNumeral}
-use Rattle.std.proofs.lemmas.Bool.Decides.{eqb_tells}
+use Rattle.std.proofs.{lemmas.Grind.{common_steps}, lemmas.Fmt.{decimal_is_IsNumeral}, lemmas.Bool.Decides.{eqb_tells}}
 use Rattle.std.proofs.lemmas.Bool.{and_from}
+use Rattle.std.specs.Prelude.{◌==◌, decimal, codes, Option, Some, None, is_some}
+use Rattle.std.specs.{List.{list_all, AllZip, join_with_byte}, Char.{char_set_contains, digit_value, is_ascii_hexdigit}}
+use Rattle.std.specs.Str.Parse.{AllDigits}
 use native.Mathlib.Nat.{lt_trans}
 use mathlib.Core.Bool.{true≢false}
-use Rattle.iref_grammar.specs.Rules.{Text}
-use Rattle.iref_grammar.specs.Grammar.{full_stop, is_future_char}
+use Rattle.iref_grammar.specs.{Rules.{Text}, Grammar.{full_stop, is_future_char}}
 use Rattle.iref_grammar.specs.Texts.{before, after, is_empty, then_part}
 use Rattle.iref_grammar.specs.IpAddresses.{IsIpv4, IsGroup, AreGroups, AreLastGroups, IsFullIpv6, IsShortIpv6, ipv6_value}
 use Rattle.iref_grammar.specs.Tests.{is_ip_address, is_ipvfuture, is_future_version, is_future_address}
 use Rattle.iref_grammar.proofs.TextLemmas.{lacks, first_of_both, second_of_both, list_all-snoc}
 use Rattle.iref_grammar.proofs.CutLemmas.{cut, before-no, before-yes}
-use Rattle.iref_grammar.proofs.LackLemmas.{lacks_more, lacks-append, all_lacks}
-use Rattle.iref_grammar.proofs.Ipv6Lemmas.{ipv6_value-sound}
+use Rattle.iref_grammar.proofs.{LackLemmas.{lacks_more, lacks-append, all_lacks}, Ipv6Lemmas.{ipv6_value-sound}}
 
 -- a delimiter that no IP address holds
 pub record IsOutside (mark : ℕ) : Type 0 where

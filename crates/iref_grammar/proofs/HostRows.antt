@@ -1,12 +1,8 @@
 -- Worked rows of hosts and IP addresses, computed (RFC 3986 section 3.2.2).
 use Prim.Native.String.{String}
 use Rattle.std.specs.Prelude.{◌≡◌, ℕ, Bool, true, false, List, [], ◌∷◌, map, codes, Option, Some, None, refl}
-use Rattle.std.specs.Str.{is_utf8, chars}
-use Rattle.std.specs.Char.{encode_utf8}
-use Rattle.std.specs.Fmt.{digits}
-use Rattle.iref_grammar.specs.Characters.{uri_chars, iri_chars}
-use Rattle.iref_grammar.specs.Rules.{Text}
-use Rattle.iref_grammar.specs.IpAddresses.{ipv4_value, ipv6_value}
+use Rattle.std.specs.{Str.{is_utf8, chars}, Char.{encode_utf8}, Fmt.{digits}}
+use Rattle.iref_grammar.specs.{Characters.{uri_chars, iri_chars}, Rules.{Text}, IpAddresses.{ipv4_value, ipv6_value}}
 use Rattle.iref_grammar.specs.Grammar.{is_reg_name_char}
 use Rattle.iref_grammar.specs.Tests.{owed_after, is_ipvfuture, is_ipv4, is_ip_literal, is_reg_name, is_host}
 use Rattle.iref_grammar.proofs.Rows.{utf8}

@@ -1,35 +1,26 @@
 -- IPvFuture, IP literal and host: each test decides its rule.
 use Rattle.std.proofs.Common.{◌≡◌, ℕ, ◌<◌, ◌≤◌, Bool, true, false, not, cond, ◌&&◌, List, [], ◌∷◌, ◌++◌, refl, sym, ◌∙◌, ap, subst, arith, ◌⊎◌, inl, inr, lit<}
-use Rattle.std.proofs.lemmas.Grind.{common_steps}
-use Rattle.std.specs.Prelude.{◌==◌, codes, decimal, Option, Some, None, is_some}
-use Rattle.std.specs.Bool.{Decides}
+use Rattle.std.proofs.{lemmas.Grind.{common_steps}, lemmas.Fmt.{decimal_is_IsNumeral}}
+use Rattle.std.proofs.{lemmas.Bool.Decides.{nat_tests, Decides-like, Decides-or}, lemmas.Bool.{and_from}}
+use Rattle.std.specs.{Prelude.{◌==◌, codes, decimal, Option, Some, None, is_some}, Bool.{Decides}}
 use Rattle.std.specs.List.{list_all, join_with_byte}
-use Rattle.std.specs.Char.{is_ascii, is_ascii_hexdigit, char_set_contains, digit_value}
-use Rattle.std.specs.Str.Parse.{AllDigits}
-use Rattle.std.proofs.lemmas.Fmt.{decimal_is_IsNumeral}
-use Rattle.std.proofs.lemmas.Bool.Decides.{nat_tests, Decides-like, Decides-or}
-use Rattle.std.proofs.lemmas.Bool.{and_from}
+use Rattle.std.specs.{Char.{is_ascii, is_ascii_hexdigit, char_set_contains, digit_value}, Str.Parse.{AllDigits}}
 use native.Mathlib.Nat.{lt_trans}
 use mathlib.Core.Bool.{true≢false}
 use Rattle.iref_grammar.specs.Characters.{CharTests, AreAboveAscii}
 use Rattle.iref_grammar.specs.Rules.{Text, Rule, OneOf, OneOrMore, ◌or◌, InUtf8}
 use Rattle.iref_grammar.specs.Grammar.{full_stop, left_bracket, right_bracket, percent_sign, is_future_char, is_reg_name_char, IsIpv4Address, IsIpv6Address, IsIpvFuture, IsIpLiteral, IsRegName, IsHost}
-use Rattle.iref_grammar.specs.IpAddresses.{ipv4_value, ipv6_value}
-use Rattle.iref_grammar.specs.Texts.{before, after, is_empty, then_part}
+use Rattle.iref_grammar.specs.{IpAddresses.{ipv4_value, ipv6_value}, Texts.{before, after, is_empty, then_part}}
 use Rattle.iref_grammar.specs.Tests.{is_encoded, is_future_version, is_future_address, is_ipvfuture, is_ip_address, is_ipv4, is_ipv6, in_brackets, is_ip_literal, ends_here, is_reg_name, is_host}
-use Rattle.iref_grammar.proofs.TextLemmas.{lacks, first_of_both, second_of_both}
-use Rattle.iref_grammar.proofs.RuleLemmas.{Decides-ones}
+use Rattle.iref_grammar.proofs.{TextLemmas.{lacks, first_of_both, second_of_both}, RuleLemmas.{Decides-ones}}
 use Rattle.iref_grammar.proofs.EncodedLemmas.{take_char, Decides-is_encoded}
 use Rattle.iref_grammar.proofs.LackLemmas.{all_lacks, lacks_more, lacks-append}
 use Rattle.iref_grammar.proofs.LeafLemmas.{percent_refused, Decides-is_reg_name}
 use Rattle.iref_grammar.proofs.CutLemmas.{cut, before-part, after-part}
-use Rattle.iref_grammar.proofs.HostLemmas.{IsOutside, ipv4_lacks, address_lacks}
-use Rattle.iref_grammar.proofs.ComponentLackLemmas.{literal_parts}
+use Rattle.iref_grammar.proofs.{HostLemmas.{IsOutside, ipv4_lacks, address_lacks}, ComponentLackLemmas.{literal_parts}}
 use Rattle.iref_grammar.proofs.Ipv4Lemmas.{ipv4_value-sound, ipv4_value-complete}
-use Rattle.iref_grammar.proofs.Ipv4RuleLemmas.{ipv4_number, ipv4_in_rule}
-use Rattle.iref_grammar.proofs.Ipv6Lemmas.{ipv6_value-sound}
-use Rattle.iref_grammar.proofs.Ipv6CompleteLemmas.{ipv6_value-complete}
-use Rattle.iref_grammar.proofs.Ipv6RuleLemmas.{ipv6_number, ipv6_in_rule}
+use Rattle.iref_grammar.proofs.{Ipv4RuleLemmas.{ipv4_number, ipv4_in_rule}, Ipv6Lemmas.{ipv6_value-sound}}
+use Rattle.iref_grammar.proofs.{Ipv6CompleteLemmas.{ipv6_value-complete}, Ipv6RuleLemmas.{ipv6_number, ipv6_in_rule}}
 use Rattle.iref_grammar.proofs.Utf8RuleLemmas.{in_utf8-ascii, ascii_from_lacks}
 
 pub Decides-one_or_more : (test : ℕ → Bool) (text : Text) → Decides (not (is_empty text) && list_all test text) (OneOrMore (OneOf test) text)

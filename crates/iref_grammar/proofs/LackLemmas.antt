@@ -2,13 +2,9 @@
 use Rattle.std.proofs.Common.{◌≡◌, ℕ, ◌<◌, zero, suc, Bool, true, false, not, ◌||◌, [], ◌∷◌, ◌++◌, refl, ◌∙◌, subst, arith}
 use Rattle.std.proofs.lemmas.Grind.{common_steps}
 use Rattle.std.specs.Prelude.{◌==◌, chars, encode_utf8_all, bytes_eq, Some}
-use Rattle.std.specs.Char.{char_set_contains, encode_utf8, is_ascii_hexdigit}
-use Rattle.std.specs.Str.{is_utf8, all_scalars}
-use Rattle.std.specs.List.{list_all}
-use Rattle.std.specs.Cmp.Lexicographic.{bytes_decides}
-use Rattle.iref_grammar.specs.Rules.{Text}
-use Rattle.iref_grammar.specs.Grammar.{percent_sign}
-use Rattle.iref_grammar.specs.Tests.{is_encoded_after, is_encoded, in_utf8}
+use Rattle.std.specs.{Char.{char_set_contains, encode_utf8, is_ascii_hexdigit}, Str.{is_utf8, all_scalars}}
+use Rattle.std.specs.{List.{list_all}, Cmp.Lexicographic.{bytes_decides}}
+use Rattle.iref_grammar.specs.{Rules.{Text}, Grammar.{percent_sign}, Tests.{is_encoded_after, is_encoded, in_utf8}}
 use Rattle.iref_grammar.proofs.TextLemmas.{lacks, first_of_both, second_of_both}
 use Rattle.iref_grammar.proofs.EncodedLemmas.{by_percent, by_char, by_digit}
 

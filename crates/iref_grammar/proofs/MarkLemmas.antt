@@ -1,13 +1,9 @@
 -- The scheme and the authority that bytes begin with, by their first delimiter.
 use Rattle.std.proofs.Common.{arith, ◌≡◌, ℕ, Bool, true, false, [], ◌∷◌, refl, sym, ◌∙◌, ap, inl, inr, subst}
-use Rattle.std.specs.Prelude.{◌==◌, ◌||◌, codes}
-use Rattle.std.specs.Char.{char_set_contains}
 use Rattle.std.proofs.lemmas.Bool.Decides.{eqb_tells}
-use Rattle.iref_grammar.specs.Rules.{Text}
-use Rattle.iref_grammar.specs.Grammar.{colon}
-use Rattle.iref_grammar.specs.Texts.{before, from_first, begins_with}
-use Rattle.iref_grammar.specs.declared.context.PathContext.{PathContext}
-use Rattle.iref_grammar.specs.Contexts.{begins_with_scheme, context_from}
+use Rattle.std.specs.{Prelude.{◌==◌, ◌||◌, codes}, Char.{char_set_contains}}
+use Rattle.iref_grammar.specs.{Rules.{Text}, Grammar.{colon}, Texts.{before, from_first, begins_with}}
+use Rattle.iref_grammar.specs.{declared.context.PathContext.{PathContext}, Contexts.{begins_with_scheme, context_from}}
 use Rattle.iref_grammar.proofs.CutLemmas.{before-no, from_first-no}
 
 other_way : (c d : ℕ) → (c == d) ≡ false → (d == c) ≡ false

@@ -1,20 +1,16 @@
 -- No two references spell one text, where each part lacks the delimiters that end it.
 use Rattle.std.proofs.Common.{arith, ◌≡◌, Bool, true, false, not, cond, ◌&&◌, ◌||◌, List, [], ◌∷◌, ◌++◌, drop, refl, sym, ◌∙◌, ap, append_assoc}
-use Rattle.std.proofs.lemmas.Grind.{common_steps}
-use Rattle.std.specs.Prelude.{◌==◌, Option, Some, None, option_map, codes, is_some, IfSome}
-use Rattle.std.specs.Char.{char_set_contains}
+use Rattle.std.proofs.{lemmas.Grind.{common_steps}, lemmas.Bool.{not-true}}
+use Rattle.std.specs.{Prelude.{◌==◌, Option, Some, None, option_map, codes, is_some, IfSome}, Char.{char_set_contains}}
 use Rattle.std.specs.List.{list_all, join_with_byte}
-use Rattle.std.proofs.lemmas.Bool.{not-true}
 use mathlib.Core.Bool.{true≢false}
-use Rattle.iref_grammar.specs.Rules.{Text}
-use Rattle.iref_grammar.specs.Grammar.{hash_sign, slash, colon, question_mark}
+use Rattle.iref_grammar.specs.{Rules.{Text}, Grammar.{hash_sign, slash, colon, question_mark}}
 use Rattle.iref_grammar.specs.Texts.{before, from_first, after, after_first_char, begins_with, part_then, then_part, is_empty}
 use Rattle.iref_grammar.specs.Authority.{AuthorityValue, spell_authority, read_authority}
 use Rattle.iref_grammar.specs.Reference.{spell, scheme_of, split_scheme, split_authority, read_reference, ReferenceValue, context_of}
-use Rattle.iref_grammar.proofs.PathLemmas.{read-spelled}
 use Rattle.iref_grammar.specs.PathValue.{PathValue, spell_path, read_path, shows_its_list, begins_empty, is_one_empty}
 use Rattle.iref_grammar.specs.Contexts.{follows_authority, is_no_authority, is_no_scheme, begins_with_colon_segment}
-use Rattle.iref_grammar.proofs.TextLemmas.{lacks, first_of_both}
+use Rattle.iref_grammar.proofs.{PathLemmas.{read-spelled}, TextLemmas.{lacks, first_of_both}}
 use Rattle.iref_grammar.proofs.CutLemmas.{before-no, first_lacks, rest_lacks, no_mark, before-lacking, from_first-lacking, before-mark, before-part, after-part}
 use Rattle.iref_grammar.proofs.ReferenceCutLemmas.{regroup}
 use Rattle.iref_grammar.proofs.AuthorityLemmas.{IsDelimitedAuthority, read_authority-back}

@@ -1,17 +1,12 @@
 -- Parts that may be left out, lists of parts, and the parts that are ASCII.
 use Rattle.std.proofs.Common.{◌≡◌, ℕ, Bool, true, false, List, [], ◌∷◌, refl, arith, ◌≤◌}
-use Rattle.std.specs.Prelude.{Option, Some, None, IfSome}
-use Rattle.std.specs.Char.{is_ascii_alphabetic, is_ascii_digit, is_ascii}
-use Rattle.std.specs.List.{list_all, AllByRecursion}
 use Rattle.std.proofs.lemmas.Bool.Decides.{nat_tests, Decides-like, Decides-and}
-use Rattle.iref_grammar.specs.Rules.{Text, InUtf8}
-use Rattle.iref_grammar.specs.Grammar.{is_scheme_char, IsScheme, IsPort}
-use Rattle.std.specs.Bool.{Decides}
+use Rattle.std.specs.{Prelude.{Option, Some, None, IfSome}, Char.{is_ascii_alphabetic, is_ascii_digit, is_ascii}}
+use Rattle.std.specs.{List.{list_all, AllByRecursion}, Bool.{Decides}}
+use Rattle.iref_grammar.specs.{Rules.{Text, InUtf8}, Grammar.{is_scheme_char, IsScheme, IsPort}}
 use Rattle.iref_grammar.specs.Tests.{none_or, is_port, is_scheme}
-use Rattle.iref_grammar.proofs.LackLemmas.{all_lacks}
-use Rattle.iref_grammar.proofs.LeafLemmas.{Decides-is_scheme, Decides-is_port}
-use Rattle.iref_grammar.proofs.ComponentLackLemmas.{scheme_lacks}
-use Rattle.iref_grammar.proofs.Utf8RuleLemmas.{in_utf8-ascii, ascii_from_lacks}
+use Rattle.iref_grammar.proofs.{LackLemmas.{all_lacks}, LeafLemmas.{Decides-is_scheme, Decides-is_port}}
+use Rattle.iref_grammar.proofs.{ComponentLackLemmas.{scheme_lacks}, Utf8RuleLemmas.{in_utf8-ascii, ascii_from_lacks}}
 
 -- ---- options and lists
 

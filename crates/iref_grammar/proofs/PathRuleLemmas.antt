@@ -1,20 +1,14 @@
 -- The path rules: their texts are the spellings of the paths that may stand there.
 use Rattle.std.proofs.Common.{arith, ◌≡◌, Bool, true, false, not, ◌&&◌, ◌||◌, List, [], ◌∷◌, ◌++◌, refl, sym, ◌∙◌, ap, inl, inr}
-use Rattle.std.proofs.Math.Logic.{◌↔◌}
+use Rattle.std.proofs.{Math.Logic.{◌↔◌}, lemmas.List.{append-nil}, lemmas.Bool.{not-true}, Math.Bool.{or-true}}
 use Rattle.std.specs.List.{AllByRecursion, concat, join_with_byte}
-use Rattle.std.proofs.lemmas.List.{append-nil}
-use Rattle.std.proofs.lemmas.Bool.{not-true}
-use Rattle.std.proofs.Math.Bool.{or-true}
 use mathlib.Core.Bool.{true≢false}
-use Rattle.iref_grammar.specs.declared.context.PathContext.{PathContext}
-use Rattle.iref_grammar.specs.Characters.{CharTests, AreAboveAscii}
+use Rattle.iref_grammar.specs.{declared.context.PathContext.{PathContext}, Characters.{CharTests, AreAboveAscii}}
 use Rattle.iref_grammar.specs.Rules.{Text, Rule, Empty, Mark, ◌⨾◌, ◌or◌, Optional, ZeroOrMore, InUtf8}
 use Rattle.iref_grammar.specs.Grammar.{slash, colon, IsPathChar, IsSegment, IsNonEmptySegment, IsNonColonSegment, IsAbEmptyPath, IsRootlessPath, IsAbsolutePath}
-use Rattle.iref_grammar.specs.Texts.{is_empty}
-use Rattle.iref_grammar.specs.PathValue.{PathValue, spell_path, shows_its_list, begins_empty}
+use Rattle.iref_grammar.specs.{Texts.{is_empty}, PathValue.{PathValue, spell_path, shows_its_list, begins_empty}}
 use Rattle.iref_grammar.specs.Contexts.{follows_authority, is_no_authority, is_no_scheme, reads_as_path}
-use Rattle.iref_grammar.proofs.TextLemmas.{lacks, first_of_both, second_of_both}
-use Rattle.iref_grammar.proofs.RuleLemmas.{none_of, one_more}
+use Rattle.iref_grammar.proofs.{TextLemmas.{lacks, first_of_both, second_of_both}, RuleLemmas.{none_of, one_more}}
 use Rattle.iref_grammar.proofs.Utf8RuleLemmas.{in_utf8-joined, in_utf8-or, in_utf8-more, in_utf8-empty, in_utf8-mark}
 use Rattle.iref_grammar.proofs.SegmentRuleLemmas.{in_utf8-nonempty, in_utf8-non_colon}
 

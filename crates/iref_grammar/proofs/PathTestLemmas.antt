@@ -1,25 +1,19 @@
 -- Paths: each test, by its one reading, decides its rule.
 use Rattle.std.proofs.Common.{arith, ◌≡◌, Bool, true, false, ◌&&◌, List, [], ◌∷◌, ◌++◌, refl, sym, ◌∙◌, ap, subst, append_assoc, inl, inr}
-use Rattle.std.proofs.Math.Logic.{◌↔◌}
-use Rattle.std.specs.Bool.{Decides}
-use Rattle.std.specs.List.{AllByRecursion, concat, list_all, join_with_byte}
-use Rattle.std.proofs.lemmas.Bool.Decides.{Decides-like, same_from_decides}
+use Rattle.std.proofs.{Math.Logic.{◌↔◌}, lemmas.Bool.Decides.{Decides-like, same_from_decides}}
 use Rattle.std.proofs.lemmas.Bool.{and_from, and_parts}
-use Rattle.iref_grammar.specs.declared.context.PathContext.{PathContext}
-use Rattle.iref_grammar.specs.Characters.{CharTests, AreAboveAscii}
+use Rattle.std.specs.{Bool.{Decides}, List.{AllByRecursion, concat, list_all, join_with_byte}}
+use Rattle.iref_grammar.specs.{declared.context.PathContext.{PathContext}, Characters.{CharTests, AreAboveAscii}}
 use Rattle.iref_grammar.specs.Rules.{Text, Rule, Empty, Mark, ◌or◌, ZeroOrMore, InUtf8}
 use Rattle.iref_grammar.specs.Grammar.{slash, IsPathChar, IsSegment, IsAbEmptyPath, IsAbsolutePath, IsRootlessPath, IsNoSchemePath, IsPath}
-use Rattle.iref_grammar.specs.Texts.{pieces_at}
-use Rattle.iref_grammar.specs.Tests.{is_segment, is_path}
+use Rattle.iref_grammar.specs.{Texts.{pieces_at}, Tests.{is_segment, is_path}}
 use Rattle.iref_grammar.specs.PathValue.{PathValue, spell_path, shows_its_list, read_path}
 use Rattle.iref_grammar.specs.Contexts.{follows_authority, is_no_authority, is_no_scheme, reads_as_path, fits, is_readable_path, is_path_in, alone}
 use Rattle.iref_grammar.proofs.TextLemmas.{lacks, first_of_both, second_of_both, pieces_at-join}
-use Rattle.iref_grammar.proofs.RuleLemmas.{none_of, one_more, more_like, more-append}
-use Rattle.iref_grammar.proofs.LeafLemmas.{Decides-is_segment}
+use Rattle.iref_grammar.proofs.{RuleLemmas.{none_of, one_more, more_like, more-append}, LeafLemmas.{Decides-is_segment}}
 use Rattle.iref_grammar.proofs.PathLemmas.{read_path-reads, read_path-only}
 use Rattle.iref_grammar.proofs.ComponentLackLemmas.{slash_cuts, segments_lack}
-use Rattle.iref_grammar.proofs.Utf8RuleLemmas.{in_utf8-or, in_utf8-more, in_utf8-mark}
-use Rattle.iref_grammar.proofs.PartRuleLemmas.{Decides-all}
+use Rattle.iref_grammar.proofs.{Utf8RuleLemmas.{in_utf8-or, in_utf8-more, in_utf8-mark}, PartRuleLemmas.{Decides-all}}
 use Rattle.iref_grammar.proofs.PathRuleLemmas.{AreSegments, IsPathIn, in_utf8-after_authority, in_utf8-alone}
 use Rattle.iref_grammar.proofs.PathTextLemmas.{PathPiece, Decides-is_path}
 

@@ -1,21 +1,13 @@
 -- Percent-encoded texts, and the rules whose texts are among them.
-use Rattle.std.proofs.Common.{arith, ◌≡◌, ℕ, Bool, true, [], ◌∷◌, refl, ◌⊎◌}
-use Rattle.std.proofs.lemmas.Bool.{and_from}
-use Rattle.std.specs.Prelude.{Option, Some, None, chars}
-use Rattle.std.specs.Bool.{Decides}
-use Rattle.std.specs.Str.{is_utf8}
-use Rattle.std.specs.List.{list_all}
-use Rattle.iref_grammar.specs.Rules.{Text, InUtf8}
-use Rattle.iref_grammar.specs.Characters.{CharTests}
+use Rattle.std.proofs.{Common.{arith, ◌≡◌, ℕ, Bool, true, [], ◌∷◌, refl, ◌⊎◌}, lemmas.Bool.{and_from}}
+use Rattle.std.specs.{Prelude.{Option, Some, None, chars}, Bool.{Decides}, Str.{is_utf8}, List.{list_all}}
+use Rattle.iref_grammar.specs.{Rules.{Text, InUtf8}, Characters.{CharTests}}
 use Rattle.iref_grammar.specs.Grammar.{percent_sign, is_not_percent, is_user_info_char, is_reg_name_char, is_path_char, is_query_char, is_fragment_char, IsPctStr}
 use Rattle.iref_grammar.specs.Tests.{owed_after, is_encoded_after, is_encoded, in_utf8, is_pct_str, is_user_info, is_reg_name, is_segment, is_query, is_fragment, is_ip_literal, is_host}
-use Rattle.iref_grammar.proofs.TextLemmas.{lacks, first_of_both, second_of_both}
-use Rattle.iref_grammar.proofs.LackLemmas.{lacks-append}
-use Rattle.iref_grammar.proofs.HostLemmas.{address_lacks}
-use Rattle.iref_grammar.proofs.ComponentLackLemmas.{literal_parts}
+use Rattle.iref_grammar.proofs.{TextLemmas.{lacks, first_of_both, second_of_both}, LackLemmas.{lacks-append}}
+use Rattle.iref_grammar.proofs.{HostLemmas.{address_lacks}, ComponentLackLemmas.{literal_parts}}
 use Rattle.iref_grammar.proofs.HostRuleLemmas.{ones_encoded, Decides-is_ip_literal, Decides-is_ip_literal_bytes}
-use Rattle.iref_grammar.proofs.EncodedLemmas.{Decides-is_encoded}
-use Rattle.iref_grammar.proofs.LeafLemmas.{Decides-in_utf8}
+use Rattle.iref_grammar.proofs.{EncodedLemmas.{Decides-is_encoded}, LeafLemmas.{Decides-in_utf8}}
 
 pub Decides-is_pct_str : (bytes : Text) → Decides (is_pct_str bytes) (InUtf8 IsPctStr bytes)
 unfolding is_pct_str

@@ -1,22 +1,16 @@
 -- A readable reference is delimited, so it is the one that is read from its text.
 use Rattle.std.proofs.Common.{arith, ◌≡◌, ℕ, Bool, true, false, ◌&&◌, List, [], ◌∷◌, ◌++◌, refl}
 use Rattle.std.proofs.lemmas.Bool.{and_parts}
-use Rattle.std.specs.Prelude.{◌==◌, Option, Some, None, option_map, codes, IfSome}
-use Rattle.std.specs.Char.{is_ascii_alphabetic}
+use Rattle.std.specs.{Prelude.{◌==◌, Option, Some, None, option_map, codes, IfSome}, Char.{is_ascii_alphabetic}}
 use Rattle.std.specs.List.{list_all, join_with_byte}
-use Rattle.iref_grammar.specs.Rules.{Text}
-use Rattle.iref_grammar.specs.Grammar.{hash_sign, slash, colon, question_mark, at_sign, is_scheme_char}
+use Rattle.iref_grammar.specs.{Rules.{Text}, Grammar.{hash_sign, slash, colon, question_mark, at_sign, is_scheme_char}}
 use Rattle.iref_grammar.specs.Texts.{part_then, then_part}
 use Rattle.iref_grammar.specs.Authority.{AuthorityValue, spell_authority, has_authority_parts}
 use Rattle.iref_grammar.specs.Reference.{spell, read_reference, ReferenceValue, context_of, is_readable}
-use Rattle.iref_grammar.specs.PathValue.{spell_path, shows_its_list}
-use Rattle.iref_grammar.specs.Contexts.{is_no_authority, is_no_scheme}
-use Rattle.iref_grammar.proofs.TextLemmas.{lacks}
-use Rattle.iref_grammar.proofs.ReadablePartsLemmas.{readable_parts}
-use Rattle.iref_grammar.specs.Characters.{CharTests, AreAboveAscii}
-use Rattle.iref_grammar.specs.Tests.{none_or, is_scheme, is_segment, is_query}
-use Rattle.iref_grammar.proofs.LackLemmas.{lacks_more, lacks-append}
-use Rattle.iref_grammar.proofs.HostLemmas.{join_lacks}
+use Rattle.iref_grammar.specs.{PathValue.{spell_path, shows_its_list}, Contexts.{is_no_authority, is_no_scheme}}
+use Rattle.iref_grammar.specs.{Characters.{CharTests, AreAboveAscii}, Tests.{none_or, is_scheme, is_segment, is_query}}
+use Rattle.iref_grammar.proofs.{TextLemmas.{lacks}, ReadablePartsLemmas.{readable_parts}}
+use Rattle.iref_grammar.proofs.{LackLemmas.{lacks_more, lacks-append}, HostLemmas.{join_lacks}}
 use Rattle.iref_grammar.proofs.OnlyLemmas.{IsDelimited, front_of, read_reference-back}
 use Rattle.iref_grammar.proofs.AuthorityLemmas.{IsDelimitedAuthority, delimited_authority, whole_authority_lacks}
 use Rattle.iref_grammar.proofs.ComponentLackLemmas.{scheme_lacks, IsCut, slash_cuts, question_cuts, hash_cuts, segments_lack, query_lacks, part_then_lacks, then_part_lacks, option_lacks}

@@ -1,11 +1,8 @@
 -- The conditions of a readable reference, one by one.
-use Rattle.std.proofs.Common.{arith, ◌≡◌, true}
-use Rattle.std.proofs.lemmas.Bool.{and_parts}
+use Rattle.std.proofs.{Common.{arith, ◌≡◌, true}, lemmas.Bool.{and_parts}}
 use Rattle.std.specs.List.{list_all}
-use Rattle.iref_grammar.specs.Characters.{CharTests}
-use Rattle.iref_grammar.specs.Tests.{is_scheme, is_segment, is_query, is_fragment, none_or}
-use Rattle.iref_grammar.specs.Authority.{has_authority_parts}
-use Rattle.iref_grammar.specs.Contexts.{follows_authority, reads_as_path}
+use Rattle.iref_grammar.specs.{Characters.{CharTests}, Tests.{is_scheme, is_segment, is_query, is_fragment, none_or}}
+use Rattle.iref_grammar.specs.{Authority.{has_authority_parts}, Contexts.{follows_authority, reads_as_path}}
 use Rattle.iref_grammar.specs.Reference.{ReferenceValue, context_of, is_readable}
 
 pub record HasReadableParts (set : CharTests) (r : ReferenceValue) : Type 0 where

@@ -2,13 +2,10 @@
 use Prim.Native.String.{String}
 use Rattle.std.specs.Prelude.{◌≡◌, ℕ, Bool, true, false, List, [], ◌∷◌, map, codes, Option, Some, None, option_map, refl}
 use Rattle.std.specs.declared.ops.Range.{Range}
-use Rattle.iref_grammar.specs.declared.offsets.Offsets.{Offsets}
-use Rattle.iref_grammar.specs.declared.context.PathContext.{PathContext}
-use Rattle.iref_grammar.specs.Rules.{Text}
-use Rattle.iref_grammar.specs.Contexts.{context_from}
+use Rattle.iref_grammar.specs.{declared.offsets.Offsets.{Offsets}, declared.context.PathContext.{PathContext}}
+use Rattle.iref_grammar.specs.{Rules.{Text}, Contexts.{context_from}}
 use Rattle.iref_grammar.specs.Authority.{AuthorityValue, spell_authority, read_authority}
-use Rattle.iref_grammar.specs.PathValue.{PathValue, spell_path, read_path}
-use Rattle.iref_grammar.specs.Reference.{ReferenceValue, read_reference}
+use Rattle.iref_grammar.specs.{PathValue.{PathValue, spell_path, read_path}, Reference.{ReferenceValue, read_reference}}
 use Rattle.iref_grammar.specs.ComponentOffsets.{offsets_in, offsets_of}
 
 -- ---- references (RFC 3986 section 3 and appendix B)

@@ -2,14 +2,10 @@
 use Rattle.std.proofs.Common.{arith, ◌≡◌, [], ◌∷◌, ◌++◌, refl, sym, ◌∙◌, ap, append_assoc}
 use Rattle.std.proofs.lemmas.Grind.{common_steps}
 use Rattle.std.specs.Prelude.{Option, Some, None, option_map, codes}
-use Rattle.iref_grammar.specs.Rules.{Text}
-use Rattle.iref_grammar.specs.Grammar.{hash_sign, colon, question_mark}
-use Rattle.iref_grammar.specs.Texts.{before, after, part_then, then_part}
-use Rattle.iref_grammar.specs.Authority.{spell_authority, read_authority}
+use Rattle.iref_grammar.specs.{Rules.{Text}, Grammar.{hash_sign, colon, question_mark}}
+use Rattle.iref_grammar.specs.{Texts.{before, after, part_then, then_part}, Authority.{spell_authority, read_authority}}
 use Rattle.iref_grammar.specs.Reference.{spell, scheme_of, split_scheme, split_authority, hierarchy, read_reference}
-use Rattle.iref_grammar.proofs.PathLemmas.{read_path-reads}
-use Rattle.iref_grammar.proofs.CutLemmas.{cut}
-use Rattle.iref_grammar.proofs.AuthorityLemmas.{read_authority-spelled}
+use Rattle.iref_grammar.proofs.{PathLemmas.{read_path-reads}, CutLemmas.{cut}, AuthorityLemmas.{read_authority-spelled}}
 
 scheme-cut : (front : Text) (rest : Option Text) (text : Text) → front ++ then_part (colon ∷ []) rest ≡ text → let s = scheme_of front rest text in part_then (colon ∷ []) s.0 ++ s.1 ≡ text
 scheme-cut front None text e = refl

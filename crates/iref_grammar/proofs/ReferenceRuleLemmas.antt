@@ -1,19 +1,15 @@
 -- References: the test, by its one reading, decides the rule.
 use Rattle.std.proofs.Common.{arith, ◌≡◌, ℕ, Bool, true, false, ◌&&◌, [], ◌∷◌, ◌++◌, refl, sym, ◌∙◌, ap, subst, append_assoc, inl, inr}
-use Rattle.std.proofs.Math.Logic.{◌↔◌}
-use Rattle.std.specs.Prelude.{codes, Option, Some, None, option_map, IfSome, IsSome, is_some}
-use Rattle.std.specs.Bool.{Decides}
+use Rattle.std.proofs.{Math.Logic.{◌↔◌}, lemmas.Bool.Decides.{Decides-like, Decides-and}, lemmas.Bool.{and_from}}
+use Rattle.std.specs.{Prelude.{codes, Option, Some, None, option_map, IfSome, IsSome, is_some}, Bool.{Decides}}
 use Rattle.std.specs.List.{list_all}
-use Rattle.std.proofs.lemmas.Bool.Decides.{Decides-like, Decides-and}
-use Rattle.std.proofs.lemmas.Bool.{and_from}
 use mathlib.Core.Bool.{true≢false}
 use Rattle.iref_grammar.specs.Characters.{CharTests, AreAboveAscii}
 use Rattle.iref_grammar.specs.Rules.{Text, Rule, Mark, ◌⨾◌, ◌or◌, Optional, InUtf8}
 use Rattle.iref_grammar.specs.Grammar.{hash_sign, slash, colon, question_mark, IsScheme, IsAuthority, IsSegment, IsAbEmptyPath, IsQuery, IsFragment, IsNetPath, IsHierPart, IsRelativePart, IsQueryAndFragment, IsUri, IsUriReference}
 use Rattle.iref_grammar.specs.Tests.{none_or, is_scheme, is_segment, is_query, is_fragment}
 use Rattle.iref_grammar.specs.Authority.{AuthorityValue, spell_authority, HasAuthorityParts, has_authority_parts}
-use Rattle.iref_grammar.specs.Texts.{part_then, then_part}
-use Rattle.iref_grammar.specs.PathValue.{PathValue, spell_path}
+use Rattle.iref_grammar.specs.{Texts.{part_then, then_part}, PathValue.{PathValue, spell_path}}
 use Rattle.iref_grammar.specs.Contexts.{follows_authority, reads_as_path}
 use Rattle.iref_grammar.specs.Reference.{ReferenceValue, context_of, spell, IsReadable, IsReadAsReference, is_readable, read_reference, is_reference, is_uri}
 use Rattle.iref_grammar.proofs.TextLemmas.{first_of_both, second_of_both}

@@ -1,7 +1,6 @@
 -- The forms of rules.
 use Rattle.std.proofs.Common.{arith, ◌≡◌, ℕ, Bool, true, List, [], ◌∷◌, ◌++◌, refl, sym, ap, subst, append_assoc}
-use Rattle.std.specs.List.{AllByRecursion, concat, list_all}
-use Rattle.std.specs.Bool.{Decides}
+use Rattle.std.specs.{List.{AllByRecursion, concat, list_all}, Bool.{Decides}}
 use Rattle.iref_grammar.specs.Rules.{Text, Rule, ZeroOrMore, OneOf}
 use Rattle.iref_grammar.proofs.TextLemmas.{first_of_both, second_of_both}
 

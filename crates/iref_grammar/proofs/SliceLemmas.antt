@@ -1,11 +1,7 @@
 -- Slices of a text that end at a delimiter.
-use Rattle.std.proofs.Common.{◌≡◌, ℕ, ◌<◌, [], ◌∷◌, ◌++◌, length, refl, arith}
-use Rattle.std.specs.Prelude.{◌==◌, Option, Some, None}
-use Rattle.std.specs.Str.{IsCharBoundary}
-use Rattle.std.specs.List.{position_or_len}
-use Rattle.std.proofs.lemmas.Grind.{common_steps}
-use Rattle.iref_grammar.specs.Rules.{Text}
-use Rattle.iref_grammar.specs.Texts.{then_part, pieces_at}
+use Rattle.std.proofs.{Common.{◌≡◌, ℕ, ◌<◌, [], ◌∷◌, ◌++◌, length, refl, arith}, lemmas.Grind.{common_steps}}
+use Rattle.std.specs.{Prelude.{◌==◌, Option, Some, None}, Str.{IsCharBoundary}, List.{position_or_len}}
+use Rattle.iref_grammar.specs.{Rules.{Text}, Texts.{then_part, pieces_at}}
 
 -- a text may be cut before an ASCII delimiter, and at its end
 pub mark_boundary : (mark : ℕ) (front : Text) (back : Option Text) (text : Text) → mark < 128 → front ++ then_part (mark ∷ []) back ≡ text → IsCharBoundary text (length front)

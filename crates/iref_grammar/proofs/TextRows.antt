@@ -1,11 +1,8 @@
 -- Worked rows of the texts of each rule: what it takes and refuses, computed.
 use Prim.Native.String.{String}
-use Rattle.std.specs.Prelude.{◌≡◌, Bool, true, false, List, [], ◌∷◌, map, refl}
-use Rattle.std.specs.Str.{is_utf8, chars}
+use Rattle.std.specs.{Prelude.{◌≡◌, Bool, true, false, List, [], ◌∷◌, map, refl}, Str.{is_utf8, chars}}
 use Rattle.std.specs.Char.{encode_utf8}
-use Rattle.iref_grammar.specs.Characters.{iri_chars}
-use Rattle.iref_grammar.specs.Rules.{Text}
-use Rattle.iref_grammar.specs.IpAddresses.{ipv4_value, ipv6_value}
+use Rattle.iref_grammar.specs.{Characters.{iri_chars}, Rules.{Text}, IpAddresses.{ipv4_value, ipv6_value}}
 use Rattle.iref_grammar.specs.Grammar.{is_reg_name_char, is_user_info_char, is_path_char, is_fragment_char, is_query_char}
 use Rattle.iref_grammar.specs.Tests.{owed_after, is_pct_str, is_scheme, is_port, is_user_info, is_reg_name, is_ipvfuture, is_ip_literal, is_host, is_segment, is_path, is_query, is_fragment}
 use Rattle.iref_grammar.specs.Authority.{read_authority, has_authority_parts, is_authority}

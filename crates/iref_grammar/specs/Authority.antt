@@ -1,7 +1,6 @@
 -- Authorities in parts (RFC 3986 section 3.2).
 use Rattle.std.specs.Prelude.{Bool, ◌&&◌, [], ◌∷◌, ◌++◌, Option, Some, None, IfSome, if◌then◌else◌}
-use Rattle.iref_grammar.specs.Characters.{CharTests}
-use Rattle.iref_grammar.specs.Rules.{Text, InUtf8}
+use Rattle.iref_grammar.specs.{Characters.{CharTests}, Rules.{Text, InUtf8}}
 use Rattle.iref_grammar.specs.Grammar.{colon, at_sign, left_bracket, right_bracket, IsUserInfo, IsHost, IsPort}
 use Rattle.iref_grammar.specs.Texts.{part_then, then_part, before, after, from_first, begins_with}
 use Rattle.iref_grammar.specs.Tests.{is_user_info, is_host, is_port, none_or}

@@ -1,13 +1,8 @@
 -- Where the components of a reference stand in its text, in bytes.
-use Rattle.std.specs.Prelude.{ℕ, ◌+◌, [], ◌∷◌, length, codes, option_map}
-use Rattle.std.specs.List.{slice_range}
+use Rattle.std.specs.{Prelude.{ℕ, ◌+◌, [], ◌∷◌, length, codes, option_map}, List.{slice_range}}
 use Rattle.std.specs.declared.ops.Range.{Range}
-use Rattle.iref_grammar.specs.declared.offsets.Offsets.{Offsets}
-use Rattle.iref_grammar.specs.Rules.{Text}
-use Rattle.iref_grammar.specs.Grammar.{colon, question_mark}
-use Rattle.iref_grammar.specs.Texts.{part_then, then_part}
-use Rattle.iref_grammar.specs.Authority.{spell_authority}
-use Rattle.iref_grammar.specs.PathValue.{spell_path}
+use Rattle.iref_grammar.specs.{declared.offsets.Offsets.{Offsets}, Rules.{Text}, Grammar.{colon, question_mark}}
+use Rattle.iref_grammar.specs.{Texts.{part_then, then_part}, Authority.{spell_authority}, PathValue.{spell_path}}
 use Rattle.iref_grammar.specs.Reference.{ReferenceValue, read_reference}
 
 -- a part that begins at start

@@ -1,11 +1,9 @@
 -- The texts of the components of a reference.
 use Rattle.std.specs.Prelude.{◌≡◌, true, Option, option_map}
-use Rattle.iref_grammar.specs.Characters.{CharTests}
-use Rattle.iref_grammar.specs.Rules.{Text}
+use Rattle.iref_grammar.specs.{Characters.{CharTests}, Rules.{Text}}
 use Rattle.iref_grammar.specs.Tests.{none_or, is_scheme, is_path, is_query, is_fragment}
 use Rattle.iref_grammar.specs.Authority.{spell_authority, read_authority, is_authority}
-use Rattle.iref_grammar.specs.PathValue.{spell_path, read_path}
-use Rattle.iref_grammar.specs.Reference.{ReferenceValue}
+use Rattle.iref_grammar.specs.{PathValue.{spell_path, read_path}, Reference.{ReferenceValue}}
 
 pub record ComponentTexts : Type 0 where
   pub scheme : Option Text

@@ -1,13 +1,8 @@
 -- What stands before a path, and which paths may stand there (RFC 3986 sections 3.3 and 4.2).
 use Rattle.std.specs.Prelude.{Bool, false, not, ◌&&◌, ◌||◌, if◌then◌else◌, codes, List, [], ◌∷◌}
-use Rattle.std.specs.Char.{char_set_contains}
-use Rattle.std.specs.List.{list_all}
-use Rattle.iref_grammar.specs.declared.context.PathContext.{PathContext}
-use Rattle.iref_grammar.specs.Characters.{CharTests}
-use Rattle.iref_grammar.specs.Rules.{Text}
-use Rattle.iref_grammar.specs.Grammar.{colon}
-use Rattle.iref_grammar.specs.Texts.{before, from_first, begins_with, is_empty}
-use Rattle.iref_grammar.specs.Tests.{is_segment}
+use Rattle.std.specs.{Char.{char_set_contains}, List.{list_all}}
+use Rattle.iref_grammar.specs.{declared.context.PathContext.{PathContext}, Characters.{CharTests}, Rules.{Text}}
+use Rattle.iref_grammar.specs.{Grammar.{colon}, Texts.{before, from_first, begins_with, is_empty}, Tests.{is_segment}}
 use Rattle.iref_grammar.specs.PathValue.{PathValue, begins_empty, shows_its_list, read_path}
 
 -- of a path that stands alone

@@ -1,13 +1,9 @@
 -- IPv4 and IPv6 addresses, with the numbers that they stand for (RFC 3986 section 3.2.2), and the same as tests.
 use Rattle.std.specs.Prelude.{◌≡◌, ℕ, ◌+◌, ◌-◌, ◌*◌, ◌/◌, ◌%◌, ◌<◌, ◌≤◌, ◌&&◌, ◌⊎◌, List, [], ◌∷◌, ◌++◌, length, replicate, fold, decimal, true}
 use Rattle.std.specs.Prelude.{bytes_eq, codes, drop, map, Option, Some, None, option_map, option_and_then, not, nat_lt, nat_le, ◌==◌}
-use Rattle.std.specs.Prelude.{if◌then◌else◌}
-use Rattle.std.specs.List.{AllZip, join_with_byte, list_all}
-use Rattle.std.specs.Option.{option_or}
-use Rattle.std.specs.Char.{is_ascii_hexdigit}
-use Rattle.std.specs.Str.Parse.{digits_value}
-use Rattle.iref_grammar.specs.Rules.{Text}
-use Rattle.iref_grammar.specs.Texts.{pieces_at, is_empty, begins_with}
+use Rattle.std.specs.{Prelude.{if◌then◌else◌}, List.{AllZip, join_with_byte, list_all}, Option.{option_or}}
+use Rattle.std.specs.{Char.{is_ascii_hexdigit}, Str.Parse.{digits_value}}
+use Rattle.iref_grammar.specs.{Rules.{Text}, Texts.{pieces_at, is_empty, begins_with}}
 
 -- the number of parts below base, the first one highest
 abbrev pub number_of : ℕ → List ℕ → ℕ

@@ -1,7 +1,5 @@
 -- What texts are compared by: bytes. Equal keys are equal texts, and the order is that of bytes.
-use Rattle.std.specs.Prelude.{Bool, ◌==◌}
-use Rattle.std.specs.Ordering.{nat_cmp}
-use Rattle.std.specs.Cmp.Lexicographic.{pointwise, slice_cmp}
+use Rattle.std.specs.{Prelude.{Bool, ◌==◌}, Ordering.{nat_cmp}, Cmp.Lexicographic.{pointwise, slice_cmp}}
 use Rattle.std.specs.declared.cmp.Ordering.{Ordering}
 use Rattle.iref_grammar.specs.Rules.{Text}
 

@@ -1,10 +1,7 @@
 -- Paths as lists of segments (RFC 3986 section 3.3).
 use Rattle.std.specs.Prelude.{◌≡◌, Bool, true, false, not, ◌&&◌, List, [], ◌∷◌, ◌++◌, ◌==◌, if◌then◌else◌}
-use Rattle.std.specs.List.{join_with_byte, list_all}
-use Rattle.std.specs.Char.{char_set_contains}
-use Rattle.iref_grammar.specs.Rules.{Text}
-use Rattle.iref_grammar.specs.Grammar.{slash}
-use Rattle.iref_grammar.specs.Texts.{pieces_at, is_empty}
+use Rattle.std.specs.{List.{join_with_byte, list_all}, Char.{char_set_contains}}
+use Rattle.iref_grammar.specs.{Rules.{Text}, Grammar.{slash}, Texts.{pieces_at, is_empty}}
 
 pub record PathValue : Type 0 where
   pub absolute : Bool

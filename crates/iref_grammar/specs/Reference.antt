@@ -1,10 +1,7 @@
 -- References in components (RFC 3986 sections 4.1 and 5.3).
 use Rattle.std.specs.Prelude.{◌≡◌, Bool, ◌&&◌, [], ◌∷◌, ◌++◌, drop, codes, Option, Some, None, IfSome, is_some, option_map, if◌then◌else◌, true}
-use Rattle.std.specs.List.{AllByRecursion, list_all}
-use Rattle.std.specs.Char.{char_set_contains}
-use Rattle.iref_grammar.specs.declared.context.PathContext.{PathContext}
-use Rattle.iref_grammar.specs.Characters.{CharTests}
-use Rattle.iref_grammar.specs.Rules.{Text, InUtf8}
+use Rattle.std.specs.{List.{AllByRecursion, list_all}, Char.{char_set_contains}}
+use Rattle.iref_grammar.specs.{declared.context.PathContext.{PathContext}, Characters.{CharTests}, Rules.{Text, InUtf8}}
 use Rattle.iref_grammar.specs.Grammar.{hash_sign, slash, colon, question_mark, IsScheme, IsSegment, IsQuery, IsFragment}
 use Rattle.iref_grammar.specs.Texts.{before, after, from_first, begins_with, part_then, then_part}
 use Rattle.iref_grammar.specs.Tests.{is_scheme, is_segment, is_query, is_fragment, none_or}

@@ -1,13 +1,8 @@
 -- The rules of the grammar as tests of bytes that compute. Rules of ASCII alone are tested on bytes and on characters by one test.
 use Rattle.std.specs.Prelude.{◌≡◌, ℕ, ◌<◌, length, MatchOption, ◌-◌, nat_lt, Bool, true, false, ◌&&◌, ◌||◌, not, ◌==◌, [], ◌∷◌, Option, Some}
-use Rattle.std.specs.Prelude.{None, is_some, chars, if◌then◌else◌, codes}
-use Rattle.std.specs.Borrow.{Bor}
-use Rattle.std.specs.List.{list_all}
-use Rattle.std.specs.Str.{is_utf8}
-use Rattle.std.specs.Char.{is_ascii_alphabetic, is_ascii_digit, is_ascii_hexdigit, char_set_contains}
-use Rattle.iref_grammar.specs.Characters.{CharTests}
-use Rattle.iref_grammar.specs.Rules.{Text}
-use Rattle.iref_grammar.specs.Texts.{before, after, is_empty}
+use Rattle.std.specs.{Prelude.{None, is_some, chars, if◌then◌else◌, codes}, Borrow.{Bor}, List.{list_all}}
+use Rattle.std.specs.{Str.{is_utf8}, Char.{is_ascii_alphabetic, is_ascii_digit, is_ascii_hexdigit, char_set_contains}}
+use Rattle.iref_grammar.specs.{Characters.{CharTests}, Rules.{Text}, Texts.{before, after, is_empty}}
 use Rattle.iref_grammar.specs.IpAddresses.{ipv4_value, ipv6_value}
 use Rattle.iref_grammar.specs.Grammar.{percent_sign, is_not_percent, full_stop, slash, left_bracket, right_bracket, is_scheme_char}
 use Rattle.iref_grammar.specs.Grammar.{is_user_info_char, is_reg_name_char, is_future_char, is_path_char, is_query_char, is_fragment_char}

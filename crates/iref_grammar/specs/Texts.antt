@@ -1,7 +1,6 @@
 -- Cuts of a text at a delimiter. The delimiters are ASCII, so they cut bytes where they cut characters.
 use Rattle.std.specs.Prelude.{ℕ, Bool, true, false, not, ◌==◌, List, [], ◌∷◌, ◌++◌, length, take, drop, Option, Some, None, if◌then◌else◌, map}
-use Rattle.std.specs.Prelude.{bytes_eq, max}
-use Rattle.std.specs.List.{slice_split, before_first, position_or_len}
+use Rattle.std.specs.{Prelude.{bytes_eq, max}, List.{slice_split, before_first, position_or_len}}
 use Rattle.std.specs.Char.{char_set_contains}
 use Rattle.iref_grammar.specs.Rules.{Text}
 

@@ -3,10 +3,8 @@
 
 ghost use Rattle.std.specs.Prelude.{◌≡◌, ◌↔◌, true};
 ghost use Rattle.iref_grammar.specs.{Rules.{Text, AcceptsExactly, InUtf8}, Grammar.{IsAuthority}};
-ghost use Rattle.iref_grammar.specs.Authority.{AuthorityValue, HasAuthorityParts};
-ghost use Rattle.iref_grammar.specs.Authority.{has_authority_parts, spell_authority};
-ghost use Rattle.iref_grammar.specs.Authority.{read_authority, is_authority};
-ghost use Rattle.iref_grammar.specs.Readings.{HasOneReading};
+ghost use Rattle.iref_grammar.specs.Authority.{AuthorityValue, HasAuthorityParts, has_authority_parts, spell_authority};
+ghost use Rattle.iref_grammar.specs.{Authority.{read_authority, is_authority}, Readings.{HasOneReading}};
 
 use crate::chars::CharSet;
 

@@ -2,8 +2,7 @@
 #![tactic(auto)]
 
 ghost use Rattle.std.specs.Prelude.{◌≡◌, true};
-ghost use Rattle.iref_grammar.specs.Characters.{CharTests, AreAboveAscii, HasCommon};
-ghost use Rattle.iref_grammar.specs.Characters.{uri_chars, iri_chars};
+ghost use Rattle.iref_grammar.specs.Characters.{CharTests, AreAboveAscii, HasCommon, uri_chars, iri_chars};
 ghost use Rattle.iref_grammar.specs.Characters.{uri_above_ascii, iri_above_ascii};
 
 /// The characters that a grammar adds to those of ASCII.

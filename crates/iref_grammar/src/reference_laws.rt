@@ -4,11 +4,10 @@
 ghost use Rattle.std.specs.Prelude.{◌≡◌, ◌↔◌, IsSome, option_map, true};
 ghost use Rattle.iref_grammar.specs.{Characters.{uri_chars}, Rules.{Text, AcceptsExactly, InUtf8}};
 ghost use Rattle.iref_grammar.specs.{Grammar.{IsUri, IsUriReference}, Authority.{spell_authority}};
-ghost use Rattle.iref_grammar.specs.{ComponentOffsets.{offsets_of, text_at}};
-ghost use Rattle.iref_grammar.specs.PathValue.{spell_path};
-ghost use Rattle.iref_grammar.specs.Reference.{ReferenceValue, IsReadable, IsReadAsReference};
+ghost use Rattle.iref_grammar.specs.{ComponentOffsets.{offsets_of, text_at}, PathValue.{spell_path}};
+ghost use Rattle.iref_grammar.specs.Reference.{ReferenceValue, IsReadable, IsReadAsReference, is_uri};
 ghost use Rattle.iref_grammar.specs.Reference.{is_readable, spell, read_reference, is_reference};
-ghost use Rattle.iref_grammar.specs.{Reference.{is_uri}, Readings.{HasOneReading}};
+ghost use Rattle.iref_grammar.specs.Readings.{HasOneReading};
 ghost use Rattle.iref_grammar.specs.ComponentTexts.{ComponentTexts, AreComponents, read_components};
 
 use crate::chars::CharSet;

@@ -2,14 +2,10 @@
 use Rattle.std.proofs.Common.{◌≡◌, ℕ, ◌+◌, ◌*◌, ◌≤◌, Bool, true, false, ◌&&◌, List, [], ◌∷◌, length, refl, sym, ◌∙◌, ap, arith, ◌⊎◌, inl, inr}
 use Rattle.std.proofs.lemmas.Bool.{and_parts}
 use mathlib.Core.Bool.{true≢false}
-use Rattle.iref_grammar.specs.declared.context.PathContext.{PathContext}
-use Rattle.iref_grammar.specs.Rules.{Text}
-use Rattle.iref_grammar.specs.PathValue.{PathValue, is_one_empty}
-use Rattle.iref_grammar.specs.Contexts.{follows_authority, reads_as_path, fits}
-use Rattle.iref_model.specs.NormalList.{open_parents}
-use Rattle.iref_model.specs.Guard.{guarded}
-use Rattle.iref_model.proofs.WalkLemmas.{ended}
-use Rattle.iref_model.proofs.WeightLemmas.{path, weight, adds_nothing, added_weighs, first_added}
+use Rattle.iref_grammar.specs.{declared.context.PathContext.{PathContext}, Rules.{Text}}
+use Rattle.iref_grammar.specs.{PathValue.{PathValue, is_one_empty}, Contexts.{follows_authority, reads_as_path, fits}}
+use Rattle.iref_model.specs.{NormalList.{open_parents}, Guard.{guarded}}
+use Rattle.iref_model.proofs.{WalkLemmas.{ended}, WeightLemmas.{path, weight, adds_nothing, added_weighs, first_added}}
 
 -- ---- the guard
 

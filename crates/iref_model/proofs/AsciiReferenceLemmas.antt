@@ -1,24 +1,15 @@
 -- A reference is one of URIs exactly if it is ASCII, and exactly if the mapping leaves it.
 use Rattle.std.proofs.Common.{◌≡◌, ℕ, Bool, true, false, ◌||◌, List, [], ◌∷◌, map, refl, sym, ◌∙◌, ap, subst, arith, inl, inr}
-use Rattle.std.proofs.lemmas.Grind.{common_steps}
-use Rattle.std.proofs.Math.Logic.{◌↔◌}
-use Rattle.std.specs.Prelude.{◌==◌}
-use Rattle.std.specs.Bool.{Decides}
-use Rattle.std.specs.List.{AllByRecursion, concat, list_all}
-use Rattle.std.specs.Char.{is_ascii}
-use Rattle.std.proofs.lemmas.Bool.{and_from, eqb-true}
-use Rattle.std.proofs.lemmas.Bool.Decides.{nat_tests, same_from_decides}
-use Rattle.std.proofs.lemmas.List.Folds.{list_all-append}
-use Rattle.iref_grammar.specs.Characters.{CharTests, AreAboveAscii, uri_chars, uri_above_ascii}
-use Rattle.iref_grammar.specs.Rules.{Text, InUtf8}
+use Rattle.std.proofs.{lemmas.Grind.{common_steps}, Math.Logic.{◌↔◌}, lemmas.Bool.{and_from, eqb-true}}
+use Rattle.std.proofs.{lemmas.Bool.Decides.{nat_tests, same_from_decides}, lemmas.List.Folds.{list_all-append}}
+use Rattle.std.specs.{Prelude.{◌==◌}, Bool.{Decides}, List.{AllByRecursion, concat, list_all}, Char.{is_ascii}}
+use Rattle.iref_grammar.specs.{Characters.{CharTests, AreAboveAscii, uri_chars, uri_above_ascii}, Rules.{Text, InUtf8}}
 use Rattle.iref_grammar.specs.Grammar.{colon, at_sign, is_reg_name_char, is_user_info_char, is_path_char, is_fragment_char, is_query_char, IsEncoded, IsScheme, IsUserInfo, IsRegName, IsIpLiteral, IsHost, IsPort, IsSegment, IsQuery, IsFragment, IsUri, IsUriReference}
 use Rattle.iref_grammar.specs.Authority.{AuthorityValue, HasAuthorityParts}
 use Rattle.iref_grammar.specs.Reference.{ReferenceValue, IsReadable, spell, read_reference, is_reference, is_uri}
-use Rattle.iref_grammar.proofs.EncodedLemmas.{Piece}
-use Rattle.iref_grammar.proofs.HostRuleLemmas.{literal_ascii, ipv4_reg_name}
+use Rattle.iref_grammar.proofs.{EncodedLemmas.{Piece}, HostRuleLemmas.{literal_ascii, ipv4_reg_name}}
 use Rattle.iref_grammar.proofs.ReferenceRuleLemmas.{in_utf8-reference, Decides-is_uri_reference, Decides-is_uri}
-use Rattle.iref_model.specs.Key.{key}
-use Rattle.iref_model.specs.Mapping.{mapped, mapped_authority, mapped_reference}
+use Rattle.iref_model.specs.{Key.{key}, Mapping.{mapped, mapped_authority, mapped_reference}}
 use Rattle.iref_model.proofs.MappedLemmas.{mapped-ascii, ascii-mapped}
 use Rattle.iref_model.proofs.MappedRuleLemmas.{mapped-ascii_rule, pct_encoded_ascii, mapped-scheme, mapped-port, stays_option}
 use Rattle.iref_model.proofs.MappedSpellingLemmas.{spell-mapped}

@@ -1,13 +1,11 @@
 -- The normal list from both ends.
 use Rattle.std.proofs.Common.{◌≡◌, ℕ, List, [], ◌∷◌, ◌++◌, reverse, refl, arith}
-use Rattle.std.specs.Prelude.{Option, Some, None}
 use Rattle.std.proofs.lemmas.Grind.{common_steps, reverse_onto}
-use Rattle.iref_grammar.specs.Rules.{Text}
-use Rattle.iref_grammar.specs.PathValue.{PathValue}
+use Rattle.std.specs.Prelude.{Option, Some, None}
+use Rattle.iref_grammar.specs.{Rules.{Text}, PathValue.{PathValue}}
 use Rattle.iref_model.specs.NormalList.{normal_segments}
 use Rattle.iref_model.specs.NormalReading.{staying_before, NormalRest, items_left, whole_rest, first_staying, last_staying, first_left, last_left, GivesFirst, GivesLast}
-use Rattle.iref_model.proofs.StayingLemmas.{staying_before-append}
-use Rattle.iref_model.proofs.ItemLemmas.{normal_segments-is}
+use Rattle.iref_model.proofs.{StayingLemmas.{staying_before-append}, ItemLemmas.{normal_segments-is}}
 
 -- at the start the whole normal list is left
 pub whole_rest-is : (p : PathValue) → items_left (whole_rest p) ≡ normal_segments p

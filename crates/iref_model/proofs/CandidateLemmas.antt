@@ -1,17 +1,11 @@
 -- Each candidate, where its condition holds and it serves, is among the candidates.
 use Rattle.std.proofs.Common.{◌≡◌, ◌≤◌, Bool, true, not, ◌&&◌, List, ◌++◌, length, refl, is_some, Option, None, arith, length-append}
 use Rattle.std.specs.List.{list_any}
-use Rattle.iref_grammar.specs.Rules.{Text}
-use Rattle.iref_grammar.specs.Authority.{AuthorityValue}
-use Rattle.iref_grammar.specs.PathValue.{PathValue, spell_path}
-use Rattle.iref_grammar.specs.Contexts.{alone}
-use Rattle.iref_grammar.specs.Reference.{ReferenceValue, spell}
-use Rattle.iref_model.specs.Guard.{guarded}
-use Rattle.iref_model.specs.NormalList.{normal, normal_segments}
-use Rattle.iref_model.specs.Relative.{with_only_path}
-use Rattle.iref_model.proofs.RelativeLemmas.{parts}
+use Rattle.iref_grammar.specs.{Rules.{Text}, Authority.{AuthorityValue}, PathValue.{PathValue, spell_path}}
+use Rattle.iref_grammar.specs.{Contexts.{alone}, Reference.{ReferenceValue, spell}}
+use Rattle.iref_model.specs.{Guard.{guarded}, NormalList.{normal, normal_segments}, Relative.{with_only_path}}
 use Rattle.iref_model.specs.Relativized.{same_scheme_text, same_authority_text, same_path_text, same_query_text, empty_path, relative_path, is_climb, only_if, fragment_alone, climb_shortened, candidates}
-use Rattle.iref_model.proofs.ChoiceLemmas.{any_only, any_left, any_right}
+use Rattle.iref_model.proofs.{RelativeLemmas.{parts}, ChoiceLemmas.{any_only, any_left, any_right}}
 
 -- a shorter path makes a shorter reference
 pub spell-lighter : (scheme : Option Text) (authority : Option AuthorityValue) (p other : PathValue) (query fragment : Option Text) → length (spell_path p) ≤ length (spell_path other)

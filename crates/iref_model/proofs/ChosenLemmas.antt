@@ -1,29 +1,19 @@
 -- The answer is chosen by tests: which of the candidates is shorter mostly follows from what they leave out.
 use Rattle.std.proofs.Common.{◌≡◌, suc, ◌+◌, ◌<◌, ◌≤◌, nat_lt, Bool, true, false, not, cond, ◌&&◌, ◌||◌, List, [], ◌∷◌, ◌++◌, length, length-append, append_assoc, refl, sym, ◌∙◌, ap, arith, Option, Some, None, is_some}
-use Rattle.std.proofs.lemmas.Bool.{and_parts}
-use Rattle.std.proofs.lemmas.Bool.Decides.{nat_tests}
-use Rattle.std.proofs.lemmas.Slice.Eq.{bytes_eq-Decides}
+use Rattle.std.proofs.{lemmas.Bool.{and_parts}, lemmas.Bool.Decides.{nat_tests}, lemmas.Slice.Eq.{bytes_eq-Decides}}
 use Rattle.std.proofs.Math.Bool.{and-false, and-true}
 use mathlib.Core.Bool.{true≢false}
-use Rattle.iref_grammar.specs.declared.context.PathContext.{PathContext}
-use Rattle.iref_grammar.specs.Characters.{CharTests}
-use Rattle.iref_grammar.specs.Rules.{Text}
-use Rattle.iref_grammar.specs.Texts.{all_but_last, is_empty}
-use Rattle.iref_grammar.specs.Authority.{AuthorityValue}
-use Rattle.iref_grammar.specs.PathValue.{PathValue, spell_path}
-use Rattle.iref_grammar.specs.Contexts.{alone, follows_authority}
+use Rattle.iref_grammar.specs.{declared.context.PathContext.{PathContext}, Characters.{CharTests}, Rules.{Text}}
+use Rattle.iref_grammar.specs.{Texts.{all_but_last, is_empty}, Authority.{AuthorityValue}}
+use Rattle.iref_grammar.specs.{PathValue.{PathValue, spell_path}, Contexts.{alone, follows_authority}}
 use Rattle.iref_grammar.specs.Reference.{ReferenceValue, context_of, spell}
 use Rattle.iref_grammar.proofs.ReadablePartsLemmas.{readable_parts}
-use Rattle.iref_model.specs.Guard.{guarded}
-use Rattle.iref_model.specs.NormalList.{excess, normal, normal_segments, staying_names}
+use Rattle.iref_model.specs.{Guard.{guarded}, NormalList.{excess, normal, normal_segments, staying_names}}
 use Rattle.iref_model.specs.Relative.{with_only_path}
-use Rattle.iref_model.proofs.JoinedLemmas.{climbs}
-use Rattle.iref_model.proofs.RelativeLemmas.{parts}
 use Rattle.iref_model.specs.Relativized.{same_scheme_text, same_authority_text, same_path_text, same_query_text, empty_path, relative_path, is_climb, only_if, fragment_alone, climb_shortened, shorter, relativized}
-use Rattle.iref_model.specs.RelativizedLaws.{AreReadable}
-use Rattle.iref_model.specs.RelativizedTests.{is_settled, is_reachable, shortest}
+use Rattle.iref_model.specs.{RelativizedLaws.{AreReadable}, RelativizedTests.{is_settled, is_reachable, shortest}}
 use Rattle.iref_model.specs.RelativizedChoice.{chosen, shorter_of, with_a_path}
-use Rattle.iref_model.proofs.TestedLemmas.{relativized-tested}
+use Rattle.iref_model.proofs.{JoinedLemmas.{climbs}, RelativeLemmas.{parts}, TestedLemmas.{relativized-tested}}
 use Rattle.iref_model.proofs.WalkLemmas.{climb-is}
 use Rattle.iref_model.proofs.WeightLemmas.{path, weight, weight-append, weight-climbs, length-path}
 

@@ -1,16 +1,12 @@
 -- What segments read from the back say of every list that ends in them.
 use Rattle.std.proofs.Common.{arith, ◌≡◌, ℕ, Bool, true, false, cond, ◌&&◌, List, [], ◌∷◌, ◌++◌, map, refl, sym, ◌∙◌, ap, append_assoc}
-use Rattle.std.proofs.lemmas.Grind.{common_steps}
+use Rattle.std.proofs.{lemmas.Grind.{common_steps}, lemmas.List.{append-nil}, lemmas.Slice.Eq.{bytes_eq-Decides}}
 use Rattle.std.specs.Prelude.{◌==◌}
-use Rattle.std.proofs.lemmas.List.{append-nil}
-use Rattle.std.proofs.lemmas.Slice.Eq.{bytes_eq-Decides}
 use mathlib.Core.Bool.{true≢false}
 use Rattle.percent_encoding.specs.Percent.{percent_decode}
 use Rattle.percent_encoding.proofs.PercentLemmas.{percent_decode-nil}
-use Rattle.iref_grammar.specs.Rules.{Text}
-use Rattle.iref_grammar.specs.Texts.{is_empty}
-use Rattle.iref_model.specs.PathSuffix.{same_decoded}
-use Rattle.iref_model.specs.NormalList.{is_dot_dot, is_name, counted, without_lone_empty}
+use Rattle.iref_grammar.specs.{Rules.{Text}, Texts.{is_empty}}
+use Rattle.iref_model.specs.{PathSuffix.{same_decoded}, NormalList.{is_dot_dot, is_name, counted, without_lone_empty}}
 use Rattle.iref_model.specs.CountedEquality.{ItemRead, Comparison, last_read, item_before, items_read, all_items_read, items_compared}
 use Rattle.iref_model.proofs.BackLemmas.{item_of, items-last}
 

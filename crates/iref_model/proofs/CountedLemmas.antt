@@ -1,15 +1,11 @@
 -- The comparison from the back answers whether paths are equal, and what it has read decides a difference.
 use Rattle.std.proofs.Common.{◌≡◌, ℕ, ◌+◌, ◌-◌, ◌≤◌, Bool, true, false, List, [], ◌∷◌, ◌++◌, map, reverse, length, drop, refl, sym, ◌∙◌, ap, subst, arith}
 use Rattle.std.proofs.lemmas.List.{reverse-append, reverse-reverse, length-append, length-reverse, take-append-drop}
-use Rattle.std.proofs.lemmas.Grind.{common_steps}
-use Rattle.std.proofs.Math.Seq.{drop-append_seam}
+use Rattle.std.proofs.{lemmas.Grind.{common_steps}, Math.Seq.{drop-append_seam}}
 use Rattle.std.specs.Prelude.{Decides, take}
 use mathlib.Core.Bool.{true≢false, beq}
-use Rattle.iref_grammar.specs.Rules.{Text}
-use Rattle.iref_grammar.specs.Texts.{is_empty}
-use Rattle.iref_grammar.specs.PathValue.{PathValue}
-use Rattle.iref_model.specs.NormalList.{without_lone_empty, normal_segments}
-use Rattle.iref_model.specs.PathKey.{path_key}
+use Rattle.iref_grammar.specs.{Rules.{Text}, Texts.{is_empty}, PathValue.{PathValue}}
+use Rattle.iref_model.specs.{NormalList.{without_lone_empty, normal_segments}, PathKey.{path_key}}
 use Rattle.iref_model.specs.CountedEquality.{EndsAlike, AreFoundApart, IsCountedAnswer, Comparison, all_items_read, items_compared, paths_compared, segments_read}
 use Rattle.iref_model.proofs.BackLemmas.{item_of, all_items_read-is}
 use Rattle.iref_model.proofs.ComparisonLemmas.{decoded, reads-all_items_read, AreReadApart, read_apart, read_equal, lone_equal, lone_same}

@@ -2,18 +2,13 @@
 use Rattle.std.proofs.Common.{◌≡◌, ◌≢◌, Bool, true, false, ◌&&◌, List, [], ◌∷◌, length, sym, ◌∙◌, ap, subst, Option, Some, None, is_some}
 use Rattle.std.specs.List.{list_any}
 use mathlib.Core.Bool.{true≢false}
-use Rattle.iref_grammar.specs.Characters.{CharTests, AreAboveAscii}
-use Rattle.iref_grammar.specs.Rules.{Text}
-use Rattle.iref_grammar.specs.Authority.{AuthorityValue}
+use Rattle.iref_grammar.specs.{Characters.{CharTests, AreAboveAscii}, Rules.{Text}, Authority.{AuthorityValue}}
 use Rattle.iref_grammar.specs.Contexts.{fits}
 use Rattle.iref_grammar.specs.Reference.{ReferenceValue, context_of, spell, read_reference, is_readable}
-use Rattle.iref_grammar.proofs.ReadablePartsLemmas.{readable_parts}
-use Rattle.iref_grammar.proofs.ReadableLemmas.{readable_read}
-use Rattle.iref_model.specs.Resolution.{resolved}
-use Rattle.iref_model.proofs.RelativeLemmas.{parts}
-use Rattle.iref_model.proofs.ResolvedLemmas.{resolved-readable}
-use Rattle.iref_model.specs.Relativized.{candidates, relativized}
+use Rattle.iref_grammar.proofs.{ReadablePartsLemmas.{readable_parts}, ReadableLemmas.{readable_read}}
+use Rattle.iref_model.specs.{Resolution.{resolved}, Relativized.{candidates, relativized}}
 use Rattle.iref_model.specs.RelativizedLaws.{AreReadable, LeadsExactly, IsNotLonger}
+use Rattle.iref_model.proofs.{RelativeLemmas.{parts}, ResolvedLemmas.{resolved-readable}}
 use Rattle.iref_model.proofs.ChoiceLemmas.{serves, served-some, served-shortest}
 use Rattle.iref_model.proofs.FullCaseLemmas.{IsServed, scheme_served, authority_served}
 use Rattle.iref_model.proofs.PathCaseLemmas.{empty_served, root_served, relative_served}

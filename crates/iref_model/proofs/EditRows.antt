@@ -1,15 +1,11 @@
 -- Worked rows of lists of edits, computed.
 use Prim.Native.String.{String}
 use Rattle.std.specs.Prelude.{◌≡◌, ℕ, List, [], ◌∷◌, map, codes, Option, Some, None, Result, Ok, Err, refl}
-use Rattle.std.specs.Fmt.{digits}
-use Rattle.std.specs.declared.ops.Range.{Range}
-use Rattle.iref_grammar.specs.Rules.{Text}
-use Rattle.iref_grammar.specs.Authority.{spell_authority, read_authority}
-use Rattle.iref_grammar.specs.PathValue.{spell_path, read_path}
-use Rattle.iref_grammar.specs.ComponentOffsets.{offsets_in}
+use Rattle.std.specs.{Fmt.{digits}, declared.ops.Range.{Range}}
+use Rattle.iref_grammar.specs.{Rules.{Text}, Authority.{spell_authority, read_authority}}
+use Rattle.iref_grammar.specs.{PathValue.{spell_path, read_path}, ComponentOffsets.{offsets_in}}
 use Rattle.iref_grammar.specs.Reference.{spell, read_reference}
-use Rattle.iref_model.specs.Guard.{guarded, guarded_list}
-use Rattle.iref_model.specs.NormalList.{normal_segments, excess, staying_names}
+use Rattle.iref_model.specs.{Guard.{guarded, guarded_list}, NormalList.{normal_segments, excess, staying_names}}
 use Rattle.iref_model.specs.PathSteps.{lazy_pushed, pushed, popped, joined, appended}
 use Rattle.iref_model.specs.ComponentSteps.{with_scheme, with_authority, with_path}
 use Rattle.iref_model.specs.Edits.{EditStep, SetScheme, SetAuthority, ReplaceAuthority, SetUserInfo, SetHost, SetPort, SetPortU32, SetPath, SetAndNormalizePath, SetQuery, SetFragment, LazyPush, Push, JoinPath, Pop, Clear, Normalize, EditRefusal, NoAuthority, SchemeNeeded, EditsOutcome, edited, edited_uri, edited_from, edited_all, edited_all_uri}

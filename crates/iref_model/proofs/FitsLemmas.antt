@@ -1,13 +1,9 @@
 -- Each step of a path keeps it readable where it stands.
 use Rattle.std.proofs.Common.{arith, ◌≡◌, Bool, true, false, cond, ◌||◌, List, [], ◌∷◌, ◌++◌, fold, refl}
 use Rattle.std.proofs.lemmas.Grind.{common_steps}
-use Rattle.iref_grammar.specs.declared.context.PathContext.{PathContext}
-use Rattle.iref_grammar.specs.Rules.{Text}
-use Rattle.iref_grammar.specs.Texts.{is_empty, all_but_last}
-use Rattle.iref_grammar.specs.PathValue.{PathValue}
-use Rattle.iref_model.specs.Guard.{guarded_list}
-use Rattle.iref_grammar.specs.Contexts.{fits}
-use Rattle.iref_model.specs.NormalList.{normal}
+use Rattle.iref_grammar.specs.{declared.context.PathContext.{PathContext}, Rules.{Text}, Texts.{is_empty, all_but_last}}
+use Rattle.iref_grammar.specs.{PathValue.{PathValue}, Contexts.{fits}}
+use Rattle.iref_model.specs.{Guard.{guarded_list}, NormalList.{normal}}
 use Rattle.iref_model.specs.PathSteps.{lazy_pushed, popped, closed_path, followed, pushed, appended, lazy_appended, replaced, joined, normalized, cleared}
 use Rattle.iref_model.proofs.GuardLemmas.{guarded-fits}
 

@@ -1,26 +1,16 @@
 -- A reference with a scheme or an authority has a candidate that is not longer.
 use Rattle.std.proofs.Common.{◌≡◌, ◌≤◌, Bool, true, false, not, ◌&&◌, List, [], ◌∷◌, length, sym, ◌∙◌, ap, inl, inr, Option, Some, None, is_some}
-use Rattle.std.specs.List.{list_any}
 use Rattle.std.proofs.lemmas.Bool.{and_parts}
+use Rattle.std.specs.List.{list_any}
 use mathlib.Core.Bool.{true≢false}
-use Rattle.iref_grammar.specs.declared.context.PathContext.{PathContext}
-use Rattle.iref_grammar.specs.Rules.{Text}
-use Rattle.iref_grammar.specs.Grammar.{colon}
-use Rattle.iref_grammar.specs.Texts.{all_but_last, part_then}
-use Rattle.iref_grammar.specs.Authority.{AuthorityValue}
-use Rattle.iref_grammar.specs.PathValue.{PathValue}
-use Rattle.iref_grammar.specs.Contexts.{follows_authority, fits}
-use Rattle.iref_grammar.specs.Reference.{ReferenceValue, spell}
-use Rattle.iref_model.specs.Guard.{guarded}
-use Rattle.iref_model.specs.NormalList.{normal, normal_segments}
-use Rattle.iref_model.specs.Resolution.{resolved}
-use Rattle.iref_model.proofs.RelativeLemmas.{parts}
-use Rattle.iref_model.proofs.SettledLemmas.{normal_again}
-use Rattle.iref_model.proofs.NormalPathLemmas.{normal-normalized}
+use Rattle.iref_grammar.specs.{declared.context.PathContext.{PathContext}, Rules.{Text}, Grammar.{colon}}
+use Rattle.iref_grammar.specs.{Texts.{all_but_last, part_then}, Authority.{AuthorityValue}, PathValue.{PathValue}}
+use Rattle.iref_grammar.specs.{Contexts.{follows_authority, fits}, Reference.{ReferenceValue, spell}}
+use Rattle.iref_model.specs.{Guard.{guarded}, NormalList.{normal, normal_segments}, Resolution.{resolved}}
 use Rattle.iref_model.specs.Relativized.{is_climb, climb_shortened, candidates}
-use Rattle.iref_model.proofs.WalkLemmas.{climb-is, climb_alike, same_normal}
-use Rattle.iref_model.proofs.WeightLemmas.{path, weight, lighter-path}
-use Rattle.iref_model.proofs.StepsLemmas.{same_text}
+use Rattle.iref_model.proofs.{RelativeLemmas.{parts}, SettledLemmas.{normal_again}}
+use Rattle.iref_model.proofs.{NormalPathLemmas.{normal-normalized}, WalkLemmas.{climb-is, climb_alike, same_normal}}
+use Rattle.iref_model.proofs.{WeightLemmas.{path, weight, lighter-path}, StepsLemmas.{same_text}}
 use Rattle.iref_model.proofs.AddedLemmas.{guarded_in}
 use Rattle.iref_model.proofs.NormalWeightLemmas.{IsLight, normal_light, normal_light-root, normal_light-none, not_longer}
 use Rattle.iref_model.proofs.ChoiceLemmas.{serves, serves-from}

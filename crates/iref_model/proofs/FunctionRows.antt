@@ -1,9 +1,7 @@
 -- Worked rows of the functions of paths, computed.
 use Prim.Native.String.{String}
 use Rattle.std.specs.Prelude.{◌≡◌, ℕ, Bool, true, false, List, [], ◌∷◌, map, codes, Option, Some, None, option_map, refl}
-use Rattle.iref_grammar.specs.Rules.{Text}
-use Rattle.iref_grammar.specs.Tests.{is_scheme}
-use Rattle.iref_grammar.specs.PathValue.{PathValue, spell_path, read_path}
+use Rattle.iref_grammar.specs.{Rules.{Text}, Tests.{is_scheme}, PathValue.{PathValue, spell_path, read_path}}
 use Rattle.iref_model.specs.Guard.{guarded_list}
 use Rattle.iref_model.specs.PathFunctions.{segment_count, first, last, file_name, directory, directory_text, parent, parent_or_empty, looks_like_scheme}
 use Rattle.iref_model.proofs.Rows.{path, spelled}

@@ -1,10 +1,8 @@
 -- A guarded path is read as it was meant, wherever it stands.
 use Rattle.std.proofs.Common.{arith, ◌≡◌, Bool, true, false, List, [], ◌∷◌, refl}
-use Rattle.iref_grammar.specs.declared.context.PathContext.{PathContext}
-use Rattle.iref_grammar.specs.Rules.{Text}
-use Rattle.iref_grammar.specs.PathValue.{PathValue, shows_its_list}
+use Rattle.iref_grammar.specs.{declared.context.PathContext.{PathContext}, Rules.{Text}}
+use Rattle.iref_grammar.specs.{PathValue.{PathValue, shows_its_list}, Contexts.{fits}}
 use Rattle.iref_model.specs.Guard.{guarded, guarded_list}
-use Rattle.iref_grammar.specs.Contexts.{fits}
 
 at : (has_scheme has_authority absolute : Bool) (segments : List Text) → let context : PathContext = record { has_scheme = has_scheme; has_authority = has_authority } in let p : PathValue = record { absolute = absolute; segments = segments } in fits context (guarded context p) ≡ true
 unfolding guarded

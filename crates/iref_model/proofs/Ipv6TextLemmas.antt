@@ -1,26 +1,18 @@
 -- The host of an IPv6 number is a host, and is read as this number.
 use Rattle.std.proofs.Common.{◌≡◌, ℕ, zero, suc, ◌+◌, ◌*◌, ◌-◌, ◌/◌, ◌%◌, ◌^◌, ◌<◌, ◌≤◌, ◌++◌, true, false, cond, ◌||◌, List, [], ◌∷◌, length, take, drop, map, replicate, refl, sym, ap, ◌∙◌, subst, inl, inr, ◌⊎◌, ◌≢◌, lit<, lit≤, append_assoc, length-drop, arith}
-use Rattle.std.proofs.lemmas.List.{length-take}
+use Rattle.std.proofs.{lemmas.List.{length-take}, lemmas.Fmt.{digits_is_IsNumeral}}
+use Rattle.std.proofs.{lemmas.Bool.Decides.{nat_tests, eqb_tells, leb_tells}, lemmas.Bool.{and_from}}
 use native.Mathlib.Nat.{lt_trans}
-use Rattle.std.specs.Prelude.{Some, None, is_some, option_and_then, ◌==◌, nat_le, codes}
-use Rattle.std.specs.List.{AllZip, list_all}
-use Rattle.std.specs.Fmt.{digits, digits_onto}
-use Rattle.std.specs.Char.{is_ascii_hexdigit, digit_value}
-use Rattle.std.specs.Str.Parse.{AllDigits}
-use Rattle.std.proofs.lemmas.Fmt.{digits_is_IsNumeral}
-use Rattle.std.proofs.lemmas.Bool.Decides.{nat_tests, eqb_tells, leb_tells}
-use Rattle.std.proofs.lemmas.Bool.{and_from}
-use Rattle.iref_grammar.specs.Characters.{CharTests}
-use Rattle.iref_grammar.specs.Rules.{Text}
+use Rattle.std.specs.{Prelude.{Some, None, is_some, option_and_then, ◌==◌, nat_le, codes}, List.{AllZip, list_all}}
+use Rattle.std.specs.{Fmt.{digits, digits_onto}, Char.{is_ascii_hexdigit, digit_value}, Str.Parse.{AllDigits}}
+use Rattle.iref_grammar.specs.{Characters.{CharTests}, Rules.{Text}}
 use Rattle.iref_grammar.specs.IpAddresses.{IsGroup, AreGroups, IsFullIpv6, IsShortIpv6, number_of, ipv6_value}
 use Rattle.iref_grammar.specs.Grammar.{right_bracket}
 use Rattle.iref_grammar.specs.Tests.{is_host, is_ip_literal, is_ip_address, is_ipvfuture, in_brackets, ends_here}
-use Rattle.iref_grammar.proofs.CutLemmas.{before-part, after-part}
-use Rattle.iref_grammar.proofs.HostLemmas.{address_lacks}
-use Rattle.iref_grammar.proofs.Ipv6CompleteLemmas.{ipv6_value-complete}
+use Rattle.iref_grammar.proofs.{CutLemmas.{before-part, after-part}, HostLemmas.{address_lacks}}
+use Rattle.iref_grammar.proofs.{Ipv6CompleteLemmas.{ipv6_value-complete}, HostRuleLemmas.{right_outside}}
 use Rattle.iref_model.specs.HostNumbers.{groups_of, groups_text, ipv6_text, ipv6_host_text, longest_run, run_start, literal_value}
 use Rattle.iref_model.proofs.ZeroRunLemmas.{first_longest_run}
-use Rattle.iref_grammar.proofs.HostRuleLemmas.{right_outside}
 
 -- ---- a group
 

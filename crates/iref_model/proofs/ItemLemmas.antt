@@ -1,13 +1,10 @@
 -- The normal list is the items that are read from the back, unless these are one empty segment.
 use Rattle.std.proofs.Common.{arith, ◌≡◌, Bool, true, false, not, List, [], ◌∷◌, ◌++◌, refl, sym, ◌∙◌, ap}
 use Rattle.std.proofs.lemmas.Grind.{common_steps}
-use Rattle.iref_grammar.specs.Rules.{Text}
-use Rattle.iref_grammar.specs.Texts.{is_empty}
-use Rattle.iref_grammar.specs.PathValue.{PathValue}
+use Rattle.iref_grammar.specs.{Rules.{Text}, Texts.{is_empty}, PathValue.{PathValue}}
 use Rattle.iref_model.specs.NormalList.{is_dot_dot, is_name, ends_in_dots, without_lone_empty, kept_segments, normal_segments}
 use Rattle.iref_model.specs.NormalReading.{open_before, staying_before, leading_parents, closing, items}
-use Rattle.iref_model.proofs.NormalLemmas.{excess-is}
-use Rattle.iref_model.proofs.StayingLemmas.{open_parents-is, staying_names-is}
+use Rattle.iref_model.proofs.{NormalLemmas.{excess-is}, StayingLemmas.{open_parents-is, staying_names-is}}
 use Rattle.iref_model.proofs.SettledLemmas.{last_stays}
 
 -- a name is no `..`

@@ -1,11 +1,8 @@
 -- What the comparison of references, and of their components, decides.
 use Rattle.std.proofs.Common.{Decides, ◌≡◌, true}
-use Rattle.std.specs.Ordering.{on}
-use Rattle.std.specs.Cmp.{IsTotalOrder, on_total}
-use Rattle.iref_grammar.specs.Reference.{ReferenceValue}
-use Rattle.iref_grammar.specs.Keys.{text_order}
-use Rattle.iref_model.specs.AuthorityKey.{authority_key_cmp}
-use Rattle.iref_model.specs.PathKey.{path_key}
+use Rattle.std.specs.{Ordering.{on}, Cmp.{IsTotalOrder, on_total}}
+use Rattle.iref_grammar.specs.{Reference.{ReferenceValue}, Keys.{text_order}}
+use Rattle.iref_model.specs.{AuthorityKey.{authority_key_cmp}, PathKey.{path_key}}
 use Rattle.iref_model.specs.Key.{key, key_cmp, AreAlike, are_alike}
 use Rattle.iref_model.specs.Relative.{have_same_scheme, have_same_authority, have_same_path}
 use Rattle.iref_model.proofs.KeyOrderLemmas.{options_separate, texts_separate, authority_keys_separate, path_keys_separate, keys_separate, keys_total, tied_exactly}

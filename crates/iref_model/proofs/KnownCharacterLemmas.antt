@@ -1,24 +1,17 @@
 -- A reference holds characters of ASCII and those that the set adds, so its mapping is that of the RFC's words.
 use Rattle.std.proofs.Common.{◌≡◌, ℕ, Bool, true, false, ◌||◌, List, [], ◌∷◌, ◌++◌, refl, sym, ◌∙◌, ap, subst, arith, inl, inr}
-use Rattle.std.proofs.lemmas.Grind.{common_steps}
-use Rattle.std.specs.Prelude.{◌==◌, chars, codes, encode_utf8_all, Option, Some, None, option_map, IfSome}
-use Rattle.std.specs.List.{AllByRecursion, concat, list_all, join_with_byte}
-use Rattle.std.specs.Char.{is_ascii, encode_utf8}
-use Rattle.std.proofs.lemmas.Bool.{eqb-true}
-use Rattle.std.proofs.lemmas.Bool.Decides.{nat_tests}
+use Rattle.std.proofs.{lemmas.Grind.{common_steps}, lemmas.Bool.{eqb-true}, lemmas.Bool.Decides.{nat_tests}}
 use Rattle.std.proofs.lemmas.Str.{chars-encodes, encode_ascii}
-use Rattle.iref_grammar.specs.Characters.{CharTests, AreAboveAscii}
-use Rattle.iref_grammar.specs.Rules.{Text, Rule, OneOf, ZeroOrMore, InUtf8}
+use Rattle.std.specs.Prelude.{◌==◌, chars, codes, encode_utf8_all, Option, Some, None, option_map, IfSome}
+use Rattle.std.specs.{List.{AllByRecursion, concat, list_all, join_with_byte}, Char.{is_ascii, encode_utf8}}
+use Rattle.iref_grammar.specs.{Characters.{CharTests, AreAboveAscii}, Rules.{Text, Rule, OneOf, ZeroOrMore, InUtf8}}
 use Rattle.iref_grammar.specs.Grammar.{hash_sign, slash, colon, question_mark, at_sign, is_reg_name_char, is_user_info_char, is_path_char, is_fragment_char, is_query_char, IsEncoded, IsScheme, IsUserInfo, IsRegName, IsHost, IsPort, IsSegment, IsQuery, IsFragment, IsUriReference}
 use Rattle.iref_grammar.specs.Texts.{part_then, then_part}
 use Rattle.iref_grammar.specs.Authority.{AuthorityValue, HasAuthorityParts, spell_authority}
-use Rattle.iref_grammar.specs.PathValue.{PathValue, spell_path}
-use Rattle.iref_grammar.specs.Reference.{ReferenceValue, IsReadable, spell}
+use Rattle.iref_grammar.specs.{PathValue.{PathValue, spell_path}, Reference.{ReferenceValue, IsReadable, spell}}
 use Rattle.iref_grammar.proofs.TextLemmas.{first_of_both, second_of_both}
-use Rattle.iref_grammar.proofs.RuleLemmas.{none_of, one_more, more-append, Decides-ones}
-use Rattle.iref_grammar.proofs.EncodedLemmas.{Piece}
-use Rattle.iref_grammar.proofs.Utf8RuleLemmas.{in_utf8-more}
-use Rattle.iref_grammar.proofs.HostRuleLemmas.{literal_ascii, ipv4_reg_name}
+use Rattle.iref_grammar.proofs.{RuleLemmas.{none_of, one_more, more-append, Decides-ones}, EncodedLemmas.{Piece}}
+use Rattle.iref_grammar.proofs.{Utf8RuleLemmas.{in_utf8-more}, HostRuleLemmas.{literal_ascii, ipv4_reg_name}}
 use Rattle.iref_grammar.proofs.PartRuleLemmas.{Decides-is_scheme_bytes, Decides-is_port_bytes}
 use Rattle.iref_grammar.proofs.ReferenceRuleLemmas.{in_utf8-reference}
 use Rattle.iref_model.specs.Mapping.{mapped, mapped_char, mapped_chars}

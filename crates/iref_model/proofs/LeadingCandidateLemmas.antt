@@ -1,35 +1,23 @@
 -- Tests of both paths tell which candidates lead to the target's text.
 use Rattle.std.proofs.Common.{◌≡◌, ◌≤◌, nat_le, Bool, true, false, not, cond, ◌&&◌, List, [], ◌∷◌, ◌++◌, refl, sym, ◌∙◌, ap, subst, arith, Option, Some, None, is_some, option_map, codes}
-use Rattle.std.proofs.lemmas.Bool.{and_parts, and_from, leb-true, le-leb}
-use Rattle.std.proofs.lemmas.Slice.Eq.{bytes_eq-Decides}
+use Rattle.std.proofs.{lemmas.Bool.{and_parts, and_from, leb-true, le-leb}, lemmas.Slice.Eq.{bytes_eq-Decides}}
 use Rattle.std.specs.Prelude.{bytes_eq}
 use mathlib.Core.Bool.{true≢false}
-use Rattle.iref_grammar.specs.Characters.{CharTests}
-use Rattle.iref_grammar.specs.Rules.{Text}
-use Rattle.iref_grammar.specs.Grammar.{colon, hash_sign, question_mark}
+use Rattle.iref_grammar.specs.{Characters.{CharTests}, Rules.{Text}, Grammar.{colon, hash_sign, question_mark}}
 use Rattle.iref_grammar.specs.Texts.{part_then, then_part, is_empty, all_but_last}
-use Rattle.iref_grammar.specs.Authority.{AuthorityValue, spell_authority}
-use Rattle.iref_grammar.specs.PathValue.{PathValue, spell_path}
+use Rattle.iref_grammar.specs.{Authority.{AuthorityValue, spell_authority}, PathValue.{PathValue, spell_path}}
 use Rattle.iref_grammar.specs.Contexts.{alone, follows_authority}
 use Rattle.iref_grammar.specs.Reference.{ReferenceValue, context_of, spell, is_readable}
 use Rattle.iref_grammar.proofs.ReadablePartsLemmas.{readable_parts}
-use Rattle.iref_model.specs.Guard.{guarded}
-use Rattle.iref_model.specs.ComponentSteps.{with_normal_path}
-use Rattle.iref_model.specs.NormalList.{count_parents, normal, normal_segments, kept_segments}
-use Rattle.iref_model.specs.Resolution.{resolved}
+use Rattle.iref_model.specs.{Guard.{guarded}, ComponentSteps.{with_normal_path}}
+use Rattle.iref_model.specs.{NormalList.{count_parents, normal, normal_segments, kept_segments}, Resolution.{resolved}}
 use Rattle.iref_model.specs.Relative.{with_only_path}
-use Rattle.iref_model.proofs.FitsLemmas.{is_empty-snoc}
-use Rattle.iref_model.proofs.RelativeLemmas.{parts}
-use Rattle.iref_model.proofs.ReferenceStepLemmas.{with_normal_path-readable}
-use Rattle.iref_model.proofs.SettledLemmas.{normal_again}
-use Rattle.iref_model.proofs.NormalPathLemmas.{normal-normalized}
 use Rattle.iref_model.specs.Relativized.{same_scheme_text, same_authority_text, same_path_text, same_query_text, authority_text, query_text, empty_path, base_directory, steps_by_text, shortened, relative_path, is_climb, fragment_alone, climb_shortened, is_exact}
-use Rattle.iref_model.specs.RelativizedLaws.{AreReadable, LeadsExactly}
-use Rattle.iref_model.specs.RelativizedTests.{is_settled, is_reachable}
-use Rattle.iref_model.proofs.WalkLemmas.{alike-shortened}
-use Rattle.iref_model.proofs.WeightLemmas.{path}
-use Rattle.iref_model.proofs.AddedLemmas.{guarded-same}
-use Rattle.iref_model.proofs.FullCaseLemmas.{climb-normal, flag_kept}
+use Rattle.iref_model.specs.{RelativizedLaws.{AreReadable, LeadsExactly}, RelativizedTests.{is_settled, is_reachable}}
+use Rattle.iref_model.proofs.{FitsLemmas.{is_empty-snoc}, RelativeLemmas.{parts}}
+use Rattle.iref_model.proofs.{ReferenceStepLemmas.{with_normal_path-readable}, SettledLemmas.{normal_again}}
+use Rattle.iref_model.proofs.{NormalPathLemmas.{normal-normalized}, WalkLemmas.{alike-shortened}, WeightLemmas.{path}}
+use Rattle.iref_model.proofs.{AddedLemmas.{guarded-same}, FullCaseLemmas.{climb-normal, flag_kept}}
 use Rattle.iref_model.proofs.PlacedLemmas.{only, placed, merged-is, follows-merged, root_resolved, relative_resolved}
 use Rattle.iref_model.proofs.ReadableAnswerLemmas.{normal-passes, guarded-passes, relative-passes, authority-passes, climb-passes}
 use Rattle.iref_model.proofs.CoveredLemmas.{readable-fits, one_value, exact_value}

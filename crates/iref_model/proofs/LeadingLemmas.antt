@@ -1,21 +1,15 @@
 -- The segments that lead from a directory to a normal list, and that no others climb less.
 use Rattle.std.proofs.Common.{◌≡◌, ℕ, zero, suc, ◌+◌, ◌-◌, ◌≤◌, Bool, true, false, not, cond, List, [], ◌∷◌, ◌++◌, map, length, take, drop, refl, sym, ◌∙◌, ap, arith, codes, append_assoc, inl, inr, take_at, take-append-drop, length-take-le}
 use Rattle.std.proofs.lemmas.Grind.{common_steps}
-use Rattle.std.specs.List.{list_all, common_prefix_len}
-use Rattle.std.specs.Cmp.Lexicographic.{bytes_decides}
 use Rattle.std.proofs.lemmas.List.{take-map, map-append, length-map, length-append, take-append-le}
-use Rattle.std.proofs.lemmas.List.Sums.{common_prefix_len-le}
-use Rattle.std.proofs.lemmas.Bool.{cases_lt}
-use Rattle.std.proofs.Math.Numerals.{one-add}
+use Rattle.std.proofs.{lemmas.List.Sums.{common_prefix_len-le}, lemmas.Bool.{cases_lt}, Math.Numerals.{one-add}}
 use Rattle.std.proofs.Math.Bool.{and-false}
+use Rattle.std.specs.{List.{list_all, common_prefix_len}, Cmp.Lexicographic.{bytes_decides}}
 use mathlib.Core.Bool.{true≢false}
 use Rattle.percent_encoding.specs.Percent.{percent_decode}
-use Rattle.iref_grammar.specs.Rules.{Text}
-use Rattle.iref_grammar.specs.Texts.{is_empty, all_but_last}
-use Rattle.iref_grammar.specs.PathValue.{PathValue, is_one_empty}
+use Rattle.iref_grammar.specs.{Rules.{Text}, Texts.{is_empty, all_but_last}, PathValue.{PathValue, is_one_empty}}
 use Rattle.iref_model.specs.NormalList.{is_name, count_parents, staying_names, ends_in_dots, closed, without_lone_empty, normal_segments, open_parents}
-use Rattle.iref_model.specs.PathSuffix.{same_decoded}
-use Rattle.iref_model.specs.Relative.{last_or_empty, steps_between}
+use Rattle.iref_model.specs.{PathSuffix.{same_decoded}, Relative.{last_or_empty, steps_between}}
 use Rattle.iref_model.proofs.NormalLemmas.{parents-cons}
 use Rattle.iref_model.proofs.JoinedLemmas.{without_last, staying-append, are_names, all_first, climbs, open-most, parents-names}
 use Rattle.iref_model.proofs.SettledLemmas.{ends-append, last_stays, staying-settled, open-settled, normal_from}

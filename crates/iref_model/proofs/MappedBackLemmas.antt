@@ -3,8 +3,7 @@ use Rattle.std.proofs.Common.{arith, ◌≡◌, ℕ, ◌+◌, ◌*◌, ◌<◌, 
 use Rattle.std.proofs.lemmas.Grind.{common_steps}
 use Rattle.std.proofs.lemmas.List.{take_more, drop_more, length-append, length-take-le, append-nil}
 use Rattle.std.proofs.Math.Seq.{take-length}
-use Rattle.percent_encoding.specs.AsciiSet.{should_percent_encode}
-use Rattle.percent_encoding.specs.Percent.{encode_byte, percent_encode}
+use Rattle.percent_encoding.specs.{AsciiSet.{should_percent_encode}, Percent.{encode_byte, percent_encode}}
 use Rattle.iref_grammar.specs.Rules.{Text}
 use Rattle.iref_model.specs.Mapping.{mapped_byte, mapped, count_escaped, mapped_index}
 use Rattle.iref_model.proofs.MappedLemmas.{mapped-append, length-mapped}

@@ -1,13 +1,8 @@
 -- The mapping of the UTF-8 of a character.
-use Rattle.std.proofs.Common.{◌≡◌, ℕ, Bool, true, false, not, All, [], ◌∷◌, arith}
-use Rattle.std.proofs.lemmas.Grind.{common_steps}
-use Rattle.std.specs.Prelude.{encode_utf8_all}
-use Rattle.std.specs.List.{list_all, flat_map}
-use Rattle.std.specs.Char.{is_ascii, encode_utf8}
+use Rattle.std.proofs.{Common.{◌≡◌, ℕ, Bool, true, false, not, All, [], ◌∷◌, arith}, lemmas.Grind.{common_steps}}
+use Rattle.std.proofs.{Math.Utf8.{scalar}, lemmas.List.Elements.{All-nil}, lemmas.Bool.{not-true}}
+use Rattle.std.specs.{Prelude.{encode_utf8_all}, List.{list_all, flat_map}, Char.{is_ascii, encode_utf8}}
 use Rattle.std.specs.Str.{all_scalars}
-use Rattle.std.proofs.Math.Utf8.{scalar}
-use Rattle.std.proofs.lemmas.List.Elements.{All-nil}
-use Rattle.std.proofs.lemmas.Bool.{not-true}
 use Rattle.percent_encoding.specs.Percent.{percent_encode_byte}
 use Rattle.percent_encoding.proofs.PercentLemmas.{IsByte}
 use Rattle.iref_grammar.specs.Rules.{Text}

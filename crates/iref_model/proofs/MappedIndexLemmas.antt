@@ -1,17 +1,10 @@
 -- Where the components of a mapping stand.
 use Rattle.std.proofs.Common.{arith, ◌≡◌, ℕ, ◌+◌, true, [], ◌∷◌, ◌++◌, length, refl, sym, ◌∙◌, ap, append_assoc}
-use Rattle.std.proofs.lemmas.Grind.{common_steps}
-use Rattle.std.specs.Prelude.{codes, Option, Some, None, option_map}
-use Rattle.std.specs.List.{list_all}
-use Rattle.std.specs.Char.{is_ascii}
-use Rattle.std.proofs.lemmas.List.{append-nil, length-append}
-use Rattle.iref_grammar.specs.Characters.{CharTests, AreAboveAscii}
-use Rattle.iref_grammar.specs.Rules.{Text, InUtf8}
-use Rattle.iref_grammar.specs.Grammar.{hash_sign, colon, question_mark, IsUriReference}
-use Rattle.iref_grammar.specs.Texts.{part_then, then_part}
-use Rattle.iref_grammar.specs.Authority.{spell_authority}
-use Rattle.iref_grammar.specs.PathValue.{spell_path}
-use Rattle.iref_grammar.specs.Reference.{ReferenceValue, spell}
+use Rattle.std.proofs.{lemmas.Grind.{common_steps}, lemmas.List.{append-nil, length-append}}
+use Rattle.std.specs.{Prelude.{codes, Option, Some, None, option_map}, List.{list_all}, Char.{is_ascii}}
+use Rattle.iref_grammar.specs.{Characters.{CharTests, AreAboveAscii}, Rules.{Text, InUtf8}}
+use Rattle.iref_grammar.specs.{Grammar.{hash_sign, colon, question_mark, IsUriReference}, Texts.{part_then, then_part}}
+use Rattle.iref_grammar.specs.{Authority.{spell_authority}, PathValue.{spell_path}, Reference.{ReferenceValue, spell}}
 use Rattle.iref_grammar.specs.ComponentOffsets.{range_from, authority_mark, path_start, query_mark, fragment_mark, offsets_in, offsets_of}
 use Rattle.iref_grammar.proofs.ReferenceCutLemmas.{read_reference-spelled}
 use Rattle.iref_model.specs.Mapping.{mapped, mapped_index, mapped_reference, mapped_range, mapped_offsets}

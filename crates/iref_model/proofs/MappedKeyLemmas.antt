@@ -1,32 +1,20 @@
 -- The mapping of a readable reference has its key.
-use Rattle.std.proofs.Common.{arith, ◌≡◌, true, All, List, [], ◌∷◌, map, refl, ap, subst}
-use Rattle.std.proofs.lemmas.Grind.{common_steps}
-use Rattle.std.specs.Prelude.{Option, Some, None, option_map, IfSome}
-use Rattle.std.specs.Str.{str_to_ascii_lowercase}
-use Rattle.std.specs.List.{list_all}
+use Rattle.std.proofs.{Common.{arith, ◌≡◌, true, All, List, [], ◌∷◌, map, refl, ap, subst}, lemmas.Grind.{common_steps}}
+use Rattle.std.specs.{Prelude.{Option, Some, None, option_map, IfSome}, Str.{str_to_ascii_lowercase}, List.{list_all}}
 use Rattle.percent_encoding.specs.Percent.{percent_decode}
 use Rattle.percent_encoding.proofs.PercentLemmas.{IsByte}
-use Rattle.iref_grammar.specs.Characters.{CharTests, AreAboveAscii}
-use Rattle.iref_grammar.specs.Rules.{Text, Rule, InUtf8}
-use Rattle.iref_grammar.specs.Grammar.{IsScheme, IsUserInfo, IsHost, IsPort, IsQuery, IsFragment}
-use Rattle.iref_grammar.specs.Tests.{is_segment}
-use Rattle.iref_grammar.specs.Authority.{AuthorityValue, HasAuthorityParts}
-use Rattle.iref_grammar.specs.PathValue.{PathValue}
+use Rattle.iref_grammar.specs.{Characters.{CharTests, AreAboveAscii}, Rules.{Text, Rule, InUtf8}}
+use Rattle.iref_grammar.specs.{Grammar.{IsScheme, IsUserInfo, IsHost, IsPort, IsQuery, IsFragment}, Tests.{is_segment}}
+use Rattle.iref_grammar.specs.{Authority.{AuthorityValue, HasAuthorityParts}, PathValue.{PathValue}}
 use Rattle.iref_grammar.specs.Reference.{ReferenceValue, IsReadable}
-use Rattle.iref_grammar.proofs.TextLemmas.{first_of_both, second_of_both}
-use Rattle.iref_grammar.proofs.LeafLemmas.{Decides-is_segment}
-use Rattle.iref_grammar.proofs.ReadablePartsLemmas.{readable_parts}
-use Rattle.iref_grammar.proofs.ReferenceRuleLemmas.{Decides-is_readable}
-use Rattle.iref_model.specs.AuthorityKey.{authority_key}
-use Rattle.iref_model.specs.PathKey.{path_key}
-use Rattle.iref_model.specs.Key.{key}
-use Rattle.iref_model.proofs.NormalGrammarLemmas.{takes_dots}
-use Rattle.iref_model.proofs.StepSegmentLemmas.{normal-in}
+use Rattle.iref_grammar.proofs.{TextLemmas.{first_of_both, second_of_both}, LeafLemmas.{Decides-is_segment}}
+use Rattle.iref_grammar.proofs.{ReadablePartsLemmas.{readable_parts}, ReferenceRuleLemmas.{Decides-is_readable}}
+use Rattle.iref_model.specs.{AuthorityKey.{authority_key}, PathKey.{path_key}, Key.{key}}
 use Rattle.iref_model.specs.Mapping.{mapped, mapped_authority, mapped_path, mapped_reference}
+use Rattle.iref_model.proofs.{NormalGrammarLemmas.{takes_dots}, StepSegmentLemmas.{normal-in}}
 use Rattle.iref_model.proofs.MappedCharLemmas.{utf8_bytes}
 use Rattle.iref_model.proofs.MappedRuleLemmas.{mapped-scheme, mapped-port, stays_option}
-use Rattle.iref_model.proofs.MappedNormalLemmas.{normal_segments-map}
-use Rattle.iref_model.proofs.MappedDecodedLemmas.{decoded-mapped}
+use Rattle.iref_model.proofs.{MappedNormalLemmas.{normal_segments-map}, MappedDecodedLemmas.{decoded-mapped}}
 
 -- bytes in a rule are bytes, so their mapping is the same when decoded
 pub decoded_in_rule : (A : Rule) (bytes : Text) → InUtf8 A bytes → percent_decode (mapped bytes) ≡ percent_decode bytes

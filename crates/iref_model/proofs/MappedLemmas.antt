@@ -1,15 +1,9 @@
 -- The mapping of texts, byte by byte.
 use Rattle.std.proofs.Common.{◌≡◌, ℕ, ◌+◌, ◌*◌, ◌/◌, ◌%◌, ◌<◌, true, false, not, cond, [], ◌∷◌, ◌++◌, length, refl, ap, arith}
-use Rattle.std.proofs.Math.Logic.{◌↔◌}
-use Rattle.std.specs.Char.{is_ascii}
-use Rattle.std.specs.Fmt.{digit_glyph}
-use Rattle.std.specs.List.{list_all}
-use Rattle.std.proofs.lemmas.Bool.{cond-true, cond-false, and_from}
-use Rattle.std.proofs.lemmas.Bool.Decides.{nat_tests}
-use Rattle.std.proofs.lemmas.Grind.{common_steps, flat_map-append}
-use Rattle.std.proofs.lemmas.List.Folds.{list_all-append}
-use Rattle.std.proofs.lemmas.List.{length-append, length-set}
-use Rattle.std.proofs.lemmas.List.Sums.{sum_by-cons}
+use Rattle.std.proofs.{Math.Logic.{◌↔◌}, lemmas.Bool.{cond-true, cond-false, and_from}, lemmas.Bool.Decides.{nat_tests}}
+use Rattle.std.proofs.{lemmas.Grind.{common_steps, flat_map-append}, lemmas.List.Folds.{list_all-append}}
+use Rattle.std.proofs.{lemmas.List.{length-append, length-set}, lemmas.List.Sums.{sum_by-cons}}
+use Rattle.std.specs.{Char.{is_ascii}, Fmt.{digit_glyph}, List.{list_all}}
 use Rattle.percent_encoding.specs.Percent.{percent_encode_byte}
 use Rattle.iref_grammar.specs.Rules.{Text}
 use Rattle.iref_grammar.proofs.TextLemmas.{first_of_both, second_of_both}

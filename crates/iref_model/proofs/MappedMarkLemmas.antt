@@ -1,16 +1,11 @@
 -- The mapping leaves the delimiters of the grammar where they are, and empty texts empty.
 use Rattle.std.proofs.Common.{◌≡◌, ℕ, ◌<◌, true, false, not, ◌&&◌, ◌||◌, List, [], ◌∷◌, ◌++◌, map, refl, ap, arith}
-use Rattle.std.proofs.lemmas.Grind.{common_steps}
+use Rattle.std.proofs.{lemmas.Grind.{common_steps}, lemmas.Bool.Decides.{nat_tests}}
 use Rattle.std.specs.Prelude.{◌==◌, Option, Some, None, option_map, is_some, if◌then◌else◌}
-use Rattle.std.specs.Char.{is_ascii, is_ascii_hexdigit, char_set_contains}
-use Rattle.std.specs.Fmt.{digit_glyph}
-use Rattle.std.proofs.lemmas.Bool.Decides.{nat_tests}
+use Rattle.std.specs.{Char.{is_ascii, is_ascii_hexdigit, char_set_contains}, Fmt.{digit_glyph}}
 use Rattle.percent_encoding.specs.Percent.{percent_sign, percent_encode_byte}
-use Rattle.iref_grammar.specs.declared.context.PathContext.{PathContext}
-use Rattle.iref_grammar.specs.Rules.{Text}
-use Rattle.iref_grammar.specs.Grammar.{colon}
-use Rattle.iref_grammar.specs.Texts.{is_empty}
-use Rattle.iref_grammar.specs.PathValue.{PathValue, begins_empty, is_one_empty, shows_its_list}
+use Rattle.iref_grammar.specs.{declared.context.PathContext.{PathContext}, Rules.{Text}, Grammar.{colon}}
+use Rattle.iref_grammar.specs.{Texts.{is_empty}, PathValue.{PathValue, begins_empty, is_one_empty, shows_its_list}}
 use Rattle.iref_grammar.specs.Contexts.{begins_with_colon_segment, follows_authority, reads_as_path}
 use Rattle.iref_grammar.specs.Reference.{ReferenceValue, context_of}
 use Rattle.iref_model.specs.Mapping.{mapped, mapped_authority, mapped_path, mapped_reference}

@@ -1,19 +1,14 @@
 -- The normal list of a mapped path is the mapped normal list.
 use Rattle.std.proofs.Common.{arith, ◌≡◌, ℕ, zero, suc, ◌/◌, ◌%◌, Bool, true, false, not, ◌&&◌, List, [], ◌∷◌, ◌++◌, map, refl, sym, ◌∙◌, ap}
-use Rattle.std.proofs.lemmas.Grind.{common_steps}
-use Rattle.std.specs.Prelude.{◌==◌, bytes_eq, codes, replicate, if◌then◌else◌}
-use Rattle.std.specs.List.{list_all}
-use Rattle.std.specs.Char.{is_ascii}
+use Rattle.std.proofs.{lemmas.Grind.{common_steps}, lemmas.List.{map-append}, lemmas.Bool.{not-true}}
+use Rattle.std.specs.{Prelude.{◌==◌, bytes_eq, codes, replicate, if◌then◌else◌}, List.{list_all}, Char.{is_ascii}}
 use Rattle.std.specs.Fmt.{digit_glyph}
-use Rattle.std.proofs.lemmas.List.{map-append}
-use Rattle.std.proofs.lemmas.Bool.{not-true}
 use Rattle.percent_encoding.specs.Percent.{percent_sign, percent_encode_byte}
-use Rattle.iref_grammar.specs.Rules.{Text}
-use Rattle.iref_grammar.specs.PathValue.{PathValue, is_one_empty}
+use Rattle.iref_grammar.specs.{Rules.{Text}, PathValue.{PathValue, is_one_empty}}
 use Rattle.iref_grammar.proofs.TextLemmas.{first_of_both, second_of_both}
 use Rattle.iref_model.specs.NormalList.{is_dot, is_dot_dot, is_name, stays_before, staying_names, excess, ends_in_dots, closed, without_lone_empty, kept_segments, normal_segments, counted, open_parents}
-use Rattle.iref_model.proofs.NormalLemmas.{stays_before-is, excess-is}
 use Rattle.iref_model.specs.Mapping.{mapped, mapped_path}
+use Rattle.iref_model.proofs.NormalLemmas.{stays_before-is, excess-is}
 use Rattle.iref_model.proofs.MappedLemmas.{mapped-nil, mapped-kept, mapped-escaped, mapped-ascii}
 use Rattle.iref_model.proofs.MappedMarkLemmas.{above_other, is_empty-map, is_one_empty-map}
 

@@ -1,19 +1,12 @@
 -- The mapping of the text of a reference.
-use Rattle.std.proofs.Common.{arith, ◌≡◌, sym, ◌∙◌, ap}
-use Rattle.std.proofs.lemmas.Grind.{common_steps}
-use Rattle.std.proofs.Math.Logic.{◌↔◌}
-use Rattle.std.specs.Prelude.{Option, Some, None, option_map, IsSome}
-use Rattle.std.specs.Ordering.{is_eq}
-use Rattle.iref_grammar.specs.Characters.{CharTests, AreAboveAscii, uri_chars, uri_above_ascii}
-use Rattle.iref_grammar.specs.Rules.{Text, InUtf8}
-use Rattle.iref_grammar.specs.Grammar.{IsUri, IsUriReference}
-use Rattle.iref_grammar.specs.Reference.{IsReadable, read_reference, is_reference}
+use Rattle.std.proofs.{Common.{arith, ◌≡◌, sym, ◌∙◌, ap}, lemmas.Grind.{common_steps}, Math.Logic.{◌↔◌}}
+use Rattle.std.specs.{Prelude.{Option, Some, None, option_map, IsSome}, Ordering.{is_eq}}
+use Rattle.iref_grammar.specs.{Characters.{CharTests, AreAboveAscii, uri_chars, uri_above_ascii}, Rules.{Text, InUtf8}}
+use Rattle.iref_grammar.specs.{Grammar.{IsUri, IsUriReference}, Reference.{IsReadable, read_reference, is_reference}}
 use Rattle.iref_grammar.proofs.ReferenceCutLemmas.{read_reference-spelled}
 use Rattle.iref_grammar.proofs.ReferenceRuleLemmas.{Decides-is_readable, Decides-is_uri_reference, reference_read, in_utf8-reference, in_utf8-full}
-use Rattle.iref_model.specs.Key.{key, key_cmp, AreAlike, are_alike}
-use Rattle.iref_model.specs.Mapping.{mapped, mapped_reference}
-use Rattle.iref_model.proofs.MappedRuleLemmas.{readable_mapped}
-use Rattle.iref_model.proofs.MappedSpellingLemmas.{spell-mapped}
+use Rattle.iref_model.specs.{Key.{key, key_cmp, AreAlike, are_alike}, Mapping.{mapped, mapped_reference}}
+use Rattle.iref_model.proofs.{MappedRuleLemmas.{readable_mapped}, MappedSpellingLemmas.{spell-mapped}}
 use Rattle.iref_model.proofs.MappedKeyLemmas.{key-mapped}
 
 module _ (set : CharTests) (above : AreAboveAscii set) where

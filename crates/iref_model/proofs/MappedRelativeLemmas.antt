@@ -3,26 +3,17 @@ use Rattle.std.proofs.Common.{arith, ◌≡◌, ℕ, zero, suc, Bool, true, fals
 use Rattle.std.proofs.lemmas.Grind.{common_steps}
 use Rattle.std.specs.Prelude.{bytes_eq, Option, Some, None, option_map, is_none, if◌then◌else◌}
 use Rattle.std.specs.List.{list_all, common_prefix_len}
-use Rattle.iref_grammar.specs.Characters.{CharTests, AreAboveAscii}
-use Rattle.iref_grammar.specs.Rules.{Text}
-use Rattle.iref_grammar.specs.Texts.{is_empty, all_but_last}
-use Rattle.iref_grammar.specs.Tests.{is_segment}
-use Rattle.iref_grammar.specs.PathValue.{PathValue}
-use Rattle.iref_grammar.specs.Contexts.{alone}
+use Rattle.iref_grammar.specs.{Characters.{CharTests, AreAboveAscii}, Rules.{Text}, Texts.{is_empty, all_but_last}}
+use Rattle.iref_grammar.specs.{Tests.{is_segment}, PathValue.{PathValue}, Contexts.{alone}}
 use Rattle.iref_grammar.specs.Reference.{ReferenceValue, IsReadable}
-use Rattle.iref_grammar.proofs.TextLemmas.{first_of_both, second_of_both}
-use Rattle.iref_grammar.proofs.LeafLemmas.{Decides-is_segment}
-use Rattle.iref_grammar.proofs.ReadablePartsLemmas.{readable_parts}
-use Rattle.iref_grammar.proofs.ReferenceRuleLemmas.{Decides-is_readable}
-use Rattle.iref_model.specs.Guard.{guarded}
-use Rattle.iref_model.specs.NormalList.{normal, normal_segments, staying_names}
+use Rattle.iref_grammar.proofs.{TextLemmas.{first_of_both, second_of_both}, LeafLemmas.{Decides-is_segment}}
+use Rattle.iref_grammar.proofs.{ReadablePartsLemmas.{readable_parts}, ReferenceRuleLemmas.{Decides-is_readable}}
+use Rattle.iref_model.specs.{Guard.{guarded}, NormalList.{normal, normal_segments, staying_names}}
 use Rattle.iref_model.specs.PathSuffix.{same_decoded}
 use Rattle.iref_model.specs.Relative.{have_same_authority, schemes_agree, is_same_place, last_or_empty, steps_between, directory_names, leading_path, with_only_path, relative_to}
-use Rattle.iref_model.proofs.NormalGrammarLemmas.{takes_dots}
-use Rattle.iref_model.proofs.StepSegmentLemmas.{in-shortened, normal-in}
 use Rattle.iref_model.specs.Mapping.{mapped, mapped_path, mapped_reference}
-use Rattle.iref_model.proofs.MappedLemmas.{mapped-nil}
-use Rattle.iref_model.proofs.MappedMarkLemmas.{is_empty-map, is_some-map}
+use Rattle.iref_model.proofs.{NormalGrammarLemmas.{takes_dots}, StepSegmentLemmas.{in-shortened, normal-in}}
+use Rattle.iref_model.proofs.{MappedLemmas.{mapped-nil}, MappedMarkLemmas.{is_empty-map, is_some-map}}
 use Rattle.iref_model.proofs.MappedNormalLemmas.{parents-map, staying_names-map, normal_segments-map}
 use Rattle.iref_model.proofs.MappedKeyLemmas.{decoded_in_rule, path_key-mapped, key-mapped}
 use Rattle.iref_model.proofs.MappedResolutionLemmas.{at_if, normal-mapped, guarded-mapped, all_but_last-map}

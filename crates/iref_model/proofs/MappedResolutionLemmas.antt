@@ -1,16 +1,10 @@
 -- Resolution commutes with the mapping.
 use Rattle.std.proofs.Common.{arith, ◌≡◌, Bool, true, false, not, ◌&&◌, List, [], ◌∷◌, map, refl, sym, ◌∙◌, ap}
-use Rattle.std.proofs.lemmas.Grind.{common_steps}
-use Rattle.std.specs.Prelude.{codes, option_map, if◌then◌else◌}
-use Rattle.std.specs.Option.{option_or}
-use Rattle.std.proofs.lemmas.List.{map-append}
-use Rattle.iref_grammar.specs.declared.context.PathContext.{PathContext}
-use Rattle.iref_grammar.specs.Rules.{Text}
-use Rattle.iref_grammar.specs.Texts.{all_but_last}
-use Rattle.iref_grammar.specs.PathValue.{PathValue}
-use Rattle.iref_grammar.specs.Reference.{ReferenceValue}
-use Rattle.iref_model.specs.Guard.{with_dot, made_absolute, dot_where_needed, guarded}
-use Rattle.iref_model.specs.NormalList.{normal}
+use Rattle.std.proofs.{lemmas.Grind.{common_steps}, lemmas.List.{map-append}}
+use Rattle.std.specs.{Prelude.{codes, option_map, if◌then◌else◌}, Option.{option_or}}
+use Rattle.iref_grammar.specs.{declared.context.PathContext.{PathContext}, Rules.{Text}, Texts.{all_but_last}}
+use Rattle.iref_grammar.specs.{PathValue.{PathValue}, Reference.{ReferenceValue}}
+use Rattle.iref_model.specs.{Guard.{with_dot, made_absolute, dot_where_needed, guarded}, NormalList.{normal}}
 use Rattle.iref_model.specs.ComponentSteps.{guarded_reference}
 use Rattle.iref_model.specs.Resolution.{merged, is_no_path, target_path, target, resolved}
 use Rattle.iref_model.specs.Mapping.{mapped, mapped_path, mapped_reference}

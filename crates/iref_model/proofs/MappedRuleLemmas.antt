@@ -1,33 +1,26 @@
 -- The mapping of a text in a rule of IRIs is in the rule of URIs.
 use Rattle.std.proofs.Common.{◌≡◌, ℕ, ◌/◌, ◌%◌, ◌<◌, Bool, true, false, ◌||◌, List, [], ◌∷◌, map, refl, sym, ◌∙◌, ap, subst, arith, inl, inr}
-use Rattle.std.proofs.lemmas.Grind.{common_steps}
+use Rattle.std.proofs.{lemmas.Grind.{common_steps}, lemmas.Bool.{and_from, or_right}, lemmas.Bool.Decides.{nat_tests}}
+use Rattle.std.proofs.{lemmas.List.{append-nil}, lemmas.Str.{encode_ascii}}
 use Rattle.std.specs.Prelude.{◌==◌, encode_utf8_all, Option, Some, None, option_map, IfSome}
 use Rattle.std.specs.List.{AllByRecursion, concat, list_all, flat_map}
-use Rattle.std.specs.Char.{is_ascii, is_ascii_alphabetic, is_ascii_digit, encode_utf8}
-use Rattle.std.specs.Fmt.{digit_glyph}
-use Rattle.std.proofs.lemmas.Bool.{and_from, or_right}
-use Rattle.std.proofs.lemmas.Bool.Decides.{nat_tests}
-use Rattle.std.proofs.lemmas.List.{append-nil}
-use Rattle.std.proofs.lemmas.Str.{encode_ascii}
+use Rattle.std.specs.{Char.{is_ascii, is_ascii_alphabetic, is_ascii_digit, encode_utf8}, Fmt.{digit_glyph}}
 use Rattle.iref_model.proofs.MappedMarkLemmas.{glyph_hex}
+use Rattle.iref_model.proofs.MappedLemmas.{mapped-nil, mapped-append, mapped-ascii, escape_ascii}
+use Rattle.iref_model.proofs.MappedMarkLemmas.{context_of-mapped, follows_authority-mapped, reads_as_path-mapped}
+use Rattle.iref_model.proofs.MappedCharLemmas.{char_above, mapped-above}
 use Rattle.percent_encoding.specs.Percent.{percent_sign, percent_encode_byte}
-use Rattle.iref_grammar.specs.Rules.{Text, Rule, ZeroOrMore, InUtf8}
-use Rattle.iref_grammar.specs.Characters.{CharTests, AreAboveAscii, uri_chars}
+use Rattle.iref_grammar.specs.{Rules.{Text, Rule, ZeroOrMore, InUtf8}, Characters.{CharTests, AreAboveAscii, uri_chars}}
 use Rattle.iref_grammar.specs.Grammar.{colon, at_sign, is_reg_name_char, is_user_info_char, is_path_char, is_fragment_char, is_query_char, is_scheme_char, IsPctEncoded, IsEncoded, IsScheme, IsUserInfo, IsRegName, IsIpLiteral, IsHost, IsPort, IsSegment, IsQuery, IsFragment}
-use Rattle.iref_grammar.specs.Tests.{is_scheme, is_port}
-use Rattle.iref_grammar.specs.Authority.{AuthorityValue, HasAuthorityParts}
+use Rattle.iref_grammar.specs.{Tests.{is_scheme, is_port}, Authority.{AuthorityValue, HasAuthorityParts}}
 use Rattle.iref_grammar.specs.Contexts.{follows_authority, reads_as_path}
 use Rattle.iref_grammar.specs.Reference.{ReferenceValue, IsReadable, context_of}
 use Rattle.iref_grammar.proofs.TextLemmas.{first_of_both, second_of_both}
 use Rattle.iref_grammar.proofs.HostRuleLemmas.{literal_ascii, ipv4_reg_name}
 use Rattle.iref_grammar.proofs.PartRuleLemmas.{Decides-is_scheme_bytes, Decides-is_port_bytes}
-use Rattle.iref_grammar.proofs.RuleLemmas.{none_of, one_more, more-append}
-use Rattle.iref_grammar.proofs.EncodedLemmas.{Piece}
+use Rattle.iref_grammar.proofs.{RuleLemmas.{none_of, one_more, more-append}, EncodedLemmas.{Piece}}
 use Rattle.iref_grammar.proofs.Utf8RuleLemmas.{in_utf8-more, in_utf8-ascii}
 use Rattle.iref_model.specs.Mapping.{mapped, mapped_authority, mapped_path, mapped_reference}
-use Rattle.iref_model.proofs.MappedLemmas.{mapped-nil, mapped-append, mapped-ascii, escape_ascii}
-use Rattle.iref_model.proofs.MappedMarkLemmas.{context_of-mapped, follows_authority-mapped, reads_as_path-mapped}
-use Rattle.iref_model.proofs.MappedCharLemmas.{char_above, mapped-above}
 
 -- an ASCII text in a rule is in it as bytes
 pub ascii_in_utf8 : (A : Rule) (t : Text) → list_all is_ascii t ≡ true → A t → InUtf8 A t

@@ -1,14 +1,9 @@
 -- The mapping of a spelling is the spelling of the mapped components.
 use Rattle.std.proofs.Common.{arith, ◌≡◌, ℕ, true, List, [], ◌∷◌, ◌++◌, map, refl, sym, ◌∙◌, ap}
 use Rattle.std.proofs.lemmas.Grind.{common_steps}
-use Rattle.std.specs.Prelude.{Option, Some, None, option_map}
-use Rattle.std.specs.List.{list_all, join_with_byte}
-use Rattle.std.specs.Char.{is_ascii}
-use Rattle.iref_grammar.specs.Rules.{Text}
-use Rattle.iref_grammar.specs.Texts.{part_then, then_part}
-use Rattle.iref_grammar.specs.Authority.{AuthorityValue, spell_authority}
-use Rattle.iref_grammar.specs.PathValue.{PathValue, spell_path}
-use Rattle.iref_grammar.specs.Reference.{ReferenceValue, spell}
+use Rattle.std.specs.{Prelude.{Option, Some, None, option_map}, List.{list_all, join_with_byte}, Char.{is_ascii}}
+use Rattle.iref_grammar.specs.{Rules.{Text}, Texts.{part_then, then_part}, Authority.{AuthorityValue, spell_authority}}
+use Rattle.iref_grammar.specs.{PathValue.{PathValue, spell_path}, Reference.{ReferenceValue, spell}}
 use Rattle.iref_model.specs.Mapping.{mapped, mapped_authority, mapped_path, mapped_reference}
 use Rattle.iref_model.proofs.MappedLemmas.{mapped-nil, mapped-append, mapped-kept, mapped-ascii}
 

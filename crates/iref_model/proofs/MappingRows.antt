@@ -1,21 +1,15 @@
 -- Worked rows of the mapping of IRIs to URIs, computed.
 use Prim.Native.String.{String}
 use Rattle.std.specs.Prelude.{◌≡◌, Bool, ◌&&◌, true, false, List, [], ◌∷◌, ◌++◌, map, codes, refl}
-use Rattle.std.specs.Str.{is_utf8, chars}
-use Rattle.std.specs.Char.{encode_utf8}
+use Rattle.std.specs.{Str.{is_utf8, chars}, Char.{encode_utf8}}
 use Rattle.percent_encoding.specs.Percent.{percent_encode_byte, percent_decode}
-use Rattle.iref_grammar.specs.Characters.{uri_chars, iri_chars}
-use Rattle.iref_grammar.specs.Rules.{Text}
-use Rattle.iref_grammar.specs.IpAddresses.{ipv4_value, ipv6_value}
+use Rattle.iref_grammar.specs.{Characters.{uri_chars, iri_chars}, Rules.{Text}, IpAddresses.{ipv4_value, ipv6_value}}
 use Rattle.iref_grammar.specs.Grammar.{is_reg_name_char, is_user_info_char, is_path_char, is_fragment_char, is_query_char}
 use Rattle.iref_grammar.specs.Tests.{owed_after, is_scheme, is_port, is_user_info, is_reg_name, is_ipvfuture, is_ip_literal, is_host, is_segment, is_query, is_fragment}
-use Rattle.iref_grammar.specs.Authority.{read_authority, has_authority_parts}
-use Rattle.iref_grammar.specs.PathValue.{read_path}
+use Rattle.iref_grammar.specs.{Authority.{read_authority, has_authority_parts}, PathValue.{read_path}}
 use Rattle.iref_grammar.specs.Reference.{read_reference, is_readable, is_reference}
-use Rattle.iref_model.specs.NormalList.{normal_segments, excess, staying_names}
-use Rattle.iref_model.specs.PathKey.{path_key}
-use Rattle.iref_model.specs.Key.{key, key_cmp, are_alike}
-use Rattle.iref_model.specs.Mapping.{mapped, mapped_chars}
+use Rattle.iref_model.specs.{NormalList.{normal_segments, excess, staying_names}, PathKey.{path_key}}
+use Rattle.iref_model.specs.{Key.{key, key_cmp, are_alike}, Mapping.{mapped, mapped_chars}}
 use Rattle.iref_model.proofs.Rows.{utf8}
 
 -- an IRI reference; its mapping (the first three are examples of RFC 3987 section 3.1; U+E000 is private, U+10000 takes four bytes)

@@ -1,11 +1,8 @@
 -- The normal segments of a path are in the grammar.
-use Rattle.std.proofs.Common.{arith, ◌≡◌, true, List}
-use Rattle.std.proofs.lemmas.Grind.{common_steps}
+use Rattle.std.proofs.{Common.{arith, ◌≡◌, true, List}, lemmas.Grind.{common_steps}}
 use Rattle.std.specs.List.{list_all}
 use Rattle.iref_grammar.proofs.EmptyLemmas.{is_segment_empty}
-use Rattle.iref_grammar.specs.Characters.{CharTests, AreAboveAscii}
-use Rattle.iref_grammar.specs.Rules.{Text}
-use Rattle.iref_grammar.specs.Tests.{is_segment, is_path}
+use Rattle.iref_grammar.specs.{Characters.{CharTests, AreAboveAscii}, Rules.{Text}, Tests.{is_segment, is_path}}
 use Rattle.iref_grammar.specs.PathValue.{read_path}
 use Rattle.iref_model.specs.NormalList.{normal_segments}
 use Rattle.iref_model.proofs.StepSegmentLemmas.{TakesDots, normal-in}

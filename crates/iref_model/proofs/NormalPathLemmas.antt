@@ -1,17 +1,12 @@
 -- Normal paths where they stand: a guard hides nothing, so to normalize again changes nothing.
 use Rattle.std.proofs.Common.{arith, ◌≡◌, Bool, true, false, cond, List, [], ◌∷◌, ◌++◌, refl, sym, ◌∙◌, ap}
 use Rattle.std.specs.Prelude.{codes}
-use Rattle.iref_grammar.specs.declared.context.PathContext.{PathContext}
-use Rattle.iref_grammar.specs.Rules.{Text}
-use Rattle.iref_grammar.specs.PathValue.{PathValue}
+use Rattle.iref_grammar.specs.{declared.context.PathContext.{PathContext}, Rules.{Text}, PathValue.{PathValue}}
 use Rattle.iref_grammar.specs.Contexts.{alone, follows_authority}
 use Rattle.iref_model.specs.Guard.{guarded, made_absolute, dot_where_needed, with_dot}
 use Rattle.iref_model.specs.NormalList.{staying_names, excess, ends_in_dots, closed, without_lone_empty, normal_segments, normal}
-use Rattle.iref_model.specs.PathSteps.{normalized}
-use Rattle.iref_model.specs.PathKey.{path_key}
-use Rattle.iref_model.proofs.NormalLemmas.{excess-is}
-use Rattle.iref_model.proofs.JoinedLemmas.{climbs}
-use Rattle.iref_model.proofs.SettledLemmas.{normal_again}
+use Rattle.iref_model.specs.{PathSteps.{normalized}, PathKey.{path_key}}
+use Rattle.iref_model.proofs.{NormalLemmas.{excess-is}, JoinedLemmas.{climbs}, SettledLemmas.{normal_again}}
 
 -- ---- the guard
 

@@ -2,14 +2,10 @@
 use Prim.Native.String.{String}
 use Rattle.std.specs.Prelude.{◌≡◌, ℕ, Bool, true, false, nat_le, ◌&&◌, List, [], ◌∷◌, map, codes, Option, Some, None, option_map, if◌then◌else◌, refl}
 use Rattle.percent_encoding.specs.Percent.{percent_decode}
-use Rattle.iref_grammar.specs.Rules.{Text}
-use Rattle.iref_grammar.specs.Contexts.{alone, context_from}
-use Rattle.iref_grammar.specs.PathValue.{spell_path, read_path}
-use Rattle.iref_model.specs.Guard.{guarded}
-use Rattle.iref_model.specs.NormalList.{normal_segments, excess, staying_names}
+use Rattle.iref_grammar.specs.{Rules.{Text}, Contexts.{alone, context_from}, PathValue.{spell_path, read_path}}
+use Rattle.iref_model.specs.{Guard.{guarded}, NormalList.{normal_segments, excess, staying_names}}
 use Rattle.iref_model.specs.NormalReading.{NormalRest, whole_rest, first_left, last_left, nothing_left}
-use Rattle.iref_model.specs.PathSteps.{normalized}
-use Rattle.iref_model.specs.PathSuffix.{path_suffix}
+use Rattle.iref_model.specs.{PathSteps.{normalized}, PathSuffix.{path_suffix}}
 use Rattle.iref_model.specs.DotSegments.{Buffers, rewritten, dot_segments_removed}
 use Rattle.iref_model.specs.CountedEquality.{paths_compared, segments_read}
 use Rattle.iref_model.proofs.Rows.{path, after, spelled}

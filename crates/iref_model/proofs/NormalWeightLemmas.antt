@@ -2,16 +2,12 @@
 use Rattle.std.proofs.Common.{◌≡◌, ℕ, zero, suc, ◌+◌, ◌-◌, ◌*◌, ◌≤◌, Bool, true, false, cond, ◌&&◌, List, [], ◌∷◌, ◌++◌, length, take, refl, sym, ◌∙◌, ap, arith, ◌⊎◌, inl, inr}
 use Rattle.std.proofs.Math.Bool.{and-false}
 use mathlib.Core.Bool.{true≢false}
-use Rattle.iref_grammar.specs.declared.context.PathContext.{PathContext}
-use Rattle.iref_grammar.specs.Rules.{Text}
-use Rattle.iref_grammar.specs.Texts.{all_but_last}
-use Rattle.iref_grammar.specs.PathValue.{PathValue, spell_path, is_one_empty}
-use Rattle.iref_grammar.specs.Contexts.{fits}
+use Rattle.iref_grammar.specs.{declared.context.PathContext.{PathContext}, Rules.{Text}, Texts.{all_but_last}}
+use Rattle.iref_grammar.specs.{PathValue.{PathValue, spell_path, is_one_empty}, Contexts.{fits}}
 use Rattle.iref_model.specs.Guard.{guarded}
 use Rattle.iref_model.specs.NormalList.{staying_names, excess, normal_segments, without_lone_empty, open_parents}
-use Rattle.iref_model.proofs.JoinedLemmas.{climbs}
 use Rattle.iref_model.specs.Relativized.{is_climb}
-use Rattle.iref_model.proofs.WalkLemmas.{ended, normal-walk}
+use Rattle.iref_model.proofs.{JoinedLemmas.{climbs}, WalkLemmas.{ended, normal-walk}}
 use Rattle.iref_model.proofs.WeightLemmas.{path, weight, weight-append, weight-climbs, lighter-path, walk_weighs, adds_nothing, nothing-added, added_weighs}
 use Rattle.iref_model.proofs.AddedLemmas.{guarded_in, guarded-same, added_light}
 use Rattle.iref_model.proofs.StepsWeightLemmas.{front-climb, is_climb-climbs}

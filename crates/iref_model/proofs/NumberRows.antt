@@ -1,9 +1,7 @@
 -- Worked rows of hosts and ports from numbers, computed (RFC 5952 section 4).
 use Prim.Native.String.{String}
-use Rattle.std.specs.Prelude.{◌≡◌, ℕ, List, [], ◌∷◌, map, codes, Option, Some, None, refl}
-use Rattle.std.specs.Fmt.{digits}
-use Rattle.iref_model.specs.HostNumbers.{ipv4_text, ipv6_host_text}
-use Rattle.iref_model.specs.PortNumbers.{port_value, port_text}
+use Rattle.std.specs.{Prelude.{◌≡◌, ℕ, List, [], ◌∷◌, map, codes, Option, Some, None, refl}, Fmt.{digits}}
+use Rattle.iref_model.specs.{HostNumbers.{ipv4_text, ipv6_host_text}, PortNumbers.{port_value, port_text}}
 
 -- number; the host of the IPv4 address
 abbrev ipv4_hosts : List (ℕ × String)

@@ -1,18 +1,12 @@
 -- Worked rows of what texts are compared by: which are equal, and which comes first; computed (RFC 3986 section 6.2.2).
 use Prim.Native.String.{String}
-use Rattle.std.specs.Prelude.{◌≡◌, Bool, true, false, ◌&&◌, List, [], ◌∷◌, map, refl}
-use Rattle.std.specs.Char.{encode_utf8}
-use Rattle.std.specs.Ordering.{is_eq, is_lt}
-use Rattle.std.specs.declared.cmp.Ordering.{Ordering}
-use Rattle.std.specs.Str.{str_to_ascii_lowercase}
+use Rattle.std.specs.{Prelude.{◌≡◌, Bool, true, false, ◌&&◌, List, [], ◌∷◌, map, refl}, Char.{encode_utf8}}
+use Rattle.std.specs.{Ordering.{is_eq, is_lt}, declared.cmp.Ordering.{Ordering}, Str.{str_to_ascii_lowercase}}
 use Rattle.percent_encoding.specs.Percent.{percent_decode}
-use Rattle.iref_grammar.specs.Keys.{text_order}
-use Rattle.iref_grammar.specs.Authority.{read_authority}
-use Rattle.iref_grammar.specs.PathValue.{read_path}
+use Rattle.iref_grammar.specs.{Keys.{text_order}, Authority.{read_authority}, PathValue.{read_path}}
 use Rattle.iref_grammar.specs.Reference.{read_reference}
 use Rattle.iref_model.specs.NormalList.{normal_segments, excess, staying_names}
-use Rattle.iref_model.specs.AuthorityKey.{authority_key, authority_key_cmp}
-use Rattle.iref_model.specs.PathKey.{path_key, path_key_cmp}
+use Rattle.iref_model.specs.{AuthorityKey.{authority_key, authority_key_cmp}, PathKey.{path_key, path_key_cmp}}
 use Rattle.iref_model.specs.Key.{key, key_cmp}
 use Rattle.iref_model.proofs.Rows.{utf8}
 

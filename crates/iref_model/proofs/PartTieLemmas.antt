@@ -1,18 +1,12 @@
 -- Components are equal, each by its own key, exactly where the keys of their references are the same.
 use Rattle.std.proofs.Common.{arith, ◌≡◌, ◌↔◌, Bool, true, ◌&&◌, sym, ap, ◌∙◌, is_eq}
-use Rattle.std.specs.Prelude.{Option, option_map}
-use Rattle.std.specs.Cmp.Lexicographic.{options_total}
-use Rattle.std.specs.Option.{option_cmp, option_eq}
-use Rattle.std.specs.Str.{str_to_ascii_lowercase}
 use Rattle.std.proofs.lemmas.Bool.Decides.{same_from_decides}
+use Rattle.std.specs.{Prelude.{Option, option_map}, Cmp.Lexicographic.{options_total}, Option.{option_cmp, option_eq}}
+use Rattle.std.specs.Str.{str_to_ascii_lowercase}
 use Rattle.percent_encoding.specs.Percent.{percent_decode}
-use Rattle.iref_grammar.specs.Rules.{Text}
-use Rattle.iref_grammar.specs.Authority.{read_authority}
-use Rattle.iref_grammar.specs.PathValue.{read_path}
-use Rattle.iref_grammar.specs.ComponentTexts.{read_components}
-use Rattle.iref_grammar.specs.Keys.{text_order}
-use Rattle.iref_model.specs.AuthorityKey.{authority_key, authority_key_cmp}
-use Rattle.iref_model.specs.PathKey.{path_key, path_key_cmp}
+use Rattle.iref_grammar.specs.{Rules.{Text}, Authority.{read_authority}, PathValue.{read_path}}
+use Rattle.iref_grammar.specs.{ComponentTexts.{read_components}, Keys.{text_order}}
+use Rattle.iref_model.specs.{AuthorityKey.{authority_key, authority_key_cmp}, PathKey.{path_key, path_key_cmp}}
 use Rattle.iref_model.specs.Key.{key}
 use Rattle.iref_model.proofs.KeyOrderLemmas.{authority_keys_separate, authority_keys_total, options_separate, texts_separate, texts_total, tied_exactly}
 use Rattle.iref_model.proofs.TieLemmas.{texts_tie, authorities_tie, paths_tie, both_tie_by, option_map_twice, options_tie_through}

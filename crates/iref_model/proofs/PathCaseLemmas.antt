@@ -1,26 +1,15 @@
 -- A reference with neither scheme nor authority has a candidate that is not longer.
 use Rattle.std.proofs.Common.{◌≡◌, ◌≤◌, Bool, true, false, ◌&&◌, List, [], ◌∷◌, ◌++◌, length, refl, sym, ◌∙◌, ap, arith, Option, Some, None, subst}
-use Rattle.std.specs.Prelude.{bytes_eq}
-use Rattle.std.specs.List.{list_any}
-use Rattle.iref_grammar.specs.Rules.{Text}
-use Rattle.iref_grammar.specs.Grammar.{colon}
-use Rattle.iref_grammar.specs.Texts.{part_then}
-use Rattle.iref_grammar.specs.PathValue.{PathValue, spell_path}
-use Rattle.iref_grammar.specs.Contexts.{alone, follows_authority, fits}
-use Rattle.iref_grammar.specs.Reference.{ReferenceValue, spell, context_of}
-use Rattle.iref_model.specs.Guard.{guarded}
-use Rattle.iref_model.specs.NormalList.{normal, normal_segments, kept_segments}
+use Rattle.std.specs.{Prelude.{bytes_eq}, List.{list_any}}
+use Rattle.iref_grammar.specs.{Rules.{Text}, Grammar.{colon}, Texts.{part_then}, PathValue.{PathValue, spell_path}}
+use Rattle.iref_grammar.specs.{Contexts.{alone, follows_authority, fits}, Reference.{ReferenceValue, spell, context_of}}
+use Rattle.iref_model.specs.{Guard.{guarded}, NormalList.{normal, normal_segments, kept_segments}}
 use Rattle.iref_model.specs.Resolution.{resolved, merged}
-use Rattle.iref_model.proofs.RelativeLemmas.{parts}
-use Rattle.iref_model.proofs.SettledLemmas.{kept-is}
-use Rattle.iref_model.proofs.NormalPathLemmas.{normal-normalized}
 use Rattle.iref_model.specs.Relativized.{authority_text, query_text, same_authority_text, empty_path, base_directory, steps_by_text, shortened, candidates}
-use Rattle.iref_model.proofs.AddedLemmas.{guarded-same}
-use Rattle.iref_model.proofs.StepsLemmas.{same_text}
-use Rattle.iref_model.proofs.WeightLemmas.{path}
+use Rattle.iref_model.proofs.{RelativeLemmas.{parts}, SettledLemmas.{kept-is}, NormalPathLemmas.{normal-normalized}}
+use Rattle.iref_model.proofs.{AddedLemmas.{guarded-same}, StepsLemmas.{same_text}, WeightLemmas.{path}}
 use Rattle.iref_model.proofs.NormalWeightLemmas.{normal_light-root, not_longer}
-use Rattle.iref_model.proofs.RelativePathLemmas.{IsBestWalk, best_walk}
-use Rattle.iref_model.proofs.ChoiceLemmas.{serves, serves-from}
+use Rattle.iref_model.proofs.{RelativePathLemmas.{IsBestWalk, best_walk}, ChoiceLemmas.{serves, serves-from}}
 use Rattle.iref_model.proofs.CandidateLemmas.{spell-lighter, any-fragment, any-tail, any-relative, any-absolute}
 use Rattle.iref_model.proofs.FullCaseLemmas.{IsServed, flag_kept}
 use Rattle.iref_model.proofs.PlacedLemmas.{flag-alone, only, placed, root_resolved, follows-merged, normal-merged, relative_resolved}

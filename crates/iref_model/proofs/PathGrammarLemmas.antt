@@ -1,19 +1,11 @@
 -- Texts that are in the rules of segments and paths.
-use Rattle.std.proofs.Common.{arith, ◌≡◌, true, [], ◌∷◌, ◌++◌, refl}
-use Rattle.std.proofs.lemmas.Grind.{common_steps}
-use Rattle.std.specs.Prelude.{codes}
-use Rattle.std.specs.List.{list_all}
-use Rattle.std.specs.Str.{is_utf8, chars}
-use Rattle.std.specs.Char.{encode_utf8}
-use Rattle.iref_grammar.specs.Characters.{CharTests, AreAboveAscii}
-use Rattle.iref_grammar.specs.Rules.{Text}
-use Rattle.iref_grammar.specs.Grammar.{slash, is_path_char, is_user_info_char, is_reg_name_char}
-use Rattle.iref_grammar.specs.Texts.{pieces_at}
-use Rattle.iref_grammar.specs.Tests.{owed_after, is_segment, is_path}
-use Rattle.iref_grammar.specs.PathValue.{PathValue, read_path}
-use Rattle.iref_grammar.proofs.PathTestLemmas.{is_path-segments}
+use Rattle.std.proofs.{Common.{arith, ◌≡◌, true, [], ◌∷◌, ◌++◌, refl}, lemmas.Grind.{common_steps}}
+use Rattle.std.specs.{Prelude.{codes}, List.{list_all}, Str.{is_utf8, chars}, Char.{encode_utf8}}
+use Rattle.iref_grammar.specs.{Characters.{CharTests, AreAboveAscii}, Rules.{Text}}
+use Rattle.iref_grammar.specs.{Grammar.{slash, is_path_char, is_user_info_char, is_reg_name_char}, Texts.{pieces_at}}
+use Rattle.iref_grammar.specs.{Tests.{owed_after, is_segment, is_path}, PathValue.{PathValue, read_path}}
+use Rattle.iref_grammar.proofs.{PathTestLemmas.{is_path-segments}, EmptyLemmas.{is_segment_empty}}
 use Rattle.iref_model.proofs.PieceLemmas.{pieces-append}
-use Rattle.iref_grammar.proofs.EmptyLemmas.{is_segment_empty}
 
 pub is_segment-dot : (set : CharTests) → is_segment set (codes ".") ≡ true
 unfolding is_segment is_utf8 chars encode_utf8 owed_after is_path_char is_user_info_char is_reg_name_char

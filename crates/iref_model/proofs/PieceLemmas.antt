@@ -1,11 +1,8 @@
 -- The pieces of a text around a delimiter.
 use Rattle.std.proofs.Common.{arith, ◌≡◌, Bool, true, false, cond, List, [], ◌∷◌, ◌++◌, refl, ap}
-use Rattle.std.specs.Prelude.{◌==◌, ℕ}
-use Rattle.std.specs.List.{onto_first}
-use Rattle.std.proofs.lemmas.Bool.{eq-eqb}
-use Rattle.std.proofs.lemmas.List.Splits.{slice_split-cons_yes}
-use Rattle.iref_grammar.specs.Rules.{Text}
-use Rattle.iref_grammar.specs.Texts.{pieces_at}
+use Rattle.std.proofs.{lemmas.Bool.{eq-eqb}, lemmas.List.Splits.{slice_split-cons_yes}}
+use Rattle.std.specs.{Prelude.{◌==◌, ℕ}, List.{onto_first}}
+use Rattle.iref_grammar.specs.{Rules.{Text}, Texts.{pieces_at}}
 
 -- one piece at least
 pub some_piece : (mark : ℕ) (text : Text) → (p : Text) × (ps : List Text) × (pieces_at mark text ≡ p ∷ ps)

@@ -2,21 +2,13 @@
 use Rattle.std.proofs.Common.{◌≡◌, Bool, true, false, cond, List, [], ◌∷◌, ◌++◌, refl, sym, ◌∙◌, ap, arith, Option, Some, None, codes}
 use Rattle.std.proofs.lemmas.List.{append-nil}
 use mathlib.Core.Bool.{true≢false}
-use Rattle.iref_grammar.specs.Rules.{Text}
-use Rattle.iref_grammar.specs.Texts.{is_empty, all_but_last}
-use Rattle.iref_grammar.specs.Authority.{AuthorityValue}
-use Rattle.iref_grammar.specs.PathValue.{PathValue}
-use Rattle.iref_grammar.specs.Contexts.{alone, follows_authority, reads_as_path}
+use Rattle.iref_grammar.specs.{Rules.{Text}, Texts.{is_empty, all_but_last}, Authority.{AuthorityValue}}
+use Rattle.iref_grammar.specs.{PathValue.{PathValue}, Contexts.{alone, follows_authority, reads_as_path}}
 use Rattle.iref_grammar.specs.Reference.{ReferenceValue, context_of}
-use Rattle.iref_model.specs.Guard.{guarded}
-use Rattle.iref_model.specs.NormalList.{normal, normal_segments}
-use Rattle.iref_model.specs.Resolution.{resolved, merged}
-use Rattle.iref_model.proofs.RelativeLemmas.{parts}
-use Rattle.iref_model.proofs.SettledLemmas.{normal_again}
-use Rattle.iref_model.proofs.NormalPathLemmas.{normal-guarded}
+use Rattle.iref_model.specs.{Guard.{guarded}, NormalList.{normal, normal_segments}, Resolution.{resolved, merged}}
 use Rattle.iref_model.specs.Relativized.{base_directory}
-use Rattle.iref_model.proofs.WalkLemmas.{LeadAlike, alike-refl, alike-dot, same_normal}
-use Rattle.iref_model.proofs.WeightLemmas.{path}
+use Rattle.iref_model.proofs.{RelativeLemmas.{parts}, SettledLemmas.{normal_again}, NormalPathLemmas.{normal-guarded}}
+use Rattle.iref_model.proofs.{WalkLemmas.{LeadAlike, alike-refl, alike-dot, same_normal}, WeightLemmas.{path}}
 
 -- a path alone keeps its flag behind its guard
 pub flag-alone : (absolute : Bool) (list : List Text) → (guarded alone (path absolute list)).absolute ≡ absolute

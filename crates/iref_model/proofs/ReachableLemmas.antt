@@ -1,15 +1,12 @@
 -- Which normal lists the steps from a directory lead to: those that have at least the directory's leading `..`.
 use Rattle.std.proofs.Common.{◌≡◌, ℕ, ◌+◌, ◌-◌, ◌≤◌, Bool, true, false, cond, List, [], ◌∷◌, ◌++◌, length, take, refl, sym, ◌∙◌, ap, arith}
 use Rattle.std.proofs.lemmas.Grind.{common_steps}
-use Rattle.iref_grammar.specs.Rules.{Text}
-use Rattle.iref_grammar.specs.Texts.{is_empty}
+use Rattle.iref_grammar.specs.{Rules.{Text}, Texts.{is_empty}}
 use Rattle.iref_model.specs.NormalList.{count_parents, kept_segments, staying_names, normal_segments, without_lone_empty, open_parents}
+use Rattle.iref_model.specs.Relativized.{steps_by_text, shortened}
 use Rattle.iref_model.proofs.JoinedLemmas.{without_last, are_names, are_names-staying, climbs, parents-names}
 use Rattle.iref_model.proofs.SettledLemmas.{leading, kept-is, normal_settled, normal-is, lone-normal}
-use Rattle.iref_model.specs.Relativized.{steps_by_text, shortened}
-use Rattle.iref_model.proofs.WalkLemmas.{ended, reached}
-use Rattle.iref_model.proofs.WeightLemmas.{path}
-use Rattle.iref_model.proofs.DividedLemmas.{normal-some}
+use Rattle.iref_model.proofs.{WalkLemmas.{ended, reached}, WeightLemmas.{path}, DividedLemmas.{normal-some}}
 use Rattle.iref_model.proofs.RelativePathLemmas.{steps_lead_there}
 
 -- ---- how many `..` a list has

@@ -1,31 +1,21 @@
 -- The answer is readable, so what it leads to is what its text leads to.
 use Rattle.std.proofs.Common.{arith, ◌≡◌, ℕ, zero, suc, Bool, true, false, not, cond, ◌&&◌, List, [], ◌∷◌, refl, sym, ◌∙◌, ap, Some, None, is_some, codes}
-use Rattle.std.proofs.lemmas.Grind.{common_steps}
-use Rattle.std.specs.List.{list_all}
-use Rattle.std.proofs.lemmas.Bool.{and_from, and_parts}
+use Rattle.std.proofs.{lemmas.Grind.{common_steps}, lemmas.Bool.{and_from, and_parts}}
 use Rattle.std.proofs.lemmas.List.Folds.{list_all-append}
+use Rattle.std.specs.List.{list_all}
 use mathlib.Core.Bool.{true≢false}
-use Rattle.iref_grammar.specs.declared.context.PathContext.{PathContext}
-use Rattle.iref_grammar.specs.Characters.{CharTests}
-use Rattle.iref_grammar.specs.Rules.{Text}
-use Rattle.iref_grammar.specs.Tests.{is_segment}
-use Rattle.iref_grammar.specs.Texts.{all_but_last}
-use Rattle.iref_grammar.specs.PathValue.{PathValue, is_one_empty}
+use Rattle.iref_grammar.specs.{declared.context.PathContext.{PathContext}, Characters.{CharTests}, Rules.{Text}}
+use Rattle.iref_grammar.specs.{Tests.{is_segment}, Texts.{all_but_last}, PathValue.{PathValue, is_one_empty}}
 use Rattle.iref_grammar.specs.Contexts.{alone, fits, follows_authority, reads_as_path}
 use Rattle.iref_grammar.specs.Reference.{ReferenceValue, is_readable}
 use Rattle.iref_grammar.proofs.ReadablePartsLemmas.{readable_parts, readable_from}
-use Rattle.iref_model.specs.Guard.{guarded}
-use Rattle.iref_model.specs.NormalList.{normal, normal_segments, kept_segments}
+use Rattle.iref_model.specs.{Guard.{guarded}, NormalList.{normal, normal_segments, kept_segments}}
 use Rattle.iref_model.specs.Relative.{with_only_path}
-use Rattle.iref_model.proofs.GuardLemmas.{guarded-fits}
-use Rattle.iref_model.proofs.JoinedLemmas.{climbs}
-use Rattle.iref_model.proofs.LeadingLemmas.{all_drop, all_last}
-use Rattle.iref_model.proofs.NormalGrammarLemmas.{takes_dots}
-use Rattle.iref_model.proofs.StepSegmentLemmas.{TakesDots, normal-in, guarded-in, in-shortened}
 use Rattle.iref_model.specs.Relativized.{same_scheme_text, same_authority_text, same_path_text, same_query_text, empty_path, base_directory, steps_by_text, is_climb, shortened, relative_path, only_if, fragment_alone, climb_shortened, candidates, relativized}
-use Rattle.iref_model.proofs.WalkLemmas.{climb-is}
-use Rattle.iref_model.proofs.NormalWeightLemmas.{normal-none}
-use Rattle.iref_model.proofs.ChoiceLemmas.{answer_passes}
+use Rattle.iref_model.proofs.{GuardLemmas.{guarded-fits}, JoinedLemmas.{climbs}, LeadingLemmas.{all_drop, all_last}}
+use Rattle.iref_model.proofs.NormalGrammarLemmas.{takes_dots}
+use Rattle.iref_model.proofs.{StepSegmentLemmas.{TakesDots, normal-in, guarded-in, in-shortened}, WalkLemmas.{climb-is}}
+use Rattle.iref_model.proofs.{NormalWeightLemmas.{normal-none}, ChoiceLemmas.{answer_passes}}
 
 -- ---- the segments of the relative path
 

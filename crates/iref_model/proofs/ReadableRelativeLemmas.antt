@@ -1,25 +1,17 @@
 -- A relative reference to a readable target is readable.
 use Rattle.std.proofs.Common.{arith, ◌≡◌, ℕ, zero, suc, Bool, true, false, cond, ◌&&◌, List, [], refl}
-use Rattle.std.proofs.lemmas.Grind.{common_steps}
+use Rattle.std.proofs.{lemmas.Grind.{common_steps}, lemmas.List.Folds.{list_all-append}, lemmas.Bool.{and_from}}
 use Rattle.std.specs.List.{list_all}
-use Rattle.std.proofs.lemmas.List.Folds.{list_all-append}
-use Rattle.std.proofs.lemmas.Bool.{and_from}
-use Rattle.iref_grammar.specs.Characters.{CharTests, AreAboveAscii}
-use Rattle.iref_grammar.specs.Rules.{Text}
-use Rattle.iref_grammar.specs.Tests.{is_segment}
-use Rattle.iref_grammar.specs.PathValue.{PathValue}
-use Rattle.iref_grammar.specs.Contexts.{alone, follows_authority, reads_as_path}
-use Rattle.iref_model.specs.NormalList.{normal_segments, normal}
+use Rattle.iref_grammar.specs.{Characters.{CharTests, AreAboveAscii}, Rules.{Text}, Tests.{is_segment}}
+use Rattle.iref_grammar.specs.{PathValue.{PathValue}, Contexts.{alone, follows_authority, reads_as_path}}
 use Rattle.iref_grammar.specs.Reference.{ReferenceValue, IsReadable, is_readable}
+use Rattle.iref_model.specs.NormalList.{normal_segments, normal}
 use Rattle.iref_model.specs.Relative.{have_same_authority, schemes_agree, is_same_place, steps_between, leading_path, with_only_path, relative_to}
-use Rattle.iref_grammar.proofs.ReadablePartsLemmas.{readable_parts}
-use Rattle.iref_grammar.proofs.ReferenceRuleLemmas.{Decides-is_readable}
-use Rattle.iref_model.proofs.GuardLemmas.{guarded-fits}
-use Rattle.iref_model.proofs.JoinedLemmas.{climbs}
+use Rattle.iref_grammar.proofs.{ReadablePartsLemmas.{readable_parts}, ReferenceRuleLemmas.{Decides-is_readable}}
+use Rattle.iref_model.proofs.{GuardLemmas.{guarded-fits}, JoinedLemmas.{climbs}}
 use Rattle.iref_model.proofs.StepSegmentLemmas.{TakesDots, normal-in, guarded-in}
 use Rattle.iref_model.proofs.LeadingLemmas.{names_down-all, climb_between, steps-are}
-use Rattle.iref_model.proofs.RelativeLemmas.{at_no_root, path_down, stands}
-use Rattle.iref_model.proofs.NormalGrammarLemmas.{takes_dots}
+use Rattle.iref_model.proofs.{RelativeLemmas.{at_no_root, path_down, stands}, NormalGrammarLemmas.{takes_dots}}
 
 -- ---- what each segment passes
 

@@ -1,14 +1,9 @@
 -- Each step of a path keeps it readable in its context.
-use Rattle.std.proofs.Common.{arith, ◌≡◌, Bool, true, List, refl}
-use Rattle.std.proofs.lemmas.Grind.{common_steps}
+use Rattle.std.proofs.{Common.{arith, ◌≡◌, Bool, true, List, refl}, lemmas.Grind.{common_steps}}
 use Rattle.std.proofs.lemmas.Bool.{and_from, and_parts}
 use Rattle.std.specs.List.{list_all}
-use Rattle.iref_grammar.specs.declared.context.PathContext.{PathContext}
-use Rattle.iref_grammar.specs.Characters.{CharTests}
-use Rattle.iref_grammar.specs.Rules.{Text}
-use Rattle.iref_grammar.specs.Tests.{is_segment}
-use Rattle.iref_grammar.specs.PathValue.{PathValue}
-use Rattle.iref_grammar.specs.Contexts.{fits, is_readable_path}
+use Rattle.iref_grammar.specs.{declared.context.PathContext.{PathContext}, Characters.{CharTests}, Rules.{Text}}
+use Rattle.iref_grammar.specs.{Tests.{is_segment}, PathValue.{PathValue}, Contexts.{fits, is_readable_path}}
 use Rattle.iref_model.specs.Guard.{guarded}
 use Rattle.iref_model.specs.PathSteps.{lazy_pushed, popped, pushed, appended, lazy_appended, replaced, joined, normalized, cleared}
 use Rattle.iref_model.proofs.GuardLemmas.{guarded-fits}

@@ -3,16 +3,10 @@ use Prim.Native.String.{String}
 use Rattle.std.specs.Prelude.{◌≡◌, Bool, true, false, List, [], ◌∷◌, map, codes, encode_utf8_all, Option, Some, None, option_map, refl}
 use Rattle.std.specs.Char.{encode_utf8}
 use Rattle.percent_encoding.specs.Percent.{percent_decode}
-use Rattle.iref_grammar.specs.Rules.{Text}
-use Rattle.iref_grammar.specs.Authority.{spell_authority, read_authority}
-use Rattle.iref_grammar.specs.PathValue.{spell_path, read_path}
-use Rattle.iref_grammar.specs.Reference.{ReferenceValue, spell, read_reference}
-use Rattle.iref_model.specs.Guard.{guarded}
-use Rattle.iref_model.specs.NormalList.{normal_segments, excess, staying_names}
-use Rattle.iref_model.specs.PathKey.{path_key}
-use Rattle.iref_model.specs.PathFunctions.{directory}
-use Rattle.iref_model.specs.PathSuffix.{path_suffix}
-use Rattle.iref_model.specs.Key.{key, key_cmp, are_alike}
+use Rattle.iref_grammar.specs.{Rules.{Text}, Authority.{spell_authority, read_authority}}
+use Rattle.iref_grammar.specs.{PathValue.{spell_path, read_path}, Reference.{ReferenceValue, spell, read_reference}}
+use Rattle.iref_model.specs.{Guard.{guarded}, NormalList.{normal_segments, excess, staying_names}, PathKey.{path_key}}
+use Rattle.iref_model.specs.{PathFunctions.{directory}, PathSuffix.{path_suffix}, Key.{key, key_cmp, are_alike}}
 use Rattle.iref_model.specs.ReferenceParts.{base_of, without_fragment, without_query_and_fragment}
 use Rattle.iref_model.specs.ReferenceSuffix.{reference_suffix}
 

@@ -1,27 +1,18 @@
 -- Each step of a reference keeps it readable.
-use Rattle.std.proofs.Common.{arith, ◌≡◌, true, List, [], refl}
-use Rattle.std.proofs.lemmas.Grind.{common_steps}
+use Rattle.std.proofs.{Common.{arith, ◌≡◌, true, List, [], refl}, lemmas.Grind.{common_steps}}
 use Rattle.std.proofs.lemmas.Bool.{and_from, and_parts}
-use Rattle.std.specs.Prelude.{Option, Some, None, is_some, is_none}
-use Rattle.std.specs.List.{list_all}
-use Rattle.iref_grammar.specs.declared.context.PathContext.{PathContext}
-use Rattle.iref_grammar.specs.Characters.{CharTests}
-use Rattle.iref_grammar.specs.Rules.{Text}
+use Rattle.std.specs.{Prelude.{Option, Some, None, is_some, is_none}, List.{list_all}}
+use Rattle.iref_grammar.specs.{declared.context.PathContext.{PathContext}, Characters.{CharTests}, Rules.{Text}}
 use Rattle.iref_grammar.specs.Tests.{is_scheme, is_segment, is_query, is_fragment, is_user_info, is_host, is_port, none_or}
-use Rattle.iref_grammar.specs.Authority.{AuthorityValue, has_authority_parts}
-use Rattle.iref_grammar.specs.PathValue.{PathValue, spell_path}
-use Rattle.iref_grammar.specs.Contexts.{fits}
-use Rattle.iref_model.specs.PathSteps.{lazy_pushed, popped, pushed, appended, lazy_appended, replaced, joined, normalized, cleared}
-use Rattle.iref_grammar.specs.Reference.{ReferenceValue, context_of, is_readable}
-use Rattle.iref_model.specs.ComponentSteps.{guarded_reference, with_scheme, path_after_new_authority, with_authority, with_path, with_query, with_fragment, with_authority_step, with_path_step, with_normal_path, with_new_normal_path}
-use Rattle.iref_model.specs.AuthoritySteps.{with_user_info, with_host, with_port}
-use Rattle.iref_model.specs.Key.{key}
-use Rattle.iref_grammar.proofs.ReadablePartsLemmas.{readable_parts, readable_from}
-use Rattle.iref_model.proofs.GuardLemmas.{guarded-fits}
-use Rattle.iref_model.proofs.RewritingLemmas.{path_removes_dot_segments}
-use Rattle.iref_model.specs.DotSegments.{RemovesDotSegments}
-use Rattle.iref_grammar.specs.Grammar.{slash}
+use Rattle.iref_grammar.specs.{Authority.{AuthorityValue, has_authority_parts}, PathValue.{PathValue, spell_path}}
+use Rattle.iref_grammar.specs.{Contexts.{fits}, Reference.{ReferenceValue, context_of, is_readable}, Grammar.{slash}}
 use Rattle.iref_grammar.specs.Texts.{lacks}
+use Rattle.iref_model.specs.PathSteps.{lazy_pushed, popped, pushed, appended, lazy_appended, replaced, joined, normalized, cleared}
+use Rattle.iref_model.specs.ComponentSteps.{guarded_reference, with_scheme, path_after_new_authority, with_authority, with_path, with_query, with_fragment, with_authority_step, with_path_step, with_normal_path, with_new_normal_path}
+use Rattle.iref_model.specs.{AuthoritySteps.{with_user_info, with_host, with_port}, Key.{key}}
+use Rattle.iref_model.specs.DotSegments.{RemovesDotSegments}
+use Rattle.iref_grammar.proofs.ReadablePartsLemmas.{readable_parts, readable_from}
+use Rattle.iref_model.proofs.{GuardLemmas.{guarded-fits}, RewritingLemmas.{path_removes_dot_segments}}
 use Rattle.iref_model.proofs.NormalPathLemmas.{normalized-normalized, path_key-normalized}
 use Rattle.iref_model.proofs.NormalGrammarLemmas.{takes_dots}
 use Rattle.iref_model.proofs.FitsLemmas.{lazy_pushed-fits, popped-fits, pushed-fits, appended-fits, lazy_appended-fits, replaced-fits, joined-fits, normalized-fits, cleared-fits}

@@ -1,32 +1,23 @@
 -- A relative reference leads back to its target, and none climbs less.
 use Rattle.std.proofs.Common.{arith, ◌≡◌, ◌≤◌, Bool, true, false, cond, ◌&&◌, ◌||◌, List, [], ◌∷◌, ◌++◌, refl, sym, ◌∙◌, ap, Option, Some, None, option_map, is_some, is_none, codes}
-use Rattle.std.proofs.lemmas.Grind.{common_steps}
-use Rattle.std.proofs.lemmas.Bool.{and_parts}
-use Rattle.std.specs.Option.{option_or}
-use Rattle.std.specs.Str.{str_to_ascii_lowercase}
+use Rattle.std.proofs.{lemmas.Grind.{common_steps}, lemmas.Bool.{and_parts}}
+use Rattle.std.specs.{Option.{option_or}, Str.{str_to_ascii_lowercase}}
 use mathlib.Core.Bool.{true≢false}
 use Rattle.percent_encoding.specs.Percent.{percent_decode}
-use Rattle.iref_grammar.specs.declared.context.PathContext.{PathContext}
-use Rattle.iref_grammar.specs.Rules.{Text}
-use Rattle.iref_grammar.specs.Texts.{is_empty, all_but_last}
-use Rattle.iref_grammar.specs.Authority.{AuthorityValue}
-use Rattle.iref_grammar.specs.PathValue.{PathValue}
-use Rattle.iref_model.specs.Guard.{guarded, with_dot}
+use Rattle.iref_grammar.specs.{declared.context.PathContext.{PathContext}, Rules.{Text}, Texts.{is_empty, all_but_last}}
+use Rattle.iref_grammar.specs.{Authority.{AuthorityValue}, PathValue.{PathValue}}
 use Rattle.iref_grammar.specs.Contexts.{alone, follows_authority, reads_as_path}
-use Rattle.iref_model.specs.NormalList.{count_parents, normal, normal_segments, staying_names}
 use Rattle.iref_grammar.specs.Reference.{ReferenceValue, context_of}
-use Rattle.iref_model.specs.Resolution.{resolved}
-use Rattle.iref_model.specs.AuthorityKey.{authority_key}
-use Rattle.iref_model.specs.Key.{key}
-use Rattle.iref_model.specs.PathKey.{path_key}
+use Rattle.iref_model.specs.Guard.{guarded, with_dot}
+use Rattle.iref_model.specs.{NormalList.{count_parents, normal, normal_segments, staying_names}, Resolution.{resolved}}
+use Rattle.iref_model.specs.{AuthorityKey.{authority_key}, Key.{key}, PathKey.{path_key}}
 use Rattle.iref_model.specs.Relative.{have_same_authority, schemes_agree, is_same_place, steps_between, directory_names, leading_path, with_only_path, relative_to}
 use Rattle.iref_model.specs.RelativeLaws.{IsOnlyPath}
 use Rattle.iref_model.proofs.JoinedLemmas.{are_names}
 use Rattle.iref_model.proofs.NormalPathLemmas.{normal-with_dot, normal-guarded, path_key-normalized}
 use Rattle.iref_model.proofs.SettledLemmas.{normal_again, names-normal, lone-normal}
 use Rattle.iref_model.proofs.LeadingLemmas.{decoded, climb_between, steps_lead, dotted_steps_lead, parents-steps, parents-dotted, steps_least}
-use Rattle.iref_model.proofs.KeyLemmas.{same_scheme, same_authority, same_path}
-use Rattle.iref_model.proofs.FitsLemmas.{is_empty-snoc}
+use Rattle.iref_model.proofs.{KeyLemmas.{same_scheme, same_authority, same_path}, FitsLemmas.{is_empty-snoc}}
 
 abbrev pub parts : Option Text → Option AuthorityValue → PathValue → Option Text → Option Text → ReferenceValue
 parts scheme authority path query fragment = record { scheme = scheme; authority = authority; path = path; query = query; fragment = fragment }

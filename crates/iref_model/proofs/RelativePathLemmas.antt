@@ -1,17 +1,13 @@
 -- The relative path of the definition leads where a given one does, and is not longer.
 use Rattle.std.proofs.Common.{◌≡◌, ℕ, zero, suc, ◌+◌, ◌-◌, ◌*◌, ◌≤◌, Bool, true, false, List, [], ◌∷◌, ◌++◌, length, drop, refl, sym, ◌∙◌, ap, arith}
 use mathlib.Core.Bool.{true≢false}
-use Rattle.iref_grammar.specs.Rules.{Text}
-use Rattle.iref_grammar.specs.Texts.{is_empty}
-use Rattle.iref_grammar.specs.Contexts.{alone, fits}
+use Rattle.iref_grammar.specs.{Rules.{Text}, Texts.{is_empty}, Contexts.{alone, fits}}
 use Rattle.iref_model.specs.NormalList.{staying_names, normal_segments, without_lone_empty, open_parents}
-use Rattle.iref_model.proofs.JoinedLemmas.{are_names, climbs}
-use Rattle.iref_model.proofs.SettledLemmas.{leading}
 use Rattle.iref_model.specs.Relativized.{steps_by_text, shortened}
+use Rattle.iref_model.proofs.{JoinedLemmas.{are_names, climbs}, SettledLemmas.{leading}}
 use Rattle.iref_model.proofs.WalkLemmas.{ended, reached, normal-walk, same_normal, LeadAlike, alike-shortened}
 use Rattle.iref_model.proofs.WeightLemmas.{path, weight, weight-append, weight-climbs, walk_weighs, adds_nothing, nothing-added, added_weighs, added_some, added_names}
-use Rattle.iref_model.proofs.AddedLemmas.{added_light}
-use Rattle.iref_model.proofs.StepsLemmas.{common, steps-lone, steps_from, steps-front}
+use Rattle.iref_model.proofs.{AddedLemmas.{added_light}, StepsLemmas.{common, steps-lone, steps_from, steps-front}}
 use Rattle.iref_model.proofs.StepsWeightLemmas.{guarded_weight, guarded-climbs, relative_light, climb_light}
 use Rattle.iref_model.proofs.DividedLemmas.{is_empty-append, normal-some, IsDivided, above_steps, divided}
 

@@ -1,16 +1,11 @@
 -- Worked rows of relative references, computed.
 use Prim.Native.String.{String}
 use Rattle.std.specs.Prelude.{◌≡◌, List, [], ◌∷◌, map, codes, refl}
-use Rattle.iref_grammar.specs.Rules.{Text}
-use Rattle.iref_grammar.specs.Authority.{spell_authority, read_authority}
-use Rattle.iref_grammar.specs.PathValue.{spell_path, read_path}
-use Rattle.iref_grammar.specs.Reference.{spell, read_reference}
+use Rattle.iref_grammar.specs.{Rules.{Text}, Authority.{spell_authority, read_authority}}
+use Rattle.iref_grammar.specs.{PathValue.{spell_path, read_path}, Reference.{spell, read_reference}}
 use Rattle.percent_encoding.specs.Percent.{percent_decode}
-use Rattle.iref_model.specs.Guard.{guarded}
-use Rattle.iref_model.specs.NormalList.{normal_segments, excess, staying_names}
-use Rattle.iref_model.specs.PathKey.{path_key}
-use Rattle.iref_model.specs.Key.{key}
-use Rattle.iref_model.specs.Relative.{relative_to}
+use Rattle.iref_model.specs.{Guard.{guarded}, NormalList.{normal_segments, excess, staying_names}, PathKey.{path_key}}
+use Rattle.iref_model.specs.{Key.{key}, Relative.{relative_to}}
 
 -- the text that leads from the base to the target
 abbrev relative_text : String → String → Text

@@ -2,14 +2,10 @@
 use Prim.Native.String.{String}
 use Rattle.std.specs.Prelude.{◌≡◌, List, [], ◌∷◌, map, codes, encode_utf8_all, refl, Option, None, Some}
 use Rattle.std.specs.Char.{encode_utf8}
-use Rattle.iref_grammar.specs.Rules.{Text}
-use Rattle.iref_grammar.specs.Authority.{spell_authority, read_authority}
-use Rattle.iref_grammar.specs.PathValue.{spell_path, read_path}
-use Rattle.iref_grammar.specs.Reference.{ReferenceValue, spell, read_reference}
-use Rattle.iref_model.specs.Guard.{guarded}
-use Rattle.iref_model.specs.NormalList.{normal_segments, excess, staying_names}
-use Rattle.iref_model.specs.Resolution.{resolved}
-use Rattle.iref_model.specs.Relativized.{relativized}
+use Rattle.iref_grammar.specs.{Rules.{Text}, Authority.{spell_authority, read_authority}}
+use Rattle.iref_grammar.specs.{PathValue.{spell_path, read_path}, Reference.{ReferenceValue, spell, read_reference}}
+use Rattle.iref_model.specs.{Guard.{guarded}, NormalList.{normal_segments, excess, staying_names}}
+use Rattle.iref_model.specs.{Resolution.{resolved}, Relativized.{relativized}}
 
 -- the bytes of a text in UTF-8
 abbrev utf8 : String → Text

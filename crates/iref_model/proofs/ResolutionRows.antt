@@ -1,12 +1,9 @@
 -- Worked rows of resolution, computed (RFC 3986 section 5.4).
 use Prim.Native.String.{String}
 use Rattle.std.specs.Prelude.{◌≡◌, List, [], ◌∷◌, map, codes, refl}
-use Rattle.iref_grammar.specs.Rules.{Text}
-use Rattle.iref_grammar.specs.Authority.{spell_authority, read_authority}
-use Rattle.iref_grammar.specs.PathValue.{spell_path, read_path}
-use Rattle.iref_grammar.specs.Reference.{spell, read_reference}
-use Rattle.iref_model.specs.Guard.{guarded}
-use Rattle.iref_model.specs.NormalList.{normal_segments, excess, staying_names}
+use Rattle.iref_grammar.specs.{Rules.{Text}, Authority.{spell_authority, read_authority}}
+use Rattle.iref_grammar.specs.{PathValue.{spell_path, read_path}, Reference.{spell, read_reference}}
+use Rattle.iref_model.specs.{Guard.{guarded}, NormalList.{normal_segments, excess, staying_names}}
 use Rattle.iref_model.specs.Resolution.{resolved}
 
 -- the text that the reference resolves to under the base

@@ -1,15 +1,9 @@
 -- What a readable reference resolves to under a readable base is readable.
-use Rattle.std.proofs.Common.{arith, ◌≡◌, true, is_some}
-use Rattle.std.proofs.lemmas.Grind.{common_steps}
+use Rattle.std.proofs.{Common.{arith, ◌≡◌, true, is_some}, lemmas.Grind.{common_steps}}
 use Rattle.std.specs.List.{list_all}
-use Rattle.iref_grammar.specs.Characters.{CharTests}
-use Rattle.iref_grammar.specs.Tests.{is_segment}
-use Rattle.iref_model.specs.NormalList.{normal}
-use Rattle.iref_grammar.specs.Reference.{ReferenceValue, is_readable}
-use Rattle.iref_model.specs.Resolution.{merged, target_path, target, resolved}
-use Rattle.iref_model.proofs.StepSegmentLemmas.{normal-in}
-use Rattle.iref_model.proofs.LeadingLemmas.{all_last}
-use Rattle.iref_model.proofs.NormalGrammarLemmas.{takes_dots}
+use Rattle.iref_grammar.specs.{Characters.{CharTests}, Tests.{is_segment}, Reference.{ReferenceValue, is_readable}}
+use Rattle.iref_model.specs.{NormalList.{normal}, Resolution.{merged, target_path, target, resolved}}
+use Rattle.iref_model.proofs.{StepSegmentLemmas.{normal-in}, LeadingLemmas.{all_last}, NormalGrammarLemmas.{takes_dots}}
 use Rattle.iref_model.proofs.ReferenceStepLemmas.{HasComponents, readable_components, guarded_reference-readable}
 
 module _ (set : CharTests) (base r : ReferenceValue) (own_base : HasComponents set base) (own : HasComponents set r) where

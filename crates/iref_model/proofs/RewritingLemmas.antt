@@ -1,27 +1,20 @@
 -- `remove_dot_segments` on the text of an absolute path gives the text of its normal path.
 use Rattle.std.proofs.Common.{◌≡◌, ℕ, zero, suc, ◌+◌, ◌≤◌, Bool, true, false, not, ◌||◌, List, [], ◌∷◌, ◌++◌, length, take, refl, sym, ◌∙◌, ap, subst, arith, append_assoc}
-use Rattle.std.proofs.lemmas.Grind.{common_steps}
-use Rattle.std.specs.Prelude.{◌==◌, codes, bytes_eq}
-use Rattle.std.specs.List.{list_all, join_with_byte}
-use Rattle.std.specs.Char.{char_set_contains}
-use Rattle.std.proofs.lemmas.List.{append-nil, length-append}
+use Rattle.std.proofs.{lemmas.Grind.{common_steps}, lemmas.List.{append-nil, length-append}}
 use Rattle.std.proofs.lemmas.Slice.Eq.{bytes_eq-Decides}
+use Rattle.std.specs.{Prelude.{◌==◌, codes, bytes_eq}, List.{list_all, join_with_byte}, Char.{char_set_contains}}
 use mathlib.Core.Bool.{true≢false}
-use Rattle.iref_grammar.specs.declared.context.PathContext.{PathContext}
-use Rattle.iref_grammar.specs.Rules.{Text}
-use Rattle.iref_grammar.specs.Grammar.{slash}
+use Rattle.iref_grammar.specs.{declared.context.PathContext.{PathContext}, Rules.{Text}, Grammar.{slash}}
 use Rattle.iref_grammar.specs.Texts.{is_empty, before, pieces_at, begins_with, all_but_last}
 use Rattle.iref_grammar.specs.PathValue.{PathValue, spell_path, is_one_empty}
 use Rattle.iref_model.specs.Guard.{guarded}
 use Rattle.iref_model.specs.NormalList.{is_name, ends_in_dots, without_lone_empty, normal_segments, normal}
-use Rattle.iref_model.specs.NormalReading.{staying_before, closing, items}
-use Rattle.iref_model.specs.PathSteps.{normalized}
+use Rattle.iref_model.specs.{NormalReading.{staying_before, closing, items}, PathSteps.{normalized}}
 use Rattle.iref_model.specs.DotSegments.{Buffers, without_last_segment, rewritten_once, rewritten, RemovesDotSegments, dot_segments_removed}
 use Rattle.iref_grammar.proofs.TextLemmas.{lacks, first_of_both, second_of_both, pieces_at-join, list_all-snoc}
 use Rattle.iref_grammar.proofs.CutLemmas.{before-no, before-yes}
 use Rattle.iref_model.proofs.StayingLemmas.{staying_before-append, takes_last}
-use Rattle.iref_model.proofs.ItemLemmas.{normal_segments-is, some_name}
-use Rattle.iref_model.proofs.StepSegmentLemmas.{in-staying}
+use Rattle.iref_model.proofs.{ItemLemmas.{normal_segments-is, some_name}, StepSegmentLemmas.{in-staying}}
 
 -- each segment with a `/` before it
 abbrev pub slashed : List Text → Text

@@ -1,9 +1,7 @@
 -- Words of the worked rows.
 use Prim.Native.String.{String}
 use Rattle.std.specs.Prelude.{codes, encode_utf8_all, Option, option_map}
-use Rattle.iref_grammar.specs.declared.context.PathContext.{PathContext}
-use Rattle.iref_grammar.specs.Rules.{Text}
-use Rattle.iref_grammar.specs.Contexts.{context_from}
+use Rattle.iref_grammar.specs.{declared.context.PathContext.{PathContext}, Rules.{Text}, Contexts.{context_from}}
 use Rattle.iref_grammar.specs.PathValue.{PathValue, spell_path, read_path}
 
 -- the bytes of a quoted text

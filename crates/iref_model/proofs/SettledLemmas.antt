@@ -2,9 +2,7 @@
 use Rattle.std.proofs.Common.{◌≡◌, ℕ, Bool, true, false, not, cond, ◌&&◌, List, [], ◌∷◌, ◌++◌, refl, sym, ◌∙◌, ap, arith}
 use Rattle.std.proofs.lemmas.Grind.{common_steps}
 use mathlib.Core.Bool.{true≢false}
-use Rattle.iref_grammar.specs.Rules.{Text}
-use Rattle.iref_grammar.specs.Texts.{is_empty}
-use Rattle.iref_grammar.specs.PathValue.{PathValue}
+use Rattle.iref_grammar.specs.{Rules.{Text}, Texts.{is_empty}, PathValue.{PathValue}}
 use Rattle.iref_model.specs.NormalList.{is_name, staying_names, stays_before, ends_in_dots, closed, without_lone_empty, kept_segments, normal_segments, normal, open_parents}
 use Rattle.iref_model.proofs.NormalLemmas.{excess-is}
 use Rattle.iref_model.proofs.JoinedLemmas.{open-append, staying-append, are_names, names_first, open-names, staying-names, are_names-staying, climbs, open-climbs, staying-climbs}

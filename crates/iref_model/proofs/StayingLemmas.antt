@@ -1,8 +1,6 @@
 -- The names that stay, over a list in two parts.
-use Rattle.std.proofs.Common.{◌≡◌, ℕ, ◌+◌, cond, List, [], ◌∷◌, ◌++◌, refl, ap, arith}
-use Rattle.std.proofs.lemmas.Grind.{common_steps}
-use Rattle.iref_grammar.specs.Rules.{Text}
-use Rattle.iref_grammar.specs.Texts.{is_empty, all_but_last}
+use Rattle.std.proofs.{Common.{◌≡◌, ℕ, ◌+◌, cond, List, [], ◌∷◌, ◌++◌, refl, ap, arith}, lemmas.Grind.{common_steps}}
+use Rattle.iref_grammar.specs.{Rules.{Text}, Texts.{is_empty, all_but_last}}
 use Rattle.iref_model.specs.NormalList.{is_dot_dot, is_name, counted, open_parents, staying_names}
 use Rattle.iref_model.specs.NormalReading.{open_before, staying_before}
 use Rattle.iref_model.proofs.NormalLemmas.{stays_before-is}

@@ -1,8 +1,7 @@
 -- Worked rows of the steps of a path, computed. What stands before the path is quoted first.
 use Prim.Native.String.{String}
 use Rattle.std.specs.Prelude.{◌≡◌, Bool, true, false, List, [], ◌∷◌, map, codes, refl}
-use Rattle.iref_grammar.specs.Contexts.{context_from}
-use Rattle.iref_grammar.specs.PathValue.{spell_path, read_path}
+use Rattle.iref_grammar.specs.{Contexts.{context_from}, PathValue.{spell_path, read_path}}
 use Rattle.iref_model.specs.Guard.{guarded, guarded_list}
 use Rattle.iref_model.specs.PathSteps.{lazy_pushed, pushed, popped, appended, lazy_appended, joined, replaced, cleared, from_segments}
 use Rattle.iref_model.proofs.Rows.{path, after}

@@ -1,16 +1,10 @@
 -- Each step of a path has the segments of its path, its arguments, and `.`, `..` and the empty segment.
 use Rattle.std.proofs.Common.{arith, ◌≡◌, ℕ, zero, suc, Bool, true, false, cond, List, [], ◌∷◌, fold, refl}
-use Rattle.std.proofs.lemmas.Grind.{common_steps}
-use Rattle.std.specs.Prelude.{codes, replicate}
-use Rattle.std.specs.List.{list_all}
-use Rattle.std.proofs.lemmas.List.Folds.{list_all-append}
-use Rattle.std.proofs.lemmas.Bool.{and_from}
-use Rattle.iref_grammar.specs.declared.context.PathContext.{PathContext}
-use Rattle.iref_grammar.specs.Rules.{Text}
-use Rattle.iref_grammar.specs.Texts.{is_empty, all_but_last}
+use Rattle.std.proofs.{lemmas.Grind.{common_steps}, lemmas.List.Folds.{list_all-append}, lemmas.Bool.{and_from}}
+use Rattle.std.specs.{Prelude.{codes, replicate}, List.{list_all}}
+use Rattle.iref_grammar.specs.{declared.context.PathContext.{PathContext}, Rules.{Text}, Texts.{is_empty, all_but_last}}
 use Rattle.iref_grammar.specs.PathValue.{PathValue, shows_its_list}
-use Rattle.iref_model.specs.Guard.{guarded, guarded_list, with_dot}
-use Rattle.iref_model.specs.NormalList.{without_lone_empty, normal}
+use Rattle.iref_model.specs.{Guard.{guarded, guarded_list, with_dot}, NormalList.{without_lone_empty, normal}}
 use Rattle.iref_model.specs.NormalReading.{staying_before, leading_parents, items}
 use Rattle.iref_model.specs.PathSteps.{lazy_pushed, popped, closed_path, followed, pushed, appended, lazy_appended, joined, normalized}
 use Rattle.iref_grammar.proofs.TextLemmas.{second_of_both}

@@ -1,19 +1,12 @@
 -- The steps from a directory to a normal list: where they lead, and how long they are.
 use Rattle.std.proofs.Common.{◌≡◌, ℕ, suc, ◌+◌, ◌-◌, ◌≤◌, Bool, true, false, cond, List, [], ◌∷◌, ◌++◌, length, take, drop, refl, sym, ◌∙◌, ap, arith, codes, append_assoc, length-append}
-use Rattle.std.specs.Prelude.{bytes_eq}
-use Rattle.std.specs.List.{common_prefix_len}
-use Rattle.std.specs.Cmp.Lexicographic.{bytes_decides}
-use Rattle.std.proofs.lemmas.List.{drop-append-le}
-use Rattle.std.proofs.lemmas.List.Sums.{common_prefix_len-le}
-use Rattle.std.proofs.Math.Seq.{drop-append-add}
-use Rattle.std.proofs.Math.Numerals.{one-add}
-use Rattle.iref_grammar.specs.Rules.{Text}
-use Rattle.iref_grammar.specs.Texts.{all_but_last}
-use Rattle.iref_model.specs.NormalList.{without_lone_empty, is_name}
-use Rattle.iref_model.specs.Relative.{last_or_empty}
-use Rattle.iref_model.proofs.JoinedLemmas.{are_names, names_first, climbs}
-use Rattle.iref_model.proofs.LeadingLemmas.{divided_last}
+use Rattle.std.proofs.{lemmas.List.{drop-append-le}, lemmas.List.Sums.{common_prefix_len-le}}
+use Rattle.std.proofs.{Math.Seq.{drop-append-add}, Math.Numerals.{one-add}}
+use Rattle.std.specs.{Prelude.{bytes_eq}, List.{common_prefix_len}, Cmp.Lexicographic.{bytes_decides}}
+use Rattle.iref_grammar.specs.{Rules.{Text}, Texts.{all_but_last}}
+use Rattle.iref_model.specs.{NormalList.{without_lone_empty, is_name}, Relative.{last_or_empty}}
 use Rattle.iref_model.specs.Relativized.{steps_by_text}
+use Rattle.iref_model.proofs.{JoinedLemmas.{are_names, names_first, climbs}, LeadingLemmas.{divided_last}}
 
 -- ---- the longest common beginning, by text
 

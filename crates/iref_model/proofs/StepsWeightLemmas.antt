@@ -1,18 +1,10 @@
 -- How long the steps are: not longer than what leads to the same list.
 use Rattle.std.proofs.Common.{◌≡◌, ℕ, zero, suc, ◌+◌, ◌-◌, ◌*◌, ◌≤◌, Bool, true, false, not, cond, ◌&&◌, List, [], ◌∷◌, ◌++◌, length, drop, refl, sym, ◌∙◌, ap, arith, codes}
-use Rattle.std.proofs.lemmas.List.{append-nil}
-use Rattle.std.specs.Prelude.{bytes_eq}
-use Rattle.std.specs.List.{list_all}
-use Rattle.std.proofs.lemmas.List.Sums.{common_prefix_len-le}
-use Rattle.iref_grammar.specs.Rules.{Text}
-use Rattle.iref_grammar.specs.Texts.{is_empty, all_but_last}
-use Rattle.iref_grammar.specs.PathValue.{is_one_empty}
-use Rattle.iref_grammar.specs.Contexts.{alone}
-use Rattle.iref_model.specs.Guard.{guarded}
-use Rattle.iref_model.specs.NormalList.{is_dot_dot}
-use Rattle.iref_model.proofs.JoinedLemmas.{climbs}
-use Rattle.iref_model.specs.Relativized.{is_climb, shortened}
-use Rattle.iref_model.proofs.WalkLemmas.{climb-is}
+use Rattle.std.proofs.{lemmas.List.{append-nil}, lemmas.List.Sums.{common_prefix_len-le}}
+use Rattle.std.specs.{Prelude.{bytes_eq}, List.{list_all}}
+use Rattle.iref_grammar.specs.{Rules.{Text}, Texts.{is_empty, all_but_last}, PathValue.{is_one_empty}, Contexts.{alone}}
+use Rattle.iref_model.specs.{Guard.{guarded}, NormalList.{is_dot_dot}, Relativized.{is_climb, shortened}}
+use Rattle.iref_model.proofs.{JoinedLemmas.{climbs}, WalkLemmas.{climb-is}}
 use Rattle.iref_model.proofs.WeightLemmas.{weight, weight-append, weight-climbs, weight-drop}
 use Rattle.iref_model.proofs.StepsLemmas.{common, steps_from, all_but_last-append, last-append, length-front}
 use Rattle.iref_model.proofs.AddedLemmas.{guarded_in, guard_weighs}

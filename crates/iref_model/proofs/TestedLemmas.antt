@@ -1,12 +1,8 @@
 -- The answer is the first of the shortest candidates that pass the tests.
 use Rattle.std.proofs.Common.{◌≡◌, Bool, true, false, not, cond, ◌&&◌, List, [], ◌∷◌, ◌++◌, filter, refl, ◌∙◌, ap, Option, None, is_some}
 use Rattle.std.proofs.lemmas.List.Elements.{filter-append}
-use Rattle.iref_grammar.specs.Characters.{CharTests}
-use Rattle.iref_grammar.specs.Contexts.{alone}
-use Rattle.iref_grammar.specs.Reference.{ReferenceValue}
-use Rattle.iref_model.specs.Guard.{guarded}
-use Rattle.iref_model.specs.NormalList.{normal, normal_segments}
-use Rattle.iref_model.specs.Relative.{with_only_path}
+use Rattle.iref_grammar.specs.{Characters.{CharTests}, Contexts.{alone}, Reference.{ReferenceValue}}
+use Rattle.iref_model.specs.{Guard.{guarded}, NormalList.{normal, normal_segments}, Relative.{with_only_path}}
 use Rattle.iref_model.specs.Relativized.{same_scheme_text, same_authority_text, same_path_text, same_query_text, empty_path, relative_path, is_climb, only_if, fragment_alone, climb_shortened, candidates, is_exact, shorter, shortest_exact, relativized}
 use Rattle.iref_model.specs.RelativizedLaws.{AreReadable}
 use Rattle.iref_model.specs.RelativizedTests.{is_settled, is_reachable, leading_candidates, shortest}

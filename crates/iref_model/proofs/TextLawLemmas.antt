@@ -1,12 +1,9 @@
 -- The laws of the answer, for references that are read from their texts.
 use Rattle.std.proofs.Common.{◌≡◌, ◌≢◌, ◌≤◌, true, length, ◌∙◌, subst, Some, None}
-use Rattle.iref_grammar.specs.Characters.{CharTests}
-use Rattle.iref_grammar.specs.Rules.{Text}
+use Rattle.iref_grammar.specs.{Characters.{CharTests}, Rules.{Text}}
 use Rattle.iref_grammar.specs.Reference.{ReferenceValue, spell, read_reference, is_readable, is_reference}
-use Rattle.iref_grammar.proofs.ReferenceCutLemmas.{read_reference-spelled}
-use Rattle.iref_grammar.proofs.ReadableLemmas.{readable_read}
-use Rattle.iref_model.specs.Resolution.{resolved}
-use Rattle.iref_model.specs.Relativized.{relativized}
+use Rattle.iref_grammar.proofs.{ReferenceCutLemmas.{read_reference-spelled}, ReadableLemmas.{readable_read}}
+use Rattle.iref_model.specs.{Resolution.{resolved}, Relativized.{relativized}}
 use Rattle.iref_model.specs.RelativizedLaws.{AreReadable, LeadsExactly}
 use Rattle.iref_model.proofs.ExactLemmas.{relativized-exact}
 use Rattle.iref_model.proofs.CoveredLemmas.{exact_value, relativized-none, relativized-shortest}

@@ -1,19 +1,12 @@
 -- Keys tie exactly where they are the same, and tests of parts are true exactly where the keys of the parts are.
 use Rattle.std.proofs.Common.{arith, ◌≡◌, ◌↔◌, Bool, true, ◌&&◌, refl, sym, ap, ◌∙◌, Option, Some, None, is_eq}
-use Rattle.std.specs.Prelude.{option_map, is_some}
-use Rattle.std.specs.Option.{option_eq}
-use Rattle.std.specs.Hash.{HashWrites, option}
 use Rattle.std.proofs.lemmas.Option.{same_Some}
+use Rattle.std.specs.{Prelude.{option_map, is_some}, Option.{option_eq}, Hash.{HashWrites, option}}
 use mathlib.Core.Bool.{true≢false}
-use Rattle.iref_grammar.specs.Rules.{Text}
-use Rattle.iref_grammar.specs.Keys.{text_order}
-use Rattle.iref_grammar.specs.Authority.{AuthorityValue}
-use Rattle.iref_grammar.specs.PathValue.{PathValue}
+use Rattle.iref_grammar.specs.{Rules.{Text}, Keys.{text_order}, Authority.{AuthorityValue}, PathValue.{PathValue}}
 use Rattle.iref_grammar.specs.Reference.{ReferenceValue}
 use Rattle.iref_grammar.proofs.TextLemmas.{first_of_both, second_of_both}
-use Rattle.iref_model.specs.AuthorityKey.{authority_key_cmp}
-use Rattle.iref_model.specs.PathKey.{path_key_cmp}
-use Rattle.iref_model.specs.Key.{key_cmp}
+use Rattle.iref_model.specs.{AuthorityKey.{authority_key_cmp}, PathKey.{path_key_cmp}, Key.{key_cmp}}
 use Rattle.iref_model.proofs.KeyOrderLemmas.{texts_total, texts_separate, authority_keys_total, authority_keys_separate, path_keys_total, path_keys_separate}
 use Rattle.iref_model.proofs.KeyOrderLemmas.{keys_total, keys_separate, tied_exactly}
 

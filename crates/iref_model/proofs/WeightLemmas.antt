@@ -1,22 +1,13 @@
 -- How long the text of a list of segments is.
 use Rattle.std.proofs.Common.{◌≡◌, ℕ, zero, suc, ◌+◌, ◌-◌, ◌*◌, ◌≤◌, Bool, true, false, not, cond, ◌&&◌, List, [], ◌∷◌, ◌++◌, length, drop, refl, sym, ◌∙◌, ap, arith, codes, length-append, ◌⊎◌, inl, inr}
-use Rattle.std.proofs.lemmas.Grind.{common_steps}
-use Rattle.std.proofs.lemmas.Bool.{and_parts}
-use Rattle.std.proofs.lemmas.Bool.Decides.{nat_tests}
+use Rattle.std.proofs.{lemmas.Grind.{common_steps}, lemmas.Bool.{and_parts}, lemmas.Bool.Decides.{nat_tests}}
 use Rattle.std.proofs.lemmas.List.Folds.{list_all-append}
-use Rattle.std.specs.Prelude.{◌==◌}
-use Rattle.std.specs.List.{join_with_byte}
-use Rattle.std.specs.Cmp.Lexicographic.{bytes_decides}
+use Rattle.std.specs.{Prelude.{◌==◌}, List.{join_with_byte}, Cmp.Lexicographic.{bytes_decides}}
 use mathlib.Core.Bool.{true≢false}
-use Rattle.iref_grammar.specs.Rules.{Text}
-use Rattle.iref_grammar.specs.Grammar.{slash}
-use Rattle.iref_grammar.specs.Texts.{is_empty}
-use Rattle.iref_grammar.specs.PathValue.{PathValue, spell_path}
+use Rattle.iref_grammar.specs.{Rules.{Text}, Grammar.{slash}, Texts.{is_empty}, PathValue.{PathValue, spell_path}}
 use Rattle.iref_model.specs.NormalList.{is_name, is_dot, is_dot_dot, staying_names, stays_before, ends_in_dots, open_parents, counted}
 use Rattle.iref_model.proofs.JoinedLemmas.{staying-cons, climbs, are_names, are_names-staying}
-use Rattle.iref_model.proofs.SettledLemmas.{last_stays}
-use Rattle.iref_model.proofs.FitsLemmas.{is_empty-snoc}
-use Rattle.iref_model.proofs.WalkLemmas.{ended, nothing-in}
+use Rattle.iref_model.proofs.{SettledLemmas.{last_stays}, FitsLemmas.{is_empty-snoc}, WalkLemmas.{ended, nothing-in}}
 
 -- a path by its flag and its list
 abbrev pub path : Bool → List Text → PathValue

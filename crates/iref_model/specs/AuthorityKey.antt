@@ -1,13 +1,9 @@
 -- What authorities are compared by, also in their order.
-use Rattle.std.specs.Prelude.{option_map}
-use Rattle.std.specs.Option.{option_cmp}
-use Rattle.std.specs.Ordering.{ordering_then}
+use Rattle.std.specs.{Prelude.{option_map}, Option.{option_cmp}, Ordering.{ordering_then}}
 use Rattle.std.specs.Cmp.{IsTotalOrder, then_total, on_total}
-use Rattle.std.specs.Cmp.Lexicographic.{nat_list_cmp_total, options_total, on_texts}
-use Rattle.std.specs.declared.cmp.Ordering.{Ordering}
+use Rattle.std.specs.{Cmp.Lexicographic.{nat_list_cmp_total, options_total, on_texts}, declared.cmp.Ordering.{Ordering}}
 use Rattle.percent_encoding.specs.Percent.{percent_decode}
-use Rattle.iref_grammar.specs.Authority.{AuthorityValue}
-use Rattle.iref_grammar.specs.Keys.{text_order}
+use Rattle.iref_grammar.specs.{Authority.{AuthorityValue}, Keys.{text_order}}
 
 -- user info and host as decoded bytes, the port as text
 abbrev pub authority_key : AuthorityValue → AuthorityValue

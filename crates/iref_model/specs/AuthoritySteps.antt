@@ -1,7 +1,6 @@
 -- The edits of an authority: one part is replaced.
 use Rattle.std.specs.Prelude.{Option}
-use Rattle.iref_grammar.specs.Rules.{Text}
-use Rattle.iref_grammar.specs.Authority.{AuthorityValue}
+use Rattle.iref_grammar.specs.{Rules.{Text}, Authority.{AuthorityValue}}
 
 abbrev pub with_user_info : Option Text → AuthorityValue → AuthorityValue
 with_user_info user_info a = record a { user_info = user_info }

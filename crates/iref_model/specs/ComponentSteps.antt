@@ -1,12 +1,8 @@
 -- The edits of a reference, each one step on its components (RFC 3986 section 3).
 use Rattle.std.specs.Prelude.{true, Option, Some, None, is_some, is_none, option_map, if◌then◌else◌}
-use Rattle.iref_grammar.specs.declared.context.PathContext.{PathContext}
-use Rattle.iref_grammar.specs.Rules.{Text}
-use Rattle.iref_grammar.specs.Authority.{AuthorityValue}
-use Rattle.iref_grammar.specs.PathValue.{PathValue}
-use Rattle.iref_model.specs.Guard.{guarded}
-use Rattle.iref_model.specs.NormalList.{normal}
-use Rattle.iref_grammar.specs.Reference.{ReferenceValue, context_of}
+use Rattle.iref_grammar.specs.{declared.context.PathContext.{PathContext}, Rules.{Text}, Authority.{AuthorityValue}}
+use Rattle.iref_grammar.specs.{PathValue.{PathValue}, Reference.{ReferenceValue, context_of}}
+use Rattle.iref_model.specs.{Guard.{guarded}, NormalList.{normal}}
 
 -- with the path guarded for where it stands (sections 3.3 and 4.2)
 abbrev pub guarded_reference : ReferenceValue → ReferenceValue

@@ -1,11 +1,8 @@
 -- Equality of paths, read from the back of both lists, and what the segments read so far decide.
 use Rattle.std.specs.Prelude.{◌≡◌, ℕ, ◌+◌, ◌-◌, ◌≤◌, Bool, true, false, ◌&&◌, ◌==◌, List, [], ◌∷◌, ◌++◌, map, length, drop, reverse, if◌then◌else◌}
-use Rattle.iref_grammar.specs.Rules.{Text}
-use Rattle.iref_grammar.specs.PathValue.{PathValue}
-use Rattle.iref_model.specs.NormalList.{is_dot_dot, is_name, counted}
-use Rattle.iref_model.specs.NormalReading.{leading_parents}
-use Rattle.iref_model.specs.PathSuffix.{same_decoded}
-use Rattle.iref_model.specs.PathKey.{path_key}
+use Rattle.iref_grammar.specs.{Rules.{Text}, PathValue.{PathValue}}
+use Rattle.iref_model.specs.{NormalList.{is_dot_dot, is_name, counted}, NormalReading.{leading_parents}}
+use Rattle.iref_model.specs.{PathSuffix.{same_decoded}, PathKey.{path_key}}
 use mathlib.Core.Bool.{beq}
 
 -- other ends in the last `count` of these segments, and is this list where these are all of it

@@ -1,8 +1,7 @@
 -- `remove_dot_segments`, as a rewriting of two texts (RFC 3986 section 5.2.4).
 use Rattle.std.specs.Prelude.{◌≡◌, ℕ, zero, suc, ◌||◌, [], ◌∷◌, ◌++◌, length, drop, bytes_eq, codes, if◌then◌else◌}
 use Rattle.std.specs.List.{join_with_byte}
-use Rattle.iref_grammar.specs.Rules.{Text}
-use Rattle.iref_grammar.specs.Grammar.{slash}
+use Rattle.iref_grammar.specs.{Rules.{Text}, Grammar.{slash}}
 use Rattle.iref_grammar.specs.Texts.{before, from_first, pieces_at, begins_with, all_but_last}
 
 pub record Buffers : Type 0 where

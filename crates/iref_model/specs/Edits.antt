@@ -1,8 +1,6 @@
 -- Lists of edits of a buffer.
 use Rattle.std.specs.Prelude.{ℕ, ◌+◌, Bool, true, false, List, [], ◌∷◌, Option, None, Result, Ok, Err, is_some, option_map, if◌then◌else◌}
-use Rattle.iref_grammar.specs.Rules.{Text}
-use Rattle.iref_grammar.specs.Authority.{AuthorityValue, read_authority}
-use Rattle.iref_grammar.specs.PathValue.{read_path}
+use Rattle.iref_grammar.specs.{Rules.{Text}, Authority.{AuthorityValue, read_authority}, PathValue.{read_path}}
 use Rattle.iref_grammar.specs.Reference.{ReferenceValue}
 use Rattle.iref_model.specs.AuthoritySteps.{with_user_info, with_host, with_port}
 use Rattle.iref_model.specs.PathSteps.{lazy_pushed, pushed, joined, popped, cleared, normalized}

@@ -1,9 +1,7 @@
 -- The segment `.` that keeps a path from being read as something else (RFC 3986 sections 3.3 and 4.2).
 use Rattle.std.specs.Prelude.{not, ◌&&◌, ◌||◌, ◌∷◌, codes, if◌then◌else◌}
-use Rattle.iref_grammar.specs.declared.context.PathContext.{PathContext}
-use Rattle.iref_grammar.specs.Texts.{is_empty}
-use Rattle.iref_grammar.specs.PathValue.{PathValue, shows_its_list}
-use Rattle.iref_grammar.specs.Contexts.{reads_as_path}
+use Rattle.iref_grammar.specs.{declared.context.PathContext.{PathContext}, Texts.{is_empty}}
+use Rattle.iref_grammar.specs.{PathValue.{PathValue, shows_its_list}, Contexts.{reads_as_path}}
 
 abbrev pub with_dot : PathValue → PathValue
 with_dot p = record p { segments = codes "." ∷ p.segments }

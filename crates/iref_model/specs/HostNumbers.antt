@@ -1,11 +1,7 @@
 -- Hosts and their numbers (RFC 5952 section 4 in part).
 use Rattle.std.specs.Prelude.{ℕ, ◌+◌, ◌/◌, ◌%◌, ◌^◌, false, ◌==◌, nat_lt, nat_le, List, [], ◌∷◌, ◌++◌, take, drop, map, decimal, codes, Option, option_and_then, if◌then◌else◌}
-use Rattle.std.specs.List.{join_with_byte, prefix_len}
-use Rattle.std.specs.Fmt.{digits}
-use Rattle.iref_grammar.specs.Rules.{Text}
-use Rattle.iref_grammar.specs.IpAddresses.{ipv6_value}
-use Rattle.iref_grammar.specs.Tests.{in_brackets}
-use Rattle.iref_grammar.specs.Texts.{greatest}
+use Rattle.std.specs.{List.{join_with_byte, prefix_len}, Fmt.{digits}}
+use Rattle.iref_grammar.specs.{Rules.{Text}, IpAddresses.{ipv6_value}, Tests.{in_brackets}, Texts.{greatest}}
 
 -- the octets of a 32-bit number, and the groups of a 128-bit one
 abbrev pub octets_of : ℕ → List ℕ

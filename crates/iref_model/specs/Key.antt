@@ -1,15 +1,10 @@
 -- What references are compared by, with no rules of schemes. It is wider than RFC 3986 section 6.2.2.2, since each escape is
 -- decoded, and narrower than section 6.2.2.1, since hosts keep their case.
-use Rattle.std.specs.Prelude.{◌≡◌, Bool, option_map}
-use Rattle.std.specs.Option.{option_cmp}
-use Rattle.std.specs.Str.{str_to_ascii_lowercase}
-use Rattle.std.specs.declared.cmp.Ordering.{Ordering}
-use Rattle.std.specs.Ordering.{ordering_then, is_eq}
+use Rattle.std.specs.{Prelude.{◌≡◌, Bool, option_map}, Option.{option_cmp}, Str.{str_to_ascii_lowercase}}
+use Rattle.std.specs.{declared.cmp.Ordering.{Ordering}, Ordering.{ordering_then, is_eq}}
 use Rattle.percent_encoding.specs.Percent.{percent_decode}
-use Rattle.iref_grammar.specs.Keys.{text_order}
-use Rattle.iref_model.specs.AuthorityKey.{authority_key, authority_key_cmp}
-use Rattle.iref_model.specs.PathKey.{path_key, path_key_cmp}
-use Rattle.iref_grammar.specs.Reference.{ReferenceValue}
+use Rattle.iref_grammar.specs.{Keys.{text_order}, Reference.{ReferenceValue}}
+use Rattle.iref_model.specs.{AuthorityKey.{authority_key, authority_key_cmp}, PathKey.{path_key, path_key_cmp}}
 
 -- scheme in lower case (section 6.2.2.1), the normal path (6.2.2.3); user info, host, segments, query and fragment as decoded bytes
 unfoldable pub key : ReferenceValue → ReferenceValue

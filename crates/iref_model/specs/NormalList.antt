@@ -1,9 +1,7 @@
 -- Dot segments removed, with the `..` kept that a relative path cannot cancel (RFC 3986 section 5.2.4, erratum 4547).
 use Rattle.std.specs.Prelude.{ℕ, ◌+◌, ◌-◌, Bool, false, not, ◌&&◌, ◌==◌, List, [], ◌∷◌, ◌++◌, map, replicate, count_by, bytes_eq, codes}
-use Rattle.std.specs.Prelude.{if◌then◌else◌}
-use Rattle.std.specs.List.{list_any}
-use Rattle.iref_grammar.specs.Rules.{Text}
-use Rattle.iref_grammar.specs.Texts.{beginnings, greatest, is_empty}
+use Rattle.std.specs.{Prelude.{if◌then◌else◌}, List.{list_any}}
+use Rattle.iref_grammar.specs.{Rules.{Text}, Texts.{beginnings, greatest, is_empty}}
 use Rattle.iref_grammar.specs.PathValue.{PathValue, is_one_empty}
 
 abbrev pub is_dot : Text → Bool

@@ -1,7 +1,6 @@
 -- The normal list, read from both ends of the segments.
 use Rattle.std.specs.Prelude.{◌≡◌, Option, Some, None, reverse, ℕ, ◌-◌, Bool, false, ◌&&◌, ◌==◌, List, [], ◌∷◌, ◌++◌, replicate, codes, if◌then◌else◌}
-use Rattle.iref_grammar.specs.Rules.{Text}
-use Rattle.iref_grammar.specs.PathValue.{PathValue, is_one_empty}
+use Rattle.iref_grammar.specs.{Rules.{Text}, PathValue.{PathValue, is_one_empty}}
 use Rattle.iref_model.specs.NormalList.{is_dot_dot, is_name, counted, ends_in_dots}
 
 -- how many `..` are open before the segments, where this number is open behind them

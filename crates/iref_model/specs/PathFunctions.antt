@@ -1,15 +1,9 @@
 -- What is asked of a path, and nothing changes (RFC 3986 section 3.3).
 use Rattle.std.specs.Prelude.{ℕ, ◌-◌, Bool, not, ◌&&◌, ◌||◌, ◌==◌, [], ◌∷◌, length, take, slice_get, Option, Some, None, unwrap_or, if◌then◌else◌}
-use Rattle.std.specs.Option.{option_and_then}
-use Rattle.std.specs.List.{last_or, suffix_len}
-use Rattle.std.specs.Char.{char_set_contains}
-use Rattle.iref_grammar.specs.Rules.{Text}
-use Rattle.iref_grammar.specs.Grammar.{slash, colon}
-use Rattle.iref_grammar.specs.Texts.{before, is_empty, all_but_last}
-use Rattle.iref_grammar.specs.Tests.{is_scheme}
-use Rattle.iref_grammar.specs.PathValue.{PathValue}
-use Rattle.iref_model.specs.Guard.{guarded_list}
-use Rattle.iref_model.specs.NormalList.{closed}
+use Rattle.std.specs.{Option.{option_and_then}, List.{last_or, suffix_len}, Char.{char_set_contains}}
+use Rattle.iref_grammar.specs.{Rules.{Text}, Grammar.{slash, colon}, Texts.{before, is_empty, all_but_last}}
+use Rattle.iref_grammar.specs.{Tests.{is_scheme}, PathValue.{PathValue}}
+use Rattle.iref_model.specs.{Guard.{guarded_list}, NormalList.{closed}}
 
 -- how many segments the path has
 abbrev pub segment_count : PathValue → ℕ

@@ -1,12 +1,9 @@
 -- What paths are compared by (RFC 3986 section 6.2.2.3).
-use Rattle.std.specs.Prelude.{map}
-use Rattle.std.specs.declared.cmp.Ordering.{Ordering}
-use Rattle.std.specs.Ordering.{bool_cmp, ordering_then}
+use Rattle.std.specs.{Prelude.{map}, declared.cmp.Ordering.{Ordering}, Ordering.{bool_cmp, ordering_then}}
 use Rattle.std.specs.Cmp.{IsTotalOrder, on_total, then_total, bool_cmp_total}
 use Rattle.std.specs.Cmp.Lexicographic.{slice_cmp, nat_list_cmp_total, lists_total}
 use Rattle.percent_encoding.specs.Percent.{percent_decode}
-use Rattle.iref_grammar.specs.Keys.{text_order}
-use Rattle.iref_grammar.specs.PathValue.{PathValue}
+use Rattle.iref_grammar.specs.{Keys.{text_order}, PathValue.{PathValue}}
 use Rattle.iref_model.specs.NormalList.{normal_segments}
 
 -- the flag, and the normal segments as decoded bytes

@@ -1,12 +1,8 @@
 -- The edits of a path, each one step, in the context of what stands before it (RFC 3986 sections 3.3 and 5.2.4).
 use Rattle.std.specs.Prelude.{Bool, false, not, ◌&&◌, ◌||◌, List, [], ◌∷◌, ◌++◌, fold, codes, if◌then◌else◌}
-use Rattle.iref_grammar.specs.declared.context.PathContext.{PathContext}
-use Rattle.iref_grammar.specs.Rules.{Text}
-use Rattle.iref_grammar.specs.Texts.{is_empty}
-use Rattle.iref_grammar.specs.PathValue.{PathValue}
-use Rattle.iref_grammar.specs.Contexts.{alone}
-use Rattle.iref_model.specs.Guard.{guarded}
-use Rattle.iref_model.specs.PathFunctions.{without_last}
+use Rattle.iref_grammar.specs.{declared.context.PathContext.{PathContext}, Rules.{Text}, Texts.{is_empty}}
+use Rattle.iref_grammar.specs.{PathValue.{PathValue}, Contexts.{alone}}
+use Rattle.iref_model.specs.{Guard.{guarded}, PathFunctions.{without_last}}
 use Rattle.iref_model.specs.NormalList.{is_dot, is_dot_dot, is_name, ends_in_dots, normal}
 
 -- on the empty list the guarded list of the segment; else the segment at the end

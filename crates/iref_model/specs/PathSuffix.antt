@@ -2,11 +2,8 @@
 use Rattle.std.specs.Prelude.{Bool, false, ◌&&◌, List, length, take, drop, bytes_eq, Option, Some, None, if◌then◌else◌}
 use Rattle.std.specs.Cmp.Lexicographic.{pointwise}
 use Rattle.percent_encoding.specs.Percent.{percent_decode}
-use Rattle.iref_grammar.specs.Rules.{Text}
-use Rattle.iref_grammar.specs.PathValue.{PathValue}
-use Rattle.iref_model.specs.Guard.{guarded}
-use Rattle.iref_grammar.specs.Contexts.{alone}
-use Rattle.iref_model.specs.NormalList.{normal_segments}
+use Rattle.iref_grammar.specs.{Rules.{Text}, PathValue.{PathValue}, Contexts.{alone}}
+use Rattle.iref_model.specs.{Guard.{guarded}, NormalList.{normal_segments}}
 use mathlib.Core.Bool.{beq}
 
 -- the same bytes after decoding

@@ -1,8 +1,6 @@
 -- Ports and their numbers (RFC 3986 section 3.2.3).
-use Rattle.std.specs.Prelude.{ℕ, decimal, Option, None, Some, if◌then◌else◌}
-use Rattle.std.specs.Str.Parse.{digits_value}
-use Rattle.iref_grammar.specs.Rules.{Text}
-use Rattle.iref_grammar.specs.Texts.{is_empty}
+use Rattle.std.specs.{Prelude.{ℕ, decimal, Option, None, Some, if◌then◌else◌}, Str.Parse.{digits_value}}
+use Rattle.iref_grammar.specs.{Rules.{Text}, Texts.{is_empty}}
 
 -- the number that a port's digits write, if it has any
 abbrev pub port_value : Text → Option ℕ

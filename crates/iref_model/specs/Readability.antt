@@ -1,10 +1,7 @@
 -- What keeps references and paths readable.
 use Rattle.std.specs.Prelude.{◌≡◌, true}
-use Rattle.iref_grammar.specs.Characters.{CharTests}
-use Rattle.iref_grammar.specs.Contexts.{is_readable_path}
-use Rattle.iref_grammar.specs.PathValue.{PathValue}
-use Rattle.iref_grammar.specs.Reference.{ReferenceValue, is_readable}
-use Rattle.iref_grammar.specs.declared.context.PathContext.{PathContext}
+use Rattle.iref_grammar.specs.{Characters.{CharTests}, Contexts.{is_readable_path}, PathValue.{PathValue}}
+use Rattle.iref_grammar.specs.{Reference.{ReferenceValue, is_readable}, declared.context.PathContext.{PathContext}}
 
 -- a readable reference is readable after the step
 abbrev pub KeepsReadable : CharTests → (ReferenceValue → ReferenceValue) → Type 0

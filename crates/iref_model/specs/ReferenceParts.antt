@@ -1,10 +1,7 @@
 -- The parts of a reference's authority, and a reference without its last components.
-use Rattle.std.specs.Prelude.{Option, None, option_map}
-use Rattle.std.specs.Option.{option_and_then}
-use Rattle.iref_grammar.specs.Rules.{Text}
-use Rattle.iref_grammar.specs.Authority.{AuthorityValue}
+use Rattle.std.specs.{Prelude.{Option, None, option_map}, Option.{option_and_then}}
+use Rattle.iref_grammar.specs.{Rules.{Text}, Authority.{AuthorityValue}, Reference.{ReferenceValue}}
 use Rattle.iref_model.specs.PathFunctions.{directory}
-use Rattle.iref_grammar.specs.Reference.{ReferenceValue}
 
 -- user info, host and port of the authority, where there is one (section 3.2)
 abbrev pub user_info_of : ReferenceValue → Option Text

@@ -1,20 +1,11 @@
 -- A reference that leads from a base to a target, the way back from resolution (RFC 3986 section 5.2).
 use Rattle.std.specs.Prelude.{◌-◌, Bool, false, not, ◌&&◌, ◌||◌, List, [], ◌∷◌, ◌++◌, length, drop, replicate, codes, None, is_some, is_none, if◌then◌else◌}
-use Rattle.std.specs.List.{common_prefix_len}
-use Rattle.std.specs.Option.{option_cmp}
-use Rattle.std.specs.Ordering.{is_eq}
-use Rattle.iref_grammar.specs.Rules.{Text}
-use Rattle.iref_grammar.specs.Texts.{is_empty, all_but_last}
-use Rattle.iref_grammar.specs.PathValue.{PathValue}
-use Rattle.iref_model.specs.Guard.{guarded}
-use Rattle.iref_grammar.specs.Contexts.{alone}
-use Rattle.iref_model.specs.NormalList.{normal, normal_segments, staying_names}
-use Rattle.iref_model.specs.PathSuffix.{same_decoded}
-use Rattle.iref_grammar.specs.Reference.{ReferenceValue}
-use Rattle.iref_model.specs.AuthorityKey.{authority_key_cmp}
-use Rattle.iref_model.specs.Key.{key}
+use Rattle.std.specs.{List.{common_prefix_len}, Option.{option_cmp}, Ordering.{is_eq}}
+use Rattle.iref_grammar.specs.{Rules.{Text}, Texts.{is_empty, all_but_last}, PathValue.{PathValue}, Contexts.{alone}}
+use Rattle.iref_grammar.specs.{Reference.{ReferenceValue}, Keys.{text_order}}
+use Rattle.iref_model.specs.{Guard.{guarded}, NormalList.{normal, normal_segments, staying_names}}
+use Rattle.iref_model.specs.{PathSuffix.{same_decoded}, AuthorityKey.{authority_key_cmp}, Key.{key}}
 use Rattle.iref_model.specs.PathKey.{path_key_cmp, path_key}
-use Rattle.iref_grammar.specs.Keys.{text_order}
 
 -- equality of single components, by their keys
 abbrev pub have_same_scheme : ReferenceValue → ReferenceValue → Bool

@@ -1,12 +1,8 @@
 -- What the laws of relative references speak of.
 use Rattle.std.specs.Prelude.{◌≡◌, ◌≤◌, false, List, None, is_some, true}
-use Rattle.iref_grammar.specs.Characters.{CharTests}
-use Rattle.iref_grammar.specs.Rules.{Text}
-use Rattle.iref_grammar.specs.Texts.{is_empty}
-use Rattle.iref_model.specs.NormalList.{count_parents}
+use Rattle.iref_grammar.specs.{Characters.{CharTests}, Rules.{Text}, Texts.{is_empty}}
 use Rattle.iref_grammar.specs.Reference.{ReferenceValue, is_readable}
-use Rattle.iref_model.specs.Resolution.{resolved}
-use Rattle.iref_model.specs.Key.{AreAlike}
+use Rattle.iref_model.specs.{NormalList.{count_parents}, Resolution.{resolved}, Key.{AreAlike}}
 use Rattle.iref_model.specs.Relative.{schemes_agree, have_same_authority, with_only_path}
 
 -- a readable target, and a readable base with a scheme

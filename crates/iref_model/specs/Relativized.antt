@@ -1,17 +1,12 @@
 -- The shortest reference that resolves to a text, character for character (RFC 3986 sections 4.2 and 5.2).
 use Rattle.std.specs.Prelude.{◌-◌, nat_lt, Bool, true, false, not, ◌&&◌, List, [], ◌∷◌, ◌++◌, length, drop, replicate, codes, Option, Some, None, is_some, if◌then◌else◌, bytes_eq, option_map}
 use Rattle.std.specs.List.{common_prefix_len, list_all}
-use Rattle.iref_grammar.specs.Rules.{Text}
-use Rattle.iref_grammar.specs.Grammar.{colon, question_mark}
+use Rattle.iref_grammar.specs.{Rules.{Text}, Grammar.{colon, question_mark}}
 use Rattle.iref_grammar.specs.Texts.{is_empty, all_but_last, part_then, then_part}
-use Rattle.iref_grammar.specs.PathValue.{PathValue, spell_path, is_one_empty}
-use Rattle.iref_grammar.specs.Contexts.{alone}
-use Rattle.iref_grammar.specs.Authority.{spell_authority}
-use Rattle.iref_grammar.specs.Reference.{ReferenceValue, spell}
-use Rattle.iref_model.specs.Guard.{guarded}
-use Rattle.iref_model.specs.NormalList.{normal_segments, normal, kept_segments, is_dot_dot}
-use Rattle.iref_model.specs.Relative.{last_or_empty, with_only_path}
-use Rattle.iref_model.specs.Resolution.{resolved, merged}
+use Rattle.iref_grammar.specs.{PathValue.{PathValue, spell_path, is_one_empty}, Contexts.{alone}}
+use Rattle.iref_grammar.specs.{Authority.{spell_authority}, Reference.{ReferenceValue, spell}}
+use Rattle.iref_model.specs.{Guard.{guarded}, NormalList.{normal_segments, normal, kept_segments, is_dot_dot}}
+use Rattle.iref_model.specs.{Relative.{last_or_empty, with_only_path}, Resolution.{resolved, merged}}
 
 -- ---- what target and base have in common, by their texts
 

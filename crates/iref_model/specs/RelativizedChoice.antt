@@ -1,10 +1,7 @@
 -- The shortest reference to a text, chosen by tests: of most candidates the tests alone tell which is shorter.
 use Rattle.std.specs.Prelude.{nat_lt, not, ◌&&◌, length, Option, Some, None, is_some, if◌then◌else◌}
-use Rattle.iref_grammar.specs.Contexts.{alone}
-use Rattle.iref_grammar.specs.Reference.{ReferenceValue, spell}
-use Rattle.iref_model.specs.Guard.{guarded}
-use Rattle.iref_model.specs.NormalList.{normal, normal_segments}
-use Rattle.iref_model.specs.Relative.{with_only_path}
+use Rattle.iref_grammar.specs.{Contexts.{alone}, Reference.{ReferenceValue, spell}}
+use Rattle.iref_model.specs.{Guard.{guarded}, NormalList.{normal, normal_segments}, Relative.{with_only_path}}
 use Rattle.iref_model.specs.Relativized.{same_scheme_text, same_authority_text, same_path_text, same_query_text, empty_path, is_climb, relative_path, fragment_alone, climb_shortened}
 use Rattle.iref_model.specs.RelativizedTests.{is_settled, is_reachable}
 

@@ -1,7 +1,6 @@
 -- What the laws of the shortest reference speak of.
 use Rattle.std.specs.Prelude.{◌≡◌, ◌≤◌, length, true}
-use Rattle.iref_grammar.specs.Characters.{CharTests, AreAboveAscii}
-use Rattle.iref_grammar.specs.Reference.{ReferenceValue, spell, is_readable}
+use Rattle.iref_grammar.specs.{Characters.{CharTests, AreAboveAscii}, Reference.{ReferenceValue, spell, is_readable}}
 use Rattle.iref_model.specs.Resolution.{resolved}
 
 -- target and base are in their grammar

@@ -1,12 +1,8 @@
 -- The shortest reference again, without resolution: tests of both paths tell which candidates lead to the target's text.
 use Rattle.std.specs.Prelude.{nat_le, Bool, not, ◌&&◌, List, [], ◌∷◌, ◌++◌, Option, None, is_some, if◌then◌else◌, bytes_eq}
-use Rattle.iref_grammar.specs.PathValue.{PathValue, spell_path}
-use Rattle.iref_grammar.specs.Contexts.{alone}
-use Rattle.iref_grammar.specs.Reference.{ReferenceValue}
-use Rattle.iref_model.specs.Guard.{guarded}
-use Rattle.iref_model.specs.NormalList.{count_parents, normal_segments, normal, kept_segments}
-use Rattle.iref_model.specs.ComponentSteps.{with_normal_path}
-use Rattle.iref_model.specs.Relative.{with_only_path}
+use Rattle.iref_grammar.specs.{PathValue.{PathValue, spell_path}, Contexts.{alone}, Reference.{ReferenceValue}}
+use Rattle.iref_model.specs.{Guard.{guarded}, NormalList.{count_parents, normal_segments, normal, kept_segments}}
+use Rattle.iref_model.specs.{ComponentSteps.{with_normal_path}, Relative.{with_only_path}}
 use Rattle.iref_model.specs.Relativized.{same_scheme_text, same_authority_text, same_path_text, same_query_text, empty_path, base_directory, is_climb, relative_path, only_if, fragment_alone, climb_shortened, shorter}
 
 -- the path stands as normalizing leaves it

@@ -1,11 +1,7 @@
 -- Resolution against a base, strict (RFC 3986 section 5.2).
-use Rattle.std.specs.Prelude.{Bool, true, not, ◌&&◌, ◌++◌, is_some, if◌then◌else◌}
-use Rattle.std.specs.Option.{option_or}
-use Rattle.iref_grammar.specs.Texts.{is_empty, all_but_last}
-use Rattle.iref_grammar.specs.PathValue.{PathValue}
-use Rattle.iref_model.specs.NormalList.{normal}
-use Rattle.iref_grammar.specs.Reference.{ReferenceValue}
-use Rattle.iref_model.specs.ComponentSteps.{guarded_reference}
+use Rattle.std.specs.{Prelude.{Bool, true, not, ◌&&◌, ◌++◌, is_some, if◌then◌else◌}, Option.{option_or}}
+use Rattle.iref_grammar.specs.{Texts.{is_empty, all_but_last}, PathValue.{PathValue}, Reference.{ReferenceValue}}
+use Rattle.iref_model.specs.{NormalList.{normal}, ComponentSteps.{guarded_reference}}
 
 -- section 5.2.3: the base's path without its last segment, then the reference's
 abbrev pub merged : ReferenceValue → PathValue → PathValue

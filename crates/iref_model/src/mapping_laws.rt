@@ -4,14 +4,12 @@
 ghost use Rattle.std.specs.Prelude.{◌≡◌, ◌↔◌, ℕ, ◌+◌, ◌*◌, ◌<◌, ◌≤◌, ◌++◌, length, take, drop};
 ghost use Rattle.std.specs.{Prelude.{slice_index, true, chars}, List.{list_all}, Char.{is_ascii}};
 ghost use Rattle.percent_encoding.specs.Percent.{percent_encode};
-ghost use Rattle.iref_grammar.specs.{uri_chars, Text, InUtf8, IsUri, IsUriReference, offsets_of};
-ghost use Rattle.iref_grammar.specs.{ReferenceValue, IsReadable, spell, read_reference};
-ghost use Rattle.iref_grammar.specs.{is_reference, is_uri, PathValue.{PathValue}};
-ghost use Rattle.iref_model.specs.{NormalList.{normal}, Resolution.{resolved}};
-ghost use Rattle.iref_model.specs.{Relative.{relative_to}, Key.{AreAlike, are_alike, key}};
-ghost use Rattle.iref_model.specs.Mapping.{mapped_byte, mapped, mapped_chars, count_escaped};
+ghost use Rattle.iref_grammar.specs.{uri_chars, Text, InUtf8, IsUri, IsUriReference, offsets_of, ReferenceValue, spell};
+ghost use Rattle.iref_grammar.specs.{IsReadable, read_reference, is_reference, is_uri, PathValue.{PathValue}};
+ghost use Rattle.iref_model.specs.{NormalList.{normal}, Resolution.{resolved}, Relative.{relative_to}};
+ghost use Rattle.iref_model.specs.Key.{AreAlike, are_alike, key};
+ghost use Rattle.iref_model.specs.Mapping.{mapped_byte, mapped, mapped_chars, count_escaped, mapped_reference};
 ghost use Rattle.iref_model.specs.Mapping.{mapped_index, mapped_offsets, mapped_path};
-ghost use Rattle.iref_model.specs.Mapping.{mapped_reference};
 
 use iref_grammar::chars::CharSet;
 

@@ -1,18 +1,17 @@
 //! Laws of paths: each is the contract of a function that does nothing.
 
 ghost use Rattle.std.specs.{Prelude.{◌≡◌, Bool, true, ◌==◌, List, [], ◌↔◌}, List.{list_all}};
-ghost use Rattle.iref_grammar.specs.{declared.context.PathContext.{PathContext}, CharTests, alone};
-ghost use Rattle.iref_grammar.specs.{follows_authority, fits, is_readable_path, slash, spell_path};
-ghost use Rattle.iref_grammar.specs.{read_path, shows_its_list, Text, is_segment, lacks};
-ghost use Rattle.iref_grammar.specs.PathValue.{PathValue};
-ghost use Rattle.iref_model.specs.{Guard.{guarded, guarded_list}, NormalList.{stays_before}};
-ghost use Rattle.iref_model.specs.NormalList.{excess, open_parents, normal, normal_segments};
+ghost use Rattle.iref_grammar.specs.declared.context.PathContext.{PathContext};
+ghost use Rattle.iref_grammar.specs.{CharTests, alone, follows_authority, fits, is_readable_path, slash, spell_path};
+ghost use Rattle.iref_grammar.specs.{read_path, shows_its_list, Text, is_segment, lacks, PathValue.{PathValue}};
+ghost use Rattle.iref_model.specs.Guard.{guarded, guarded_list};
+ghost use Rattle.iref_model.specs.NormalList.{stays_before, excess, open_parents, normal, normal_segments};
 ghost use Rattle.iref_model.specs.NormalReading.{NormalRest, items_left, whole_rest, first_left};
 ghost use Rattle.iref_model.specs.NormalReading.{last_left, GivesFirst, GivesLast};
 ghost use Rattle.iref_model.specs.PathFunctions.{directory, directory_text};
 ghost use Rattle.iref_model.specs.PathSteps.{lazy_pushed, pushed, popped, appended, lazy_appended};
-ghost use Rattle.iref_model.specs.PathSteps.{joined, replaced, normalized, cleared};
-ghost use Rattle.iref_model.specs.{PathKey.{path_key}, Readability.{KeepsPathsReadable}};
+ghost use Rattle.iref_model.specs.{PathSteps.{joined, replaced, normalized, cleared}, PathKey.{path_key}};
+ghost use Rattle.iref_model.specs.Readability.{KeepsPathsReadable};
 ghost use Rattle.iref_model.specs.DotSegments.{RemovesDotSegments, dot_segments_removed};
 ghost use Rattle.iref_model.specs.CountedEquality.{IsCountedAnswer, paths_compared, segments_read};
 

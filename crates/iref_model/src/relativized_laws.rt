@@ -1,12 +1,9 @@
 //! The laws of the shortest reference: each is the contract of a function that does nothing.
 
 ghost use Rattle.std.specs.Prelude.{◌≡◌, ◌≢◌, ◌≤◌, length, is_some, true, Some, None};
-ghost use Rattle.iref_grammar.specs.{CharTests, Text, ReferenceValue, is_readable, is_reference};
-ghost use Rattle.iref_grammar.specs.{read_reference, spell};
-ghost use Rattle.iref_model.specs.{Resolution.{resolved}, Key.{AreAlike}};
-ghost use Rattle.iref_model.specs.Relativized.{relativized};
-ghost use Rattle.iref_model.specs.RelativizedTests.{leading_candidates, shortest};
-ghost use Rattle.iref_model.specs.RelativizedChoice.{chosen};
+ghost use Rattle.iref_grammar.specs.{CharTests, Text, ReferenceValue, is_readable, is_reference, read_reference, spell};
+ghost use Rattle.iref_model.specs.{Resolution.{resolved}, Key.{AreAlike}, Relativized.{relativized}};
+ghost use Rattle.iref_model.specs.{RelativizedTests.{leading_candidates, shortest}, RelativizedChoice.{chosen}};
 ghost use Rattle.iref_model.specs.RelativizedLaws.{AreReadable, LeadsExactly, IsNotLonger};
 
 /// From the base, the answer leads to the target's text, character for character; so does what is

@@ -1,11 +1,10 @@
 //! The laws of resolution and of relative references.
 
 ghost use Rattle.std.specs.Prelude.{◌≡◌, is_some, true, false};
-ghost use Rattle.iref_grammar.specs.{CharTests, AreAboveAscii, ReferenceValue, IsReadable};
-ghost use Rattle.iref_grammar.specs.{is_readable, read_reference, spell};
+ghost use Rattle.iref_grammar.specs.{CharTests, AreAboveAscii, ReferenceValue, IsReadable, is_readable, read_reference};
+ghost use Rattle.iref_grammar.specs.{spell};
 ghost use Rattle.iref_model.specs.{Resolution.{resolved}, Key.{AreAlike}, Relative.{relative_to}};
-ghost use Rattle.iref_model.specs.RelativeLaws.{AreTargetAndBase, DoAgree, IsOnlyPath, Leads};
-ghost use Rattle.iref_model.specs.RelativeLaws.{ClimbsLeast};
+ghost use Rattle.iref_model.specs.RelativeLaws.{AreTargetAndBase, DoAgree, IsOnlyPath, Leads, ClimbsLeast};
 
 /// What a readable reference resolves to under a readable base is readable.
 pub fn resolved_reference_is_readable()

@@ -1,19 +1,15 @@
 //! Laws of the edits of references: each is the contract of a function that does nothing.
 
 ghost use Rattle.std.specs.{Prelude.{◌≡◌, true, List, [], Option, is_some}, List.{list_all}};
-ghost use Rattle.iref_grammar.specs.{CharTests, Text, slash, is_scheme, is_segment, is_query};
-ghost use Rattle.iref_grammar.specs.{is_fragment, is_user_info, is_host, is_port, none_or, lacks};
-ghost use Rattle.iref_grammar.specs.{AuthorityValue, has_authority_parts, spell_path};
-ghost use Rattle.iref_grammar.specs.{ReferenceValue, is_readable, PathValue.{PathValue}};
+ghost use Rattle.iref_grammar.specs.{CharTests, Text, slash, is_scheme, is_segment, is_query, is_fragment, is_host};
+ghost use Rattle.iref_grammar.specs.{is_user_info, is_port, none_or, lacks, AuthorityValue, has_authority_parts};
+ghost use Rattle.iref_grammar.specs.{spell_path, ReferenceValue, is_readable, PathValue.{PathValue}};
 ghost use Rattle.iref_model.specs.AuthoritySteps.{with_user_info, with_host, with_port};
 ghost use Rattle.iref_model.specs.PathSteps.{lazy_pushed, popped, pushed, appended, lazy_appended};
-ghost use Rattle.iref_model.specs.PathSteps.{replaced, joined, normalized, cleared};
-ghost use Rattle.iref_model.specs.{DotSegments.{RemovesDotSegments}, ComponentSteps.{with_scheme}};
-ghost use Rattle.iref_model.specs.ComponentSteps.{with_authority, with_path, with_query};
-ghost use Rattle.iref_model.specs.ComponentSteps.{with_fragment, with_authority_step};
-ghost use Rattle.iref_model.specs.ComponentSteps.{with_path_step, with_normal_path};
-ghost use Rattle.iref_model.specs.{ComponentSteps.{with_new_normal_path}, Key.{key}};
-ghost use Rattle.iref_model.specs.Readability.{KeepsReadable};
+ghost use Rattle.iref_model.specs.{PathSteps.{replaced, joined, normalized, cleared}, DotSegments.{RemovesDotSegments}};
+ghost use Rattle.iref_model.specs.ComponentSteps.{with_scheme, with_authority, with_path, with_query};
+ghost use Rattle.iref_model.specs.ComponentSteps.{with_fragment, with_authority_step, with_path_step, with_normal_path};
+ghost use Rattle.iref_model.specs.{ComponentSteps.{with_new_normal_path}, Key.{key}, Readability.{KeepsReadable}};
 
 /// Each step of a path keeps a reference readable.
 pub fn path_steps_keep_references_readable()

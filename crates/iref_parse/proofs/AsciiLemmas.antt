@@ -1,12 +1,9 @@
 -- The table of ASCII characters, checked entry by entry.
 use Rattle.std.proofs.Common.{◌≡◌, ℕ, zero, suc, ◌<◌, Bool, true, arith, ◌&&◌, ◌||◌, refl, ◌∙◌}
-use Rattle.std.specs.Prelude.{◌==◌, nat_le, codes}
-use Rattle.std.specs.List.{slice_index}
-use Rattle.std.specs.Char.{is_ascii, is_ascii_alphanumeric, char_set_contains}
-use Rattle.std.specs.Cmp.{booleans_Decides}
+use Rattle.std.proofs.{lemmas.Bool.{ltb-true}, lemmas.Bool.Decides.{Decides-below_and, nat_tests}}
+use Rattle.std.specs.{Prelude.{◌==◌, nat_le, codes}, List.{slice_index}}
+use Rattle.std.specs.{Char.{is_ascii, is_ascii_alphanumeric, char_set_contains}, Cmp.{booleans_Decides}}
 use mathlib.Core.Bool.{beq}
-use Rattle.std.proofs.lemmas.Bool.{ltb-true}
-use Rattle.std.proofs.lemmas.Bool.Decides.{Decides-below_and, nat_tests}
 use Rattle.iref_parse.specs.declared.ascii.TheConstants.{FIRST_RULES}
 use Rattle.iref_grammar.specs.Characters.{CharTests, AreAboveAscii, uri_chars}
 use Rattle.iref_grammar.specs.Grammar.{colon, at_sign, slash, question_mark, is_not_percent, is_sub_delim, is_reg_name_char, is_user_info_char, is_path_char, is_fragment_char, is_query_char}

@@ -1,20 +1,16 @@
 -- A host alone, and a host with a port, is an authority.
 use Rattle.std.proofs.Common.{◌≡◌, true, ◌&&◌, ◌||◌, [], ◌∷◌, ◌++◌, ◌<◌, ◌≤◌, false, append_assoc, length, get_or, drop, sym, ◌∙◌, ap, arith, refl, cond, Bool, ℕ}
-use Rattle.std.specs.Prelude.{Option, Some, None, codes, ◌==◌}
-use mathlib.Core.Bool.{true≢false}
-use Rattle.std.specs.List.{list_all}
+use Rattle.std.proofs.{lemmas.List.{append-nil}, lemmas.Bool.{eqb-true, and_parts}}
+use Rattle.std.specs.{Prelude.{Option, Some, None, codes, ◌==◌}, List.{list_all}}
 use Rattle.std.specs.Char.{char_set_contains, is_ascii_digit}
-use Rattle.std.proofs.lemmas.List.{append-nil}
-use Rattle.std.proofs.lemmas.Bool.{eqb-true, and_parts}
-use Rattle.iref_grammar.specs.Characters.{CharTests, AreAboveAscii}
-use Rattle.iref_grammar.specs.Rules.{Text}
+use mathlib.Core.Bool.{true≢false}
+use Rattle.iref_grammar.specs.{Characters.{CharTests, AreAboveAscii}, Rules.{Text}}
 use Rattle.iref_grammar.specs.Grammar.{at_sign, colon, slash, left_bracket, right_bracket}
 use Rattle.iref_grammar.specs.Texts.{after_first_char, begins_with, lacks, before, from_first, after, then_part}
 use Rattle.iref_grammar.specs.Tests.{is_host, is_port, is_ip_literal, is_ip_address, is_ipv6, is_ipvfuture, is_reg_name, in_brackets, ends_here, some_and, none_or}
 use Rattle.iref_grammar.specs.Authority.{AuthorityValue, spell_authority, read_authority, has_authority_parts, is_authority}
 use Rattle.iref_grammar.proofs.CutLemmas.{cut, before-part, after-part, before-from_first, before-lacking, from_first-lacking, from_first-yes, from_first-no, rest_lacks}
-use Rattle.iref_grammar.proofs.HostLemmas.{before_lacks}
-use Rattle.iref_grammar.proofs.AuthorityLemmas.{read_authority-back, delimited_authority}
+use Rattle.iref_grammar.proofs.{HostLemmas.{before_lacks}, AuthorityLemmas.{read_authority-back, delimited_authority}}
 use Rattle.iref_parse.specs.AuthoritySlices.{is_port_part}
 
 abbrev without_user_info : Text → Option Text → AuthorityValue

@@ -1,10 +1,8 @@
 -- Texts, or the first bytes of texts, in which no escape begins.
 use Rattle.std.proofs.Common.{◌≡◌, ◌≢◌, ℕ, zero, suc, ◌+◌, ◌<◌, ◌≤◌, List, [], ◌∷◌, ◌++◌, not, cond, eqb, length, get_or, take, drop, refl, ◌∙◌, ap, arith, append-nil, take_all}
-use Rattle.std.specs.List.{position_or_len}
-use Rattle.std.specs.Char.{char_set_contains}
-use Rattle.std.proofs.lemmas.List.{drop_all, drop_more}
-use Rattle.std.proofs.lemmas.List.Sums.{prefix_len_passes}
+use Rattle.std.proofs.{lemmas.List.{drop_all, drop_more}, lemmas.List.Sums.{prefix_len_passes}}
 use Rattle.std.proofs.lemmas.Bool.Decides.{nat_tests}
+use Rattle.std.specs.{List.{position_or_len}, Char.{char_set_contains}}
 use Rattle.percent_encoding.specs.Percent.{percent_decode}
 use Rattle.percent_encoding.proofs.PercentLemmas.{percent_decode_not_percent, percent_decode-nil}
 

@@ -1,12 +1,10 @@
 -- The first lane in which two vectors differ, by the mask of those that do.
 use Rattle.std.proofs.Common.{◌≡◌, ◌≢◌, ℕ, ◌%◌, ◌^◌, ◌<◌, ◌≤◌, List, Bool, false, not, cond, eqb, length, get_or, map, sym, ap, ◌∙◌, arith, w8}
-use Rattle.std.specs.List.{prefix_len}
-use Rattle.std.specs.Simd.Lanes.{zip2, mask_l, top}
 use Rattle.std.proofs.lemmas.Simd.{length-zip2, get_or-zip2, leading_from_mask_l, trailing_mask_l, tops_compared, mask_l-mod}
-use Rattle.std.proofs.lemmas.List.{map-id}
-use lib.Count.{count_trailing_zeros}
-use Rattle.std.proofs.lemmas.Bool.{eqb-true, eqb-false, not-true, not-false}
+use Rattle.std.proofs.{lemmas.List.{map-id}, lemmas.Bool.{eqb-true, eqb-false, not-true, not-false}}
 use Rattle.std.proofs.lemmas.List.Sums.{prefix_len_passes, prefix_len_stops, prefix_len-le-length}
+use Rattle.std.specs.{List.{prefix_len}, Simd.Lanes.{zip2, mask_l, top}}
+use lib.Count.{count_trailing_zeros}
 use Rattle.iref_parse.specs.Lanes.{DifferFirstAt}
 
 -- the lanes that differ

@@ -1,18 +1,14 @@
 -- An IPv4 address read octet by octet.
 use Rattle.std.proofs.Common.{◌≡◌, ◌≢◌, ℕ, suc, ◌<◌, ◌≤◌, Bool, false, cond, List, [], ◌∷◌, length, map, refl, sym, ◌∙◌, ap, subst, arith, lit<}
+use Rattle.std.proofs.{lemmas.Bool.Decides.{nat_tests}, lemmas.List.Splits.{slice_split_first}}
 use Rattle.std.specs.Prelude.{◌==◌, Option, Some, None, option_map, option_and_then, IfSome, decimal}
-use Rattle.std.specs.List.{position_or_len, before_first, after_first, join_with_byte}
-use Rattle.std.specs.Int.{from_be_bytes}
+use Rattle.std.specs.{List.{position_or_len, before_first, after_first, join_with_byte}, Int.{from_be_bytes}}
 use mir.Syntax.{w32}
-use Rattle.std.proofs.lemmas.Bool.Decides.{nat_tests}
-use Rattle.std.proofs.lemmas.List.Splits.{slice_split_first}
-use Rattle.iref_grammar.specs.Rules.{Text}
-use Rattle.iref_grammar.specs.Texts.{pieces_at}
+use Rattle.iref_grammar.specs.{Rules.{Text}, Texts.{pieces_at}}
 use Rattle.iref_grammar.specs.IpAddresses.{number_of, all_some, octet_value, octet_values, four_octets, ipv4_value}
-use Rattle.iref_grammar.proofs.TextLemmas.{pieces_at-one, join-pieces_at}
-use Rattle.iref_grammar.proofs.SliceLemmas.{pieces_at-whole}
-use Rattle.iref_parse.proofs.GroupLemmas.{more}
+use Rattle.iref_grammar.proofs.{TextLemmas.{pieces_at-one, join-pieces_at}, SliceLemmas.{pieces_at-whole}}
 use Rattle.iref_grammar.proofs.Ipv4Lemmas.{octet_text, decimal_lacks_stop}
+use Rattle.iref_parse.proofs.GroupLemmas.{more}
 
 abbrev is_stop : ℕ → Bool
 is_stop c = c == 46

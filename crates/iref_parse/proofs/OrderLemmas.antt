@@ -1,14 +1,10 @@
 -- The order of what two texts decode to, by the first bytes that are the same and kept.
 use Rattle.std.proofs.Common.{◌≡◌, ◌≢◌, ℕ, zero, suc, ◌+◌, ◌<◌, ◌≤◌, ◌⊎◌, List, [], ◌∷◌, length, length-drop, get_or, drop, refl, sym, ◌∙◌, ap, arith, ⊎_elim, inl, inr}
-use Rattle.std.proofs.Math.Seq.{drop-cons}
-use Rattle.std.proofs.lemmas.Bool.{cases_lt}
-use Rattle.std.specs.Cmp.{nat_cmp_is}
-use Rattle.std.specs.Ordering.{nat_cmp, ordering_then}
-use Rattle.std.specs.declared.cmp.Ordering.{Ordering}
+use Rattle.std.proofs.{Math.Seq.{drop-cons}, lemmas.Bool.{cases_lt}, lemmas.Slice.{between_to_end}}
+use Rattle.std.specs.{Cmp.{nat_cmp_is}, Ordering.{nat_cmp, ordering_then}, declared.cmp.Ordering.{Ordering}}
 use Rattle.std.specs.declared.cmp.Ordering.TheVariants.{Less, Equal, Greater}
 use Rattle.percent_encoding.specs.Percent.{percent_decode}
 use Rattle.percent_encoding.proofs.PercentLemmas.{percent_decode_not_percent, length-percent_decode}
-use Rattle.std.proofs.lemmas.Slice.{between_to_end}
 use Rattle.iref_grammar.specs.Keys.{text_order}
 use Rattle.iref_parse.specs.Kept.{IsKeptFront}
 

@@ -1,10 +1,8 @@
 -- Indices of two bytes that stand side by side.
 use Rattle.std.proofs.Common.{◌≡◌, ℕ, zero, suc, ◌+◌, ◌-◌, ◌<◌, ◌≤◌, List, [], ◌∷◌, Bool, true, false, not, cond, eqb, length, get_or, get_or-take, get_or-drop, take, drop, length-take-le, length-drop, bit_and, ◌&&◌, refl, sym, ap, ◌∙◌, arith}
+use Rattle.std.proofs.{lemmas.Bool.{true≢false, or_left, or_right, false_from_ne_true}, lemmas.Bool.Decides.{nat_tests}}
 use Rattle.std.specs.List.{list_all}
-use Rattle.std.proofs.lemmas.Bool.{true≢false, or_left, or_right, false_from_ne_true}
-use Rattle.std.proofs.lemmas.Bool.Decides.{nat_tests}
-use Rattle.iref_parse.specs.Lanes.{HasLanes}
-use Rattle.iref_parse.specs.Dots.{has_pair, is_pair}
+use Rattle.iref_parse.specs.{Lanes.{HasLanes}, Dots.{has_pair, is_pair}}
 use Rattle.iref_parse.proofs.PositionLemmas.{ends, low_end, high_end}
 use Rattle.iref_parse.proofs.SeenLemmas.{Seen, Seen-ends, unmarked_from_clear, clear_from_unmarked}
 

@@ -1,28 +1,24 @@
 -- The components of a text of plain bytes, escapes and characters beyond ASCII are in their rules.
 use Rattle.std.proofs.Common.{List, ◌++◌, ◌≡◌, ℕ, ◌<◌, Bool, true, false, not, ◌&&◌, ◌||◌, [], ◌∷◌, length, take, drop, IsUtf8, refl, sym, ◌∙◌, ap, subst, arith, inl, inr, ⊎_elim}
+use Rattle.std.proofs.lemmas.Bool.{agree_below_at, ltb-true, and_parts, not-true, or_cases, or_left, or_right, false_from_ne_true}
+use Rattle.std.proofs.{lemmas.Bool.Decides.{eqb_tells, nat_tests}, lemmas.List.{take_all}}
 use Rattle.std.specs.Prelude.{◌==◌, nat_lt, Option, Some, None, codes, if◌then◌else◌}
 use Rattle.std.specs.Char.{is_ascii, is_ascii_hexdigit, is_ascii_alphanumeric, char_set_contains}
 use Rattle.std.specs.List.{list_all, position_or_len}
-use Rattle.std.proofs.lemmas.Bool.{agree_below_at, ltb-true, and_parts, not-true, or_cases, or_left, or_right, false_from_ne_true}
-use Rattle.std.proofs.lemmas.Bool.Decides.{eqb_tells, nat_tests}
-use Rattle.std.proofs.lemmas.List.{take_all}
 use mathlib.Core.Bool.{true≢false}
-use Rattle.iref_grammar.specs.Characters.{CharTests, AreAboveAscii}
-use Rattle.iref_grammar.specs.Rules.{Text}
+use Rattle.iref_grammar.specs.{Characters.{CharTests, AreAboveAscii}, Rules.{Text}}
 use Rattle.iref_grammar.specs.Grammar.{colon, at_sign, slash, question_mark, hash_sign, percent_sign, is_not_percent, is_sub_delim, is_reg_name_char, is_user_info_char, is_path_char, is_query_char, is_fragment_char}
 use Rattle.iref_grammar.specs.Texts.{before, from_first, after, after_first_char, begins_with}
 use Rattle.iref_grammar.specs.Tests.{is_reg_name, is_host, is_ip_literal, is_path, is_query, is_fragment, none_or}
 use Rattle.iref_grammar.specs.Authority.{is_authority}
 use Rattle.iref_grammar.specs.Reference.{is_reference, read_reference, hierarchy, scheme_of, split_scheme, split_authority}
 use Rattle.iref_grammar.specs.ComponentTexts.{ComponentTexts, spell_components}
-use Rattle.iref_grammar.proofs.ComponentLemmas.{spelled_as_read}
-use Rattle.iref_grammar.proofs.CutLemmas.{before-from_first}
-use Rattle.iref_grammar.proofs.ReferenceRuleLemmas.{Decides-is_uri_reference}
-use Rattle.iref_grammar.proofs.SplitLemmas.{begins_with_mark}
+use Rattle.iref_grammar.proofs.{ComponentLemmas.{spelled_as_read}, CutLemmas.{before-from_first}}
+use Rattle.iref_grammar.proofs.{ReferenceRuleLemmas.{Decides-is_uri_reference}, SplitLemmas.{begins_with_mark}}
 use Rattle.iref_parse.specs.Plain.{is_plain_byte}
 use Rattle.iref_parse.specs.Encoded.{is_plain_char, but, is_authority_char, are_encoded, AreEncoded}
-use Rattle.iref_parse.proofs.AsciiLemmas.{listed, allowed, reg_name_byte, path_byte, fragment_byte}
 use Rattle.iref_parse.specs.AuthoritySlices.{is_port_part}
+use Rattle.iref_parse.proofs.AsciiLemmas.{listed, allowed, reg_name_byte, path_byte, fragment_byte}
 use Rattle.iref_parse.proofs.AuthorityLemmas.{port_after, slashes}
 use Rattle.iref_parse.proofs.EncodedTextLemmas.{IsDelimiter, encoded_wider, encoded_before, encoded_from_first, encoded_past_one}
 

@@ -1,10 +1,9 @@
 -- What a vector of joined marks says of all positions, of which it saw the first and the last 16.
 use Rattle.std.proofs.Common.{◌≡◌, ℕ, ◌+◌, ◌-◌, ◌<◌, ◌≤◌, List, true, eqb, length, get_or, sym, ap, ◌∙◌, arith, bit_or, ⊎_elim}
-use Rattle.std.specs.List.{list_all}
 use Rattle.std.proofs.lemmas.Bool.{eqb-true, eq-eqb, cases_lt}
 use Rattle.std.proofs.lemmas.List.Sums.{AllPass-from_list_all, list_all-from_AllPass}
-use Rattle.std.proofs.lemmas.List.Elements.{All-from_get_or}
-use Rattle.std.proofs.lemmas.Nat.{le_or_l, le_or_r}
+use Rattle.std.proofs.{lemmas.List.Elements.{All-from_get_or}, lemmas.Nat.{le_or_l, le_or_r}}
+use Rattle.std.specs.List.{list_all}
 use Rattle.iref_parse.specs.Lanes.{HasLanes}
 
 -- no index from i up to j is marked

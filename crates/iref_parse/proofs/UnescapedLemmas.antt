@@ -1,9 +1,8 @@
 -- What the marks of bytes tell of a text, where a mark is 0 exactly if the byte is allowed.
 use Rattle.std.proofs.Common.{◌≡◌, ℕ, ◌+◌, ◌<◌, List, Bool, true, false, eqb, length, get_or, refl, sym, ◌∙◌, arith, Fits, w8}
-use Rattle.std.specs.List.{list_all}
-use Rattle.std.proofs.lemmas.Bool.{eqb-true, eq-eqb}
-use Rattle.std.proofs.lemmas.List.Sums.{AllPass-from_list_all, list_all-from_AllPass}
+use Rattle.std.proofs.{lemmas.Bool.{eqb-true, eq-eqb}, lemmas.List.Sums.{AllPass-from_list_all, list_all-from_AllPass}}
 use Rattle.std.proofs.lemmas.List.Elements.{All-from_get_or}
+use Rattle.std.specs.List.{list_all}
 use Rattle.iref_parse.proofs.SeenLemmas.{Seen, unmarked_from_clear, clear_from_unmarked}
 
 -- the mark at index k

@@ -1,11 +1,7 @@
 -- What proofs see of the slices of an authority, and of its port.
-use Rattle.std.specs.Prelude.{Bool, true, ◌&&◌, ◌==◌, [], ◌∷◌}
-use Rattle.std.specs.Option.{option_copied}
-use Rattle.std.specs.List.{list_all}
+use Rattle.std.specs.{Prelude.{Bool, true, ◌&&◌, ◌==◌, [], ◌∷◌}, Option.{option_copied}, List.{list_all}}
 use Rattle.std.specs.Char.{is_ascii_digit}
-use Rattle.iref_grammar.specs.Rules.{Text}
-use Rattle.iref_grammar.specs.Grammar.{colon}
-use Rattle.iref_grammar.specs.Authority.{AuthorityValue}
+use Rattle.iref_grammar.specs.{Rules.{Text}, Grammar.{colon}, Authority.{AuthorityValue}}
 use Rattle.iref_parse.specs.declared.authority.AuthoritySlices.{AuthoritySlices}
 
 -- the parts that they show

@@ -1,9 +1,6 @@
 -- Which bytes of a path stand side by side, and whether a segment begins with a dot.
-use Rattle.std.specs.Prelude.{ℕ, ◌+◌, Bool, ◌==◌, ◌&&◌, ◌||◌, List, [], ◌∷◌, false, slice_index}
-use Rattle.std.specs.List.{list_any}
-use Rattle.iref_grammar.specs.Grammar.{slash}
-use Rattle.iref_grammar.specs.Rules.{Text}
-use Rattle.iref_grammar.specs.Texts.{pieces_at}
+use Rattle.std.specs.{Prelude.{ℕ, ◌+◌, Bool, ◌==◌, ◌&&◌, ◌||◌, List, [], ◌∷◌, false, slice_index}, List.{list_any}}
+use Rattle.iref_grammar.specs.{Grammar.{slash}, Rules.{Text}, Texts.{pieces_at}}
 
 -- the text begins with `.`
 abbrev pub begins_with_dot : Text → Bool

@@ -1,11 +1,8 @@
 -- Texts of plain bytes, escapes and the characters that a set has beyond ASCII.
 use Rattle.std.specs.Prelude.{◌≡◌, true, ℕ, ◌<◌, ◌≤◌, Bool, not, ◌&&◌, ◌||◌, List, [], ◌∷◌, ◌++◌, length, encode_utf8}
-use Rattle.std.specs.Char.{char_set_contains}
-use Rattle.std.specs.Str.{IsUtf8}
-use Rattle.iref_grammar.specs.Characters.{CharTests, is_common}
-use Rattle.iref_grammar.specs.ComponentTexts.{ComponentTexts}
-use Rattle.iref_grammar.specs.Grammar.{hash_sign, question_mark, slash}
-use Rattle.iref_grammar.specs.Rules.{Text}
+use Rattle.std.specs.{Char.{char_set_contains}, Str.{IsUtf8}}
+use Rattle.iref_grammar.specs.{Characters.{CharTests, is_common}, ComponentTexts.{ComponentTexts}}
+use Rattle.iref_grammar.specs.{Grammar.{hash_sign, question_mark, slash}, Rules.{Text}}
 use Rattle.iref_grammar.specs.Tests.{in_utf8, is_encoded, is_path, is_query, none_or}
 use Rattle.iref_parse.specs.Plain.{is_plain_byte}
 

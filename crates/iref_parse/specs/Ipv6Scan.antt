@@ -1,8 +1,7 @@
 -- IPv6 addresses, byte by byte. The room is how many groups may follow the one that is read, of which there are some digits. A group is the text from its first byte on.
 use Rattle.std.specs.Prelude.{ℕ, ◌+◌, ◌-◌, ◌*◌, Bool, true, false, not, ◌&&◌, ◌||◌, ◌==◌, nat_lt, [], ◌∷◌, if◌then◌else◌}
 use Rattle.std.specs.Char.{is_ascii_digit, is_ascii_hexdigit}
-use Rattle.iref_grammar.specs.Rules.{Text}
-use Rattle.iref_grammar.specs.Texts.{is_empty}
+use Rattle.iref_grammar.specs.{Rules.{Text}, Texts.{is_empty}}
 
 -- the rest of an octet, which has digits if it is begun, and this number of further octets to the end
 abbrev pub ends_in_octets : ℕ → Bool → ℕ → Text → Bool

@@ -1,7 +1,6 @@
 -- The plain bytes: those that stand for themselves in a path, a query or a fragment, or begin one of the two, and those of common characters.
 use Rattle.std.specs.Prelude.{ℕ, Bool, ◌==◌, ◌&&◌, ◌||◌, ◌/◌, ◌%◌, codes, slice_index, bit_and, bit_or, nat_lt, if◌then◌else◌}
-use Rattle.std.specs.Char.{is_ascii, is_ascii_alphanumeric, char_set_contains}
-use Rattle.std.specs.Int.{is_in_range}
+use Rattle.std.specs.{Char.{is_ascii, is_ascii_alphanumeric, char_set_contains}, Int.{is_in_range}}
 use Rattle.iref_grammar.specs.Grammar.{is_not_percent, percent_sign}
 use Rattle.iref_parse.specs.declared.plain.Groups.{Groups}
 

@@ -1,8 +1,7 @@
 -- What proofs see of the slices of a reference.
 use Rattle.std.specs.Option.{option_copied}
 use Rattle.iref_parse.specs.declared.split.ReferenceSlices.{ReferenceSlices}
-use Rattle.iref_grammar.specs.ComponentTexts.{ComponentTexts, read_components}
-use Rattle.iref_grammar.specs.Reference.{ReferenceValue}
+use Rattle.iref_grammar.specs.{ComponentTexts.{ComponentTexts, read_components}, Reference.{ReferenceValue}}
 
 -- their texts
 abbrev pub texts_of : ReferenceSlices → ComponentTexts

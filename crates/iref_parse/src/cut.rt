@@ -1,8 +1,7 @@
 //! A text cut at the first of a delimiter.
 
 ghost use Rattle.std.specs.{Prelude.{◌≡◌, ◌≢◌, ◌<◌, [], ◌∷◌, MatchOption}, Option.{option_copied}};
-ghost use Rattle.iref_grammar.specs.Rules.{Text};
-ghost use Rattle.iref_grammar.specs.Texts.{before, from_first, after};
+ghost use Rattle.iref_grammar.specs.{Rules.{Text}, Texts.{before, from_first, after}};
 
 use crate::position::position_of;
 

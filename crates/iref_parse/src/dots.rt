@@ -1,8 +1,7 @@
 //! Whether a segment of a path begins with a dot, where the first behind a `/` does, and whether two
 //! dots stand side by side.
 ghost use Rattle.std.specs.Prelude.{◌≡◌, ℕ, ◌+◌, ◌<◌, ◌≤◌, if◌then◌else◌, length, false, true};
-ghost use Rattle.iref_parse.specs.Lanes.{HasLanes};
-ghost use Rattle.iref_parse.specs.Dots.{begins_with_dot, has_dot_segment, is_slash_dot};
+ghost use Rattle.iref_parse.specs.{Lanes.{HasLanes}, Dots.{begins_with_dot, has_dot_segment, is_slash_dot}};
 ghost use Rattle.iref_parse.specs.Dots.{has_dot_pair, has_pair, is_pair};
 
 use crate::lanes::{both, common_lanes, either, equal_to, is_clear, load};

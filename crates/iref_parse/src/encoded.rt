@@ -1,10 +1,8 @@
 //! Whether a text is of plain bytes, of escapes and of the characters that a set has beyond ASCII.
 ghost use Rattle.std.specs.Prelude.{◌≡◌, ◌+◌, ◌%◌, ◌<◌, ◌≤◌, true, length};
-ghost use Rattle.std.specs.Prelude.{IfSome, ◌∷◌, [], slice_index, drop, nat_le, ◌==◌, ◌||◌};
-ghost use Rattle.std.specs.Str.{IsUtf8};
+ghost use Rattle.std.specs.{Prelude.{IfSome, ◌∷◌, [], slice_index, drop, nat_le, ◌==◌, ◌||◌}, Str.{IsUtf8}};
 ghost use Rattle.iref_grammar.specs.{Characters.{HasCommon}, Grammar.{percent_sign}};
-ghost use Rattle.iref_parse.specs.Encoded.{are_encoded, is_plain_char, BeginsWide, IsWide};
-ghost use Rattle.iref_parse.specs.Encoded.{BeginsCommon, StepsTo};
+ghost use Rattle.iref_parse.specs.Encoded.{are_encoded, is_plain_char, BeginsWide, IsWide, BeginsCommon, StepsTo};
 ghost use Rattle.iref_parse.specs.Plain.{begins_common};
 
 use crate::plain::{common_first, plain_first};

@@ -1,6 +1,5 @@
 //! How many bytes two texts begin with alike.
-ghost use Rattle.std.specs.Prelude.{◌≡◌, nat_eq};
-ghost use Rattle.std.specs.List.{common_prefix_len};
+ghost use Rattle.std.specs.{Prelude.{◌≡◌, nat_eq}, List.{common_prefix_len}};
 
 use crate::lanes::{common_lanes, load};
 

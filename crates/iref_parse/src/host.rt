@@ -1,7 +1,6 @@
 //! Whether a text is a host (RFC 3986 section 3.2.2).
 
-ghost use Rattle.std.specs.{Prelude.{◌≡◌, ◌&&◌, [], ◌∷◌, Some}, List.{list_all}};
-ghost use Rattle.std.specs.Option.{option_copied};
+ghost use Rattle.std.specs.{Prelude.{◌≡◌, ◌&&◌, [], ◌∷◌, Some}, List.{list_all}, Option.{option_copied}};
 ghost use Rattle.iref_grammar.specs.Grammar as grammar;
 ghost use Rattle.iref_grammar.specs.Texts.{before, after};
 ghost use Rattle.iref_grammar.specs.Tests as test;

@@ -1,7 +1,6 @@
 //! Vectors of 16 bytes, lane by lane.
 ghost use Rattle.std.specs.Prelude.{◌≡◌, ◌+◌, ◌/◌, ◌%◌, ◌≤◌, ◌==◌, if◌then◌else◌, length};
-ghost use Rattle.std.specs.Prelude.{slice_index, bit_and, bit_or, bit_xor, min};
-ghost use Rattle.std.specs.List.{list_all};
+ghost use Rattle.std.specs.{Prelude.{slice_index, bit_and, bit_or, bit_xor, min}, List.{list_all}};
 ghost use Rattle.iref_parse.specs.Lanes.{HasLanes, DifferFirstAt};
 
 use std::simd::prelude::*;

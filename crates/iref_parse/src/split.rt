@@ -1,17 +1,13 @@
 //! The one split of a reference into its components (RFC 3986 section 4.1 and appendix B).
 
-ghost use Rattle.std.specs.Prelude.{◌≡◌, ◌<◌, ◌↔◌, [], ◌∷◌, IfSome, MatchOption};
-ghost use Rattle.std.specs.Prelude.{codes, is_some, true};
+ghost use Rattle.std.specs.Prelude.{◌≡◌, ◌<◌, ◌↔◌, [], ◌∷◌, IfSome, MatchOption, codes, is_some, true};
 ghost use Rattle.std.specs.{Option.{option_copied}, Str.{IsUtf8}};
 ghost use Rattle.iref_grammar.specs.Reference as spec;
-ghost use Rattle.iref_grammar.specs.{hash_sign, question_mark, before, after};
-ghost use Rattle.iref_grammar.specs.{hierarchy, read_reference, is_reference, spell_components};
-ghost use Rattle.iref_grammar.specs.{AreComponents, none_or};
+ghost use Rattle.iref_grammar.specs.{hash_sign, question_mark, before, after, hierarchy, read_reference, is_reference};
+ghost use Rattle.iref_grammar.specs.{spell_components, AreComponents, none_or, Texts.{begins_with}};
 ghost use Rattle.iref_grammar.specs.Authority as authority;
 ghost use Rattle.iref_grammar.specs.Tests as test;
-ghost use Rattle.iref_grammar.specs.Texts.{begins_with};
-ghost use Rattle.iref_parse.specs.Encoded.{AreEncoded, are_encoded};
-ghost use Rattle.iref_parse.specs.Encoded.{is_authority_char, is_plain_char};
+ghost use Rattle.iref_parse.specs.Encoded.{AreEncoded, are_encoded, is_authority_char, is_plain_char};
 ghost use Rattle.iref_parse.specs.{ReferenceSlices.{texts_of, value_of}, Splits.{SplitsBefore}};
 
 use crate::authority::{is_authority, is_port_part};

@@ -2,11 +2,9 @@
 //! a path.
 ghost use Rattle.std.proofs.{Common.{refl}, lemmas.Bool.{agree_below_at}};
 ghost use Rattle.std.specs.Prelude.{◌≡◌, ℕ, ◌+◌, ◌%◌, ◌<◌, ◌≤◌, ◌==◌, if◌then◌else◌};
-ghost use Rattle.std.specs.Prelude.{Bool, bit_and, length, slice_index};
-ghost use Rattle.std.specs.List.{list_all};
+ghost use Rattle.std.specs.{Prelude.{Bool, bit_and, length, slice_index}, List.{list_all}};
 ghost use Rattle.iref_grammar.specs.Grammar.{is_not_percent};
-ghost use Rattle.iref_parse.specs.Lanes.{HasLanes};
-ghost use Rattle.iref_parse.specs.Plain.{is_kept_byte, is_unescaped_byte, kept_mark};
+ghost use Rattle.iref_parse.specs.{Lanes.{HasLanes}, Plain.{is_kept_byte, is_unescaped_byte, kept_mark}};
 ghost use Rattle.iref_parse.specs.Plain.{is_in_no_group, is_name_byte, is_path_byte};
 ghost use Rattle.iref_parse.specs.Plain.{other_groups, percent_mark, unescaped_mark};
 ghost use Rattle.iref_parse.specs.declared.plain.TheConstants.{NAME, PATH};

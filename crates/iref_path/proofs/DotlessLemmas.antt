@@ -1,35 +1,22 @@
 -- A list in which no segment begins with a dot is its own normal list.
 use Rattle.std.proofs.Common.{◌≡◌, ℕ, ◌+◌, Bool, true, false, ◌||◌, List, [], ◌∷◌, ◌++◌, length, refl, sym, ap, arith}
-use Rattle.std.proofs.lemmas.List.{append-nil}
-use Rattle.std.specs.Prelude.{Option}
-use Rattle.std.specs.Option.{unwrap_or}
-use Rattle.std.specs.Borrow.{Bor}
-use Rattle.std.proofs.lemmas.Bool.Decides.{nat_tests}
-use Rattle.std.specs.List.{list_any}
-use Rattle.std.proofs.lemmas.List.Folds.{list_any-append}
-use Rattle.std.proofs.lemmas.Slice.Eq.{bytes_eq-Decides}
-use Rattle.iref_grammar.specs.declared.context.PathContext.{PathContext}
-use Rattle.iref_grammar.specs.Rules.{Text}
-use Rattle.iref_grammar.specs.Grammar.{slash}
+use Rattle.std.proofs.{lemmas.List.{append-nil}, lemmas.Bool.Decides.{nat_tests}, lemmas.List.Folds.{list_any-append}}
+use Rattle.std.proofs.{lemmas.Slice.Eq.{bytes_eq-Decides}, lemmas.Str.Pattern.{strip_prefix_char}}
+use Rattle.std.specs.{Prelude.{Option}, Option.{unwrap_or}, Borrow.{Bor}, List.{list_any}}
+use Rattle.iref_grammar.specs.{declared.context.PathContext.{PathContext}, Rules.{Text}, Grammar.{slash}}
 use Rattle.iref_grammar.specs.Texts.{all_but_last, pieces_at}
 use Rattle.iref_grammar.specs.PathValue.{PathValue, is_one_empty, read_path, segments_of, spell_path}
 use Rattle.iref_grammar.proofs.TextLemmas.{join-pieces_at}
 use Rattle.iref_model.specs.NormalList.{is_name, ends_in_dots, normal_segments, staying_names, without_lone_empty}
-use Rattle.iref_model.specs.NormalReading.{open_before, staying_before}
-use Rattle.iref_model.specs.PathSteps.{normalized}
+use Rattle.iref_model.specs.{NormalReading.{open_before, staying_before}, PathSteps.{normalized}}
 use Rattle.iref_model.specs.Relative.{directory_names, steps_between}
-use Rattle.iref_model.proofs.ItemLemmas.{name_no_parent, normal_segments-is}
-use Rattle.iref_model.proofs.PieceLemmas.{pieces-append, some_piece}
+use Rattle.iref_model.proofs.{ItemLemmas.{name_no_parent, normal_segments-is}, PieceLemmas.{pieces-append, some_piece}}
 use Rattle.iref_model.proofs.StayingLemmas.{staying_names-is}
 use Rattle.iref_parse.specs.Dots.{begins_with_dot, has_dot_segment, is_some_dotted}
-use Rattle.iref_path.specs.Bodies.{after_front}
-use Rattle.iref_path.specs.Pieces.{pieces_if_some}
-use Rattle.iref_path.specs.NormalItems.{first_or}
-use Rattle.iref_path.specs.StepsBetween.{text_steps}
-use Rattle.iref_path.specs.Spelling.{each_closed, guard_in}
+use Rattle.iref_path.specs.{Bodies.{after_front}, Pieces.{pieces_if_some}, NormalItems.{first_or}}
+use Rattle.iref_path.specs.{StepsBetween.{text_steps}, Spelling.{each_closed, guard_in}}
 use Rattle.iref_path.proofs.SlashLemmas.{read-absolute}
 use Rattle.iref_path.proofs.SpellLemmas.{length-joined, normalized-spelled, length-join, normal_size}
-use Rattle.std.proofs.lemmas.Str.Pattern.{strip_prefix_char}
 
 -- a segment that begins with no dot is a name
 pub dotless_name : (s : Text) → begins_with_dot s ≡ false → is_name s ≡ true

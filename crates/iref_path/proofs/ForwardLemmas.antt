@@ -1,39 +1,26 @@
 -- The normal list of segments, written forward.
 use Rattle.std.proofs.Common.{add-one, ◌||◌, length-take, eqb, get_or, get_or-take, ◌<◌, ⊎_elim, ◌≡◌, ℕ, ◌+◌, ◌-◌, true, false, cond, List, [], ◌∷◌, ◌++◌, length, take, drop, refl, sym, ◌∙◌, ap, append_assoc, length-append, arith}
-use Rattle.std.proofs.lemmas.Bool.Decides.{nat_tests}
-use Rattle.std.proofs.lemmas.Grind.{common_steps}
+use Rattle.std.proofs.{lemmas.Bool.Decides.{nat_tests}, lemmas.Grind.{common_steps}}
 use Rattle.std.proofs.lemmas.List.{append-nil, drop_all, get_or_past, take_all, take_at, drop_at}
-use Rattle.std.proofs.lemmas.Bool.{and_parts, cases_lt, eqb-true}
-use Rattle.std.proofs.Math.Seq.{take-suc}
-use Rattle.std.specs.Prelude.{◌≢◌}
-use Rattle.std.specs.List.{join_with_byte, list_all}
+use Rattle.std.proofs.{lemmas.Bool.{and_parts, cases_lt, eqb-true}, Math.Seq.{take-suc}, lemmas.Result.{on_ok_weaker}}
+use Rattle.std.specs.{Prelude.{◌≢◌}, List.{join_with_byte, list_all}}
 use Rattle.iref_grammar.proofs.TextLemmas.{join-pieces_at, lacks-pieces_at, pieces_at-front, pieces_at-join}
-use Rattle.iref_grammar.specs.declared.context.PathContext.{PathContext}
-use Rattle.iref_grammar.specs.Rules.{Text}
-use Rattle.iref_grammar.specs.Grammar.{slash}
+use Rattle.iref_grammar.specs.{declared.context.PathContext.{PathContext}, Rules.{Text}, Grammar.{slash}}
 use Rattle.iref_grammar.specs.PathValue.{PathValue, read_path, segments_of, spell_path}
 use Rattle.iref_grammar.specs.Texts.{all_but_last, is_empty, lacks, pieces_at}
-use Rattle.iref_model.specs.NormalList.{is_name, normal_segments}
-use Rattle.iref_model.specs.NormalReading.{items, open_before, staying_before}
+use Rattle.iref_model.specs.{NormalList.{is_name, normal_segments}, NormalReading.{items, open_before, staying_before}}
 use Rattle.iref_model.specs.PathSteps.{normalized}
-use Rattle.iref_model.proofs.DirectoryLemmas.{all_but_last-snoc}
-use Rattle.iref_model.proofs.ItemLemmas.{name_no_parent, normal_segments-is}
-use Rattle.iref_model.proofs.PieceLemmas.{some_piece}
-use Rattle.iref_model.proofs.StayingLemmas.{TakesLast, staying_before-append, takes_last}
+use Rattle.iref_model.proofs.{DirectoryLemmas.{all_but_last-snoc}, ItemLemmas.{name_no_parent, normal_segments-is}}
+use Rattle.iref_model.proofs.{PieceLemmas.{some_piece}, StayingLemmas.{TakesLast, staying_before-append, takes_last}}
 use Rattle.iref_model.proofs.StepSegmentLemmas.{in-shortened}
 use Rattle.iref_parse.specs.Dots.{is_slash_dot, is_some_dotted}
 use Rattle.iref_parse.proofs.DotSegmentLemmas.{later_dotless}
-use Rattle.iref_path.proofs.DirectoryLemmas.{around_pieces}
-use Rattle.iref_path.proofs.DotlessLemmas.{dotless_name}
-use Rattle.iref_path.specs.Forward.{forward, last_put, popped_text, segment_put}
-use Rattle.iref_path.specs.MergedPaths.{path_after}
-use Rattle.iref_path.specs.NormalItems.{first_or}
-use Rattle.iref_path.specs.Slashes.{IsLastSlash, LacksSlashFrom}
-use Rattle.iref_path.specs.Spelling.{each_closed}
+use Rattle.iref_path.proofs.{DirectoryLemmas.{around_pieces}, DotlessLemmas.{dotless_name}}
 use Rattle.iref_path.proofs.SlashLemmas.{pieces-cut_last, pieces-uncut, read-absolute, read-relative}
 use Rattle.iref_path.proofs.RewritingLemmas.{join-lone, join-segments, one_last}
 use Rattle.iref_path.proofs.SpellLemmas.{each_closed-append, joined_before, normalized-spelled}
-use Rattle.std.proofs.lemmas.Result.{on_ok_weaker}
+use Rattle.iref_path.specs.{Forward.{forward, last_put, popped_text, segment_put}, MergedPaths.{path_after}}
+use Rattle.iref_path.specs.{NormalItems.{first_or}, Slashes.{IsLastSlash, LacksSlashFrom}, Spelling.{each_closed}}
 
 abbrev absolute_list : List Text → PathValue
 absolute_list segments = record { absolute = true; segments = segments }

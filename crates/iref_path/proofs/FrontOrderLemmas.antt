@@ -1,13 +1,9 @@
 -- Lists of segments that are compared from the front.
-use Rattle.std.proofs.Common.{◌≡◌, List, [], ◌∷◌, ◌++◌, refl, sym, ap, ◌∙◌, arith, Equal}
-use Rattle.std.proofs.lemmas.List.{map-append}
-use Rattle.std.specs.Ordering.{ordering_then}
+use Rattle.std.proofs.{Common.{◌≡◌, List, [], ◌∷◌, ◌++◌, refl, sym, ap, ◌∙◌, arith, Equal}, lemmas.List.{map-append}}
+use Rattle.std.proofs.{lemmas.Map.Text.{is_eq-slice_cmp}, lemmas.Slice.Eq.{bytes_eq-Decides}}
+use Rattle.std.specs.{Ordering.{ordering_then}, Cmp.Lexicographic.{slice_cmp}}
 use Rattle.percent_encoding.specs.Percent.{percent_decode}
-use Rattle.std.proofs.lemmas.Map.Text.{is_eq-slice_cmp}
-use Rattle.std.proofs.lemmas.Slice.Eq.{bytes_eq-Decides}
-use Rattle.std.specs.Cmp.Lexicographic.{slice_cmp}
-use Rattle.iref_grammar.specs.Keys.{text_order}
-use Rattle.iref_grammar.specs.Rules.{Text}
+use Rattle.iref_grammar.specs.{Keys.{text_order}, Rules.{Text}}
 use Rattle.iref_path.specs.Pieces.{ShareFront}
 use Rattle.iref_path.proofs.OrderLemmas.{decoded}
 

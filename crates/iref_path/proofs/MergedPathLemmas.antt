@@ -1,21 +1,12 @@
 -- The names that stay of two lists read as one, from the back.
 use Rattle.std.proofs.Common.{append_assoc, ◌≡◌, ℕ, ◌+◌, ◌*◌, ◌≤◌, Bool, cond, List, [], ◌∷◌, ◌++◌, length, Option, Some, None, arith}
 use Rattle.std.proofs.lemmas.List.{append-nil}
-use Rattle.std.specs.Borrow.{Bor}
-use Rattle.std.specs.Option.{option_or}
-use Rattle.std.specs.Prelude.{◌==◌, codes}
-use Rattle.iref_grammar.specs.Grammar.{slash}
-use Rattle.iref_grammar.specs.Rules.{Text}
-use Rattle.iref_grammar.specs.Texts.{all_but_last}
-use Rattle.iref_grammar.specs.PathValue.{read_path}
-use Rattle.iref_model.specs.NormalList.{ends_in_dots}
-use Rattle.iref_model.specs.NormalReading.{open_before, staying_before}
-use Rattle.iref_model.proofs.PieceLemmas.{some_piece}
-use Rattle.iref_model.proofs.SettledLemmas.{ends-append}
+use Rattle.std.specs.{Borrow.{Bor}, Option.{option_or}, Prelude.{◌==◌, codes}}
+use Rattle.iref_grammar.specs.{Grammar.{slash}, Rules.{Text}, Texts.{all_but_last}, PathValue.{read_path}}
+use Rattle.iref_model.specs.{NormalList.{ends_in_dots}, NormalReading.{open_before, staying_before}}
+use Rattle.iref_model.proofs.{PieceLemmas.{some_piece}, SettledLemmas.{ends-append}}
 use Rattle.iref_model.proofs.StayingLemmas.{open_before-append, staying_before-append}
-use Rattle.iref_path.specs.NormalItems.{first_or}
-use Rattle.iref_path.specs.Pieces.{pieces_if_some}
-use Rattle.iref_path.specs.Spelling.{each_closed}
+use Rattle.iref_path.specs.{NormalItems.{first_or}, Pieces.{pieces_if_some}, Spelling.{each_closed}}
 use Rattle.iref_path.proofs.SpellLemmas.{kept_size, last_size, read_size, size-append, size-cons, size-parents, list_size}
 use Rattle.iref_path.proofs.NormalItemsLemmas.{parts_left, last-parts, length-last, length-parts, all_last, unread-sound}
 use Rattle.iref_path.proofs.RewritingLemmas.{root_is}

@@ -1,30 +1,20 @@
 -- The normal list of segments among which no `..` is.
 use Rattle.std.proofs.Common.{◌≡◌, ◌+◌, ℕ, Bool, true, false, List, [], ◌∷◌, ◌++◌, append_assoc, length, ap, refl, sym, ◌∙◌, arith, Greater, Less}
-use Rattle.std.proofs.lemmas.Bool.Decides.{nat_tests}
-use Rattle.std.proofs.lemmas.List.{map-append}
+use Rattle.std.proofs.{lemmas.Bool.Decides.{nat_tests}, lemmas.List.{map-append}}
 use Rattle.std.proofs.lemmas.List.Splits.{slice_split-cons_no, slice_split-cons_yes}
 use Rattle.std.proofs.lemmas.Slice.Eq.{bytes_eq-Decides}
-use Rattle.std.specs.Cmp.Lexicographic.{slice_cmp}
-use Rattle.std.specs.List.{list_any}
-use Rattle.std.specs.Prelude.{◌==◌, if◌then◌else◌}
-use Rattle.iref_grammar.specs.Grammar.{slash}
-use Rattle.iref_grammar.specs.Keys.{text_order}
-use Rattle.iref_grammar.specs.PathValue.{PathValue}
-use Rattle.iref_grammar.specs.Rules.{Text}
+use Rattle.std.specs.{Cmp.Lexicographic.{slice_cmp}, List.{list_any}, Prelude.{◌==◌, if◌then◌else◌}}
+use Rattle.iref_grammar.specs.{Grammar.{slash}, Keys.{text_order}, PathValue.{PathValue}, Rules.{Text}}
 use Rattle.iref_grammar.specs.Texts.{is_empty, pieces_at}
 use Rattle.iref_model.specs.NormalList.{ends_in_dots, is_dot, is_dot_dot, normal_segments, without_lone_empty}
+use Rattle.iref_model.specs.NormalReading.{closing, leading_parents, open_before, staying_before}
 use Rattle.percent_encoding.specs.Percent.{percent_decode}
 use Rattle.percent_encoding.proofs.PercentLemmas.{length-percent_decode, percent_decode-nil}
 use Rattle.iref_model.proofs.StayingLemmas.{open_before-append, staying_before-append}
-use Rattle.iref_model.specs.NormalReading.{closing, leading_parents, open_before, staying_before}
-use Rattle.iref_model.proofs.ItemLemmas.{normal_segments-is}
-use Rattle.iref_model.proofs.PieceLemmas.{some_piece}
-use Rattle.iref_model.proofs.SettledLemmas.{ends-append}
+use Rattle.iref_model.proofs.{ItemLemmas.{normal_segments-is}, PieceLemmas.{some_piece}, SettledLemmas.{ends-append}}
 use Rattle.iref_parse.specs.Dots.{begins_with, has_dot_pair, is_some_dotted}
-use Rattle.iref_path.specs.Named.{named}
-use Rattle.iref_path.specs.Pieces.{ShareFront}
-use Rattle.iref_path.proofs.DotlessLemmas.{dotless_name}
-use Rattle.iref_path.proofs.FrontOrderLemmas.{same_order}
+use Rattle.iref_path.specs.{Named.{named}, Pieces.{ShareFront}}
+use Rattle.iref_path.proofs.{DotlessLemmas.{dotless_name}, FrontOrderLemmas.{same_order}}
 use Rattle.iref_path.proofs.OrderLemmas.{decoded, flags_decide, lists_decide}
 
 -- ---- the list

@@ -1,16 +1,11 @@
 -- Lists that are compared from the back.
 use Rattle.std.proofs.Common.{length-append, ◌≡◌, ℕ, ◌-◌, List, [], ◌∷◌, ◌++◌, length, take, map, arith, true, false, Ordering}
-use Rattle.std.proofs.lemmas.List.{map-append, take_min, length-map, take-map}
-use Rattle.std.proofs.lemmas.Bool.Decides.{nat_tests}
+use Rattle.std.proofs.{lemmas.List.{map-append, take_min, length-map, take-map}, lemmas.Bool.Decides.{nat_tests}}
 use Rattle.std.proofs.lemmas.Grind.{common_steps}
-use Rattle.std.specs.Ordering.{bool_cmp, is_ne, nat_cmp, ordering_then}
-use Rattle.std.specs.Cmp.Lexicographic.{slice_cmp}
-use Rattle.iref_grammar.specs.Keys.{text_order}
+use Rattle.std.specs.{Ordering.{bool_cmp, is_ne, nat_cmp, ordering_then}, Cmp.Lexicographic.{slice_cmp}}
+use Rattle.iref_grammar.specs.{Keys.{text_order}, Rules.{Text}, PathValue.{PathValue}}
 use Rattle.percent_encoding.specs.Percent.{percent_decode}
-use Rattle.iref_grammar.specs.Rules.{Text}
-use Rattle.iref_grammar.specs.PathValue.{PathValue}
-use Rattle.iref_model.specs.NormalList.{normal_segments}
-use Rattle.iref_model.specs.PathKey.{path_key, path_key_cmp}
+use Rattle.iref_model.specs.{NormalList.{normal_segments}, PathKey.{path_key, path_key_cmp}}
 
 -- ---- the foremost difference decides
 

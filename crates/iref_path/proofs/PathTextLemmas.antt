@@ -1,27 +1,18 @@
 -- What the first and the last delimiters of a path say of it.
 use Rattle.std.proofs.Common.{◌≡◌, ℕ, ◌+◌, ◌<◌, true, false, not, ◌||◌, [], ◌∷◌, ◌++◌, length, get_or, take, drop-cons, refl, sym, ◌∙◌, arith}
-use Rattle.std.proofs.lemmas.Bool.Decides.{eqb_tells, nat_tests}
-use Rattle.std.proofs.lemmas.Grind.{common_steps}
+use Rattle.std.proofs.{lemmas.Bool.Decides.{eqb_tells, nat_tests}, lemmas.Grind.{common_steps}}
+use Rattle.std.proofs.{lemmas.List.{take-append-drop, take_more}, lemmas.List.Elements.{All-head}}
+use Rattle.std.proofs.{lemmas.List.Sums.{suffix_len_is}, lemmas.Str.Pattern.{rfind_char}}
 use Rattle.std.specs.Prelude.{◌==◌, ◌≢◌, Some, None, codes}
-use Rattle.std.proofs.lemmas.List.{take-append-drop, take_more}
-use Rattle.std.proofs.lemmas.List.Elements.{All-head}
-use Rattle.std.proofs.lemmas.List.Sums.{suffix_len_is}
 use mathlib.Core.Bool.{true≢false}
-use Rattle.iref_grammar.specs.Characters.{CharTests, AreAboveAscii}
-use Rattle.iref_grammar.specs.Rules.{Text}
-use Rattle.iref_grammar.specs.Grammar.{slash}
-use Rattle.iref_grammar.specs.Texts.{is_empty}
-use Rattle.iref_grammar.specs.PathValue.{PathValue, read_path}
-use Rattle.iref_grammar.specs.Tests.{is_path}
+use Rattle.iref_grammar.specs.{Characters.{CharTests, AreAboveAscii}, Rules.{Text}, Grammar.{slash}, Texts.{is_empty}}
+use Rattle.iref_grammar.specs.{PathValue.{PathValue, read_path}, Tests.{is_path}}
 use Rattle.iref_grammar.proofs.PathLemmas.{read_path-reads}
-use Rattle.iref_model.specs.Guard.{guarded_list}
-use Rattle.iref_model.specs.PathFunctions.{directory_text, parent}
+use Rattle.iref_model.specs.{Guard.{guarded_list}, PathFunctions.{directory_text, parent}}
 use Rattle.iref_model.proofs.PieceLemmas.{pieces-append, some_piece}
-use Rattle.iref_path.proofs.SlashLemmas.{LacksSlash, pieces-whole, lacks_if_none, cut_last}
 use Rattle.iref_model.proofs.PathGrammarLemmas.{path_parts, path_joined, is_path_empty, is_path-root, is_path-guard}
-use Rattle.iref_model.proofs.DirectoryLemmas.{all_but_last-snoc}
-use Rattle.iref_model.proofs.FitsLemmas.{is_empty-snoc}
-use Rattle.std.proofs.lemmas.Str.Pattern.{rfind_char}
+use Rattle.iref_model.proofs.{DirectoryLemmas.{all_but_last-snoc}, FitsLemmas.{is_empty-snoc}}
+use Rattle.iref_path.proofs.SlashLemmas.{LacksSlash, pieces-whole, lacks_if_none, cut_last}
 
 -- ---- the directory
 

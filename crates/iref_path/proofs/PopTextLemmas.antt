@@ -1,28 +1,19 @@
 -- The texts that a pop leaves.
 use Rattle.std.proofs.Common.{append_assoc, ◌≡◌, ℕ, Bool, true, false, cond, List, [], ◌∷◌, ◌++◌, length, take, refl, sym, arith, ◌+◌}
-use Rattle.std.proofs.lemmas.List.{append-nil}
+use Rattle.std.proofs.{lemmas.List.{append-nil}, lemmas.Str.{IsCharBoundary-end}}
 use mathlib.Core.Bool.{true≢false}
 use mir.Val.{bool_byte}
-use Rattle.std.specs.Prelude.{◌==◌, codes, Option, Some, None}
-use Rattle.std.specs.Borrow.{Bor}
-use Rattle.iref_grammar.specs.declared.context.PathContext.{PathContext}
-use Rattle.iref_grammar.specs.Rules.{Text}
-use Rattle.iref_grammar.specs.Grammar.{slash}
+use Rattle.std.specs.{Prelude.{◌==◌, codes, Option, Some, None}, Borrow.{Bor}}
+use Rattle.iref_grammar.specs.{declared.context.PathContext.{PathContext}, Rules.{Text}, Grammar.{slash}}
 use Rattle.iref_grammar.specs.Texts.{is_empty, pieces_at}
 use Rattle.iref_grammar.specs.PathValue.{PathValue, read_path, spell_path, shows_its_list}
-use Rattle.iref_grammar.proofs.TextLemmas.{join-pieces_at}
-use Rattle.iref_grammar.proofs.PathLemmas.{read_path-reads}
-use Rattle.iref_model.specs.Guard.{guarded, guarded_list}
-use Rattle.iref_model.specs.NormalList.{is_dot, is_dot_dot}
+use Rattle.iref_grammar.proofs.{TextLemmas.{join-pieces_at}, PathLemmas.{read_path-reads}}
+use Rattle.iref_model.specs.{Guard.{guarded, guarded_list}, NormalList.{is_dot, is_dot_dot}}
 use Rattle.iref_model.specs.PathSteps.{lazy_pushed, ends_in_parent, popped, closed_path, followed, pushed}
-use Rattle.iref_model.proofs.DirectoryLemmas.{all_but_last-snoc}
-use Rattle.iref_model.proofs.FitsLemmas.{is_empty-snoc}
-use Rattle.iref_model.proofs.PieceLemmas.{some_piece}
-use Rattle.iref_path.specs.Pieces.{pieces_if_some}
-use Rattle.iref_path.specs.StepTexts.{closed_by}
+use Rattle.iref_model.proofs.{DirectoryLemmas.{all_but_last-snoc}, FitsLemmas.{is_empty-snoc}, PieceLemmas.{some_piece}}
+use Rattle.iref_path.specs.{Pieces.{pieces_if_some}, StepTexts.{closed_by}}
 use Rattle.iref_path.proofs.StepTextLemmas.{IsCut, cut_at_slash, join-snoc, root_text, put_to_end, same_text, to_end}
 use Rattle.iref_path.proofs.StepValueLemmas.{steps_as, steps_by, followed-step}
-use Rattle.std.proofs.lemmas.Str.{IsCharBoundary-end}
 
 abbrev path_with : Bool → List Text → PathValue
 path_with absolute segments = record { absolute = absolute; segments = segments }

@@ -1,18 +1,11 @@
 -- The steps from one text of segments to another: what both begin with does not count.
 use Rattle.std.proofs.Common.{length-append, ◌≡◌, ℕ, ◌+◌, ◌*◌, ◌<◌, true, false, List, [], ◌∷◌, ◌++◌, length, refl, arith, append_assoc}
-use Rattle.std.proofs.lemmas.Bool.Decides.{nat_tests}
-use Rattle.std.specs.Prelude.{◌==◌, Bool, codes, count_by, replicate}
-use Rattle.std.specs.List.{common_prefix_len, join_with_byte}
-use Rattle.std.proofs.lemmas.List.Splits.{length-slice_split}
-use Rattle.iref_grammar.specs.Rules.{Text}
-use Rattle.iref_grammar.specs.Grammar.{slash}
-use Rattle.iref_grammar.specs.Texts.{all_but_last, pieces_at}
+use Rattle.std.proofs.{lemmas.Bool.Decides.{nat_tests}, lemmas.List.Splits.{length-slice_split}}
+use Rattle.std.specs.{Prelude.{◌==◌, Bool, codes, count_by, replicate}, List.{common_prefix_len, join_with_byte}}
+use Rattle.iref_grammar.specs.{Rules.{Text}, Grammar.{slash}, Texts.{all_but_last, pieces_at}}
 use Rattle.iref_grammar.proofs.TextLemmas.{join-pieces_at}
-use Rattle.iref_model.proofs.LeadingLemmas.{divided_last}
-use Rattle.iref_model.proofs.PieceLemmas.{some_piece}
-use Rattle.iref_path.specs.Bodies.{parents_then}
-use Rattle.iref_path.specs.Spelling.{each_closed}
-use Rattle.iref_path.specs.StepsBetween.{steps_with, text_steps_with}
+use Rattle.iref_model.proofs.{LeadingLemmas.{divided_last}, PieceLemmas.{some_piece}}
+use Rattle.iref_path.specs.{Bodies.{parents_then}, Spelling.{each_closed}, StepsBetween.{steps_with, text_steps_with}}
 use Rattle.iref_path.proofs.SpellLemmas.{length-joined, size-append, size-parents, length-join}
 
 module _ (same : Text → Text → Bool) where

@@ -1,28 +1,20 @@
 -- A path that is rewritten over its own bytes.
 use Rattle.std.proofs.Common.{◌≡◌, ℕ, ◌+◌, ◌-◌, ◌<◌, ◌≤◌, Bool, true, false, cond, ◌&&◌, List, [], ◌∷◌, ◌++◌, length, take, drop, refl, sym, ap, append_assoc, length-take, arith, rules}
-use Rattle.std.specs.Prelude.{◌==◌, slice_range, slice_set, codes}
+use Rattle.std.proofs.{lemmas.Bool.Decides.{nat_tests}, lemmas.Grind.{common_steps}}
+use Rattle.std.proofs.lemmas.List.{drop-take, drop_all, take_all, take_rest, take-take, places, same_lists, drop-set, length-set}
+use Rattle.std.specs.{Prelude.{◌==◌, slice_range, slice_set, codes}, List.{join_with_byte, copy_within, splice}}
 use mathlib.Core.Bool.{true≢false}
 use mir.Val.{bool_byte}
 use borrow.Rule.Slice.PartMut.{put_mid}
-use Rattle.std.specs.List.{join_with_byte, copy_within, splice}
-use Rattle.std.proofs.lemmas.Bool.Decides.{nat_tests}
-use Rattle.std.proofs.lemmas.Grind.{common_steps}
-use Rattle.std.proofs.lemmas.List.{drop-take, drop_all, take_all, take_rest, take-take, places, same_lists, drop-set, length-set}
 use Rattle.memchr.specs.Find.{NoneAfter, Passes, is_byte}
-use Rattle.iref_grammar.specs.Rules.{Text}
-use Rattle.iref_grammar.specs.Grammar.{slash}
-use Rattle.iref_grammar.specs.Texts.{pieces_at}
-use Rattle.iref_grammar.specs.PathValue.{read_path, segments_of}
+use Rattle.iref_grammar.specs.{Rules.{Text}, Grammar.{slash}, Texts.{pieces_at}, PathValue.{read_path, segments_of}}
 use Rattle.iref_model.specs.NormalList.{is_name, ends_in_dots, normal_segments, without_lone_empty}
 use Rattle.iref_model.specs.NormalReading.{items, open_before, staying_before, leading_parents, closing}
 use Rattle.iref_model.proofs.ItemLemmas.{ends-last, normal_segments-is}
 use Rattle.iref_model.proofs.StayingLemmas.{open_before-append, staying_before-append}
-use Rattle.iref_path.specs.Rewriting.{pieces_before}
-use Rattle.iref_path.specs.Slashes.{IsLastSlash}
-use Rattle.iref_path.specs.Spelling.{each_closed}
+use Rattle.iref_path.specs.{Rewriting.{pieces_before}, Slashes.{IsLastSlash}, Spelling.{each_closed}}
 use Rattle.iref_path.proofs.SlashLemmas.{pieces-cut_last, read-absolute, read-relative, lacks_by_index, pieces-whole}
-use Rattle.iref_path.proofs.SpellLemmas.{each_closed-append, joined_before}
-use Rattle.iref_path.proofs.WrittenLemmas.{to_end}
+use Rattle.iref_path.proofs.{SpellLemmas.{each_closed-append, joined_before}, WrittenLemmas.{to_end}}
 
 -- the segments before an index depend on the text before it alone
 pub pieces_before-same : (new old : Text) (index : ℕ) → take index new ≡ take index old → pieces_before new index ≡ pieces_before old index

@@ -1,24 +1,16 @@
 -- A path's text that is compared with the text of its normalized path.
 use Rattle.std.proofs.Common.{◌≡◌, true, false, List, [], ◌∷◌, ◌++◌, Option, Some, refl, sym, ◌∙◌, ap, arith, append_assoc}
 use Rattle.std.proofs.lemmas.Slice.Eq.{bytes_eq-Decides}
-use Rattle.std.specs.Prelude.{bytes_eq}
-use Rattle.std.specs.List.{join_with_byte}
-use Rattle.iref_grammar.specs.declared.context.PathContext.{PathContext}
-use Rattle.iref_grammar.specs.Rules.{Text}
-use Rattle.iref_grammar.specs.Grammar.{slash}
-use Rattle.iref_grammar.specs.Contexts.{fits}
-use Rattle.iref_grammar.specs.PathValue.{read_path, segments_of, spell_path}
+use Rattle.std.specs.{Prelude.{bytes_eq}, List.{join_with_byte}}
+use Rattle.iref_grammar.specs.{declared.context.PathContext.{PathContext}, Rules.{Text}, Grammar.{slash}}
+use Rattle.iref_grammar.specs.{Contexts.{fits}, PathValue.{read_path, segments_of, spell_path}}
 use Rattle.iref_grammar.proofs.PathLemmas.{read_path-reads}
-use Rattle.iref_model.specs.Guard.{guarded}
-use Rattle.iref_model.specs.NormalList.{normal, normal_segments}
-use Rattle.iref_model.specs.PathSteps.{normalized}
+use Rattle.iref_model.specs.{Guard.{guarded}, NormalList.{normal, normal_segments}, PathSteps.{normalized}}
 use Rattle.iref_parse.specs.Dots.{has_dot_segment, is_some_dotted}
-use Rattle.iref_splice.specs.Backward.{compared_after, is_all}
-use Rattle.iref_splice.specs.BackwardLaws.{all-compared, compared-both}
+use Rattle.iref_splice.specs.{Backward.{compared_after, is_all}, BackwardLaws.{all-compared, compared-both}}
 use Rattle.iref_model.proofs.AddedLemmas.{guarded-same}
 use Rattle.iref_path.specs.Spelling.{each_closed}
-use Rattle.iref_path.proofs.DotlessLemmas.{normal_segments-dotless}
-use Rattle.iref_path.proofs.SpellLemmas.{each_closed-append, joined_before}
+use Rattle.iref_path.proofs.{DotlessLemmas.{normal_segments-dotless}, SpellLemmas.{each_closed-append, joined_before}}
 
 -- ---- the items, compared one by one
 

@@ -2,8 +2,7 @@
 use Rattle.std.proofs.Common.{◌≡◌, ℕ, ◌+◌, ◌-◌, ◌≤◌, List, [], ◌∷◌, ◌++◌, ap, arith, drop, length, length-append, sym, take, ◌∙◌}
 use Rattle.std.proofs.lemmas.List.{drop-drop, drop-take, length-take-le, take-append-drop, take-append-le, take_at}
 use Rattle.iref_grammar.specs.Rules.{Text}
-use Rattle.iref_path.specs.Spelling.{each_closed}
-use Rattle.iref_path.specs.StepsBetween.{last_ones}
+use Rattle.iref_path.specs.{Spelling.{each_closed}, StepsBetween.{last_ones}}
 use Rattle.iref_path.proofs.SpellLemmas.{each_closed-append}
 
 -- one more of the last items goes

@@ -1,38 +1,23 @@
 -- The text of a normal path: what it is made of, and how long it is.
 use Rattle.std.proofs.Common.{append_assoc, length-append, ◌≡◌, ℕ, zero, suc, ◌+◌, ◌-◌, ◌<◌, ◌≤◌, Bool, true, false, ◌||◌, List, [], ◌∷◌, ◌++◌, length, refl, sym, ◌∙◌, ap, arith}
-use Rattle.std.proofs.lemmas.Grind.{flat_map-append}
-use Rattle.std.specs.Prelude.{◌==◌, replicate, codes, IsUtf8}
-use Rattle.std.specs.Char.{char_set_contains}
+use Rattle.std.proofs.{lemmas.Grind.{flat_map-append}, lemmas.Bool.Decides.{nat_tests}, lemmas.List.{append-nil}}
+use Rattle.std.proofs.{lemmas.Slice.Eq.{bytes_eq-Decides}, lemmas.Str.{IsUtf8-from_is_utf8}}
+use Rattle.std.specs.{Prelude.{◌==◌, replicate, codes, IsUtf8}, Char.{char_set_contains}}
 use Rattle.std.specs.List.{join_with_byte, list_all, list_any}
-use Rattle.std.proofs.lemmas.Bool.Decides.{nat_tests}
-use Rattle.std.proofs.lemmas.List.{append-nil}
-use Rattle.std.proofs.lemmas.Slice.Eq.{bytes_eq-Decides}
-use Rattle.std.proofs.lemmas.Str.{IsUtf8-from_is_utf8}
-use Rattle.iref_grammar.specs.Characters.{CharTests, AreAboveAscii}
-use Rattle.iref_grammar.specs.Rules.{Text}
-use Rattle.iref_grammar.specs.Grammar.{slash}
-use Rattle.iref_grammar.specs.Texts.{all_but_last, lacks}
-use Rattle.iref_grammar.specs.Tests.{is_path, is_segment}
-use Rattle.iref_grammar.specs.declared.context.PathContext.{PathContext}
-use Rattle.iref_grammar.specs.Contexts.{alone, is_path_in}
+use Rattle.iref_grammar.specs.{Characters.{CharTests, AreAboveAscii}, Rules.{Text}, Grammar.{slash}}
+use Rattle.iref_grammar.specs.{Texts.{all_but_last, lacks}, Tests.{is_path, is_segment}}
+use Rattle.iref_grammar.specs.{declared.context.PathContext.{PathContext}, Contexts.{alone, is_path_in}}
 use Rattle.iref_grammar.specs.PathValue.{PathValue, is_one_empty, read_path, segments_of, spell_path}
-use Rattle.iref_grammar.proofs.TextLemmas.{join-pieces_at}
-use Rattle.iref_grammar.proofs.PathLemmas.{read_path-reads, read-spelled}
+use Rattle.iref_grammar.proofs.{TextLemmas.{join-pieces_at}, PathLemmas.{read_path-reads, read-spelled}}
 use Rattle.iref_grammar.proofs.PathTestLemmas.{is_path-segments}
-use Rattle.iref_model.specs.Guard.{guarded}
-use Rattle.iref_model.specs.NormalList.{normal_segments}
-use Rattle.iref_model.specs.NormalReading.{open_before, staying_before}
+use Rattle.iref_model.specs.{Guard.{guarded}, NormalList.{normal_segments}, NormalReading.{open_before, staying_before}}
 use Rattle.iref_model.specs.PathSteps.{normalized}
-use Rattle.iref_path.specs.PathParts.{is_path_after}
-use Rattle.iref_path.specs.NormalItems.{first_or, flagged_path}
+use Rattle.iref_path.specs.{PathParts.{is_path_after}, NormalItems.{first_or, flagged_path}}
 use Rattle.iref_path.specs.Spelling.{each_closed, guard, guard_in, normal_in}
-use Rattle.iref_model.proofs.GuardLemmas.{guarded-fits}
-use Rattle.iref_model.proofs.PieceLemmas.{some_piece}
-use Rattle.iref_model.proofs.ItemLemmas.{name_no_parent, normal_segments-is}
-use Rattle.iref_model.proofs.NormalGrammarLemmas.{takes_dots}
+use Rattle.iref_model.proofs.{GuardLemmas.{guarded-fits}, PieceLemmas.{some_piece}}
+use Rattle.iref_model.proofs.{ItemLemmas.{name_no_parent, normal_segments-is}, NormalGrammarLemmas.{takes_dots}}
 use Rattle.iref_model.proofs.StepSegmentLemmas.{TakesDots, guarded-in, normal-in}
-use Rattle.iref_model.proofs.PathGrammarLemmas.{segments_of_path}
-use Rattle.iref_model.proofs.RewritingLemmas.{not_lone}
+use Rattle.iref_model.proofs.{PathGrammarLemmas.{segments_of_path}, RewritingLemmas.{not_lone}}
 
 -- ---- segments with a `/` after each
 

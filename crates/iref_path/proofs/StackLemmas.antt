@@ -1,18 +1,12 @@
 -- A normal list that is put on a stack from its end.
 use Rattle.std.proofs.Common.{◌≡◌, ℕ, ◌+◌, ◌<◌, Bool, List, [], ◌∷◌, ◌++◌, length, map, reverse, drop, get_or, ◌∙◌, ap, append_assoc}
-use Rattle.std.specs.Prelude.{replicate, codes}
-use Rattle.std.specs.Borrow.{Bor}
-use Rattle.std.specs.List.{join_with_byte}
 use Rattle.std.proofs.lemmas.List.{at_drop_more, map-append, reverse-append}
-use Rattle.iref_grammar.specs.Grammar.{slash}
-use Rattle.iref_grammar.specs.Rules.{Text}
+use Rattle.std.specs.{Prelude.{replicate, codes}, Borrow.{Bor}, List.{join_with_byte}}
+use Rattle.iref_grammar.specs.{Grammar.{slash}, Rules.{Text}}
 use Rattle.iref_model.specs.NormalReading.{closing}
-use Rattle.iref_path.specs.Spelling.{each_closed}
-use Rattle.iref_path.specs.Pieces.{text_at}
-use Rattle.iref_path.specs.Stacks.{Completes, in_order}
+use Rattle.iref_path.specs.{Spelling.{each_closed}, Pieces.{text_at}, Stacks.{Completes, in_order}}
 use Rattle.iref_path.specs.declared.normal_items.stack.Stack.{Stack}
-use Rattle.iref_path.proofs.NormalItemsLemmas.{parts_left}
-use Rattle.iref_path.proofs.SpellLemmas.{closed_last, joined_last}
+use Rattle.iref_path.proofs.{NormalItemsLemmas.{parts_left}, SpellLemmas.{closed_last, joined_last}}
 
 -- the three parts, one after the other
 pub parts_put : (none closed named all : Stack) (parents : ℕ) (names : List Text) (closes : Bool)

@@ -1,25 +1,18 @@
 -- The texts that the steps of a path leave.
 use Rattle.std.proofs.Common.{◌≡◌, ℕ, Bool, true, false, cond, ◌||◌, List, [], ◌∷◌, ◌++◌, length, take, refl, sym, ap, subst, ◌∙◌, append_assoc, arith, length-append, IsUtf8}
-use mathlib.Core.Bool.{true≢false}
-use mir.Val.{bool_byte}
-use Rattle.std.specs.List.{join_with_byte, splice}
-use Rattle.std.proofs.lemmas.Grind.{common_steps}
-use Rattle.std.proofs.lemmas.List.{append-nil, drop_all, take_all, take_at}
+use Rattle.std.proofs.{lemmas.Grind.{common_steps}, lemmas.List.{append-nil, drop_all, take_all, take_at}}
 use Rattle.std.proofs.Math.Seq.{get_or-append_seam}
-use Rattle.std.specs.Str.{IsCharBoundary}
 use Rattle.std.proofs.lemmas.Str.{IsCharBoundary-end, IsCharBoundary-start, IsCharBoundary-before_ascii, IsCharBoundary-after_ascii}
 use Rattle.std.proofs.lemmas.Bool.Decides.{nat_tests}
-use Rattle.iref_grammar.specs.declared.context.PathContext.{PathContext}
-use Rattle.iref_grammar.specs.Rules.{Text}
-use Rattle.iref_grammar.specs.Grammar.{slash}
-use Rattle.iref_grammar.specs.Texts.{is_empty}
-use Rattle.iref_grammar.specs.PathValue.{PathValue, read_path, spell_path}
+use mathlib.Core.Bool.{true≢false}
+use mir.Val.{bool_byte}
+use Rattle.std.specs.{List.{join_with_byte, splice}, Str.{IsCharBoundary}}
+use Rattle.iref_grammar.specs.{declared.context.PathContext.{PathContext}, Rules.{Text}, Grammar.{slash}}
+use Rattle.iref_grammar.specs.{Texts.{is_empty}, PathValue.{PathValue, read_path, spell_path}}
 use Rattle.iref_grammar.proofs.PathLemmas.{read_path-reads}
-use Rattle.iref_model.specs.Guard.{guarded}
-use Rattle.iref_model.specs.PathSteps.{lazy_pushed, closed_path}
+use Rattle.iref_model.specs.{Guard.{guarded}, PathSteps.{lazy_pushed, closed_path}}
 use Rattle.iref_splice.specs.Changes.{IsWithin}
-use Rattle.iref_path.specs.Spelling.{first_needs_guard, guard}
-use Rattle.iref_path.specs.StepTexts.{closed_by}
+use Rattle.iref_path.specs.{Spelling.{first_needs_guard, guard}, StepTexts.{closed_by}}
 
 -- before a first segment that is pushed
 abbrev pub pushed_guard : PathContext → Bool → Text → Text

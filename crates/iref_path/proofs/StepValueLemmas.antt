@@ -1,27 +1,19 @@
 -- The steps of a path keep what the text of a path has.
 use Rattle.std.proofs.Common.{arith, ◌≡◌, Bool, true, ◌||◌, [], ◌∷◌, refl, sym, subst, ◌∙◌, ap}
-use Rattle.std.proofs.lemmas.Grind.{common_steps}
-use Rattle.std.proofs.lemmas.Bool.{and_from, and_parts}
+use Rattle.std.proofs.{lemmas.Grind.{common_steps}, lemmas.Bool.{and_from, and_parts}}
 use Rattle.std.specs.List.{list_all}
-use Rattle.iref_grammar.specs.declared.context.PathContext.{PathContext}
-use Rattle.iref_grammar.specs.Characters.{CharTests, AreAboveAscii}
-use Rattle.iref_grammar.specs.Rules.{Text}
-use Rattle.iref_grammar.specs.Grammar.{slash}
-use Rattle.iref_grammar.specs.Tests.{is_segment, is_path}
+use Rattle.iref_grammar.specs.{declared.context.PathContext.{PathContext}, Characters.{CharTests, AreAboveAscii}}
+use Rattle.iref_grammar.specs.{Rules.{Text}, Grammar.{slash}, Tests.{is_segment, is_path}}
 use Rattle.iref_grammar.specs.PathValue.{PathValue, read_path, spell_path, shows_its_list}
 use Rattle.iref_grammar.specs.Contexts.{fits, follows_authority, is_readable_path}
 use Rattle.iref_grammar.proofs.ComponentLackLemmas.{slash_cuts, segments_lack}
-use Rattle.iref_grammar.proofs.PathLemmas.{read-spelled, read_path-reads}
-use Rattle.iref_grammar.proofs.PathTestLemmas.{is_path-segments}
-use Rattle.iref_model.specs.Guard.{guarded}
-use Rattle.iref_model.specs.PathSteps.{lazy_pushed, popped, closed_path, followed, pushed, cleared}
+use Rattle.iref_grammar.proofs.{PathLemmas.{read-spelled, read_path-reads}, PathTestLemmas.{is_path-segments}}
+use Rattle.iref_model.specs.{Guard.{guarded}, PathSteps.{lazy_pushed, popped, closed_path, followed, pushed, cleared}}
 use Rattle.iref_model.proofs.GuardLemmas.{guarded-fits, guarded_list-shows}
 use Rattle.iref_model.proofs.FitsLemmas.{is_empty-snoc, lazy_pushed-fits, popped-fits, closed_path-fits, followed-fits, pushed-fits, cleared-fits}
-use Rattle.iref_model.proofs.PathGrammarLemmas.{segments_of_path}
-use Rattle.iref_model.proofs.NormalGrammarLemmas.{takes_dots}
+use Rattle.iref_model.proofs.{PathGrammarLemmas.{segments_of_path}, NormalGrammarLemmas.{takes_dots}}
 use Rattle.iref_model.proofs.StepSegmentLemmas.{guarded-in, lazy_pushed-in, popped-in, closed_path-in, followed-in, pushed-in}
-use Rattle.iref_splice.specs.Changes.{IsWithin, changed}
-use Rattle.iref_splice.specs.declared.change.Change.{Change}
+use Rattle.iref_splice.specs.{Changes.{IsWithin, changed}, declared.change.Change.{Change}}
 use Rattle.iref_path.specs.PathParts.{is_path_after, StepsBy, StepsTo}
 
 -- what a step keeps

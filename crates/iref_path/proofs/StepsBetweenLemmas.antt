@@ -1,21 +1,14 @@
 -- The way from the directory of one path to another, up to their common beginning and down.
 use Rattle.std.proofs.Common.{◌≡◌, ◌∙◌, ap, refl, Bool, ◌+◌, ◌-◌, ◌*◌, ◌<◌, ◌≤◌, List, [], ◌∷◌, length, sym, take, arith, length-append}
-use Rattle.std.proofs.lemmas.List.{take_at, drop-append-le}
-use Rattle.std.specs.List.{common_prefix_len}
-use Rattle.iref_grammar.specs.Rules.{Text}
-use Rattle.iref_grammar.specs.Texts.{all_but_last}
-use Rattle.iref_model.specs.PathSuffix.{same_decoded}
-use Rattle.iref_model.specs.NormalList.{count_parents}
-use Rattle.iref_model.specs.Relative.{last_or_empty, steps_between}
+use Rattle.std.proofs.{lemmas.List.{take_at, drop-append-le}, lemmas.List.Sums.{common_prefix_len-le}}
+use Rattle.std.specs.{List.{common_prefix_len}, Prelude.{bytes_eq}}
+use Rattle.iref_grammar.specs.{Rules.{Text}, Texts.{all_but_last}}
+use Rattle.iref_model.specs.{PathSuffix.{same_decoded}, NormalList.{count_parents}}
+use Rattle.iref_model.specs.{Relative.{last_or_empty, steps_between}, Relativized.{steps_by_text}}
 use Rattle.iref_model.proofs.LeadingLemmas.{divided_last}
-use Rattle.iref_path.specs.Spelling.{each_closed}
-use Rattle.iref_path.specs.StepsBetween.{steps_with, with_last}
-use Rattle.std.specs.Prelude.{bytes_eq}
-use Rattle.iref_model.specs.Relativized.{steps_by_text}
+use Rattle.iref_path.specs.{Spelling.{each_closed}, StepsBetween.{steps_with, with_last}}
 use Rattle.iref_path.proofs.SpellLemmas.{last_size, size-append, size-parents, relative-spelled, list_size, normal_size-text}
-use Rattle.iref_path.proofs.SuffixLemmas.{size-drop}
-use Rattle.iref_path.proofs.RelativeStepLemmas.{up-joined, up-size}
-use Rattle.std.proofs.lemmas.List.Sums.{common_prefix_len-le}
+use Rattle.iref_path.proofs.{SuffixLemmas.{size-drop}, RelativeStepLemmas.{up-joined, up-size}}
 
 -- ---- all items but the last
 

@@ -1,25 +1,17 @@
 -- What is left of a path after a prefix: where it is there, and that it is a path.
 use Rattle.std.proofs.Common.{◌≡◌, ℕ, ◌≤◌, true, false, List, [], ◌∷◌, length, take, drop, refl, ap, arith}
-use Rattle.std.specs.Prelude.{◌==◌, Some}
-use Rattle.std.specs.List.{common_prefix_len}
-use Rattle.std.proofs.lemmas.Bool.Decides.{nat_tests}
-use Rattle.std.proofs.lemmas.List.{take-append-drop}
-use Rattle.iref_grammar.specs.Characters.{CharTests, AreAboveAscii}
-use Rattle.iref_grammar.specs.Contexts.{alone}
-use Rattle.iref_grammar.specs.PathValue.{PathValue, read_path, spell_path}
-use Rattle.iref_grammar.specs.Rules.{Text}
-use Rattle.iref_grammar.specs.Grammar.{slash}
-use Rattle.iref_grammar.specs.Tests.{is_path, is_segment}
-use Rattle.iref_grammar.specs.Texts.{lacks}
+use Rattle.std.proofs.{lemmas.Bool.Decides.{nat_tests}, lemmas.List.{take-append-drop}}
+use Rattle.std.proofs.lemmas.List.Sums.{common_prefix_len-le}
+use Rattle.std.specs.{Prelude.{◌==◌, Some}, List.{common_prefix_len}}
+use Rattle.iref_grammar.specs.{Characters.{CharTests, AreAboveAscii}, Contexts.{alone}}
+use Rattle.iref_grammar.specs.{PathValue.{PathValue, read_path, spell_path}, Rules.{Text}, Grammar.{slash}}
+use Rattle.iref_grammar.specs.{Tests.{is_path, is_segment}, Texts.{lacks}}
 use Rattle.iref_grammar.proofs.PathLemmas.{read_path-reads}
-use Rattle.iref_model.specs.NormalList.{normal_segments}
-use Rattle.iref_model.specs.PathSuffix.{is_decoded_beginning, path_suffix, same_decoded}
-use Rattle.iref_model.proofs.LeadingLemmas.{all_drop}
-use Rattle.iref_model.proofs.NormalGrammarLemmas.{normal_in_grammar}
+use Rattle.iref_model.specs.{NormalList.{normal_segments}, PathSuffix.{is_decoded_beginning, path_suffix, same_decoded}}
+use Rattle.iref_model.proofs.{LeadingLemmas.{all_drop}, NormalGrammarLemmas.{normal_in_grammar}}
 use Rattle.iref_model.proofs.StepSegmentLemmas.{normal-in}
 use Rattle.iref_path.specs.Spelling.{each_closed}
 use Rattle.iref_path.proofs.SpellLemmas.{guarded-in_context, guarded-read, lacks_dots, size-append, normal_size-text}
-use Rattle.std.proofs.lemmas.List.Sums.{common_prefix_len-le}
 
 -- a list is a beginning exactly where the common beginning is all of it
 pub beginning-is : (xs ys : List Text) → is_decoded_beginning xs ys ≡ (common_prefix_len same_decoded xs ys == length xs)

@@ -1,30 +1,18 @@
 -- The steps from one text of segments to another, whose names are compared as they stand.
 use Rattle.std.proofs.Common.{◌≡◌, ◌≢◌, ℕ, zero, suc, ◌+◌, Bool, true, false, not, cond, ◌&&◌, ◌||◌, List, [], ◌∷◌, ◌++◌, refl, sym, ◌∙◌, ap, arith, append_assoc}
-use Rattle.std.proofs.lemmas.Grind.{common_steps}
-use Rattle.std.proofs.lemmas.Bool.Decides.{nat_tests}
-use Rattle.std.proofs.lemmas.List.{append-nil}
+use Rattle.std.proofs.{lemmas.Grind.{common_steps}, lemmas.Bool.Decides.{nat_tests}, lemmas.List.{append-nil}}
 use Rattle.std.specs.Prelude.{codes, nat_le, replicate}
-use Rattle.iref_grammar.specs.Rules.{Text}
-use Rattle.iref_grammar.specs.Grammar.{slash}
-use Rattle.iref_grammar.specs.Texts.{all_but_last, is_empty, pieces_at}
-use Rattle.iref_grammar.specs.PathValue.{PathValue, is_one_empty, segments_of}
+use Rattle.iref_grammar.specs.{Rules.{Text}, Grammar.{slash}, Texts.{all_but_last, is_empty, pieces_at}}
+use Rattle.iref_grammar.specs.{PathValue.{PathValue, is_one_empty, segments_of}, Contexts.{alone}}
 use Rattle.iref_grammar.proofs.TextLemmas.{join-pieces_at}
-use Rattle.iref_model.specs.NormalList.{count_parents, kept_segments, normal_segments}
-use Rattle.iref_grammar.specs.Contexts.{alone}
-use Rattle.iref_model.specs.Guard.{guarded}
-use Rattle.iref_model.specs.Relative.{last_or_empty}
-use Rattle.iref_model.proofs.DirectoryLemmas.{all_but_last-snoc}
-use Rattle.iref_model.proofs.ItemLemmas.{name_no_parent}
-use Rattle.iref_model.proofs.JoinedLemmas.{climbs}
-use Rattle.iref_model.proofs.LeadingLemmas.{divided_last}
-use Rattle.iref_model.proofs.PieceLemmas.{some_piece}
-use Rattle.iref_parse.specs.Dots.{begins_with_dot, has_dot_segment, is_some_dotted}
-use Rattle.iref_model.specs.Relativized.{is_climb, shortened, steps_by_text}
+use Rattle.iref_model.specs.{NormalList.{count_parents, kept_segments, normal_segments}, Guard.{guarded}}
+use Rattle.iref_model.specs.{Relative.{last_or_empty}, Relativized.{is_climb, shortened, steps_by_text}}
 use Rattle.iref_model.specs.RelativizedTests.{is_reachable_from}
-use Rattle.iref_model.proofs.AddedLemmas.{guarded-same}
+use Rattle.iref_model.proofs.{DirectoryLemmas.{all_but_last-snoc}, ItemLemmas.{name_no_parent}, JoinedLemmas.{climbs}}
+use Rattle.iref_model.proofs.{LeadingLemmas.{divided_last}, PieceLemmas.{some_piece}, AddedLemmas.{guarded-same}}
 use Rattle.iref_model.proofs.WalkLemmas.{climb-is}
-use Rattle.iref_path.specs.ShortestPaths.{are_some_parents, directory_of}
-use Rattle.iref_path.specs.StepsBetween.{text_steps_by_text}
+use Rattle.iref_parse.specs.Dots.{begins_with_dot, has_dot_segment, is_some_dotted}
+use Rattle.iref_path.specs.{ShortestPaths.{are_some_parents, directory_of}, StepsBetween.{text_steps_by_text}}
 use Rattle.iref_path.proofs.ClimbLemmas.{all_parents, climb-last, kept-read}
 use Rattle.iref_path.proofs.DotlessLemmas.{all_stay, dotless_name, none_in_front, none_open, normal_segments-dotless, whole_text}
 

@@ -1,6 +1,5 @@
 -- Texts that are written over the end of what they are made from.
-use Rattle.std.proofs.Common.{◌≡◌, ℕ, ◌++◌, drop, length, arith}
-use Rattle.std.proofs.lemmas.List.{append-nil, drop_all}
+use Rattle.std.proofs.{Common.{◌≡◌, ℕ, ◌++◌, drop, length, arith}, lemmas.List.{append-nil, drop_all}}
 use Rattle.iref_grammar.specs.Rules.{Text}
 use Rattle.iref_path.specs.Written.{WritesBefore}
 

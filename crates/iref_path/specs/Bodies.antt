@@ -1,11 +1,8 @@
 -- What follows the root and the guard in the text of a path.
-use Rattle.std.specs.Prelude.{◌≡◌, ℕ, ◌<◌, ◌^◌, ◌∷◌, ◌++◌, Option, Some, None, codes, length, replicate}
-use Rattle.std.specs.Borrow.{Bor}
+use Rattle.std.specs.{Prelude.{◌≡◌, ℕ, ◌<◌, ◌^◌, ◌∷◌, ◌++◌, Option, Some, None, codes, length, replicate}, Borrow.{Bor}}
 use Rattle.std.specs.List.{join_with_byte}
-use Rattle.iref_grammar.specs.Rules.{Text}
-use Rattle.iref_grammar.specs.Grammar.{slash}
-use Rattle.iref_path.specs.Spelling.{each_closed}
-use Rattle.iref_path.specs.NormalItems.{IsSound, normal_left}
+use Rattle.iref_grammar.specs.{Rules.{Text}, Grammar.{slash}}
+use Rattle.iref_path.specs.{Spelling.{each_closed}, NormalItems.{IsSound, normal_left}}
 use Rattle.iref_path.specs.declared.measured_body.Body.{Body}
 use Rattle.iref_path.specs.declared.measured_body.Body.TheVariants.{Kept, Up, Items}
 

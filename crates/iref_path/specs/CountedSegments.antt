@@ -1,6 +1,5 @@
 -- The segments of a text that are read from the back, and their count.
-use Rattle.std.specs.Prelude.{◌≡◌, ℕ, ◌+◌, ◌<◌, ◌≤◌, ◌^◌, List, Option, reverse, length}
-use Rattle.std.specs.Borrow.{Bor}
+use Rattle.std.specs.{Prelude.{◌≡◌, ℕ, ◌+◌, ◌<◌, ◌≤◌, ◌^◌, List, Option, reverse, length}, Borrow.{Bor}}
 use Rattle.std.specs.Iterator.{YieldsFirstBy}
 use Rattle.iref_grammar.specs.Rules.{Text}
 use Rattle.iref_path.specs.Pieces.{pieces_if_some, text_at}

@@ -1,8 +1,7 @@
 -- The text of a path that is measured before it is written.
 use Rattle.std.specs.Prelude.{◌+◌, ◌<◌, ◌^◌, ◌++◌, length}
 use Rattle.iref_grammar.specs.Rules.{Text}
-use Rattle.iref_path.specs.Bodies.{IsBody, body_text}
-use Rattle.iref_path.specs.declared.measured.MeasuredPath.{MeasuredPath}
+use Rattle.iref_path.specs.{Bodies.{IsBody, body_text}, declared.measured.MeasuredPath.{MeasuredPath}}
 
 -- what stands first, and what follows
 unfoldable pub measured_text : MeasuredPath → Text

@@ -1,8 +1,6 @@
 -- The normal list of segments among which no `..` is.
 use Rattle.std.specs.Prelude.{ℕ, ◌+◌, Bool, false, ◌&&◌, List, [], ◌∷◌, ◌==◌, Option, Some, None, if◌then◌else◌}
-use Rattle.iref_grammar.specs.Grammar.{percent_sign, slash}
-use Rattle.iref_grammar.specs.Rules.{Text}
-use Rattle.iref_grammar.specs.Texts.{is_empty}
+use Rattle.iref_grammar.specs.{Grammar.{percent_sign, slash}, Rules.{Text}, Texts.{is_empty}}
 use Rattle.iref_model.specs.NormalList.{is_dot}
 
 -- the segments but `.`, which closes the list with an empty one where it comes last

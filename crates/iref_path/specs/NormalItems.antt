@@ -1,17 +1,11 @@
 -- What is left of a normal list that is read from both ends of a path's text.
 use Rattle.std.specs.Prelude.{◌≡◌, ℕ, ◌+◌, ◌<◌, ◌≤◌, ◌^◌, Bool, false, List, [], ◌∷◌, ◌++◌, Option, None, codes, length, map, replicate}
-use Rattle.std.specs.Prelude.{if◌then◌else◌}
-use Rattle.std.specs.Borrow.{Bor}
-use Rattle.std.specs.List.{list_any}
+use Rattle.std.specs.{Prelude.{if◌then◌else◌}, Borrow.{Bor}, List.{list_any}}
 use Rattle.percent_encoding.specs.Percent.{percent_decode}
-use Rattle.iref_grammar.specs.Rules.{Text}
-use Rattle.iref_grammar.specs.PathValue.{PathValue, read_path}
-use Rattle.iref_path.specs.MergedPaths.{merged_list}
-use Rattle.iref_path.specs.StepsBetween.{last_ones}
-use Rattle.iref_path.specs.Pieces.{pieces_if_some}
-use Rattle.iref_model.specs.NormalList.{is_dot_dot}
-use Rattle.iref_model.specs.NormalReading.{closing, open_before, staying_before}
+use Rattle.iref_grammar.specs.{Rules.{Text}, PathValue.{PathValue, read_path}}
+use Rattle.iref_path.specs.{MergedPaths.{merged_list}, StepsBetween.{last_ones}, Pieces.{pieces_if_some}}
 use Rattle.iref_path.specs.declared.normal_items.NormalItems.{NormalItems}
+use Rattle.iref_model.specs.{NormalList.{is_dot_dot}, NormalReading.{closing, open_before, staying_before}}
 
 -- the path of a text, with a flag of its own
 abbrev pub flagged_path : Bool → Text → PathValue

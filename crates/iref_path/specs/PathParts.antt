@@ -1,16 +1,10 @@
 -- The text of a path that is edited in place, and what a step leaves of it.
-use Rattle.std.specs.Prelude.{◌≡◌, Bool, true, ◌&&◌}
-use Rattle.std.specs.Str.{IsUtf8}
-use Rattle.std.proofs.lemmas.Bool.{and_parts}
-use Rattle.std.proofs.lemmas.Str.{IsUtf8-from_is_utf8}
-use Rattle.iref_grammar.specs.declared.context.PathContext.{PathContext}
-use Rattle.iref_grammar.specs.Characters.{CharTests, AreAboveAscii}
-use Rattle.iref_grammar.specs.Rules.{Text}
-use Rattle.iref_grammar.specs.Tests.{is_path}
-use Rattle.iref_grammar.specs.Contexts.{follows_authority, is_path_in}
+use Rattle.std.specs.{Prelude.{◌≡◌, Bool, true, ◌&&◌}, Str.{IsUtf8}}
+use Rattle.std.proofs.{lemmas.Bool.{and_parts}, lemmas.Str.{IsUtf8-from_is_utf8}}
+use Rattle.iref_grammar.specs.{declared.context.PathContext.{PathContext}, Characters.{CharTests, AreAboveAscii}}
+use Rattle.iref_grammar.specs.{Rules.{Text}, Tests.{is_path}, Contexts.{follows_authority, is_path_in}}
 use Rattle.iref_grammar.specs.PathValue.{PathValue, read_path, spell_path}
-use Rattle.iref_splice.specs.Changes.{IsWithin, changed}
-use Rattle.iref_splice.specs.declared.change.Change.{Change}
+use Rattle.iref_splice.specs.{Changes.{IsWithin, changed}, declared.change.Change.{Change}}
 
 -- a path, which after an authority is absolute or empty
 abbrev pub is_path_after : CharTests → PathContext → Text → Bool

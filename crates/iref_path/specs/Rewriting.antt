@@ -1,14 +1,8 @@
 -- A path that is rewritten over its own bytes, from the back.
-use Rattle.std.specs.Prelude.{ℕ, Bool, ◌-◌, ◌==◌, List, [], ◌++◌, take, if◌then◌else◌}
-use Rattle.std.specs.List.{join_with_byte, splice}
-use Rattle.iref_splice.specs.Changes.{part_at}
-use Rattle.iref_splice.specs.declared.change.Span.{Span}
-use Rattle.iref_grammar.specs.Grammar.{slash}
-use Rattle.iref_grammar.specs.PathValue.{read_path}
-use Rattle.iref_grammar.specs.Rules.{Text}
-use Rattle.iref_grammar.specs.Texts.{pieces_at}
-use Rattle.iref_model.specs.NormalList.{normal_segments}
-use Rattle.iref_model.specs.NormalReading.{items}
+use Rattle.std.specs.{Prelude.{ℕ, Bool, ◌-◌, ◌==◌, List, [], ◌++◌, take, if◌then◌else◌}, List.{join_with_byte, splice}}
+use Rattle.iref_splice.specs.{Changes.{part_at}, declared.change.Span.{Span}}
+use Rattle.iref_grammar.specs.{Grammar.{slash}, PathValue.{read_path}, Rules.{Text}, Texts.{pieces_at}}
+use Rattle.iref_model.specs.{NormalList.{normal_segments}, NormalReading.{items}}
 
 -- the segments before an index, where one begins: a `/` stands after each
 abbrev pub pieces_before : Text → ℕ → List Text

@@ -1,9 +1,6 @@
 -- The directory from which a relative path leads, and a list of `..`.
-use Rattle.std.specs.Prelude.{Bool, false, not, ◌&&◌, List, []}
-use Rattle.std.specs.List.{list_all}
-use Rattle.iref_grammar.specs.Rules.{Text}
-use Rattle.iref_grammar.specs.Texts.{is_empty}
-use Rattle.iref_grammar.specs.PathValue.{PathValue}
+use Rattle.std.specs.{Prelude.{Bool, false, not, ◌&&◌, List, []}, List.{list_all}}
+use Rattle.iref_grammar.specs.{Rules.{Text}, Texts.{is_empty}, PathValue.{PathValue}}
 use Rattle.iref_model.specs.NormalList.{is_dot_dot}
 use Rattle.iref_path.specs.MergedPaths.{path_after}
 

@@ -1,8 +1,6 @@
 -- Where the slashes of a text are.
-use Rattle.std.specs.Prelude.{◌≡◌, ◌≢◌, ℕ, ◌<◌, ◌≤◌, ◌==◌, List, length, map, slice_index}
-use Rattle.std.specs.Simd.Lanes.{mask_l}
-use Rattle.iref_grammar.specs.Rules.{Text}
-use Rattle.iref_grammar.specs.Grammar.{slash}
+use Rattle.std.specs.{Prelude.{◌≡◌, ◌≢◌, ℕ, ◌<◌, ◌≤◌, ◌==◌, List, length, map, slice_index}, Simd.Lanes.{mask_l}}
+use Rattle.iref_grammar.specs.{Rules.{Text}, Grammar.{slash}}
 
 -- a bit for each byte that is a slash
 abbrev pub slash_mask : List ℕ → ℕ

@@ -1,11 +1,8 @@
 -- The text of a path in its context, from its list (RFC 3986 sections 3.3 and 4.2).
 use Rattle.std.specs.Prelude.{ℕ, Bool, false, not, ◌&&◌, ◌||◌, ◌==◌, List, [], ◌∷◌, ◌++◌, codes, flat_map, if◌then◌else◌}
 use Rattle.std.specs.Char.{char_set_contains}
-use Rattle.iref_grammar.specs.declared.context.PathContext.{PathContext}
-use Rattle.iref_grammar.specs.Rules.{Text}
-use Rattle.iref_grammar.specs.Grammar.{slash, colon}
-use Rattle.iref_grammar.specs.Texts.{is_empty}
-use Rattle.iref_grammar.specs.PathValue.{PathValue}
+use Rattle.iref_grammar.specs.{declared.context.PathContext.{PathContext}, Rules.{Text}, Grammar.{slash, colon}}
+use Rattle.iref_grammar.specs.{Texts.{is_empty}, PathValue.{PathValue}}
 use Rattle.iref_model.specs.PathSteps.{normalized}
 use Rattle.iref_path.specs.NormalItems.{flagged_path}
 

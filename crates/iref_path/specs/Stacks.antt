@@ -1,15 +1,9 @@
 -- The items of a normal list that are kept on a stack, the last first.
 use Rattle.std.specs.Prelude.{◌≡◌, ◌+◌, ◌<◌, ◌^◌, Bool, true, List, [], ◌++◌, Option, length, map, reverse}
-use Rattle.std.specs.Borrow.{Bor}
-use Rattle.std.specs.List.{join_with_byte}
-use Rattle.iref_grammar.specs.Grammar.{slash}
-use Rattle.iref_grammar.specs.Rules.{Text}
-use Rattle.iref_grammar.specs.PathValue.{PathValue}
-use Rattle.iref_path.specs.Pieces.{pieces_if_some, text_at}
-use Rattle.iref_path.specs.NormalItems.{first_or}
-use Rattle.iref_path.specs.Spelling.{each_closed}
-use Rattle.iref_path.specs.declared.normal_items.stack.Stack.{Stack}
-use Rattle.iref_path.specs.declared.spell.StackedPath.{StackedPath}
+use Rattle.std.specs.{Borrow.{Bor}, List.{join_with_byte}}
+use Rattle.iref_grammar.specs.{Grammar.{slash}, Rules.{Text}, PathValue.{PathValue}}
+use Rattle.iref_path.specs.{Pieces.{pieces_if_some, text_at}, NormalItems.{first_or}, Spelling.{each_closed}}
+use Rattle.iref_path.specs.{declared.normal_items.stack.Stack.{Stack}, declared.spell.StackedPath.{StackedPath}}
 
 -- these items, which were put the last first, in their order
 abbrev pub in_order : List (Bor Text) → List Text

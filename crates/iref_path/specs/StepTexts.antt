@@ -1,8 +1,6 @@
 -- What the steps of a path write.
 use Rattle.std.specs.Prelude.{[], ◌++◌, if◌then◌else◌}
-use Rattle.iref_grammar.specs.Rules.{Text}
-use Rattle.iref_grammar.specs.Texts.{is_empty}
-use Rattle.iref_grammar.specs.PathValue.{PathValue, spell_path}
+use Rattle.iref_grammar.specs.{Rules.{Text}, Texts.{is_empty}, PathValue.{PathValue, spell_path}}
 
 -- the text of a path, and this behind it where it has segments
 abbrev pub closed_by : Text → PathValue → Text

@@ -1,7 +1,6 @@
 //! Where two normal lists, which are read from the back, differ first: that takes no memory.
 
-ghost use Rattle.std.specs.{List.{common_prefix_len}, Prelude.{◌≡◌, ◌-◌, length}};
-ghost use Rattle.std.specs.Cmp.Lexicographic.{slice_cmp};
+ghost use Rattle.std.specs.{List.{common_prefix_len}, Prelude.{◌≡◌, ◌-◌, length}, Cmp.Lexicographic.{slice_cmp}};
 ghost use Rattle.percent_encoding.specs.Percent.{percent_decode};
 ghost use Rattle.iref_grammar.specs.{text_order};
 ghost use Rattle.iref_model.specs.PathSuffix.{same_decoded};

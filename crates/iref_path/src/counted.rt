@@ -7,8 +7,7 @@
 ghost use Rattle.std.specs.Prelude.{◌≡◌, ◌≢◌, ◌↔◌, ◌+◌, ◌-◌, ◌<◌, ◌≤◌, ◌^◌, ◌∷◌, true};
 ghost use Rattle.iref_model.specs.{read_path, items_compared, IsCountedAnswer, path_key, PathFunctions.{segment_count}};
 ghost use Rattle.iref_path.specs.CountedPath.{IsAnswer, IsCountable, IsWhole, all_items_unread, both_counted};
-ghost use Rattle.iref_path.specs.CountedPath.{items_unread, path_unread, segments_of};
-ghost use Rattle.iref_path.specs.CountedSegments.{IsCounted};
+ghost use Rattle.iref_path.specs.{CountedPath.{items_unread, path_unread, segments_of}, CountedSegments.{IsCounted}};
 
 use crate::counted_segments::CountedSegments;
 use crate::segments::split_root;

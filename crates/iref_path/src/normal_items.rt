@@ -1,19 +1,18 @@
 //! The items of the normal list of a path, which are read from both ends of its text (RFC 3986
 //! sections 5.2.3 and 5.2.4).
 
-ghost use Rattle.std.specs.{Iterator.{YieldsFirstBy, YieldsLastBy}, Prelude.{◌≡◌, ◌+◌, ◌-◌, ◌<◌, ◌≤◌, ◌^◌, ◌==◌, ◌&&◌}};
+ghost use Rattle.std.specs.Iterator.{YieldsFirstBy, YieldsLastBy};
+ghost use Rattle.std.specs.Prelude.{◌≡◌, ◌+◌, ◌-◌, ◌<◌, ◌≤◌, ◌^◌, ◌==◌, ◌&&◌, if◌then◌else◌};
 ghost use Rattle.std.specs.Prelude.{◌∷◌, ◌++◌, [], codes, false, length, replicate, take, IfNone, IfSome, None};
-ghost use Rattle.std.specs.Prelude.{if◌then◌else◌};
+ghost use Rattle.std.specs.List.{list_any};
 ghost use Rattle.iref_grammar.specs.{is_empty, read_path};
-ghost use Rattle.iref_model.specs.{normal_segments, open_before, staying_before};
+ghost use Rattle.iref_model.specs.{normal_segments, open_before, staying_before, NormalList.{is_dot_dot}};
 ghost use Rattle.iref_path.specs.{MergedPaths.{both_names, merged_list, merged_path}, Pieces.{pieces_if_some, text_at}};
 ghost use Rattle.iref_path.specs.{Spelling.{each_closed}, NormalItems.{IsEnd, IsPlain, IsReadable, IsSettled, IsSound}};
 ghost use Rattle.iref_path.specs.NormalItems.{IsWhole, KeepsEnds, both_left, first_or, names_behind, names_staying};
 ghost use Rattle.iref_path.specs.NormalItems.{normal_left, open_at_start, open_behind, to_read, unread_items};
 ghost use Rattle.iref_path.specs.StepsBetween.{last_ones};
 ghost use Rattle.iref_model.specs.NormalList as list;
-ghost use Rattle.iref_model.specs.NormalList.{is_dot_dot};
-ghost use Rattle.std.specs.List.{list_any};
 
 mod climbs;
 pub mod rooted;

@@ -1,7 +1,6 @@
 //! Items that are written from the front, though they are read from the back.
 
-ghost use Rattle.std.specs.{Fmt.{WritesOnOk}, List.{join_with_byte}};
-ghost use Rattle.std.specs.Prelude.{◌-◌, ◌<◌, ◌≤◌, codes, length, replicate};
+ghost use Rattle.std.specs.{Fmt.{WritesOnOk}, List.{join_with_byte}, Prelude.{◌-◌, ◌<◌, ◌≤◌, codes, length, replicate}};
 ghost use Rattle.iref_grammar.specs.{slash};
 ghost use Rattle.iref_path.specs.{Spelling.{each_closed}, NormalItems.{IsSound, normal_left}, StepsBetween.{last_ones}};
 

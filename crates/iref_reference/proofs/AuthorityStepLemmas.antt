@@ -1,11 +1,7 @@
 -- A reference after a step of its authority, by an editor of that authority.
-use Rattle.std.proofs.lemmas.Grind.{common_steps}
-use Rattle.std.proofs.Common.{◌≡◌, true, arith}
-use Rattle.iref_grammar.specs.Characters.{CharTests, AreAboveAscii}
-use Rattle.iref_grammar.specs.Rules.{Text}
-use Rattle.iref_grammar.specs.Authority.{AuthorityValue}
-use Rattle.iref_grammar.specs.ComponentOffsets.{offsets_of}
-use Rattle.iref_grammar.specs.Reference.{is_readable, is_reference, read_reference}
+use Rattle.std.proofs.{lemmas.Grind.{common_steps}, Common.{◌≡◌, true, arith}}
+use Rattle.iref_grammar.specs.{Characters.{CharTests, AreAboveAscii}, Rules.{Text}, Authority.{AuthorityValue}}
+use Rattle.iref_grammar.specs.{ComponentOffsets.{offsets_of}, Reference.{is_readable, is_reference, read_reference}}
 use Rattle.iref_grammar.proofs.ReadableLemmas.{readable_read}
 use Rattle.iref_model.specs.ComponentSteps.{with_authority_step}
 use Rattle.iref_component.specs.declared.authority_mut.AuthorityMut.{AuthorityMut}

@@ -1,17 +1,13 @@
 -- The canonical text of a reference is in the rule of the reference, over the characters of URIs, and tells it from those
 -- that are not equal.
-use Rattle.std.proofs.Common.{◌≡◌, Bool, true, is_eq, sym, ◌∙◌, ap}
+use Rattle.std.proofs.{Common.{◌≡◌, Bool, true, is_eq, sym, ◌∙◌, ap}, Math.Logic.{◌↔◌}}
+use Rattle.std.proofs.{lemmas.Bool.Decides.{same_from_decides}, lemmas.Slice.Eq.{bytes_eq-Decides}}
 use Rattle.std.specs.Prelude.{bytes_eq, is_some, Option}
-use Rattle.std.proofs.Math.Logic.{◌↔◌}
-use Rattle.std.proofs.lemmas.Bool.Decides.{same_from_decides}
-use Rattle.std.proofs.lemmas.Slice.Eq.{bytes_eq-Decides}
-use Rattle.iref_grammar.specs.Characters.{AreAboveAscii, CharTests, uri_chars}
-use Rattle.iref_grammar.specs.Rules.{Text}
+use Rattle.iref_grammar.specs.{Characters.{AreAboveAscii, CharTests, uri_chars}, Rules.{Text}}
 use Rattle.iref_grammar.specs.Reference.{IsReadable, ReferenceValue, is_reference, read_reference}
 use Rattle.iref_grammar.proofs.ReferenceRuleLemmas.{Decides-is_uri_reference}
 use Rattle.iref_model.specs.Key.{key, key_cmp}
-use Rattle.iref_model.proofs.MappedReferenceLemmas.{readable_text}
-use Rattle.iref_model.proofs.TieLemmas.{references_tie}
+use Rattle.iref_model.proofs.{MappedReferenceLemmas.{readable_text}, TieLemmas.{references_tie}}
 use Rattle.iref_canonical.specs.Canonical.{canonical_text}
 use Rattle.iref_canonical.proofs.CanonicalKeyLemmas.{scheme-canonical}
 use Rattle.iref_canonical.proofs.CanonicalTextLemmas.{is_reference-canonical, text_keeps_key, text_read}

@@ -1,7 +1,6 @@
 -- What is in a rule over the characters of URIs is in it over those of IRIs.
 use Rattle.std.proofs.Common.{◌≡◌, true, arith}
-use Rattle.iref_grammar.specs.Characters.{uri_chars, iri_chars, iri_above_ascii}
-use Rattle.iref_grammar.specs.Rules.{Text}
+use Rattle.iref_grammar.specs.{Characters.{uri_chars, iri_chars, iri_above_ascii}, Rules.{Text}}
 use Rattle.iref_grammar.specs.Reference.{is_reference, is_uri}
 use Rattle.iref_grammar.proofs.ComponentLemmas.{uri_if_scheme, reference_if_uri, scheme_if_uri}
 use Rattle.iref_grammar.proofs.WiderLemmas.{uri_reference}

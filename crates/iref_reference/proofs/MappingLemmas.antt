@@ -1,11 +1,9 @@
 -- What the mapping of an IRI keeps.
 use Rattle.std.proofs.Common.{◌≡◌, true, arith}
 use Rattle.iref_grammar.specs.Characters.{iri_chars, iri_above_ascii, uri_chars, uri_above_ascii}
-use Rattle.iref_grammar.specs.Reference.{is_reference, read_reference}
-use Rattle.iref_grammar.specs.Rules.{Text}
+use Rattle.iref_grammar.specs.{Reference.{is_reference, read_reference}, Rules.{Text}}
 use Rattle.iref_grammar.proofs.ReferenceRuleLemmas.{Decides-is_uri_reference}
-use Rattle.iref_model.specs.Key.{key}
-use Rattle.iref_model.specs.Mapping.{mapped}
+use Rattle.iref_model.specs.{Key.{key}, Mapping.{mapped}}
 use Rattle.iref_model.proofs.AsciiReferenceLemmas.{key-tested, read_reference-tested, uri_reference_stays}
 use Rattle.iref_reference.specs.Mappings.{IsMapped}
 

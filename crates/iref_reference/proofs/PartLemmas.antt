@@ -1,30 +1,19 @@
 -- Components of a reference, as they are compared, and as they were read from bytes: a URI is a reference with a scheme.
-use Rattle.std.proofs.Common.{◌≡◌, true, ◌&&◌, ap, is_eq}
-use Rattle.std.proofs.lemmas.Bool.Decides.{same_from_decides}
+use Rattle.std.proofs.{Common.{◌≡◌, true, ◌&&◌, ap, is_eq}, lemmas.Bool.Decides.{same_from_decides}}
 use Rattle.std.proofs.lemmas.Slice.Eq.{bytes_eq-Decides}
-use Rattle.std.specs.Option.{option_eq}
-use Rattle.std.specs.Ordering.{eq_by_cmp}
-use Rattle.std.specs.Prelude.{Option, is_some}
+use Rattle.std.specs.{Option.{option_eq}, Ordering.{eq_by_cmp}, Prelude.{Option, is_some}}
 use Rattle.std.specs.Str.{bytes_eq, str_to_ascii_lowercase}
 use Rattle.percent_encoding.specs.Percent.{percent_decode}
-use Rattle.iref_grammar.specs.Authority.{read_authority}
-use Rattle.iref_grammar.specs.Characters.{AreAboveAscii, CharTests}
-use Rattle.iref_grammar.specs.Grammar.{IsUri, IsUriReference}
-use Rattle.iref_grammar.specs.Keys.{text_order}
-use Rattle.iref_grammar.specs.PathValue.{read_path}
-use Rattle.iref_grammar.specs.Reference.{read_reference}
-use Rattle.iref_grammar.specs.Rules.{InUtf8, Text}
+use Rattle.iref_grammar.specs.{Authority.{read_authority}, Characters.{AreAboveAscii, CharTests}}
+use Rattle.iref_grammar.specs.{Grammar.{IsUri, IsUriReference}, Keys.{text_order}, PathValue.{read_path}}
+use Rattle.iref_grammar.specs.{Reference.{read_reference}, Rules.{InUtf8, Text}}
 use Rattle.iref_grammar.proofs.ComponentLemmas.{uri_if_scheme, scheme_if_uri}
 use Rattle.iref_grammar.proofs.ReferenceRuleLemmas.{Decides-is_uri, Decides-is_uri_reference}
-use Rattle.iref_model.specs.AuthorityKey.{authority_key, authority_key_cmp}
-use Rattle.iref_model.specs.Key.{key, key_cmp}
+use Rattle.iref_model.specs.{AuthorityKey.{authority_key, authority_key_cmp}, Key.{key, key_cmp}}
 use Rattle.iref_model.specs.PathKey.{path_key, path_key_cmp}
-use Rattle.iref_model.proofs.PartTieLemmas.{lower_case_tie, parts_tie}
-use Rattle.iref_model.proofs.TieLemmas.{references_tie}
-use Rattle.iref_component.specs.Components.{text_of}
-use Rattle.iref_component.specs.declared.rule_text.RuleText.{RuleText}
-use Rattle.iref_reference.specs.declared.parts.Parts.{Parts}
-use Rattle.iref_reference.specs.Parts.{uri_ref_parts_key}
+use Rattle.iref_model.proofs.{PartTieLemmas.{lower_case_tie, parts_tie}, TieLemmas.{references_tie}}
+use Rattle.iref_component.specs.{Components.{text_of}, declared.rule_text.RuleText.{RuleText}}
+use Rattle.iref_reference.specs.{declared.parts.Parts.{Parts}, Parts.{uri_ref_parts_key}}
 
 -- they are equal, each by its own key, exactly where the keys of their references tie
 pub parts_equal : {T R U K t r k u C c : _} (a b : Parts (Option (RuleText T R U K t r k u)) C c)

@@ -1,19 +1,13 @@
 -- A reference after a step of its path, by an editor of that path.
-use Rattle.std.proofs.lemmas.Grind.{common_steps}
-use Rattle.std.proofs.Common.{◌≡◌, true, arith}
-use Rattle.iref_grammar.specs.declared.context.PathContext.{PathContext}
-use Rattle.iref_grammar.specs.Characters.{CharTests, AreAboveAscii}
-use Rattle.iref_grammar.specs.Rules.{Text}
-use Rattle.iref_grammar.specs.PathValue.{PathValue}
-use Rattle.iref_grammar.specs.ComponentOffsets.{offsets_of}
+use Rattle.std.proofs.{lemmas.Grind.{common_steps}, Common.{◌≡◌, true, arith}}
+use Rattle.iref_grammar.specs.{declared.context.PathContext.{PathContext}, Characters.{CharTests, AreAboveAscii}}
+use Rattle.iref_grammar.specs.{Rules.{Text}, PathValue.{PathValue}, ComponentOffsets.{offsets_of}}
 use Rattle.iref_grammar.specs.Reference.{context_of, is_readable, is_reference, read_reference}
-use Rattle.iref_grammar.proofs.RangeLemmas.{path_range}
-use Rattle.iref_grammar.proofs.ReadableLemmas.{readable_read}
+use Rattle.iref_grammar.proofs.{RangeLemmas.{path_range}, ReadableLemmas.{readable_read}}
 use Rattle.iref_model.specs.ComponentSteps.{with_path_step}
 use Rattle.iref_component.specs.declared.path_mut.PathMut.{PathMut}
 use Rattle.iref_component.specs.PathEdits.{edited_bytes, path_mut_context, path_mut_value, IsEditorOf, BecomesPath}
-use Rattle.iref_reference_text.proofs.EditLemmas.{path_replaced}
-use Rattle.iref_reference_text.proofs.PathRangeLemmas.{path_stands}
+use Rattle.iref_reference_text.proofs.{EditLemmas.{path_replaced}, PathRangeLemmas.{path_stands}}
 use Rattle.iref_reference_text.specs.Steps.{IsStep}
 
 pub path_step : {C : _} {T : _} {c : _} {t : _} {old new : PathMut C T c t} {text : Text} (set : CharTests) → AreAboveAscii set → (step : PathContext → PathValue → PathValue)

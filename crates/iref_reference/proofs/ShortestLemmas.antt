@@ -1,18 +1,13 @@
 -- What is known of the shortest reference that leads to a text.
-use Rattle.std.proofs.Common.{◌≡◌, ◌≤◌, Bool, true, ap, length, refl, subst, sym, ◌∙◌}
-use Rattle.std.proofs.lemmas.Option.{same_Some}
+use Rattle.std.proofs.{Common.{◌≡◌, ◌≤◌, Bool, true, ap, length, refl, subst, sym, ◌∙◌}, lemmas.Option.{same_Some}}
 use mathlib.Core.Bool.{true≢false}
 use Rattle.std.specs.Prelude.{Option, None, Some, is_some, option_map}
-use Rattle.iref_grammar.specs.Characters.{AreAboveAscii, CharTests}
-use Rattle.iref_grammar.specs.Rules.{Text}
+use Rattle.iref_grammar.specs.{Characters.{AreAboveAscii, CharTests}, Rules.{Text}}
 use Rattle.iref_grammar.specs.ComponentTexts.{ComponentTexts, spell_components}
 use Rattle.iref_grammar.specs.Reference.{ReferenceValue, is_readable, is_reference, read_reference, spell}
 use Rattle.iref_grammar.proofs.ReferenceCutLemmas.{read_reference-spelled}
-use Rattle.iref_model.specs.Relativized.{relativized}
-use Rattle.iref_model.specs.RelativizedChoice.{chosen}
-use Rattle.iref_model.specs.RelativizedLaws.{AreReadable}
-use Rattle.iref_model.proofs.ChosenLemmas.{relativized-chosen}
-use Rattle.iref_model.proofs.ExactLemmas.{relativized-exact}
+use Rattle.iref_model.specs.{Relativized.{relativized}, RelativizedChoice.{chosen}, RelativizedLaws.{AreReadable}}
+use Rattle.iref_model.proofs.{ChosenLemmas.{relativized-chosen}, ExactLemmas.{relativized-exact}}
 use Rattle.iref_model.proofs.ReadableAnswerLemmas.{relativized-readable}
 use Rattle.iref_model.proofs.TextLawLemmas.{relativized-none_text, relativized-shortest_text}
 use Rattle.iref_reference_text.specs.MeasuredReferences.{IsComposed, IsReady, measured_components, spell_texts}

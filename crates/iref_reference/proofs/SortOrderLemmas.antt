@@ -1,11 +1,7 @@
 -- Sort keys are compared as the references are.
-use Rattle.std.proofs.Common.{◌≡◌, true, sym, ◌∙◌, ap, subst}
-use Rattle.std.proofs.Math.Logic.{◌↔◌}
-use Rattle.std.specs.Cmp.Lexicographic.{texts_ties}
-use Rattle.std.specs.Ordering.{eq_by_cmp, is_eq}
-use Rattle.iref_grammar.specs.Keys.{is_same_text, text_order}
-use Rattle.iref_grammar.specs.Reference.{ReferenceValue}
-use Rattle.iref_grammar.specs.Rules.{Text}
+use Rattle.std.proofs.{Common.{◌≡◌, true, sym, ◌∙◌, ap, subst}, Math.Logic.{◌↔◌}}
+use Rattle.std.specs.{Cmp.Lexicographic.{texts_ties}, Ordering.{eq_by_cmp, is_eq}}
+use Rattle.iref_grammar.specs.{Keys.{is_same_text, text_order}, Reference.{ReferenceValue}, Rules.{Text}}
 use Rattle.iref_model.specs.Key.{key_cmp}
 use Rattle.iref_model.proofs.TieLemmas.{references_tie}
 use Rattle.iref_canonical.specs.SortKey.{sort_key}

@@ -1,15 +1,10 @@
 -- What is left of a reference after a prefix: where scheme and authority are equal, what is left of its path.
 use Rattle.std.proofs.Common.{◌≡◌, Bool, true, false, ◌&&◌, arith}
 use Rattle.std.specs.Prelude.{Option, Some, None, IsNone, option_map}
-use Rattle.iref_grammar.specs.PathValue.{PathValue}
-use Rattle.iref_grammar.specs.Reference.{ReferenceValue}
-use Rattle.iref_grammar.specs.Rules.{Text}
-use Rattle.iref_component.specs.Components.{text_of}
-use Rattle.iref_component.specs.declared.rule_text.RuleText.{RuleText}
-use Rattle.iref_model.specs.PathSuffix.{path_suffix}
-use Rattle.iref_model.specs.ReferenceSuffix.{reference_suffix}
+use Rattle.iref_grammar.specs.{PathValue.{PathValue}, Reference.{ReferenceValue}, Rules.{Text}}
+use Rattle.iref_component.specs.{Components.{text_of}, declared.rule_text.RuleText.{RuleText}, Suffixes.{SpellsSuffix}}
+use Rattle.iref_model.specs.{PathSuffix.{path_suffix}, ReferenceSuffix.{reference_suffix}}
 use Rattle.iref_model.specs.Relative.{have_same_authority, have_same_scheme}
-use Rattle.iref_component.specs.Suffixes.{SpellsSuffix}
 use Rattle.iref_reference.specs.ReferenceSuffixes.{SpellsReferenceSuffix}
 
 -- what is left of the path, with the query and fragment of the whole

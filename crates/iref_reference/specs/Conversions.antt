@@ -1,9 +1,7 @@
 -- What conversions that may be refused promise: `ParsesReference` and `HasSchemeOrRefused` state those that return their input.
 use Rattle.std.specs.Prelude.{◌≡◌, Option, MatchOption, Result}
-use Rattle.iref_grammar.specs.Characters.{CharTests, uri_chars}
-use Rattle.iref_grammar.specs.Rules.{Text}
-use Rattle.iref_reference.specs.declared.borrowed.Reference.{Reference}
-use Rattle.iref_reference.specs.declared.owned.ReferenceBuf.{ReferenceBuf}
+use Rattle.iref_grammar.specs.{Characters.{CharTests, uri_chars}, Rules.{Text}}
+use Rattle.iref_reference.specs.{declared.borrowed.Reference.{Reference}, declared.owned.ReferenceBuf.{ReferenceBuf}}
 use Rattle.iref_reference.specs.References.{reference_text, reference_buf_text, ParsesReference, ParsesReferenceBuf}
 
 -- Some with the same text exactly if that is in the rule, else None

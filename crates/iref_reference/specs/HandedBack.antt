@@ -1,7 +1,6 @@
 -- What calls promise that take an owned value and return it in their error.
 use Rattle.std.specs.Prelude.{Result, MatchResult}
-use Rattle.iref_fault.specs.declared.edit.TryError.{TryError}
-use Rattle.iref_fault.specs.Tried.{InvalidIfOutside}
+use Rattle.iref_fault.specs.{declared.edit.TryError.{TryError}, Tried.{InvalidIfOutside}}
 
 -- as TellsInvalid, of an error beside the owned value
 abbrev pub TellsInvalidBeside : {V O E : Type 0} → Type 0 → (E → Type 0) → Result V (O × TryError E) → Type 0

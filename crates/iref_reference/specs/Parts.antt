@@ -1,11 +1,8 @@
 -- What the components of a reference are, and what they are compared by.
-use Rattle.std.specs.Prelude.{Option, Some, option_map}
-use Rattle.std.specs.Str.{str_to_ascii_lowercase}
-use Rattle.iref_grammar.specs.Rules.{Text}
-use Rattle.iref_grammar.specs.ComponentTexts.{ComponentTexts, read_components}
+use Rattle.std.specs.{Prelude.{Option, Some, option_map}, Str.{str_to_ascii_lowercase}}
+use Rattle.iref_grammar.specs.{Rules.{Text}, ComponentTexts.{ComponentTexts, read_components}}
 use Rattle.iref_grammar.specs.Reference.{ReferenceValue}
-use Rattle.iref_component.specs.Components.{text_of}
-use Rattle.iref_component.specs.declared.rule_text.RuleText.{RuleText}
+use Rattle.iref_component.specs.{Components.{text_of}, declared.rule_text.RuleText.{RuleText}}
 use Rattle.iref_model.specs.Key.{key}
 use Rattle.iref_reference.specs.declared.parts.Parts.{Parts}
 

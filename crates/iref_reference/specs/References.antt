@@ -1,13 +1,10 @@
 -- The texts of references, borrowed and owned, what they are read as, and what they are compared by.
 use Rattle.std.specs.Prelude.{◌≡◌, ⊤, None, Result, MatchResult}
-use Rattle.iref_grammar.specs.Rules.{Text}
-use Rattle.iref_grammar.specs.Reference.{ReferenceValue, read_reference}
+use Rattle.iref_grammar.specs.{Rules.{Text}, Reference.{ReferenceValue, read_reference}}
 use Rattle.iref_model.specs.Key.{key}
-use Rattle.iref_component.specs.Components.{text_of}
-use Rattle.iref_component.specs.Makers.{ParsesUtf8}
+use Rattle.iref_component.specs.{Components.{text_of}, Makers.{ParsesUtf8}}
 use Rattle.iref_reference_text.specs.Steps.{IsStep, StepsOrStays}
-use Rattle.iref_reference.specs.declared.borrowed.Reference.{Reference}
-use Rattle.iref_reference.specs.declared.owned.ReferenceBuf.{ReferenceBuf}
+use Rattle.iref_reference.specs.{declared.borrowed.Reference.{Reference}, declared.owned.ReferenceBuf.{ReferenceBuf}}
 
 abbrev pub reference_text : {R C K r k c : _} → Reference R C K r k c → Text
 reference_text r = text_of r.text

@@ -1,6 +1,5 @@
 -- Texts that references resolve to (RFC 3986 section 5.2).
-use Rattle.iref_grammar.specs.Rules.{Text}
-use Rattle.iref_grammar.specs.Reference.{read_reference}
+use Rattle.iref_grammar.specs.{Rules.{Text}, Reference.{read_reference}}
 use Rattle.iref_model.specs.Resolution.{resolved}
 use Rattle.iref_reference_text.specs.Steps.{Spells}
 

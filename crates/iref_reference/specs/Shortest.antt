@@ -1,10 +1,8 @@
 -- The shortest reference that leads to a text, character for character (RFC 3986 section 5.2).
 use Rattle.std.specs.Prelude.{◌≡◌, ◌≢◌, ◌≤◌, Option, None, Some, length, true}
-use Rattle.iref_grammar.specs.Characters.{CharTests}
-use Rattle.iref_grammar.specs.Rules.{Text}
+use Rattle.iref_grammar.specs.{Characters.{CharTests}, Rules.{Text}}
 use Rattle.iref_grammar.specs.Reference.{ReferenceValue, is_reference, read_reference, spell}
-use Rattle.iref_model.specs.Resolution.{resolved}
-use Rattle.iref_model.specs.Relativized.{relativized}
+use Rattle.iref_model.specs.{Resolution.{resolved}, Relativized.{relativized}}
 
 -- the text spells the answer of the definition, and is read as that; without a text there is none
 abbrev pub IsRelativized : ReferenceValue → ReferenceValue → Option Text → Type 0

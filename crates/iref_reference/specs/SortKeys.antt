@@ -1,8 +1,6 @@
 -- Sort keys of references.
-use Rattle.std.specs.Prelude.{◌≡◌, ◌↔◌, true}
-use Rattle.std.specs.BTreeMap.Lent.{OrdMembers}
-use Rattle.iref_grammar.specs.Reference.{ReferenceValue}
-use Rattle.iref_grammar.specs.Rules.{Text}
+use Rattle.std.specs.{Prelude.{◌≡◌, ◌↔◌, true}, BTreeMap.Lent.{OrdMembers}}
+use Rattle.iref_grammar.specs.{Reference.{ReferenceValue}, Rules.{Text}}
 use Rattle.iref_model.specs.Key.{key_cmp}
 use Rattle.iref_canonical.specs.SortKey.{sort_key}
 

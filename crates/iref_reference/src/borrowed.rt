@@ -1,8 +1,7 @@
 //! Borrowed references (RFC 3986 sections 3 and 4.1).
 ghost use Rattle.std.specs.Prelude.{IfOk, IfSome, is_some, ◌≡◌, true, [], ◌∷◌, Some, None, option_map};
-ghost use Rattle.iref_component.specs.{text_of, spell_components, hierarchy, spell, hash_sign, spell_authority};
+ghost use Rattle.iref_component.specs.{text_of, spell_components, hierarchy, spell, hash_sign, spell_authority, before};
 ghost use Rattle.iref_component.specs.{with_query, with_fragment, user_info_of, host_of, port_of, base_of, spell_path};
-ghost use Rattle.iref_component.specs.{before};
 ghost use Rattle.iref_reference_text.specs.{AreComponents, is_readable, texts_of, value_of};
 ghost use Rattle.iref_reference.specs.Parts.{part_texts, parts_value, uri_ref_part_texts, uri_ref_parts_value};
 ghost use Rattle.iref_reference.specs.References.{reference_text, reference_value, reference_buf_text, NarrowsToUri};

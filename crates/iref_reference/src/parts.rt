@@ -8,8 +8,7 @@ ghost use Rattle.iref_component.specs.{parts_value as authority_parts_value};
 ghost use Rattle.iref_reference_text.specs.{texts_of, AreComponents, spell_components, is_scheme, none_or, is_readable};
 ghost use Rattle.iref_reference_text.specs.{is_reference, read_reference, Text, InUtf8};
 ghost use Rattle.iref_reference.specs.Parts.{part_texts, parts_value, uri_ref_part_texts, key_of_parts};
-ghost use Rattle.iref_reference.specs.Parts.{scheme_key, uri_part_texts, uri_parts_value};
-ghost use Rattle.iref_reference.specs.Parts.{uri_ref_parts_value};
+ghost use Rattle.iref_reference.specs.Parts.{scheme_key, uri_part_texts, uri_parts_value, uri_ref_parts_value};
 
 use iref_component::authority::Authority;
 use iref_component::authority_parts::AuthorityParts;

@@ -1,23 +1,16 @@
 -- The authority of a reference where it stands, and after an edit of it.
-use Rattle.std.proofs.Common.{◌≡◌, ℕ, ◌+◌, Bool, true, length, sym, ◌∙◌, ap, arith}
-use Rattle.std.specs.Prelude.{Option, Some, is_some, option_map}
-use Rattle.std.specs.List.{splice}
-use Rattle.std.proofs.lemmas.Grind.{common_steps}
-use Rattle.std.specs.declared.ops.Range.{Range}
-use Rattle.iref_grammar.specs.Characters.{CharTests, AreAboveAscii}
-use Rattle.iref_grammar.specs.Rules.{Text}
-use Rattle.iref_grammar.specs.Tests.{none_or}
+use Rattle.std.proofs.{Common.{◌≡◌, ℕ, ◌+◌, Bool, true, length, sym, ◌∙◌, ap, arith}, lemmas.Grind.{common_steps}}
+use Rattle.std.specs.{Prelude.{Option, Some, is_some, option_map}, List.{splice}, declared.ops.Range.{Range}}
+use Rattle.iref_grammar.specs.{Characters.{CharTests, AreAboveAscii}, Rules.{Text}, Tests.{none_or}}
 use Rattle.iref_grammar.specs.Authority.{AuthorityValue, is_authority, read_authority, spell_authority}
 use Rattle.iref_grammar.specs.ComponentOffsets.{offsets_in, offsets_of, text_at}
 use Rattle.iref_grammar.specs.Reference.{ReferenceValue, is_reference, read_reference, spell}
 use Rattle.iref_grammar.proofs.AuthorityLemmas.{read_authority-spelled}
 use Rattle.iref_grammar.proofs.AuthorityRuleLemmas.{authority_read, Decides-has_authority_parts}
-use Rattle.iref_grammar.proofs.RangeLemmas.{authority_range}
-use Rattle.iref_grammar.proofs.ReadablePartsLemmas.{readable_parts}
+use Rattle.iref_grammar.proofs.{RangeLemmas.{authority_range}, ReadablePartsLemmas.{readable_parts}}
 use Rattle.iref_model.specs.ComponentSteps.{with_authority_step}
 use Rattle.iref_model.proofs.ReferenceStepLemmas.{with_whole_authority-readable}
-use Rattle.iref_splice.specs.Changes.{IsWithin}
-use Rattle.iref_splice.specs.declared.change.Span.{Span}
+use Rattle.iref_splice.specs.{Changes.{IsWithin}, declared.change.Span.{Span}}
 use Rattle.iref_reference_text.specs.AuthorityRanges.{IsAuthorityOf, authority_part, range_of_authority}
 use Rattle.iref_reference_text.specs.ComponentLengths.{HasLengths, lengths_of, with_mark}
 use Rattle.iref_reference_text.proofs.EditLemmas.{authority_part_replaced, authority_read as authority_has_parts, is_step, readable_of}

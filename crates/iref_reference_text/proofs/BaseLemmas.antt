@@ -1,32 +1,21 @@
 -- The base of a reference is readable, and its text is a beginning of the whole.
 use Rattle.std.proofs.lemmas.Grind.{common_steps}
 use Rattle.std.proofs.Common.{◌≡◌, ◌+◌, Bool, true, List, [], ◌∷◌, ◌++◌, length, refl, ◌∙◌, ap, append_assoc, arith}
-use Rattle.std.specs.Prelude.{is_some}
-use Rattle.std.specs.List.{join_with_byte, list_all}
-use Rattle.std.specs.Str.{IsUtf8}
 use Rattle.std.proofs.lemmas.List.{append-nil, length-append}
-use Rattle.iref_grammar.specs.declared.context.PathContext.{PathContext}
-use Rattle.iref_grammar.specs.Characters.{CharTests, AreAboveAscii}
-use Rattle.iref_grammar.specs.Rules.{Text}
-use Rattle.iref_grammar.specs.Grammar.{hash_sign, question_mark, slash}
-use Rattle.iref_grammar.specs.Tests.{is_segment}
+use Rattle.std.specs.{Prelude.{is_some}, List.{join_with_byte, list_all}, Str.{IsUtf8}}
+use Rattle.iref_grammar.specs.{declared.context.PathContext.{PathContext}, Characters.{CharTests, AreAboveAscii}}
+use Rattle.iref_grammar.specs.{Rules.{Text}, Grammar.{hash_sign, question_mark, slash}, Tests.{is_segment}}
 use Rattle.iref_grammar.specs.Texts.{all_but_last, pieces_at, then_part}
-use Rattle.iref_grammar.specs.PathValue.{spell_path, read_path, segments_of}
-use Rattle.iref_grammar.specs.Contexts.{fits}
+use Rattle.iref_grammar.specs.{PathValue.{spell_path, read_path, segments_of}, Contexts.{fits}}
 use Rattle.iref_grammar.specs.ComponentTexts.{ComponentTexts, AreComponents, read_components}
 use Rattle.iref_grammar.specs.Reference.{ReferenceValue, context_of, is_readable, spell, read_reference, is_reference, is_uri}
 use Rattle.iref_grammar.specs.ComponentOffsets.{query_mark}
-use Rattle.iref_grammar.proofs.TextLemmas.{join-pieces_at}
-use Rattle.iref_grammar.proofs.PathLemmas.{read_path-reads}
-use Rattle.iref_grammar.proofs.ReadablePartsLemmas.{readable_parts}
-use Rattle.iref_grammar.proofs.ReadableLemmas.{readable_read}
+use Rattle.iref_grammar.proofs.{TextLemmas.{join-pieces_at}, PathLemmas.{read_path-reads}}
+use Rattle.iref_grammar.proofs.{ReadablePartsLemmas.{readable_parts}, ReadableLemmas.{readable_read}}
 use Rattle.iref_grammar.proofs.ComponentLemmas.{uri_if_scheme, scheme_if_uri, reference_if_uri}
-use Rattle.iref_model.specs.NormalList.{closed}
-use Rattle.iref_model.specs.PathFunctions.{directory}
-use Rattle.iref_model.proofs.DirectoryLemmas.{all_but_last-snoc}
-use Rattle.iref_model.proofs.PieceLemmas.{some_piece}
 use Rattle.iref_grammar.proofs.EmptyLemmas.{is_segment_empty}
-use Rattle.iref_model.specs.ReferenceParts.{base_of}
+use Rattle.iref_model.specs.{NormalList.{closed}, PathFunctions.{directory}, ReferenceParts.{base_of}}
+use Rattle.iref_model.proofs.{DirectoryLemmas.{all_but_last-snoc}, PieceLemmas.{some_piece}}
 use Rattle.iref_reference_text.specs.ComponentLengths.{lengths_of_texts, query_after}
 use Rattle.iref_reference_text.proofs.LengthLemmas.{query_after-texts}
 use Rattle.iref_reference_text.proofs.ReferenceTextLemmas.{behind_path, components_utf8}

@@ -1,35 +1,28 @@
 -- What an edit leaves is the spelling of the step of the value.
 use Rattle.std.proofs.Common.{◌≡◌, ◌+◌, Bool, true, [], ◌∷◌, ◌++◌, length, rules, sym, ◌∙◌, ap, arith, append_assoc}
-use Rattle.std.specs.Prelude.{codes, Option, is_some, option_map, Result, Ok, Err, OnOk}
-use Rattle.std.specs.List.{splice}
-use Rattle.std.specs.Str.{IsCharBoundary}
-use Rattle.std.proofs.lemmas.Grind.{common_steps}
-use Rattle.std.proofs.lemmas.Str.{IsCharBoundary-end, IsCharBoundary-start}
-use Rattle.iref_grammar.proofs.ReferenceRuleLemmas.{Decides-is_uri_reference}
+use Rattle.std.proofs.{lemmas.Grind.{common_steps}, lemmas.Str.{IsCharBoundary-end, IsCharBoundary-start}}
 use Rattle.std.proofs.lemmas.List.{places, same_lists}
-use Rattle.iref_grammar.specs.Characters.{CharTests, AreAboveAscii}
-use Rattle.iref_grammar.specs.Rules.{Text}
-use Rattle.iref_grammar.specs.Grammar.{colon, question_mark, hash_sign}
-use Rattle.iref_grammar.specs.Texts.{part_then, then_part}
+use Rattle.std.specs.{Prelude.{codes, Option, is_some, option_map, Result, Ok, Err, OnOk}, List.{splice}}
+use Rattle.std.specs.Str.{IsCharBoundary}
+use Rattle.iref_grammar.proofs.{ReferenceRuleLemmas.{Decides-is_uri_reference}, ReadableLemmas.{readable_read}}
+use Rattle.iref_grammar.proofs.{ReferenceCutLemmas.{read_reference-spelled}, PathTestLemmas.{is_path-segments}}
+use Rattle.iref_grammar.specs.{Characters.{CharTests, AreAboveAscii}, Rules.{Text}}
+use Rattle.iref_grammar.specs.{Grammar.{colon, question_mark, hash_sign}, Texts.{part_then, then_part}}
 use Rattle.iref_grammar.specs.Authority.{AuthorityValue, spell_authority, read_authority, is_authority, has_authority_parts}
 use Rattle.iref_grammar.specs.PathValue.{PathValue, read_path, spell_path}
 use Rattle.iref_grammar.specs.Reference.{ReferenceValue, context_of, spell, read_reference, is_readable, is_reference}
 use Rattle.iref_grammar.specs.ComponentOffsets.{offsets_in, offsets_of}
 use Rattle.iref_grammar.specs.Tests.{is_fragment, is_path, is_query, is_scheme, none_or}
-use Rattle.iref_grammar.proofs.ReadableLemmas.{readable_read}
-use Rattle.iref_grammar.proofs.ReferenceCutLemmas.{read_reference-spelled}
 use Rattle.iref_model.specs.ComponentSteps.{with_query, with_fragment, with_path, with_new_normal_path, with_authority, with_authority_step, with_scheme}
 use Rattle.iref_model.specs.Guard.{guarded}
 use Rattle.iref_model.proofs.ReferenceStepLemmas.{with_authority-readable, with_fragment-readable, with_new_normal_path-readable, with_path-readable, with_query-readable, with_scheme-readable}
-use Rattle.iref_grammar.proofs.PathTestLemmas.{is_path-segments}
-use Rattle.iref_reference_text.specs.AuthorityRanges.{range_of_authority}
-use Rattle.iref_reference_text.specs.declared.lengths.Lengths.{Lengths}
+use Rattle.iref_reference_text.specs.{AuthorityRanges.{range_of_authority}, declared.lengths.Lengths.{Lengths}}
 use Rattle.iref_reference_text.specs.ComponentLengths.{fragment_after, HasLengths, lengths_of, path_after, query_after}
 use Rattle.iref_reference_text.specs.Steps.{Spells}
 use Rattle.iref_splice.specs.Changes.{IsWithin}
 use Rattle.iref_reference_text.proofs.ReferenceTextLemmas.{authority_mark_within, fragment_mark_within, in_rule_utf8, offsets_within}
-use Rattle.iref_splice.proofs.PartLemmas.{first_len}
 use Rattle.iref_reference_text.proofs.LengthLemmas.{fragment_after-lengths, path_after-lengths, query_after-lengths, total-read}
+use Rattle.iref_splice.proofs.PartLemmas.{first_len}
 
 pub readable_of : (set : CharTests) (text : Text) → is_reference set text ≡ true → is_readable set (read_reference text) ≡ true
 unfolding is_reference

@@ -1,24 +1,16 @@
 -- What stays before a path, and before a reference, where no segment begins with a dot.
 use Rattle.std.proofs.Common.{arith, ◌≡◌, ◌+◌, ◌≤◌, true, false, ◌||◌, List, [], ◌∷◌, ◌++◌, ℕ, drop, length, take, refl, ap, append_assoc}
-use Rattle.std.specs.Prelude.{◌≢◌, codes, is_some}
-use Rattle.std.specs.List.{join_with_byte, list_all}
-use Rattle.std.proofs.lemmas.Grind.{common_steps}
-use Rattle.std.proofs.lemmas.List.{append-nil, drop_at}
-use Rattle.iref_grammar.specs.declared.context.PathContext.{PathContext}
-use Rattle.iref_grammar.specs.Rules.{Text}
+use Rattle.std.proofs.{lemmas.Grind.{common_steps}, lemmas.List.{append-nil, drop_at}}
+use Rattle.std.specs.{Prelude.{◌≢◌, codes, is_some}, List.{join_with_byte, list_all}}
+use Rattle.iref_grammar.specs.{declared.context.PathContext.{PathContext}, Rules.{Text}}
 use Rattle.iref_grammar.specs.Grammar.{colon, hash_sign, question_mark, slash}
 use Rattle.iref_grammar.specs.Texts.{all_but_last, lacks, part_then, pieces_at, then_part}
 use Rattle.iref_grammar.specs.PathValue.{PathValue, read_path, segments_of, spell_path}
-use Rattle.iref_grammar.specs.ComponentTexts.{ComponentTexts, read_components, spell_components}
-use Rattle.iref_grammar.specs.Reference.{spell}
+use Rattle.iref_grammar.specs.{ComponentTexts.{ComponentTexts, read_components, spell_components}, Reference.{spell}}
 use Rattle.iref_grammar.proofs.ComponentLemmas.{authority_spelled, spell_components-read}
-use Rattle.iref_grammar.proofs.PathLemmas.{lacks-segments_of, read_path-reads}
-use Rattle.iref_grammar.proofs.TextLemmas.{pieces_at-front}
-use Rattle.iref_model.specs.NormalList.{closed, normal}
-use Rattle.iref_model.specs.PathFunctions.{directory}
-use Rattle.iref_model.specs.PathSteps.{normalized}
-use Rattle.iref_model.specs.ReferenceParts.{base_of}
-use Rattle.iref_model.specs.Resolution.{resolved}
+use Rattle.iref_grammar.proofs.{PathLemmas.{lacks-segments_of, read_path-reads}, TextLemmas.{pieces_at-front}}
+use Rattle.iref_model.specs.{NormalList.{closed, normal}, PathFunctions.{directory}, PathSteps.{normalized}}
+use Rattle.iref_model.specs.{ReferenceParts.{base_of}, Resolution.{resolved}}
 use Rattle.iref_model.proofs.PieceLemmas.{some_piece}
 use Rattle.iref_parse.specs.Dots.{has_dot_segment, is_some_dotted}
 use Rattle.iref_path.specs.MergedPaths.{path_after}
@@ -27,8 +19,7 @@ use Rattle.iref_path.proofs.SlashLemmas.{read-absolute}
 use Rattle.iref_reference_text.specs.ComponentLengths.{lengths_of_texts, path_after as lengths_before, with_mark}
 use Rattle.iref_reference_text.specs.Fronts.{IsAround, IsSpelled, StaysBefore, resolved_path}
 use Rattle.iref_reference_text.specs.MeasuredReferences.{spell_texts}
-use Rattle.iref_reference_text.proofs.LengthLemmas.{path_after-texts}
-use Rattle.iref_reference_text.proofs.MeasuredLemmas.{after_resolved, spelled_texts}
+use Rattle.iref_reference_text.proofs.{LengthLemmas.{path_after-texts}, MeasuredLemmas.{after_resolved, spelled_texts}}
 
 -- ---- an absolute list after an authority
 

@@ -1,10 +1,9 @@
 -- A step of the mapping from the back, in place.
 use Rattle.std.proofs.Common.{◌≡◌, ℕ, ◌+◌, ◌-◌, ◌*◌, ◌<◌, ◌≤◌, not, ◌++◌, length, get_or, take, drop, sym, ◌∙◌, ap, arith, append_assoc, take-append-drop}
-use Rattle.std.specs.Char.{is_ascii}
-use Rattle.std.proofs.lemmas.Grind.{common_steps}
-use Rattle.std.proofs.lemmas.List.Sums.{count_by-le-length}
+use Rattle.std.proofs.{lemmas.Grind.{common_steps}, lemmas.List.Sums.{count_by-le-length}}
 use Rattle.std.proofs.lemmas.List.{length-append, length-drop, length-take-le, take-append-le}
 use Rattle.std.proofs.Math.Seq.{take-length, drop-length, drop-append_seam}
+use Rattle.std.specs.Char.{is_ascii}
 use Rattle.iref_grammar.specs.Rules.{Text}
 use Rattle.iref_model.specs.Mapping.{mapped_byte, mapped, count_escaped, mapped_index}
 use Rattle.iref_model.proofs.MappedLemmas.{mapped-nil, mapped-ascii, length-mapped, none_escaped}

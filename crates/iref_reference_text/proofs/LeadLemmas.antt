@@ -1,20 +1,13 @@
 -- What is written before the path where an authority or a scheme comes or goes.
 use Rattle.std.proofs.Common.{◌≡◌, ◌≤◌, Bool, true, false, not, ◌&&◌, ◌||◌, ◌++◌, length, ap, arith, length-append}
+use Rattle.std.proofs.{lemmas.Bool.{and_from}, lemmas.List.{append-nil}}
 use Rattle.std.specs.Prelude.{Option, is_some, option_map, codes}
-use Rattle.std.proofs.lemmas.Bool.{and_from}
-use Rattle.std.proofs.lemmas.List.{append-nil}
-use Rattle.iref_grammar.specs.declared.context.PathContext.{PathContext}
-use Rattle.iref_grammar.specs.Characters.{CharTests}
-use Rattle.iref_grammar.specs.Rules.{Text}
-use Rattle.iref_grammar.specs.Tests.{is_scheme}
-use Rattle.iref_grammar.specs.Texts.{then_part}
-use Rattle.iref_grammar.specs.Authority.{AuthorityValue, spell_authority}
-use Rattle.iref_grammar.specs.PathValue.{PathValue, spell_path}
-use Rattle.iref_grammar.specs.Contexts.{fits}
+use Rattle.iref_grammar.specs.{declared.context.PathContext.{PathContext}, Characters.{CharTests}, Rules.{Text}}
+use Rattle.iref_grammar.specs.{Tests.{is_scheme}, Texts.{then_part}, Authority.{AuthorityValue, spell_authority}}
+use Rattle.iref_grammar.specs.{PathValue.{PathValue, spell_path}, Contexts.{fits}}
 use Rattle.iref_grammar.specs.Reference.{ReferenceValue, context_of, is_readable}
 use Rattle.iref_grammar.proofs.ReadablePartsLemmas.{readable_parts}
-use Rattle.iref_model.specs.Guard.{guarded}
-use Rattle.iref_model.specs.ComponentSteps.{with_authority, with_scheme}
+use Rattle.iref_model.specs.{Guard.{guarded}, ComponentSteps.{with_authority, with_scheme}}
 use Rattle.iref_reference_text.specs.ComponentLengths.{with_mark}
 use Rattle.iref_reference_text.proofs.LengthLemmas.{context-lengths}
 use Rattle.iref_path.proofs.GuardTextLemmas.{guarded-same, rooted}

@@ -2,16 +2,12 @@
 use Rattle.std.proofs.Common.{◌≡◌, ◌+◌, [], ◌∷◌, length, length-take, refl, ◌∙◌, ap, arith}
 use Rattle.std.proofs.lemmas.Grind.{common_steps}
 use Rattle.std.specs.Prelude.{Option, codes}
-use Rattle.iref_grammar.specs.Rules.{Text}
-use Rattle.iref_grammar.specs.Grammar.{colon}
-use Rattle.iref_grammar.specs.Texts.{part_then, then_part}
+use Rattle.iref_grammar.specs.{Rules.{Text}, Grammar.{colon}, Texts.{part_then, then_part}}
 use Rattle.iref_grammar.specs.ComponentTexts.{ComponentTexts, read_components}
 use Rattle.iref_grammar.specs.Reference.{ReferenceValue, context_of, spell, read_reference}
 use Rattle.iref_grammar.specs.ComponentOffsets.{offsets_in, offsets_of, path_start, query_mark, fragment_mark}
-use Rattle.iref_grammar.proofs.ComponentLemmas.{spelled_as_read}
-use Rattle.iref_grammar.proofs.ReferenceCutLemmas.{read_reference-spelled}
-use Rattle.iref_parse.specs.declared.split.ReferenceSlices.{ReferenceSlices}
-use Rattle.iref_parse.specs.ReferenceSlices.{texts_of, value_of}
+use Rattle.iref_grammar.proofs.{ComponentLemmas.{spelled_as_read}, ReferenceCutLemmas.{read_reference-spelled}}
+use Rattle.iref_parse.specs.{declared.split.ReferenceSlices.{ReferenceSlices}, ReferenceSlices.{texts_of, value_of}}
 use Rattle.iref_splice.proofs.PartLemmas.{first_len}
 use Rattle.iref_reference_text.specs.ComponentLengths.{with_mark, lengths_of, lengths_of_texts, context_by, path_after, query_after, fragment_after, placed, total_length}
 

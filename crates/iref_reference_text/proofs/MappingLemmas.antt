@@ -1,8 +1,7 @@
 -- What the rules of references hold of the mapping.
 use Rattle.std.proofs.Common.{◌≡◌, ap, ◌∙◌}
 use Rattle.std.specs.Prelude.{Bool, true, Option}
-use Rattle.iref_grammar.specs.Characters.{CharTests, AreAboveAscii, uri_chars}
-use Rattle.iref_grammar.specs.Rules.{Text}
+use Rattle.iref_grammar.specs.{Characters.{CharTests, AreAboveAscii, uri_chars}, Rules.{Text}}
 use Rattle.iref_grammar.specs.Reference.{read_reference, is_reference}
 use Rattle.iref_model.specs.Mapping.{mapped}
 use Rattle.iref_model.proofs.AsciiReferenceLemmas.{is_reference-mapped, scheme-tested}

@@ -1,26 +1,18 @@
 -- The components of what a reference resolves to, as texts.
 use Rattle.std.proofs.Common.{arith, ◌≡◌, Bool, true, false, ◌||◌, [], ◌∷◌, refl, ◌∙◌, ap}
-use Rattle.iref_model.proofs.MappedMarkLemmas.{is_some-map}
-use Rattle.std.specs.Prelude.{◌≢◌, Option, is_some}
-use Rattle.std.specs.Borrow.{Bor}
-use Rattle.std.specs.Option.{option_copied, option_or}
-use Rattle.iref_grammar.specs.Rules.{Text}
-use Rattle.iref_grammar.specs.PathValue.{read_path, spell_path}
-use Rattle.iref_grammar.specs.Contexts.{fits}
+use Rattle.iref_model.proofs.{MappedMarkLemmas.{is_some-map}, PieceLemmas.{some_piece}}
+use Rattle.std.specs.{Prelude.{◌≢◌, Option, is_some}, Borrow.{Bor}, Option.{option_copied, option_or}}
+use Rattle.iref_grammar.specs.{Rules.{Text}, PathValue.{read_path, spell_path}, Contexts.{fits}}
 use Rattle.iref_grammar.specs.Characters.{AreAboveAscii, CharTests}
 use Rattle.iref_grammar.specs.Reference.{ReferenceValue, context_of, is_readable, is_reference, read_reference, spell}
 use Rattle.iref_grammar.specs.ComponentTexts.{ComponentTexts, read_components, spell_components}
-use Rattle.iref_grammar.proofs.PathLemmas.{read_path-reads}
-use Rattle.iref_grammar.proofs.ComponentLemmas.{authority_spelled}
-use Rattle.iref_model.specs.PathSteps.{normalized}
-use Rattle.iref_model.specs.Resolution.{is_no_path, resolved}
-use Rattle.iref_model.proofs.PieceLemmas.{some_piece}
+use Rattle.iref_grammar.proofs.{PathLemmas.{read_path-reads}, ComponentLemmas.{authority_spelled}}
+use Rattle.iref_model.specs.{PathSteps.{normalized}, Resolution.{is_no_path, resolved}}
 use Rattle.iref_path.specs.MergedPaths.{path_after}
 use Rattle.iref_path.proofs.GuardTextLemmas.{guarded-same}
 use Rattle.iref_reference_text.specs.ComponentLengths.{lengths_of_texts}
 use Rattle.iref_reference_text.specs.MeasuredReferences.{IsComposed, IsReady, measured_components, spell_texts}
-use Rattle.iref_reference_text.specs.Steps.{Spells}
-use Rattle.iref_reference_text.specs.declared.measured.MeasuredReference.{MeasuredReference}
+use Rattle.iref_reference_text.specs.{Steps.{Spells}, declared.measured.MeasuredReference.{MeasuredReference}}
 use Rattle.iref_reference_text.proofs.EditLemmas.{is_step}
 
 pub or-copied : (first second : Option (Bor Text)) → option_copied (option_or first second) ≡ option_or (option_copied first) (option_copied second)

@@ -1,12 +1,8 @@
 -- The path replaced in the text.
 use Rattle.std.proofs.Common.{◌≡◌, true, arith}
-use Rattle.iref_grammar.specs.Characters.{CharTests}
-use Rattle.iref_grammar.specs.Rules.{Text}
-use Rattle.iref_grammar.specs.Contexts.{is_path_in}
-use Rattle.iref_grammar.specs.PathValue.{read_path}
+use Rattle.iref_grammar.specs.{Characters.{CharTests}, Rules.{Text}, Contexts.{is_path_in}, PathValue.{read_path}}
 use Rattle.iref_grammar.specs.Reference.{ReferenceValue, context_of, spell, read_reference, is_readable}
-use Rattle.iref_grammar.proofs.PathLemmas.{read_path-reads}
-use Rattle.iref_grammar.proofs.ReadablePartsLemmas.{readable_parts}
+use Rattle.iref_grammar.proofs.{PathLemmas.{read_path-reads}, ReadablePartsLemmas.{readable_parts}}
 use Rattle.iref_reference_text.specs.PathTexts.{with_path_text, with_path_read}
 use Rattle.iref_reference_text.proofs.EditLemmas.{path_replaced}
 

@@ -1,36 +1,22 @@
 -- The path of a reference where it stands, and after an edit of it.
 use Rattle.std.proofs.Common.{arith, ◌≡◌, ℕ, ◌+◌, Bool, true, not, ◌&&◌, ◌||◌, length, sym, ◌∙◌}
-use Rattle.std.specs.Prelude.{Option}
-use Rattle.std.specs.List.{splice}
-use Rattle.std.specs.declared.ops.Range.{Range}
-use Rattle.iref_grammar.specs.declared.context.PathContext.{PathContext}
-use Rattle.iref_grammar.specs.Characters.{CharTests, AreAboveAscii}
-use Rattle.iref_grammar.specs.Rules.{Text}
-use Rattle.iref_grammar.specs.Tests.{is_path}
-use Rattle.iref_grammar.specs.Texts.{is_empty}
-use Rattle.iref_grammar.specs.Contexts.{is_path_in}
-use Rattle.iref_grammar.specs.PathValue.{PathValue, read_path, spell_path}
-use Rattle.iref_grammar.specs.ComponentOffsets.{offsets_in, offsets_of}
+use Rattle.std.specs.{Prelude.{Option}, List.{splice}, declared.ops.Range.{Range}}
+use Rattle.iref_grammar.specs.{declared.context.PathContext.{PathContext}, Characters.{CharTests, AreAboveAscii}}
+use Rattle.iref_grammar.specs.{Rules.{Text}, Tests.{is_path}, Texts.{is_empty}, Contexts.{is_path_in}}
+use Rattle.iref_grammar.specs.{PathValue.{PathValue, read_path, spell_path}, ComponentOffsets.{offsets_in, offsets_of}}
 use Rattle.iref_grammar.specs.Reference.{ReferenceValue, read_reference, context_of, is_readable, is_reference}
-use Rattle.iref_grammar.proofs.PathLemmas.{read_path-reads, read-spelled}
-use Rattle.iref_grammar.proofs.PathTestLemmas.{is_path-segments}
-use Rattle.iref_grammar.proofs.ReadableLemmas.{readable_delimited}
-use Rattle.iref_grammar.proofs.ReadablePartsLemmas.{readable_parts}
-use Rattle.iref_model.specs.Guard.{guarded, made_absolute}
-use Rattle.iref_model.specs.NormalList.{normal}
+use Rattle.iref_grammar.proofs.{PathLemmas.{read_path-reads, read-spelled}, PathTestLemmas.{is_path-segments}}
+use Rattle.iref_grammar.proofs.{ReadableLemmas.{readable_delimited}, ReadablePartsLemmas.{readable_parts}}
+use Rattle.iref_grammar.proofs.RangeLemmas.{path_range}
+use Rattle.iref_model.specs.{Guard.{guarded, made_absolute}, NormalList.{normal}}
 use Rattle.iref_model.specs.ComponentSteps.{with_path, with_new_normal_path}
 use Rattle.iref_model.proofs.NormalPathLemmas.{normal-with_dot}
 use Rattle.iref_model.proofs.ReferenceStepLemmas.{with_path-readable, with_normal_path-removes}
-use Rattle.iref_path.specs.PathParts.{is_path_after}
-use Rattle.iref_path.specs.Spelling.{normal_in}
-use Rattle.iref_grammar.proofs.RangeLemmas.{path_range}
-use Rattle.iref_splice.specs.Changes.{IsWithin, part_at}
-use Rattle.iref_splice.specs.declared.change.Span.{Span}
-use Rattle.iref_reference_text.specs.ComponentLengths.{HasLengths, lengths_of}
-use Rattle.iref_reference_text.specs.PathRanges.{IsPathOf, RemovesDots}
+use Rattle.iref_path.specs.{PathParts.{is_path_after}, Spelling.{normal_in}}
+use Rattle.iref_splice.specs.{Changes.{IsWithin, part_at}, declared.change.Span.{Span}}
+use Rattle.iref_reference_text.specs.{ComponentLengths.{HasLengths, lengths_of}, PathRanges.{IsPathOf, RemovesDots}}
 use Rattle.iref_reference_text.specs.PathTexts.{with_path_read}
-use Rattle.iref_reference_text.proofs.ReferenceTextLemmas.{offsets_within}
-use Rattle.iref_reference_text.proofs.EditLemmas.{is_step, readable_of}
+use Rattle.iref_reference_text.proofs.{ReferenceTextLemmas.{offsets_within}, EditLemmas.{is_step, readable_of}}
 use Rattle.iref_reference_text.proofs.PathEditLemmas.{path_text_replaced, read_path-readable}
 
 -- ---- where it stands

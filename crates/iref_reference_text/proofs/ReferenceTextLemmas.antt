@@ -1,32 +1,26 @@
 -- A reference is cut between characters where its components begin and end.
 use Rattle.std.proofs.Common.{◌≡◌, ℕ, ◌+◌, ◌<◌, zero, suc, slice_index, lit<, Bool, true, [], ◌∷◌, ◌++◌, length, take, IsUtf8, rules, refl, sym, ◌∙◌, ap, arith, append_assoc}
-use Rattle.std.specs.Prelude.{codes, Option, Some, None, IfSome, option_map}
-use Rattle.std.specs.Bool.{Decides}
-use Rattle.std.specs.Str.{IsCharBoundary}
 use Rattle.std.proofs.lemmas.Str.{IsCharBoundary-at_seam, IsUtf8-append, IsUtf8-nil, IsUtf8-from_ascii}
 use Rattle.std.proofs.lemmas.List.{append-nil, length-append, places, same_lists}
-use Rattle.iref_grammar.specs.Characters.{CharTests, AreAboveAscii}
-use Rattle.iref_grammar.specs.Rules.{Text, Rule, InUtf8}
+use Rattle.std.specs.{Prelude.{codes, Option, Some, None, IfSome, option_map}, Bool.{Decides}, Str.{IsCharBoundary}}
+use Rattle.iref_grammar.specs.{Characters.{CharTests, AreAboveAscii}, Rules.{Text, Rule, InUtf8}}
 use Rattle.iref_grammar.specs.Grammar.{colon, slash, question_mark, hash_sign}
-use Rattle.iref_grammar.specs.Texts.{before, after, part_then, then_part}
-use Rattle.iref_grammar.specs.Tests.{none_or}
-use Rattle.iref_grammar.specs.Authority.{spell_authority}
-use Rattle.iref_grammar.specs.PathValue.{spell_path}
+use Rattle.iref_grammar.specs.{Texts.{before, after, part_then, then_part}, Tests.{none_or}}
+use Rattle.iref_grammar.specs.{Authority.{spell_authority}, PathValue.{spell_path}}
 use Rattle.iref_grammar.specs.Reference.{ReferenceValue, hierarchy, split_scheme, split_authority, spell, read_reference, is_reference}
 use Rattle.iref_grammar.specs.ComponentTexts.{ComponentTexts, AreComponents, spell_components, read_components}
 use Rattle.iref_grammar.specs.ComponentOffsets.{range_from, authority_mark, fragment_mark, offsets_in, offsets_of}
 use Rattle.iref_grammar.proofs.LeafLemmas.{Decides-is_query, Decides-is_fragment}
-use Rattle.iref_grammar.proofs.PartRuleLemmas.{Decides-is_scheme_bytes}
-use Rattle.iref_grammar.proofs.AuthorityRuleLemmas.{Decides-is_authority}
+use Rattle.iref_grammar.proofs.{PartRuleLemmas.{Decides-is_scheme_bytes}, AuthorityRuleLemmas.{Decides-is_authority}}
 use Rattle.iref_grammar.proofs.PathTextLemmas.{Decides-is_path}
 use Rattle.iref_grammar.proofs.ComponentLemmas.{Decides-AreComponents, spelled_as_read}
 use Rattle.iref_grammar.proofs.RangeLemmas.{scheme_range, authority_range, path_range, query_range, fragment_range}
 use Rattle.iref_grammar.proofs.ReferenceCutLemmas.{read_reference-spelled}
-use Rattle.iref_reference_text.specs.ComponentLengths.{fragment_after, lengths_of, query_after}
-use Rattle.iref_reference_text.proofs.LengthLemmas.{fragment_after-lengths, query_after-lengths}
-use Rattle.iref_reference_text.specs.RangeTexts.{AreWithin, texts_at}
-use Rattle.iref_splice.specs.Changes.{IsWithin}
 use Rattle.iref_grammar.proofs.FrontLemmas.{read_reference-before_hash, read_reference-hierarchy}
+use Rattle.iref_reference_text.specs.ComponentLengths.{fragment_after, lengths_of, query_after}
+use Rattle.iref_reference_text.specs.RangeTexts.{AreWithin, texts_at}
+use Rattle.iref_reference_text.proofs.LengthLemmas.{fragment_after-lengths, query_after-lengths}
+use Rattle.iref_splice.specs.Changes.{IsWithin}
 
 -- what stands at the offsets of a text are its components
 pub texts_at-offsets : (text : Text) → texts_at text (offsets_of text) ≡ spell_components (read_reference text)

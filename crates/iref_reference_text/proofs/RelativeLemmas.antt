@@ -1,16 +1,10 @@
 -- The paths of a target and a base, compared.
 use Rattle.std.proofs.Common.{◌≡◌, Bool, Decides, false, true, List, [], ◌∷◌, ap, arith, refl, subst}
-use Rattle.std.specs.Prelude.{Option, codes, is_none, map}
-use Rattle.std.specs.Borrow.{Bor}
-use Rattle.std.specs.Option.{option_copied}
+use Rattle.std.specs.{Prelude.{Option, codes, is_none, map}, Borrow.{Bor}, Option.{option_copied}}
 use Rattle.percent_encoding.specs.Percent.{percent_decode}
-use Rattle.iref_grammar.specs.Rules.{Text}
-use Rattle.iref_grammar.specs.PathValue.{PathValue, read_path}
-use Rattle.iref_grammar.specs.Texts.{is_empty}
+use Rattle.iref_grammar.specs.{Rules.{Text}, PathValue.{PathValue, read_path}, Texts.{is_empty}}
 use Rattle.iref_grammar.specs.ComponentTexts.{ComponentTexts, read_components}
-use Rattle.iref_model.specs.NormalList.{normal_segments, staying_names}
-use Rattle.iref_model.specs.PathKey.{path_key}
-use Rattle.iref_model.specs.Relative.{have_same_path}
+use Rattle.iref_model.specs.{NormalList.{normal_segments, staying_names}, PathKey.{path_key}, Relative.{have_same_path}}
 use Rattle.iref_model.proofs.PathKeyLemmas.{tie_from_decides}
 
 pub none-copied : (o : Option (Bor Text)) → is_none o ≡ is_none (option_copied o)

@@ -2,11 +2,9 @@
 use Rattle.std.proofs.Common.{◌≡◌, false, true, ◌||◌, [], arith}
 use Rattle.std.specs.Prelude.{◌≢◌, is_some}
 use Rattle.iref_grammar.proofs.ComponentLemmas.{is_some-copied}
-use Rattle.iref_grammar.specs.ComponentTexts.{ComponentTexts}
-use Rattle.iref_grammar.specs.PathValue.{read_path}
+use Rattle.iref_grammar.specs.{ComponentTexts.{ComponentTexts}, PathValue.{read_path}}
 use Rattle.iref_path.proofs.PathTextLemmas.{nothing, something}
-use Rattle.iref_reference_text.specs.Rows.{has_path, row_of}
-use Rattle.iref_reference_text.specs.declared.row.Row.{Row}
+use Rattle.iref_reference_text.specs.{Rows.{has_path, row_of}, declared.row.Row.{Row}}
 use Rattle.iref_reference_text.specs.declared.row.Row.TheVariants.{Merged, Own, Rooted}
 
 pub own_row : (t : ComponentTexts) → Own ≡ row_of t → (is_some t.scheme || is_some t.authority) ≡ true

@@ -1,13 +1,8 @@
 -- A scheme and its delimiter are a reference, in each rule that allows the scheme.
-use Rattle.std.proofs.Common.{◌≡◌, Bool, true, false, [], ◌∷◌, ◌++◌, refl, sym}
+use Rattle.std.proofs.{Common.{◌≡◌, Bool, true, false, [], ◌∷◌, ◌++◌, refl, sym}, lemmas.List.{append-nil}}
 use Rattle.std.specs.Prelude.{Option, Some, None}
-use Rattle.std.proofs.lemmas.List.{append-nil}
-use Rattle.iref_grammar.specs.Characters.{CharTests, AreAboveAscii}
-use Rattle.iref_grammar.specs.Rules.{Text}
-use Rattle.iref_grammar.specs.Grammar.{colon}
-use Rattle.iref_grammar.specs.Tests.{is_scheme}
-use Rattle.iref_grammar.specs.PathValue.{spell_path}
-use Rattle.iref_grammar.specs.Reference.{ReferenceValue, spell, read_reference, is_reference}
+use Rattle.iref_grammar.specs.{Characters.{CharTests, AreAboveAscii}, Rules.{Text}, Grammar.{colon}, Tests.{is_scheme}}
+use Rattle.iref_grammar.specs.{PathValue.{spell_path}, Reference.{ReferenceValue, spell, read_reference, is_reference}}
 use Rattle.iref_grammar.proofs.ReadablePartsLemmas.{readable_from}
 use Rattle.iref_reference_text.proofs.EditLemmas.{is_step}
 

@@ -1,26 +1,16 @@
 -- What a target and a base have in common, and the shortest reference by that.
 use Rattle.std.proofs.Common.{◌≡◌, ℕ, Bool, true, false, ◌&&◌, [], ◌∷◌, ◌++◌, length, ap, refl, sym, ◌∙◌}
-use Rattle.std.proofs.lemmas.Bool.Decides.{same_from_decides}
-use Rattle.std.proofs.lemmas.List.{append_cancel_left, append_cancel_right}
+use Rattle.std.proofs.{lemmas.Bool.Decides.{same_from_decides}, lemmas.List.{append_cancel_left, append_cancel_right}}
 use Rattle.std.proofs.lemmas.Slice.Eq.{bytes_eq-Decides}
 use Rattle.std.specs.Prelude.{Option, None, Some, bytes_eq, codes, if◌then◌else◌, is_some, nat_lt, option_map}
-use Rattle.std.specs.Borrow.{Bor}
-use Rattle.std.specs.Option.{option_copied, option_eq}
-use Rattle.iref_grammar.specs.Rules.{Text}
-use Rattle.iref_grammar.specs.Grammar.{colon, question_mark}
-use Rattle.iref_grammar.specs.Texts.{part_then, then_part}
-use Rattle.iref_grammar.specs.Authority.{read_authority, spell_authority}
-use Rattle.iref_grammar.specs.PathValue.{read_path, spell_path}
+use Rattle.std.specs.{Borrow.{Bor}, Option.{option_copied, option_eq}}
+use Rattle.iref_grammar.specs.{Rules.{Text}, Grammar.{colon, question_mark}, Texts.{part_then, then_part}}
+use Rattle.iref_grammar.specs.{Authority.{read_authority, spell_authority}, PathValue.{read_path, spell_path}}
 use Rattle.iref_grammar.specs.ComponentTexts.{ComponentTexts, read_components, spell_components}
-use Rattle.iref_grammar.specs.Reference.{ReferenceValue, spell}
-use Rattle.iref_grammar.proofs.ComponentLemmas.{authority_spelled}
-use Rattle.iref_grammar.proofs.PathLemmas.{read_path-reads}
+use Rattle.iref_grammar.specs.{Reference.{ReferenceValue, spell}, Contexts.{alone}}
+use Rattle.iref_grammar.proofs.{ComponentLemmas.{authority_spelled}, PathLemmas.{read_path-reads}}
 use Rattle.iref_model.proofs.MappedMarkLemmas.{is_some-map}
-use Rattle.iref_grammar.specs.Contexts.{alone}
-use Rattle.iref_model.specs.Guard.{guarded}
-use Rattle.iref_model.specs.NormalList.{normal}
-use Rattle.iref_model.specs.PathSteps.{normalized}
-use Rattle.iref_model.specs.Relative.{with_only_path}
+use Rattle.iref_model.specs.{Guard.{guarded}, NormalList.{normal}, PathSteps.{normalized}, Relative.{with_only_path}}
 use Rattle.iref_model.specs.Relativized.{authority_text, empty_path, fragment_alone, relative_path, same_scheme_text, same_authority_text, same_path_text, same_query_text}
 use Rattle.iref_model.specs.RelativizedChoice.{chosen, shorter_of, with_a_path, with_own_scheme, with_whole_path}
 use Rattle.iref_model.specs.RelativizedTests.{is_reachable, is_settled}

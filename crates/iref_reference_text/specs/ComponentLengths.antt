@@ -1,14 +1,9 @@
 -- How long the components of a reference are, and where they stand then.
 use Rattle.std.specs.Prelude.{◌≡◌, Bool, true, not, nat_eq, nat_lt, if◌then◌else◌, ℕ, zero, suc, ◌+◌, length}
-use Rattle.std.specs.Prelude.{Option, Some, None, option_map}
-use Rattle.std.specs.declared.ops.Range.{Range}
-use Rattle.iref_grammar.specs.declared.context.PathContext.{PathContext}
-use Rattle.iref_grammar.specs.declared.offsets.Offsets.{Offsets}
-use Rattle.iref_grammar.specs.Rules.{Text}
-use Rattle.iref_grammar.specs.Authority.{spell_authority}
-use Rattle.iref_grammar.specs.ComponentTexts.{ComponentTexts}
-use Rattle.iref_grammar.specs.PathValue.{spell_path}
-use Rattle.iref_grammar.specs.Reference.{ReferenceValue, read_reference}
+use Rattle.std.specs.{Prelude.{Option, Some, None, option_map}, declared.ops.Range.{Range}}
+use Rattle.iref_grammar.specs.{declared.context.PathContext.{PathContext}, declared.offsets.Offsets.{Offsets}}
+use Rattle.iref_grammar.specs.{Rules.{Text}, Authority.{spell_authority}, ComponentTexts.{ComponentTexts}}
+use Rattle.iref_grammar.specs.{PathValue.{spell_path}, Reference.{ReferenceValue, read_reference}}
 use Rattle.iref_reference_text.specs.declared.lengths.Lengths.{Lengths}
 pub use Rattle.iref_splice.specs.Changes.{with_mark}
 

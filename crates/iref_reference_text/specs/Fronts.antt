@@ -1,16 +1,11 @@
 -- The front part of a base's text that stays before a reference's text (RFC 3986 sections 5.2.3 and 5.3).
 use Rattle.std.specs.Prelude.{◌≡◌, ℕ, true, [], ◌∷◌, ◌++◌, codes, is_some, length}
-use Rattle.iref_grammar.specs.declared.context.PathContext.{PathContext}
-use Rattle.iref_grammar.specs.Rules.{Text}
-use Rattle.iref_grammar.specs.Grammar.{colon}
-use Rattle.iref_grammar.specs.Texts.{part_then, then_part}
-use Rattle.iref_grammar.specs.ComponentTexts.{ComponentTexts}
-use Rattle.iref_grammar.specs.PathValue.{read_path, spell_path}
-use Rattle.iref_grammar.specs.Reference.{ReferenceValue, spell}
+use Rattle.iref_grammar.specs.{declared.context.PathContext.{PathContext}, Rules.{Text}, Grammar.{colon}}
+use Rattle.iref_grammar.specs.{Texts.{part_then, then_part}, ComponentTexts.{ComponentTexts}}
+use Rattle.iref_grammar.specs.{PathValue.{read_path, spell_path}, Reference.{ReferenceValue, spell}}
 use Rattle.iref_model.specs.PathSteps.{normalized}
 use Rattle.iref_path.specs.MergedPaths.{path_after}
-use Rattle.iref_reference_text.specs.ComponentLengths.{lengths_of}
-use Rattle.iref_reference_text.specs.declared.lengths.Lengths.{Lengths}
+use Rattle.iref_reference_text.specs.{ComponentLengths.{lengths_of}, declared.lengths.Lengths.{Lengths}}
 
 -- the path that one resolves to after these components
 abbrev pub resolved_path : ComponentTexts → Text → Text

@@ -1,9 +1,6 @@
 -- The components of a reference that is not written yet.
-use Rattle.std.specs.Prelude.{Bool, [], ◌∷◌, ◌++◌, codes}
-use Rattle.std.specs.Option.{option_copied}
-use Rattle.iref_grammar.specs.Rules.{Text}
-use Rattle.iref_grammar.specs.Grammar.{colon, question_mark, hash_sign}
-use Rattle.iref_grammar.specs.Texts.{part_then, then_part}
+use Rattle.std.specs.{Prelude.{Bool, [], ◌∷◌, ◌++◌, codes}, Option.{option_copied}}
+use Rattle.iref_grammar.specs.{Rules.{Text}, Grammar.{colon, question_mark, hash_sign}, Texts.{part_then, then_part}}
 use Rattle.iref_grammar.specs.ComponentTexts.{ComponentTexts}
 use Rattle.iref_path.specs.MeasuredPaths.{IsMeasured, measured_text}
 use Rattle.iref_reference_text.specs.ComponentLengths.{HasLengths, lengths_of_texts}

@@ -1,11 +1,8 @@
 -- Where the path of a reference stands, and what is left of it without dot segments.
 use Rattle.std.specs.Prelude.{ℕ, ◌≡◌, ◌≤◌, true, [], is_some, length}
 use Rattle.std.proofs.Props.{props}
-use Rattle.iref_grammar.specs.declared.context.PathContext.{PathContext}
-use Rattle.iref_grammar.specs.Characters.{CharTests}
-use Rattle.iref_grammar.specs.Rules.{Text}
-use Rattle.iref_grammar.specs.PathValue.{spell_path}
-use Rattle.iref_grammar.specs.Reference.{ReferenceValue, read_reference, is_reference}
+use Rattle.iref_grammar.specs.{declared.context.PathContext.{PathContext}, Characters.{CharTests}, Rules.{Text}}
+use Rattle.iref_grammar.specs.{PathValue.{spell_path}, Reference.{ReferenceValue, read_reference, is_reference}}
 use Rattle.iref_grammar.specs.ComponentOffsets.{offsets_of}
 use Rattle.iref_grammar.proofs.RangeLemmas.{path_inside}
 use Rattle.iref_model.specs.DotSegments.{RemovesDotSegments}

@@ -1,12 +1,7 @@
 -- The texts of the authority and the path of a reference, and the reference with another path.
-use Rattle.std.specs.Prelude.{codes, option_map}
-use Rattle.std.specs.List.{splice}
-use Rattle.iref_grammar.specs.Rules.{Text}
-use Rattle.iref_grammar.specs.Texts.{then_part}
-use Rattle.iref_grammar.specs.Authority.{spell_authority}
-use Rattle.iref_grammar.specs.PathValue.{read_path}
-use Rattle.iref_grammar.specs.Reference.{ReferenceValue, read_reference}
-use Rattle.iref_grammar.specs.ComponentOffsets.{offsets_of, text_at}
+use Rattle.std.specs.{Prelude.{codes, option_map}, List.{splice}}
+use Rattle.iref_grammar.specs.{Rules.{Text}, Texts.{then_part}, Authority.{spell_authority}, PathValue.{read_path}}
+use Rattle.iref_grammar.specs.{Reference.{ReferenceValue, read_reference}, ComponentOffsets.{offsets_of, text_at}}
 
 -- the authority and its delimiter
 abbrev pub authority_text : Text → Text

@@ -1,9 +1,7 @@
 -- What stands at offsets in a text.
 use Rattle.std.specs.Prelude.{IfSome, option_map}
 use Rattle.iref_splice.specs.Changes.{IsWithin}
-use Rattle.iref_grammar.specs.declared.offsets.Offsets.{Offsets}
-use Rattle.iref_grammar.specs.Rules.{Text}
-use Rattle.iref_grammar.specs.ComponentTexts.{ComponentTexts}
+use Rattle.iref_grammar.specs.{declared.offsets.Offsets.{Offsets}, Rules.{Text}, ComponentTexts.{ComponentTexts}}
 use Rattle.iref_grammar.specs.ComponentOffsets.{text_at}
 
 -- each range lies in the text, and begins and ends between characters

@@ -1,10 +1,7 @@
 -- The row of the table by which a reference is resolved (RFC 3986 section 5.2.2).
 use Rattle.std.specs.Prelude.{Bool, true, false, ◌||◌, is_some, if◌then◌else◌}
-use Rattle.iref_grammar.specs.ComponentTexts.{ComponentTexts}
-use Rattle.iref_grammar.specs.PathValue.{read_path}
-use Rattle.iref_grammar.specs.Texts.{is_empty}
-use Rattle.iref_reference_text.specs.declared.row.Row.{Row}
-use Rattle.iref_reference_text.specs.declared.row.Row.TheVariants.{Own, Base, Rooted, Merged}
+use Rattle.iref_grammar.specs.{ComponentTexts.{ComponentTexts}, PathValue.{read_path}, Texts.{is_empty}}
+use Rattle.iref_reference_text.specs.{declared.row.Row.{Row}, declared.row.Row.TheVariants.{Own, Base, Rooted, Merged}}
 
 abbrev pub row_of : ComponentTexts → Row
 row_of t =

@@ -1,7 +1,6 @@
 -- What an edit leaves: the spelling of a value, which is read back.
 use Rattle.std.specs.Prelude.{◌≡◌, Result, MatchResult}
-use Rattle.iref_grammar.specs.Rules.{Text}
-use Rattle.iref_grammar.specs.Reference.{ReferenceValue, read_reference, spell}
+use Rattle.iref_grammar.specs.{Rules.{Text}, Reference.{ReferenceValue, read_reference, spell}}
 
 -- the text spells the value, and is read as it
 abbrev pub Spells : ReferenceValue → Text → Type 0

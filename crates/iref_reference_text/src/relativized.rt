@@ -1,8 +1,7 @@
 //! The shortest reference that resolves against a base to a target's very text (RFC 3986 sections
 //! 4.2 and 5.2).
 ghost use Rattle.std.specs.Option.{option_copied};
-ghost use Rattle.std.specs.Prelude.{◌≡◌, ◌+◌, ◌*◌, ◌<◌, ◌^◌, ◌&&◌, IfOk, IfSome, is_some, length, option_map};
-ghost use Rattle.std.specs.Prelude.{true};
+ghost use Rattle.std.specs.Prelude.{◌≡◌, ◌+◌, ◌*◌, ◌<◌, ◌^◌, ◌&&◌, IfOk, IfSome, is_some, length, option_map, true};
 ghost use Rattle.iref_grammar.specs.{Contexts.{fits}, Reference.{ReferenceValue, context_of}};
 ghost use Rattle.iref_grammar.specs.{spell_components, spell_path};
 ghost use Rattle.iref_parse.specs.{value_of};

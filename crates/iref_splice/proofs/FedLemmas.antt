@@ -1,7 +1,6 @@
 -- The pieces of a text that a hasher reads, where they are cut.
 use Rattle.std.proofs.Common.{◌≡◌, ℕ, ◌+◌, ◌<◌, ◌≤◌, [], ◌∷◌, ◌++◌, length, refl, sym, ◌∙◌, ap, arith, length-append}
-use Rattle.std.proofs.lemmas.Bool.Decides.{nat_tests}
-use Rattle.std.proofs.lemmas.List.{append-nil}
+use Rattle.std.proofs.{lemmas.Bool.Decides.{nat_tests}, lemmas.List.{append-nil}}
 use Rattle.std.specs.Hash.{u8}
 use Rattle.iref_grammar.specs.Rules.{Text}
 use Rattle.iref_splice.specs.Fed.{fed_text, full_piece, next_piece, waiting_after, written_after}

@@ -1,14 +1,9 @@
 -- A part after an edit within it.
 use Rattle.std.proofs.Common.{◌≡◌, ℕ, ◌+◌, ◌-◌, ◌≤◌, List, [], ◌∷◌, Option, length, ◌∙◌, length-append, length-take, length-drop, arith, rules}
-use Rattle.std.specs.List.{splice, slice_range}
-use Rattle.std.specs.Str.{IsCharBoundary}
-use Rattle.std.specs.declared.ops.Range.{Range}
-use Rattle.std.proofs.lemmas.Grind.{common_steps}
-use Rattle.std.proofs.lemmas.List.{places, same_lists}
-use Rattle.iref_grammar.specs.Rules.{Text}
-use Rattle.iref_grammar.specs.Texts.{part_then}
-use Rattle.iref_splice.specs.Changes.{IsWithin, part_at, with_mark}
-use Rattle.iref_splice.specs.declared.change.Span.{Span}
+use Rattle.std.proofs.{lemmas.Grind.{common_steps}, lemmas.List.{places, same_lists}}
+use Rattle.std.specs.{List.{splice, slice_range}, Str.{IsCharBoundary}, declared.ops.Range.{Range}}
+use Rattle.iref_grammar.specs.{Rules.{Text}, Texts.{part_then}}
+use Rattle.iref_splice.specs.{Changes.{IsWithin, part_at, with_mark}, declared.change.Span.{Span}}
 
 splice-within : (bs text : List ℕ) (start end from to : ℕ) → start ≤ from → from ≤ to → to ≤ end → end ≤ length bs → splice bs from to text ≡ splice bs start end (splice (slice_range bs start end) (from - start) (to - start) text)
 splice-within bs text start end from to h1 h2 h3 h4 = same_lists _ _ (search (rules, places)) (λ k d h. grind (arith, places))

@@ -1,10 +1,9 @@
 -- A text after a change between characters is text.
 use Rattle.std.proofs.Common.{◌≡◌, Bool, true, false, cond, ◌++◌, take, drop, IsUtf8, OnOk, OnErr, sym, subst}
-use Rattle.std.specs.Prelude.{Result, Ok, Err}
 use Rattle.std.proofs.lemmas.Str.{IsUtf8-append, IsUtf8-drop, IsUtf8-take}
+use Rattle.std.specs.Prelude.{Result, Ok, Err}
 use Rattle.iref_grammar.specs.Rules.{Text}
-use Rattle.iref_splice.specs.declared.change.Change.{Change}
-use Rattle.iref_splice.specs.Changes.{IsWithin, changed, pieces}
+use Rattle.iref_splice.specs.{declared.change.Change.{Change}, Changes.{IsWithin, changed, pieces}}
 
 pub changed_is_text : (text : Text) (change : Change) → IsWithin text change.within → IsUtf8 text → IsUtf8 change.first.now → IsUtf8 change.middle.now → IsUtf8 change.close.now
     → IsUtf8 (changed text change)

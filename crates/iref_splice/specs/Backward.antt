@@ -1,7 +1,6 @@
 -- What takes a text from its end, piece by piece.
 use Rattle.std.specs.Prelude.{ℕ, ◌+◌, ◌-◌, ◌^◌, Bool, false, Option, Some, None, length, take, drop, min, max, bytes_eq, if◌then◌else◌}
-use Rattle.iref_grammar.specs.Rules.{Text}
-use Rattle.iref_grammar.specs.Texts.{is_empty}
+use Rattle.iref_grammar.specs.{Rules.{Text}, Texts.{is_empty}}
 
 -- the greatest number that is counted
 abbrev pub most : ℕ

@@ -1,11 +1,8 @@
 -- The new texts of a change, the text after it, the part in a range, and the length of a part with its delimiter.
-use Rattle.std.specs.Prelude.{ℕ, ◌+◌, ◌-◌, ◌≤◌, ◌++◌, Option, Some, None, length, slice_range}
-use Rattle.std.specs.List.{splice}
-use Rattle.std.specs.Str.{IsCharBoundary}
-use Rattle.std.specs.declared.ops.Range.{Range}
+use Rattle.std.specs.{Prelude.{ℕ, ◌+◌, ◌-◌, ◌≤◌, ◌++◌, Option, Some, None, length, slice_range}, List.{splice}}
+use Rattle.std.specs.{Str.{IsCharBoundary}, declared.ops.Range.{Range}}
 use Rattle.iref_grammar.specs.Rules.{Text}
-use Rattle.iref_splice.specs.declared.change.Change.{Change}
-use Rattle.iref_splice.specs.declared.change.Span.{Span}
+use Rattle.iref_splice.specs.{declared.change.Change.{Change}, declared.change.Span.{Span}}
 
 -- the range lies in the text, and begins and ends between characters
 pub record IsWithin (text : Text) (range : Range ℕ) : Type 0 where

@@ -1,7 +1,6 @@
 -- What a hasher reads of a text: pieces of 256 bytes, cut from its end and in this order, then what is left of its front, and then 255.
 use Rattle.std.specs.Prelude.{◌≡◌, ℕ, ◌==◌, not, Bool, List, [], ◌∷◌, ◌++◌, length, if◌then◌else◌}
-use Rattle.std.specs.List.{concat, list_all}
-use Rattle.std.specs.Hash.{HashWrites, u8}
+use Rattle.std.specs.{List.{concat, list_all}, Hash.{HashWrites, u8}}
 use Rattle.iref_grammar.specs.Rules.{Text}
 
 -- a byte before the piece that waits, or alone where that is full

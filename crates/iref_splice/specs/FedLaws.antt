@@ -1,6 +1,5 @@
 -- The pieces of a text that a hasher reads: one text before another is one text, and 256 bytes are a piece.
-use Rattle.std.proofs.Common.{◌≡◌, [], ◌∷◌, ◌++◌, fold, refl, sym, ◌∙◌, ap, append_assoc}
-use Rattle.std.proofs.lemmas.List.{append-nil}
+use Rattle.std.proofs.{Common.{◌≡◌, [], ◌∷◌, ◌++◌, fold, refl, sym, ◌∙◌, ap, append_assoc}, lemmas.List.{append-nil}}
 use Rattle.std.proofs.lemmas.List.Sums.{fold-append}
 use Rattle.iref_grammar.specs.Rules.{Text}
 use Rattle.iref_splice.specs.Fed.{full_piece, next_piece, waiting_after, written_after}

@@ -1,6 +1,5 @@
 -- A slice that is filled from its end.
-use Rattle.std.specs.Borrow.{GName}
-use Rattle.std.specs.Prelude.{◌≡◌, ℕ, ◌-◌, ◌≤◌, ◌++◌, length, nat_le, take, drop, if◌then◌else◌}
+use Rattle.std.specs.{Borrow.{GName}, Prelude.{◌≡◌, ℕ, ◌-◌, ◌≤◌, ◌++◌, length, nat_le, take, drop, if◌then◌else◌}}
 use Rattle.iref_grammar.specs.Rules.{Text}
 use Rattle.iref_splice.specs.declared.backward.Filled.{Filled}
 

@@ -1,7 +1,6 @@
 -- A slice that is filled from its end: nothing changes it, and one piece before another is one piece.
 use Rattle.std.proofs.Common.{◌≡◌, ℕ, ◌-◌, ◌≤◌, [], ◌++◌, length, sym, ◌∙◌, arith, append_assoc, length-append, length-take, length-drop, take-append-drop, take, drop, length-take-le}
-use Rattle.std.proofs.lemmas.Bool.Decides.{nat_tests}
-use Rattle.std.proofs.lemmas.List.{drop_at, take-append-le, take-take}
+use Rattle.std.proofs.{lemmas.Bool.Decides.{nat_tests}, lemmas.List.{drop_at, take-append-le, take-take}}
 use Rattle.iref_grammar.specs.Rules.{Text}
 use Rattle.iref_splice.specs.Filled.{HasRoom, filled_after, piece_start, with_piece}
 use Rattle.iref_splice.specs.declared.backward.Filled.{Filled}

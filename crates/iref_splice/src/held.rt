@@ -1,6 +1,5 @@
 //! A text that is counted from its end, and held in a buffer if it is short.
-ghost use Rattle.std.specs.Prelude.{◌≡◌, ◌<◌, ◌≤◌, IfOk, OnErr, None, Some};
-ghost use Rattle.std.specs.Prelude.{if◌then◌else◌, length, nat_le, ⊤};
+ghost use Rattle.std.specs.Prelude.{◌≡◌, ◌<◌, ◌≤◌, IfOk, OnErr, None, Some, if◌then◌else◌, length, nat_le, ⊤};
 ghost use Rattle.std.specs.Option.{option_copied};
 ghost use Rattle.iref_splice.specs.{Backward.{most}, Held.{Taken, taken_after, taken_nothing}};
 ghost use Rattle.iref_splice.specs.HeldLaws.{held-both, held-nothing};

@@ -1,6 +1,5 @@
 -- How a text is counted in characters.
-use Rattle.std.specs.Prelude.{ℕ, Bool, ◌||◌, List, length, take, nat_le, nat_lt}
-use Rattle.std.specs.List.{filter}
+use Rattle.std.specs.{Prelude.{ℕ, Bool, ◌||◌, List, length, take, nat_le, nat_lt}, List.{filter}}
 
 -- whether a character of UTF-8 begins with this byte (RFC 3629 section 3)
 abbrev pub begins_char : ℕ → Bool

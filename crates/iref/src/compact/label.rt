@@ -1,6 +1,5 @@
 //! Which texts may be labels of a prefix table.
-ghost use Rattle.std.specs.Prelude.{◌≡◌, ◌==◌, ◌&&◌, ◌||◌, not, length};
-ghost use Rattle.std.specs.{Str.{chars}, List.{list_all}};
+ghost use Rattle.std.specs.{Prelude.{◌≡◌, ◌==◌, ◌&&◌, ◌||◌, not, length}, Str.{chars}, List.{list_all}};
 ghost use Rattle.iref_grammar.specs.Grammar.{full_stop};
 ghost use Rattle.iref.specs.PrefixLabels.{is_label, is_label_char, is_ascii_label};
 ghost use Rattle.iref.specs.PrefixLabels.{is_pn_chars_base, is_pn_chars, follow_pn_chars_base, is_turtle_label};

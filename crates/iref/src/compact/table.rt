@@ -1,11 +1,10 @@
 //! All entries that were ever added, those that the table has, and how both are found.
 ghost use Rattle.std.specs.Prelude.{◌≡◌, ◌<◌, ◌++◌, [], ◌∷◌, length, map, true, false};
-ghost use Rattle.std.specs.Prelude.{IfNone, IfOk, IfSome, MatchOption, OnErr, OnOk};
-ghost use Rattle.std.specs.{List.{find}, Option.{option_copied}, Vec.{vec_len, vec_capacity}};
+ghost use Rattle.std.specs.{Prelude.{IfNone, IfOk, IfSome, MatchOption, OnErr, OnOk}, List.{find}};
+ghost use Rattle.std.specs.{Option.{option_copied}, Vec.{vec_len, vec_capacity}};
 ghost use Rattle.iref_grammar.specs.{Characters.{iri_chars}, Reference.{is_uri}};
 ghost use Rattle.iref.specs.PrefixTable.{has_label, is_taken, longest_fit, removed, with_iri};
-ghost use Rattle.iref.specs.PrefixPlaces.{table_of, AreWithin, IsAddedTo, IsHeld, IsRoomy};
-ghost use Rattle.iref.specs.PrefixPlaces.{IsShared, IsTable};
+ghost use Rattle.iref.specs.PrefixPlaces.{table_of, AreWithin, IsAddedTo, IsHeld, IsRoomy, IsShared, IsTable};
 ghost use Rattle.iref.specs.PrefixTree.{keys_of, text_at, HasPlace, IsFirst, IsLead};
 ghost use Rattle.iref.specs.declared.compact.entry.Key.TheVariants.{Label, Iri};
 

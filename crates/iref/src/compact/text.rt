@@ -1,10 +1,8 @@
 //! Texts of prefix tables: those that are joined, and what follows a beginning.
-ghost use Rattle.std.specs.Prelude.{◌≡◌, ◌++◌, length, drop, true, IfOk, IfErr, Ok};
-ghost use Rattle.std.specs.String.{string_bytes};
+ghost use Rattle.std.specs.{Prelude.{◌≡◌, ◌++◌, length, drop, true, IfOk, IfErr, Ok}, String.{string_bytes}};
 ghost use Rattle.iref_grammar.specs.Texts.{begins_with};
-ghost use Rattle.iref.specs.PrefixTable.{if_iri};
+ghost use Rattle.iref.specs.{PrefixTable.{if_iri}, Prefixes.{RefusesExpand}};
 ghost use Rattle.iref_reference.specs.References.{reference_buf_text};
-ghost use Rattle.iref.specs.Prefixes.{RefusesExpand};
 
 use super::ExpandFault;
 use crate::iri::IriBuf;

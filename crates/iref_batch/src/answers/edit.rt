@@ -1,10 +1,8 @@
 //! The answer to `edit`.
-ghost use Rattle.std.specs.Prelude.{◌≡◌, ◌∷◌, map, IfOk};
-ghost use Rattle.std.specs.{List.{list_all}, Option.{option_copied}};
-ghost use Rattle.iref_batch.specs.Lines.{is_valid_edit, text_and_edits};
+ghost use Rattle.std.specs.{Prelude.{◌≡◌, ◌∷◌, map, IfOk}, List.{list_all}, Option.{option_copied}};
+ghost use Rattle.iref_batch.specs.{Lines.{is_valid_edit, text_and_edits}, EditFields.{IsRead, edits_read}};
+ghost use Rattle.iref_batch.specs.{Fields.{fields_of}, Gathering.{Puts}, Runs.{reply_to}};
 ghost use Rattle.iref.specs.{Characters.{iri_chars}, EditSteps.{edit_step}};
-ghost use Rattle.iref_batch.specs.{EditFields.{IsRead, edits_read}, Fields.{fields_of}};
-ghost use Rattle.iref_batch.specs.{Gathering.{Puts}, Runs.{reply_to}};
 
 use super::{put_answered, put_refused, put_text};
 use crate::edit_fields::{FieldError, read_edit};

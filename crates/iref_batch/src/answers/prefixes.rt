@@ -1,14 +1,12 @@
 //! The answers to `compact` and `expand`, by a table of the entries that the fields name.
 ghost use Rattle.std.specs.{Prelude.{◌≡◌, ◌∷◌, Some, true, OnOk, OnErr, IfErr}, Option.{option_copied}};
 ghost use Rattle.iref_batch.specs.Lines.{Answered, answer_text, are_valid_entries, part_field, read_entry};
-ghost use Rattle.iref_batch.specs.Lines.{text_and_entries};
+ghost use Rattle.iref_batch.specs.{Lines.{text_and_entries}, EditFields.{IsRead}, Fields.{fields_of}};
+ghost use Rattle.iref_batch.specs.{Gathering.{Puts, PutsReply}, PrefixFields.{entries_read, HasTaken, TakesNot}};
+ghost use Rattle.iref_batch.specs.{Requests.{asked_of}, Runs.{reply_to}};
 ghost use Rattle.iref.specs.{Characters.{iri_chars}, PrefixTable.{compact_text, PrefixesValue}};
-ghost use Rattle.iref.specs.Prefixes.{compact_value};
-ghost use Rattle.iref_batch.specs.{EditFields.{IsRead}, Fields.{fields_of}, Gathering.{Puts, PutsReply}};
-ghost use Rattle.iref_batch.specs.{PrefixFields.{entries_read, HasTaken, TakesNot}, Requests.{asked_of}};
-ghost use Rattle.iref_batch.specs.Runs.{reply_to};
+ghost use Rattle.iref.specs.{Prefixes.{compact_value}, declared.compact.label.Labels.TheVariants.{Ascii}};
 ghost use Rattle.iref_batch.specs.Lines as spec;
-ghost use Rattle.iref.specs.declared.compact.label.Labels.TheVariants.{Ascii};
 
 use super::{put_answered, put_refused, put_text};
 use crate::edit_fields::FieldError;

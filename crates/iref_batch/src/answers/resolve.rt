@@ -1,6 +1,5 @@
 //! The answers to `resolve` and `relative`.
-ghost use Rattle.iref_batch.specs.Lines.{Answered, Relative, Resolve, answer_text};
-ghost use Rattle.iref_batch.specs.Gathering.{Puts, PutsReply};
+ghost use Rattle.iref_batch.specs.{Lines.{Answered, Relative, Resolve, answer_text}, Gathering.{Puts, PutsReply}};
 
 use super::put_text;
 use iref::Memory;

@@ -1,7 +1,6 @@
 //! The items of a normal list that are left, from both ends.
 
-ghost use Rattle.std.specs.Prelude.{◌≡◌, ◌+◌, ◌<◌, ◌≤◌, ◌++◌, length, true};
-ghost use Rattle.std.specs.Iterator.{YieldsFirstBy, YieldsLastBy};
+ghost use Rattle.std.specs.{Prelude.{◌≡◌, ◌+◌, ◌<◌, ◌≤◌, ◌++◌, length, true}, Iterator.{YieldsFirstBy, YieldsLastBy}};
 ghost use Rattle.iref_path.specs.{NormalItems.{IsSound, IsWhole, normal_left}, Pieces.{text_at}};
 ghost use Rattle.iref_component.specs.NormalLeft.{IsLeft, IsPart, left_of};
 

@@ -1,7 +1,5 @@
 use Rattle.std.proofs.Common.{◌≡◌, arith, subst}
-use Rattle.iref.specs.CountedEquality.{IsCountedAnswer}
-use Rattle.iref.specs.Paths.{path_value}
-use Rattle.iref.specs.CountedPath.{steps_taken}
+use Rattle.iref.specs.{CountedEquality.{IsCountedAnswer}, Paths.{path_value}, CountedPath.{steps_taken}}
 use Rattle.iref_examples.proofs.compared.Goals as goal
 
 pub returns-clause-counted : goal.returns-clause-counted

@@ -1,6 +1,5 @@
 use Rattle.std.proofs.Common.{◌≡◌, ◌+◌, ◌<◌, ◌^◌, count_by, length}
-use Rattle.iref.specs.Texts.{is_empty}
-use Rattle.iref.specs.Paths.{path_value, segments_left}
+use Rattle.iref.specs.{Texts.{is_empty}, Paths.{path_value, segments_left}}
 use Rattle.iref_examples.proofs.empty_segment_count.Given as goal
 
 -- those counted and those left are all

@@ -1,5 +1,4 @@
-use Rattle.std.proofs.Common.{◌≡◌, ◌+◌, ◌-◌, ◌++◌, [], ◌∷◌, arith, length, refl, take}
-use Rattle.std.proofs.lemmas.Grind.{common_steps}
+use Rattle.std.proofs.{Common.{◌≡◌, ◌+◌, ◌-◌, ◌++◌, [], ◌∷◌, arith, length, refl, take}, lemmas.Grind.{common_steps}}
 use Rattle.iref_reference.specs.References.{key_of_reference}
 use Rattle.iref_canonical.specs.SortKey.{sort_key}
 use Rattle.iref.proofs.SortedLemmas.{one_made}

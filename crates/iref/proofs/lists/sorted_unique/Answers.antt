@@ -1,7 +1,5 @@
-use Rattle.std.proofs.Common.{◌≡◌, ap, map, subst, ◌∙◌}
-use Rattle.std.proofs.lemmas.List.Filters.{dedup_is}
-use Rattle.std.specs.List.Sorted.{IsPermutation, IsStable}
-use Rattle.std.specs.Ordering.{eq_by_cmp, on}
+use Rattle.std.proofs.{Common.{◌≡◌, ap, map, subst, ◌∙◌}, lemmas.List.Filters.{dedup_is}}
+use Rattle.std.specs.{List.Sorted.{IsPermutation, IsStable}, Ordering.{eq_by_cmp, on}}
 use Rattle.iref_model.specs.Key.{key_cmp}
 use Rattle.iref_reference.specs.References.{reference_text}
 use Rattle.iref.specs.Lists.{key_of_text}

@@ -1,9 +1,7 @@
-use Rattle.std.proofs.Common.{◌≡◌, ◌+◌, [], ◌∷◌, ◌++◌, arith, take, ◌∙◌}
-use Rattle.std.proofs.lemmas.Grind.{common_steps}
+use Rattle.std.proofs.{Common.{◌≡◌, ◌+◌, [], ◌∷◌, ◌++◌, arith, take, ◌∙◌}, lemmas.Grind.{common_steps}}
 use Rattle.iref_reference.specs.References.{reference_value}
-use Rattle.iref.proofs.FirstLemmas.{none_kept, one_kept}
+use Rattle.iref.proofs.{FirstLemmas.{none_kept, one_kept}, lists.unique.Goals.{then-branch+in_ok-push, else-branch}}
 use Rattle.iref.proofs.lists.unique.Goals as goal
-use Rattle.iref.proofs.lists.unique.Goals.{then-branch+in_ok-push, else-branch}
 
 pub loop-reference-preserved : goal.loop-reference-preserved
 loop-reference-preserved g c =

@@ -1,6 +1,5 @@
 use Rattle.std.proofs.Common.{◌≡◌, ◌+◌, ◌<◌, ◌++◌, [], ◌∷◌, ap, arith, drop, length, map, rules, sym, subst, take, ◌∙◌}
-use Rattle.std.proofs.lemmas.Grind.{common_steps}
-use Rattle.std.proofs.lemmas.List.{map-append}
+use Rattle.std.proofs.{lemmas.Grind.{common_steps}, lemmas.List.{map-append}}
 use Rattle.iref_reference.specs.References.{key_of_reference, reference_text}
 use Rattle.iref_canonical.specs.SortKey.{sort_key}
 use Rattle.iref.proofs.SortedLemmas.{rest_is}

@@ -1,5 +1,4 @@
-use Rattle.std.proofs.Common.{arith}
-use Rattle.std.proofs.lemmas.Grind.{common_steps}
+use Rattle.std.proofs.{Common.{arith}, lemmas.Grind.{common_steps}}
 use Rattle.iref_batch.proofs.AnswerLemmas.{reply_of}
 use Rattle.iref_batch.proofs.answers.answer_line.Goals as goal
 

@@ -1,9 +1,6 @@
-use Rattle.std.proofs.Common.{◌≡◌, ◌∙◌, rules}
-use Rattle.std.proofs.lemmas.Bool.Decides.{same_from_decides}
-use Rattle.iref.proofs.TieLemmas.{references_tie}
-use Rattle.iref.proofs.PartTieLemmas.{lower_case_tie, parts_tie}
-use Rattle.iref.specs.Components.{text_of}
-use Rattle.iref.specs.Parts.{uri_ref_parts_value}
+use Rattle.std.proofs.{Common.{◌≡◌, ◌∙◌, rules}, lemmas.Bool.Decides.{same_from_decides}}
+use Rattle.iref.proofs.{TieLemmas.{references_tie}, PartTieLemmas.{lower_case_tie, parts_tie}}
+use Rattle.iref.specs.{Components.{text_of}, Parts.{uri_ref_parts_value}}
 use Rattle.iref_batch.proofs.AnswerLemmas.{no_left_answer, no_right_answer, same_answer, equal_answer}
 use Rattle.iref_batch.proofs.answers.put_answer_to_equal.Goals as goal
 

@@ -4,10 +4,9 @@ use Rattle.iref.specs.Characters.{iri_chars}
 use Rattle.iref.specs.Tests.{none_or, is_fragment, is_host, is_path, is_port, is_query, is_scheme, is_user_info}
 use Rattle.iref.specs.Authority.{is_authority}
 use Rattle.iref.specs.Edits.{SetScheme, SetAuthority, ReplaceAuthority, SetUserInfo, SetHost, SetPort, SetPath, SetAndNormalizePath, SetQuery, SetFragment}
+use Rattle.iref.specs.{Components.{text_of}, EditSteps.{edit_step}}
 use Rattle.iref_batch.specs.Lines.{edit_names}
-use Rattle.iref.specs.Components.{text_of}
 use Rattle.iref.specs.declared.edits.Edit.TheVariants as edit
-use Rattle.iref.specs.EditSteps.{edit_step}
 use Rattle.iref_batch.proofs.EditFieldLemmas.{made_by_name}
 use Rattle.iref_batch.proofs.edit_fields.edit_of.Goals as goal
 

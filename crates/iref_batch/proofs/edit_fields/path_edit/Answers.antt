@@ -1,12 +1,9 @@
 use Rattle.std.proofs.Common.{refl, rules, codes}
 use Rattle.std.specs.Option.{option_copied}
-use Rattle.iref.specs.Characters.{iri_chars}
-use Rattle.iref.specs.Tests.{is_path, is_segment}
-use Rattle.iref.specs.Edits.{LazyPush, Push, JoinPath}
-use Rattle.iref.specs.Components.{text_of}
+use Rattle.iref.specs.{Characters.{iri_chars}, Tests.{is_path, is_segment}, Edits.{LazyPush, Push, JoinPath}}
+use Rattle.iref.specs.{Components.{text_of}, EditSteps.{edit_step}}
 use Rattle.iref.specs.declared.edits.Edit.TheVariants as edit
 use Rattle.iref_batch.specs.EditFields.{path_edit_names}
-use Rattle.iref.specs.EditSteps.{edit_step}
 use Rattle.iref_batch.proofs.EditFieldLemmas.{made_by_name}
 use Rattle.iref_batch.proofs.edit_fields.path_edit.Goals as goal
 

@@ -1,10 +1,8 @@
 use Rattle.std.proofs.Common.{[], ◌∷◌, arith}
 use Rattle.percent_encoding.specs.Percent.{percent_decode}
 use Rattle.iref_grammar.specs.Grammar.{at_sign}
-use Rattle.iref_canonical.specs.Decoded.{recoded}
-use Rattle.iref_canonical.specs.declared.encoded.TheConstants.{USER_INFO}
-use Rattle.iref_canonical.proofs.EncodedLemmas.{spared-user_info}
-use Rattle.iref_canonical.proofs.SetLemmas.{encoded-user_info}
+use Rattle.iref_canonical.specs.{Decoded.{recoded}, declared.encoded.TheConstants.{USER_INFO}}
+use Rattle.iref_canonical.proofs.{EncodedLemmas.{spared-user_info}, SetLemmas.{encoded-user_info}}
 use Rattle.iref_canonical.proofs.authority.put_user_info.Goals as goal
 
 pub put_encoded-requires-clause-names : goal.put_encoded-requires-clause-names

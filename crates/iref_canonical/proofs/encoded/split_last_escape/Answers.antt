@@ -1,5 +1,4 @@
-use Rattle.std.proofs.Common.{arith}
-use Rattle.std.proofs.lemmas.Bool.Decides.{nat_tests}
+use Rattle.std.proofs.{Common.{arith}, lemmas.Bool.Decides.{nat_tests}}
 use Rattle.iref_canonical.proofs.DecodedLemmas.{ends-at}
 use Rattle.iref_canonical.proofs.encoded.split_last_escape.Goals as goal
 

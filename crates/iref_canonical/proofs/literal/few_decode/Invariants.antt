@@ -1,6 +1,5 @@
 use Rattle.std.proofs.Common.{◌≡◌, ◌≤◌, ◌++◌, length, take}
-use Rattle.percent_encoding.specs.Percent.{percent_decode}
-use Rattle.percent_encoding.specs.Iter.{decoded_bytes}
+use Rattle.percent_encoding.specs.{Percent.{percent_decode}, Iter.{decoded_bytes}}
 use Rattle.iref_canonical.proofs.literal.few_decode.Given as goal
 
 -- what the buffer holds and what is left are all

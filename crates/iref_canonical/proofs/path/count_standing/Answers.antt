@@ -1,5 +1,4 @@
-use Rattle.std.proofs.Common.{arith}
-use Rattle.std.proofs.lemmas.Grind.{common_steps}
+use Rattle.std.proofs.{Common.{arith}, lemmas.Grind.{common_steps}}
 use Rattle.iref_path.specs.NormalItems.{normal_left}
 use Rattle.iref_canonical.proofs.SpelledItemLemmas.{standing-step}
 use Rattle.iref_canonical.proofs.path.count_standing.Goals as goal

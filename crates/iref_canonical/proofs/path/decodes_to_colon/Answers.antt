@@ -1,5 +1,4 @@
-use Rattle.std.proofs.Common.{arith}
-use Rattle.std.proofs.lemmas.Bool.Decides.{nat_tests}
+use Rattle.std.proofs.{Common.{arith}, lemmas.Bool.Decides.{nat_tests}}
 use Rattle.iref_grammar.specs.Grammar.{colon}
 use Rattle.iref_canonical.proofs.ColonLemmas.{decoded-contains, nothing-contains}
 use Rattle.iref_canonical.proofs.path.decodes_to_colon.Goals as goal

@@ -1,6 +1,5 @@
 use Rattle.std.proofs.Common.{◌≡◌, length}
-use Rattle.iref_path.specs.NormalItems.{decoded_left, IsSound, normal_left}
-use Rattle.iref_path.specs.Spelling.{each_closed}
+use Rattle.iref_path.specs.{NormalItems.{decoded_left, IsSound, normal_left}, Spelling.{each_closed}}
 use Rattle.iref_canonical.specs.SpelledItems.{spelled_items}
 use Rattle.iref_canonical.proofs.path.put_closed.Given as goal
 

@@ -1,6 +1,5 @@
 use Rattle.std.proofs.Common.{[], ◌∷◌, arith}
-use Rattle.iref_canonical.specs.SortKey.{sort_authority}
-use Rattle.iref_canonical.specs.SortedReferences.{key_of_authority}
+use Rattle.iref_canonical.specs.{SortKey.{sort_authority}, SortedReferences.{key_of_authority}}
 use Rattle.iref_canonical.proofs.sort_parts.put_authority_option.Goals as goal
 
 pub put_authority-requires-clause-fits : goal.put_authority-requires-clause-fits

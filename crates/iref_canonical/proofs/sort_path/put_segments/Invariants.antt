@@ -1,8 +1,7 @@
 use Rattle.std.proofs.Common.{◌≡◌, length}
 use Rattle.std.specs.List.{flat_map}
 use Rattle.iref_path.specs.Pieces.{pieces_if_some}
-use Rattle.iref_canonical.specs.SortItems.{AreKept}
-use Rattle.iref_canonical.specs.SortKey.{sort_item}
+use Rattle.iref_canonical.specs.{SortItems.{AreKept}, SortKey.{sort_item}}
 use Rattle.iref_canonical.proofs.sort_path.put_segments.Given as goal
 
 abbrev pub invariant-loop-left : goal.invariant-loop-left

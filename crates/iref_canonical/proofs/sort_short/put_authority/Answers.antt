@@ -1,6 +1,5 @@
 use Rattle.std.proofs.Common.{arith}
-use Rattle.iref_canonical.proofs.SortCutLemmas.{lone_sorted, within_block}
-use Rattle.iref_canonical.proofs.SortPutLemmas.{ends_put}
+use Rattle.iref_canonical.proofs.{SortCutLemmas.{lone_sorted, within_block}, SortPutLemmas.{ends_put}}
 use Rattle.iref_canonical.proofs.sort_short.put_authority.Goals as goal
 
 pub returns : goal.returns

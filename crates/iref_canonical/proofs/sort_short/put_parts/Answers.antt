@@ -1,8 +1,6 @@
-use Rattle.std.proofs.Common.{arith, length-append}
-use Rattle.std.proofs.lemmas.Bool.Decides.{nat_tests}
+use Rattle.std.proofs.{Common.{arith, length-append}, lemmas.Bool.Decides.{nat_tests}}
 use Rattle.iref_canonical.specs.Padded.{text_in}
-use Rattle.iref_canonical.proofs.SortCutLemmas.{host_part, read_no_user, read_user}
-use Rattle.iref_canonical.proofs.SortPutLemmas.{joined_put}
+use Rattle.iref_canonical.proofs.{SortCutLemmas.{host_part, read_no_user, read_user}, SortPutLemmas.{joined_put}}
 use Rattle.iref_canonical.proofs.sort_short.put_parts.Goals as goal
 
 pub put_option-at-requires-clause-kept : goal.put_option-at-requires-clause-kept

@@ -1,8 +1,6 @@
-use Rattle.std.proofs.Common.{arith}
-use Rattle.std.proofs.lemmas.Option.{IfSome_then}
+use Rattle.std.proofs.{Common.{arith}, lemmas.Option.{IfSome_then}}
 use Rattle.iref_canonical.specs.SortKey.{sort_path}
-use Rattle.iref_canonical.proofs.SortCutLemmas.{paths}
-use Rattle.iref_canonical.proofs.SortPutLemmas.{joined_put}
+use Rattle.iref_canonical.proofs.{SortCutLemmas.{paths}, SortPutLemmas.{joined_put}}
 use Rattle.iref_canonical.proofs.sort_short.put_path.Goals as goal
 
 pub returns-then-path-eq47-clause-put : goal.returns-then-path-eq47-clause-put

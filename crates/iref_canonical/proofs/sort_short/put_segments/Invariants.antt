@@ -1,7 +1,6 @@
 use Rattle.std.proofs.Common.{◌-◌, ◌≤◌, drop, take}
 use Rattle.iref_canonical.specs.SortPuts.{segment_bytes}
-use Rattle.iref_canonical.proofs.SortBlockLemmas.{IsDotlessBefore}
-use Rattle.iref_canonical.proofs.SortPutLemmas.{IsPutting}
+use Rattle.iref_canonical.proofs.{SortBlockLemmas.{IsDotlessBefore}, SortPutLemmas.{IsPutting}}
 use Rattle.iref_canonical.proofs.sort_short.put_segments.Given as goal
 
 abbrev pub invariant-loop-end : goal.invariant-loop-end

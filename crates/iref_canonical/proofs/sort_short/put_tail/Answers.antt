@@ -1,8 +1,6 @@
-use Rattle.std.proofs.Common.{arith, [], ◌∷◌, length-append, refl}
-use Rattle.std.proofs.lemmas.List.{append-nil}
+use Rattle.std.proofs.{Common.{arith, [], ◌∷◌, length-append, refl}, lemmas.List.{append-nil}}
 use Rattle.std.specs.Option.{option_copied}
-use Rattle.iref_grammar.specs.Grammar.{hash_sign, question_mark}
-use Rattle.iref_grammar.specs.Texts.{then_part}
+use Rattle.iref_grammar.specs.{Grammar.{hash_sign, question_mark}, Texts.{then_part}}
 use Rattle.iref_canonical.proofs.SortPutLemmas.{joined_put}
 use Rattle.iref_canonical.proofs.sort_short.put_tail.Goals as goal
 

@@ -1,6 +1,5 @@
 use Rattle.std.proofs.Common.{arith, ◌≡◌, ◌+◌, ◌++◌, ◌∙◌, ap, drop, length, length-take, subst, sym, take}
-use Rattle.std.proofs.lemmas.Simd.{put_chunk_is}
-use Rattle.std.proofs.lemmas.List.{take-take}
+use Rattle.std.proofs.{lemmas.Simd.{put_chunk_is}, lemmas.List.{take-take}}
 use Rattle.std.specs.Simd.Lanes.{put_chunk}
 use Rattle.iref_canonical.specs.SortPuts.{Puts}
 use Rattle.iref_canonical.proofs.SortBlockLemmas.{stored}

@@ -1,5 +1,4 @@
-use Rattle.std.proofs.Common.{ap, sym, ◌∙◌, ◌++◌, rules}
-use Rattle.std.proofs.lemmas.List.{append_assoc}
+use Rattle.std.proofs.{Common.{ap, sym, ◌∙◌, ◌++◌, rules}, lemmas.List.{append_assoc}}
 use Rattle.std.specs.Cmp.Rules.{comparing}
 use Rattle.percent_encoding.specs.Percent.{percent_decode}
 use Rattle.iref_component.specs.Components.{text_of}

@@ -1,7 +1,6 @@
 use Rattle.std.proofs.Common.{◌≡◌, subst, sym}
 use Rattle.std.specs.List.{AllByRecursion}
-use Rattle.iref.specs.Key.{key}
-use Rattle.iref.specs.References.{reference_buf_value}
+use Rattle.iref.specs.{Key.{key}, References.{reference_buf_value}}
 use Rattle.iref_canonical.specs.SortKey.{sort_key}
 use Rattle.iref_examples.proofs.BelowLemmas.{added, inserted}
 use Rattle.iref_examples.proofs.below.add.Goals as goal

@@ -1,8 +1,6 @@
 use Rattle.std.proofs.Common.{rules, ◌≡◌, ◌++◌, ap, map, ◌∙◌}
-use Rattle.std.specs.declared.ops.Bound.TheVariants.{Excluded, Included}
-use Rattle.std.specs.BTreeMap.Range.{entries_between}
-use Rattle.iref.specs.Keys.{text_order}
-use Rattle.iref.specs.References.{key_of_reference, reference_buf_value, reference_value}
+use Rattle.std.specs.{declared.ops.Bound.TheVariants.{Excluded, Included}, BTreeMap.Range.{entries_between}}
+use Rattle.iref.specs.{Keys.{text_order}, References.{key_of_reference, reference_buf_value, reference_value}}
 use Rattle.iref_canonical.specs.SortPrefix.{sort_prefix, sort_prefix_end}
 use Rattle.iref_examples.proofs.BelowLemmas.{in_range}
 use Rattle.iref_examples.proofs.below.below.Goals as goal

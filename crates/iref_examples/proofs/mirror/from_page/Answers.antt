@@ -1,6 +1,5 @@
 use Rattle.std.proofs.Common.{ap, ◌∙◌}
-use Rattle.iref.specs.Reference.{read_reference}
-use Rattle.iref.specs.References.{reference_buf_value, reference_value}
+use Rattle.iref.specs.{Reference.{read_reference}, References.{reference_buf_value, reference_value}}
 use Rattle.iref_examples.proofs.LinkLemmas.{is_relinked}
 use Rattle.iref_examples.proofs.mirror.from_page.Goals as goal
 

@@ -1,8 +1,5 @@
-use Rattle.std.proofs.Common.{refl}
-use Rattle.std.proofs.lemmas.Result.{err_from_is_err_and}
-use Rattle.iref.specs.Characters.{iri_chars}
-use Rattle.iref.specs.Grammar.{IsAuthority, IsQuery, IsScheme}
-use Rattle.iref.specs.ReferenceSlices.{texts_of}
+use Rattle.std.proofs.{Common.{refl}, lemmas.Result.{err_from_is_err_and}}
+use Rattle.iref.specs.{Characters.{iri_chars}, Grammar.{IsAuthority, IsQuery, IsScheme}, ReferenceSlices.{texts_of}}
 use Rattle.iref_examples.specs.declared.validator.Component.TheVariants.{Scheme, Authority, Path, Query}
 use Rattle.iref_examples.proofs.CheckLemmas.{by_fragment, no_reference, refused, taken}
 use Rattle.iref_examples.proofs.validator.checked.Goals as goal

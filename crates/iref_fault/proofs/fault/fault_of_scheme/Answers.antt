@@ -1,8 +1,7 @@
 use Rattle.std.proofs.Common.{ap, ◌∙◌}
 use Rattle.std.specs.Prelude.{option_map}
 use Rattle.iref_grammar.specs.Characters.{uri_chars}
-use Rattle.iref_fault.specs.Places.{Scheme}
-use Rattle.iref_fault.specs.BytePlaces.{value_at}
+use Rattle.iref_fault.specs.{Places.{Scheme}, BytePlaces.{value_at}}
 use Rattle.iref_fault.proofs.FaultValueLemmas.{part_value, part_boundary}
 use Rattle.iref_fault.proofs.fault.fault_of_scheme.Goals as goal
 

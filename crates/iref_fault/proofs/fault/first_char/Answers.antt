@@ -1,6 +1,4 @@
-use Rattle.std.proofs.Common.{chars, ap, sym, ◌∙◌}
-use Rattle.std.proofs.lemmas.List.{nil_from_length}
-use Rattle.std.proofs.lemmas.Str.{chars-nil}
+use Rattle.std.proofs.{Common.{chars, ap, sym, ◌∙◌}, lemmas.List.{nil_from_length}, lemmas.Str.{chars-nil}}
 use Rattle.iref_fault.specs.Faults.{first_char}
 use Rattle.iref_fault.proofs.fault.first_char.Goals as goal
 

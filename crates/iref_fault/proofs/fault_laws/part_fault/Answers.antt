@@ -1,5 +1,4 @@
-use Rattle.iref_fault.proofs.PieceLemmas.{one_place}
-use Rattle.iref_fault.proofs.FaultLemmas.{part_fault_is}
+use Rattle.iref_fault.proofs.{PieceLemmas.{one_place}, FaultLemmas.{part_fault_is}}
 use Rattle.iref_fault.proofs.fault_laws.part_fault.Goals as goal
 
 pub returns : goal.returns

@@ -1,5 +1,4 @@
-use Rattle.std.proofs.Common.{sym, ◌∙◌, arith}
-use Rattle.std.proofs.lemmas.Grind.{common_steps}
+use Rattle.std.proofs.{Common.{sym, ◌∙◌, arith}, lemmas.Grind.{common_steps}}
 use Rattle.iref_fault.proofs.BracketLemmas.{last-after, last-none}
 use Rattle.iref_fault.proofs.pieces.after_last.Goals as goal
 

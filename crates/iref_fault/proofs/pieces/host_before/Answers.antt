@@ -1,5 +1,4 @@
-use Rattle.std.proofs.Common.{◌≡◌, arith, Some, sym, ap, ◌∙◌}
-use Rattle.std.proofs.lemmas.Grind.{common_steps}
+use Rattle.std.proofs.{Common.{◌≡◌, arith, Some, sym, ap, ◌∙◌}, lemmas.Grind.{common_steps}}
 use Rattle.std.specs.Option.{option_copied}
 use Rattle.iref_fault.specs.Cut.{cut_port}
 use Rattle.iref_fault.proofs.HostLemmas.{host_alone, host_len, host_boundary, take-host}

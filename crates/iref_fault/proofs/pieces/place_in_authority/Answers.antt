@@ -1,5 +1,4 @@
-use Rattle.std.proofs.Common.{arith}
-use Rattle.std.proofs.lemmas.Grind.{common_steps}
+use Rattle.std.proofs.{Common.{arith}, lemmas.Grind.{common_steps}}
 use Rattle.iref_fault.proofs.HostLemmas.{cut_len}
 use Rattle.iref_fault.proofs.pieces.place_in_authority.Goals as goal
 

@@ -1,5 +1,4 @@
-use Rattle.std.proofs.Common.{length, arith, ap}
-use Rattle.std.proofs.lemmas.Grind.{common_steps}
+use Rattle.std.proofs.{Common.{length, arith, ap}, lemmas.Grind.{common_steps}}
 use Rattle.iref_fault.proofs.HostLemmas.{host_within, host_len}
 use Rattle.iref_fault.proofs.pieces.place_in_host_and_port.Goals as goal
 

@@ -1,11 +1,7 @@
 use Rattle.std.proofs.Common.{◌≡◌, ◌+◌, ◌∷◌, [], length, ap, ◌∙◌}
 use Rattle.std.specs.Option.{option_or}
-use Rattle.iref_grammar.specs.Grammar.{hash_sign, question_mark}
-use Rattle.iref_grammar.specs.Texts.{before, after}
-use Rattle.iref_grammar.specs.Reference.{hierarchy}
-use Rattle.iref_fault.specs.Places.{Query, Fragment}
-use Rattle.iref_fault.specs.Cut.{piece_if}
-use Rattle.iref_fault.specs.CutSteps.{hierarchy_pieces}
+use Rattle.iref_grammar.specs.{Grammar.{hash_sign, question_mark}, Texts.{before, after}, Reference.{hierarchy}}
+use Rattle.iref_fault.specs.{Places.{Query, Fragment}, Cut.{piece_if}, CutSteps.{hierarchy_pieces}}
 use Rattle.iref_fault.specs.BytePlaces.{first_place}
 use Rattle.iref_fault.proofs.HierarchyPlaceLemmas.{place_in_parts}
 use Rattle.iref_fault.proofs.pieces.place_in_reference.Goals as goal

@@ -1,5 +1,4 @@
-use Rattle.std.proofs.Common.{arith}
-use Rattle.std.proofs.lemmas.Grind.{common_steps}
+use Rattle.std.proofs.{Common.{arith}, lemmas.Grind.{common_steps}}
 use Rattle.iref_fault.specs.Places.{place_in}
 use Rattle.iref_fault.proofs.FirstPlaceLemmas.{one_piece}
 use Rattle.iref_fault.proofs.pieces.place_in_scheme.Goals as goal

@@ -1,6 +1,5 @@
 use Rattle.std.proofs.Common.{◌≡◌, ◌-◌, ◌≤◌, chars, length, IsUtf8}
-use Rattle.iref_fault.specs.Places.{encoded_place, encoded_place_after}
-use Rattle.iref_fault.specs.BytePlaces.{byte_place, located}
+use Rattle.iref_fault.specs.{Places.{encoded_place, encoded_place_after}, BytePlaces.{byte_place, located}}
 use Rattle.iref_fault.proofs.scan.encoded_place.Given as goal
 
 -- the place is that of what is left of the text, behind what was read

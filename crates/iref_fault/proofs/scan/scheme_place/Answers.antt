@@ -1,10 +1,9 @@
-use Rattle.std.proofs.Common.{arith, length, slice_index, sym, ap, ◌∙◌}
-use Rattle.std.proofs.lemmas.Grind.{common_steps}
-use Rattle.std.specs.Char.{is_ascii_alphabetic}
+use Rattle.std.proofs.{Common.{arith, length, slice_index, sym, ap, ◌∙◌}, lemmas.Grind.{common_steps}}
 use Rattle.std.proofs.lemmas.Bool.Decides.{nat_tests}
+use Rattle.std.specs.Char.{is_ascii_alphabetic}
 use Rattle.iref_fault.proofs.OnesPlaceLemmas.{scheme_in_bytes, empty_scheme, no_letter}
-use Rattle.iref_fault.proofs.scan.scheme_place.Goals as goal
 use Rattle.iref_fault.proofs.scan.scheme_place.Goals.{then-is_empty-via-then-is_empty, then-is_empty-via-else-is_empty+then-not-is_ascii_alphabetic}
+use Rattle.iref_fault.proofs.scan.scheme_place.Goals as goal
 
 pub returns-then-is_empty : goal.returns-then-is_empty
 returns-then-is_empty c =

@@ -1,8 +1,7 @@
 use Rattle.iref_grammar.proofs.HostRuleLemmas.{Decides-is_host, Decides-is_ipv4_bytes, Decides-is_ipv6_bytes, Decides-is_ipvfuture_bytes, Decides-is_ip_literal_bytes}
 use Rattle.iref_grammar.proofs.LeafLemmas.{Decides-is_fragment, Decides-is_query, Decides-is_reg_name, Decides-is_segment, Decides-is_user_info}
 use Rattle.iref_grammar.proofs.PartRuleLemmas.{Decides-is_port_bytes, Decides-is_scheme_bytes}
-use Rattle.iref_grammar.proofs.PathTextLemmas.{Decides-is_path}
-use Rattle.iref_grammar.proofs.PctLemmas.{Decides-is_pct_str}
+use Rattle.iref_grammar.proofs.{PathTextLemmas.{Decides-is_path}, PctLemmas.{Decides-is_pct_str}}
 use Rattle.iref_grammar.proofs.text_laws.component_grammar.Goals as goal
 
 pub returns : goal.returns

@@ -1,5 +1,4 @@
-use Rattle.iref_grammar.proofs.Ipv6Lemmas.{ipv6_value-sound}
-use Rattle.iref_grammar.proofs.Ipv6CompleteLemmas.{ipv6_value-complete}
+use Rattle.iref_grammar.proofs.{Ipv6Lemmas.{ipv6_value-sound}, Ipv6CompleteLemmas.{ipv6_value-complete}}
 use Rattle.iref_grammar.proofs.Ipv6RuleLemmas.{ipv6_number, ipv6_in_rule}
 use Rattle.iref_grammar.proofs.text_laws.ipv6_numbers.Goals as goal
 

@@ -1,5 +1,4 @@
-use Rattle.iref_model.proofs.MappedRuleLemmas.{readable_mapped}
-use Rattle.iref_model.proofs.MappedSpellingLemmas.{spell-mapped}
+use Rattle.iref_model.proofs.{MappedRuleLemmas.{readable_mapped}, MappedSpellingLemmas.{spell-mapped}}
 use Rattle.iref_model.proofs.MappedReferenceLemmas.{read_reference-mapped}
 use Rattle.iref_model.proofs.mapping_laws.mapping_maps_each_component.Goals as goal
 

@@ -1,5 +1,4 @@
-use Rattle.iref_model.proofs.SettledLemmas.{normal_again}
-use Rattle.iref_model.proofs.NormalPathLemmas.{normal-normalized, normalized-normalized}
+use Rattle.iref_model.proofs.{SettledLemmas.{normal_again}, NormalPathLemmas.{normal-normalized, normalized-normalized}}
 use Rattle.iref_model.proofs.path_laws.normalizing_again_changes_nothing.Goals as goal
 
 pub returns : goal.returns

@@ -1,5 +1,4 @@
-use Rattle.iref_model.proofs.CoveredLemmas.{relativized-shortest}
-use Rattle.iref_model.proofs.TextLawLemmas.{relativized-shortest_text}
+use Rattle.iref_model.proofs.{CoveredLemmas.{relativized-shortest}, TextLawLemmas.{relativized-shortest_text}}
 use Rattle.iref_model.proofs.relativized_laws.no_reference_is_shorter_than_the_answer.Goals as goal
 
 pub returns : goal.returns

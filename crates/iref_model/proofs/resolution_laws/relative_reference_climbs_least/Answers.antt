@@ -1,5 +1,4 @@
-use Rattle.iref_model.proofs.RelativeLemmas.{relative_to-least}
-use Rattle.iref_model.proofs.ReadableRelativeLemmas.{readable-stands}
+use Rattle.iref_model.proofs.{RelativeLemmas.{relative_to-least}, ReadableRelativeLemmas.{readable-stands}}
 use Rattle.iref_model.proofs.resolution_laws.relative_reference_climbs_least.Goals as goal
 
 pub returns : goal.returns

@@ -1,5 +1,4 @@
-use Rattle.iref_model.proofs.RelativeLemmas.{relative_to-leads}
-use Rattle.iref_model.proofs.ReadableRelativeLemmas.{readable-stands}
+use Rattle.iref_model.proofs.{RelativeLemmas.{relative_to-leads}, ReadableRelativeLemmas.{readable-stands}}
 use Rattle.iref_model.proofs.resolution_laws.relative_reference_leads_to_target.Goals as goal
 
 pub returns : goal.returns

@@ -1,6 +1,5 @@
-use Rattle.std.proofs.Common.{◌∙◌, sym, ap, Some, lit<}
+use Rattle.std.proofs.{Common.{◌∙◌, sym, ap, Some, lit<}, lemmas.Str.Pattern.{strip_prefix_char}}
 use Rattle.std.specs.Option.{option_copied}
-use Rattle.std.proofs.lemmas.Str.Pattern.{strip_prefix_char}
 use Rattle.iref_grammar.specs.Grammar.{left_bracket}
 use Rattle.iref_parse.specs.AuthoritySlices.{is_port_part}
 use Rattle.iref_parse.proofs.AuthorityLemmas.{address_authority}

@@ -1,6 +1,4 @@
-use Rattle.std.proofs.Common.{arith}
-use Rattle.std.proofs.lemmas.Grind.{common_steps}
-use Rattle.std.proofs.lemmas.Bool.Decides.{nat_tests}
+use Rattle.std.proofs.{Common.{arith}, lemmas.Grind.{common_steps}, lemmas.Bool.Decides.{nat_tests}}
 use Rattle.std.proofs.lemmas.Str.{lead_after_ascii}
 use Rattle.iref_parse.proofs.PositionLemmas.{begins_at_mark, from_mark_in_utf8}
 use Rattle.iref_parse.proofs.cut.cut.Goals as goal

@@ -1,6 +1,5 @@
-use Rattle.std.proofs.Common.{◌∷◌, [], not, arith}
+use Rattle.std.proofs.{Common.{◌∷◌, [], not, arith}, lemmas.List.Sums.{prefix_len-le-length}}
 use Rattle.std.specs.Char.{char_set_contains}
-use Rattle.std.proofs.lemmas.List.Sums.{prefix_len-le-length}
 use Rattle.iref_parse.proofs.cut.cut_bytes.Goals as goal
 
 pub split_at-requires : goal.split_at-requires

@@ -1,5 +1,4 @@
-use Rattle.std.proofs.Common.{◌≡◌, length, get_or, arith, sym, ap, ◌∙◌}
-use Rattle.std.proofs.lemmas.Str.{lead_after_ascii}
+use Rattle.std.proofs.{Common.{◌≡◌, length, get_or, arith, sym, ap, ◌∙◌}, lemmas.Str.{lead_after_ascii}}
 use Rattle.iref_parse.proofs.cut.strip_mark.Goals as goal
 
 pub range_from-requires : goal.range_from-requires

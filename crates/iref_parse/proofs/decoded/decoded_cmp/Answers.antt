@@ -1,10 +1,9 @@
 use Rattle.std.proofs.Common.{◌≡◌, ◌∙◌, arith}
 use Rattle.percent_encoding.specs.Percent.{percent_decode}
 use Rattle.iref_grammar.specs.Keys.{text_order}
-use Rattle.iref_parse.proofs.KeptLemmas.{IsKeptFront-near}
-use Rattle.iref_parse.proofs.OrderLemmas.{order_at_end}
-use Rattle.iref_parse.proofs.decoded.decoded_cmp.Goals as goal
+use Rattle.iref_parse.proofs.{KeptLemmas.{IsKeptFront-near}, OrderLemmas.{order_at_end}}
 use Rattle.iref_parse.proofs.decoded.decoded_cmp.Goals.{then-len-lt16, else-len-lt16}
+use Rattle.iref_parse.proofs.decoded.decoded_cmp.Goals as goal
 
 pub cmp_behind-requires-clause-kept : goal.cmp_behind-requires-clause-kept
 cmp_behind-requires-clause-kept c =

@@ -1,11 +1,8 @@
-use Rattle.std.proofs.Common.{◌≡◌, refl, ◌∙◌, ap, arith}
-use Rattle.std.specs.Ordering.{nat_cmp}
-use Rattle.std.proofs.lemmas.Cmp.{nat_list_cmp_total, tied_itself}
-use Rattle.std.proofs.lemmas.Iterator.Consumers.{YieldsList-from_first}
-use Rattle.std.proofs.lemmas.Iterator.Search.{cmp_from_yields_List}
+use Rattle.std.proofs.{Common.{◌≡◌, refl, ◌∙◌, ap, arith}, lemmas.Cmp.{nat_list_cmp_total, tied_itself}}
+use Rattle.std.proofs.{lemmas.Iterator.Consumers.{YieldsList-from_first}, lemmas.Iterator.Search.{cmp_from_yields_List}}
 use Rattle.std.proofs.lemmas.Slice.Eq.{bytes_eq-Decides}
-use Rattle.percent_encoding.specs.Percent.{percent_decode}
-use Rattle.percent_encoding.specs.Iter.{decoded_bytes}
+use Rattle.std.specs.Ordering.{nat_cmp}
+use Rattle.percent_encoding.specs.{Percent.{percent_decode}, Iter.{decoded_bytes}}
 use Rattle.iref_parse.proofs.decoded.escaped_cmp.Goals as goal
 
 pub returns-then-eq : goal.returns-then-eq

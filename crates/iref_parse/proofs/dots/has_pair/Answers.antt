@@ -1,6 +1,5 @@
 use Rattle.std.proofs.Common.{◌-◌, length, arith}
-use Rattle.iref_parse.proofs.PairLemmas.{pairs_at, pairs_found, pairs_from_end}
-use Rattle.iref_parse.proofs.SeenLemmas.{Seen-none, Seen-more}
+use Rattle.iref_parse.proofs.{PairLemmas.{pairs_at, pairs_found, pairs_from_end}, SeenLemmas.{Seen-none, Seen-more}}
 use Rattle.iref_parse.proofs.dots.has_pair.Goals as goal
 
 pub loop-at-init : goal.loop-at-init

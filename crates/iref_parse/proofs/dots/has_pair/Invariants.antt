@@ -1,6 +1,5 @@
 use Rattle.std.proofs.Common.{◌+◌, ◌-◌, ◌≤◌, length}
-use Rattle.iref_parse.proofs.PairLemmas.{pairs_at}
-use Rattle.iref_parse.proofs.SeenLemmas.{Seen}
+use Rattle.iref_parse.proofs.{PairLemmas.{pairs_at}, SeenLemmas.{Seen}}
 use Rattle.iref_parse.proofs.dots.has_pair.Given as goal
 
 abbrev pub invariant-loop-at : goal.invariant-loop-at

@@ -1,5 +1,4 @@
-use Rattle.std.proofs.Common.{◌≡◌, ◌+◌, ◌-◌, get_or, sym, ap, ◌∙◌, arith}
-use Rattle.std.proofs.lemmas.Bool.{and_from, eq-eqb}
+use Rattle.std.proofs.{Common.{◌≡◌, ◌+◌, ◌-◌, get_or, sym, ap, ◌∙◌, arith}, lemmas.Bool.{and_from, eq-eqb}}
 use Rattle.iref_parse.proofs.PairLemmas.{no_pair, pair_at}
 use Rattle.iref_parse.proofs.dots.has_pair_in_few.Goals as goal
 

@@ -1,6 +1,5 @@
 use Rattle.std.proofs.Common.{◌≡◌, ◌+◌, length, arith, subst}
-use Rattle.iref_parse.proofs.PairLemmas.{pairs_at, unmarked_pair}
-use Rattle.iref_parse.proofs.PositionLemmas.{IsClearFront, IsClearFront-more}
+use Rattle.iref_parse.proofs.{PairLemmas.{pairs_at, unmarked_pair}, PositionLemmas.{IsClearFront, IsClearFront-more}}
 use Rattle.iref_parse.proofs.dots.position_of_slash_dot.Goals as goal
 
 pub loop-at-preserved : goal.loop-at-preserved

@@ -1,6 +1,5 @@
 use Rattle.std.proofs.Common.{◌-◌, length}
-use Rattle.iref_parse.proofs.PairLemmas.{pairs_at}
-use Rattle.iref_parse.proofs.PositionLemmas.{IsClearFront}
+use Rattle.iref_parse.proofs.{PairLemmas.{pairs_at}, PositionLemmas.{IsClearFront}}
 use Rattle.iref_parse.proofs.dots.position_of_slash_dot.Given as goal
 
 abbrev pub invariant-loop-at : goal.invariant-loop-at

@@ -1,7 +1,5 @@
-use Rattle.std.proofs.Common.{◌≡◌, true, ap, sym, ◌∙◌}
-use Rattle.std.proofs.lemmas.Bool.{or_right}
-use Rattle.iref_parse.specs.Encoded.{is_plain_char}
-use Rattle.iref_parse.specs.Plain.{is_plain_byte}
+use Rattle.std.proofs.{Common.{◌≡◌, true, ap, sym, ◌∙◌}, lemmas.Bool.{or_right}}
+use Rattle.iref_parse.specs.{Encoded.{is_plain_char}, Plain.{is_plain_byte}}
 use Rattle.iref_parse.proofs.EncodedTextLemmas.{wide_step}
 use Rattle.iref_parse.proofs.encoded.after_code.Goals as goal
 

@@ -1,5 +1,4 @@
-use Rattle.std.proofs.Common.{arith, subst, sym}
-use Rattle.std.proofs.lemmas.List.{take_rest}
+use Rattle.std.proofs.{Common.{arith, subst, sym}, lemmas.List.{take_rest}}
 use Rattle.iref_parse.specs.Encoded.{BeginsCommon}
 use Rattle.iref_parse.proofs.CommonLemmas.{common_of_two, common_of_three}
 use Rattle.iref_parse.proofs.encoded.after_common_char.Goals as goal

@@ -1,10 +1,7 @@
-use Rattle.std.proofs.Common.{◌<◌, arith, drop, sym, subst}
+use Rattle.std.proofs.{Common.{◌<◌, arith, drop, sym, subst}, lemmas.List.Sums.{prefix_len-le-length}}
 use Rattle.std.specs.List.{prefix_len}
-use Rattle.std.proofs.lemmas.List.Sums.{prefix_len-le-length}
-use Rattle.iref_parse.specs.Plain.{is_plain_byte, is_common_byte}
-use Rattle.iref_parse.specs.Encoded.{StepsTo, is_plain_char}
-use Rattle.iref_parse.proofs.CommonLemmas.{common_step}
-use Rattle.iref_parse.proofs.EncodedTextLemmas.{front_step}
+use Rattle.iref_parse.specs.{Plain.{is_plain_byte, is_common_byte}, Encoded.{StepsTo, is_plain_char}}
+use Rattle.iref_parse.proofs.{CommonLemmas.{common_step}, EncodedTextLemmas.{front_step}}
 use Rattle.iref_parse.proofs.PlainTextLemmas.{plain_stands_for_itself}
 use Rattle.iref_parse.proofs.encoded.passed_first.Goals as goal
 

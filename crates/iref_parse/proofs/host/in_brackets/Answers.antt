@@ -1,6 +1,5 @@
-use Rattle.std.proofs.Common.{None, lit<, ap, sym, ◌∙◌}
+use Rattle.std.proofs.{Common.{None, lit<, ap, sym, ◌∙◌}, lemmas.Str.Pattern.{strip_prefix_char}}
 use Rattle.std.specs.Option.{option_copied}
-use Rattle.std.proofs.lemmas.Str.Pattern.{strip_prefix_char}
 use Rattle.iref_grammar.specs.Grammar.{left_bracket}
 use Rattle.iref_parse.proofs.LiteralLemmas.{in_brackets-unbracketed}
 use Rattle.iref_parse.proofs.host.in_brackets.Goals as goal

@@ -1,5 +1,4 @@
-use Rattle.std.proofs.Common.{None, lit<, sym}
-use Rattle.std.proofs.lemmas.Str.Pattern.{strip_prefix_char}
+use Rattle.std.proofs.{Common.{None, lit<, sym}, lemmas.Str.Pattern.{strip_prefix_char}}
 use Rattle.iref_parse.proofs.LiteralLemmas.{is_ipvfuture-without_v}
 use Rattle.iref_parse.proofs.host.is_ipvfuture.Goals as goal
 

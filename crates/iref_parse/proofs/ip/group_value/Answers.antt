@@ -1,5 +1,4 @@
-use Rattle.std.proofs.Common.{arith}
-use Rattle.std.proofs.lemmas.Grind.{common_steps}
+use Rattle.std.proofs.{Common.{arith}, lemmas.Grind.{common_steps}}
 use Rattle.iref_parse.proofs.DigitLemmas.{group_value-parsed}
 use Rattle.iref_parse.proofs.ip.group_value.Goals as goal
 

@@ -1,5 +1,4 @@
-use Rattle.std.proofs.Common.{◌∙◌, sym, lit<, Some, rules}
-use Rattle.std.proofs.lemmas.Str.Pattern.{split_once_first}
+use Rattle.std.proofs.{Common.{◌∙◌, sym, lit<, Some, rules}, lemmas.Str.Pattern.{split_once_first}}
 use Rattle.iref_parse.proofs.GroupLemmas.{read_ninth, read_group}
 use Rattle.iref_parse.proofs.ip.groups_before_last.Goals as goal
 

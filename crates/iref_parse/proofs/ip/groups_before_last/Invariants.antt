@@ -2,10 +2,7 @@ use Rattle.std.proofs.Common.{◌≡◌, ℕ, List, length}
 use Rattle.std.specs.Prelude.{Option, option_and_then}
 use denote.Text.{Utf8}
 use denote.Shadow.{shadow}
-use Rattle.iref_grammar.specs.Rules.{Text}
-use Rattle.iref_grammar.specs.Grammar.{colon}
-use Rattle.iref_grammar.specs.Texts.{pieces_at}
-use Rattle.iref_grammar.specs.IpAddresses.{groups_then}
+use Rattle.iref_grammar.specs.{Rules.{Text}, Grammar.{colon}, Texts.{pieces_at}, IpAddresses.{groups_then}}
 use Rattle.iref_parse.specs.IpGroups.{counted, counted_after}
 use Rattle.iref_parse.proofs.ip.groups_before_last.Given as goal
 

@@ -1,9 +1,7 @@
-use Rattle.std.proofs.Common.{◌∙◌, sym, lit<, arith}
-use Rattle.std.proofs.lemmas.Grind.{common_steps}
-use Rattle.std.proofs.lemmas.Str.Pattern.{starts_char}
+use Rattle.std.proofs.{Common.{◌∙◌, sym, lit<, arith}, lemmas.Grind.{common_steps}, lemmas.Str.Pattern.{starts_char}}
 use Rattle.iref_parse.proofs.DigitLemmas.{octet_value-plus, octet_value-zero, octet_value-parsed}
-use Rattle.iref_parse.proofs.ip.octet_value.Goals as goal
 use Rattle.iref_parse.proofs.ip.octet_value.Goals.{then-starts_with-via-then-starts_with, then-starts_with-via-else-starts_with+then-has_leading_zero}
+use Rattle.iref_parse.proofs.ip.octet_value.Goals as goal
 
 pub returns-then-starts_with : goal.returns-then-starts_with
 returns-then-starts_with c = elim c.then-starts_with.branch [

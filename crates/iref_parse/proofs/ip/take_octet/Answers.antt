@@ -1,5 +1,4 @@
-use Rattle.std.proofs.Common.{◌∙◌, sym, lit<, Some, None}
-use Rattle.std.proofs.lemmas.Str.Pattern.{split_once_first}
+use Rattle.std.proofs.{Common.{◌∙◌, sym, lit<, Some, None}, lemmas.Str.Pattern.{split_once_first}}
 use Rattle.iref_parse.proofs.OctetLemmas.{octet_values-first, octet_values-refused, octet_values-one}
 use Rattle.iref_parse.proofs.ip.take_octet.Goals as goal
 

@@ -1,7 +1,6 @@
-use Rattle.std.proofs.Common.{cond, eqb, get_or, replicate, sym, subst, w8}
+use Rattle.std.proofs.{Common.{cond, eqb, get_or, replicate, sym, subst, w8}, lemmas.Simd.{tops_compared}}
 use Rattle.iref_parse.proofs.LaneLemmas.{HasLanes-select}
 use Rattle.iref_parse.specs.Lanes.{HasLanes}
-use Rattle.std.proofs.lemmas.Simd.{tops_compared}
 use Rattle.std.specs.Simd.Lanes.{sel_l}
 use Rattle.iref_parse.proofs.lanes.equal_to.Goals as goal
 

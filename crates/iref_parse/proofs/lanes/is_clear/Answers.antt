@@ -1,6 +1,5 @@
-use Rattle.std.proofs.Common.{eqb, not, ap, ◌∙◌, arith, w8}
+use Rattle.std.proofs.{Common.{eqb, not, ap, ◌∙◌, arith, w8}, lemmas.Simd.{bitmask_splat}}
 use Rattle.iref_parse.proofs.LaneLemmas.{clear_mask}
-use Rattle.std.proofs.lemmas.Simd.{bitmask_splat}
 use Rattle.iref_parse.proofs.lanes.is_clear.Goals as goal
 
 pub returns : goal.returns

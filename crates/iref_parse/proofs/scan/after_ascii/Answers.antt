@@ -1,6 +1,4 @@
-use Rattle.std.proofs.Common.{arith}
-use Rattle.std.proofs.lemmas.Grind.{common_steps}
-use Rattle.std.proofs.lemmas.Str.{lead_after_ascii}
+use Rattle.std.proofs.{Common.{arith}, lemmas.Grind.{common_steps}, lemmas.Str.{lead_after_ascii}}
 use Rattle.iref_parse.proofs.ScanLemmas.{chars-ascii}
 use Rattle.iref_parse.proofs.scan.after_ascii.Goals as goal
 

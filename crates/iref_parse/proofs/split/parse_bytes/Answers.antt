@@ -1,12 +1,8 @@
-use Rattle.std.proofs.Common.{ap, subst, sym, ◌∙◌}
-use Rattle.std.specs.Prelude.{is_some}
-use Rattle.std.proofs.lemmas.Bool.{and_parts}
-use Rattle.std.proofs.lemmas.Bool.Decides.{same_from_decides}
+use Rattle.std.proofs.{Common.{ap, subst, sym, ◌∙◌}, lemmas.Bool.{and_parts}, lemmas.Bool.Decides.{same_from_decides}}
 use Rattle.std.proofs.lemmas.Str.{IsUtf8-from_is_utf8}
-use Rattle.iref_parse.specs.Encoded.{AreEncoded}
-use Rattle.iref_parse.specs.ReferenceSlices.{texts_of}
-use Rattle.iref_grammar.specs.ComponentTexts.{spell_components}
-use Rattle.iref_grammar.specs.Reference.{read_reference}
+use Rattle.std.specs.Prelude.{is_some}
+use Rattle.iref_parse.specs.{Encoded.{AreEncoded}, ReferenceSlices.{texts_of}}
+use Rattle.iref_grammar.specs.{ComponentTexts.{spell_components}, Reference.{read_reference}}
 use Rattle.iref_grammar.proofs.ComponentLemmas.{Decides-AreComponents}
 use Rattle.iref_parse.proofs.PlainTextLemmas.{components_of_encoded, no_reference}
 use Rattle.iref_parse.proofs.split.parse_bytes.Goals as goal

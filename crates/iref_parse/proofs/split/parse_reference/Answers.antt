@@ -1,8 +1,6 @@
-use Rattle.std.proofs.Common.{ap, subst, sym, ◌∙◌}
-use Rattle.iref_parse.specs.Encoded.{AreEncoded, are_encoded, is_plain_char}
+use Rattle.std.proofs.{Common.{ap, subst, sym, ◌∙◌}, lemmas.Bool.Decides.{same_from_decides}}
+use Rattle.iref_parse.specs.{Encoded.{AreEncoded, are_encoded, is_plain_char}, ReferenceSlices.{texts_of}}
 use Rattle.iref_parse.proofs.PlainTextLemmas.{components_of_encoded}
-use Rattle.std.proofs.lemmas.Bool.Decides.{same_from_decides}
-use Rattle.iref_parse.specs.ReferenceSlices.{texts_of}
 use Rattle.iref_grammar.proofs.ComponentLemmas.{Decides-AreComponents}
 use Rattle.iref_parse.proofs.split.parse_reference.Goals as goal
 

@@ -1,17 +1,13 @@
 use Rattle.std.proofs.Common.{◌≡◌, ◌<◌, [], ◌∷◌, length, drop, refl, rules, arith, ap, sym, ◌∙◌}
-use Rattle.std.proofs.lemmas.Grind.{common_steps}
-use Rattle.std.specs.Prelude.{◌≢◌, Some, None}
-use Rattle.std.proofs.lemmas.Bool.Decides.{nat_tests}
-use Rattle.std.proofs.lemmas.List.{nil_from_length}
+use Rattle.std.proofs.{lemmas.Grind.{common_steps}, lemmas.Bool.Decides.{nat_tests}, lemmas.List.{nil_from_length}}
 use Rattle.std.proofs.lemmas.Str.{IsUtf8-drop, lead_after_ascii}
-use Rattle.iref_grammar.specs.Rules.{Text}
-use Rattle.iref_grammar.specs.Grammar.{hash_sign, question_mark}
+use Rattle.std.specs.Prelude.{◌≢◌, Some, None}
+use Rattle.iref_grammar.specs.{Rules.{Text}, Grammar.{hash_sign, question_mark}}
 use Rattle.iref_grammar.specs.Texts.{before, from_first, after, after_first_char}
 use Rattle.iref_grammar.proofs.CutLemmas.{before-no, before-yes, from_first-no}
 use Rattle.iref_grammar.proofs.SplitLemmas.{ends_path, hash, begins_with_mark, hierarchy-cut, query-cut, fragment-cut}
-use Rattle.iref_parse.proofs.PositionLemmas.{boundary_at_position}
+use Rattle.iref_parse.proofs.{PositionLemmas.{boundary_at_position}, split.split_tail.Goals.{In-None}}
 use Rattle.iref_parse.proofs.split.split_tail.Goals as goal
-use Rattle.iref_parse.proofs.split.split_tail.Goals.{In-None}
 
 -- a tail that does not begin with `#` begins with `?`
 question_first : (text tail : Text) → tail ≡ from_first ends_path text → 0 < length tail → ((rest : Text) → tail ≢ hash_sign ∷ rest) → tail ≡ question_mark ∷ drop 1 tail

@@ -1,6 +1,5 @@
 use Rattle.std.proofs.Common.{length, ◌∙◌, arith}
-use Rattle.iref_parse.proofs.UnescapedLemmas.{marks_at, all_allowed}
-use Rattle.iref_parse.proofs.SeenLemmas.{Seen-none, Seen-more}
+use Rattle.iref_parse.proofs.{UnescapedLemmas.{marks_at, all_allowed}, SeenLemmas.{Seen-none, Seen-more}}
 use Rattle.iref_parse.proofs.unescaped.allows_all.Goals as goal
 
 pub loop-at-init : goal.loop-at-init

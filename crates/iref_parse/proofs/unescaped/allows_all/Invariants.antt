@@ -1,6 +1,5 @@
 use Rattle.std.proofs.Common.{◌-◌, ◌≤◌, length}
-use Rattle.iref_parse.proofs.UnescapedLemmas.{marks_at}
-use Rattle.iref_parse.proofs.SeenLemmas.{Seen}
+use Rattle.iref_parse.proofs.{UnescapedLemmas.{marks_at}, SeenLemmas.{Seen}}
 use Rattle.iref_parse.proofs.unescaped.allows_all.Given as goal
 
 abbrev pub invariant-loop-at : goal.invariant-loop-at

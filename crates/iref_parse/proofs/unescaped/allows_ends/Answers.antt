@@ -1,6 +1,5 @@
 use Rattle.std.proofs.Common.{◌≡◌, ℕ, ◌+◌, ◌-◌, ◌<◌, ◌∙◌, get_or, length, ap, sym, arith}
-use Rattle.iref_parse.proofs.PositionLemmas.{ends, low_end, high_end}
-use Rattle.iref_parse.proofs.SeenLemmas.{Seen-ends}
+use Rattle.iref_parse.proofs.{PositionLemmas.{ends, low_end, high_end}, SeenLemmas.{Seen-ends}}
 use Rattle.iref_parse.proofs.UnescapedLemmas.{marks_at, all_allowed}
 use Rattle.iref_parse.proofs.unescaped.allows_ends.Goals as goal
 

@@ -1,8 +1,7 @@
 use Rattle.std.proofs.Common.{arith, ap, ◌∙◌, take, length, ◌-◌}
 use Rattle.iref_model.specs.PathSuffix.{same_decoded}
 use Rattle.iref_path.specs.NormalItems.{normal_left}
-use Rattle.iref_path.proofs.CompareListLemmas.{common-cut}
-use Rattle.iref_path.proofs.OrderLemmas.{order-cut}
+use Rattle.iref_path.proofs.{CompareListLemmas.{common-cut}, OrderLemmas.{order-cut}}
 use Rattle.iref_path.proofs.compare_lists.compare_lists.Goals as goal
 
 pub returns : goal.returns

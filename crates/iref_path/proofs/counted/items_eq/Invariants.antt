@@ -1,7 +1,6 @@
 use Rattle.std.proofs.Common.{◌≡◌, length}
 use Rattle.iref_model.specs.CountedEquality.{items_compared}
-use Rattle.iref_path.specs.CountedPath.{IsCountable, items_unread, segments_of}
-use Rattle.iref_path.specs.CountedSegments.{IsCounted}
+use Rattle.iref_path.specs.{CountedPath.{IsCountable, items_unread, segments_of}, CountedSegments.{IsCounted}}
 use Rattle.iref_path.proofs.counted.items_eq.Given as goal
 
 abbrev pub invariant-loop-item : goal.invariant-loop-item

@@ -1,6 +1,5 @@
-use Rattle.std.proofs.Common.{arith, false}
+use Rattle.std.proofs.{Common.{arith, false}, lemmas.Bool.{not-false}}
 use Rattle.std.specs.Cmp.{booleans_Decides}
-use Rattle.std.proofs.lemmas.Bool.{not-false}
 use Rattle.iref_path.proofs.CountedPathLemmas.{counted_by_items}
 use Rattle.iref_path.proofs.counted.paths_eq.Goals as goal
 

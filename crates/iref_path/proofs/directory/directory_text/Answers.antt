@@ -1,5 +1,4 @@
-use Rattle.std.proofs.Common.{arith, Some, None}
-use Rattle.std.proofs.lemmas.Str.Pattern.{rfind_char}
+use Rattle.std.proofs.{Common.{arith, Some, None}, lemmas.Str.Pattern.{rfind_char}}
 use Rattle.iref_grammar.specs.Grammar.{slash}
 use Rattle.iref_path.proofs.PathTextLemmas.{directory-cut, directory-uncut}
 use Rattle.iref_path.proofs.directory.directory_text.Goals as goal

@@ -1,8 +1,5 @@
-use Rattle.std.proofs.Common.{◌++◌, ◌∙◌, ap, arith, take}
-use Rattle.std.proofs.lemmas.Result.{on_ok_weaker}
-use Rattle.iref_grammar.specs.Grammar.{slash}
-use Rattle.iref_grammar.specs.PathValue.{read_path}
-use Rattle.iref_grammar.specs.Texts.{pieces_at}
+use Rattle.std.proofs.{Common.{◌++◌, ◌∙◌, ap, arith, take}, lemmas.Result.{on_ok_weaker}}
+use Rattle.iref_grammar.specs.{Grammar.{slash}, PathValue.{read_path}, Texts.{pieces_at}}
 use Rattle.iref_path.proofs.ForwardLemmas.{appended_twice, relative_after}
 use Rattle.iref_path.proofs.forward.append_normal_after.Goals as goal
 

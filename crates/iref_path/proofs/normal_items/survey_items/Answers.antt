@@ -1,9 +1,7 @@
 use Rattle.std.proofs.Common.{arith}
 use Rattle.iref_model.specs.NormalReading.{staying_before}
-use Rattle.iref_path.specs.MergedPaths.{merged_list, merged_path}
-use Rattle.iref_path.specs.NormalItems.{normal_left}
-use Rattle.iref_path.proofs.MergedPathLemmas.{ends-both}
-use Rattle.iref_path.proofs.NormalItemsLemmas.{all_last, one_empty, parts-whole}
+use Rattle.iref_path.specs.{MergedPaths.{merged_list, merged_path}, NormalItems.{normal_left}}
+use Rattle.iref_path.proofs.{MergedPathLemmas.{ends-both}, NormalItemsLemmas.{all_last, one_empty, parts-whole}}
 use Rattle.iref_path.proofs.normal_items.survey_items.Goals as goal
 
 pub returns-then-is_one_empty-clause-items : goal.returns-then-is_one_empty-clause-items

@@ -1,8 +1,7 @@
 use Rattle.std.proofs.Common.{◌≡◌, length}
 use Rattle.std.specs.Cmp.Lexicographic.{slice_cmp}
 use Rattle.iref_grammar.specs.Keys.{text_order}
-use Rattle.iref_path.specs.Named.{named}
-use Rattle.iref_path.specs.Pieces.{pieces_if_some}
+use Rattle.iref_path.specs.{Named.{named}, Pieces.{pieces_if_some}}
 use Rattle.iref_path.proofs.OrderLemmas.{decoded}
 use Rattle.iref_path.proofs.order.compare_names.Given as goal
 

@@ -2,9 +2,7 @@ use Rattle.std.proofs.Common.{◌≡◌, length}
 use Rattle.std.specs.Cmp.Lexicographic.{slice_cmp}
 use denote.Shadow.{shadow}
 use denote.Text.{Utf8}
-use Rattle.iref_grammar.specs.Grammar.{slash}
-use Rattle.iref_grammar.specs.Keys.{text_order}
-use Rattle.iref_grammar.specs.Texts.{pieces_at}
+use Rattle.iref_grammar.specs.{Grammar.{slash}, Keys.{text_order}, Texts.{pieces_at}}
 use Rattle.iref_path.proofs.OrderLemmas.{decoded}
 use Rattle.iref_path.proofs.order.compare_segments.Given as goal
 

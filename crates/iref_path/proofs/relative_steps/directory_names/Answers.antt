@@ -1,8 +1,7 @@
 use Rattle.std.proofs.Common.{length, arith, ap}
 use Rattle.iref_model.proofs.StayingLemmas.{staying_names-is}
 use Rattle.iref_model.specs.NormalReading.{staying_before}
-use Rattle.iref_path.specs.Pieces.{pieces_if_some}
-use Rattle.iref_path.specs.Spelling.{each_closed}
+use Rattle.iref_path.specs.{Pieces.{pieces_if_some}, Spelling.{each_closed}}
 use Rattle.iref_path.proofs.SpellLemmas.{kept_size, last_size, list_size, read_size}
 use Rattle.iref_path.proofs.relative_steps.directory_names.Goals as goal
 

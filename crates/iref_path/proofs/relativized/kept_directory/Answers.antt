@@ -1,8 +1,6 @@
 use Rattle.std.proofs.Common.{length, arith, ap}
-use Rattle.iref_path.specs.Pieces.{pieces_if_some}
-use Rattle.iref_path.specs.Spelling.{each_closed}
-use Rattle.iref_path.proofs.ClimbLemmas.{kept-length}
-use Rattle.iref_path.proofs.SpellLemmas.{last_size, read_size}
+use Rattle.iref_path.specs.{Pieces.{pieces_if_some}, Spelling.{each_closed}}
+use Rattle.iref_path.proofs.{ClimbLemmas.{kept-length}, SpellLemmas.{last_size, read_size}}
 use Rattle.iref_path.proofs.relativized.kept_directory.Goals as goal
 
 pub kept-requires : goal.kept-requires

@@ -1,6 +1,5 @@
 use Rattle.std.proofs.Common.{None, length, arith, ap, ◌∙◌}
-use Rattle.iref_path.specs.MergedPaths.{merged_path}
-use Rattle.iref_path.specs.Spelling.{each_closed}
+use Rattle.iref_path.specs.{MergedPaths.{merged_path}, Spelling.{each_closed}}
 use Rattle.iref_path.proofs.SpellLemmas.{normal_size, read_size}
 use Rattle.iref_path.proofs.rewriting.normal_guard.Goals as goal
 

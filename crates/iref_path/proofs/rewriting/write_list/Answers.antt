@@ -1,8 +1,7 @@
 use Rattle.std.proofs.Common.{length-append, length-drop, ◌∙◌, arith}
-use Rattle.iref_path.proofs.RewritingLemmas.{listed}
-use Rattle.iref_path.proofs.WrittenLemmas.{nothing_behind}
-use Rattle.iref_path.proofs.rewriting.write_list.Goals as goal
+use Rattle.iref_path.proofs.{RewritingLemmas.{listed}, WrittenLemmas.{nothing_behind}}
 use Rattle.iref_path.proofs.rewriting.write_list.Goals.{then-stays, else-stays}
+use Rattle.iref_path.proofs.rewriting.write_list.Goals as goal
 
 pub write_parents-requires-clause-room : goal.write_parents-requires-clause-room
 write_parents-requires-clause-room c =

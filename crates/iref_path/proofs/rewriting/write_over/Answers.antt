@@ -1,7 +1,6 @@
 use Rattle.std.proofs.lemmas.Grind.{common_steps}
 use Rattle.std.proofs.Common.{◌≤◌, rules, codes, length, length-append, length-take, length-drop, ◌∙◌, arith}
-use Rattle.std.proofs.lemmas.Bool.Decides.{Decides-eqb}
-use Rattle.std.proofs.lemmas.Slice.Eq.{starts_is}
+use Rattle.std.proofs.{lemmas.Bool.Decides.{Decides-eqb}, lemmas.Slice.Eq.{starts_is}}
 use Rattle.iref_path.proofs.RewritingLemmas.{behind_root, list_in_path, root_is}
 use Rattle.iref_path.proofs.WrittenLemmas.{nothing_behind, to_end}
 use Rattle.iref_path.proofs.rewriting.write_over.Goals as goal

@@ -1,7 +1,6 @@
 use Rattle.iref_grammar.specs.Rules.{Text}
 use Rattle.std.proofs.Common.{ℕ, length, ◌≡◌, ◌+◌, ◌-◌, ◌<◌, ◌≤◌, ◌^◌, arith, drop, take}
-use Rattle.std.proofs.lemmas.Bool.Decides.{nat_tests}
-use Rattle.std.proofs.lemmas.Nat.{leading_top}
+use Rattle.std.proofs.{lemmas.Bool.Decides.{nat_tests}, lemmas.Nat.{leading_top}}
 use lib.Count.{count_leading_zeros}
 use Rattle.iref_path.specs.Slashes.{IsLastSlash, LacksSlashFrom, slash_mask}
 use Rattle.iref_path.proofs.SlashLemmas.{last_slash_there, no_slash_there, slash_at_highest}

@@ -1,5 +1,4 @@
-use Rattle.std.proofs.Common.{drop, eqb, length-drop, length-take-le, take, arith, w8}
-use Rattle.std.proofs.lemmas.Simd.{bitmask_splat}
+use Rattle.std.proofs.{Common.{drop, eqb, length-drop, length-take-le, take, arith, w8}, lemmas.Simd.{bitmask_splat}}
 use Rattle.iref_grammar.specs.Grammar.{slash}
 use Rattle.iref_path.proofs.segments.slashes.Goals as goal
 

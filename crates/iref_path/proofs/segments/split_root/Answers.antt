@@ -1,8 +1,7 @@
 use Rattle.std.proofs.Common.{◌≡◌, arith, refl}
 use Rattle.iref_grammar.specs.{segments_of, read_path}
-use Rattle.iref_path.proofs.SlashLemmas.{read-absolute, read-relative}
+use Rattle.iref_path.proofs.{SlashLemmas.{read-absolute, read-relative}, segments.split_root.Goals.{in-Some, in-None}}
 use Rattle.iref_path.proofs.segments.split_root.Goals as goal
-use Rattle.iref_path.proofs.segments.split_root.Goals.{in-Some, in-None}
 
 pub returns-then-is_empty-clause-path : goal.returns-then-is_empty-clause-path
 returns-then-is_empty-clause-path c =

@@ -1,7 +1,6 @@
 use Rattle.std.proofs.Common.{◌≡◌, length}
 use Rattle.iref_splice.specs.Backward.{compared_after}
-use Rattle.iref_path.specs.NormalItems.{IsSound, normal_left}
-use Rattle.iref_path.specs.Spelling.{each_closed}
+use Rattle.iref_path.specs.{NormalItems.{IsSound, normal_left}, Spelling.{each_closed}}
 use Rattle.iref_path.proofs.settled.compare_closed.Given as goal
 
 abbrev pub invariant-loop-item : goal.invariant-loop-item

@@ -1,10 +1,8 @@
 use Rattle.std.proofs.Common.{None, arith}
 use Rattle.std.specs.List.{join_with_byte}
 use Rattle.iref_grammar.specs.Grammar.{slash}
-use Rattle.iref_path.specs.MergedPaths.{merged_path}
-use Rattle.iref_path.specs.NormalItems.{normal_left}
-use Rattle.iref_path.proofs.SettledTextLemmas.{whole_compared}
-use Rattle.iref_path.proofs.SpellLemmas.{normalized-spelled, read_size}
+use Rattle.iref_path.specs.{MergedPaths.{merged_path}, NormalItems.{normal_left}}
+use Rattle.iref_path.proofs.{SettledTextLemmas.{whole_compared}, SpellLemmas.{normalized-spelled, read_size}}
 use Rattle.iref_path.proofs.settled.is_normal_text.Goals as goal
 
 pub survey_items-all-requires : goal.survey_items-all-requires

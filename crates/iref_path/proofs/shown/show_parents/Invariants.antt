@@ -1,5 +1,4 @@
-use Rattle.std.specs.Prelude.{codes, replicate}
-use Rattle.std.specs.Fmt.{HasWritten, IsPlainFormatter}
+use Rattle.std.specs.{Prelude.{codes, replicate}, Fmt.{HasWritten, IsPlainFormatter}}
 use Rattle.iref_path.specs.Spelling.{each_closed}
 use Rattle.iref_path.proofs.shown.show_parents.Given as goal
 

@@ -1,5 +1,4 @@
-use Rattle.std.proofs.lemmas.Grind.{common_steps}
-use Rattle.std.proofs.Common.{arith}
+use Rattle.std.proofs.{lemmas.Grind.{common_steps}, Common.{arith}}
 use Rattle.iref_grammar.specs.Grammar.{colon}
 use Rattle.iref_path.proofs.SpellLemmas.{any-contained}
 use Rattle.iref_path.proofs.spell.first_needs_guard.Goals as goal

@@ -1,8 +1,7 @@
 use Rattle.std.proofs.Common.{◌≡◌, ◌+◌, [], length}
 use denote.Shadow.{shadow}
 use denote.Text.{Utf8}
-use Rattle.iref_path.specs.NormalItems.{first_or, IsSound, normal_left}
-use Rattle.iref_path.specs.Spelling.{each_closed}
+use Rattle.iref_path.specs.{NormalItems.{first_or, IsSound, normal_left}, Spelling.{each_closed}}
 use Rattle.iref_path.proofs.spell.measure.Given as goal
 
 abbrev pub invariant-loop-item : goal.invariant-loop-item

@@ -1,6 +1,5 @@
 use Rattle.std.proofs.Common.{◌≡◌, length}
-use Rattle.iref_path.specs.NormalItems.{IsSound, normal_left}
-use Rattle.iref_path.specs.Spelling.{each_closed}
+use Rattle.iref_path.specs.{NormalItems.{IsSound, normal_left}, Spelling.{each_closed}}
 use Rattle.iref_path.proofs.spell.put_closed.Given as goal
 
 abbrev pub invariant-loop-item : goal.invariant-loop-item

@@ -1,6 +1,5 @@
 use Rattle.std.proofs.Common.{◌≡◌, drop}
-use Rattle.iref_path.specs.Spelling.{each_closed}
-use Rattle.iref_path.specs.Stacks.{in_order}
+use Rattle.iref_path.specs.{Spelling.{each_closed}, Stacks.{in_order}}
 use Rattle.iref_path.proofs.spell.put_stacked_closed.Given as goal
 
 abbrev pub invariant-loop-item : goal.invariant-loop-item

@@ -1,14 +1,12 @@
-use Rattle.std.proofs.Common.{arith, ◌≡◌, ◌++◌, ◌∙◌, length, take}
-use Rattle.std.proofs.lemmas.Str.{IsCharBoundary-end}
-use Rattle.iref_grammar.specs.PathValue.{read_path, spell_path}
-use Rattle.iref_path.proofs.StepValueLemmas.{steps_by, closed-step}
+use Rattle.std.proofs.{Common.{arith, ◌≡◌, ◌++◌, ◌∙◌, length, take}, lemmas.Str.{IsCharBoundary-end}}
 use Rattle.std.proofs.lemmas.List.{append-nil, take_all}
+use Rattle.iref_grammar.specs.PathValue.{read_path, spell_path}
+use Rattle.iref_path.proofs.{StepValueLemmas.{steps_by, closed-step}, SlashLemmas.{is_empty-pieces}}
+use Rattle.iref_path.proofs.StepTextLemmas.{closed_spelled, put_to_end, to_end}
+use Rattle.iref_path.proofs.steps.closed.Goals.{then-has_segments, else-has_segments}
 use Rattle.iref_grammar.proofs.PathLemmas.{read_path-reads}
 use Rattle.iref_model.specs.PathSteps.{closed_path}
-use Rattle.iref_path.proofs.SlashLemmas.{is_empty-pieces}
-use Rattle.iref_path.proofs.StepTextLemmas.{closed_spelled, put_to_end, to_end}
 use Rattle.iref_path.proofs.steps.closed.Goals as goal
-use Rattle.iref_path.proofs.steps.closed.Goals.{then-has_segments, else-has_segments}
 
 pub returns : goal.returns
 returns g c =

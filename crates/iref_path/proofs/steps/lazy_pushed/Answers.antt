@@ -1,5 +1,4 @@
-use Rattle.std.proofs.Common.{◌∙◌}
-use Rattle.std.proofs.lemmas.List.{append-nil}
+use Rattle.std.proofs.{Common.{◌∙◌}, lemmas.List.{append-nil}}
 use Rattle.iref_path.proofs.StepValueLemmas.{steps_by, lazy_pushed-step}
 use Rattle.iref_path.proofs.steps.lazy_pushed.Goals as goal
 

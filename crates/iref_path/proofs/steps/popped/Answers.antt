@@ -1,6 +1,5 @@
 use Rattle.std.proofs.Common.{◌∙◌}
-use Rattle.iref_path.proofs.StepTextLemmas.{unclosed_spelled}
-use Rattle.iref_path.proofs.StepValueLemmas.{steps_by, popped-step}
+use Rattle.iref_path.proofs.{StepTextLemmas.{unclosed_spelled}, StepValueLemmas.{steps_by, popped-step}}
 use Rattle.iref_path.proofs.steps.popped.Goals as goal
 
 pub returns : goal.returns

@@ -1,9 +1,7 @@
-use Rattle.std.proofs.Common.{◌++◌, ◌∙◌, append_assoc, arith, length}
-use Rattle.std.proofs.lemmas.List.{take_all}
+use Rattle.std.proofs.{Common.{◌++◌, ◌∙◌, append_assoc, arith, length}, lemmas.List.{take_all}}
 use Rattle.iref_grammar.specs.PathValue.{read_path}
 use Rattle.iref_grammar.proofs.PathLemmas.{read_path-reads}
-use Rattle.iref_path.proofs.SlashLemmas.{is_empty-pieces}
-use Rattle.iref_path.proofs.StepTextLemmas.{first_pushed, next_pushed, put_to_end}
+use Rattle.iref_path.proofs.{SlashLemmas.{is_empty-pieces}, StepTextLemmas.{first_pushed, next_pushed, put_to_end}}
 use Rattle.iref_path.proofs.steps.push_text.Goals as goal
 
 pub returns-then-is_some-clause-text : goal.returns-then-is_some-clause-text

@@ -1,8 +1,6 @@
-use Rattle.std.proofs.Common.{sym, ap, ◌∙◌}
-use Rattle.std.proofs.lemmas.List.{append-nil}
+use Rattle.std.proofs.{Common.{sym, ap, ◌∙◌}, lemmas.List.{append-nil}}
 use Rattle.iref_grammar.specs.PathValue.{read_path, spell_path}
-use Rattle.iref_path.proofs.StepTextLemmas.{closed_spelled}
-use Rattle.iref_path.proofs.PopTextLemmas.{pushed_dot, pushed_parent, pushed_name}
+use Rattle.iref_path.proofs.{StepTextLemmas.{closed_spelled}, PopTextLemmas.{pushed_dot, pushed_parent, pushed_name}}
 use Rattle.iref_path.proofs.StepValueLemmas.{steps_as, steps_by, pushed-step}
 use Rattle.iref_path.proofs.steps.pushed.Goals as goal
 

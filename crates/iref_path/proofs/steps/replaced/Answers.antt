@@ -1,9 +1,6 @@
-use Rattle.std.proofs.Common.{refl, ◌∙◌}
-use Rattle.std.proofs.lemmas.List.{append-nil}
-use Rattle.std.proofs.lemmas.Str.{IsCharBoundary-start}
+use Rattle.std.proofs.{Common.{refl, ◌∙◌}, lemmas.List.{append-nil}, lemmas.Str.{IsCharBoundary-start}}
 use Rattle.iref_model.proofs.PathGrammarLemmas.{segments_of_path}
-use Rattle.iref_path.proofs.StepTextLemmas.{put_to_end, to_end}
-use Rattle.iref_path.proofs.StepValueLemmas.{steps_by, replaced-step}
+use Rattle.iref_path.proofs.{StepTextLemmas.{put_to_end, to_end}, StepValueLemmas.{steps_by, replaced-step}}
 use Rattle.iref_path.proofs.steps.replaced.Goals as goal
 
 pub returns : goal.returns

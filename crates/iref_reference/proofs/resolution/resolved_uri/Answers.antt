@@ -2,8 +2,7 @@ use Rattle.iref_grammar.proofs.ComponentLemmas.{Decides-AreComponents, reference
 use Rattle.iref_model.specs.Resolution.{resolved}
 use Rattle.iref_grammar.specs.Reference.{read_reference}
 use Rattle.iref_parse.specs.ReferenceSlices.{texts_of, value_of}
-use Rattle.iref_reference_text.proofs.LeadLemmas.{readable-fits}
-use Rattle.iref_reference_text.proofs.MeasuredLemmas.{spells_same}
+use Rattle.iref_reference_text.proofs.{LeadLemmas.{readable-fits}, MeasuredLemmas.{spells_same}}
 use Rattle.std.proofs.Common.{arith, ◌∙◌}
 use Rattle.iref_reference.proofs.ResolutionLemmas.{readable_slices, resolved-scheme, whole-leaves, whole-resolved}
 use Rattle.iref_reference.proofs.resolution.resolved_uri.Goals as goal

@@ -1,13 +1,10 @@
-use Rattle.std.proofs.Common.{arith, ap, ◌∙◌}
-use Rattle.std.proofs.lemmas.Grind.{common_steps}
+use Rattle.std.proofs.{Common.{arith, ap, ◌∙◌}, lemmas.Grind.{common_steps}}
 use Rattle.iref_grammar.proofs.ComponentLemmas.{Decides-AreComponents, is_some-copied}
 use Rattle.iref_grammar.proofs.ReferenceCutLemmas.{read_reference-spelled}
 use Rattle.iref_parse.specs.ReferenceSlices.{texts_of}
-use Rattle.iref_reference_text.proofs.FrontLemmas.{before_absolute, before_relative}
+use Rattle.iref_reference_text.proofs.{FrontLemmas.{before_absolute, before_relative}, RowLemmas.{path_alone}}
+use Rattle.iref_reference_text.proofs.{EditLemmas.{path_starts}, LengthLemmas.{lengths-slices}}
 use Rattle.iref_reference_text.specs.ComponentLengths.{path_after}
-use Rattle.iref_reference_text.proofs.RowLemmas.{path_alone}
-use Rattle.iref_reference_text.proofs.EditLemmas.{path_starts}
-use Rattle.iref_reference_text.proofs.LengthLemmas.{lengths-slices}
 use Rattle.iref_reference_text.proofs.after_authority.front_before.Goals as goal
 
 pub range-requires-clause-end_boundary : goal.range-requires-clause-end_boundary

@@ -1,9 +1,7 @@
 use Rattle.std.proofs.Common.{◌≡◌, ◌++◌, ◌∷◌, [], true, take, arith}
 use Rattle.std.specs.Prelude.{codes, is_some}
-use Rattle.iref_grammar.specs.Grammar.{colon, hash_sign, question_mark}
-use Rattle.iref_grammar.specs.Texts.{part_then, then_part}
-use Rattle.iref_grammar.proofs.ComponentLemmas.{is_some-copied}
-use Rattle.iref_grammar.proofs.ReferenceCutLemmas.{read_reference-spelled}
+use Rattle.iref_grammar.specs.{Grammar.{colon, hash_sign, question_mark}, Texts.{part_then, then_part}}
+use Rattle.iref_grammar.proofs.{ComponentLemmas.{is_some-copied}, ReferenceCutLemmas.{read_reference-spelled}}
 use Rattle.iref_parse.specs.ReferenceSlices.{texts_of}
 use Rattle.iref_reference_text.proofs.FrontLemmas.{around_spelled, before_path, behind_path, front_components, front_length, front_spells, path_first}
 use Rattle.iref_reference_text.proofs.RowLemmas.{path_alone}

@@ -1,6 +1,5 @@
 use Rattle.std.proofs.Common.{arith, rules, ◌≡◌, ◌-◌, ◌++◌, length, ap, ◌∙◌, sym}
-use Rattle.std.proofs.lemmas.Str.{IsUtf8-append, IsCharBoundary-at_seam}
-use Rattle.std.proofs.lemmas.List.{take_at}
+use Rattle.std.proofs.{lemmas.Str.{IsUtf8-append, IsCharBoundary-at_seam}, lemmas.List.{take_at}}
 use Rattle.iref_grammar.specs.Reference.{spell}
 use Rattle.iref_grammar.proofs.ReferenceCutLemmas.{read_reference-spelled}
 use Rattle.iref_parse.specs.ReferenceSlices.{texts_of, value_of}

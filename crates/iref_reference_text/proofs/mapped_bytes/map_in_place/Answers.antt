@@ -1,7 +1,5 @@
 use Rattle.std.proofs.Common.{◌≡◌, ℕ, ◌+◌, ◌*◌, ◌≤◌, ◌++◌, length, take, ap, sym, ◌∙◌, arith, take-append-drop}
-use Rattle.std.proofs.lemmas.Grind.{common_steps}
-use Rattle.std.proofs.Math.ListN.{drop_of_length-le}
-use Rattle.std.proofs.lemmas.List.{append-nil}
+use Rattle.std.proofs.{lemmas.Grind.{common_steps}, Math.ListN.{drop_of_length-le}, lemmas.List.{append-nil}}
 use Rattle.std.proofs.Math.Seq.{take-append_seam}
 use Rattle.iref_grammar.specs.Rules.{Text}
 use Rattle.iref_model.specs.Mapping.{mapped, count_escaped}

@@ -1,10 +1,7 @@
-use Rattle.std.proofs.Common.{◌≡◌, ℕ, ◌<◌, true, sym, subst, arith}
-use Rattle.std.specs.Char.{is_ascii}
-use Rattle.std.specs.Str.{IsUtf8}
-use Rattle.std.proofs.lemmas.Bool.Decides.{nat_tests}
-use Rattle.std.proofs.lemmas.List.Sums.{AllPass-from_list_all}
-use Rattle.std.proofs.lemmas.Str.{IsUtf8-from_ascii}
+use Rattle.std.proofs.{Common.{◌≡◌, ℕ, ◌<◌, true, sym, subst, arith}, lemmas.Bool.Decides.{nat_tests}}
+use Rattle.std.proofs.{lemmas.List.Sums.{AllPass-from_list_all}, lemmas.Str.{IsUtf8-from_ascii}}
 use Rattle.std.proofs.lemmas.Str.Ascii.{IsAscii-from_all}
+use Rattle.std.specs.{Char.{is_ascii}, Str.{IsUtf8}}
 use Rattle.iref_grammar.specs.Rules.{Text}
 use Rattle.iref_model.specs.Mapping.{mapped}
 use Rattle.iref_model.proofs.MappedLemmas.{ascii-mapped}

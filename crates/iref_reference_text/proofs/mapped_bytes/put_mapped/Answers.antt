@@ -1,7 +1,6 @@
 use Rattle.std.proofs.Common.{◌≡◌, false, ◌<◌, ◌≤◌, ◌+◌, ◌∷◌, [], ◌++◌, length, get_or, set, take, drop, ℕ, ap, sym, ◌∙◌, refl, arith, take-append-drop, append_assoc}
-use Rattle.std.proofs.lemmas.Grind.{common_steps}
+use Rattle.std.proofs.{lemmas.Grind.{common_steps}, lemmas.List.{take_more_set, drop-set-lt, length-set}}
 use Rattle.std.specs.Char.{is_ascii}
-use Rattle.std.proofs.lemmas.List.{take_more_set, drop-set-lt, length-set}
 use Rattle.percent_encoding.specs.Percent.{percent_encode_byte}
 use Rattle.iref_grammar.specs.Rules.{Text}
 use Rattle.iref_model.specs.Mapping.{mapped_byte}

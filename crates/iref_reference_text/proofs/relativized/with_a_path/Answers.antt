@@ -1,15 +1,10 @@
-use Rattle.std.proofs.Common.{◌≡◌, ◌∙◌, ◌&&◌, ap, arith, false, sym, true}
-use Rattle.std.proofs.lemmas.Result.{IfOk-weaker}
-use Rattle.iref_grammar.specs.ComponentTexts.{spell_components}
-use Rattle.iref_grammar.specs.PathValue.{spell_path}
-use Rattle.iref_model.specs.Relative.{with_only_path}
+use Rattle.std.proofs.{Common.{◌≡◌, ◌∙◌, ◌&&◌, ap, arith, false, sym, true}, lemmas.Result.{IfOk-weaker}}
+use Rattle.iref_grammar.specs.{ComponentTexts.{spell_components}, PathValue.{spell_path}}
+use Rattle.iref_model.specs.{Relative.{with_only_path}, Relativized.{relative_path}}
+use Rattle.iref_model.specs.{RelativizedChoice.{with_whole_path}, RelativizedTests.{is_reachable}}
 use Rattle.iref_parse.specs.ReferenceSlices.{texts_of, value_of}
 use Rattle.iref_path.specs.MeasuredPaths.{measured_text}
-use Rattle.iref_model.specs.Relativized.{relative_path}
-use Rattle.iref_model.specs.RelativizedChoice.{with_whole_path}
-use Rattle.iref_model.specs.RelativizedTests.{is_reachable}
-use Rattle.iref_reference_text.specs.MeasuredReferences.{measured_components}
-use Rattle.iref_reference_text.specs.Relatives.{after_path}
+use Rattle.iref_reference_text.specs.{MeasuredReferences.{measured_components}, Relatives.{after_path}}
 use Rattle.iref_reference_text.specs.ShortestTexts.{shared_of, shares_authority, shorter_texts}
 use Rattle.iref_reference_text.proofs.ShortestTextLemmas.{path-steps, path-whole, shorter-spelled}
 use Rattle.iref_reference_text.proofs.relativized.with_a_path.Goals as goal

@@ -1,5 +1,4 @@
-use Rattle.std.proofs.Common.{◌≡◌, IsUtf8, rules, sym, subst, ap, ◌∙◌}
-use Rattle.std.proofs.lemmas.Str.{IsUtf8-string_bytes}
+use Rattle.std.proofs.{Common.{◌≡◌, IsUtf8, rules, sym, subst, ap, ◌∙◌}, lemmas.Str.{IsUtf8-string_bytes}}
 use Rattle.std.specs.String.{string_bytes}
 use Rattle.iref_splice.specs.Changes.{IsWithin, changed}
 use Rattle.iref_splice.proofs.Seams.{changed_is_text, left_is_text}

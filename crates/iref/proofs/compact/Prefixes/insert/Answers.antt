@@ -1,6 +1,5 @@
 use Rattle.std.proofs.Common.{rules, subst, sym}
-use Rattle.iref.specs.PrefixTable.{IsPrefixTable}
-use Rattle.iref.specs.PrefixPlaces.{table_of}
+use Rattle.iref.specs.{PrefixTable.{IsPrefixTable}, PrefixPlaces.{table_of}}
 use Rattle.iref.proofs.PrefixTableLemmas.{stays_table}
 use Rattle.iref.proofs.compact.Prefixes.insert.Goals as goal
 

@@ -1,6 +1,5 @@
 use Rattle.std.proofs.Common.{subst, sym}
-use Rattle.iref.specs.PrefixTable.{IsPrefixTable}
-use Rattle.iref.specs.PrefixPlaces.{table_of}
+use Rattle.iref.specs.{PrefixTable.{IsPrefixTable}, PrefixPlaces.{table_of}}
 use Rattle.iref.proofs.PrefixLemmas.{table-removed}
 use Rattle.iref.proofs.compact.Prefixes.remove.Goals as goal
 

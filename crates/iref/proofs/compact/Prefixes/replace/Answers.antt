@@ -1,8 +1,6 @@
 use Rattle.std.proofs.Common.{rules, ap, subst, sym, ◌∙◌, ◌∷◌, [], ◌++◌}
-use Rattle.iref.specs.PrefixTable.{PrefixTable, IsPrefixTable}
-use Rattle.iref.specs.PrefixPlaces.{table_of}
-use Rattle.iref.proofs.PrefixLemmas.{table-changed}
-use Rattle.iref.proofs.PrefixTableLemmas.{stays_replaced}
+use Rattle.iref.specs.{PrefixTable.{PrefixTable, IsPrefixTable}, PrefixPlaces.{table_of}}
+use Rattle.iref.proofs.{PrefixLemmas.{table-changed}, PrefixTableLemmas.{stays_replaced}}
 use Rattle.iref.proofs.compact.Prefixes.replace.Goals as goal
 
 pub invariant_of-self-in-Continue-branch-2 : goal.invariant_of-self-in-Continue-branch-2

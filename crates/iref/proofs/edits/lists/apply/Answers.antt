@@ -4,8 +4,7 @@ use Rattle.iref_component.specs.Components.{text_of}
 use Rattle.iref_grammar.specs.Reference.{read_reference}
 use Rattle.iref_model.specs.Edits.{drops_scheme, edited}
 use Rattle.iref_reference.specs.References.{reference_buf_text}
-use Rattle.iref.specs.EditAnswers.{is_authority_edit, is_path_edit}
-use Rattle.iref.specs.EditSteps.{edit_step}
+use Rattle.iref.specs.{EditAnswers.{is_authority_edit, is_path_edit}, EditSteps.{edit_step}}
 use Rattle.iref.proofs.EditListLemmas.{found_in, keeps_scheme, kept_in, refused_in}
 use Rattle.iref.proofs.edits.lists.apply.Goals as goal
 

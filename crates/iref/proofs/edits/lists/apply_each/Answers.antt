@@ -1,11 +1,10 @@
 use Rattle.std.proofs.Common.{◌≡◌, ◌+◌, true, map, take, arith}
 use Rattle.iref_grammar.specs.Reference.{read_reference}
 use Rattle.iref_reference.specs.References.{reference_buf_text, reference_buf_value}
-use Rattle.iref.specs.EditAnswers.{AreDone, HasNormalPath, edited_in}
-use Rattle.iref.specs.EditSteps.{edit_step}
+use Rattle.iref.specs.{EditAnswers.{AreDone, HasNormalPath, edited_in}, EditSteps.{edit_step}}
 use Rattle.iref.proofs.EditListLemmas.{none_done, done_at, stops_at}
-use Rattle.iref.proofs.edits.lists.apply_each.Goals as goal
 use Rattle.iref.proofs.edits.lists.apply_each.Goals.{then-as_str-len, else-as_str-len, then-rest-gt0, else-rest-gt0+else-moves-eq-MOVES}
+use Rattle.iref.proofs.edits.lists.apply_each.Goals as goal
 
 pub loop-i-init : goal.loop-i-init
 loop-i-init g c = record { done = none_done (edited_in g.R.HeldRule.allows_scheme) (map edit_step c.args.edits.now) (reference_buf_value c.args.reference.now); moves = omega arith; normal = λ known. absurd (cc) }

@@ -1,7 +1,6 @@
 use Rattle.std.proofs.Common.{◌≡◌, ◌+◌, ◌≤◌, true, map, take}
 use Rattle.iref_reference.specs.References.{reference_buf_value}
-use Rattle.iref.specs.EditAnswers.{AreDone, HasNormalPath, edited_in}
-use Rattle.iref.specs.EditSteps.{edit_step}
+use Rattle.iref.specs.{EditAnswers.{AreDone, HasNormalPath, edited_in}, EditSteps.{edit_step}}
 use Rattle.iref.proofs.edits.lists.apply_each.Given as goal
 
 -- the edits so far are done

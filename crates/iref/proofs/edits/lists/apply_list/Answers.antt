@@ -1,9 +1,7 @@
 use Rattle.std.proofs.Common.{◌+◌, ◌-◌, drop, length, length-drop, length-take-le, map, arith}
 use Rattle.iref_reference.specs.References.{reference_buf_value}
-use Rattle.iref.specs.EditAnswers.{edited_in}
-use Rattle.iref.specs.EditSteps.{edit_step}
-use Rattle.iref.proofs.EditListLemmas.{none_done, all_done}
-use Rattle.iref.proofs.EditRunLemmas.{done_behind, stops_behind}
+use Rattle.iref.specs.{EditAnswers.{edited_in}, EditSteps.{edit_step}}
+use Rattle.iref.proofs.{EditListLemmas.{none_done, all_done}, EditRunLemmas.{done_behind, stops_behind}}
 use Rattle.iref.proofs.edits.lists.apply_list.Goals as goal
 
 pub loop-done-init : goal.loop-done-init

@@ -1,11 +1,8 @@
-use Rattle.std.proofs.Common.{◌≡◌, ◌∙◌, map, take, arith}
-use Rattle.std.proofs.lemmas.List.Folds.{list_all-map}
+use Rattle.std.proofs.{Common.{◌≡◌, ◌∙◌, map, take, arith}, lemmas.List.Folds.{list_all-map}}
 use Rattle.iref_model.specs.ComponentSteps.{with_fragment, with_query}
 use Rattle.iref_reference.specs.References.{reference_buf_value}
-use Rattle.iref.specs.EditAnswers.{AreDone, edited_in, keeps_query_and_fragment}
-use Rattle.iref.specs.EditSteps.{edit_step}
-use Rattle.iref.proofs.EditCopyLemmas.{done-completed, edited_in-completed}
-use Rattle.iref.proofs.EditListLemmas.{none_done}
+use Rattle.iref.specs.{EditAnswers.{AreDone, edited_in, keeps_query_and_fragment}, EditSteps.{edit_step}}
+use Rattle.iref.proofs.{EditCopyLemmas.{done-completed, edited_in-completed}, EditListLemmas.{none_done}}
 use Rattle.iref.proofs.edits.lists.apply_on_copy.Goals as goal
 
 pub returns-then-is_empty-clause-done : goal.returns-then-is_empty-clause-done

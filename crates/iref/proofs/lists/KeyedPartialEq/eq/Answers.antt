@@ -1,5 +1,4 @@
-use Rattle.std.proofs.Common.{◌≡◌, ap, arith, sym, ◌∙◌}
-use Rattle.std.proofs.lemmas.Map.Text.{is_eq-slice_cmp}
+use Rattle.std.proofs.{Common.{◌≡◌, ap, arith, sym, ◌∙◌}, lemmas.Map.Text.{is_eq-slice_cmp}}
 use Rattle.std.specs.Ordering.{is_eq}
 use Rattle.iref_model.specs.Key.{key_cmp}
 use Rattle.iref_reference.specs.References.{key_of_reference}

@@ -1,14 +1,8 @@
 use Rattle.std.proofs.Common.{map, subst, sym, ◌∙◌}
-use Rattle.std.specs.Option.{option_copied}
-use Rattle.std.specs.List.{list_all}
-use Rattle.iref.specs.Characters.{iri_chars}
-use Rattle.iref.specs.Rules.{Text}
-use Rattle.iref.specs.EditSteps.{edit_step}
+use Rattle.std.specs.{Option.{option_copied}, List.{list_all}}
+use Rattle.iref.specs.{Characters.{iri_chars}, Rules.{Text}, EditSteps.{edit_step}}
 use Rattle.iref.specs.References.{reference_buf_text, reference_buf_value}
-use Rattle.iref_batch.specs.Lines.{Edit, is_valid_edit}
-use Rattle.iref_batch.specs.EditFields.{edits_read}
-use Rattle.iref_batch.specs.Fields.{fields_of}
-use Rattle.iref_batch.specs.Gathering.{Puts}
+use Rattle.iref_batch.specs.{Lines.{Edit, is_valid_edit}, EditFields.{edits_read}, Fields.{fields_of}, Gathering.{Puts}}
 use Rattle.iref_batch.proofs.AnswerLemmas.{refusal}
 use Rattle.iref_batch.proofs.EditAnswerLemmas.{unfit_edits, no_edited_reply, edited_reply, refused_reply}
 use Rattle.iref_batch.proofs.answers.edit.put_answer_to_edit.Goals as goal

@@ -1,5 +1,4 @@
-use Rattle.std.proofs.Common.{◌≡◌, ◌∷◌, ◌++◌, [], ◌∙◌, ap, arith, map}
-use Rattle.std.proofs.lemmas.List.{map-append}
+use Rattle.std.proofs.{Common.{◌≡◌, ◌∷◌, ◌++◌, [], ◌∙◌, ap, arith, map}, lemmas.List.{map-append}}
 use Rattle.iref.specs.EditSteps.{edit_step}
 use Rattle.iref_batch.proofs.EditFieldLemmas.{reading_more, reading_invalid}
 use Rattle.iref_batch.proofs.answers.edit.read_edits.Goals as goal

@@ -1,11 +1,8 @@
 use Rattle.std.specs.Option.{option_copied}
 use Rattle.iref.specs.Characters.{iri_chars}
-use Rattle.iref_batch.specs.Lines.{are_valid_entries}
-use Rattle.iref_batch.specs.Fields.{fields_of}
-use Rattle.iref_batch.specs.PrefixFields.{entries_read}
+use Rattle.iref_batch.specs.{Lines.{are_valid_entries}, Fields.{fields_of}, PrefixFields.{entries_read}}
 use Rattle.iref_batch.specs.Requests.{asked_of}
-use Rattle.iref_batch.proofs.AnswerLemmas.{refusal}
-use Rattle.iref_batch.proofs.PrefixAnswerLemmas.{unfit_entries}
+use Rattle.iref_batch.proofs.{AnswerLemmas.{refusal}, PrefixAnswerLemmas.{unfit_entries}}
 use Rattle.iref_batch.proofs.answers.prefixes.put_answer_by_table.Goals as goal
 
 pub returns-in-Err : goal.returns-in-Err

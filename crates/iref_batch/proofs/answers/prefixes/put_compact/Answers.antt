@@ -1,6 +1,5 @@
 use Rattle.std.proofs.Common.{Some, None}
-use Rattle.iref.specs.Prefixes.{compact_value}
-use Rattle.iref.specs.References.{reference_text}
+use Rattle.iref.specs.{Prefixes.{compact_value}, References.{reference_text}}
 use Rattle.iref_batch.proofs.PrefixAnswerLemmas.{compact_answer, no_compact_answer}
 use Rattle.iref_batch.proofs.answers.prefixes.put_compact.Goals as goal
 

@@ -1,8 +1,6 @@
-use Rattle.std.proofs.Common.{Ok, Err, ap, sym, ◌∙◌, List, ℕ}
-use Rattle.std.proofs.lemmas.Bool.{false_from_ne_true}
+use Rattle.std.proofs.{Common.{Ok, Err, ap, sym, ◌∙◌, List, ℕ}, lemmas.Bool.{false_from_ne_true}}
 use Rattle.std.proofs.lemmas.Str.{IsUtf8-from_is_utf8, is_utf8-from_IsUtf8}
-use Rattle.iref.specs.PrefixTable.{NoColon, UnknownLabel, NotAnIri, expanded}
-use Rattle.iref.specs.References.{reference_buf_text}
+use Rattle.iref.specs.{PrefixTable.{NoColon, UnknownLabel, NotAnIri, expanded}, References.{reference_buf_text}}
 use Rattle.iref_batch.proofs.PrefixAnswerLemmas.{expand_answer, no_expand_answer}
 use Rattle.iref_batch.proofs.answers.prefixes.put_expanded.Goals as goal
 

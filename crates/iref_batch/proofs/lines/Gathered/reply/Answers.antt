@@ -1,7 +1,6 @@
 use Rattle.std.proofs.Common.{◌++◌, ap, inl, inr, refl}
 use Rattle.iref_batch.specs.Runs.{line_reply, memory_refused, with_newline}
-use Rattle.iref_batch.proofs.Writing.{on_err}
-use Rattle.iref_batch.proofs.ReplyLemmas.{answer_gathered, reply_cut, reply_written}
+use Rattle.iref_batch.proofs.{Writing.{on_err}, ReplyLemmas.{answer_gathered, reply_cut, reply_written}}
 use Rattle.iref_batch.proofs.lines.Gathered.reply.Goals as goal
 
 pub returns-in_default-clause-ok : goal.returns-in_default-clause-ok

@@ -1,7 +1,6 @@
 use Rattle.std.proofs.Common.{◌++◌, [], append-nil, sym, ap, ◌∙◌}
 use Rattle.iref_batch.specs.Lines.{lines_of}
-use Rattle.iref_batch.proofs.Writing.{on_err}
-use Rattle.iref_batch.proofs.EndLemmas.{all_answered, all_same, begun_same, breaks_at_flush}
+use Rattle.iref_batch.proofs.{Writing.{on_err}, EndLemmas.{all_answered, all_same, begun_same, breaks_at_flush}}
 use Rattle.iref_batch.proofs.lines.Lines.end.Goals as goal
 
 pub returns-clause-ok : goal.returns-clause-ok

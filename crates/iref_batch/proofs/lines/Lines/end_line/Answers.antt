@@ -1,7 +1,5 @@
 use Rattle.std.proofs.Common.{refl}
-use Rattle.iref_batch.proofs.Writing.{on_err}
-use Rattle.iref_batch.proofs.RunLemmas.{in_run_line}
-use Rattle.iref_batch.proofs.EndLemmas.{breaks_at_line}
+use Rattle.iref_batch.proofs.{Writing.{on_err}, RunLemmas.{in_run_line}, EndLemmas.{breaks_at_line}}
 use Rattle.iref_batch.proofs.lines.Lines.end_line.Goals as goal
 
 pub returns-clause-ok : goal.returns-clause-ok

@@ -1,6 +1,5 @@
 use Rattle.std.proofs.Common.{◌++◌, [], refl, append_assoc}
-use Rattle.iref_batch.specs.declared.lines.Lines.{Lines}
-use Rattle.iref_batch.specs.Runs.{with_newline}
+use Rattle.iref_batch.specs.{declared.lines.Lines.{Lines}, Runs.{with_newline}}
 use Rattle.iref_batch.proofs.Writing.{on_err}
 use Rattle.iref_batch.proofs.RunLemmas.{in_run_nothing, in_run_next, in_run_more, in_run_written, line_taken, line_seen, line_is_less}
 use Rattle.iref_batch.proofs.EndLemmas.{breaks_at_flush}

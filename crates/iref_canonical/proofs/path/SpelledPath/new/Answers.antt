@@ -1,12 +1,10 @@
-use Rattle.std.proofs.Common.{[], arith}
-use Rattle.std.proofs.lemmas.List.{length-map}
+use Rattle.std.proofs.{Common.{[], arith}, lemmas.List.{length-map}}
 use Rattle.percent_encoding.specs.Percent.{percent_decode}
 use Rattle.iref_grammar.specs.PathValue.{read_path}
 use Rattle.iref_path.specs.NormalItems.{decoded_left, first_or, normal_left}
 use Rattle.iref_path.proofs.SpellLemmas.{read_size}
 use Rattle.iref_canonical.specs.SpelledItems.{spelled_path_text}
-use Rattle.iref_canonical.proofs.ShapeLemmas.{AreLike, first-decoded, path-spelled}
-use Rattle.iref_canonical.proofs.SpelledItemLemmas.{standing-few}
+use Rattle.iref_canonical.proofs.{ShapeLemmas.{AreLike, first-decoded, path-spelled}, SpelledItemLemmas.{standing-few}}
 use Rattle.iref_canonical.proofs.path.SpelledPath.new.Goals as goal
 
 pub survey_items-all-requires : goal.survey_items-all-requires

@@ -1,8 +1,7 @@
 use Rattle.std.proofs.Common.{arith}
 use Rattle.iref_grammar.proofs.ComponentLemmas.{is_some-copied}
 use Rattle.iref_parse.specs.ReferenceSlices.{texts_of}
-use Rattle.iref_canonical.specs.CanonicalReferences.{measured_canonical}
-use Rattle.iref_canonical.specs.KeptPaths.{canonical_path_text}
+use Rattle.iref_canonical.specs.{CanonicalReferences.{measured_canonical}, KeptPaths.{canonical_path_text}}
 use Rattle.iref_canonical.proofs.CanonicalSpellingLemmas.{components-spelled}
 use Rattle.iref_canonical.proofs.reference.CanonicalReference.new.Goals as goal
 

@@ -1,7 +1,6 @@
 use Rattle.std.proofs.Common.{[], ◌∷◌}
 use Rattle.std.specs.Prelude.{if◌then◌else◌}
-use Rattle.iref_canonical.specs.SortItems.{items_of}
-use Rattle.iref_canonical.specs.SortKey.{sort_item, sort_list, sort_path}
+use Rattle.iref_canonical.specs.{SortItems.{items_of}, SortKey.{sort_item, sort_list, sort_path}}
 use Rattle.iref_canonical.proofs.sort_key.SortedReference.put_path.Goals as goal
 
 pub put-requires-clause-fits : goal.put-requires-clause-fits

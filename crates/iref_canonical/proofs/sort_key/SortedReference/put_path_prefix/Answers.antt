@@ -1,9 +1,6 @@
 use Rattle.std.proofs.Common.{[], ◌∷◌}
-use Rattle.std.specs.List.{flat_map}
-use Rattle.std.specs.Prelude.{if◌then◌else◌}
-use Rattle.iref_canonical.specs.SortItems.{items_of}
-use Rattle.iref_canonical.specs.SortKey.{sort_item}
-use Rattle.iref_canonical.specs.SortPrefix.{sort_path_prefix}
+use Rattle.std.specs.{List.{flat_map}, Prelude.{if◌then◌else◌}}
+use Rattle.iref_canonical.specs.{SortItems.{items_of}, SortKey.{sort_item}, SortPrefix.{sort_path_prefix}}
 use Rattle.iref_canonical.proofs.sort_key.SortedReference.put_path_prefix.Goals as goal
 
 pub put_open-requires-clause-fits : goal.put_open-requires-clause-fits

@@ -1,7 +1,5 @@
-use Rattle.std.proofs.Common.{arith}
-use Rattle.std.proofs.lemmas.List.{append-nil}
-use Rattle.iref_component.specs.AuthorityEdits.{authority_mut_text}
-use Rattle.iref_component.specs.Components.{text_of}
+use Rattle.std.proofs.{Common.{arith}, lemmas.List.{append-nil}}
+use Rattle.iref_component.specs.{AuthorityEdits.{authority_mut_text}, Components.{text_of}}
 use Rattle.iref_component.proofs.AuthorityEditLemmas.{whole_within, whole_put}
 use Rattle.iref_component.proofs.authority_mut.AuthorityMut.replace.Goals as goal
 

@@ -1,6 +1,5 @@
 use Rattle.std.proofs.Common.{arith}
-use Rattle.iref_component.specs.Components.{text_of}
-use Rattle.iref_component.specs.Paths.{segments_left}
+use Rattle.iref_component.specs.{Components.{text_of}, Paths.{segments_left}}
 use Rattle.iref_path.proofs.SlashLemmas.{last_given}
 use Rattle.iref_component.proofs.path.Path+C.last.Goals as goal
 

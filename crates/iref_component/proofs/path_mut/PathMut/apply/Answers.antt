@@ -1,5 +1,4 @@
-use Rattle.std.proofs.Common.{arith}
-use Rattle.std.proofs.lemmas.Grind.{common_steps}
+use Rattle.std.proofs.{Common.{arith}, lemmas.Grind.{common_steps}}
 use Rattle.iref_splice.proofs.PartLemmas.{part_stands}
 use Rattle.iref_component.proofs.path_mut.PathMut.apply.Goals as goal
 

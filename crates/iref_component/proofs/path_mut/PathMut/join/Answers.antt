@@ -1,12 +1,10 @@
 use Rattle.std.proofs.Common.{arith, rules, map, sym, ap, ◌∙◌, subst}
-use Rattle.iref_component.specs.Components.{text_of}
-use Rattle.iref_grammar.specs.Contexts.{is_readable_path}
-use Rattle.iref_grammar.specs.PathValue.{read_path}
+use Rattle.iref_component.specs.{Components.{text_of}, Paths.{path_value, segments_left}}
+use Rattle.iref_component.specs.PathEdits.{EditsTo, path_mut_context, path_mut_value}
+use Rattle.iref_grammar.specs.{Contexts.{is_readable_path}, PathValue.{read_path}}
 use Rattle.iref_grammar.proofs.PathTestLemmas.{is_path-segments}
 use Rattle.iref_model.specs.PathSteps.{joined, appended}
 use Rattle.iref_model.proofs.ReadableStepLemmas.{appended-readable}
-use Rattle.iref_component.specs.Paths.{path_value, segments_left}
-use Rattle.iref_component.specs.PathEdits.{EditsTo, path_mut_context, path_mut_value}
 use Rattle.iref_component.proofs.ManyLemmas.{copy_edit, items_drained, joined_relative}
 use Rattle.iref_component.proofs.path_mut.PathMut.join.Goals as goal
 

@@ -1,5 +1,4 @@
-use Rattle.std.proofs.Common.{arith, [], ◌++◌, length, refl, ap, ◌∙◌}
-use Rattle.std.proofs.lemmas.List.{append-nil}
+use Rattle.std.proofs.{Common.{arith, [], ◌++◌, length, refl, ap, ◌∙◌}, lemmas.List.{append-nil}}
 use Rattle.std.proofs.lemmas.Str.{IsCharBoundary-start}
 use Rattle.iref_grammar.specs.PathValue.{read_path}
 use Rattle.iref_path.proofs.StepTextLemmas.{to_end}

@@ -1,9 +1,7 @@
-use Rattle.std.proofs.Common.{arith, rules, sym, ◌∙◌}
-use Rattle.std.proofs.lemmas.List.Elements.{All-nil, All-push}
-use Rattle.iref_component.specs.Appends.{IsSegmentText, following}
-use Rattle.iref_component.proofs.ManyLemmas.{no_edit, refused_then, followed_edit, dots_next, closed_edit, open_edit}
+use Rattle.std.proofs.{Common.{arith, rules, sym, ◌∙◌}, lemmas.List.Elements.{All-nil, All-push}}
 use Rattle.std.proofs.lemmas.Result.{MatchResult-weaker}
-use Rattle.iref_component.specs.PathEdits.{Becomes}
+use Rattle.iref_component.specs.{Appends.{IsSegmentText, following}, PathEdits.{Becomes}}
+use Rattle.iref_component.proofs.ManyLemmas.{no_edit, refused_then, followed_edit, dots_next, closed_edit, open_edit}
 use Rattle.iref_component.proofs.PathTryLemmas.{tries_to_close}
 use Rattle.iref_component.proofs.path_mut.PathMut.try_append.Goals as goal
 

@@ -1,5 +1,4 @@
-use Rattle.std.proofs.Common.{arith}
-use Rattle.std.proofs.lemmas.List.Elements.{All-nil, All-push}
+use Rattle.std.proofs.{Common.{arith}, lemmas.List.Elements.{All-nil, All-push}}
 use Rattle.iref_component.specs.Appends.{IsSegmentText}
 use Rattle.iref_model.specs.PathSteps.{lazy_appended}
 use Rattle.iref_component.proofs.ManyLemmas.{no_edit, lazy_edit}

@@ -1,5 +1,4 @@
-use Rattle.std.proofs.Common.{◌^◌, ◌<◌, length, ap, ◌∙◌, arith, rules}
-use Rattle.std.proofs.lemmas.Bool.Decides.{nat_tests}
+use Rattle.std.proofs.{Common.{◌^◌, ◌<◌, length, ap, ◌∙◌, arith, rules}, lemmas.Bool.Decides.{nat_tests}}
 use Rattle.iref_component.specs.Ports.{port_number}
 use Rattle.iref_component.proofs.PortLemmas.{port_number-parsed}
 use Rattle.iref_component.proofs.port.Port.number.Goals as goal

@@ -1,5 +1,4 @@
-use Rattle.std.proofs.Common.{arith}
-use Rattle.std.proofs.lemmas.Bool.Decides.{not_from_Decides}
+use Rattle.std.proofs.{Common.{arith}, lemmas.Bool.Decides.{not_from_Decides}}
 use Rattle.iref_component.proofs.rule_text.RuleText.read.Goals as goal
 
 pub returns-else-accepts : goal.returns-else-accepts

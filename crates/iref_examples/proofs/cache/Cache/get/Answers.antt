@@ -1,7 +1,5 @@
-use Rattle.std.proofs.Common.{sym, ◌∙◌, ap}
-use Rattle.std.proofs.lemmas.Slice.Eq.{bytes_eq-Decides}
-use Rattle.iref.specs.Reference.{read_reference}
-use Rattle.iref.specs.References.{reference_value}
+use Rattle.std.proofs.{Common.{sym, ◌∙◌, ap}, lemmas.Slice.Eq.{bytes_eq-Decides}}
+use Rattle.iref.specs.{Reference.{read_reference}, References.{reference_value}}
 use Rattle.iref_examples.specs.Caches.{found}
 use Rattle.iref_examples.proofs.CacheLemmas.{found-canonical, found-key}
 use Rattle.iref_examples.proofs.cache.Cache.get.Goals as goal

@@ -1,6 +1,5 @@
 use Rattle.std.proofs.Common.{subst}
-use Rattle.iref.specs.Key.{key}
-use Rattle.iref.specs.References.{reference_value}
+use Rattle.iref.specs.{Key.{key}, References.{reference_value}}
 use Rattle.iref_examples.specs.Caches.{HasPut, entries_of}
 use Rattle.iref_examples.proofs.CacheLemmas.{copy_canonical, keys_canonical, put_by_text}
 use Rattle.iref_examples.proofs.cache.Cache.put.Goals as goal

@@ -1,6 +1,5 @@
-use Rattle.std.proofs.Common.{arith}
+use Rattle.std.proofs.{Common.{arith}, Math.Bool.{and-true}}
 use Rattle.iref_path.specs.CountedPath.{all_items_unread, items_unread}
-use Rattle.std.proofs.Math.Bool.{and-true}
 use Rattle.iref_path.proofs.counted.CountedPath.first_back.Goals as goal
 
 pub returns-in_default-clause-item : goal.returns-in_default-clause-item

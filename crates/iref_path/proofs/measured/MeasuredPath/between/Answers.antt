@@ -1,7 +1,6 @@
 use Rattle.std.proofs.Common.{arith}
 use Rattle.iref_grammar.specs.PathValue.{read_path}
-use Rattle.iref_path.proofs.RelativeStepLemmas.{up_length}
-use Rattle.iref_path.proofs.SpellLemmas.{normal_size-text}
+use Rattle.iref_path.proofs.{RelativeStepLemmas.{up_length}, SpellLemmas.{normal_size-text}}
 use Rattle.iref_path.proofs.StepsBetweenLemmas.{size-steps}
 use Rattle.iref_path.proofs.measured.MeasuredPath.between.Goals as goal
 

@@ -1,15 +1,8 @@
 use Rattle.std.proofs.Common.{◌≡◌, ◌∙◌, true, false, ap, arith, length, List}
-use Rattle.iref_grammar.specs.Rules.{Text}
-use Rattle.iref_grammar.specs.Texts.{all_but_last}
-use Rattle.iref_grammar.specs.Contexts.{alone}
-use Rattle.iref_grammar.specs.PathValue.{read_path, spell_path}
-use Rattle.iref_model.specs.Guard.{guarded}
-use Rattle.iref_model.specs.NormalList.{normal_segments}
-use Rattle.iref_model.specs.Relativized.{is_climb}
-use Rattle.iref_path.specs.NormalItems.{normal_left}
-use Rattle.iref_path.specs.Spelling.{each_closed}
-use Rattle.iref_path.proofs.SpellLemmas.{normal_size-text}
-use Rattle.iref_path.proofs.StepsBetweenLemmas.{front-take, size-front}
+use Rattle.iref_grammar.specs.{Rules.{Text}, Texts.{all_but_last}, Contexts.{alone}, PathValue.{read_path, spell_path}}
+use Rattle.iref_model.specs.{Guard.{guarded}, NormalList.{normal_segments}, Relativized.{is_climb}}
+use Rattle.iref_path.specs.{NormalItems.{normal_left}, Spelling.{each_closed}}
+use Rattle.iref_path.proofs.{SpellLemmas.{normal_size-text}, StepsBetweenLemmas.{front-take, size-front}}
 use Rattle.iref_path.proofs.TextStepLemmas.{climb_unguarded}
 use Rattle.iref_path.proofs.measured.MeasuredPath.climb.Goals as goal
 

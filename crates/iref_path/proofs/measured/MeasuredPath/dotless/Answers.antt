@@ -1,7 +1,6 @@
 use Rattle.iref_grammar.specs.Grammar.{slash}
 use Rattle.iref_model.proofs.PieceLemmas.{some_piece}
-use Rattle.iref_path.specs.Bodies.{after_front}
-use Rattle.iref_path.specs.MeasuredPaths.{measured_text}
+use Rattle.iref_path.specs.{Bodies.{after_front}, MeasuredPaths.{measured_text}}
 use Rattle.iref_path.proofs.DotlessLemmas.{both_pieces, dotless-spelled, first_of_both_texts}
 use Rattle.std.proofs.Common.{arith}
 use Rattle.iref_path.proofs.measured.MeasuredPath.dotless.Goals as goal

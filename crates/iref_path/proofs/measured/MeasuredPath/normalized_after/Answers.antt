@@ -1,7 +1,6 @@
 use Rattle.std.proofs.Common.{arith}
 use Rattle.iref_path.specs.Pieces.{pieces_if_some}
-use Rattle.iref_path.proofs.MergedPathLemmas.{after_size}
-use Rattle.iref_path.proofs.SpellLemmas.{read_size}
+use Rattle.iref_path.proofs.{MergedPathLemmas.{after_size}, SpellLemmas.{read_size}}
 use Rattle.iref_path.proofs.measured.MeasuredPath.normalized_after.Goals as goal
 
 pub of_segments-requires : goal.of_segments-requires

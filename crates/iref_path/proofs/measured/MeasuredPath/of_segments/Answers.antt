@@ -1,7 +1,5 @@
 use Rattle.std.proofs.Common.{arith}
-use Rattle.iref_path.specs.MergedPaths.{merged_path}
-use Rattle.iref_path.specs.NormalItems.{normal_left}
-use Rattle.iref_path.specs.MeasuredPaths.{measured_text}
+use Rattle.iref_path.specs.{MergedPaths.{merged_path}, NormalItems.{normal_left}, MeasuredPaths.{measured_text}}
 use Rattle.iref_path.proofs.SpellLemmas.{normalized-spelled}
 use Rattle.iref_path.proofs.measured.MeasuredPath.of_segments.Goals as goal
 

@@ -1,6 +1,5 @@
 use Rattle.std.proofs.Common.{◌≡◌, ◌≤◌, length}
-use Rattle.iref_path.specs.Pieces.{pieces_if_some}
-use Rattle.iref_path.specs.NormalItems.{IsSettled, KeepsEnds, names_behind, to_read}
+use Rattle.iref_path.specs.{Pieces.{pieces_if_some}, NormalItems.{IsSettled, KeepsEnds, names_behind, to_read}}
 use Rattle.iref_path.proofs.normal_items.NormalItems.next_name.Given as goal
 
 abbrev pub invariant-loop-self : goal.invariant-loop-self

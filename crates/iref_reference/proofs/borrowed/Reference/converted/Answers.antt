@@ -1,5 +1,4 @@
-use Rattle.std.proofs.Common.{rules}
-use Rattle.std.proofs.lemmas.Bool.Decides.{not_from_Decides}
+use Rattle.std.proofs.{Common.{rules}, lemmas.Bool.Decides.{not_from_Decides}}
 use Rattle.iref_reference.specs.References.{reference_text}
 use Rattle.iref_reference.proofs.borrowed.Reference.converted.Goals as goal
 

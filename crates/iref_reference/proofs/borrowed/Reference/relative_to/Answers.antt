@@ -1,5 +1,4 @@
-use Rattle.std.proofs.Common.{ap, ◌∙◌}
-use Rattle.std.proofs.lemmas.Result.{IfOk-weaker}
+use Rattle.std.proofs.{Common.{ap, ◌∙◌}, lemmas.Result.{IfOk-weaker}}
 use Rattle.iref_grammar.specs.Reference.{read_reference}
 use Rattle.iref_reference.proofs.RelativeLemmas.{climbs_no_more, leads_there, leads_to_target, writes_path_alone}
 use Rattle.iref_reference.proofs.borrowed.Reference.relative_to.Goals as goal

@@ -1,10 +1,8 @@
 use Rattle.std.proofs.Common.{◌≡◌, false, refl, sym, ap, ◌∙◌}
 use mathlib.Core.Option.{some}
 use Rattle.std.specs.Prelude.{Option, Some, None, is_some, option_map}
-use Rattle.iref_grammar.specs.declared.offsets.Offsets.{Offsets}
-use Rattle.iref_grammar.specs.Authority.{AuthorityValue, spell_authority}
-use Rattle.iref_grammar.specs.ComponentOffsets.{offsets_of, text_at}
-use Rattle.iref_grammar.specs.Reference.{read_reference}
+use Rattle.iref_grammar.specs.{declared.offsets.Offsets.{Offsets}, Authority.{AuthorityValue, spell_authority}}
+use Rattle.iref_grammar.specs.{ComponentOffsets.{offsets_of, text_at}, Reference.{read_reference}}
 use Rattle.iref_grammar.proofs.RangeLemmas.{authority_range}
 use Rattle.iref_reference_text.proofs.AuthorityRangeLemmas.{some_if_placed}
 use Rattle.iref_reference.specs.References.{reference_buf_text}

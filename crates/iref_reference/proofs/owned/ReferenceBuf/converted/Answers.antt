@@ -1,5 +1,4 @@
-use Rattle.std.proofs.Common.{rules, refl}
-use Rattle.std.proofs.lemmas.Bool.Decides.{not_from_Decides}
+use Rattle.std.proofs.{Common.{rules, refl}, lemmas.Bool.Decides.{not_from_Decides}}
 use Rattle.iref_reference.proofs.owned.ReferenceBuf.converted.Goals as goal
 
 pub returns-then-accepts : goal.returns-then-accepts

@@ -1,6 +1,5 @@
 use Rattle.std.proofs.Common.{◌≡◌, ap, refl, ◌∙◌}
-use Rattle.iref_grammar.specs.ComponentOffsets.{offsets_in, offsets_of}
-use Rattle.iref_grammar.specs.Reference.{context_of, read_reference}
+use Rattle.iref_grammar.specs.{ComponentOffsets.{offsets_in, offsets_of}, Reference.{context_of, read_reference}}
 use Rattle.iref_reference_text.specs.ComponentLengths.{context_by}
 use Rattle.iref_reference_text.proofs.LengthLemmas.{context-lengths, path_after-lengths, query_after-lengths}
 use Rattle.iref_reference.proofs.owned.ReferenceBuf.path_mut.Goals as goal

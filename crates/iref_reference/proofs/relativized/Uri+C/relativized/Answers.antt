@@ -1,8 +1,7 @@
 use Rattle.std.proofs.Common.{◌≡◌, ◌∙◌, ap, arith}
 use Rattle.std.specs.Prelude.{None, Some, is_some}
 use Rattle.iref_grammar.specs.Reference.{ReferenceValue, read_reference}
-use Rattle.iref_model.specs.Relativized.{relativized}
-use Rattle.iref_model.specs.RelativizedLaws.{AreReadable}
+use Rattle.iref_model.specs.{Relativized.{relativized}, RelativizedLaws.{AreReadable}}
 use Rattle.iref_reference.specs.References.{reference_buf_text, reference_text}
 use Rattle.iref_reference.proofs.ShortestLemmas.{answer_leads, none_is_shorter, none_leads}
 use Rattle.iref_reference.proofs.relativized.Uri+C.relativized.Goals as goal

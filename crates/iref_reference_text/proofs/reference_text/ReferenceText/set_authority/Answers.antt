@@ -1,8 +1,6 @@
 use Rattle.std.proofs.Common.{arith, length-append, sym, ◌∙◌}
-use Rattle.std.specs.Prelude.{option_map}
-use Rattle.std.specs.Option.{option_copied}
-use Rattle.iref_grammar.specs.Authority.{read_authority}
-use Rattle.iref_grammar.specs.Reference.{read_reference}
+use Rattle.std.specs.{Prelude.{option_map}, Option.{option_copied}}
+use Rattle.iref_grammar.specs.{Authority.{read_authority}, Reference.{read_reference}}
 use Rattle.iref_grammar.proofs.ComponentLemmas.{authority_spelled, is_some-copied}
 use Rattle.iref_model.proofs.MappedMarkLemmas.{is_some-map}
 use Rattle.iref_model.specs.ComponentSteps.{with_authority}

@@ -1,7 +1,6 @@
 use Rattle.std.proofs.Common.{arith, ◌≡◌, ◌+◌, length, length-append, sym, ap, ◌∙◌}
 use Rattle.std.specs.Option.{option_copied}
-use Rattle.iref_grammar.specs.PathValue.{spell_path}
-use Rattle.iref_grammar.specs.Reference.{read_reference}
+use Rattle.iref_grammar.specs.{PathValue.{spell_path}, Reference.{read_reference}}
 use Rattle.iref_grammar.proofs.ComponentLemmas.{is_some-copied}
 use Rattle.iref_model.specs.ComponentSteps.{with_scheme}
 use Rattle.iref_reference_text.proofs.EditLemmas.{scheme_set, spells, with_scheme-parts}

@@ -1,9 +1,7 @@
 use Rattle.std.proofs.Common.{rules, ◌≡◌, [], ◌∷◌}
-use Rattle.iref_grammar.specs.Grammar.{hash_sign}
-use Rattle.iref_grammar.specs.Texts.{before}
+use Rattle.iref_grammar.specs.{Grammar.{hash_sign}, Texts.{before}}
 use Rattle.iref_grammar.proofs.FrontLemmas.{read_reference-before_hash, is_reference-before_hash}
-use Rattle.iref_reference_text.proofs.EditLemmas.{front_ends}
-use Rattle.iref_reference_text.proofs.ReferenceTextLemmas.{front-range}
+use Rattle.iref_reference_text.proofs.{EditLemmas.{front_ends}, ReferenceTextLemmas.{front-range}}
 use Rattle.iref_reference_text.proofs.reference_text.ReferenceText.without_fragment.Goals as goal
 
 pub range-requires-clause-end_boundary : goal.range-requires-clause-end_boundary

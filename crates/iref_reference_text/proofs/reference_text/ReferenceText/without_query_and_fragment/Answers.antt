@@ -1,8 +1,7 @@
 use Rattle.std.proofs.Common.{rules, ◌≡◌}
 use Rattle.iref_grammar.specs.Reference.{hierarchy}
 use Rattle.iref_grammar.proofs.FrontLemmas.{read_reference-hierarchy, is_reference-hierarchy}
-use Rattle.iref_reference_text.proofs.EditLemmas.{path_ends}
-use Rattle.iref_reference_text.proofs.ReferenceTextLemmas.{hierarchy-range}
+use Rattle.iref_reference_text.proofs.{EditLemmas.{path_ends}, ReferenceTextLemmas.{hierarchy-range}}
 use Rattle.iref_reference_text.proofs.reference_text.ReferenceText.without_query_and_fragment.Goals as goal
 
 pub range-requires-clause-end_boundary : goal.range-requires-clause-end_boundary

@@ -1,5 +1,4 @@
-use Rattle.std.proofs.Common.{arith}
-use Rattle.std.proofs.lemmas.List.{drop_all}
+use Rattle.std.proofs.{Common.{arith}, lemmas.List.{drop_all}}
 use Rattle.iref_splice.proofs.fed.Waiting.write.Goals as goal
 
 pub returns-clause-none : goal.returns-clause-none

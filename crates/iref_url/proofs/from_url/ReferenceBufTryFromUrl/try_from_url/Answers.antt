@@ -1,5 +1,4 @@
-use Rattle.std.proofs.Common.{◌≡◌, ◌∙◌, refl, sym, ap}
-use Rattle.std.proofs.lemmas.Bool.Decides.{not_from_Decides}
+use Rattle.std.proofs.{Common.{◌≡◌, ◌∙◌, refl, sym, ap}, lemmas.Bool.Decides.{not_from_Decides}}
 use Rattle.std.specs.String.{string_bytes}
 use Rattle.url.specs.Parts.{serialize}
 use Rattle.iref_grammar.specs.Rules.{InUtf8}

@@ -1,10 +1,7 @@
 use Rattle.std.proofs.Common.{◌≡◌, [], ◌∷◌, ◌++◌, ap, sym, subst, ◌∙◌}
-use Rattle.iref.specs.PrefixTable.{PrefixEntry}
-use Rattle.iref.specs.PrefixPlaces.{entries_at, IsBook}
-use Rattle.iref.specs.PrefixTree.{keys_of, IsTree}
+use Rattle.iref.specs.{PrefixTable.{PrefixEntry}, PrefixPlaces.{entries_at, IsBook}, PrefixTree.{keys_of, IsTree}}
 use Rattle.iref.specs.declared.compact.entry.Key.TheVariants.{Label, Iri}
-use Rattle.iref.proofs.PrefixChangeLemmas.{book_more}
-use Rattle.iref.proofs.PrefixPlaceLemmas.{entries_of_more}
+use Rattle.iref.proofs.{PrefixChangeLemmas.{book_more}, PrefixPlaceLemmas.{entries_of_more}}
 use Rattle.iref.proofs.compact.table.Table.add.Goals as goal
 
 pub returns-clause-table : goal.returns-clause-table

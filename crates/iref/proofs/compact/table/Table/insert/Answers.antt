@@ -1,12 +1,10 @@
 use Rattle.std.proofs.Common.{arith, ◌≡◌, ℕ, ◌+◌, false, ◌&&◌, ◌||◌, [], ◌∷◌, ◌++◌, length, ap, sym, subst, ◌∙◌}
-use Rattle.std.specs.Prelude.{◌==◌, Some}
 use Rattle.std.proofs.Math.ListN.{set}
+use Rattle.std.specs.Prelude.{◌==◌, Some}
 use Rattle.iref.specs.PrefixTable.{PrefixEntry, is_taken}
 use Rattle.iref.specs.PrefixPlaces.{entries_at, holds, table_of, AreWithin, IsBook, IsShared}
-use Rattle.iref.specs.PrefixTree.{keys_of, text_at}
-use Rattle.iref.specs.declared.compact.entry.Key.TheVariants.{Iri}
-use Rattle.iref.proofs.PrefixChangeLemmas.{LedAt}
-use Rattle.iref.proofs.PrefixPlaceLemmas.{length_at_most}
+use Rattle.iref.specs.{PrefixTree.{keys_of, text_at}, declared.compact.entry.Key.TheVariants.{Iri}}
+use Rattle.iref.proofs.{PrefixChangeLemmas.{LedAt}, PrefixPlaceLemmas.{length_at_most}}
 use Rattle.iref.proofs.PrefixBookLemmas.{added_entry, book_inserted, inserted_entries, inserted_shared, inserted_within}
 use Rattle.iref.proofs.compact.table.Table.insert.Goals as goal
 

@@ -1,10 +1,6 @@
-use Rattle.std.proofs.Common.{◌≡◌, ◌≢◌, map, ap, sym, ◌∙◌}
-use Rattle.std.proofs.lemmas.Bool.{both_ways}
+use Rattle.std.proofs.{Common.{◌≡◌, ◌≢◌, map, ap, sym, ◌∙◌}, lemmas.Bool.{both_ways}, Math.ListN.{set}}
 use Rattle.std.specs.Cmp.Lexicographic.{bytes_decides}
-use Rattle.std.proofs.Math.ListN.{set}
-use Rattle.iref.specs.PrefixTable.{PrefixEntry, with_iri}
-use Rattle.iref.specs.PrefixPlaces.{table_of}
-use Rattle.iref.specs.PrefixTree.{keys_of, text_at}
+use Rattle.iref.specs.{PrefixTable.{PrefixEntry, with_iri}, PrefixPlaces.{table_of}, PrefixTree.{keys_of, text_at}}
 use Rattle.iref.specs.declared.compact.entry.Key.TheVariants.{Iri}
 use Rattle.iref.proofs.PrefixPlaceLemmas.{changed_none, entries_kept}
 use Rattle.iref.proofs.PrefixBookLemmas.{added_entry, book_replaced, held_again, iri_again, iri_read, label_alone, label_taken, replaced_entries, replaced_shared, replaced_within, same_iri}

@@ -1,12 +1,11 @@
-use Rattle.std.proofs.Common.{arith, ◌≤◌, [], ◌∷◌, ◌++◌, length, inl, inr, sym, subst, ◌∙◌}
-use Rattle.std.specs.Prelude.{nat_eq}
-use Rattle.std.proofs.lemmas.List.{length-map}
+use Rattle.std.proofs.{Common.{arith, ◌≤◌, [], ◌∷◌, ◌++◌, length, inl, inr, sym, subst, ◌∙◌}, lemmas.List.{length-map}}
 use Rattle.std.proofs.lemmas.List.Sums.{common_prefix_len-le}
+use Rattle.std.specs.Prelude.{nat_eq}
 use Rattle.iref.specs.PrefixTree.{key_of, keys_of, AreBytes, IsFirstOf}
 use Rattle.iref.proofs.PrefixBitLemmas.{common_bits, symbols_differ, same_whole}
 use Rattle.iref.proofs.PrefixInsertLemmas.{lowered, added, tree_again, first_again, first_of_all, new_absent}
-use Rattle.iref.proofs.compact.tree.Tree.add_text.Goals as goal
 use Rattle.iref.proofs.compact.tree.Tree.add_text.Goals.{else-at-text-via-then-at-text+else-at-near, else-at-text-via-else-at-text, then-at-near-2, else-at-near-2}
+use Rattle.iref.proofs.compact.tree.Tree.add_text.Goals as goal
 
 pub returns-then-at-near-clause-tree : goal.returns-then-at-near-clause-tree
 returns-then-at-near-clause-tree c =

@@ -1,5 +1,4 @@
-use Rattle.std.proofs.Common.{arith, ◌<◌}
-use Rattle.std.proofs.lemmas.Bool.{eqb-false}
+use Rattle.std.proofs.{Common.{arith, ◌<◌}, lemmas.Bool.{eqb-false}}
 use Rattle.iref.proofs.PrefixFindLemmas.{too_short, front_fits}
 use Rattle.iref.proofs.compact.tree.Tree.may_fit.Goals as goal
 

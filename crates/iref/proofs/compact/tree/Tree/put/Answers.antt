@@ -1,12 +1,9 @@
-use Rattle.std.proofs.Common.{arith, rules, ◌≡◌, length, get_or, refl, inl, inr, ap, subst, ◌∙◌}
-use Rattle.std.specs.Prelude.{Some, None}
-use Rattle.std.specs.Vec.{with_item}
-use Rattle.std.proofs.Math.ListN.{set}
-use Rattle.iref.specs.PrefixTree.{with_child, IsWay}
+use Rattle.std.proofs.{Common.{arith, rules, ◌≡◌, length, get_or, refl, inl, inr, ap, subst, ◌∙◌}, Math.ListN.{set}}
+use Rattle.std.specs.{Prelude.{Some, None}, Vec.{with_item}}
+use Rattle.iref.specs.{PrefixTree.{with_child, IsWay}, declared.compact.tree.Child.TheVariants.{Inner}}
 use Rattle.iref.proofs.PrefixInsertLemmas.{made, grown_above, grown_below, tree_grown}
-use Rattle.iref.specs.declared.compact.tree.Child.TheVariants.{Inner}
-use Rattle.iref.proofs.compact.tree.Tree.put.Goals as goal
 use Rattle.iref.proofs.compact.tree.Tree.put.Goals.{then-is_in, else-is_in}
+use Rattle.iref.proofs.compact.tree.Tree.put.Goals as goal
 
 pub returns-clause-tree : goal.returns-clause-tree
 returns-clause-tree c = λ texts n h.

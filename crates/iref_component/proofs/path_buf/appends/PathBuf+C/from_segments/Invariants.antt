@@ -1,6 +1,5 @@
 use Rattle.std.proofs.Common.{map}
-use Rattle.iref_component.specs.Components.{text_of}
-use Rattle.iref_component.specs.PathEdits.{SpellsPath}
+use Rattle.iref_component.specs.{Components.{text_of}, PathEdits.{SpellsPath}}
 use Rattle.iref_model.specs.PathSteps.{from_segments}
 use Rattle.iref_component.proofs.path_buf.appends.PathBuf+C.from_segments.Given as goal
 

@@ -1,10 +1,7 @@
 use Rattle.std.proofs.Common.{◌++◌, ◌∙◌, ap, sym, true}
-use Rattle.iref_model.specs.NormalList.{without_lone_empty}
-use Rattle.iref_model.specs.NormalReading.{closing, staying_before}
+use Rattle.iref_model.specs.{NormalList.{without_lone_empty}, NormalReading.{closing, staying_before}}
 use Rattle.iref_model.proofs.ItemLemmas.{normal_segments-is}
-use Rattle.iref_path.specs.NormalItems.{names_and_closing}
-use Rattle.iref_path.specs.Pieces.{pieces_if_some}
-use Rattle.iref_path.specs.Stacks.{path_of}
+use Rattle.iref_path.specs.{NormalItems.{names_and_closing}, Pieces.{pieces_if_some}, Stacks.{path_of}}
 use Rattle.iref_path.proofs.normal_items.rooted.RootedItems.new.Goals as goal
 
 pub returns : goal.returns

@@ -1,9 +1,6 @@
-use Rattle.std.proofs.Common.{◌++◌, arith, append_assoc, ◌∙◌}
-use Rattle.std.proofs.lemmas.List.{append-nil}
-use Rattle.iref_path.specs.Pieces.{pieces_if_some}
-use Rattle.iref_path.specs.NormalItems.{names_staying}
-use Rattle.iref_path.proofs.SpellLemmas.{kept_size}
-use Rattle.iref_path.proofs.MergedPathLemmas.{size_last}
+use Rattle.std.proofs.{Common.{◌++◌, arith, append_assoc, ◌∙◌}, lemmas.List.{append-nil}}
+use Rattle.iref_path.specs.{Pieces.{pieces_if_some}, NormalItems.{names_staying}}
+use Rattle.iref_path.proofs.{SpellLemmas.{kept_size}, MergedPathLemmas.{size_last}}
 use Rattle.iref_path.proofs.normal_items.stack.Stack.put_names.Goals as goal
 
 pub put-requires : goal.put-requires

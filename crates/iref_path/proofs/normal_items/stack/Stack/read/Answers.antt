@@ -1,10 +1,7 @@
 use Rattle.std.proofs.Common.{[], refl, arith}
 use Rattle.iref_model.specs.NormalReading.{staying_before}
-use Rattle.iref_path.specs.Pieces.{pieces_if_some}
-use Rattle.iref_path.specs.Stacks.{path_of}
-use Rattle.iref_path.proofs.NormalItemsLemmas.{parts-whole}
-use Rattle.iref_path.proofs.SpellLemmas.{kept_size}
-use Rattle.iref_path.proofs.StackLemmas.{parts_put}
+use Rattle.iref_path.specs.{Pieces.{pieces_if_some}, Stacks.{path_of}}
+use Rattle.iref_path.proofs.{NormalItemsLemmas.{parts-whole}, SpellLemmas.{kept_size}, StackLemmas.{parts_put}}
 use Rattle.iref_path.proofs.normal_items.stack.Stack.read.Goals as goal
 
 pub put_parents-requires : goal.put_parents-requires
