@@ -256,6 +256,10 @@ impl Unwritten for MeasuredPath<'_> {
 
     ghost is_sound = { IsMeasured };
 
+    fn known_len(&self) -> Option<usize> {
+        Some(self.len())
+    }
+
     #[tactic(auto, unfolding(crate::specs::MeasuredPaths::measured_text))]
     fn put<O: Backward>(&self, out: &mut O) {
         if !out.put_len(self.len()) {

@@ -1,5 +1,5 @@
 //! Texts that are not written yet: they are counted, written, hashed or compared.
-ghost use Rattle.std.specs.Prelude.{◌≡◌, ◌++◌, IfOk, IsOk, OnErr, OnOk, bytes_eq, fold, length};
+ghost use Rattle.std.specs.Prelude.{◌≡◌, ◌++◌, IfOk, IfSome, IsOk, OnErr, OnOk, bytes_eq, fold, length};
 ghost use Rattle.std.specs.Prelude.{not, true, if◌then◌else◌};
 ghost use Rattle.iref_grammar.specs.Rules.{Text};
 ghost use Rattle.iref_splice.specs.{Fed.{fed_text}, Held.{taken_after, taken_nothing}};
@@ -25,6 +25,14 @@ pub trait Unwritten {
         requires fits { O.fits out.old (text self.now) }
         ensures { out.new ≡ O.after out.old (text self.now) };
 
+    /// How many bytes the text has, where that is known before it is put.
+    fn known_len(&self) -> Option<usize>
+        requires { is_sound self.now }
+        ensures { IfSome result (λ len. len ≡ length (text self.now)) }
+    {
+        None
+    }
+
     /// How many bytes the text has, if they can be counted.
     fn count(&self) -> Result<usize, AllocError>
         requires { is_sound self.now }
@@ -45,34 +53,44 @@ pub trait Unwritten {
         self.put(&mut filled);
     }
 
-    /// The bytes of the text. The room is taken once. A text of at most 256 bytes is put once.
+    /// The bytes of the text. The room is taken once. A text of a length that is known, or of at most
+    /// 256 bytes, is put once.
     fn to_bytes(&self, alloc: Global) -> Result<Vec<u8>, Memory>
         requires { is_sound self.now }
         ensures { IfOk result (λ bytes. bytes.items ≡ text self.now) }
     {
-        let mut held = Held::new();
-        self.put(&mut held);
-        if let Some(text) = held.text() {
-            return Ok(Vec::from_slice(alloc, text)?);
-        }
-        let mut bytes = vec![in alloc; 0u8; held.len()?]?;
-        self.fill(&mut bytes);
+        let mut bytes = Vec::new(alloc);
+        self.append_to(&mut bytes)?;
         Ok(bytes)
     }
 
-    /// Appends the text to a vector. The room is taken once.
+    /// Appends the text to a vector. The room is taken once. A text of a length that is known, or of
+    /// at most 256 bytes, is put once.
     fn append_to(&self, out: &mut Vec<u8>) -> Result<(), Memory>
         requires { is_sound self.now }
         ensures ok { OnOk result (out.new.items ≡ out.old.items ++ text self.now) }
         ensures err { OnErr result (out.new.items ≡ out.old.items) }
     {
+        if let Some(len) = self.known_len() {
+            return self.append_sized(len, out);
+        }
         let mut held = Held::new();
         self.put(&mut held);
-        if let Some(text) = held.text() {
-            return Ok(out.extend_from_slice(text)?);
+        match held.text() {
+            Some(text) => Ok(out.extend_from_slice(text)?),
+            None => self.append_sized(held.len()?, out),
         }
+    }
+
+    /// Appends the text, which has this many bytes.
+    fn append_sized(&self, len: usize, out: &mut Vec<u8>) -> Result<(), Memory>
+        requires sound { is_sound self.now }
+        requires len { len ≡ length (text self.now) }
+        ensures ok { OnOk result (out.new.items ≡ out.old.items ++ text self.now) }
+        ensures err { OnErr result (out.new.items ≡ out.old.items) }
+    {
         let start = out.len();
-        let end = start.checked_add(held.len()?).ok_or(AllocError)?;
+        let end = start.checked_add(len).ok_or(AllocError)?;
         out.resize(end, 0)?;
         self.fill(&mut out[start..]);
         Ok(())
