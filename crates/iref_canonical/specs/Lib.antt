@@ -1,6 +1,6 @@
 pub mod Canonical
 pub mod CanonicalParts
-pub mod CanonicalReferences
+pub mod SpelledReferences
 pub mod Decoded
 pub mod Lower
 pub mod FutureLiteral

@@ -6,7 +6,7 @@ ghost use Rattle.iref_grammar.specs.{Grammar.{colon}, Reference.{spell}, Texts.{
 ghost use Rattle.iref_model.specs.Key.{key};
 ghost use Rattle.iref_parse.specs.ReferenceSlices.{value_of};
 ghost use Rattle.iref_canonical.specs.{Canonical.{spelled}, CanonicalParts.{encoded_authority, encoded_query}};
-ghost use Rattle.iref_canonical.specs.CanonicalReferences.{IsMeasured, measured_canonical};
+ghost use Rattle.iref_canonical.specs.SpelledReferences.{IsMeasured, measured_spelling};
 
 use crate::authority::put_authority;
 use crate::encoded::{QUERY, put_encoded, put_lower};
@@ -18,7 +18,7 @@ use iref_splice::unwritten::Unwritten;
 
 /// The canonical text of a reference, or the one that is hashed, not written yet.
 #[derive(Clone, Copy)]
-pub struct CanonicalReference<'a> {
+pub struct SpelledReference<'a> {
     slices: ReferenceSlices<'a>,
     path: CanonicalPath<'a>,
     // Whether bytes beyond ASCII stand raw, as in the text that is hashed.
@@ -64,18 +64,18 @@ fn put_marked_authority<O: Backward>(out: &mut O, raw: bool, authority: Option<&
     }
 }
 
-impl<'a> CanonicalReference<'a> {
+impl<'a> SpelledReference<'a> {
     /// The text of the reference of these components: the canonical one, or that which is hashed, in
     /// which bytes beyond ASCII stand raw.
     pub fn new(raw: bool, slices: ReferenceSlices<'a>) -> Self
-        ensures text { measured_canonical result ≡ spell (spelled raw (key (value_of slices.entry))) }
+        ensures text { measured_spelling result ≡ spell (spelled raw (key (value_of slices.entry))) }
         ensures measured { IsMeasured result }
     {
         let context = PathContext {
             has_scheme: slices.scheme.is_some(),
             has_authority: slices.authority.is_some(),
         };
-        CanonicalReference {
+        SpelledReference {
             slices,
             path: CanonicalPath::new(raw, context, slices.path),
             raw,
@@ -83,12 +83,12 @@ impl<'a> CanonicalReference<'a> {
     }
 }
 
-impl Unwritten for CanonicalReference<'_> {
-    ghost text = { measured_canonical };
+impl Unwritten for SpelledReference<'_> {
+    ghost text = { measured_spelling };
 
     ghost is_sound = { IsMeasured };
 
-    #[tactic(auto, unfolding(crate::specs::CanonicalReferences::measured_canonical))]
+    #[tactic(auto, unfolding(crate::specs::SpelledReferences::measured_spelling))]
     fn put<O: Backward>(&self, out: &mut O) {
         put_marked(out, self.raw, b"#", self.slices.fragment);
         put_marked(out, self.raw, b"?", self.slices.query);

@@ -7,7 +7,7 @@ ghost use Rattle.iref_parse.specs.ReferenceSlices.{value_of};
 ghost use Rattle.iref_canonical.specs.{Canonical.{canonical_text}, Hashed.{fed_reference}};
 
 use crate::plain::is_plain;
-use crate::reference::CanonicalReference;
+use crate::reference::SpelledReference;
 use iref_grammar::chars::CharSet;
 use iref_parse::split::ReferenceSlices;
 use iref_splice::Memory;
@@ -27,7 +27,7 @@ pub fn canonical_text<C: CharSet>(
     ensures { IfOk result (λ copy.
         string_bytes copy ≡ canonical_text (key (value_of slices.entry))) }
 {
-    let bytes = CanonicalReference::new(false, slices).to_bytes(alloc)?;
+    let bytes = SpelledReference::new(false, slices).to_bytes(alloc)?;
     // A canonical text is ASCII, so no byte is read again.
     Ok(unsafe { String::from_utf8_unchecked(bytes) })
 }
@@ -52,7 +52,7 @@ pub fn write_canonical_text<C: CharSet>(
 {
     let empty = String::new(*over.allocator());
     let mut bytes = mem::replace(over, empty).into_bytes();
-    let written = CanonicalReference::new(false, slices).write_unless(text.as_bytes(), &mut bytes);
+    let written = SpelledReference::new(false, slices).write_unless(text.as_bytes(), &mut bytes);
     // A canonical text is ASCII, and what stood there was a text, so no byte is read again.
     *over = unsafe { String::from_utf8_unchecked(bytes) };
     written
@@ -65,13 +65,13 @@ pub fn is_canonical<C: CharSet>(text: &str, slices: ReferenceSlices<'_>) -> bool
     requires slices { value_of slices ≡ read_reference text.now }
     ensures { result ≡ bytes_eq text.now (canonical_text (key (read_reference text.now))) }
 {
-    is_plain::<C>(false, text, slices) || CanonicalReference::new(false, slices).is(text.as_bytes())
+    is_plain::<C>(false, text, slices) || SpelledReference::new(false, slices).is(text.as_bytes())
 }
 
 /// Feeds the canonical text of a reference, of which text and components are given, to a hasher, with
 /// the bytes beyond ASCII raw. A text that one scan finds to be this is read as it stands.
 #[tactic(auto, unfolding(crate::specs::Hashed::fed_reference))]
-pub fn feed_canonical<C: CharSet, H: Hasher>(text: &str, slices: ReferenceSlices<'_>, state: &mut H)
+pub fn feed_reference<C: CharSet, H: Hasher>(text: &str, slices: ReferenceSlices<'_>, state: &mut H)
     requires reference { is_reference C.tests text.now ≡ true }
     requires slices { value_of slices ≡ read_reference text.now }
     ensures { state.new ≡ fold H.write state.old (fed_reference (key (read_reference text.now))) }
@@ -89,5 +89,5 @@ pub fn feed_canonical<C: CharSet, H: Hasher>(text: &str, slices: ReferenceSlices
 pub fn feed_slices<H: Hasher>(slices: ReferenceSlices<'_>, state: &mut H)
     ensures { state.new ≡ fold H.write state.old (fed_reference (key (value_of slices.entry))) }
 {
-    CanonicalReference::new(true, slices).feed(state);
+    SpelledReference::new(true, slices).feed(state);
 }

@@ -11,7 +11,7 @@ ghost use Rattle.iref_reference.specs.References.{key_of_reference, key_of_refer
 use crate::borrowed::{Uri, UriRef};
 use crate::owned::ReferenceBuf;
 use crate::parts::{UriParts, UriRefParts};
-use iref_canonical::text::feed_canonical;
+use iref_canonical::text::feed_reference;
 use iref_grammar::chars::CharSet;
 use iref_reference_text::reference_text::HeldRule;
 use std::cmp::Ordering;
@@ -72,7 +72,7 @@ impl<R: HeldRule, C: CharSet> Hash for ReferenceBuf<R, C> {
     ghost respects_eq = { λ _ _ same. ap fed_reference (keys_separate _ _ same) };
 
     fn hash<H: Hasher>(&self, state: &mut H) {
-        feed_canonical::<C, H>(self.as_str(), self.inner.slices(), state);
+        feed_reference::<C, H>(self.as_str(), self.inner.slices(), state);
     }
 }
 

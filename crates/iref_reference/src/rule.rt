@@ -9,7 +9,7 @@ ghost use Rattle.iref_reference_text.proofs.BaseLemmas.{base_of_in_rule, base_of
 ghost use Rattle.iref_reference.specs.Comparisons.{by_components};
 
 use crate::parts::{SchemePart, UriRefParts};
-use iref_canonical::text::feed_canonical;
+use iref_canonical::text::feed_reference;
 use iref_component::key::Key;
 use iref_component::named_texts::Scheme;
 use iref_component::rule::{AllowsEmpty, Refuses, Rule};
@@ -163,6 +163,6 @@ impl Key for ReferenceKey {
     }
 
     fn feed<C: CharSet, H: Hasher>(text: &str, state: &mut H) {
-        feed_canonical::<C, H>(text, split_reference(text), state);
+        feed_reference::<C, H>(text, split_reference(text), state);
     }
 }
